@@ -1,0 +1,5 @@
+pub mod Numbers
+pub mod Residues
+pub mod Orders
+pub mod Moves
+pub mod RowLaws

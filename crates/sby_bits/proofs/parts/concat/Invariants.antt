@@ -1,0 +1,5 @@
+use Rattle.std.proofs.Common.{◌≡◌, ◌++◌, ℕ, ◌<◌, false, get_or}
+use Rattle.sby_bits.proofs.parts.concat.Given as goal
+
+abbrev pub invariant-loop-i : goal.invariant-loop-i
+invariant-loop-i l = (k : ℕ) → k < l.i → get_or l.y k false ≡ get_or (l.a ++ l.b) k false
