@@ -1,0 +1,26 @@
+-- What the answers of a task's jobs decide. There is one entry per job, in the order of the jobs: Base, then Step; or Cover(0),
+-- Cover(1), ..
+use Rattle.std.specs.Prelude.{◌≡◌, List, Option, Some, slice_get, All, Contains}
+use Rattle.sby_terms.specs.declared.names.Mode.{Mode}
+use Rattle.sby_terms.specs.declared.names.Mode.TheVariants.{Bmc, Prove, Cover}
+use Rattle.sby_terms.specs.declared.names.Answer.{Answer}
+use Rattle.sby_terms.specs.declared.names.Answer.TheVariants.{Sat, Unsat}
+use Rattle.sby_terms.specs.declared.names.Verdict.{Verdict}
+use Rattle.sby_terms.specs.declared.names.Verdict.TheVariants.{Pass, Fail}
+
+-- the job Base has this answer
+abbrev pub BaseIs : List (Option Answer) → Answer → Type 0
+BaseIs answers answer = slice_get answers 0 ≡ Some (Some answer)
+
+-- the job Step has this answer
+abbrev pub StepIs : List (Option Answer) → Answer → Type 0
+StepIs answers answer = slice_get answers 1 ≡ Some (Some answer)
+
+-- the answers decide this verdict
+abbrev pub Decides : Mode → List (Option Answer) → Verdict → Type 0
+Decides Bmc answers Pass = BaseIs answers Unsat
+Decides Bmc answers Fail = BaseIs answers Sat
+Decides Prove answers Pass = BaseIs answers Unsat × StepIs answers Unsat
+Decides Prove answers Fail = BaseIs answers Sat
+Decides Cover answers Pass = All (λ answer. answer ≡ Some Sat) answers
+Decides Cover answers Fail = Contains answers (Some Unsat)

@@ -1,0 +1,4 @@
+pub mod Problem
+pub mod Decide
+pub mod Status
+pub mod Code

@@ -1,0 +1,17 @@
+//! The terms of the runner: modes, jobs, answers, verdicts, statuses and engines, with the tables that decide them.
+#![tactic(auto)]
+
+mod engine;
+mod expect;
+mod names;
+mod settled;
+mod tables;
+
+pub use engine::{Engine, Words};
+pub use expect::Expect;
+pub use names::{Answer, Event, JobName, Mode, Status, Verdict};
+pub use settled::Settled;
+pub use tables::{decide, one_status, one_verdict, rc_of, status_of};
+
+#[cfg(test)]
+mod tests;

@@ -1,0 +1,59 @@
+// Names that every layer shares.
+
+/// What a task asks of its design.
+#[derive(Clone, Copy, Debug, PartialEq, Eq)]
+pub enum Mode {
+    /// No assertion breaks within the depth.
+    Bmc,
+    /// No assertion ever breaks, by k-induction.
+    Prove,
+    /// Each cover statement is reached within the depth.
+    Cover,
+}
+
+/// A job of a task. Bmc has `Base`; prove has `Base` and `Step`; cover has `Cover(0)`, `Cover(1)`, .. in the order of the
+/// `$cover` cells in the file.
+#[derive(Clone, Copy, Debug, PartialEq, Eq)]
+pub enum JobName {
+    Base,
+    Step,
+    Cover(u32),
+}
+
+/// Whether a job's formula can be satisfied.
+#[derive(Clone, Copy, Debug, PartialEq, Eq)]
+pub enum Answer {
+    Sat,
+    Unsat,
+}
+
+/// What the answers of a task's jobs decide.
+#[derive(Clone, Copy, Debug, PartialEq, Eq)]
+pub enum Verdict {
+    Pass,
+    Fail,
+}
+
+/// How a task ended.
+#[derive(Clone, Copy, Debug, PartialEq, Eq)]
+pub enum Status {
+    Pass,
+    Fail,
+    Unknown,
+    Error,
+    Timeout,
+    Memory,
+}
+
+/// What the end of an unsettled job says to the status.
+#[derive(Clone, Copy, Debug, PartialEq, Eq)]
+pub enum Event {
+    /// Nothing: the engine didn't know, or the job wasn't served or was called off.
+    Quiet,
+    /// A failed start, read or hold, or a stream that is no certificate.
+    Fault,
+    /// The lane's own reading of the clock showed the limit.
+    Stopped,
+    /// Want of memory.
+    Memory,
+}
