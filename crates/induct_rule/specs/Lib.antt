@@ -1,0 +1,3 @@
+pub mod Induction
+pub mod Law
+pub mod Counting
