@@ -1,0 +1,9 @@
+pub mod Arenas
+pub mod Literals
+pub mod Members
+pub mod Rup
+pub mod Removal
+pub mod SameSets
+pub mod Words
+pub mod Reading
+pub mod Writing

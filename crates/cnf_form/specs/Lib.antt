@@ -1,0 +1,4 @@
+pub mod Cnf
+pub mod Coding
+pub mod Arena
+pub mod Dimacs

@@ -1,0 +1,67 @@
+//! Formulas in conjunctive normal form: literals, clauses, unit propagation, proofs in DRUP, and DIMACS.
+#![tactic(auto)]
+
+mod dimacs;
+mod formula;
+mod laws;
+mod literal;
+
+pub use dimacs::{dimacs_is_unambiguous, write_dimacs};
+pub use formula::{Clauses, Formula};
+pub use laws::{
+    admission_is_monotone, admitted_is_true, closure_is_least, deletion_keeps_closure,
+    proof_is_sound, proof_keeps_models,
+};
+pub use literal::{Lit, MAX_VARS, places_differ};
+
+#[cfg(test)]
+mod tests {
+    use super::*;
+    use std::test::Fail;
+
+    #[test]
+    fn holds_clauses(rt: HostRuntime) -> Result<(), Fail> {
+        let a = Lit::new(1, false);
+        let mut f = Formula::new(rt.alloc(), 2);
+        f.push(&[a, Lit::new(2, true)])?;
+        f.push(&[])?;
+        let whole = f.copy(rt.alloc())?;
+        f.remove(0);
+        assert_eq!(rt; f.clauses().len(), 1);
+        assert!(rt; f.clauses().get(0).is_empty());
+        let clauses = whole.clauses();
+        assert!(rt; !clauses.is_empty());
+        assert_eq!(rt; clauses.len(), 2);
+        let first = clauses.get(0);
+        assert_eq!(rt; first.len(), 2);
+        assert_eq!(rt; first[0], a);
+        assert_eq!(rt; first[1].var(), 2);
+        assert!(rt; first[1].is_negated());
+        assert_eq!(rt; first[1].negate().index(), 4);
+        assert_eq!(rt; whole.vars(), 2);
+        Ok(())
+    }
+
+    #[test]
+    fn writes_dimacs(rt: HostRuntime) -> Result<(), Fail> {
+        let alloc = rt.alloc();
+        let no_clause = Formula::new(alloc, 0);
+        let mut empty_clause = Formula::new(alloc, 1);
+        empty_clause.push(&[])?;
+        let mut large = Formula::new(alloc, MAX_VARS);
+        large.push(&[Lit::new(10, false), Lit::new(MAX_VARS, true)])?;
+        large.push(&[Lit::new(1, true)])?;
+        for (formula, text) in [
+            (&no_clause, b"p cnf 0 0\n".as_slice()),
+            (&empty_clause, b"p cnf 1 1\n0\n".as_slice()),
+            (
+                &large,
+                b"p cnf 134217728 2\n10 -134217728 0\n-1 0\n".as_slice(),
+            ),
+        ] {
+            let bytes = write_dimacs(alloc, formula)?;
+            assert_eq!(rt; bytes.as_slice(), text);
+        }
+        Ok(())
+    }
+}
