@@ -1,0 +1,3 @@
+pub mod Scan
+pub mod Fixpoint
+pub mod Asking
