@@ -1,0 +1,15 @@
+pub mod Names
+pub mod Designs
+pub mod Places
+pub mod Numbers
+pub mod Lists
+pub mod Ports
+pub mod Firsts
+pub mod Marks
+pub mod Later
+pub mod Driven
+pub mod Drives
+pub mod Clocks
+pub mod Verdict
+pub mod Statements
+pub mod Asking

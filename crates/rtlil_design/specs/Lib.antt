@@ -1,0 +1,10 @@
+pub mod Shape
+pub mod Cells
+pub mod Asked
+pub mod Meaning
+pub mod Claims
+pub mod Faults
+pub mod Places
+pub mod Runs
+pub mod Design
+pub mod Marks

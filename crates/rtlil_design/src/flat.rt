@@ -1,0 +1,160 @@
+// A design in which no fault has an instance.
+
+ghost use Rattle.std.specs.Prelude.{◌≡◌, ◌+◌, ◌-◌, ◌<◌, ℕ, All, IsTrue, MatchOption, Some, length, not, eqb, ◌&&◌, slice_get};
+ghost use Rattle.sby_bits.specs.Rows.{num};
+ghost use Rattle.rtlil_design.specs.Faults.{IsFlat};
+ghost use Rattle.rtlil_design.specs.Meaning.{Broken, asserts, bit_in, is_assert, is_enabled, row_in, says};
+ghost use Rattle.rtlil_design.specs.Runs.{IsCycleOf, IsRunOf, valuation_of, valuations};
+ghost use Rattle.rtlil_design.specs.Shape.{CellOf, IsCellOf, IsDeclared, IsDesign};
+
+use crate::cell::Cell;
+use crate::design::Design;
+use crate::kind::{Kind, Statement};
+use crate::row::{Cycle, Run};
+use crate::shape::SigBit;
+use std::marker::Model;
+
+/// A design that the check let pass.
+#[derive(Drop)]
+pub struct Flat {
+    design: Design,
+}
+
+impl Model for Flat {
+    ghost use Rattle.rtlil_design.specs.Shape.{DesignOf};
+
+    ghost Value = { DesignOf };
+
+    ghost view = { λ a. a.design };
+
+    ghost use Rattle.rtlil_design.specs.Faults.{IsFlat};
+
+    ghost invariant = { λ a. IsFlat a.design };
+}
+
+impl Flat {
+    // The flat design, of one in which no fault has an instance.
+    pub(crate) fn new(design: Design) -> Flat
+        requires { IsFlat design }
+        ensures { result ≡ design }
+    {
+        Flat { design }
+    }
+
+    /// The design.
+    pub fn design(&self) -> &Design
+        ensures design { result.now ≡ self.now }
+        ensures flat { IsFlat self.now }
+        ensures shape { IsDesign self.now }
+    {
+        let _ = self.design.wires();
+        &self.design
+    }
+
+    /// Whether each cycle of the run has rows of this design's lengths.
+    pub fn fits(&self, run: &Run) -> bool
+        ensures { IsTrue result → IsRunOf self.now run.now }
+    {
+        let bits = self.design.bits() as usize;
+        let free = self.design.free() as usize;
+        let cycles = run.cycles();
+        for cycle in cycles {
+            if cycle.wires().len() != bits || cycle.free().len() != free {
+                return false;
+            }
+        }
+        true
+    }
+
+    /// The first assertion, in file order and counted from 0, that is broken in the run's last cycle.
+    pub fn broken(&self, run: &Run) -> Option<u32>
+        requires some { 0 < length run.now }
+        requires rows { IsRunOf self.now run.now }
+        ensures { MatchOption result
+            ((a : ℕ) → Broken self.now (valuations self.now run.now (length run.now - 1)) a → ⊥)
+            (λ a. Broken self.now (valuations self.now run.now (length run.now - 1)) a × ((k : ℕ) → k < a → Broken self.now (valuations self.now run.now (length run.now - 1)) k → ⊥)) }
+    {
+        let cycles = run.cycles();
+        first_broken(&self.design, &cycles[cycles.len() - 1])
+    }
+
+    /// The name of an assertion by its number in file order, counted from 0.
+    pub fn assert_name(&self, number: u32) -> &str
+        requires { number < length (asserts self.now) }
+        ensures { (c : CellOf) × (slice_get (asserts self.now) number ≡ Some c) × (result.now ≡ c.name) }
+    {
+        let mut before = 0;
+        let cells = self.design.cells();
+        for cell in cells {
+            if is_assert(cell.kind()) {
+                if before == number {
+                    return cell.name();
+                }
+                before += 1;
+            }
+        }
+        unreachable!()
+    }
+}
+
+fn is_assert(kind: Kind) -> bool
+    ensures { result ≡ is_assert kind }
+{
+    matches!(kind, Kind::Statement(Statement::Assert))
+}
+
+// What a bit has in a cycle.
+fn bit_in(design: &Design, cycle: &Cycle, bit: SigBit) -> bool
+    requires declared { IsDeclared design.now.wires design.now.free bit }
+    requires rows { IsCycleOf design.now cycle.now }
+    ensures { result ≡ bit_in (valuation_of design.now cycle.now) bit }
+{
+    match bit {
+        SigBit::Wire(_, _) => cycle.wires()[design.place(bit)],
+        SigBit::Const(value) => value,
+        SigBit::Free(number) => cycle.free()[number as usize],
+    }
+}
+
+// Whether some bit of a signal is 1 in a cycle.
+fn is_set(design: &Design, cycle: &Cycle, signal: &[SigBit]) -> bool
+    requires declared { All (IsDeclared design.now.wires design.now.free) signal.now }
+    requires rows { IsCycleOf design.now cycle.now }
+    ensures { result ≡ not (eqb (num (row_in (valuation_of design.now cycle.now) signal.now)) 0) }
+{
+    for bit in signal {
+        if bit_in(design, cycle, *bit) {
+            return true;
+        }
+    }
+    false
+}
+
+// Whether the statement has EN 1 and A 0 in a cycle.
+fn is_broken(design: &Design, cycle: &Cycle, cell: &Cell) -> bool
+    requires declared { IsCellOf design.now.wires design.now.free cell.now }
+    requires rows { IsCycleOf design.now cycle.now }
+    ensures { result ≡ (is_enabled (valuation_of design.now cycle.now) cell.now && not (says (valuation_of design.now cycle.now) cell.now)) }
+{
+    is_set(design, cycle, cell.signal("EN")) && !is_set(design, cycle, cell.signal("A"))
+}
+
+// The first assertion that is broken in a cycle.
+fn first_broken(design: &Design, cycle: &Cycle) -> Option<u32>
+    requires { IsCycleOf design.now cycle.now }
+    ensures { MatchOption result
+        ((a : ℕ) → Broken design.now (valuation_of design.now cycle.now) a → ⊥)
+        (λ a. Broken design.now (valuation_of design.now cycle.now) a × ((k : ℕ) → k < a → Broken design.now (valuation_of design.now cycle.now) k → ⊥)) }
+{
+    let cells = design.cells();
+    let mut number = 0;
+    for cell in cells {
+        if is_assert(cell.kind()) {
+            if is_broken(design, cycle, cell) {
+                return Some(number);
+            }
+            number += 1;
+        }
+    }
+    None
+}

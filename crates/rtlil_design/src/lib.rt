@@ -1,0 +1,18 @@
+//! The flat hardware design, its meaning, and the check for faults.
+#![tactic(auto)]
+
+pub mod cell;
+pub mod check;
+pub mod connect;
+pub mod design;
+pub mod fault;
+pub mod flat;
+pub mod kind;
+pub mod laws;
+mod number;
+pub mod row;
+pub mod shape;
+pub mod signal;
+#[cfg(test)]
+mod tests;
+pub mod wire;
