@@ -1,0 +1,10 @@
+pub mod Binding
+pub mod WordLemmas
+pub mod ConstantLemmas
+pub mod ConstantGrammar
+pub mod NameLemmas
+pub mod CellGrammar
+pub mod ItemGrammar
+pub mod ModuleGrammar
+pub mod FileGrammar
+pub mod TokenText
