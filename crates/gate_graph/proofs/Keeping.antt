@@ -1,0 +1,204 @@
+-- What keeps gates gates: an input, and a variable with a table.
+use Rattle.std.proofs.Common.{◌≡◌, ◌⊎◌, ℕ, ◌+◌, ◌<◌, ◌≤◌, Bool, true, false, List, [], ◌∷◌, ◌++◌, map, refl, sym, ◌∙◌, subst, inl, inr, arith}
+use Rattle.std.specs.Prelude.{Contains}
+use Rattle.std.proofs.lemmas.List.Elements.{All-append, All-weaker, Contains-append_left, Contains-append_right, Contains-append_cases, Contains-push, Contains-push_cases}
+use Rattle.std.proofs.lemmas.List.{append-nil}
+use Rattle.std.proofs.Math.Nat.{eq-or-lt_of_le}
+use Rattle.cnf_form.specs.Cnf.{LitOf, FormulaOf, Assignment, Satisfies, LitWithin, ClauseWithin, Within}
+use Rattle.cnf_form.specs.declared.literal.TheConstants.{MAX_VARS}
+use Rattle.gate_graph.specs.Circuit.{GatesOf, AgreeOn, AgreeTo, IsPartOf, IsFixed, IsGates, Means, MakesGate, MakesInput}
+use Rattle.gate_graph.specs.Laws.{Satisfies-front, put, put-same, put-other}
+use Rattle.gate_graph.specs.Kept.{Row, IsTable, IsKept, Define, clause_of, lit_of, gates_of, with_gate}
+use Rattle.gate_graph.proofs.Tables.{Satisfies-agrees, bit_agrees, table_holds, table_says, table_fixes, table_within}
+
+Satisfies-append : (x : Assignment) (F G : List (List LitOf)) → Satisfies x F → Satisfies x G → Satisfies x (F ++ G)
+Satisfies-append x F G s t c h = elim (Contains-append_cases F G c h) [ inl a ↦ s c a | inr b ↦ t c b ]
+
+Satisfies-back : (x : Assignment) (F G : List (List LitOf)) → Satisfies x (F ++ G) → Satisfies x G
+Satisfies-back x F G s c h = s c (Contains-append_right F G c h)
+
+part_front : (F G H : List (List LitOf)) → IsPartOf (F ++ G) H → IsPartOf F H
+part_front F G H p c h = p c (Contains-append_left F G c h)
+
+part_back : (F G H : List (List LitOf)) → IsPartOf (F ++ G) H → IsPartOf G H
+part_back F G H p c h = p c (Contains-append_right F G c h)
+
+Within-more : (n : ℕ) (F : List (List LitOf)) → Within n F → Within (n + 1) F
+Within-more n F w = All-weaker (ClauseWithin n) (ClauseWithin (n + 1)) (λ c. All-weaker (LitWithin n) (LitWithin (n + 1)) (λ l (a, b). (a, omega arith)) c) F w
+
+put_agrees : (n : ℕ) (x : Assignment) (b : Bool) → AgreeTo n x (put x (n + 1) b)
+put_agrees n x b v h k = put-other x (n + 1) b v (omega arith)
+
+up_to : (n v : ℕ) → v ≤ n + 1 → (v ≤ n) ⊎ (n + 1 ≡ v)
+up_to n v h = elim (eq-or-lt_of_le h) [ inl e ↦ inr (sym e) | inr k ↦ inl (omega arith) ]
+
+module _ (n : ℕ) (F : List (List LitOf)) (is : List ℕ) (g : IsGates (gates_of n F is)) (room : n < MAX_VARS) where
+  -- a variable with a table
+  module _ (bit : Assignment → Bool) (rs : List Row) (t : IsTable n bit rs) where
+    abbrev G : List (List LitOf)
+    G = map (clause_of (n + 1)) rs
+
+    gate_extends : (x : Assignment) → (y : Assignment) × Satisfies y (F ++ G) × AgreeOn is x y
+    gate_extends x =
+        let (y, s, a) = g.extends x in
+        let z : Assignment = put y (n + 1) (bit y) in
+        let same : AgreeTo n y z = put_agrees n y (bit y) in
+        let here : z (n + 1) ≡ bit z = put-same y (n + 1) (bit y) ∙ bit_agrees n bit y z rs same t.sound (t.covers y) in (
+          z,
+          Satisfies-append z F G (Satisfies-agrees n y z F same g.within s) (table_holds n (n + 1) bit z rs t.sound here),
+          λ v h. let w = g.inputs_within v h in a v h ∙ same v w.0 w.1,
+        )
+
+    gate_unique : (x y : Assignment) → Satisfies x (F ++ G) → Satisfies y (F ++ G) → AgreeOn is x y → AgreeTo (n + 1) x y
+    gate_unique x y s r a v h k =
+        let before : AgreeTo n x y = g.unique x y (Satisfies-front x F G s) (Satisfies-front y F G r) a in
+        elim (up_to n v k) [
+          | inl i ↦ before v h i
+          | inr e ↦ subst (λ w. x w ≡ y w) e
+              (table_says n (n + 1) bit x rs t.sound (t.covers x) (Satisfies-back x F G s) ∙ bit_agrees n bit x y rs before t.sound (t.covers x)
+              ∙ sym (table_says n (n + 1) bit y rs t.sound (t.covers y) (Satisfies-back y F G r)))
+        ]
+
+    gate_fixed : (H : List (List LitOf)) → IsPartOf (F ++ G) H → ((v : ℕ) → Contains is v → IsFixed H v) → (v : ℕ) → 0 < v → v ≤ n + 1 → IsFixed H v
+    gate_fixed H p i v h k =
+        let before = g.fixed H (part_front F G H p) i in
+        elim (up_to n v k) [
+          | inl j ↦ before v h j
+          | inr e ↦ subst (IsFixed H) e (table_fixes n (n + 1) bit rs H t (part_back F G H p) before)
+        ]
+
+    pub IsGates-gate : IsGates (gates_of (n + 1) (F ++ map (clause_of (n + 1)) rs) is)
+    IsGates-gate = record {
+      limit = omega arith;
+      within = All-append (ClauseWithin (n + 1)) F G (Within-more n F g.within) (table_within n bit rs t.sound);
+      inputs_within = λ v h. let w = g.inputs_within v h in (w.0, omega arith);
+      extends = gate_extends;
+      unique = gate_unique;
+      fixed = gate_fixed;
+    }
+
+  -- an input
+  input_extends : (x : Assignment) → (y : Assignment) × Satisfies y F × AgreeOn (is ++ (n + 1) ∷ []) x y
+  input_extends x =
+      let (y, s, a) = g.extends x in
+      let z : Assignment = put y (n + 1) (x (n + 1)) in
+      let same : AgreeTo n y z = put_agrees n y (x (n + 1)) in (
+        z,
+        Satisfies-agrees n y z F same g.within s,
+        λ v h. elim (Contains-push_cases is (n + 1) v h) [
+          | inl i ↦ let w = g.inputs_within v i in a v i ∙ same v w.0 w.1
+          | inr e ↦ subst (λ w. x w ≡ z w) e (sym (put-same y (n + 1) (x (n + 1))))
+        ],
+      )
+
+  input_unique : (x y : Assignment) → Satisfies x F → Satisfies y F → AgreeOn (is ++ (n + 1) ∷ []) x y → AgreeTo (n + 1) x y
+  input_unique x y s r a v h k = elim (up_to n v k) [
+    | inl i ↦ g.unique x y s r (λ w c. a w (Contains-append_left is ((n + 1) ∷ []) w c)) v h i
+    | inr e ↦ a v (subst (Contains (is ++ (n + 1) ∷ [])) e (Contains-push is (n + 1)))
+  ]
+
+  input_fixed : (H : List (List LitOf)) → IsPartOf F H → ((v : ℕ) → Contains (is ++ (n + 1) ∷ []) v → IsFixed H v) → (v : ℕ) → 0 < v → v ≤ n + 1 → IsFixed H v
+  input_fixed H p i v h k = elim (up_to n v k) [
+    | inl j ↦ g.fixed H p (λ w c. i w (Contains-append_left is ((n + 1) ∷ []) w c)) v h j
+    | inr e ↦ i v (subst (Contains (is ++ (n + 1) ∷ [])) e (Contains-push is (n + 1)))
+  ]
+
+  input_within : (v : ℕ) → Contains (is ++ (n + 1) ∷ []) v → (0 < v) × (v ≤ n + 1)
+  input_within v h = elim (Contains-push_cases is (n + 1) v h) [
+    | inl i ↦ let w = g.inputs_within v i in (w.0, omega arith)
+    | inr e ↦ (omega arith, omega arith)
+  ]
+
+  pub IsGates-input : IsGates (gates_of (n + 1) F (is ++ (n + 1) ∷ []))
+  IsGates-input = record {
+    limit = omega arith;
+    within = Within-more n F g.within;
+    inputs_within = input_within;
+    extends = input_extends;
+    unique = input_unique;
+    fixed = input_fixed;
+  }
+
+Means-front : (n m : ℕ) (F G : List (List LitOf)) (is js : List ℕ) (l : LitOf) (value : Assignment → Bool) → Means (gates_of n F is) l value → Means (gates_of m (F ++ G) js) l value
+Means-front n m F G is js l value h x s = h x (Satisfies-front x F G s)
+
+-- the clauses of a table are of variables that are there
+pub Define-within : (n m : ℕ) (F : List (List LitOf)) → n < m → Define n F → Within m F
+Define-within n m F h (bit, rs, t, e) = rw e (All-weaker (ClauseWithin (n + 1)) (ClauseWithin m)
+    (λ c. All-weaker (LitWithin (n + 1)) (LitWithin m) (λ l (a, b). (a, omega arith)) c) (map (clause_of (n + 1)) rs) (table_within n bit rs t.sound))
+
+-- the fields after a gate
+pub IsKept-gate : (n : ℕ) (f g : FormulaOf) (is : List ℕ) (G : List (List LitOf)) → IsKept n f is → n < MAX_VARS → Define n G →
+    g ≡ record f { clauses = f.clauses ++ G } → IsKept (n + 1) g is
+IsKept-gate n f g is G k room (bit, rs, t, e) h = rw (h, e) (record {
+  gates = IsGates-gate n f.clauses is k.gates room bit rs t;
+  truth = Means-front n (n + 1) f.clauses (map (clause_of (n + 1)) rs) is is (lit_of 1 true) (λ _. true) k.truth;
+  some = omega arith;
+  room = k.room;
+})
+
+-- the fields after an input
+pub IsKept-input : (n : ℕ) (f : FormulaOf) (is : List ℕ) → IsKept n f is → n < MAX_VARS → IsKept (n + 1) f (is ++ (n + 1) ∷ [])
+IsKept-input n f is k room = record {
+  gates = IsGates-input n f.clauses is k.gates room;
+  truth = k.truth;
+  some = omega arith;
+  room = k.room;
+}
+
+-- the clauses of a table make its gate
+pub MakesGate-table : (g : GatesOf) (G : List (List LitOf)) (bit : Assignment → Bool) (rs : List Row) → IsTable g.formula.vars bit rs → G ≡ map (clause_of (g.formula.vars + 1)) rs →
+    MakesGate g (with_gate g G) bit (lit_of (g.formula.vars + 1) true)
+MakesGate-table g G bit rs t e = record {
+  continues = record { vars = omega arith; clauses = (G, refl); inputs = ([], sym (append-nil g.inputs)) };
+  inputs = refl;
+  most = omega arith;
+  within = (omega arith, omega arith);
+  means = λ x s. table_says g.formula.vars (g.formula.vars + 1) bit x rs t.sound (t.covers x)
+      (subst (Satisfies x) e (Satisfies-back x g.formula.clauses G s));
+}
+
+-- an input that was made
+pub MakesInput-push : (g : GatesOf) → MakesInput g (gates_of (g.formula.vars + 1) g.formula.clauses (g.inputs ++ (g.formula.vars + 1) ∷ [])) (lit_of (g.formula.vars + 1) true)
+MakesInput-push g = record {
+  continues = record { vars = omega arith; clauses = ([], sym (append-nil g.formula.clauses)); inputs = ((g.formula.vars + 1) ∷ [], refl) };
+  inputs = refl;
+  most = omega arith;
+  within = (omega arith, omega arith);
+  fresh = omega arith;
+}
+
+-- a literal seen through its parts
+pub lit_from : (l : LitOf) (v : ℕ) → l.var ≡ v → l.negated ≡ false → l ≡ lit_of v true
+lit_from l v e f = same l.var v l.negated false e f
+  where
+    same : (v w : ℕ) (a b : Bool) → v ≡ w → a ≡ b → (let l : LitOf = record { var = v; negated = a } in l) ≡ record { var = w; negated = b }
+    same v w a b e f = cc
+
+-- the gates at first: no variable but the one that is true
+module _ where
+  none : IsGates (gates_of 0 [] [])
+  none = record {
+    limit = omega arith;
+    within = λ k d h. absurd (omega arith);
+    inputs_within = λ v (k, h, e). absurd (omega arith);
+    extends = λ x. (x, λ c (k, h, e). absurd (omega arith), λ v h. refl);
+    unique = λ x y s r a v h k. absurd (omega arith);
+    fixed = λ F p i v h k. absurd (omega arith);
+  }
+
+  truth_rows : List Row
+  truth_rows = record { value = true; others = [] } ∷ []
+
+  truth_table : IsTable 0 (λ _. true) truth_rows
+  unfolding truth_rows
+  truth_table = record { sound = (tt, λ x f. refl, tt); covers = λ x. inl tt }
+
+  pub IsKept-start : IsKept 1 (record { vars = MAX_VARS; clauses = (lit_of 1 true ∷ []) ∷ [] }) []
+  unfolding truth_rows
+  IsKept-start = record {
+    gates = IsGates-gate 0 [] [] none (omega arith) (λ _. true) truth_rows truth_table;
+    truth = λ x s. table_says 0 1 (λ _. true) x truth_rows truth_table.sound (truth_table.covers x) s;
+    some = omega arith;
+    room = refl;
+  }

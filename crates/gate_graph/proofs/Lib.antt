@@ -1,0 +1,4 @@
+pub mod Tables
+pub mod Keeping
+pub mod Operations
+pub mod Pushing

@@ -1,0 +1,13 @@
+use Rattle.std.proofs.Common.{refl}
+use Rattle.gate_graph.proofs.Keeping.{MakesGate-table}
+use Rattle.gate_graph.proofs.Operations.{mux_rows, mux_table}
+use Rattle.gate_graph.proofs.gates.Gates.mux.Goals as goal
+
+pub define-requires-clause-table : goal.define-requires-clause-table
+define-requires-clause-table c =
+    rw (c.negate-off.ensures, c.negate-b_side.ensures, c.negate.ensures, c.negate-2.ensures, c.in_ok-gate.ensures.next) (_, mux_rows c.args.s c.args.a c.args.b, mux_table c.args.self.now.formula.vars c.args.s c.args.a c.args.b c.requires.s c.requires.a c.requires.b, refl)
+
+pub returns-clause-gate : goal.returns-clause-gate
+returns-clause-gate c =
+    rw (c.in_ok-define.ensures.ok, c.negate-off.ensures, c.negate-b_side.ensures, c.negate.ensures, c.negate-2.ensures, c.in_ok-gate.ensures.next)
+    (MakesGate-table c.args.self.now _ _ (mux_rows c.args.s c.args.a c.args.b) (mux_table c.args.self.now.formula.vars c.args.s c.args.a c.args.b c.requires.s c.requires.a c.requires.b) refl)

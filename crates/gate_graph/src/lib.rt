@@ -1,0 +1,86 @@
+//! Gates over literals, kept as the clauses that define them.
+#![tactic(auto)]
+
+mod gates;
+mod laws;
+
+pub use gates::{GateFault, Gates};
+pub use laws::{gates_grow, growth_goes_on, inputs_are_free, meanings_stay};
+
+#[cfg(test)]
+mod tests {
+    use super::*;
+    use cnf_form::{Clauses, Lit};
+    use std::test::Fail;
+
+    // Bit v of `bits` is the value of variable v.
+    fn is_true(bits: u32, l: Lit) -> bool {
+        if l.var() >= 32 {
+            return false;
+        }
+        ((bits >> l.var()) % 2 == 1) != l.is_negated()
+    }
+
+    fn satisfies(bits: u32, clauses: &Clauses) -> bool {
+        for place in 0..clauses.len() {
+            if !clauses.get(place).iter().any(|l| is_true(bits, *l)) {
+                return false;
+            }
+        }
+        true
+    }
+
+    #[derive(Drop)]
+    struct Circuit {
+        inputs: [Lit; 3],
+        gates: [Lit; 3],
+    }
+
+    // Whether the gates are `and`, `xor` and `mux` of the inputs where the variables have these bits.
+    fn is_right(bits: u32, circuit: &Circuit) -> bool {
+        let [s, a, b] = circuit.inputs;
+        let [both, differ, chosen] = circuit.gates;
+        let p = is_true(bits, a);
+        let q = is_true(bits, b);
+        let picked = if is_true(bits, s) { q } else { p };
+        is_true(bits, both) == (p && q)
+            && is_true(bits, differ) == (p != q)
+            && is_true(bits, chosen) == picked
+    }
+
+    // The number of rows of bits for variables 1 to 7 that satisfy the clauses, where the gates are right in each.
+    fn rows(clauses: &Clauses, circuit: &Circuit) -> Option<u32> {
+        let mut count: u32 = 0;
+        for half in 0..128 {
+            if satisfies(2 * half, clauses) {
+                if !is_right(2 * half, circuit) {
+                    return None;
+                }
+                count = count.saturating_add(1);
+            }
+        }
+        Some(count)
+    }
+
+    #[test]
+    fn gates_have_their_values(rt: HostRuntime) -> Result<(), Fail> {
+        let mut gates = Gates::new(rt.alloc())?;
+        let s = gates.input()?;
+        let a = gates.input()?;
+        let b = gates.input()?;
+        let both = gates.and(a, b)?;
+        let differ = gates.xor(a, b)?;
+        let chosen = gates.mux(s, a, b)?;
+        assert_eq!(rt; gates.vars(), 7);
+        assert_eq!(rt; gates.inputs().len(), 3);
+        assert_eq!(rt; gates.clauses().len(), 12);
+        assert_eq!(rt; gates.constant(false), gates.not(gates.constant(true)));
+        let circuit = Circuit {
+            inputs: [s, a, b],
+            gates: [both, differ, chosen],
+        };
+        let formula = gates.finish(rt.alloc())?;
+        assert_eq!(rt; rows(&formula.clauses(), &circuit), Some(8));
+        Ok(())
+    }
+}
