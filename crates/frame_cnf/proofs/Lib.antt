@@ -1,0 +1,11 @@
+pub mod Places
+pub mod Tables
+pub mod Unrolling
+pub mod Gating
+pub mod Machines
+pub mod Flatten
+pub mod Cells
+pub mod Designs
+pub mod Agreements
+pub mod Origins
+pub mod Encodings

@@ -1,0 +1,108 @@
+-- What is promised of a job's clauses.
+use Rattle.std.specs.Prelude.{◌≡◌, ◌≢◌, ◌⊎◌, ℕ, ◌+◌, ◌*◌, ◌<◌, ◌≤◌, Bool, true, false, cond, List, [], ◌∷◌, ◌++◌, length, Contains, All, codes, slice_get, Some}
+use Rattle.std.specs.List.{sum_by}
+use Rattle.cnf_form.specs.Cnf.{LitOf, FormulaOf, Assignment, Satisfies, Closure, Conflict}
+use Rattle.rtlil_design.specs.Shape.{PortOf, CellOf, DesignOf, wire_bits, IsDeclared}
+use Rattle.rtlil_design.specs.Asked.{output_port, role_of}
+use Rattle.rtlil_design.specs.Meaning.{IsCell, IsHeld, IsStart}
+use Rattle.rtlil_design.specs.Faults.{driven}
+use Rattle.rtlil_design.specs.declared.shape.SigBit.{SigBit}
+use Rattle.rtlil_design.specs.declared.shape.SigBit.TheVariants.{Wire, Const, Free}
+use Rattle.rtlil_design.specs.declared.kind.Binary.TheVariants.{Mul}
+use Rattle.rtlil_design.specs.declared.kind.Kind.{Kind}
+use Rattle.rtlil_design.specs.declared.kind.Kind.TheVariants.{Binary as BinaryCell, Divide, ShiftLeft, ShiftRight, ShiftSign, ShiftAny}
+use Rattle.sby_terms.specs.declared.names.JobName.{JobName}
+use Rattle.sby_terms.specs.declared.names.JobName.TheVariants.{Base, Step, Cover}
+use Rattle.frame_cnf.specs.Jobs.{frames}
+
+-- an encoded job: its formula, and the variables on which all others rest
+pub record EncodedOf : Type 0 where
+  pub formula : FormulaOf
+  pub free_vars : List ℕ
+
+abbrev pub CanBeSatisfied : FormulaOf → Type 0
+CanBeSatisfied f = (x : Assignment) × Satisfies x f.clauses
+
+-- the widths of all ports of a cell, together
+abbrev pub port_bits : CellOf → ℕ
+port_bits c = sum_by (λ p. length p.signal) c.ports
+
+-- the cells whose circuits grow by the square of their width
+abbrev pub is_square : Kind → Bool
+is_square (BinaryCell Mul) = true
+is_square (Divide k) = true
+is_square ShiftLeft = true
+is_square ShiftRight = true
+is_square ShiftSign = true
+is_square ShiftAny = true
+is_square _ = false
+
+abbrev pub cell_cost : CellOf → ℕ
+cell_cost c = cond (is_square c.kind) (16 * (port_bits c * port_bits c)) (16 * port_bits c)
+
+-- a bound on the variables of one frame
+abbrev pub cost : DesignOf → ℕ
+cost d = 16 + (wire_bits d + (d.free + sum_by cell_cost d.cells))
+
+-- a unit clause among these fixes the variable
+abbrev pub IsFixedByUnit : List (List LitOf) → ℕ → Type 0
+IsFixedByUnit F v = (b : Bool) × Contains F (record { var = v; negated = b } ∷ [])
+
+-- the closure under unit propagation fixes the variable
+abbrev pub IsFixed : List (List LitOf) → ℕ → Type 0
+IsFixed F v = (b : Bool) × Closure F (record { var = v; negated = b })
+
+-- Where every free variable is fixed by a unit clause, whatever else is added, unit propagation comes to a conflict or
+-- fixes every variable.
+pub record Propagates (e : EncodedOf) : Type 0 where
+  pub rule : (more : List (List LitOf)) → ((v : ℕ) → Contains e.free_vars v → IsFixedByUnit (e.formula.clauses ++ more) v)
+      → Conflict (e.formula.clauses ++ more) ⊎ ((v : ℕ) → 0 < v → v ≤ e.formula.vars → IsFixed (e.formula.clauses ++ more) v)
+
+-- what a free variable stands for: a register's bit in the first frame, or an input bit in frame t
+pub data Origin : Type 0 where
+  Start : SigBit → Origin
+  Input : ℕ → SigBit → Origin
+
+-- some cell reads the bit at another port than CLK
+abbrev pub IsReadOtherwise : DesignOf → SigBit → Type 0
+IsReadOtherwise d b =
+    (i : ℕ) × (c : CellOf) × (p : PortOf) × IsCell d i c × Contains c.ports p
+    × (p.name ≢ output_port (role_of c.kind)) × (p.name ≢ codes "CLK") × Contains p.signal b
+
+-- a free bit, or a bit of a wire that nothing drives
+abbrev pub IsOpen : DesignOf → SigBit → Type 0
+IsOpen d (Wire w b) = IsDeclared d.wires d.free (Wire w b) × ¬ Contains (driven d) (Wire w b)
+IsOpen d (Const b) = ⊥
+IsOpen d (Free n) = n < d.free
+
+-- no start digit counts for the bit
+abbrev pub HasNoStart : DesignOf → SigBit → Type 0
+HasNoStart d (Wire w b) = (x : Bool) → IsStart d w b x → ⊥
+HasNoStart d (Const b) = Unit {0}
+HasNoStart d (Free n) = Unit {0}
+
+-- the job leaves the register's bit free in its first frame
+abbrev pub IsLeftFree : DesignOf → JobName → SigBit → Type 0
+IsLeftFree d Step b = IsHeld d b
+IsLeftFree d Base b = IsHeld d b × HasNoStart d b
+IsLeftFree d (Cover k) b = IsHeld d b × HasNoStart d b
+
+abbrev pub IsOrigin : DesignOf → JobName → ℕ → Origin → Type 0
+IsOrigin d job n (Start b) = IsLeftFree d job b
+IsOrigin d job n (Input t b) = (t < frames job n) × IsOpen d b × IsReadOtherwise d b
+
+abbrev pub IsDistinct : {A : Type 0} → List A → Type 0
+IsDistinct xs = (i j : ℕ) (x : _) → i < j → slice_get xs i ≡ Some x → slice_get xs j ≡ Some x → ⊥
+
+-- Each free variable is of the formula and stands for a bit that the job leaves free, no two for one bit.
+pub record HasOrigins (d : DesignOf) (job : JobName) (n : ℕ) (e : EncodedOf) : Type 0 where
+  pub distinct : IsDistinct e.free_vars
+  pub within : All (λ v. (0 < v) × (v ≤ e.formula.vars)) e.free_vars
+  pub origins : List Origin
+  pub each : length origins ≡ length e.free_vars
+  pub apart : IsDistinct origins
+  pub free : All (IsOrigin d job n) origins
+
+-- one variable and the empty clause
+abbrev pub empty_job : FormulaOf
+empty_job = record { vars = 1; clauses = [] ∷ [] }
