@@ -1,0 +1,5 @@
+pub mod Word
+pub mod Line
+pub mod Text
+pub mod Stream
+pub mod Reading
