@@ -1,0 +1,6 @@
+pub mod Problems
+pub mod Truth
+pub mod Coming
+pub mod Feeding
+pub mod Fates
+pub mod Certs

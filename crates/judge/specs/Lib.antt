@@ -1,0 +1,9 @@
+pub mod Problem
+pub mod Places
+pub mod Fault
+pub mod Finding
+pub mod Agree
+pub mod Fate
+pub mod Judging
+pub mod Numbers
+pub mod Cert

@@ -1,0 +1,17 @@
+//! The judge: a stored stream becomes a finding about the design, and a finding is true wherever it is.
+#![tactic(auto)]
+
+mod finding;
+mod judging;
+mod laws;
+mod problem;
+mod stream;
+
+pub use finding::Finding;
+pub use judging::{Judge, Progress, State};
+pub use laws::{
+    fate_so_far_is_the_fate, fates_stay, found_fate_begins_certificate,
+    found_unsat_is_unsatisfiable, one_fate, one_file, some_fate,
+};
+pub use problem::{Problem, ProblemFault};
+pub use stream::{BadCert, CertKind, StreamKind};
