@@ -1,0 +1,83 @@
+-- What the parts of a child tell.
+use Rattle.std.specs.Prelude.{◌≡◌, ℕ, zero, suc, ◌+◌, List, [], ◌∷◌, ◌++◌, length, take, drop, Option, None, Some, option_map, Result, Ok, Err, IfSome, ◌⊎◌}
+use Rattle.sby_edge.specs.declared.outside.Fail.{Fail}
+use Rattle.sby_edge.specs.declared.outside.Fail.TheVariants.{Failed as FailFailed, Memory as FailMemory}
+use Rattle.sby_edge.specs.declared.script.Exit.{Exit}
+use Rattle.sby_edge.specs.Script.{ScriptOf}
+use Rattle.sby_terms.specs.declared.names.JobName.{JobName}
+
+-- a yard tells the script of each task, lane and job
+abbrev pub YardOf : Type 0
+YardOf = ℕ → ℕ → JobName → ScriptOf
+
+-- a start that was asked for, and from its finish on how many bytes its pipe gave
+pub record StartOf : Type 0 where
+  pub job : JobName
+  pub words : List (List ℕ)
+  pub given : Option ℕ
+
+-- a bay tells its lane's scripts and its starts, the first one first
+pub record BayOf : Type 0 where
+  pub scripts : JobName → ScriptOf
+  pub starts : List StartOf
+
+-- a pipe tells the place of its start among those of its bay, how many bytes it gave, and the bytes left up to its script's
+-- stall; these are `bytes`, or, while the gate isn't decided, it may be `instead`
+pub record PipeOf : Type 0 where
+  pub place : ℕ
+  pub given : ℕ
+  pub bytes : List ℕ
+  pub instead : Option (List ℕ)
+
+-- the bytes up to the stall, where there is one
+abbrev pub up_to : Option ℕ → List ℕ → List ℕ
+up_to None bytes = bytes
+up_to (Some stall) bytes = take stall bytes
+
+-- the pipe of a start at this place, before its first read
+abbrev pub pipe_of : ScriptOf → ℕ → PipeOf
+pipe_of script place = record {
+  place = place;
+  given = 0;
+  bytes = up_to script.stalls script.bytes;
+  instead = option_map (λ gate. up_to script.stalls gate.instead) script.gate;
+}
+
+-- a read gave this piece from the front of these bytes; nothing only where nothing was left
+pub record Gives (bytes piece : List ℕ) (before now : PipeOf) : Type 0 where
+  pub piece_is : piece ≡ take (length piece) bytes
+  pub ends : piece ≡ [] → bytes ≡ []
+  pub left : now ≡ record { place = before.place; given = before.given + length piece; bytes = drop (length piece) bytes; instead = None }
+
+-- a read of a pipe that tells
+abbrev pub GivesSome : PipeOf → List ℕ → PipeOf → Type 0
+GivesSome before piece now = Gives before.bytes piece before now ⊎ IfSome before.instead (λ bytes. Gives bytes piece before now)
+
+-- what a read tells; `buffer` is the buffer after it
+abbrev pub Reads : {E : Type 0} → Option PipeOf → Option PipeOf → List ℕ → Result ℕ E → Type 0
+Reads before now buffer (Err _) = now ≡ before
+Reads None now buffer (Ok count) = now ≡ None
+Reads (Some before) None buffer (Ok count) = ⊥
+Reads (Some before) (Some now) buffer (Ok count) = GivesSome before (take count buffer) now
+
+-- the bay after a start was asked for; want of memory leaves it
+abbrev pub started : {T : Type 0} → Result T Fail → JobName → List (List ℕ) → BayOf → BayOf
+started (Ok _) job words bay = record bay { starts = bay.starts ++ record { job = job; words = words; given = None } ∷ [] }
+started (Err FailFailed) job words bay = record bay { starts = bay.starts ++ record { job = job; words = words; given = None } ∷ [] }
+started (Err FailMemory) job words bay = bay
+
+-- the starts, with so many bytes given at the one at this place
+abbrev pub with_given : ℕ → ℕ → List StartOf → List StartOf
+with_given place given [] = []
+with_given zero given (start ∷ starts) = record start { given = Some given } ∷ starts
+with_given (suc place) given (start ∷ starts) = start ∷ with_given place given starts
+
+-- the bay after the child of this pipe is finished
+abbrev pub finished : Option PipeOf → BayOf → BayOf
+finished None bay = bay
+finished (Some pipe) bay = record bay { starts = with_given pipe.place pipe.given bay.starts }
+
+-- the exit that is known after a call that gave this one, or none; a child has one exit
+abbrev pub Learns : Option Exit → Option Exit → Option Exit → Type 0
+Learns before now None = now ≡ before
+Learns before now (Some exit) = (now ≡ Some exit) × IfSome before (λ known. known ≡ exit)

@@ -1,0 +1,33 @@
+-- A store of files: what each path has.
+use Rattle.std.specs.Prelude.{◌≡◌, ℕ, ◌+◌, ◌<◌, ◌≤◌, List, length, take, Option, Some, None, if◌then◌else◌}
+use Rattle.std.specs.Str.{bytes_eq}
+use Rattle.sby_edge.specs.declared.outside.Got.{Got}
+use Rattle.sby_edge.specs.declared.outside.Got.TheVariants.{All, Long}
+
+-- the content of each path that has one
+abbrev pub Store : Type 0
+Store = List ℕ → Option (List ℕ)
+
+-- the store with this content at this path, and at every other path as it was
+abbrev pub put_at : List ℕ → List ℕ → Store → Store
+put_at path bytes store = λ other. if bytes_eq path other then Some bytes else store other
+
+-- all of a content, or its first `most + 1` bytes exactly where it is longer than `most`
+abbrev pub GotOf : List ℕ → ℕ → Got → Type 0
+GotOf bytes most (All got) = (got.items ≡ bytes) × (length bytes ≤ most)
+GotOf bytes most (Long got) = (got.items ≡ take (most + 1) bytes) × (most < length bytes)
+
+-- what is got of a path; where it has nothing, nothing is
+abbrev pub GotAt : Option (List ℕ) → ℕ → Got → Type 0
+GotAt None most got = ⊥
+GotAt (Some bytes) most got = GotOf bytes most got
+
+-- what is got of a store, where it is told
+abbrev pub GotFrom : Option Store → List ℕ → ℕ → Got → Type 0
+GotFrom None path most got = Unit {0}
+GotFrom (Some store) path most got = GotAt (store path) most got
+
+-- the lengths, told or not
+abbrev pub GotFits : ℕ → Got → Type 0
+GotFits most (All got) = length got.items ≤ most
+GotFits most (Long got) = length got.items ≡ most + 1

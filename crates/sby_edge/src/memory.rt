@@ -1,0 +1,177 @@
+// Files and output in memory.
+
+ghost use Rattle.std.specs.Prelude.{◌≡◌, ◌+◌, ◌<◌, ◌≤◌, ◌⊎◌, ◌↔◌, ◌++◌, [], Some, IfOk, IsNone, IsErr, OnOk, OnErr, length, min, option_copied, take};
+ghost use Rattle.std.specs.FinMap as map;
+ghost use Rattle.sby_edge.specs.Calls.{Called, NextFails, failed, served, uncalled};
+ghost use Rattle.sby_edge.specs.Cause.{HasCause, HasPlainCause};
+ghost use Rattle.sby_edge.specs.Files.{GotOf, GotFits, GotAt, put_at};
+ghost use Rattle.sby_edge.specs.Memory.{IsFull, store_of};
+
+use crate::calls::Calls;
+use crate::contents::Contents;
+use crate::{Fail, Failed, Files, Got, Sink};
+use std::alloc::{AllocError, Global};
+use std::marker::Model;
+
+/// A store in memory. The calls that its maker lists fail, and so does a `get` of a missing path. Contracts see its contents and
+/// its calls.
+#[derive(Drop)]
+pub struct MemFiles {
+    contents: Contents,
+    calls: Calls,
+}
+
+impl Model for MemFiles {
+    ghost use Rattle.sby_edge.specs.Memory.{FilesOf, files_code};
+
+    ghost Value = { FilesOf };
+
+    ghost coded = { files_code };
+
+    ghost view = { λ m. record { contents = m.contents; calls = m.calls } };
+}
+
+impl MemFiles {
+    /// An empty store. The listed calls of `get` and `put` fail, counted together from 1.
+    pub fn new(alloc: Global, failing: Vec<u64>) -> Self
+        ensures empty { result.contents ≡ map.empty }
+        ensures calls { result.calls ≡ uncalled failing.items }
+    {
+        MemFiles {
+            contents: Contents::new(alloc),
+            calls: Calls::new(failing),
+        }
+    }
+
+    /// The content of a path. This isn't counted as a call.
+    pub fn content(&self, path: &str) -> Option<&[u8]>
+        ensures { option_copied result ≡ store_of self.now.contents path.now }
+    {
+        self.contents.get(path)
+    }
+}
+
+// What `get` answers of a content.
+fn cut(alloc: Global, bytes: &[u8], most: u64) -> Result<Got, AllocError>
+    ensures got { IfOk result (λ got. GotOf bytes.now most got) }
+    ensures fits { IfOk result (λ got. GotFits most got) }
+{
+    if bytes.len() as u64 <= most {
+        Ok(Got::All(Vec::from_slice(alloc, bytes)?))
+    } else {
+        let end = most as usize + 1;
+        Ok(Got::Long(Vec::from_slice(alloc, &bytes[..end])?))
+    }
+}
+
+impl Files for MemFiles {
+    ghost told = { λ m. Some (store_of m.contents) };
+
+    ghost faults = { λ m. m.calls.faults };
+
+    fn get(&mut self, alloc: Global, path: &str, most: u64) -> Result<Got, Fail>
+        ensures content { IfOk result (λ got. GotAt (store_of self.old.contents path.now) most got) }
+        ensures fits { IfOk result (λ got. GotFits most got) }
+        ensures same { self.new.contents ≡ self.old.contents }
+        ensures fails { (result ≡ Err Fail.Failed) ↔ (NextFails self.old.calls ⊎ IsNone (store_of self.old.contents path.now)) }
+        ensures called { Called self.old.calls self.new.calls result }
+        ensures cause { HasCause self.old.calls.faults self.new.calls.faults result }
+    {
+        if self.calls.next_fails() {
+            self.calls.fail();
+            return Err(Fail::Failed);
+        }
+        match self.contents.get(path) {
+            Some(content) => {
+                let got = cut(alloc, content, most)?;
+                self.calls.serve();
+                Ok(got)
+            }
+            None => {
+                self.calls.fail();
+                Err(Fail::Failed)
+            }
+        }
+    }
+
+    fn put(&mut self, alloc: Global, path: &str, bytes: &[u8]) -> Result<(), Fail>
+        ensures ok { OnOk result (store_of self.new.contents ≡ put_at path.now bytes.now (store_of self.old.contents)) }
+        ensures err { OnErr result (self.new.contents ≡ self.old.contents) }
+        ensures fails { (result ≡ Err Fail.Failed) ↔ NextFails self.old.calls }
+        ensures called { Called self.old.calls self.new.calls result }
+        ensures cause { HasCause self.old.calls.faults self.new.calls.faults result }
+    {
+        if self.calls.next_fails() {
+            self.calls.fail();
+            return Err(Fail::Failed);
+        }
+        self.contents.put(alloc, path, bytes)?;
+        self.calls.serve();
+        Ok(())
+    }
+}
+
+/// Output in memory, with room for so many bytes, which its maker reserves: `write` takes no memory. The calls that its maker lists
+/// fail, and so does one that finds no room. Contracts see the bytes taken, the room left and its calls.
+#[derive(Drop)]
+pub struct MemSink {
+    taken: Vec<u8>,
+    room: usize,
+    calls: Calls,
+}
+
+impl Model for MemSink {
+    ghost use Rattle.std.specs.Prelude.{◌+◌, ◌≤◌, vec_len, vec_capacity};
+    ghost use Rattle.sby_edge.specs.Memory.{SinkOf};
+
+    ghost Value = { SinkOf };
+
+    ghost view = { λ s. record { taken = s.taken.items; room = s.room; calls = s.calls } };
+
+    ghost invariant = { λ s. vec_len s.taken + s.room ≤ vec_capacity s.taken };
+}
+
+impl MemSink {
+    /// A sink that has taken nothing. The listed calls of `write` fail, counted from 1.
+    pub fn new(alloc: Global, room: usize, failing: Vec<u64>) -> Result<Self, AllocError>
+        ensures { IfOk result (λ sink. sink ≡ record { taken = []; room = room; calls = uncalled failing.items }) }
+    {
+        Ok(MemSink {
+            taken: Vec::with_capacity(alloc, room)?,
+            room,
+            calls: Calls::new(failing),
+        })
+    }
+
+    /// The bytes taken.
+    pub fn bytes(&self) -> &[u8]
+        ensures { result.now ≡ self.now.taken }
+    {
+        &self.taken
+    }
+}
+
+impl Sink for MemSink {
+    ghost taken = { λ s. Some s.taken };
+
+    ghost faults = { λ s. s.calls.faults };
+
+    fn write(&mut self, piece: &[u8]) -> Result<usize, Failed>
+        ensures taken { IfOk result (λ count. self.new.taken ≡ self.old.taken ++ take count piece.now) }
+        ensures count { IfOk result (λ count. (count ≡ min (length piece.now) self.old.room)
+            × (self.new.room + count ≡ self.old.room) × (self.new.calls ≡ served self.old.calls)) }
+        ensures err { OnErr result (self.new ≡ record self.old { calls = failed self.old.calls }) }
+        ensures fails { IsErr result ↔ (NextFails self.old.calls ⊎ IsFull self.old.room piece.now) }
+        ensures cause { HasPlainCause self.old.calls.faults self.new.calls.faults result }
+    {
+        let count = piece.len().min(self.room);
+        if self.calls.next_fails() || (count == 0 && piece.len() > 0) {
+            self.calls.fail();
+            return Err(Failed);
+        }
+        self.taken.extend_from_slice(&piece[..count]).unwrap();
+        self.room -= count;
+        self.calls.serve();
+        Ok(count)
+    }
+}
