@@ -1,0 +1,11 @@
+pub mod Runs
+pub mod Cuts
+pub mod Prefixes
+pub mod NameLemmas
+pub mod Declarations
+pub mod Reading
+pub mod Numbers
+pub mod Pieces
+pub mod Statuses
+pub mod Scopes
+pub mod Tasks

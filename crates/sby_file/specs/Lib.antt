@@ -1,0 +1,17 @@
+pub mod Text
+pub mod Section
+pub mod Line
+pub mod Placed
+pub mod Names
+pub mod Prefix
+pub mod Faults
+pub mod Meant
+pub mod Config
+pub mod Sby
+pub mod Values
+pub mod Engines
+pub mod Draft
+pub mod Scope
+pub mod Files
+pub mod Task
+pub mod Expand

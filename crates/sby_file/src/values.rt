@@ -1,0 +1,153 @@
+// The values of options.
+
+ghost use Rattle.std.specs.Prelude.{◌≡◌, ◌<◌, ◌≤◌, ◌+◌, ◌∷◌, Some, IfOk, IfSome, List, length, map, string_bytes};
+ghost use Rattle.sby_file.specs.Values.{number_upto, number_of, word_mode, mode_of, word_switch, switch_of, status_of, piece_status, pieces_of, statuses_from, statuses_of, words_text};
+
+use crate::text::words;
+use memchr::memchr;
+use sby_terms::{Expect, Mode, Status, Words};
+use std::alloc::{AllocError, Global};
+
+/// The number that the digits write, without a leading 0, where it is at most `most`.
+fn number_upto(most: u32, digits: &[u8]) -> Option<u32>
+    ensures { result ≡ number_upto most digits.now }
+{
+    if digits.is_empty() {
+        return None;
+    }
+    if digits[0] == b'0' {
+        return None;
+    }
+    let mut value = 0u64;
+    for b in digits {
+        if !b.is_ascii_digit() {
+            return None;
+        }
+        value = value * 10 + u64::from(*b - b'0');
+        if value > u64::from(most) {
+            return None;
+        }
+    }
+    Some(value as u32)
+}
+
+/// A value of one word that is a number from 1 to `most`.
+pub fn number_of(most: u32, value: &[String]) -> Option<u32>
+    ensures { result ≡ number_of most (map string_bytes value.now) }
+{
+    match value {
+        [word] => number_upto(most, word.as_bytes()),
+        _ => None,
+    }
+}
+
+fn word_mode(word: &str) -> Option<Mode>
+    ensures { result ≡ word_mode word.now }
+{
+    match word {
+        "bmc" => Some(Mode::Bmc),
+        "prove" => Some(Mode::Prove),
+        "cover" => Some(Mode::Cover),
+        _ => None,
+    }
+}
+
+pub fn mode_of(value: &[String]) -> Option<Mode>
+    ensures { result ≡ mode_of (map string_bytes value.now) }
+{
+    match value {
+        [word] => word_mode(word.as_str()),
+        _ => None,
+    }
+}
+
+fn word_switch(word: &str) -> Option<bool>
+    ensures { result ≡ word_switch word.now }
+{
+    match word {
+        "on" => Some(true),
+        "off" => Some(false),
+        _ => None,
+    }
+}
+
+pub fn switch_of(value: &[String]) -> Option<bool>
+    ensures { result ≡ switch_of (map string_bytes value.now) }
+{
+    match value {
+        [word] => word_switch(word.as_str()),
+        _ => None,
+    }
+}
+
+fn status_of(word: &str) -> Option<Status>
+    ensures { result ≡ status_of word.now }
+{
+    if word.eq_ignore_ascii_case("pass") {
+        Some(Status::Pass)
+    } else if word.eq_ignore_ascii_case("fail") {
+        Some(Status::Fail)
+    } else if word.eq_ignore_ascii_case("unknown") {
+        Some(Status::Unknown)
+    } else if word.eq_ignore_ascii_case("error") {
+        Some(Status::Error)
+    } else if word.eq_ignore_ascii_case("timeout") {
+        Some(Status::Timeout)
+    } else {
+        None
+    }
+}
+
+// The status that a piece between commas names.
+fn piece_status(alloc: Global, piece: &str) -> Result<Option<Status>, AllocError>
+    ensures { IfOk result (λ status. status ≡ piece_status piece.now) }
+{
+    let words = words(alloc, piece)?;
+    match words.as_slice() {
+        [word] => Ok(status_of(word.as_str())),
+        _ => Ok(None),
+    }
+}
+
+// The piece before the first comma, and what is behind it.
+fn first_piece(text: &str) -> (&str, Option<&str>)
+    ensures pieces { pieces_of text.now ≡ result.0.now ∷ later_pieces result.1 }
+    ensures less { pieces_left result.1 < 1 + length text.now }
+{
+    match memchr(b',', text.as_bytes()) {
+        Some(end) => (&text[..end], Some(&text[end + 1..])),
+        None => (text, None),
+    }
+}
+
+ghost use Rattle.sby_file.specs.Values.{later_pieces, pieces_left};
+
+// The words with a space behind each.
+fn words_text(alloc: Global, words: &[String]) -> Result<String, AllocError>
+    ensures { IfOk result (λ text. string_bytes text ≡ words_text (map string_bytes words.now)) }
+{
+    let mut text = String::new(alloc);
+    for word in words {
+        text.push_str(word.as_str())?;
+        text.push(' ')?;
+    }
+    Ok(text)
+}
+
+/// The statuses of a list with commas.
+pub fn statuses_of(alloc: Global, value: &[String]) -> Result<Option<Expect>, AllocError>
+    ensures { IfOk result (λ statuses. statuses ≡ statuses_of (map string_bytes value.now)) }
+{
+    let text = words_text(alloc, value)?;
+    let mut statuses = Vec::new(alloc);
+    let mut rest = Some(text.as_str());
+    'pieces: while let Some(pieces) = rest {
+        let (piece, later) = first_piece(pieces);
+        let Some(status) = piece_status(alloc, piece)? else {
+            return Ok(None);
+        };
+        statuses.push(status)?;
+        rest = later;
+    }
+    Ok(Some(Expect::new(statuses)))
+}
