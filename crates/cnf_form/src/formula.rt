@@ -88,6 +88,16 @@ impl Formula {
         self.vars
     }
 
+    /// The same clauses over the variables from 1 to `vars`, at most `MAX_VARS`.
+    pub fn with_vars(self, vars: u32) -> Self
+        requires limit { vars ≤ MAX_VARS }
+        requires within { Within vars self.clauses }
+        ensures { result ≡ record self { vars = vars } }
+    {
+        let Formula { lits, spans, .. } = self;
+        Formula { vars, lits, spans }
+    }
+
     /// Its clauses, in the order in which they were pushed.
     pub fn clauses(&self) -> Clauses<'_>
         ensures clauses { result ≡ self.now.clauses }

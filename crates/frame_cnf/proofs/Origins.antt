@@ -1,31 +1,24 @@
 -- What the free variables stand for, and that all others rest on them.
-use Rattle.std.proofs.Common.{◌≡◌, ◌⊎◌, ℕ, zero, suc, ◌+◌, ◌*◌, ◌<◌, ◌≤◌, Bool, true, false, cond, not, ◌||◌, List, [], ◌∷◌, ◌++◌, map, Option, Some, None, refl, sym, ap, ◌∙◌, subst, inl, inr, arith, length, get_or, length-append}
-use Rattle.std.specs.Prelude.{slice_get, Contains, All}
-use Rattle.std.proofs.lemmas.Bool.{true≢false}
-use Rattle.std.proofs.lemmas.Option.{slice_get_within, slice_get-get_or}
+use Rattle.std.proofs.Common.{◌≡◌, ◌⊎◌, ℕ, zero, suc, ◌+◌, ◌*◌, ◌<◌, ◌≤◌, ◌↔◌, Bool, cond, List, [], ◌∷◌, ◌++◌, map, Option, Some, None, refl, sym, ap, ◌∙◌, subst, inl, inr, arith, length, get_or, length-append}
+use Rattle.std.specs.Prelude.{slice_get, Contains}
+use Rattle.std.specs.List.{count_by}
+use Rattle.std.proofs.lemmas.List.Sums.{sum_by-cons}
+use Rattle.std.proofs.lemmas.Option.{slice_get_within}
 use Rattle.std.proofs.lemmas.List.Elements.{Contains-append_left}
 use Rattle.cnf_form.specs.Cnf.{LitOf, Closure}
 use Rattle.gate_graph.specs.Circuit.{GatesOf, IsGates}
 use Rattle.rtlil_design.specs.declared.shape.SigBit.{SigBit}
-use Rattle.rtlil_design.specs.declared.shape.SigBit.TheVariants.{Wire, Const, Free}
 use Rattle.rtlil_design.specs.Shape.{DesignOf, IsDesign}
-use Rattle.rtlil_design.specs.Meaning.{IsStart, IsHeld}
+use Rattle.rtlil_design.specs.Meaning.{Broken, asserts}
 use Rattle.rtlil_design.specs.Faults.{IsFlat}
 use Rattle.sby_terms.specs.declared.names.JobName.TheVariants.{Base}
-use Rattle.frame_cnf.specs.Encoding.{EncodedOf, Propagates, Origin, Start, Input as InputOrigin, IsOrigin, IsLeftFree, HasNoStart, HasOrigins, IsDistinct, empty_job}
-use Rattle.frame_cnf.specs.declared.nodes.Register.{Register}
-use Rattle.frame_cnf.specs.declared.model.Leaf.{Leaf}
-use Rattle.frame_cnf.specs.declared.model.Leaf.TheVariants.{Input}
-use Rattle.frame_cnf.specs.declared.model.Operand.{Operand}
-use Rattle.frame_cnf.specs.declared.model.StateBit.{StateBit}
-use Rattle.frame_cnf.specs.declared.model.Claim.{Claim}
-use Rattle.frame_cnf.specs.Nodes.{IsBit, IsOrder, starts_as}
-use Rattle.frame_cnf.specs.Table.{Has, IsMachine, IsStateOf, plain}
-use Rattle.frame_cnf.specs.Unroll.{HasFreeVars, is_free, free_bits, with_clause}
-use Rattle.frame_cnf.proofs.Flatten.{app_cases}
-use Rattle.frame_cnf.proofs.Cells.{at_place}
-use Rattle.frame_cnf.proofs.Designs.{inverters, registers, assertions, register_from}
-use Rattle.frame_cnf.proofs.Agreements.{init-starts_as, held}
+use Rattle.frame_cnf.specs.Jobs.{Solvable}
+use Rattle.frame_cnf.specs.Encoding.{CanBeSatisfied, Propagates, Origin, Start, Input as InputOrigin, IsOrigin, IsLeftFree, HasOrigins, IsDistinct, empty_job}
+use Rattle.frame_cnf.specs.Sources.{AreSources}
+use Rattle.frame_cnf.specs.Unroll.{free_bits, is_free, with_clause}
+use Rattle.frame_cnf.proofs.Lists.{all_from, app_cases, contained_at}
+use Rattle.frame_cnf.proofs.Registers.{output_held}
+use Rattle.frame_cnf.proofs.Sourcing.{outs_distinct}
 
 -- the unit clause fixes its variable
 unit_closure : (F : List (List LitOf)) (l : LitOf) → Contains F (l ∷ []) → Closure F l
@@ -53,10 +46,6 @@ propagates_empty = record {
   where
     none : (l : LitOf) → Contains (let c : List LitOf = [] in c) l → ⊥
     none l c = let h = c.1 in omega arith
-
--- where each element is at its place
-pub all_from : {A : Type 0} (P : A → Type 0) (xs : List A) → ((k : ℕ) (x : A) → slice_get xs k ≡ Some x → P x) → All P xs
-all_from P xs h k x l = h k (get_or xs k x) (slice_get-get_or xs k x l)
 
 distinct_append : {A : Type 0} (xs ys : List A) → IsDistinct xs → IsDistinct ys → ((i j : ℕ) (x : A) → slice_get xs i ≡ Some x → slice_get ys j ≡ Some x → ⊥) → IsDistinct (xs ++ ys)
 distinct_append xs ys p q apart i j x lt ei ej = elim (app_cases xs ys i x ei) as (λ _. ⊥) [
@@ -140,119 +129,98 @@ distinct_origins starts inputs (suc t) p q =
       | inr u ↦ let e = same_frame u.0 t u.2 m.0 (sym u.5 ∙ sym m.2) in absurd (let l : u.0 < t = u.3 in omega arith)
     ])
 
--- the free state bits are among the state bits
-free_from : (states : List StateBit) (k : ℕ) (b : SigBit) → slice_get (free_bits states) k ≡ Some b →
-    (j : ℕ) × (s : StateBit) × (slice_get states j ≡ Some s) × (s.bit ≡ b) × (is_free s ≡ true) × (k ≤ j)
-free_from [] k b h = absurd (let z : None ≡ Some b = h in cc)
-free_from (s ∷ ss) k b h = choose (is_free s) refl k h (λ i g. free_from ss i b g)
+-- the bits without a start digit are among the bits
+free_from : (bits : List SigBit) (starts : List (Option Bool)) (k : ℕ) (b : SigBit) → slice_get (free_bits bits starts) k ≡ Some b →
+    (j : ℕ) × (slice_get bits j ≡ Some b) × (slice_get starts j ≡ Some None)
+free_from [] starts k b h = absurd (let z : None ≡ Some b = h in cc)
+free_from (x ∷ xs) [] k b h = absurd (let z : None ≡ Some b = h in cc)
+free_from (x ∷ xs) (s ∷ ss) k b h = choose s k h (λ i g. free_from xs ss i b g)
   where
-    choose : (t : Bool) → is_free s ≡ t → (k : ℕ) → slice_get (cond t (s.bit ∷ free_bits ss) (free_bits ss)) k ≡ Some b →
-        ((i : ℕ) → slice_get (free_bits ss) i ≡ Some b → (j : ℕ) × (z : StateBit) × (slice_get ss j ≡ Some z) × (z.bit ≡ b) × (is_free z ≡ true) × (i ≤ j)) →
-        (j : ℕ) × (z : StateBit) × (slice_get (s ∷ ss) j ≡ Some z) × (z.bit ≡ b) × (is_free z ≡ true) × (k ≤ j)
-    choose true e zero g ih = (0, s, refl, cc, e, omega arith)
-    choose true e (suc k) g ih = let r = ih k g in (suc r.0, r.1, r.2, r.3, r.4, (let l : k ≤ r.0 = r.5 in omega arith))
-    choose false e k g ih = let r = ih k g in (suc r.0, r.1, r.2, r.3, r.4, (let l : k ≤ r.0 = r.5 in omega arith))
+    choose : (s : Option Bool) (k : ℕ) → slice_get (cond (is_free s) (x ∷ free_bits xs ss) (free_bits xs ss)) k ≡ Some b →
+        ((i : ℕ) → slice_get (free_bits xs ss) i ≡ Some b → (j : ℕ) × (slice_get xs j ≡ Some b) × (slice_get ss j ≡ Some None)) →
+        (j : ℕ) × (slice_get (x ∷ xs) j ≡ Some b) × (slice_get (s ∷ ss) j ≡ Some None)
+    choose None zero g ih = (0, g, refl)
+    choose None (suc k) g ih = let r = ih k g in (suc r.0, r.1, r.2)
+    choose (Some v) k g ih = let r = ih k g in (suc r.0, r.1, r.2)
 
--- state bits that differ: so do the free ones
-distinct_free : (states : List StateBit) → ((i j : ℕ) (s z : StateBit) → i < j → slice_get states i ≡ Some s → slice_get states j ≡ Some z → s.bit ≡ z.bit → ⊥) → IsDistinct (free_bits states)
-distinct_free [] h = λ i j x lt ei ej. (let z : None ≡ Some x = ei in cc)
-distinct_free (s ∷ ss) h =
-    choose (is_free s) (distinct_free ss (λ i j a b lt p q. h (suc i) (suc j) a b (omega arith) p q))
-    (λ j x e. let f = free_from ss j x e in λ g. h 0 (suc f.0) s f.1 (omega arith) refl f.2 (g ∙ sym f.3))
+distinct_free : (bits : List SigBit) (starts : List (Option Bool)) → IsDistinct bits → IsDistinct (free_bits bits starts)
+distinct_free [] starts h = λ i j x lt ei ej. (let z : None ≡ Some x = ei in cc)
+distinct_free (x ∷ xs) [] h = λ i j x lt ei ej. (let z : None ≡ Some x = ei in cc)
+distinct_free (x ∷ xs) (s ∷ ss) h =
+    choose s (distinct_free xs ss (λ i j y lt p q. h (suc i) (suc j) y (omega arith) p q))
+    (λ j y e g. let f = free_from xs ss j y e in h 0 (suc f.0) y (omega arith) (ap Some g) f.1)
   where
-    choose : (t : Bool) → IsDistinct (free_bits ss) → ((j : ℕ) (x : SigBit) → slice_get (free_bits ss) j ≡ Some x → s.bit ≡ x → ⊥) →
-        IsDistinct (cond t (s.bit ∷ free_bits ss) (free_bits ss))
-    choose true r first = by
+    choose : (s : Option Bool) → IsDistinct (free_bits xs ss) → ((j : ℕ) (y : SigBit) → slice_get (free_bits xs ss) j ≡ Some y → x ≡ y → ⊥) →
+        IsDistinct (cond (is_free s) (x ∷ free_bits xs ss) (free_bits xs ss))
+    choose None r first = by
       where
-        by : IsDistinct (s.bit ∷ free_bits ss)
-        by zero zero x lt ei ej = absurd (omega arith)
-        by zero (suc j) x lt ei ej = first j x ej cc
-        by (suc i) zero x lt ei ej = absurd (omega arith)
-        by (suc i) (suc j) x lt ei ej = r i j x (omega arith) ei ej
-    choose false r first = r
+        by : IsDistinct (x ∷ free_bits xs ss)
+        by zero zero y lt ei ej = absurd (omega arith)
+        by zero (suc j) y lt ei ej = first j y ej cc
+        by (suc i) zero y lt ei ej = absurd (omega arith)
+        by (suc i) (suc j) y lt ei ej = r i j y (omega arith) ei ej
+    choose (Some v) r first = r
 
-neither : (a b : Bool) → not (a || b) ≡ true → (a ≡ false) × (b ≡ false)
-neither true b h = absurd (true≢false (sym h))
-neither false true h = absurd (true≢false (sym h))
-neither false false h = (refl, refl)
+free_count : (bits : List SigBit) (starts : List (Option Bool)) → length starts ≡ length bits → length (free_bits bits starts) ≡ count_by is_free starts
+free_count [] [] n = refl
+free_count [] (s ∷ ss) n = absurd (omega arith)
+free_count (x ∷ xs) [] n = absurd (omega arith)
+free_count (x ∷ xs) (s ∷ ss) n =
+    let c = sum_by-cons (λ (z : Option Bool). cond (is_free z) 1 0) s ss in
+    let r = free_count xs ss (omega arith) in
+    let b = by s in
+    omega (arith, c, r, b)
+  where
+    by : (s : Option Bool) → length (cond (is_free s) (x ∷ free_bits xs ss) (free_bits xs ss)) ≡ cond (is_free s) 1 0 + length (free_bits xs ss)
+    by None = omega arith
+    by (Some v) = omega arith
 
-one_operand : (d : DesignOf) (es : List (Option Operand)) (b : SigBit) (o p : Operand) → IsBit d b → Has d es b o → Has d es b p → o ≡ p
-one_operand d es (Wire w i) o p h a c = cc
-one_operand d es (Const i) o p h a c = absurd h
-one_operand d es (Free n) o p h a c = cc
+nothing : (k : ℕ) (o : Origin) → slice_get (let xs : List Origin = [] in xs) k ≡ Some o → ⊥
+nothing k o h = let z : None ≡ Some o = h in cc
 
-input_place : Leaf → ℕ
-input_place (Input k) = k
-input_place _ = 0
-
-same_place : (i j : ℕ) → plain (Input i) ≡ plain (Input j) → i ≡ j
-unfolding input_place
-same_place i j e = ap (λ (o : Operand). input_place o.leaf) e
-
-module _ (d : DesignOf) (flat : IsFlat d) (design : IsDesign d) (states : List StateBit) (inputs : List SigBit) (claims : List Claim)
-    (order : IsOrder d (inverters d flat design) (registers d flat design) (assertions d flat design))
-    (m : IsMachine d (inverters d flat design) (registers d flat design) (assertions d flat design) states inputs claims) where
-  distinct_inputs : IsDistinct inputs
-  distinct_inputs i j b lt ei ej =
-      let e = same_place i j (one_operand d m.entries b (plain (Input i)) (plain (Input j)) (m.table.open_bits i b ei).0 (m.table.input_bits i b ei) (m.table.input_bits j b ej)) in
-      absurd (omega arith)
-
-  state_register : (k : ℕ) (s : StateBit) → slice_get states k ≡ Some s → (n : Register) × (slice_get (registers d flat design) k ≡ Some n) × IsStateOf d m.entries n s
-  state_register k s e =
-      let l = slice_get_within states k s e in
-      let n = m.as_many_states in
-      let r = at_place (registers d flat design) k (omega arith) in
-      (r.0, r.1, m.each_state k r.0 s r.1 e)
-
-  distinct_states : (i j : ℕ) (s z : StateBit) → i < j → slice_get states i ≡ Some s → slice_get states j ≡ Some z → s.bit ≡ z.bit → ⊥
-  distinct_states i j s z lt ei ej e =
-      let a = state_register i s ei in
-      let b = state_register j z ej in
-      order.registers_apart i j a.0 b.0 lt a.1 b.1 (sym a.2.bit ∙ e ∙ b.2.bit)
-
-  left_free : (k : ℕ) (b : SigBit) → slice_get (free_bits states) k ≡ Some b → IsLeftFree d Base b
+module _ (d : DesignOf) (flat : IsFlat d) (design : IsDesign d) (outs news : List SigBit) (starts : List (Option Bool)) (opens : List SigBit) (is : AreSources d outs news starts opens) where
+  left_free : (k : ℕ) (b : SigBit) → slice_get (free_bits outs starts) k ≡ Some b → IsLeftFree d Base b
   left_free k b h =
-      let f = free_from states k b h in
-      let r = state_register f.0 f.1 f.2 in
-      let o = register_from d flat design f.0 r.0 r.1 in
-      let no = neither f.1.starts_low f.1.starts_high f.4 in
-      let out : r.0.output ≡ b = sym r.2.bit ∙ f.3 in
-      let low : starts_as d b false ≡ false = ap (λ (z : SigBit). starts_as d z false) (sym out) ∙ sym (ap (λ (z : Register). z.starts_low) o.is) ∙ sym r.2.low ∙ no.0 in
-      let high : starts_as d b true ≡ false = ap (λ (z : SigBit). starts_as d z true) (sym out) ∙ sym (ap (λ (z : Register). z.starts_high) o.is) ∙ sym r.2.high ∙ no.1 in
-      (subst (IsHeld d) out (held d flat design f.0 r.0 r.1), by b low high)
-    where
-      none : (w i : ℕ) (x : Bool) → starts_as d (Wire w i) false ≡ false → starts_as d (Wire w i) true ≡ false → IsStart d w i x → ⊥
-      none w i false low high s = true≢false (sym (init-starts_as d w i false s.0) ∙ low)
-      none w i true low high s = true≢false (sym (init-starts_as d w i true s.0) ∙ high)
+      let f = free_from outs starts k b h in (
+        output_held d flat design f.0 b (subst (λ (xs : List SigBit). slice_get xs f.0 ≡ Some b) is.outputs f.1),
+        (λ x start. let z : None ≡ Some x = (is.starts.each f.0 b None f.1 f.2 x).1 start in cc),
+      )
 
-      by : (b : SigBit) → starts_as d b false ≡ false → starts_as d b true ≡ false → HasNoStart d b
-      by (Wire w i) low high = λ x s. none w i x low high s
-      by (Const i) low high = tt
-      by (Free i) low high = tt
+  pub origins_gates : (n : ℕ) (g : GatesOf) (bads : List LitOf) → IsGates g → IsDistinct g.inputs → length g.inputs ≡ count_by is_free starts + n * length opens →
+      HasOrigins d Base n (record { formula = with_clause g.formula bads; free_vars = g.inputs })
+  origins_gates n g bads ig distinct count = record {
+    distinct = distinct;
+    within = all_from (λ v. (0 < v) × (v ≤ g.formula.vars)) g.inputs (λ k v h. ig.inputs_within v (contained_at g.inputs v k h));
+    origins = origins_of (free_bits outs starts) opens n;
+    each = let l = length_origins (free_bits outs starts) opens n in let f = free_count outs starts is.starts.as_many in omega (arith, l, f, count);
+    apart = distinct_origins (free_bits outs starts) opens n (distinct_free outs starts (outs_distinct d flat design outs news starts opens is)) is.inputs.distinct;
+    free = all_from (IsOrigin d Base n) (origins_of (free_bits outs starts) opens n)
+        (λ k o h. elim (origin_is (free_bits outs starts) opens n k o h) as (λ _. IsOrigin d Base n o) [
+          | inl u ↦ subst (IsOrigin d Base n) (sym u.3) (left_free u.0 u.1 u.2)
+          | inr u ↦ subst (IsOrigin d Base n) (sym u.5) (let open_bit = is.inputs.each u.1 u.2 u.4 in (u.3, open_bit.0, open_bit.1))
+        ]);
+  }
 
-  pub has_origins : (n : ℕ) (e : EncodedOf) → HasFreeVars states (length inputs) n e → HasOrigins d Base n e
-  has_origins n e f = elim f.count as (λ _. HasOrigins d Base n e) [
-    | inl none ↦ record {
-      distinct = f.distinct;
-      within = f.within;
-      origins = [];
-      each = rw none refl;
-      apart = λ i j x lt ei ej. nothing i x ei;
-      free = all_from (IsOrigin d Base n) [] (λ k o h. absurd (nothing k o h));
-    }
-    | inr count ↦ record {
-      distinct = f.distinct;
-      within = f.within;
-      origins = origins_of (free_bits states) inputs n;
-      each = length_origins (free_bits states) inputs n ∙ sym count;
-      apart = distinct_origins (free_bits states) inputs n (distinct_free states distinct_states) distinct_inputs;
-      free = all_from (IsOrigin d Base n) (origins_of (free_bits states) inputs n)
-          (λ k o h. elim (origin_is (free_bits states) inputs n k o h) as (λ _. IsOrigin d Base n o) [
-            | inl u ↦ subst (IsOrigin d Base n) (sym u.3) (left_free u.0 u.1 u.2)
-            | inr u ↦ subst (IsOrigin d Base n) (sym u.5) (let open_bit = m.table.open_bits u.1 u.2 u.4 in (u.3, open_bit.1, open_bit.2))
-          ]);
-    }
-  ]
-    where
-      nothing : (k : ℕ) (o : Origin) → slice_get (let xs : List Origin = [] in xs) k ≡ Some o → ⊥
-      nothing k o h = let z : None ≡ Some o = h in cc
+pub origins_empty : (d : DesignOf) (n : ℕ) → HasOrigins d Base n (record { formula = empty_job; free_vars = [] })
+origins_empty d n = record {
+  distinct = λ i j x lt ei ej. (let z : None ≡ Some x = ei in cc);
+  within = all_from (λ v. (0 < v) × (v ≤ 1)) [] (λ k v h. absurd (let z : None ≡ Some v = h in cc));
+  origins = [];
+  each = refl;
+  apart = λ i j x lt ei ej. nothing i x ei;
+  free = all_from (IsOrigin d Base n) [] (λ k o h. absurd (nothing k o h));
+}
+
+-- without an assertion
+empty_unsatisfied : CanBeSatisfied empty_job → ⊥
+empty_unsatisfied p = let s = p.1 [] (0, omega arith, refl) in absurd (let l = s.1.1 in omega arith)
+
+unsolvable : (d : DesignOf) (n : ℕ) → asserts d ≡ [] → Solvable d Base n → ⊥
+unsolvable d n none (zero, vs, a, le, shows) = let some = shows.run.window.some in absurd (omega arith)
+unsolvable d n none (suc m, vs, a, le, shows) = broken (shows.last m refl)
+  where
+    broken : Broken d (vs m) a → ⊥
+    broken (c, e, on, off) = let z : slice_get (let xs : List _ = [] in xs) a ≡ Some c = subst (λ xs. slice_get xs a ≡ Some c) none e in let y : None ≡ Some c = z in cc
+
+pub empty_solvable : (d : DesignOf) (n : ℕ) → asserts d ≡ [] → CanBeSatisfied empty_job ↔ Solvable d Base n
+empty_solvable d n none = ((λ p. absurd (empty_unsatisfied p)), (λ s. absurd (unsolvable d n none s)))

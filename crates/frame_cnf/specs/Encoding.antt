@@ -4,7 +4,7 @@ use Rattle.std.specs.List.{sum_by}
 use Rattle.cnf_form.specs.Cnf.{LitOf, FormulaOf, Assignment, Satisfies, Closure, Conflict}
 use Rattle.rtlil_design.specs.Shape.{PortOf, CellOf, DesignOf, wire_bits, IsDeclared}
 use Rattle.rtlil_design.specs.Asked.{output_port, role_of}
-use Rattle.rtlil_design.specs.Meaning.{IsCell, IsHeld, IsStart}
+use Rattle.rtlil_design.specs.Meaning.{IsCell, IsHeld, IsRegisterStart, Chain}
 use Rattle.rtlil_design.specs.Faults.{driven}
 use Rattle.rtlil_design.specs.declared.shape.SigBit.{SigBit}
 use Rattle.rtlil_design.specs.declared.shape.SigBit.TheVariants.{Wire, Const, Free}
@@ -63,11 +63,14 @@ pub data Origin : Type 0 where
   Start : SigBit → Origin
   Input : ℕ → SigBit → Origin
 
--- some cell reads the bit at another port than CLK
+-- the cell reads the bit at another port than CLK
+abbrev pub ReadsOtherwise : CellOf → SigBit → Type 0
+ReadsOtherwise c b =
+    (p : PortOf) × Contains c.ports p × (p.name ≢ output_port (role_of c.kind)) × (p.name ≢ codes "CLK") × Contains p.signal b
+
+-- some cell reads, otherwise than as a clock, a bit whose chain of connects ends at this one
 abbrev pub IsReadOtherwise : DesignOf → SigBit → Type 0
-IsReadOtherwise d b =
-    (i : ℕ) × (c : CellOf) × (p : PortOf) × IsCell d i c × Contains c.ports p
-    × (p.name ≢ output_port (role_of c.kind)) × (p.name ≢ codes "CLK") × Contains p.signal b
+IsReadOtherwise d b = (n : ℕ) × (a : SigBit) × Chain d n a b × ((i : ℕ) × (c : CellOf) × IsCell d i c × ReadsOtherwise c a)
 
 -- a free bit, or a bit of a wire that nothing drives
 abbrev pub IsOpen : DesignOf → SigBit → Type 0
@@ -75,11 +78,9 @@ IsOpen d (Wire w b) = IsDeclared d.wires d.free (Wire w b) × ¬ Contains (drive
 IsOpen d (Const b) = ⊥
 IsOpen d (Free n) = n < d.free
 
--- no start digit counts for the bit
+-- no start digit counts for the register's bit: neither one of its own nor one of a bit whose chain of connects ends at it
 abbrev pub HasNoStart : DesignOf → SigBit → Type 0
-HasNoStart d (Wire w b) = (x : Bool) → IsStart d w b x → ⊥
-HasNoStart d (Const b) = Unit {0}
-HasNoStart d (Free n) = Unit {0}
+HasNoStart d b = (x : Bool) → IsRegisterStart d b x → ⊥
 
 -- the job leaves the register's bit free in its first frame
 abbrev pub IsLeftFree : DesignOf → JobName → SigBit → Type 0

@@ -1,6 +1,7 @@
 pub mod Jobs
 pub mod Encoding
-pub mod Nodes
-pub mod BitModel
-pub mod Table
+pub mod Lines
+pub mod Sources
+pub mod Tables
+pub mod Costs
 pub mod Unroll

@@ -1,20 +1,21 @@
 // The encoding of a job.
 
-ghost use Rattle.std.specs.Prelude.{◌≡◌, ◌↔◌, ◌⊎◌, ◌*◌, ◌+◌, ◌<◌, ◌≤◌, ◌^◌, ◌++◌, [], ◌∷◌, length, slice_get, Some, true, IsTrue, IfOk, IfErr, OnOk};
+ghost use Rattle.std.specs.Prelude.{◌≡◌, ◌↔◌, ◌⊎◌, ◌*◌, ◌+◌, ◌<◌, ◌≤◌, ◌^◌, ◌++◌, [], ◌∷◌, All, length, slice_get, Some, true, IsTrue, IfOk, IfErr, OnOk};
 ghost use Rattle.cnf_form.specs.declared.literal.TheConstants.{MAX_VARS};
 ghost use Rattle.cnf_form.specs.Cnf.{FormulaOf};
 ghost use Rattle.gate_graph.specs.Circuit.{IsGates};
 ghost use Rattle.rtlil_design.specs.Meaning.{asserts};
 ghost use Rattle.frame_cnf.specs.Jobs.{Solvable, frames};
 ghost use Rattle.frame_cnf.specs.Encoding.{CanBeSatisfied, EncodedOf, HasOrigins, Propagates, cost, empty_job};
-ghost use Rattle.frame_cnf.specs.BitModel.{CanBreak};
-ghost use Rattle.frame_cnf.specs.Unroll.{AllWithin, CanAllStart, HasFreeVars, IsWithin, with_clause};
+ghost use Rattle.frame_cnf.specs.Unroll.{with_clause};
+ghost use Rattle.cnf_form.specs.Cnf.{LitWithin};
 
-use crate::model::{BitModel, StateBit, machine_of};
-use crate::nodes::nodes_of;
+use crate::sources::sources_of;
+use crate::statements::is_assertion;
 use crate::unroll::unroll;
 use cnf_form::{Formula, Lit};
 use gate_graph::{GateFault, Gates};
+use rtlil_design::design::Design;
 use rtlil_design::flat::Flat;
 use sby_terms::JobName;
 use std::alloc::{AllocError, Global};
@@ -48,7 +49,7 @@ impl Encoded {
     }
 
     /// The variables on which all others rest: one for each bit of a register that the job leaves free in its first frame, and one
-    /// for each input bit of each frame that some cell reads.
+    /// for each input bit of each frame that some cell reads, otherwise than as a clock.
     pub fn free_vars(&self) -> &[u32]
         ensures { result.now ≡ self.now.free_vars }
     {
@@ -70,52 +71,26 @@ fn empty(alloc: Global) -> Result<Encoded, AllocError>
 
 // The gates and the clause that one of the literals is true.
 fn finish(alloc: Global, gates: Gates, bads: &[Lit]) -> Result<Encoded, AllocError>
-    requires { AllWithin gates.formula.vars bads.now }
+    requires { All (LitWithin gates.formula.vars) bads.now }
     ensures { IfOk result (λ e. e ≡ record { formula = with_clause gates.formula bads.now; free_vars = gates.inputs }) }
 {
     let free_vars = Vec::from_slice(alloc, gates.inputs())?;
-    let mut formula = gates.finish(alloc)?;
+    let mut formula = gates.finish();
     formula.push(bads)?;
     Ok(Encoded { formula, free_vars })
 }
 
-// Whether each state bit can start as it is to.
-fn can_all_start(states: &[StateBit]) -> bool
-    ensures { IsTrue result ↔ CanAllStart states.now }
+// Whether the design has an assertion.
+fn asserts_none(design: &Design) -> bool
+    ensures { IsTrue result ↔ (asserts design.now ≡ []) }
 {
-    for state in states {
-        if state.starts_low && state.starts_high {
+    let cells = design.cells();
+    for cell in cells {
+        if is_assertion(cell) {
             return false;
         }
     }
     true
-}
-
-// The encoding of the first `depth` cycles of a machine.
-fn encode_machine(
-    alloc: Global,
-    model: &BitModel,
-    depth: u32,
-) -> Result<Result<Encoded, TooMany>, AllocError>
-    requires { IsWithin model.now.states.items (length model.now.inputs.items) model.now.claims.items }
-    ensures solvable { IfOk result (λ r. IfOk r (λ e. CanBeSatisfied e.formula ↔ CanBreak model.now.states.items model.now.claims.items depth)) }
-    ensures too_many { IfOk result (λ r. IfErr r (λ _. MAX_VARS < 1 + length model.now.states.items + depth * (length model.now.inputs.items + length model.now.claims.items))) }
-    ensures vars { IfOk result (λ r. IfOk r (λ e. (1 ≤ e.formula.vars) × (e.formula.vars ≤ MAX_VARS))) }
-    ensures propagates { IfOk result (λ r. IfOk r (λ e. Propagates e)) }
-    ensures free_vars { IfOk result (λ r. IfOk r (λ e. HasFreeVars model.now.states.items (length model.now.inputs.items) depth e)) }
-    ensures empty { IfOk result (λ r. IfOk r (λ e. model.now.claims.items ≡ [] → e.formula ≡ empty_job)) }
-{
-    if model.claims.is_empty() {
-        return Ok(Ok(empty(alloc)?));
-    }
-    if !can_all_start(&model.states) {
-        return Ok(Ok(empty(alloc)?));
-    }
-    match unroll(alloc, model, depth) {
-        Ok((gates, bads)) => Ok(Ok(finish(alloc, gates, &bads)?)),
-        Err(GateFault::TooMany) => Ok(Err(TooMany)),
-        Err(GateFault::Memory) => Err(AllocError),
-    }
 }
 
 /// The formula of a job of a flat design over its frames: at depth `depth`, which is from 1 to 1,000, one for each cycle that the job
@@ -139,7 +114,15 @@ pub fn encode(
     ensures origins { IfOk result (λ r. IfOk r (λ e. HasOrigins flat.now job depth e)) }
     ensures empty { IfOk result (λ r. IfOk r (λ e. asserts flat.now ≡ [] → e.formula ≡ empty_job)) }
 {
-    let nodes = nodes_of(alloc, flat)?;
-    let model = machine_of(alloc, flat.design(), &nodes)?;
-    encode_machine(alloc, &model, depth)
+    let design = flat.design();
+    if asserts_none(design) {
+        return Ok(Ok(empty(alloc)?));
+    }
+    let order = flat.order();
+    let sources = sources_of(alloc, flat, order)?;
+    match unroll(alloc, design, order, &sources, depth) {
+        Ok((gates, bads)) => Ok(Ok(finish(alloc, gates, bads.as_slice())?)),
+        Err(GateFault::TooMany) => Ok(Err(TooMany)),
+        Err(GateFault::Memory) => Err(AllocError),
+    }
 }

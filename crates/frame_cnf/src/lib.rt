@@ -1,9 +1,13 @@
 //! A job of a design as clauses: the unrolling over its frames.
 #![tactic(auto)]
 
+mod cells;
+mod drivers;
 mod encoding;
-mod model;
-mod nodes;
+mod marks;
+mod sources;
+mod statements;
+mod table;
 mod unroll;
 
 pub use encoding::{Encoded, TooMany, encode};

@@ -1,58 +1,74 @@
-// The cycles of a machine, one after another, as gates.
+// The cycles of a design, one after another, as gates.
 
-ghost use Rattle.std.specs.Prelude.{◌≡◌, ◌⊎◌, ◌↔◌, ◌<◌, ◌≤◌, ◌+◌, ◌*◌, ℕ, List, [], ◌∷◌, ◌++◌, true, false, cond, length, slice_get, Some, None, IfOk, OnOk};
-ghost use Rattle.cnf_form.specs.Cnf.{Assignment, LitWithin, Satisfies, lit_in};
+ghost use Rattle.std.specs.Prelude.{◌≡◌, ◌↔◌, ◌<◌, ◌≤◌, ◌+◌, ◌*◌, All, IfOk, OnOk, [], cond, length};
+ghost use Rattle.std.specs.List.{count_by, sum_by};
+ghost use Rattle.cnf_form.specs.Cnf.{LitWithin, lit_in};
 ghost use Rattle.cnf_form.specs.declared.literal.TheConstants.{MAX_VARS};
-ghost use Rattle.gate_graph.specs.Circuit.{IsGates};
+ghost use Rattle.gate_graph.specs.Circuit.{GatesOf, IsGates};
+ghost use Rattle.rtlil_design.specs.Faults.{IsFlat};
+ghost use Rattle.rtlil_design.specs.Order.{IsOrder};
+ghost use Rattle.rtlil_design.specs.Places.{places};
+ghost use Rattle.rtlil_design.specs.Shape.{IsDesign};
+ghost use Rattle.sby_terms.specs.declared.names.JobName.TheVariants.{Base};
+ghost use Rattle.frame_cnf.specs.Jobs.{Solvable};
 ghost use Rattle.frame_cnf.specs.Encoding.{CanBeSatisfied, IsDistinct};
-ghost use Rattle.frame_cnf.specs.BitModel.{AnyBroken, CanBreak, IsBroken, LeafWithin, leaf_in, operand_in};
-ghost use Rattle.frame_cnf.specs.Unroll.{AddsInputs, AllWithin, CanAllStart, ClaimsWithin, IsNext, IsWithin, Judges, Opens, Starts, StartsOne, StatesWithin, Unrolled, Unrolls, free_bits, is_free, point_in, with_clause};
+ghost use Rattle.frame_cnf.specs.Costs.{cycle_gates};
+ghost use Rattle.frame_cnf.specs.Sources.{AreSources};
+ghost use Rattle.frame_cnf.specs.Tables.{AreSet, IsTable};
+ghost use Rattle.frame_cnf.specs.Unroll.{AddsInputs, Opens, Starts, StartsOne, Unrolled, Unrolls, is_free, with_clause};
 
-use crate::model::{BitModel, Claim, Leaf, Operand, StateBit};
+use crate::drivers::drive_all;
+use crate::sources::Sources;
+use crate::statements::{assert_all, assume_all};
+use crate::table::{new_table, push, read_word, write_word};
 use cnf_form::Lit;
 use gate_graph::{GateFault, Gates};
-use std::alloc::{AllocError, Global};
+use rtlil_design::design::Design;
+use rtlil_design::driver::Driver;
+use std::alloc::Global;
 
-fn push(lits: &mut Vec<Lit>, lit: Lit) -> Result<(), AllocError>
-    ensures { OnOk result (lits.new.items ≡ lits.old.items ++ lit ∷ []) }
-{
-    lits.push(lit)?;
-    Ok(())
+// The cycles so far: the literal of each bit in the last, those of the registers' bits in the next, the literal that all
+// assumptions have held, and the literals of broken assertions.
+#[derive(Drop)]
+struct Unrolling {
+    table: Vec<Lit>,
+    row: Vec<Lit>,
+    held: Lit,
+    bads: Vec<Lit>,
 }
 
-// The literal of a state bit in the first cycle.
-fn start(gates: &mut Gates, state: StateBit) -> Result<Lit, GateFault>
-    requires { state.starts_low ≡ true → state.starts_high ≡ false }
-    ensures starts { IfOk result (λ lit. StartsOne state gates.old gates.new lit) }
-    ensures inputs { IfOk result (λ _. AddsInputs gates.old gates.new (cond (is_free state) 1 0)) }
+// The literal of a register's bit in the first cycle.
+fn start(gates: &mut Gates, start: Option<bool>) -> Result<Lit, GateFault>
+    ensures starts { IfOk result (λ lit. StartsOne start gates.old gates.new lit) }
+    ensures inputs { IfOk result (λ _. AddsInputs gates.old gates.new (cond (is_free start) 1 0)) }
     ensures most { IfOk result (λ _. gates.new.formula.vars ≤ gates.old.formula.vars + 1) }
     ensures too_many { result ≡ Err GateFault.TooMany → gates.old.formula.vars ≡ MAX_VARS }
 {
     gates.promise();
-    if state.starts_low {
-        return Ok(gates.constant(false));
-    }
-    if state.starts_high {
-        return Ok(gates.constant(true));
+    if let Some(value) = start {
+        return Ok(gates.constant(value));
     }
     let lit = gates.input()?;
     gates.promise();
     Ok(lit)
 }
 
-// The literals of the state bits in the first cycle.
-fn start_row(alloc: Global, gates: &mut Gates, states: &[StateBit]) -> Result<Vec<Lit>, GateFault>
-    requires inputs { gates.old.inputs ≡ [] }
-    requires can_start { CanAllStart states.now }
-    ensures starts { IfOk result (λ row. Starts states.now gates.new (length states.now) row.items) }
-    ensures inputs { IfOk result (λ _. AddsInputs gates.old gates.new (length (free_bits states.now))) }
-    ensures most { IfOk result (λ _. gates.new.formula.vars ≤ gates.old.formula.vars + length states.now) }
-    ensures too_many { result ≡ Err GateFault.TooMany → MAX_VARS < gates.old.formula.vars + length states.now }
+// The literals of the registers' bits in the first cycle.
+fn start_row(
+    alloc: Global,
+    gates: &mut Gates,
+    starts: &[Option<bool>],
+) -> Result<Vec<Lit>, GateFault>
+    requires { gates.old.inputs ≡ [] }
+    ensures starts { IfOk result (λ row. Starts starts.now gates.new (length starts.now) row.items) }
+    ensures inputs { IfOk result (λ _. AddsInputs gates.old gates.new (count_by is_free starts.now)) }
+    ensures most { IfOk result (λ _. gates.new.formula.vars ≤ gates.old.formula.vars + length starts.now) }
+    ensures too_many { result ≡ Err GateFault.TooMany → MAX_VARS < gates.old.formula.vars + length starts.now }
 {
     let mut row = Vec::new(alloc);
     gates.promise();
-    for state in states {
-        let lit = start(gates, *state)?;
+    for digit in starts {
+        let lit = start(gates, *digit)?;
         push(&mut row, lit)?;
     }
     Ok(row)
@@ -75,145 +91,99 @@ fn open_inputs(alloc: Global, gates: &mut Gates, count: usize) -> Result<Vec<Lit
     Ok(lits)
 }
 
-// The literal of a leaf.
-fn leaf_literal(gates: &Gates, states: &[Lit], inputs: &[Lit], leaf: Leaf) -> Lit
-    requires states { AllWithin gates.now.formula.vars states.now }
-    requires inputs { AllWithin gates.now.formula.vars inputs.now }
-    requires leaf { LeafWithin (length states.now) (length inputs.now) leaf }
-    ensures means { (x : Assignment) → Satisfies x gates.now.formula.clauses → lit_in x result ≡ leaf_in (point_in x states.now inputs.now) leaf }
-    ensures within { LitWithin gates.now.formula.vars result }
+// Gives the registers' bits and the inputs their literals.
+fn set_sources(design: &Design, sources: &Sources, row: &[Lit], inputs: &[Lit], table: &mut [Lit])
+    requires flat { IsFlat design.now }
+    requires shape { IsDesign design.now }
+    requires sources { AreSources design.now sources.now.outputs.items sources.now.nexts.items sources.now.starts.items sources.now.inputs.items }
+    requires size { length table.old ≡ places design.now }
+    requires row_as_many { length row.now ≡ length sources.now.outputs.items }
+    requires inputs_as_many { length inputs.now ≡ length sources.now.inputs.items }
+    ensures table { (g : GatesOf) → IsTable design.now g table.old → All (LitWithin g.formula.vars) row.now → All (LitWithin g.formula.vars) inputs.now → IsTable design.now g table.new }
+    ensures row { AreSet design.now sources.now.outputs.items row.now table.new }
+    ensures inputs { AreSet design.now sources.now.inputs.items inputs.now table.new }
 {
-    match leaf {
-        Leaf::One => gates.constant(true),
-        Leaf::State(k) => states[k],
-        Leaf::Input(k) => inputs[k],
-    }
+    write_word(design, table, sources.outputs.as_slice(), row);
+    write_word(design, table, sources.inputs.as_slice(), inputs);
 }
 
-// The literal of an operand.
-fn literal(gates: &Gates, states: &[Lit], inputs: &[Lit], operand: Operand) -> Lit
-    requires states { AllWithin gates.now.formula.vars states.now }
-    requires inputs { AllWithin gates.now.formula.vars inputs.now }
-    requires leaf { LeafWithin (length states.now) (length inputs.now) operand.leaf }
-    ensures means { (x : Assignment) → Satisfies x gates.now.formula.clauses → lit_in x result ≡ operand_in (point_in x states.now inputs.now) operand }
-    ensures within { LitWithin gates.now.formula.vars result }
-{
-    let lit = leaf_literal(gates, states, inputs, operand.leaf);
-    if operand.negated { gates.not(lit) } else { lit }
-}
-
-// Puts the literal that a claim is broken behind the others.
-fn judge_claim(
-    gates: &mut Gates,
-    states: &[Lit],
-    inputs: &[Lit],
-    claim: Claim,
-    bads: &mut Vec<Lit>,
-) -> Result<(), GateFault>
-    requires states { AllWithin gates.old.formula.vars states.now }
-    requires inputs { AllWithin gates.old.formula.vars inputs.now }
-    requires enable { LeafWithin (length states.now) (length inputs.now) claim.enable.leaf }
-    requires holds { LeafWithin (length states.now) (length inputs.now) claim.holds.leaf }
-    requires bads { AllWithin gates.old.formula.vars bads.old.items }
-    ensures judges { OnOk result (Judges (λ x. IsBroken (point_in x states.now inputs.now) claim) gates.old gates.new bads.old.items bads.new.items) }
-    ensures inputs { OnOk result (AddsInputs gates.old gates.new 0) }
-    ensures most { OnOk result (gates.new.formula.vars ≤ gates.old.formula.vars + 1) }
-    ensures too_many { result ≡ Err GateFault.TooMany → gates.old.formula.vars ≡ MAX_VARS }
-{
-    gates.promise();
-    let enable = literal(gates, states, inputs, claim.enable);
-    let holds = literal(gates, states, inputs, claim.holds);
-    let fails = gates.not(holds);
-    let bad = gates.and(enable, fails)?;
-    gates.promise();
-    push(bads, bad)?;
-    Ok(())
-}
-
-// Puts the literals that the claims are broken behind the others.
-fn judge(
-    gates: &mut Gates,
-    states: &[Lit],
-    inputs: &[Lit],
-    claims: &[Claim],
-    bads: &mut Vec<Lit>,
-) -> Result<(), GateFault>
-    requires states { AllWithin gates.old.formula.vars states.now }
-    requires inputs { AllWithin gates.old.formula.vars inputs.now }
-    requires claims { ClaimsWithin (length states.now) (length inputs.now) claims.now }
-    requires bads { AllWithin gates.old.formula.vars bads.old.items }
-    ensures judges { OnOk result (Judges (λ x. AnyBroken claims.now (point_in x states.now inputs.now)) gates.old gates.new bads.old.items bads.new.items) }
-    ensures inputs { OnOk result (AddsInputs gates.old gates.new 0) }
-    ensures most { OnOk result (gates.new.formula.vars ≤ gates.old.formula.vars + length claims.now) }
-    ensures too_many { result ≡ Err GateFault.TooMany → MAX_VARS < gates.old.formula.vars + length claims.now }
-{
-    for claim in claims {
-        judge_claim(gates, states, inputs, *claim, bads)?;
-    }
-    Ok(())
-}
-
-// The literals of the state bits in the next cycle.
-fn next_row(
-    alloc: Global,
-    gates: &Gates,
-    row: &[Lit],
-    inputs: &[Lit],
-    states: &[StateBit],
-) -> Result<Vec<Lit>, AllocError>
-    requires row { AllWithin gates.now.formula.vars row.now }
-    requires inputs { AllWithin gates.now.formula.vars inputs.now }
-    requires states { StatesWithin (length row.now) (length inputs.now) states.now }
-    ensures { IfOk result (λ next. IsNext states.now gates.now row.now inputs.now next.items (length states.now)) }
-{
-    let mut next = Vec::new(alloc);
-    for state in states {
-        let lit = literal(gates, row, inputs, state.next);
-        push(&mut next, lit)?;
-    }
-    Ok(next)
-}
-
-// One more cycle, behind the others: the literals of its state bits are in `row`, and those of the next cycle come there.
+// One more cycle behind the others.
 fn unroll_cycle(
     alloc: Global,
     gates: &mut Gates,
-    model: &BitModel,
-    row: &mut Vec<Lit>,
-    bads: &mut Vec<Lit>,
+    design: &Design,
+    order: &[Driver],
+    sources: &Sources,
+    cycles: &mut Unrolling,
 ) -> Result<(), GateFault>
-    requires model { IsWithin model.now.states.items (length model.now.inputs.items) model.now.claims.items }
-    requires as_many { length row.old.items ≡ length model.now.states.items }
-    requires row { AllWithin gates.old.formula.vars row.old.items }
-    requires bads { AllWithin gates.old.formula.vars bads.old.items }
-    ensures unrolls { OnOk result (Unrolls model.now.states.items model.now.claims.items gates.old gates.new row.old.items row.new.items bads.old.items bads.new.items) }
-    ensures inputs { OnOk result (AddsInputs gates.old gates.new (length model.now.inputs.items)) }
-    ensures most { OnOk result (gates.new.formula.vars ≤ gates.old.formula.vars + length model.now.inputs.items + length model.now.claims.items) }
-    ensures too_many { result ≡ Err GateFault.TooMany → MAX_VARS < gates.old.formula.vars + length model.now.inputs.items + length model.now.claims.items }
+    requires flat { IsFlat design.now }
+    requires shape { IsDesign design.now }
+    requires order { IsOrder design.now order.now }
+    requires sources { AreSources design.now sources.now.outputs.items sources.now.nexts.items sources.now.starts.items sources.now.inputs.items }
+    requires table { IsTable design.now gates.old cycles.old.table.items }
+    requires row { All (LitWithin gates.old.formula.vars) cycles.old.row.items }
+    requires row_as_many { length cycles.old.row.items ≡ length sources.now.outputs.items }
+    requires held { LitWithin gates.old.formula.vars cycles.old.held }
+    requires bads { All (LitWithin gates.old.formula.vars) cycles.old.bads.items }
+    ensures unrolls { OnOk result (Unrolls design.now sources.now.outputs.items sources.now.nexts.items sources.now.starts.items
+        gates.old cycles.old.table.items cycles.old.row.items cycles.old.held cycles.old.bads.items
+        gates.new cycles.new.table.items cycles.new.row.items cycles.new.held cycles.new.bads.items) }
+    ensures inputs { OnOk result (AddsInputs gates.old gates.new (length sources.now.inputs.items)) }
+    ensures most { OnOk result (gates.new.formula.vars ≤ gates.old.formula.vars + length sources.now.inputs.items + cycle_gates design.now order.now) }
+    ensures too_many { result ≡ Err GateFault.TooMany → MAX_VARS < gates.old.formula.vars + length sources.now.inputs.items + cycle_gates design.now order.now }
 {
-    let inputs = open_inputs(alloc, gates, model.inputs.len())?;
-    judge(gates, row, &inputs, &model.claims, bads)?;
-    let next = next_row(alloc, gates, row, &inputs, &model.states)?;
-    *row = next;
+    let inputs = open_inputs(alloc, gates, sources.inputs.len())?;
+    gates.promise();
+    let table = cycles.table.as_mut_slice();
+    set_sources(
+        design,
+        sources,
+        cycles.row.as_slice(),
+        inputs.as_slice(),
+        table,
+    );
+    drive_all(alloc, gates, design, order, table)?;
+    let held = assume_all(gates, design, table, cycles.held)?;
+    assert_all(gates, design, table, held, &mut cycles.bads)?;
+    let row = read_word(alloc, design, table, sources.nexts.as_slice())?;
+    gates.promise();
+    cycles.row = row;
+    cycles.held = held;
     Ok(())
 }
 
-// The first `depth` cycles as gates, and the literals that a claim is broken in them.
-pub fn unroll(alloc: Global, model: &BitModel, depth: u32) -> Result<(Gates, Vec<Lit>), GateFault>
-    requires model { IsWithin model.now.states.items (length model.now.inputs.items) model.now.claims.items }
-    requires can_start { CanAllStart model.now.states.items }
-    ensures breaks { IfOk result (λ r. CanBeSatisfied (with_clause r.0.formula r.1.items) ↔ CanBreak model.now.states.items model.now.claims.items depth) }
-    ensures bads { IfOk result (λ r. AllWithin r.0.formula.vars r.1.items) }
+// The first `depth` cycles as gates, and the literals of which one is true where an assertion is broken in them.
+pub fn unroll(
+    alloc: Global,
+    design: &Design,
+    order: &[Driver],
+    sources: &Sources,
+    depth: u32,
+) -> Result<(Gates, Vec<Lit>), GateFault>
+    requires flat { IsFlat design.now }
+    requires shape { IsDesign design.now }
+    requires order { IsOrder design.now order.now }
+    requires sources { AreSources design.now sources.now.outputs.items sources.now.nexts.items sources.now.starts.items sources.now.inputs.items }
+    ensures solvable { IfOk result (λ r. CanBeSatisfied (with_clause r.0.formula r.1.items) ↔ Solvable design.now Base depth) }
+    ensures bads { IfOk result (λ r. All (LitWithin r.0.formula.vars) r.1.items) }
     ensures gates { IfOk result (λ r. IsGates r.0) }
-    ensures inputs { IfOk result (λ r. IsDistinct r.0.inputs × (length r.0.inputs ≡ length (free_bits model.now.states.items) + depth * length model.now.inputs.items)) }
-    ensures too_many { result ≡ Err GateFault.TooMany → MAX_VARS < 1 + length model.now.states.items + depth * (length model.now.inputs.items + length model.now.claims.items) }
+    ensures some { IfOk result (λ r. 1 ≤ r.0.formula.vars) }
+    ensures inputs { IfOk result (λ r. IsDistinct r.0.inputs × (length r.0.inputs ≡ count_by is_free sources.now.starts.items + depth * length sources.now.inputs.items)) }
+    ensures too_many { result ≡ Err GateFault.TooMany → MAX_VARS < 1 + length sources.now.starts.items + depth * (length sources.now.inputs.items + cycle_gates design.now order.now) }
 {
     let mut gates = Gates::new(alloc)?;
-    let mut bads = Vec::new(alloc);
-    let mut row = start_row(alloc, &mut gates, &model.states)?;
+    let row = start_row(alloc, &mut gates, sources.starts.as_slice())?;
+    let mut cycles = Unrolling {
+        table: new_table(alloc, &gates, design)?,
+        row,
+        held: gates.constant(true),
+        bads: Vec::new(alloc),
+    };
+    gates.promise();
     for _ in 0..depth {
-        unroll_cycle(alloc, &mut gates, model, &mut row, &mut bads)?;
+        unroll_cycle(alloc, &mut gates, design, order, sources, &mut cycles)?;
     }
     gates.promise();
+    let Unrolling { bads, .. } = cycles;
     Ok((gates, bads))
 }

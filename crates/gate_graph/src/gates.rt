@@ -183,15 +183,11 @@ impl Gates {
     }
 
     /// The formula of what has been built. A clause that is pushed behind says what is to hold of the gates.
-    pub fn finish(self, alloc: Global) -> Result<Formula, AllocError>
-        ensures { IfOk result (λ f. f ≡ self.formula) }
+    pub fn finish(self) -> Formula
+        ensures { result ≡ self.formula }
     {
-        let mut formula = Formula::new(alloc, self.vars);
-        let clauses = self.formula.clauses();
-        for place in 0..clauses.len() {
-            formula.push(clauses.get(place))?;
-        }
-        Ok(formula)
+        let Gates { vars, formula, .. } = self;
+        formula.with_vars(vars)
     }
 
     // The literal of the next variable.

@@ -79,7 +79,7 @@ mod tests {
             inputs: [s, a, b],
             gates: [both, differ, chosen],
         };
-        let formula = gates.finish(rt.alloc())?;
+        let formula = gates.finish();
         assert_eq!(rt; rows(&formula.clauses(), &circuit), Some(8));
         Ok(())
     }

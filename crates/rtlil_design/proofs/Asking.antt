@@ -1,14 +1,14 @@
 -- What a flat design's cells have: the check's double negations undone.
-use Rattle.std.proofs.Common.{◌≡◌, ◌⊎◌, inl, inr, ℕ, zero, suc, ◌+◌, Bool, true, false, List, [], ◌∷◌, length, Some, Contains, bytes_eq, refl, ap, sym, ◌∙◌, arith}
+use Rattle.std.proofs.Common.{◌≡◌, ◌⊎◌, inl, inr, ℕ, zero, suc, Bool, true, false, List, [], ◌∷◌, length, Some, Contains, bytes_eq, refl, ap, sym, ◌∙◌, arith}
 use Rattle.std.specs.Prelude.{slice_get}
 use Rattle.std.specs.List.{list_any}
 use Rattle.std.proofs.lemmas.Bool.{false≢true, true≢false}
 use Rattle.std.proofs.lemmas.Slice.Eq.{bytes_eq-Decides}
-use Rattle.rtlil_design.specs.Shape.{CellOf, ConnectOf, DesignOf, PortOf}
-use Rattle.rtlil_design.specs.Asked.{PortAsked, ports_asked, signal_at, is_served, has_parameters}
+use Rattle.rtlil_design.specs.Shape.{CellOf, DesignOf, PortOf}
+use Rattle.rtlil_design.specs.Asked.{PortAsked, ports_asked, signal_at, is_served, is_left_out, has_parameters}
 use Rattle.rtlil_design.specs.Meaning.{IsCell}
 use Rattle.rtlil_design.specs.Faults.{AsksPort, HasPorts, IsFlat}
-use Rattle.rtlil_design.specs.declared.fault.FaultKind.TheVariants.{UnknownCell, BadParameter, PortWidth, Loop}
+use Rattle.rtlil_design.specs.declared.fault.FaultKind.TheVariants.{UnknownCell, LeftOut, BadParameter, PortWidth}
 use Rattle.rtlil_design.proofs.Lists.{Contains-from_place, place-from_Contains}
 use Rattle.rtlil_design.proofs.Marks.{cases_same}
 
@@ -57,17 +57,14 @@ module _ (d : DesignOf) (flat : IsFlat d) (i : ℕ) (c : CellOf) (at : IsCell d 
   other-false false h = absurd (h refl)
 
   pub flat-served : is_served c.kind ≡ true
-  flat-served = other-false (is_served c.kind) (λ e. flat UnknownCell i (c, at, e))
+  flat-served = other-false (is_served c.kind) (λ e. flat UnknownCell i (c, at, e, is-false (is_left_out c.kind) (λ left. flat LeftOut i (c, at, left))))
+    where
+      is-false : (b : Bool) → (b ≡ true → ⊥) → b ≡ false
+      is-false true h = absurd (h refl)
+      is-false false h = refl
 
   pub flat-parameters : has_parameters c.kind c.parameters ≡ true
   flat-parameters = other-false (has_parameters c.kind c.parameters) (λ e. flat BadParameter i (c, at, e))
 
   pub flat-ports : HasPorts c
   flat-ports = HasPorts-stable c (λ bad. flat PortWidth i (inl (c, at, bad)))
-
-pub flat-connects : (d : DesignOf) → IsFlat d → d.connects ≡ []
-flat-connects d flat = by d.connects (λ j at. flat Loop (length d.cells + 0) (inr (j, 0, refl, at)))
-  where
-    by : (js : List ConnectOf) → ((j : ConnectOf) → slice_get js 0 ≡ Some j → ⊥) → js ≡ []
-    by [] h = refl
-    by (j ∷ js) h = absurd (h j refl)

@@ -33,11 +33,11 @@ module _ (d : DesignOf) where
       none i (h.0, h.3, h.4)
 
   module _ (f : ℕ) (a : CellOf) (first : IsFirstClocked d f a) (place : ℕ)
-      (before : (k : ℕ) (x : CellOf) → k < place → slice_get d.cells k ≡ Some x → is_clocked x.kind ≡ true → IsOneClock a x) where
+      (before : (k : ℕ) (x : CellOf) → k < place → slice_get d.cells k ≡ Some x → is_clocked x.kind ≡ true → IsOneClock d a x) where
     none-before : (k : ℕ) → k < place → Instance d MultiClock k → ⊥
-    none-before k less h = h.6 (subst (λ (x : CellOf). IsOneClock x h.0) (first_clock-same f h.1 a h.2 first h.5) (before k h.0 less h.3 h.4))
+    none-before k less h = h.6 (subst (λ (x : CellOf). IsOneClock d x h.0) (first_clock-same f h.1 a h.2 first h.5) (before k h.0 less h.3 h.4))
 
-    pub clock-differs : (c : CellOf) → IsCell d place c → is_clocked c.kind ≡ true → (IsOneClock a c → ⊥) → IsFirst (Instance d MultiClock) (Some place)
+    pub clock-differs : (c : CellOf) → IsCell d place c → is_clocked c.kind ≡ true → (IsOneClock d a c → ⊥) → IsFirst (Instance d MultiClock) (Some place)
     clock-differs c at clocked other = ((c, f, a, at, clocked, first, other), none-before)
 
     pub one_clock : length d.cells ≤ place → IsFirst (Instance d MultiClock) None

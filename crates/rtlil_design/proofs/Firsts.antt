@@ -1,14 +1,14 @@
 -- The first place where something holds, in a list and in one list behind another.
-use Rattle.std.proofs.Common.{◌≡◌, ◌≢◌, ◌⊎◌, inl, inr, ℕ, zero, suc, ◌+◌, ◌<◌, ◌≤◌, Bool, true, false, not, cond, eqb, List, [], ◌∷◌, length, Option, Some, None, refl, ap, sym, subst, ◌∙◌, arith}
+use Rattle.std.proofs.Common.{◌≡◌, ◌≢◌, ◌⊎◌, inl, inr, ℕ, zero, suc, ◌+◌, ◌<◌, ◌≤◌, Bool, true, false, not, ◌||◌, cond, eqb, List, [], ◌∷◌, length, Option, Some, None, refl, ap, sym, subst, ◌∙◌, arith}
 use Rattle.std.specs.Prelude.{slice_get, position, nat_lt, nat_eq}
 use Rattle.std.specs.List.{position_or_len}
 use Rattle.std.proofs.lemmas.Bool.{false≢true, true≢false, eqb-true, eq-eqb, ltb-true, ltb-false}
 use Rattle.std.proofs.lemmas.Option.{slice_get_within}
 use Rattle.rtlil_design.specs.Shape.{CellOf, ConnectOf, DesignOf}
-use Rattle.rtlil_design.specs.Asked.{is_served, has_parameters}
+use Rattle.rtlil_design.specs.Asked.{is_served, is_left_out, has_parameters}
 use Rattle.rtlil_design.specs.Meaning.{IsCell}
 use Rattle.rtlil_design.specs.Faults.{IsFirst, HasPorts, Instance}
-use Rattle.rtlil_design.specs.declared.fault.FaultKind.TheVariants.{UnknownCell, BadParameter, PortWidth}
+use Rattle.rtlil_design.specs.declared.fault.FaultKind.TheVariants.{UnknownCell, LeftOut, BadParameter, PortWidth}
 
 not-true : (b : Bool) → not b ≡ true → b ≡ false
 not-true true h = absurd (false≢true h)
@@ -128,11 +128,22 @@ module _ (d : DesignOf) where
       (IsFirst-position (λ (j : ConnectOf). not (nat_eq (length j.left) (length j.right))) d.connects))
 
 -- a fault of a cell that a test finds
-pub unknown-first : (d : DesignOf) (r : Option ℕ) → r ≡ position (λ (c : CellOf). not (is_served c.kind)) d.cells → IsFirst (Instance d UnknownCell) r
+pub unknown-first : (d : DesignOf) (r : Option ℕ) → r ≡ position (λ (c : CellOf). not (is_served c.kind || is_left_out c.kind)) d.cells → IsFirst (Instance d UnknownCell) r
 unknown-first d r e =
-    IsFirst-same (Passes (λ (c : CellOf). not (is_served c.kind)) d.cells) (Instance d UnknownCell)
-    (λ i h. (h.0, h.1, not-true (is_served h.0.kind) h.2)) (λ i h. (h.0, h.1, ap not h.2)) r
-    (subst (IsFirst (Passes (λ (c : CellOf). not (is_served c.kind)) d.cells)) (sym e) (IsFirst-position (λ (c : CellOf). not (is_served c.kind)) d.cells))
+    IsFirst-same (Passes (λ (c : CellOf). not (is_served c.kind || is_left_out c.kind)) d.cells) (Instance d UnknownCell)
+    (λ i h. let n = neither (is_served h.0.kind) (is_left_out h.0.kind) h.2 in (h.0, h.1, n.0, n.1))
+    (λ i h. (h.0, h.1, ap not (ap (λ (b : Bool). b || is_left_out h.0.kind) h.2 ∙ h.3))) r
+    (subst (IsFirst (Passes (λ (c : CellOf). not (is_served c.kind || is_left_out c.kind)) d.cells)) (sym e)
+    (IsFirst-position (λ (c : CellOf). not (is_served c.kind || is_left_out c.kind)) d.cells))
+  where
+    neither : (a b : Bool) → not (a || b) ≡ true → (a ≡ false) × (b ≡ false)
+    neither true b h = absurd (false≢true h)
+    neither false b h = (refl, not-true b h)
+
+pub left_out-first : (d : DesignOf) (r : Option ℕ) → r ≡ position (λ (c : CellOf). is_left_out c.kind) d.cells → IsFirst (Instance d LeftOut) r
+left_out-first d r e =
+    IsFirst-same (Passes (λ (c : CellOf). is_left_out c.kind) d.cells) (Instance d LeftOut) (λ i h. h) (λ i h. h) r
+    (subst (IsFirst (Passes (λ (c : CellOf). is_left_out c.kind) d.cells)) (sym e) (IsFirst-position (λ (c : CellOf). is_left_out c.kind) d.cells))
 
 pub bad_parameter-first : (d : DesignOf) (r : Option ℕ) → r ≡ position (λ (c : CellOf). not (has_parameters c.kind c.parameters)) d.cells
     → IsFirst (Instance d BadParameter) r

@@ -43,3 +43,6 @@ name-same xs ys h = (bytes_eq-Decides xs ys).0 (not-false (bytes_eq xs ys) (sym 
     not-false : (b : Bool) → not b ≡ false → b ≡ true
     not-false true e = refl
     not-false false e = absurd (true≢false e)
+
+pub name-other : (xs ys : List ℕ) → false ≡ bytes_eq xs ys → xs ≢ ys
+name-other xs ys h e = true≢false (sym ((bytes_eq-Decides xs ys).1 e) ∙ sym h)

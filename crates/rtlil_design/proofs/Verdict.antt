@@ -4,7 +4,7 @@ use Rattle.std.specs.Prelude.{slice_get}
 use Rattle.std.proofs.lemmas.Option.{slice_get_within}
 use Rattle.std.proofs.lemmas.Bool.{cases_lt}
 use Rattle.rtlil_design.specs.Shape.{CellOf, DesignOf}
-use Rattle.rtlil_design.specs.Faults.{Instance, IsFault, IsFirst, IsFlat, Names, rank}
+use Rattle.rtlil_design.specs.Faults.{Instance, IsClean, IsFault, IsFirst, IsFlat, Names, driven, rank}
 use Rattle.rtlil_design.specs.declared.fault.FaultKind.{FaultKind}
 use Rattle.rtlil_design.specs.declared.fault.FaultKind.TheVariants.{UnknownCell, LeftOut, BadParameter, PortWidth, WidthLimit, MixedSign, TwoDrivers, MultiClock, InitConflict, Loop}
 
@@ -46,16 +46,12 @@ rank-below InitConflict = omega arith
 rank-below Loop = omega arith
 
 module _ (d : DesignOf) where
-  -- no kind before the n-th has an instance
-  abbrev pub IsClean : ℕ → Type 0
-  IsClean n = (h : FaultKind) (i : ℕ) → rank h < n → Instance d h i → ⊥
+  pub clean-none : IsClean d 0
+  clean-none h i lt at = absurd (omega arith)
 
-  pub clean-none : IsClean 0
-  clean-none h i lt = absurd (omega arith)
-
-  pub clean-more : (k : FaultKind) (n : ℕ) → rank k ≡ n → IsClean n → IsFirst (Instance d k) None → IsClean (n + 1)
-  clean-more k n e before none h i lt at =
-      elim (cases_lt (rank h) n) as (λ _. ⊥) [
+  pub clean-more : (k : FaultKind) → IsClean d (rank k) → IsFirst (Instance d k) None → IsClean d (rank k + 1)
+  clean-more k before none h i lt at =
+      elim (cases_lt (rank h) (rank k)) as (λ _. ⊥) [
         | inl less ↦ before h i less at
         | inr most ↦
             let same : rank h ≡ rank k = omega arith in
@@ -63,35 +59,48 @@ module _ (d : DesignOf) where
             none i (subst (λ (g : FaultKind). Instance d g i) one at)
       ]
 
-  pub flat-from_clean : IsClean 10 → IsFlat d
+  pub clean-first : (k : FaultKind) (n : ℕ) → rank k < n → IsClean d n → IsFirst (Instance d k) None
+  clean-first k n lt clean i at = clean k i lt at
+
+  pub flat-from_clean : IsClean d 10 → IsFlat d
   flat-from_clean clean k i at = clean k i (rank-below k) at
 
-  pub fault-from_first : (k : FaultKind) (n place : ℕ) (name : List ℕ) → rank k ≡ n → IsClean n → IsFirst (Instance d k) (Some place) → Names d k place name → IsFault d k name
-  fault-from_first k n place name e clean first named = record {
+  pub fault-from_first : (k : FaultKind) (place : ℕ) (name : List ℕ) → IsClean d (rank k) → IsFirst (Instance d k) (Some place) → Names d k place name → IsFault d k name
+  fault-from_first k place name clean first named = record {
     place = place;
     instance = first.0;
     first = first.1;
     names = named;
-    earlier = λ h i lt at. clean h i (omega arith) at;
+    earlier = clean;
   }
-
-  pub clean-before_parameters : IsFirst (Instance d UnknownCell) None → IsClean 2
-  clean-before_parameters unknown = clean-more LeftOut 1 refl (clean-more UnknownCell 0 refl clean-none unknown) (λ i h. h)
-
-  pub clean-before_ports : IsFirst (Instance d UnknownCell) None → IsFirst (Instance d BadParameter) None → IsClean 3
-  clean-before_ports unknown parameters = clean-more BadParameter 2 refl (clean-before_parameters unknown) parameters
-
-  pub clean-before_drivers : IsFirst (Instance d UnknownCell) None → IsFirst (Instance d BadParameter) None → IsFirst (Instance d PortWidth) None → IsClean 6
-  clean-before_drivers unknown parameters ports =
-      clean-more MixedSign 5 refl (clean-more WidthLimit 4 refl (clean-more PortWidth 3 refl (clean-before_ports unknown parameters) ports) (λ i h. h)) (λ i h. h)
 
   pub cell-within : (place : ℕ) → (c : CellOf) × (slice_get d.cells place ≡ Some c) → place < length d.cells + length d.connects
   cell-within place h = omega (arith, slice_get_within d.cells place h.0 h.1)
+
+  pub unknown-within : (place : ℕ) → Instance d UnknownCell place → place < length d.cells + length d.connects
+  unknown-within place h = cell-within place (h.0, h.1)
+
+  pub left_out-within : (place : ℕ) → Instance d LeftOut place → place < length d.cells + length d.connects
+  left_out-within place h = cell-within place (h.0, h.1)
+
+  pub parameter-within : (place : ℕ) → Instance d BadParameter place → place < length d.cells + length d.connects
+  parameter-within place h = cell-within place (h.0, h.1)
 
   pub port_width-within : (place : ℕ) → Instance d PortWidth place → place < length d.cells + length d.connects
   port_width-within place (inl h) = cell-within place (h.0, h.1)
   port_width-within place (inr h) = omega (arith, slice_get_within d.connects h.1 h.0 h.3, h.2)
 
-  pub loop-within : (place : ℕ) → Instance d Loop place → place < length d.cells + length d.connects
-  loop-within place (inl h) = cell-within place (h.0, h.4)
-  loop-within place (inr h) = omega (arith, slice_get_within d.connects h.1 h.0 h.3, h.2)
+  pub too_wide-within : (place : ℕ) → Instance d WidthLimit place → place < length d.cells + length d.connects
+  too_wide-within place h = cell-within place (h.0, h.1)
+
+  pub mixed-within : (place : ℕ) → Instance d MixedSign place → place < length d.cells + length d.connects
+  mixed-within place h = cell-within place (h.0, h.1)
+
+  pub clock-within : (place : ℕ) → Instance d MultiClock place → place < length d.cells + length d.connects
+  clock-within place h = cell-within place (h.0, h.3)
+
+  pub driven-within : (place : ℕ) → Instance d TwoDrivers place → place < length (driven d)
+  driven-within place h = slice_get_within (driven d) place h.0 h.1
+
+  pub conflict-within : (place : ℕ) → Instance d InitConflict place → place < length (driven d)
+  conflict-within place h = slice_get_within (driven d) place h.0 h.1

@@ -1,9 +1,10 @@
 -- The faults of a design: for each kind of fault, at which places it has an instance, and what it names there.
-use Rattle.std.specs.Prelude.{◌≡◌, ◌≢◌, ◌⊎◌, ℕ, ◌+◌, ◌<◌, ◌≤◌, ◌^◌, Bool, false, not, eqb, List, [], ◌∷◌, ◌++◌, length, take, Some, None, Option, slice_get, Contains, codes, decimal, IsTrue, bytes_eq}
+use Rattle.std.specs.Prelude.{◌≡◌, ◌≢◌, ◌⊎◌, ℕ, ◌+◌, ◌<◌, ◌≤◌, ◌^◌, Bool, true, false, List, [], ◌∷◌, ◌++◌, length, take, Some, None, Option, slice_get, Contains, codes, decimal, IsTrue, bytes_eq}
 use Rattle.std.specs.List.{flat_map, list_any}
 use Rattle.rtlil_design.specs.Shape.{WireOf, PortOf, CellOf, ConnectOf, DesignOf}
-use Rattle.rtlil_design.specs.Asked.{role_of, output_of, output_port, is_clocked, is_served, has_parameters, ports_asked, parameter, signal_at, PortAsked, Combinational}
-use Rattle.rtlil_design.specs.Meaning.{IsCell, Chain}
+use Rattle.rtlil_design.specs.Asked.{output_of, is_clocked, is_served, is_left_out, asks_one_sign, width_limit, has_parameters, ports_asked, flag, signal_at, PortAsked}
+use Rattle.rtlil_design.specs.Meaning.{IsCell, Chain, IsRegisterStart}
+use Rattle.rtlil_design.specs.Order.{IsOnLoop, IsCellOnLoop}
 use Rattle.rtlil_design.specs.declared.shape.SigBit.{SigBit}
 use Rattle.rtlil_design.specs.declared.shape.SigBit.TheVariants.{Wire, Const, Free}
 use Rattle.rtlil_design.specs.declared.fault.FaultKind.{FaultKind}
@@ -36,6 +37,14 @@ pub record HasPorts (c : CellOf) : Type 0 where
   pub all : (p : PortAsked) → Contains (ports_asked c.kind c.parameters) p → HasPort c p
   pub only : (q : PortOf) → Contains c.ports q → AsksPort c q.name
 
+-- some signal of the cell has more bits than it may have
+abbrev pub IsTooWide : CellOf → Type 0
+IsTooWide c = (p : PortOf) × Contains c.ports p × (width_limit c.kind < length p.signal)
+
+-- the cell's A_SIGNED and B_SIGNED differ where they have to be equal
+abbrev pub IsMixed : CellOf → Type 0
+IsMixed c = IsTrue (asks_one_sign c.kind) × (flag c.parameters (codes "A_SIGNED") ≢ flag c.parameters (codes "B_SIGNED"))
+
 -- each driven bit, once for each cell or connect that drives it: cells before connects, in file order, lowest bit first
 abbrev pub driven : DesignOf → List SigBit
 driven d = flat_map output_of d.cells ++ flat_map (λ j. j.left) d.connects
@@ -64,43 +73,37 @@ abbrev pub clock_of : CellOf → List SigBit
 clock_of c = signal_at c.ports (codes "CLK")
 
 abbrev pub is_rising : CellOf → Bool
-is_rising c = not (eqb (parameter c.parameters (codes "CLK_POLARITY")) 0)
+is_rising c = flag c.parameters (codes "CLK_POLARITY")
 
--- Two registers go by one edge of one net. Until connects are served, a net is one bit.
-pub record IsOneClock (c e : CellOf) : Type 0 where
-  pub net : clock_of c ≡ clock_of e
+-- two registers go by one edge of one net
+pub record IsOneClock (d : DesignOf) (c e : CellOf) : Type 0 where
+  pub net : (a : SigBit) × (b : SigBit) × (clock_of c ≡ a ∷ []) × (clock_of e ≡ b ∷ []) × IsOneNet d a b
   pub edge : is_rising c ≡ is_rising e
 
 -- cell i is the first register with a clock
 abbrev pub IsFirstClocked : DesignOf → ℕ → CellOf → Type 0
 IsFirstClocked d i c = IsCell d i c × IsTrue (is_clocked c.kind) × ((k : ℕ) (e : CellOf) → k < i → IsCell d k e → IsTrue (is_clocked e.kind) → ⊥)
 
--- what a cell reads
-abbrev pub IsRead : CellOf → SigBit → Type 0
-IsRead c a = (p : PortOf) × Contains c.ports p × (p.name ≢ output_port (role_of c.kind)) × Contains p.signal a
-
--- Until loops are looked for bit by bit: a combinational cell reads an output of its own or of a later one.
-abbrev pub ReadsLater : DesignOf → ℕ → Type 0
-ReadsLater d i =
-    (c : CellOf) × (j : ℕ) × (e : CellOf) × (a : SigBit)
-    × IsCell d i c × (role_of c.kind ≡ Combinational) × (i ≤ j) × IsCell d j e × (role_of e.kind ≡ Combinational)
-    × IsRead c a × Contains (output_of e) a
-
--- a cell fault's place is the cell's; behind the cells stand the connects
+-- A cell fault's place is the cell's. Behind the cells stand the connects, of Loop the wires. A driven bit's place is its place
+-- among the driven bits.
 abbrev pub Instance : DesignOf → FaultKind → ℕ → Type 0
-Instance d UnknownCell i = (c : CellOf) × IsCell d i c × (is_served c.kind ≡ false)
+Instance d UnknownCell i = (c : CellOf) × IsCell d i c × (is_served c.kind ≡ false) × (is_left_out c.kind ≡ false)
+Instance d LeftOut i = (c : CellOf) × IsCell d i c × IsTrue (is_left_out c.kind)
 Instance d BadParameter i = (c : CellOf) × IsCell d i c × (has_parameters c.kind c.parameters ≡ false)
 Instance d PortWidth i =
     ((c : CellOf) × IsCell d i c × (HasPorts c → ⊥))
     ⊎ ((j : ConnectOf) × (k : ℕ) × (i ≡ length d.cells + k) × (slice_get d.connects k ≡ Some j) × (length j.left ≢ length j.right))
+Instance d WidthLimit i = (c : CellOf) × IsCell d i c × IsTooWide c
+Instance d MixedSign i = (c : CellOf) × IsCell d i c × IsMixed c
 Instance d TwoDrivers p = IsDrivenWrongly d p
 Instance d MultiClock i =
-    (c : CellOf) × (f : ℕ) × (e : CellOf) × IsCell d i c × IsTrue (is_clocked c.kind) × IsFirstClocked d f e × (IsOneClock e c → ⊥)
-Instance d Loop i = ReadsLater d i ⊎ ((j : ConnectOf) × (k : ℕ) × (i ≡ length d.cells + k) × (slice_get d.connects k ≡ Some j))
-Instance d LeftOut i = ⊥
-Instance d WidthLimit i = ⊥
-Instance d MixedSign i = ⊥
-Instance d InitConflict i = ⊥
+    (c : CellOf) × (f : ℕ) × (e : CellOf) × IsCell d i c × IsTrue (is_clocked c.kind) × IsFirstClocked d f e × (IsOneClock d e c → ⊥)
+Instance d InitConflict p = (a : SigBit) × (slice_get (driven d) p ≡ Some a) × IsRegisterStart d a false × IsRegisterStart d a true
+Instance d Loop i = IsCellOnLoop d i ⊎ ((w : ℕ) × (b : ℕ) × (i ≡ length d.cells + w) × IsOnLoop d (Wire w b))
+
+-- no kind before the n-th has an instance
+abbrev pub IsClean : DesignOf → ℕ → Type 0
+IsClean d n = (k : FaultKind) (i : ℕ) → rank k < n → Instance d k i → ⊥
 
 -- no fault has an instance
 abbrev pub IsFlat : DesignOf → Type 0
@@ -159,6 +162,12 @@ NamesDriven d p (Wire w b) name = name ≡ bit_name d w b
 NamesDriven d p (Const b) name = (i : ℕ) × DrivesAt d i p × NamesItem d i name
 NamesDriven d p (Free n) name = (i : ℕ) × DrivesAt d i p × NamesItem d i name
 
+-- a loop goes by its first cell, or where no cell is on one by the first wire
+abbrev pub NamesLoop : DesignOf → ℕ → List ℕ → Type 0
+NamesLoop d i name =
+    ((c : CellOf) × IsCell d i c × (name ≡ c.name))
+    ⊎ ((x : WireOf) × (w : ℕ) × (i ≡ length d.cells + w) × (slice_get d.wires w ≡ Some x) × (name ≡ x.name))
+
 -- what the instance at a place names
 abbrev pub Names : DesignOf → FaultKind → ℕ → List ℕ → Type 0
 Names d TwoDrivers p name = (b : SigBit) × (slice_get (driven d) p ≡ Some b) × NamesDriven d p b name
@@ -169,8 +178,8 @@ Names d PortWidth i name = NamesItem d i name
 Names d WidthLimit i name = NamesItem d i name
 Names d MixedSign i name = NamesItem d i name
 Names d MultiClock i name = NamesItem d i name
-Names d InitConflict i name = ⊥
-Names d Loop i name = NamesItem d i name
+Names d InitConflict p name = (b : SigBit) × (slice_get (driven d) p ≡ Some b) × NamesDriven d p b name
+Names d Loop i name = NamesLoop d i name
 
 -- the fault: of the first kind that has an instance, at the first place, by its name
 pub record IsFault (d : DesignOf) (k : FaultKind) (name : List ℕ) : Type 0 where
@@ -189,10 +198,6 @@ IsFirst P (Some i) = P i × ((k : ℕ) → k < i → P k → ⊥)
 abbrev pub IsWidth : Option ℕ → ℕ → Type 0
 IsWidth None width = 2 ^ 64 ≤ width
 IsWidth (Some n) width = n ≡ width
-
--- a combinational cell at place i or later drives the bit
-abbrev pub DrivenFrom : DesignOf → SigBit → ℕ → Type 0
-DrivenFrom d a i = (j : ℕ) × (e : CellOf) × (i ≤ j) × IsCell d j e × (role_of e.kind ≡ Combinational) × Contains (output_of e) a
 
 -- a fault as an answer
 pub record FaultOf : Type 0 where

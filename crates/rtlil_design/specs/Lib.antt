@@ -2,9 +2,12 @@ pub mod Shape
 pub mod Cells
 pub mod Asked
 pub mod Meaning
+pub mod Order
 pub mod Claims
 pub mod Faults
 pub mod Places
 pub mod Runs
 pub mod Design
 pub mod Marks
+pub mod Starts
+pub mod Edges

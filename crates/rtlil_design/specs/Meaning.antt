@@ -75,6 +75,10 @@ IsInit d w b x = (wire : WireOf) × (digits : List _) × (slice_get d.wires w �
 abbrev pub IsStart : DesignOf → ℕ → ℕ → Bool → Type 0
 IsStart d w b x = IsInit d w b x × ((n : ℕ) × (a : SigBit) × Chain d n (Wire w b) a × IsHeld d a)
 
+-- a start digit of a register's bit: the digit x counts, of a bit whose chain of connects ends at the bit a
+abbrev pub IsRegisterStart : DesignOf → SigBit → Bool → Type 0
+IsRegisterStart d a x = IsHeld d a × ((w : ℕ) × (b : ℕ) × (n : ℕ) × IsInit d w b x × Chain d n (Wire w b) a)
+
 -- v can be the first cycle: each start digit that counts is its bit's value, and each `$initstate` is 1
 pub record Starts (d : DesignOf) (v : Valuation) : Type 0 where
   pub digits : (w b : ℕ) (x : Bool) → IsStart d w b x → v.wire w b ≡ x

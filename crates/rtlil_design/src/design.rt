@@ -148,7 +148,7 @@ impl Design {
 
     /// Whether each of these bits is declared.
     pub fn declares_all(&self, bits: &[SigBit]) -> bool
-        ensures { IsTrue result → All (IsDeclared self.now.wires self.now.free) bits.now }
+        ensures { IsTrue result ↔ All (IsDeclared self.now.wires self.now.free) bits.now }
     {
         for bit in bits {
             if !self.declares(*bit) {
@@ -160,7 +160,7 @@ impl Design {
 
     /// Whether each free bit among these digits is numbered.
     pub fn numbers_all(&self, digits: &[Digit]) -> bool
-        ensures { IsTrue result → All (IsNumbered self.now.free) digits.now }
+        ensures { IsTrue result ↔ All (IsNumbered self.now.free) digits.now }
     {
         for digit in digits {
             if !self.numbers(*digit) {
@@ -181,7 +181,7 @@ impl Design {
 
     /// Whether each bit of a cell's signals is declared, and each free bit among its parameters' digits numbered.
     pub fn declares_cell(&self, cell: &Cell) -> bool
-        ensures { IsTrue result → IsCellOf self.now.wires self.now.free cell.now }
+        ensures { IsTrue result ↔ IsCellOf self.now.wires self.now.free cell.now }
     {
         for place in 0..cell.ports() {
             let (_, signal) = cell.port(place);

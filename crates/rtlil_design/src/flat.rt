@@ -1,14 +1,17 @@
 // A design in which no fault has an instance.
 
-ghost use Rattle.std.specs.Prelude.{◌≡◌, ◌+◌, ◌-◌, ◌<◌, ℕ, All, IsTrue, MatchOption, Some, length, not, eqb, ◌&&◌, slice_get};
+ghost use Rattle.std.specs.Prelude.{◌≡◌, ◌↔◌, ◌+◌, ◌-◌, ◌<◌, ℕ, Bool, All, IsTrue, MatchOption, Some, length, not, eqb, ◌&&◌, slice_get};
 ghost use Rattle.sby_bits.specs.Rows.{num};
 ghost use Rattle.rtlil_design.specs.Faults.{IsFlat};
-ghost use Rattle.rtlil_design.specs.Meaning.{Broken, asserts, bit_in, is_assert, is_enabled, row_in, says};
+ghost use Rattle.rtlil_design.specs.Order.{IsOrder};
+ghost use Rattle.rtlil_design.specs.Starts.{IsStarts};
+ghost use Rattle.rtlil_design.specs.Meaning.{Broken, IsRegisterStart, asserts, bit_in, is_assert, is_enabled, row_in, says};
 ghost use Rattle.rtlil_design.specs.Runs.{IsCycleOf, IsRunOf, valuation_of, valuations};
 ghost use Rattle.rtlil_design.specs.Shape.{CellOf, IsCellOf, IsDeclared, IsDesign};
 
 use crate::cell::Cell;
 use crate::design::Design;
+use crate::driver::Driver;
 use crate::kind::{Kind, Statement};
 use crate::row::{Cycle, Run};
 use crate::shape::SigBit;
@@ -18,6 +21,9 @@ use std::marker::Model;
 #[derive(Drop)]
 pub struct Flat {
     design: Design,
+    order: Vec<Driver>,
+    // at the place of each bit of a register the digit that it starts with
+    starts: Vec<Option<bool>>,
 }
 
 impl Model for Flat {
@@ -28,17 +34,25 @@ impl Model for Flat {
     ghost view = { λ a. a.design };
 
     ghost use Rattle.rtlil_design.specs.Faults.{IsFlat};
+    ghost use Rattle.rtlil_design.specs.Order.{IsOrder};
+    ghost use Rattle.rtlil_design.specs.Starts.{IsStarts};
 
-    ghost invariant = { λ a. IsFlat a.design };
+    ghost invariant = { λ a. IsFlat a.design × IsOrder a.design a.order.items × IsStarts a.design a.starts.items };
 }
 
 impl Flat {
     // The flat design, of one in which no fault has an instance.
-    pub(crate) fn new(design: Design) -> Flat
-        requires { IsFlat design }
+    pub(crate) fn new(design: Design, order: Vec<Driver>, starts: Vec<Option<bool>>) -> Flat
+        requires flat { IsFlat design }
+        requires order { IsOrder design order.items }
+        requires starts { IsStarts design starts.items }
         ensures { result ≡ design }
     {
-        Flat { design }
+        Flat {
+            design,
+            order,
+            starts,
+        }
     }
 
     /// The design.
@@ -49,6 +63,22 @@ impl Flat {
     {
         let _ = self.design.wires();
         &self.design
+    }
+
+    /// All combinational cells and all bits of connects, each after the drivers of what it reads.
+    pub fn order(&self) -> &[Driver]
+        ensures { IsOrder self.now result.now }
+    {
+        self.order.as_slice()
+    }
+
+    /// The digit that a register's bit starts with: that of a bit whose chain of connects ends at it. None where there is none, and
+    /// where the bit is no register's.
+    pub fn start(&self, bit: SigBit) -> Option<bool>
+        requires { IsDeclared self.now.wires self.now.free bit }
+        ensures { (x : Bool) → (result ≡ Some x) ↔ IsRegisterStart self.now bit x }
+    {
+        self.starts[self.design.place(bit)]
     }
 
     /// Whether each cycle of the run has rows of this design's lengths.

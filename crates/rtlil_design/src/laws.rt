@@ -34,8 +34,3 @@ pub fn flat_cells_are_as_asked()
     ensures parameters { (d : DesignOf) → IsFlat d → (i : ℕ) (c : CellOf) → IsCell d i c → has_parameters c.kind c.parameters ≡ true }
     ensures ports { (d : DesignOf) → IsFlat d → (i : ℕ) (c : CellOf) → IsCell d i c → HasPorts c }
 {}
-
-/// Until connects are served, a flat design has none.
-pub fn flat_has_no_connects()
-    ensures { (d : DesignOf) → IsFlat d → d.connects ≡ [] }
-{}

@@ -5,6 +5,7 @@ pub mod cell;
 pub mod check;
 pub mod connect;
 pub mod design;
+pub mod driver;
 pub mod fault;
 pub mod flat;
 pub mod kind;

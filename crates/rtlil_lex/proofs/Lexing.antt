@@ -46,7 +46,7 @@ one_token text rest words others p q e =
     (append_cancel_right text words others (subst (λ (z : List ℕ). text ++ z ≡ words ++ others) same e), same)
 
 -- a token has a first byte
-token_some : (text rest : List ℕ) → IsToken text rest → [] ≡ text ++ rest → ⊥
+pub token_some : (text rest : List ℕ) → IsToken text rest → [] ≡ text ++ rest → ⊥
 token_some text rest (name b run after h r) e = cc
 token_some text rest (string b more after q h s) e = cc
 token_some text rest (word b run after h r) e = cc
@@ -54,7 +54,7 @@ token_some text rest (word b run after h r) e = cc
 abbrev pub token_at : ℕ → List ℕ → TokenOf
 token_at start text = record { start = start; text = text }
 
-token_same : (s t : TokenOf) → s.start ≡ t.start → s.text ≡ t.text → s ≡ t
+pub token_same : (s t : TokenOf) → s.start ≡ t.start → s.text ≡ t.text → s ≡ t
 token_same s t e f = let same : token_at s.start s.text ≡ token_at t.start t.text = rw (e, f) refl in same
 
 -- what stands behind the first token

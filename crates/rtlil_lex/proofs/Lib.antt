@@ -1,3 +1,4 @@
 pub mod Runs
 pub mod Lexing
 pub mod Stepping
+pub mod Fronts

@@ -73,6 +73,29 @@ pub data Lexes (n : ℕ) : List ℕ → List TokenOf → Type 0 where
 abbrev pub IsTokens : List ℕ → List TokenOf → Type 0
 IsTokens bytes ts = Lexes (length bytes) bytes ts
 
+-- The bytes, which are the end of a text of n bytes, begin with these tokens, and `left` is what stands behind the last.
+pub data Front (n : ℕ) (left : List ℕ) : List ℕ → List TokenOf → Type 0 where
+  none_yet : Front n left left []
+  token : (t : TokenOf) (ts : List TokenOf) (bytes rest : List ℕ) → Gap (t.text ++ rest) bytes → IsToken t.text rest
+      → t.start + length (t.text ++ rest) ≡ n → Front n left rest ts → Front n left bytes (t ∷ ts)
+
+-- the text begins with these tokens
+abbrev pub Begins : List ℕ → List TokenOf → Type 0
+Begins bytes ts = (left : List ℕ) × Front (length bytes) left bytes ts
+
+-- the second list begins with the first
+abbrev pub IsStart : List TokenOf → List TokenOf → Type 0
+IsStart ts us = (more : List TokenOf) × (us ≡ ts ++ more)
+
+-- the text begins with these tokens, and what comes next, at this byte, is no token: a quote that opens no string
+pub record Breaks (bytes : List ℕ) (ts : List TokenOf) (byte : ℕ) : Type 0 where
+  pub left : List ℕ
+  pub front : Front (length bytes) left bytes ts
+  pub more : List ℕ
+  pub gap : Gap (34 ∷ more) left
+  pub place : byte + length (34 ∷ more) ≡ length bytes
+  pub no_token : (text rest : List ℕ) → 34 ∷ more ≡ text ++ rest → IsToken text rest → ⊥
+
 -- a lexer: its text, and at which byte it goes on
 pub record LexerOf : Type 0 where
   pub bytes : List ℕ

@@ -1,7 +1,7 @@
 // The lexer.
 
-ghost use Rattle.std.specs.Prelude.{◌≡◌, ℕ, ◌+◌, ◌≤◌, ◌↔◌, List, [], ◌∷◌, length, Ok, Some, None, IfOk, IfErr, IfSome, OnErr};
-ghost use Rattle.rtlil_lex.specs.Tokens.{Gap, TokenOf, lexer_at, IsTokens, Left, left, IsNext, IsFault};
+ghost use Rattle.std.specs.Prelude.{◌≡◌, ◌⊎◌, ℕ, ◌+◌, ◌≤◌, ◌↔◌, List, [], ◌∷◌, length, Ok, Some, None, IfOk, IfErr, IfSome, OnErr};
+ghost use Rattle.rtlil_lex.specs.Tokens.{Begins, Gap, TokenOf, lexer_at, IsStart, IsTokens, Left, left, IsNext, IsFault};
 ghost use Rattle.rtlil_lex.specs.TokenView.{token_of};
 
 use crate::scan::{after_gap, after_token};
@@ -104,4 +104,9 @@ impl<'a> Lexer<'a> {
 /// A text has at most one list of tokens.
 pub fn one_list_of_tokens()
     ensures { (bytes : List ℕ) (ts us : List TokenOf) → IsTokens bytes ts → IsTokens bytes us → ts ≡ us }
+{}
+
+/// Of two lists of first tokens of a text, one goes on where the other ends.
+pub fn first_tokens_agree()
+    ensures { (bytes : List ℕ) (ts us : List TokenOf) → Begins bytes ts → Begins bytes us → IsStart ts us ⊎ IsStart us ts }
 {}

@@ -4,7 +4,7 @@
 mod lexer;
 mod scan;
 
-pub use lexer::{LexFault, Lexer, Token, one_list_of_tokens};
+pub use lexer::{LexFault, Lexer, Token, first_tokens_agree, one_list_of_tokens};
 
 #[cfg(test)]
 mod tests;

@@ -1,26 +1,15 @@
 -- Identifiers.
-use Rattle.std.proofs.Common.{◌≡◌, ℕ, Bool, true, false, cond, ◌&&◌, not, [], ◌∷◌, slice_index, Some, None, refl, ap}
+use Rattle.std.proofs.Common.{◌≡◌, ℕ, Bool, true, false, cond, ◌&&◌, not, [], ◌∷◌, slice_index, List, bytes_eq, Err, refl, sym, ap, ◌∙◌}
+use Rattle.std.proofs.lemmas.Bool.{eqb-true}
+use Rattle.rtlil_lex.specs.Tokens.{begins_name, is_backslash}
+use Rattle.rtlil_reader.specs.Constants.{Word}
 use Rattle.std.specs.Prelude.{IsUtf8}
 use Rattle.std.specs.Str.{is_utf8}
 use Rattle.std.proofs.lemmas.Str.{IsUtf8-from_is_utf8, is_utf8-from_IsUtf8}
-use Rattle.std.proofs.lemmas.Bool.{eqb-true}
-use Rattle.rtlil_lex.specs.Tokens.{begins_name, is_backslash}
-use Rattle.rtlil_reader.specs.Grammar.{Word, bare}
-use Rattle.rtlil_reader.specs.Reading.{name_of}
-
-pub name_yes : (w : Word) → begins_name (slice_index w 0) ≡ true → IsUtf8 w → name_of w ≡ Some w
-name_yes w h u = rw (h, is_utf8-from_IsUtf8 w u) refl
-
-no_utf8 : (w : Word) (b : Bool) → is_utf8 w ≡ b → (IsUtf8 w → ⊥) → b ≡ false
-no_utf8 w true e h = absurd (h (IsUtf8-from_is_utf8 w e))
-no_utf8 w false e h = refl
-
-and_false : (a : Bool) → (a && false) ≡ false
-and_false true = refl
-and_false false = refl
-
-pub name_no : (w : Word) → (IsUtf8 w → ⊥) → name_of w ≡ None
-name_no w h = rw (no_utf8 w (is_utf8 w) refl h, and_false (begins_name (slice_index w 0))) refl
+use Rattle.rtlil_reader.specs.Parts.{DraftOf}
+use Rattle.rtlil_reader.specs.Grammar.{bare, step, name_step}
+use Rattle.rtlil_reader.specs.declared.fault.ReadFaultKind.TheVariants.{NotUtf8Name}
+use Rattle.rtlil_reader.specs.declared.spot.Spot.{Spot}
 
 -- what has no backslash before it stays
 pub bare_other : (name : Word) → ((rest : Word) → name ≡ 92 ∷ rest → ⊥) → name ≡ bare name
@@ -30,3 +19,25 @@ bare_other (b ∷ name) h =
       | true ↦ λ e. absurd (h name (ap (λ (x : ℕ). x ∷ name) (eqb-true b 92 e)))
       | false ↦ λ e. refl
     ] refl
+
+-- what a comparison in the code says of a keyword
+pub tested : (b v : Bool) (word x key : List ℕ) → b ≡ bytes_eq word x → x ≡ key → b ≡ v → bytes_eq word key ≡ v
+tested b v word x key e f g = sym (ap (λ (y : List ℕ). bytes_eq word y) f) ∙ (sym e ∙ g)
+
+-- ---- names
+
+pub utf8_yes : (w : Word) → IsUtf8 w → is_utf8 w ≡ true
+utf8_yes w u = is_utf8-from_IsUtf8 w u
+
+by_utf8 : (w : Word) (b : Bool) → is_utf8 w ≡ b → (IsUtf8 w → ⊥) → b ≡ false
+by_utf8 w true e h = absurd (h (IsUtf8-from_is_utf8 w e))
+by_utf8 w false e h = refl
+
+pub utf8_no : (w : Word) → (IsUtf8 w → ⊥) → is_utf8 w ≡ false
+utf8_no w h = by_utf8 w (is_utf8 w) refl h
+
+pub step_name : (d : DraftOf) (s : Spot) (w : Word) → begins_name (slice_index w 0) ≡ true → IsUtf8 w → step d s w ≡ name_step d s w
+step_name d s w h u = rw (h, utf8_yes w u) refl
+
+pub step_no_name : (d : DraftOf) (s : Spot) (w : Word) → begins_name (slice_index w 0) ≡ true → (IsUtf8 w → ⊥) → step d s w ≡ Err NotUtf8Name
+step_no_name d s w h u = rw (h, utf8_no w u) refl

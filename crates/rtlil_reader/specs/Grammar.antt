@@ -1,54 +1,124 @@
--- RTLIL text in the terms of the Yosys manual: a module of wires and cells. A part of the grammar says what stands at the
--- front of the words, and what is left behind it.
-use Rattle.std.specs.Prelude.{◌≡◌, ◌⊎◌, ℕ, zero, suc, ◌+◌, ◌-◌, ◌<◌, ◌≤◌, ◌^◌, Bool, true, false, cond, ◌&&◌, not, ◌==◌, IsTrue, IsFalse, List, [], ◌∷◌, ◌++◌, map, reverse, replicate, length, slice_index, position, Option, Some, None, codes, bytes_eq, IsUtf8, pos, neg_ℤ}
-use Rattle.std.specs.List.{AllByRecursion, list_any}
-use Rattle.std.specs.Str.{all_ascii_digits}
-use Rattle.std.specs.Str.Parse.{digits_value}
-use Rattle.sby_bits.specs.Rows.{Row, fit}
+-- RTLIL text in the terms of the Yosys manual: what may come next at each spot, and what each word makes of what is read
+-- so far. Rows of bits stand as written here, highest first.
+use Rattle.std.specs.Prelude.{◌≡◌, ℕ, zero, suc, ◌+◌, ◌-◌, ◌≤◌, ◌^◌, Bool, true, false, cond, ◌&&◌, ◌||◌, not, ◌==◌, nat_lt, nat_le, List, [], ◌∷◌, ◌++◌, map, reverse, length, take, drop, slice_index, slice_get, position, Option, Some, None, Result, Ok, Err, codes, bytes_eq, unwrap_or, is_some, IsTrue}
+use Rattle.std.specs.List.{list_any}
+use Rattle.std.specs.Str.{is_utf8}
 use Rattle.rtlil_lex.specs.Tokens.{begins_name, is_backslash, TokenOf, IsTokens}
-use Rattle.rtlil_design.specs.Shape.{WireOf, CellOf, DesignOf, wire_bits}
+use Rattle.rtlil_design.specs.Shape.{WireOf, CellOf, DesignOf, ConnectOf, wire_bits}
 use Rattle.rtlil_design.specs.declared.kind.Kind.{Kind}
+use Rattle.rtlil_design.specs.declared.kind.Kind.TheVariants.{Sdff, Sdffe, Sdffce}
 use Rattle.rtlil_design.specs.declared.shape.SigBit.{SigBit}
-use Rattle.rtlil_design.specs.declared.shape.SigBit.TheVariants.{Wire, Const}
-use Rattle.rtlil_design.specs.declared.shape.Digit.TheVariants.{Const as ConstDigit}
-use Rattle.rtlil_reader.specs.Kinds.{kind_of}
+use Rattle.rtlil_design.specs.declared.shape.SigBit.TheVariants.{Wire, Const, Free}
+use Rattle.rtlil_design.specs.declared.shape.Digit.{Digit}
+use Rattle.rtlil_design.specs.declared.shape.Digit.TheVariants.{Const as ConstDigit, Free as FreeDigit, Marker}
+use Rattle.rtlil_reader.specs.Kinds.{kind_of, is_ignored}
+use Rattle.rtlil_reader.specs.Constants.{Word, number_of, unsigned, is_open, is_marker, constant_of, slice_of}
+use Rattle.rtlil_reader.specs.Parts.{AttributesOf, no_attributes, DraftOf}
+use Rattle.rtlil_reader.specs.declared.fault.ReadFaultKind.{ReadFaultKind}
+use Rattle.rtlil_reader.specs.declared.fault.ReadFaultKind.TheVariants.{Limit, Syntax, NotUtf8Name, DoubleName, UnknownWire, Index, LeftOut, SeveralModules}
+use Rattle.rtlil_reader.specs.declared.spot.WireOptions.{WireOptions}
+use Rattle.rtlil_reader.specs.declared.spot.NumberedOption.{NumberedOption}
+use Rattle.rtlil_reader.specs.declared.spot.NumberedOption.TheVariants.{Width, Offset, Input, Output}
+use Rattle.rtlil_reader.specs.declared.spot.CellDraft.{CellDraft}
+use Rattle.rtlil_reader.specs.declared.spot.Target.{Target}
+use Rattle.rtlil_reader.specs.declared.spot.Target.TheVariants.{Port as ToPort, Left, Right}
+use Rattle.rtlil_reader.specs.declared.spot.Spot.{Spot}
+use Rattle.rtlil_reader.specs.declared.spot.Spot.TheVariants.{File, AutoIdx, FileAttribute, FileValue, Module, Line, Attribute, Value, ModuleParameter, ModuleParameterName, ModuleParameterValue, WireOption, WireNumber, CellType, CellName, CellLine, CellParameter, CellParameterName, CellParameterValue, Port, Signal, Part}
 
-abbrev pub Word : Type 0
-Word = List ℕ
+-- what is read so far and what comes next, or a refusal
+abbrev pub Outcome : Type 0
+Outcome = Result (DraftOf × Spot) ReadFaultKind
 
--- `\` or `$`, and anything behind it, in UTF-8
-pub record IsIdentifier (word : Word) : Type 0 where
-  pub first : IsTrue (begins_name (slice_index word 0))
-  pub utf8 : IsUtf8 word
+abbrev pub goes_on : DraftOf → Spot → Outcome
+goes_on d s = Ok (d, s)
 
--- decimal digits that write n
-pub record IsNumeral (word : Word) (n : ℕ) : Type 0 where
-  pub some : 0 < length word
-  pub digits : IsTrue (all_ascii_digits word)
-  pub value : digits_value 10 word ≡ n
+infixl 10 ◌⊳◌
+abbrev pub ◌⊳◌ : {A B : Type 0} → Result A ReadFaultKind → (A → Result B ReadFaultKind) → Result B ReadFaultKind
+(Ok x) ⊳ f = f x
+(Err k) ⊳ f = Err k
 
-abbrev pub is_one : ℕ → Bool
-is_one c = c == 49
+-- refused by this kind where there is none
+abbrev pub needs : {A : Type 0} → ReadFaultKind → Option A → Result A ReadFaultKind
+needs k None = Err k
+needs k (Some x) = Ok x
 
-abbrev pub IsBit : ℕ → Type 0
-IsBit c = (c ≡ 48) ⊎ (c ≡ 49)
+-- ---- bits
 
--- A constant and its bits, lowest first. A decimal has 32 bits, in two's complement. `width'digits` has the digits highest
--- first, at least `least` of them; where they are fewer than the width, zeros stand above them.
-pub data IsConstant (least : ℕ) (word : Word) (row : Row) : Type 0 where
-  decimal : (n : ℕ) → IsNumeral word n → n < 2 ^ 31 → row ≡ fit 32 (pos n) → IsConstant least word row
-  negative : (digits : Word) (n : ℕ) → word ≡ 45 ∷ digits → IsNumeral digits n → n ≤ 2 ^ 31 → row ≡ fit 32 (neg_ℤ (pos n)) → IsConstant least word row
-  binary : (width digits : Word) (n : ℕ) → word ≡ width ++ 39 ∷ digits → IsNumeral width n → AllByRecursion IsBit digits → least ≤ length digits → length digits ≤ n
-      → row ≡ map is_one (reverse digits) ++ replicate (n - length digits) false → IsConstant least word row
+-- how many bits a design may have
+abbrev pub most_bits : ℕ
+most_bits = 2 ^ 20
 
--- the place of the wire of that name
-abbrev pub wire_place : List WireOf → Word → Option ℕ
-wire_place wires name = position (λ w. bytes_eq w.name name) wires
+-- its wires' bits and its free bits
+abbrev pub bits : DraftOf → ℕ
+bits d = wire_bits d.design + d.design.free
 
--- a signal and its bits: a wire declared before, or a constant of one bit
-pub data IsSignal (wires : List WireOf) (words : List Word) (bits : List SigBit) (rest : List Word) : Type 0 where
-  wire : (name : Word) (w : ℕ) → words ≡ name ∷ rest → IsIdentifier name → wire_place wires name ≡ Some w → bits ≡ Wire w 0 ∷ [] → IsSignal wires words bits rest
-  constant : (word : Word) (b : Bool) → words ≡ word ∷ rest → IsConstant 1 word (b ∷ []) → bits ≡ Const b ∷ [] → IsSignal wires words bits rest
+abbrev pub open_digits : List ℕ → ℕ
+open_digits [] = 0
+open_digits (c ∷ digits) = cond (is_open c) (1 + open_digits digits) (open_digits digits)
+
+-- a digit that no free bit stands for
+abbrev pub plain_bit : ℕ → SigBit
+plain_bit c = Const (c == 49)
+
+-- the bits of digits; each x, z or - is a free bit of its own, numbered from n on
+abbrev pub numbered_bits : ℕ → List ℕ → List SigBit
+numbered_bits n [] = []
+numbered_bits n (c ∷ digits) = cond (is_open c) (Free n ∷ numbered_bits (n + 1) digits) (plain_bit c ∷ numbered_bits n digits)
+
+-- a parameter's digit that no free bit stands for: 0, 1, or one without a value
+abbrev pub plain_digit : ℕ → Digit
+plain_digit c = cond (c == 48) (ConstDigit false) (cond (c == 49) (ConstDigit true) Marker)
+
+abbrev pub numbered_digits : ℕ → List ℕ → List Digit
+numbered_digits n [] = []
+numbered_digits n (c ∷ digits) = cond (is_open c) (FreeDigit n ∷ numbered_digits (n + 1) digits) (plain_digit c ∷ numbered_digits n digits)
+
+-- the first n bits of wire w, highest first
+abbrev pub wire_row : ℕ → ℕ → List SigBit
+wire_row w zero = []
+wire_row w (suc n) = Wire w n ∷ wire_row w n
+
+abbrev pub row_at : ℕ → Option WireOf → List SigBit
+row_at w None = []
+row_at w (Some x) = wire_row w x.width
+
+abbrev pub wire_names : List WireOf → List Word
+wire_names wires = map (λ w. w.name) wires
+
+-- the place of a name
+abbrev pub name_place : List Word → Word → Option ℕ
+name_place names name = position (λ n. bytes_eq n name) names
+
+-- bits n down to m; index 0 is the lowest bit
+abbrev pub slice_row : List SigBit → ℕ → ℕ → List SigBit
+slice_row row n m = take (n + 1 - m) (drop (length row - (n + 1)) row)
+
+-- why no bits n down to m are in so many bits
+abbrev pub slice_fault : ℕ → ℕ → ℕ → Option ReadFaultKind
+slice_fault width n m = cond (nat_lt n width && nat_lt m width) (cond (nat_le m n) None (Some Syntax)) (Some Index)
+
+-- refused where there is a fault
+abbrev pub granted : {A : Type 0} → Option ReadFaultKind → A → Result A ReadFaultKind
+granted None x = Ok x
+granted (Some k) x = Err k
+
+abbrev pub sliced : List SigBit → ℕ × ℕ → Result (List SigBit) ReadFaultKind
+sliced row (n, m) = granted (slice_fault (length row) n m) (slice_row row n m)
+
+-- what a slice's word leaves of a row
+abbrev pub slice_word : List SigBit → Word → Result (List SigBit) ReadFaultKind
+slice_word row w = needs Syntax (slice_of w) ⊳ sliced row
+
+abbrev pub start_digit : ℕ → Option Bool
+start_digit c = cond (c == 48) (Some false) (cond (c == 49) (Some true) None)
+
+-- the start digits of n bits from digits that stand lowest first: further digits left out, missing ones unknown
+abbrev pub start_digits : ℕ → List ℕ → List (Option Bool)
+start_digits zero digits = []
+start_digits (suc n) [] = None ∷ start_digits n []
+start_digits (suc n) (c ∷ digits) = start_digit c ∷ start_digits n digits
+
+-- ---- parts of a module
 
 -- A port's or parameter's name in the design: without the first `\`, unless `\` or `$` stands behind it, so that different
 -- identifiers stay different.
@@ -62,84 +132,269 @@ has_parameter c name = list_any (λ p. bytes_eq p.name name) c.parameters
 abbrev pub has_port : CellOf → Word → Bool
 has_port c name = list_any (λ p. bytes_eq p.name name) c.ports
 
-abbrev pub with_parameter : CellOf → Word → Row → CellOf
-with_parameter c name row = record c { parameters = c.parameters ++ record { name = name; digits = map (λ b. ConstDigit b) row } ∷ [] }
+abbrev pub with_parameter : CellDraft → Word → List Digit → CellDraft
+with_parameter c name digits = record c { cell = record c.cell { parameters = c.cell.parameters ++ record { name = name; digits = digits } ∷ [] } }
 
-abbrev pub with_port : CellOf → Word → List SigBit → CellOf
-with_port c name bits = record c { ports = c.ports ++ record { name = name; signal = bits } ∷ [] }
+abbrev pub with_port : CellDraft → Word → List SigBit → CellDraft
+with_port c name row = record c { cell = record c.cell { ports = c.cell.ports ++ record { name = name; signal = reverse row } ∷ [] } }
 
--- a line of a cell takes the cell from b to c
-pub data IsCellLine (wires : List WireOf) (b : CellOf) (words : List Word) (c : CellOf) (rest : List Word) : Type 0 where
-  parameter : (name word : Word) (row : Row) → words ≡ codes "parameter" ∷ name ∷ word ∷ rest → IsIdentifier name → IsConstant 1 word row
-      → IsFalse (has_parameter b (bare name)) → c ≡ with_parameter b (bare name) row → IsCellLine wires b words c rest
-  connect : (name : Word) (signal : List Word) (bits : List SigBit) → words ≡ codes "connect" ∷ name ∷ signal → IsIdentifier name → IsSignal wires signal bits rest
-      → IsFalse (has_port b (bare name)) → c ≡ with_port b (bare name) bits → IsCellLine wires b words c rest
+abbrev pub with_free : DraftOf → ℕ → DraftOf
+with_free d n = record d { design = record d.design { free = d.design.free + n } }
 
--- lines take the cell from b to c, and `end` stands behind them
-pub data IsCellBody (wires : List WireOf) (c : CellOf) (rest : List Word) : CellOf → List Word → Type 0 where
-  no_more : (b : CellOf) (words : List Word) → words ≡ codes "end" ∷ rest → c ≡ b → IsCellBody wires c rest b words
-  line : (b m : CellOf) (words mid : List Word) → IsCellLine wires b words m mid → IsCellBody wires c rest m mid → IsCellBody wires c rest b words
+abbrev pub with_wire : DraftOf → WireOf → DraftOf
+with_wire d w = record d { design = record d.design { wires = d.design.wires ++ w ∷ [] } }
 
--- `wire` with or without `input n`, and the wire's name
-pub data IsWireLine (words : List Word) (input : Bool) (name : Word) (rest : List Word) : Type 0 where
-  plain : words ≡ codes "wire" ∷ name ∷ rest → input ≡ false → IsIdentifier name → IsWireLine words input name rest
-  with_input : (word : Word) (n : ℕ) → words ≡ codes "wire" ∷ codes "input" ∷ word ∷ name ∷ rest → IsNumeral word n → input ≡ true → IsIdentifier name
-      → IsWireLine words input name rest
+abbrev pub with_cell : DraftOf → CellOf → DraftOf
+with_cell d c = record d { design = record d.design { cells = d.design.cells ++ c ∷ [] } }
 
--- the start digits of n bits: the lowest digit for bit 0, further digits left out, missing ones unknown
-abbrev pub start_digits : ℕ → Row → List (Option Bool)
-start_digits zero row = []
-start_digits (suc n) [] = None ∷ start_digits n []
-start_digits (suc n) (b ∷ row) = Some b ∷ start_digits n row
+abbrev pub with_connect : DraftOf → List SigBit → List SigBit → DraftOf
+with_connect d left right = record d { design = record d.design { connects = d.design.connects ++ record { left = left; right = reverse right } ∷ [] } }
 
--- a wire of one bit
-abbrev pub one_bit_wire : Word → Bool → List (List (Option Bool)) → WireOf
-one_bit_wire name input inits = record { name = name; width = 1; input = input; inits = inits }
+abbrev pub new_draft : Word → DraftOf
+new_draft name = record { design = record { name = name; wires = []; cells = []; connects = []; free = 0 }; cells = [] }
 
--- no wire has the name yet, and with one more bit there are at most 2 ^ 20
-pub record IsNewWire (d : DesignOf) (name : Word) : Type 0 where
-  pub fresh : IsFalse (list_any (λ w. bytes_eq w.name name) d.wires)
-  pub room : wire_bits d + d.free < 2 ^ 20
+abbrev pub new_cell : Kind → Word → Bool → CellDraft
+new_cell kind name ignored = record { cell = record { kind = kind; name = name; parameters = []; ports = [] }; ignored = ignored }
 
-abbrev pub with_wire : DesignOf → WireOf → DesignOf
-with_wire d w = record d { wires = d.wires ++ w ∷ [] }
+-- the wire of these attributes and options
+abbrev pub new_wire : Word → AttributesOf → WireOptions → WireOf
+new_wire name a o =
+    let width = unwrap_or o.width 1 in
+    record { name = name; width = width; input = o.input; inits = map (λ digits. start_digits width (reverse digits)) a.inits }
 
-abbrev pub with_cell : DesignOf → CellOf → DesignOf
-with_cell d c = record d { cells = d.cells ++ c ∷ [] }
+-- ---- words that are no names
 
-abbrev pub new_cell : Kind → Word → CellOf
-new_cell kind name = record { kind = kind; name = name; parameters = []; ports = [] }
+abbrev pub file_line : DraftOf → Bool → Word → Outcome
+file_line d behind w =
+    cond (bytes_eq w (codes "autoidx")) (goes_on d (AutoIdx behind))
+    (cond (bytes_eq w (codes "attribute")) (goes_on d (FileAttribute behind))
+    (cond (bytes_eq w (codes "module")) (cond behind (Err SeveralModules) (goes_on d Module)) (Err Syntax)))
 
--- an item of a module takes the design from d to e: a wire, a wire behind its `\init` attribute, or a cell
-pub data IsItem (d : DesignOf) (words : List Word) (e : DesignOf) (rest : List Word) : Type 0 where
-  wire : (input : Bool) (name : Word) → IsWireLine words input name rest → IsNewWire d name → e ≡ with_wire d (one_bit_wire name input []) → IsItem d words e rest
-  init_wire : (word : Word) (row : Row) (line : List Word) (input : Bool) (name : Word) → words ≡ codes "attribute" ∷ codes "\\init" ∷ word ∷ line → IsConstant 0 word row
-      → IsWireLine line input name rest → IsNewWire d name → e ≡ with_wire d (one_bit_wire name input (start_digits 1 row ∷ [])) → IsItem d words e rest
-  cell : (type name : Word) (body : List Word) (c : CellOf) → words ≡ codes "cell" ∷ type ∷ name ∷ body → IsIdentifier type → IsIdentifier name
-      → IsFalse (list_any (λ x. bytes_eq x.name name) d.cells) → IsCellBody d.wires c rest (new_cell (kind_of type) name) body → e ≡ with_cell d c → IsItem d words e rest
+-- a line that no attribute stands before
+abbrev pub bare_line : DraftOf → Word → Outcome
+bare_line d w =
+    cond (bytes_eq w (codes "parameter")) (goes_on d ModuleParameter)
+    (cond (bytes_eq w (codes "connect")) (goes_on d (Signal Left []))
+    (cond (bytes_eq w (codes "end")) (goes_on d (File true)) (Err Syntax)))
 
--- items take the design from d to e, and `end` stands behind them
-pub data IsItems (e : DesignOf) (rest : List Word) : DesignOf → List Word → Type 0 where
-  no_more : (d : DesignOf) (words : List Word) → words ≡ codes "end" ∷ rest → e ≡ d → IsItems e rest d words
-  item : (d m : DesignOf) (words mid : List Word) → IsItem d words m mid → IsItems e rest m mid → IsItems e rest d words
+-- a line of the module; a wire has a bit at least
+unfoldable pub line : DraftOf → AttributesOf → Word → Outcome
+line d a w =
+    cond (bytes_eq w (codes "attribute")) (goes_on d (Attribute a))
+    (cond (bytes_eq w (codes "wire")) (cond (nat_lt (bits d) most_bits) (goes_on d (WireOption a (record { width = None; input = false }))) (Err Limit))
+    (cond (bytes_eq w (codes "cell")) (goes_on d CellType)
+    (cond (bytes_eq w (codes "memory") || bytes_eq w (codes "process")) (Err LeftOut) (cond a.some (Err Syntax) (bare_line d w)))))
 
-abbrev pub new_design : Word → DesignOf
-new_design name = record { name = name; wires = []; cells = []; connects = []; free = 0 }
+-- the width is given once at most; other options may be repeated
+abbrev pub wire_option : DraftOf → AttributesOf → WireOptions → Word → Outcome
+wire_option d a o w =
+    cond (bytes_eq w (codes "width")) (cond (is_some o.width) (Err Syntax) (goes_on d (WireNumber a o Width)))
+    (cond (bytes_eq w (codes "offset")) (goes_on d (WireNumber a o Offset))
+    (cond (bytes_eq w (codes "input")) (goes_on d (WireNumber a o Input))
+    (cond (bytes_eq w (codes "output")) (goes_on d (WireNumber a o Output))
+    (cond (bytes_eq w (codes "inout")) (Err LeftOut)
+    (cond (bytes_eq w (codes "upto") || bytes_eq w (codes "signed")) (goes_on d (WireOption a o)) (Err Syntax))))))
 
--- the words are one module and nothing else
-pub record IsFile (words : List Word) (d : DesignOf) : Type 0 where
-  pub name : Word
-  pub items : List Word
-  pub module_name : words ≡ codes "module" ∷ name ∷ items
-  pub identifier : IsIdentifier name
-  pub body : IsItems d [] (new_design name) items
+abbrev pub wire_width : DraftOf → AttributesOf → WireOptions → ℕ → Outcome
+wire_width d a o n =
+    cond (n == 0) (Err LeftOut)
+    (cond (nat_le (bits d + n) most_bits) (goes_on d (WireOption a (record o { width = Some n }))) (Err Limit))
+
+abbrev pub wire_number : DraftOf → AttributesOf → WireOptions → NumberedOption → Word → Outcome
+wire_number d a o Width w = needs Syntax (number_of w) ⊳ wire_width d a o
+wire_number d a o Offset w = needs Syntax (number_of (unsigned w)) ⊳ λ n. goes_on d (WireOption a o)
+wire_number d a o Input w = needs Syntax (number_of w) ⊳ λ n. goes_on d (WireOption a (record o { input = true }))
+wire_number d a o Output w = needs Syntax (number_of w) ⊳ λ n. goes_on d (WireOption a o)
+
+-- an attribute's constant; only `\init` says something
+abbrev pub with_attribute : AttributesOf → Bool → List ℕ → AttributesOf
+with_attribute a is_init digits = record { some = true; inits = cond is_init (a.inits ++ digits ∷ []) a.inits }
+
+abbrev pub is_form : Word → Bool
+is_form w = bytes_eq w (codes "signed") || bytes_eq w (codes "real")
+
+abbrev pub module_value : DraftOf → Word → Option (List ℕ) → Outcome
+module_value d w None = line d no_attributes w
+module_value d w (Some digits) = goes_on d (Line no_attributes)
+
+-- a line of a cell; a cell that is ignored leaves only its name
+unfoldable pub cell_line : DraftOf → CellDraft → Word → Outcome
+cell_line d c w =
+    cond (bytes_eq w (codes "parameter")) (goes_on d (CellParameter c))
+    (cond (bytes_eq w (codes "connect")) (goes_on d (Port c))
+    (cond (bytes_eq w (codes "end")) (goes_on (cond c.ignored d (with_cell d c.cell)) (Line no_attributes)) (Err Syntax)))
+
+-- the registers that are reset in step with the clock
+abbrev pub is_reset : Kind → Bool
+is_reset Sdff = true
+is_reset Sdffe = true
+is_reset Sdffce = true
+is_reset _ = false
+
+-- the one parameter in which x, z and - are free bits
+abbrev pub takes_free : Kind → Word → Bool
+takes_free kind name = is_reset kind && bytes_eq name (codes "SRST_VALUE")
+
+abbrev pub cell_parameter : DraftOf → CellDraft → Word → List ℕ → Outcome
+cell_parameter d c name digits =
+    cond (takes_free c.cell.kind name)
+    (cond (nat_le (bits d + open_digits digits) most_bits)
+    (goes_on (with_free d (open_digits digits)) (CellLine (with_parameter c name (reverse (numbered_digits d.design.free digits)))))
+    (Err Limit))
+    (goes_on d (CellLine (with_parameter c name (map plain_digit (reverse digits)))))
+
+-- a cell that is ignored numbers no free bits
+abbrev pub is_ignored_target : Target → Bool
+is_ignored_target (ToPort c name) = c.ignored
+is_ignored_target Left = false
+is_ignored_target (Right left) = false
+
+abbrev pub is_empty : List ℕ → Bool
+is_empty [] = true
+is_empty (c ∷ digits) = false
+
+-- a constant as a signal, before the open concatenations
+abbrev pub constant_part : DraftOf → Target → List (List SigBit) → List ℕ → Outcome
+constant_part d t rows digits =
+    cond (is_empty digits) (Err Syntax)
+    (cond (list_any is_marker digits) (Err LeftOut)
+    (cond (is_ignored_target t) (goes_on d (Part t (map plain_bit digits ∷ rows)))
+    (cond (nat_le (bits d + open_digits digits) most_bits)
+    (goes_on (with_free d (open_digits digits)) (Part t (numbered_bits d.design.free digits ∷ rows)))
+    (Err Limit))))
+
+-- a signal begins
+unfoldable pub signal_word : DraftOf → Target → List (List SigBit) → Word → Outcome
+signal_word d t rows w =
+    cond (bytes_eq w (codes "{")) (goes_on d (Signal t ([] ∷ rows)))
+    (needs Syntax (constant_of 1 w) ⊳ constant_part d t rows)
+
+-- what stands behind a signal that is in no concatenation
+abbrev pub behind_signal : DraftOf → Target → List SigBit → Word → Outcome
+behind_signal d (ToPort c name) row w = cell_line d (with_port c name row) w
+behind_signal d Left row w = signal_word d (Right (reverse row)) [] w
+behind_signal d (Right left) row w = line (with_connect d left row) no_attributes w
+
+abbrev pub begins_slice : Word → Bool
+begins_slice w = slice_index w 0 == 91
+
+abbrev pub slice_part : DraftOf → Target → List SigBit → List (List SigBit) → Word → Outcome
+slice_part d t row rows w = slice_word row w ⊳ λ part. goes_on d (Part t (part ∷ rows))
+
+-- behind a signal: a slice of it; in a concatenation also its end or the next part, which goes below the parts before it
+unfoldable pub part_word : DraftOf → Target → List (List SigBit) → Word → Outcome
+part_word d t [] w = Err Syntax
+part_word d t (row ∷ []) w = cond (begins_slice w) (slice_part d t row [] w) (behind_signal d t row w)
+part_word d t (row ∷ above ∷ rows) w =
+    cond (begins_slice w) (slice_part d t row (above ∷ rows) w)
+    (cond (bytes_eq w (codes "}")) (goes_on d (Part t ((above ++ row) ∷ rows))) (signal_word d t ((above ++ row) ∷ rows) w))
+
+-- what a word that is no name does at each spot
+unfoldable pub word_step : DraftOf → Spot → Word → Outcome
+word_step d (File behind) w = file_line d behind w
+word_step d (AutoIdx behind) w = needs Syntax (number_of w) ⊳ λ n. goes_on d (File behind)
+word_step d (FileAttribute behind) w = Err Syntax
+word_step d (FileValue behind) w = needs Syntax (constant_of 0 w) ⊳ λ digits. goes_on d (File behind)
+word_step d Module w = Err Syntax
+word_step d (Line a) w = line d a w
+word_step d (Attribute a) w = Err Syntax
+word_step d (Value a is_init) w = needs Syntax (constant_of 0 w) ⊳ λ digits. goes_on d (Line (with_attribute a is_init digits))
+word_step d ModuleParameter w = cond (is_form w) (goes_on d ModuleParameterName) (Err Syntax)
+word_step d ModuleParameterName w = Err Syntax
+word_step d ModuleParameterValue w = module_value d w (constant_of 1 w)
+word_step d (WireOption a o) w = wire_option d a o w
+word_step d (WireNumber a o option) w = wire_number d a o option w
+word_step d CellType w = Err Syntax
+word_step d (CellName kind ignored) w = Err Syntax
+word_step d (CellLine c) w = cell_line d c w
+word_step d (CellParameter c) w = cond (is_form w) (goes_on d (CellParameterName c)) (Err Syntax)
+word_step d (CellParameterName c) w = Err Syntax
+word_step d (CellParameterValue c name) w = needs Syntax (constant_of 1 w) ⊳ cell_parameter d c name
+word_step d (Port c) w = Err Syntax
+word_step d (Signal t rows) w = signal_word d t rows w
+word_step d (Part t rows) w = part_word d t rows w
+
+-- ---- names
+
+abbrev pub wire_name : DraftOf → AttributesOf → WireOptions → Word → Outcome
+wire_name d a o name =
+    cond (list_any (λ n. bytes_eq n name) (wire_names d.design.wires)) (Err DoubleName)
+    (goes_on (with_wire d (new_wire name a o)) (Line no_attributes))
+
+abbrev pub cell_name : DraftOf → Kind → Bool → Word → Outcome
+cell_name d kind ignored name =
+    cond (list_any (λ n. bytes_eq n name) d.cells) (Err DoubleName)
+    (goes_on (record d { cells = d.cells ++ name ∷ [] }) (CellLine (new_cell kind name ignored)))
+
+abbrev pub parameter_name : DraftOf → CellDraft → Word → Outcome
+parameter_name d c name = cond (has_parameter c.cell (bare name)) (Err DoubleName) (goes_on d (CellParameterValue c (bare name)))
+
+abbrev pub port_name : DraftOf → CellDraft → Word → Outcome
+port_name d c name = cond (has_port c.cell (bare name)) (Err DoubleName) (goes_on d (Signal (ToPort c (bare name)) []))
+
+-- a wire as a signal
+unfoldable pub signal_name : DraftOf → Target → List (List SigBit) → Word → Outcome
+signal_name d t rows name =
+    needs UnknownWire (name_place (wire_names d.design.wires) name) ⊳ λ i. goes_on d (Part t (row_at i (slice_get d.design.wires i) ∷ rows))
+
+-- a line begins with no name: behind a signal that is in no concatenation only the right side of a `connect` does
+abbrev pub name_behind : DraftOf → Target → List SigBit → Word → Outcome
+name_behind d (ToPort c port) row name = Err Syntax
+name_behind d Left row name = signal_name d (Right (reverse row)) [] name
+name_behind d (Right left) row name = Err Syntax
+
+unfoldable pub part_name : DraftOf → Target → List (List SigBit) → Word → Outcome
+part_name d t [] name = Err Syntax
+part_name d t (row ∷ []) name = name_behind d t row name
+part_name d t (row ∷ above ∷ rows) name = signal_name d t ((above ++ row) ∷ rows) name
+
+-- what a name does at each spot
+unfoldable pub name_step : DraftOf → Spot → Word → Outcome
+name_step d (File behind) name = Err Syntax
+name_step d (AutoIdx behind) name = Err Syntax
+name_step d (FileAttribute behind) name = goes_on d (FileValue behind)
+name_step d (FileValue behind) name = Err Syntax
+name_step d Module name = goes_on (new_draft name) (Line no_attributes)
+name_step d (Line a) name = Err Syntax
+name_step d (Attribute a) name = goes_on d (Value a (bytes_eq name (codes "\\init")))
+name_step d (Value a is_init) name = Err Syntax
+name_step d ModuleParameter name = goes_on d ModuleParameterValue
+name_step d ModuleParameterName name = goes_on d ModuleParameterValue
+name_step d ModuleParameterValue name = Err Syntax
+name_step d (WireOption a o) name = wire_name d a o name
+name_step d (WireNumber a o option) name = Err Syntax
+name_step d CellType name = goes_on d (CellName (kind_of name) (is_ignored name))
+name_step d (CellName kind ignored) name = cell_name d kind ignored name
+name_step d (CellLine c) name = Err Syntax
+name_step d (CellParameter c) name = parameter_name d c name
+name_step d (CellParameterName c) name = parameter_name d c name
+name_step d (CellParameterValue c label) name = Err Syntax
+name_step d (Port c) name = port_name d c name
+name_step d (Signal t rows) name = signal_name d t rows name
+name_step d (Part t rows) name = part_name d t rows name
+
+-- ---- whole texts
+
+-- a name is UTF-8
+abbrev pub step : DraftOf → Spot → Word → Outcome
+step d s w = cond (begins_name (slice_index w 0)) (cond (is_utf8 w) (name_step d s w) (Err NotUtf8Name)) (word_step d s w)
+
+-- what words make of what is read before them
+abbrev pub steps : DraftOf → Spot → List Word → Outcome
+steps d s [] = goes_on d s
+steps d s (w ∷ ws) = step d s w ⊳ λ x. steps x.0 x.1 ws
 
 abbrev pub words_of : List TokenOf → List Word
 words_of ts = map (λ t. t.text) ts
 
--- the text reads the design
+-- what the first words of a text make
+abbrev pub reading : List TokenOf → Outcome
+reading ts = steps (new_draft []) (File false) (words_of ts)
+
+-- The text reads the design: a module with a line of the file next, and the text ends.
 pub record Reads (text : List ℕ) (d : DesignOf) : Type 0 where
   pub limit : length text ≤ 2 ^ 26
   pub tokens : List TokenOf
   pub lexes : IsTokens text tokens
-  pub file : IsFile (words_of tokens) d
+  pub cells : List Word
+  pub whole : reading tokens ≡ Ok (record { design = d; cells = cells }, File true)

@@ -1,5 +1,5 @@
 -- The types of cells by their names.
-use Rattle.std.specs.Prelude.{ℕ, Bool, cond, ◌&&◌, ◌-◌, nat_le, List, [], ◌∷◌, length, take, drop, codes, bytes_eq, unwrap_or}
+use Rattle.std.specs.Prelude.{ℕ, Bool, cond, ◌&&◌, ◌||◌, ◌-◌, nat_le, List, [], ◌∷◌, length, take, drop, codes, bytes_eq, unwrap_or}
 use Rattle.std.specs.Map.{lookup}
 use Rattle.rtlil_design.specs.declared.kind.Kind.{Kind}
 use Rattle.rtlil_design.specs.declared.kind.Kind.TheVariants.{Unary, Binary, Reduce, Logic, Compare, ShiftLeft, ShiftRight, ShiftSign, ShiftAny, Divide, Mux, Pmux, Bmux, Slice, Concat, Ff, Dff, Dffe, Sdff, Sdffe, Sdffce, Statement, Any, InitState, LeftOut, Unknown}
@@ -98,6 +98,10 @@ abbrev pub kind_by_form : List ℕ → Kind
 kind_by_form name =
     cond (starts (codes "$mem") name) (LeftOut leftout.Memory)
     (cond (starts (codes "$_") name && (nat_le 3 (length name) && bytes_eq (drop (length name - 1) name) (codes "_"))) (LeftOut leftout.Gate) Unknown)
+
+-- the types whose cells are read and ignored
+abbrev pub is_ignored : List ℕ → Bool
+is_ignored name = bytes_eq name (codes "$scopeinfo") || bytes_eq name (codes "$print")
 
 -- the kind of a type
 abbrev pub kind_of : List ℕ → Kind

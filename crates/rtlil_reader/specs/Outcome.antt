@@ -1,28 +1,17 @@
 -- What reading a text answers.
-use Rattle.std.specs.Prelude.{◌≡◌, ℕ, List, Result, Ok, Err}
-use Rattle.std.specs.Global.{Vec}
-use Rattle.rtlil_lex.specs.Tokens.{TokenOf, IsTokens}
-use Rattle.rtlil_lex.specs.declared.lexer.Token.{Token}
+use Rattle.std.specs.Prelude.{ℕ, List, Option, Some, None, Result, Ok, Err}
 use Rattle.rtlil_design.specs.Shape.{DesignOf}
 use Rattle.rtlil_reader.specs.Grammar.{Reads}
-use Rattle.rtlil_reader.specs.Views.{tokens_in}
+use Rattle.rtlil_reader.specs.Faults.{IsReadFault}
 use Rattle.rtlil_reader.specs.declared.fault.ReadFault.{ReadFault}
-use Rattle.rtlil_reader.specs.declared.fault.ReadFaultKind.TheVariants.{Syntax}
-use Rattle.rtlil_reader.specs.declared.stop.Stop.{Stop}
-use Rattle.rtlil_reader.specs.declared.stop.Stop.TheVariants.{Memory, Refused}
+use Rattle.rtlil_reader.specs.declared.fault.ReadFaultKind.{ReadFaultKind}
 
--- the tokens of a text, or it has none, unless memory ran out
-abbrev pub Lexed : List ℕ → Result (Vec Token) Stop → Type 0
-Lexed text (Ok v) = IsTokens text (tokens_in v.items)
-Lexed text (Err Refused) = (ts : List TokenOf) → IsTokens text ts → ⊥
-Lexed text (Err Memory) = Unit {0}
+-- the design, or the refusal at the end of a text of this length
+abbrev pub ending : DesignOf → ℕ → Option ReadFaultKind → Result DesignOf ReadFault
+ending d len None = Ok d
+ending d len (Some kind) = Err (record { byte = len; kind = kind })
 
--- the design that a text reads, or it reads none, unless memory ran out
-abbrev pub Answers : List ℕ → Result DesignOf Stop → Type 0
+-- the design that the text reads, or why it is refused
+abbrev pub Answers : List ℕ → Result DesignOf ReadFault → Type 0
 Answers text (Ok d) = Reads text d
-Answers text (Err Refused) = (d : DesignOf) → Reads text d → ⊥
-Answers text (Err Memory) = Unit {0}
-
--- outside the grammar; until faults are told apart, at byte 0
-abbrev pub IsSyntax : ReadFault → Type 0
-IsSyntax f = (f.byte ≡ 0) × (f.kind ≡ Syntax)
+Answers text (Err f) = IsReadFault text f.byte f.kind

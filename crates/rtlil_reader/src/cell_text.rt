@@ -1,16 +1,20 @@
-// The lines of a cell.
+// Cells.
 
-ghost use Rattle.std.specs.Prelude.{◌≡◌, ℕ, ◌≤◌, ◌^◌, [], ◌∷◌, length, map, IfOk};
-ghost use Rattle.rtlil_design.specs.declared.shape.Digit.TheVariants.{Const as ConstDigit};
-ghost use Rattle.rtlil_reader.specs.Grammar.{bare};
-ghost use Rattle.rtlil_reader.specs.Reading.{Gives, wire_bit_of, constant_bit_of, signal_of, add_parameter_of, parameter_of, add_port_of, port_of, cell_line_of};
+ghost use Rattle.std.specs.Prelude.{◌≡◌, ℕ, ◌+◌, ◌<◌, ◌≤◌, ◌^◌, [], ◌∷◌, ◌++◌, map, reverse, true, false, List, slice_index, length, IfOk, OnOk};
+ghost use Rattle.rtlil_lex.specs.Tokens.{begins_name};
+ghost use Rattle.rtlil_design.specs.declared.shape.SigBit.{SigBit};
+ghost use Rattle.rtlil_reader.specs.Grammar.{bare, has_parameter, has_port, is_reset, takes_free, cell_line, cell_name, cell_parameter, parameter_name, port_name, with_port, numbered_digits, plain_digit, open_digits};
+ghost use Rattle.rtlil_reader.specs.Drafts.{Gives, draft_of, IsIndexed, Fits, FitsCell};
 
-use crate::constant::constant;
-use crate::names::Names;
+use crate::constant::is_open;
+use crate::draft::{Draft, add_cell, has_room, number_free, open_digits};
+use crate::fault::ReadFaultKind;
+use crate::segments::Segments;
+use crate::spot::{Attributes, CellDraft, Label, Spot, Target};
 use crate::stop::Stop;
-use crate::words::{Words, identifier, starts_name};
 use rtlil_design::cell::Cell;
-use rtlil_design::shape::{Digit, SigBit};
+use rtlil_design::kind::Kind;
+use rtlil_design::shape::Digit;
 use rtlil_design::signal::{Digits, Signal};
 use std::alloc::{AllocError, Global};
 
@@ -28,121 +32,208 @@ fn bare_name(name: &str) -> &str
     }
 }
 
-fn wire_bit(wires: &Names, word: &[u8]) -> Result<SigBit, Stop>
-    requires { length wires.now ≤ 2 ^ 20 }
-    ensures { Gives (λ b. b) result (wire_bit_of wires.now word.now) }
+/// Whether the word begins as a name does.
+pub fn starts_name(word: &[u8]) -> bool
+    ensures { result ≡ begins_name (slice_index word.now 0) }
 {
-    let name = identifier(word)?;
-    match wires.place(name) {
-        Some(place) => Ok(SigBit::Wire(place as u32, 0)),
-        None => Err(Stop::Refused),
+    match word {
+        [] => false,
+        [first, ..] => *first == b'\\' || *first == b'$',
     }
 }
 
-fn constant_bit(alloc: Global, word: &[u8]) -> Result<SigBit, Stop>
-    ensures { Gives (λ b. b) result (constant_bit_of word.now) }
+/// A digit that no free bit stands for.
+fn plain_digit(c: u8) -> Digit
+    ensures { result ≡ plain_digit c }
 {
-    let row = constant(alloc, 1, word)?;
-    match row.as_slice() {
-        [bit] => Ok(SigBit::Const(*bit)),
-        _ => Err(Stop::Refused),
+    match c {
+        b'0' => Digit::Const(false),
+        b'1' => Digit::Const(true),
+        _ => Digit::Marker,
     }
 }
 
-fn digits(alloc: Global, row: &[bool]) -> Result<Vec<Digit>, AllocError>
-    ensures { IfOk result (λ d. d.items ≡ map (λ b. ConstDigit b) row.now) }
+/// The digits of a parameter, lowest first, from digits that stand highest first.
+fn plain_digits(alloc: Global, digits: &[u8]) -> Result<Vec<Digit>, AllocError>
+    ensures { IfOk result (λ d. d.items ≡ map plain_digit (reverse digits.now)) }
 {
-    row.iter().map(|b| Digit::Const(*b)).collect(alloc)
+    digits.iter().rev().map(|c| plain_digit(*c)).collect(alloc)
 }
 
-fn one_bit_signal(alloc: Global, bit: SigBit) -> Result<Signal, AllocError>
-    ensures { IfOk result (λ s. s ≡ bit ∷ []) }
+/// The same, where each x, z or - is a free bit, numbered from `first` on.
+fn numbered_digits(alloc: Global, first: u32, digits: &[u8]) -> Result<Vec<Digit>, AllocError>
+    requires { first + open_digits digits.now < 2 ^ 32 }
+    ensures { IfOk result (λ d. d.items ≡ reverse (numbered_digits first digits.now)) }
 {
-    let mut bits = Vec::new(alloc);
-    bits.push(bit)?;
-    Ok(Signal::new(bits))
-}
-
-#[tactic(auto, unfolding(crate::specs::Reading::add_parameter_of))]
-fn add_parameter(alloc: Global, cell: &mut Cell, name: &str, row: &[bool]) -> Result<(), Stop>
-    ensures { Gives (λ _. cell.new) result (add_parameter_of cell.old name.now row.now) }
-{
-    let name = bare_name(name);
-    if cell.has_parameter(name) {
-        return Err(Stop::Refused);
-    }
-    let digits = digits(alloc, row)?;
-    let name = String::from_str(alloc, name)?;
-    cell.push_parameter(name, Digits::new(digits))?;
-    Ok(())
-}
-
-#[tactic(auto, unfolding(crate::specs::Reading::add_port_of))]
-fn add_port(alloc: Global, cell: &mut Cell, name: &str, signal: Signal) -> Result<(), Stop>
-    ensures { Gives (λ _. cell.new) result (add_port_of cell.old name.now signal) }
-{
-    let name = bare_name(name);
-    if cell.has_port(name) {
-        return Err(Stop::Refused);
-    }
-    let name = String::from_str(alloc, name)?;
-    cell.push_port(name, signal)?;
-    Ok(())
-}
-
-impl<'a> Words<'a> {
-    #[tactic(auto, unfolding(crate::specs::Reading::signal_of))]
-    fn signal(&mut self, alloc: Global, wires: &Names) -> Result<Signal, Stop>
-        requires { length wires.now ≤ 2 ^ 20 }
-        ensures { Gives (λ s. (s, self.new)) result (signal_of wires.now self.old) }
-    {
-        let word = self.word()?;
-        let bit = if starts_name(word) {
-            wire_bit(wires, word)?
+    let mut row = Vec::new(alloc);
+    let mut number = first;
+    for digit in digits {
+        let digit = if is_open(*digit) {
+            number += 1;
+            Digit::Free(number - 1)
         } else {
-            constant_bit(alloc, word)?
+            plain_digit(*digit)
         };
-        Ok(one_bit_signal(alloc, bit)?)
+        row.push(digit)?;
     }
+    row.reverse();
+    Ok(row)
+}
 
-    #[tactic(auto, unfolding(crate::specs::Reading::parameter_of))]
-    fn parameter(&mut self, alloc: Global, cell: &mut Cell) -> Result<(), Stop>
-        ensures { Gives (λ _. (cell.new, self.new)) result (parameter_of cell.old self.old) }
-    {
-        let name = self.identifier()?;
-        let word = self.word()?;
-        let row = constant(alloc, 1, word)?;
-        add_parameter(alloc, cell, name, &row)
-    }
+fn is_reset(kind: Kind) -> bool
+    ensures { result ≡ is_reset kind }
+{
+    matches!(kind, Kind::Sdff | Kind::Sdffe | Kind::Sdffce)
+}
 
-    #[tactic(auto, unfolding(crate::specs::Reading::port_of))]
-    fn port(&mut self, alloc: Global, wires: &Names, cell: &mut Cell) -> Result<(), Stop>
-        requires { length wires.now ≤ 2 ^ 20 }
-        ensures { Gives (λ _. (cell.new, self.new)) result (port_of wires.now cell.old self.old) }
-    {
-        let name = self.identifier()?;
-        let signal = self.signal(alloc, wires)?;
-        add_port(alloc, cell, name, signal)
-    }
+/// Whether x, z and - are free bits in this parameter.
+fn takes_free(kind: Kind, name: &str) -> bool
+    ensures { result ≡ takes_free kind name.now }
+{
+    is_reset(kind) && name == "SRST_VALUE"
+}
 
-    /// A line of a cell, which goes on, or its `end`.
-    #[tactic(auto, unfolding(crate::specs::Reading::cell_line_of))]
-    pub fn cell_line(&mut self, alloc: Global, wires: &Names, cell: &mut Cell) -> Result<bool, Stop>
-        requires { length wires.now ≤ 2 ^ 20 }
-        ensures { Gives (λ more. (more, cell.new, self.new)) result (cell_line_of wires.now cell.old self.old) }
-    {
-        let word = self.word()?;
-        if word == b"end".as_slice() {
-            return Ok(false);
-        }
-        if word == b"parameter".as_slice() {
-            self.parameter(alloc, cell)?;
-            return Ok(true);
-        }
-        if word == b"connect".as_slice() {
-            self.port(alloc, wires, cell)?;
-            return Ok(true);
-        }
-        Err(Stop::Refused)
+/// The name of a new cell.
+pub fn cell_name<'a>(
+    alloc: Global,
+    draft: &mut Draft<'a>,
+    kind: Kind,
+    ignored: bool,
+    name: &'a str,
+) -> Result<Spot, Stop>
+    ensures step { Gives (λ s. (draft_of draft.new, s)) result (cell_name (draft_of draft.old) kind ignored name.now) }
+    ensures fits { IfOk result (λ s. Fits (draft_of draft.new) s) }
+    ensures indexed { IsIndexed draft.old → OnOk result (IsIndexed draft.new) }
+{
+    if draft.cells.has(name) {
+        return Err(Stop::Fault(ReadFaultKind::DoubleName));
     }
+    draft.cells.push(name)?;
+    let text = String::from_str(alloc, name)?;
+    Ok(Spot::CellLine(CellDraft {
+        cell: Cell::new(alloc, kind, text),
+        ignored,
+    }))
+}
+
+/// A line of a cell, or its `end`.
+#[tactic(auto, unfolding(crate::specs::Grammar::cell_line))]
+pub fn cell_line(
+    alloc: Global,
+    draft: &mut Draft,
+    cell: CellDraft,
+    word: &[u8],
+) -> Result<Spot, Stop>
+    requires { FitsCell (draft_of draft.old) cell }
+    ensures step { Gives (λ s. (draft_of draft.new, s)) result (cell_line (draft_of draft.old) cell word.now) }
+    ensures fits { IfOk result (λ s. Fits (draft_of draft.new) s) }
+    ensures indexed { IsIndexed draft.old → OnOk result (IsIndexed draft.new) }
+{
+    if word == b"parameter".as_slice() {
+        return Ok(Spot::CellParameter(cell));
+    }
+    if word == b"connect".as_slice() {
+        return Ok(Spot::Port(cell));
+    }
+    if word != b"end".as_slice() {
+        return Err(Stop::Fault(ReadFaultKind::Syntax));
+    }
+    if !cell.ignored {
+        add_cell(&mut draft.design, cell.cell)?;
+    }
+    Ok(Spot::Line(Attributes::none(alloc)))
+}
+
+/// The name of a parameter.
+pub fn parameter_name(
+    alloc: Global,
+    draft: &Draft,
+    cell: CellDraft,
+    name: &str,
+) -> Result<Spot, Stop>
+    requires { FitsCell (draft_of draft.now) cell }
+    ensures step { Gives (λ s. (draft_of draft.now, s)) result (parameter_name (draft_of draft.now) cell name.now) }
+    ensures fits { IfOk result (λ s. Fits (draft_of draft.now) s) }
+{
+    let name = bare_name(name);
+    if cell.cell.has_parameter(name) {
+        return Err(Stop::Fault(ReadFaultKind::DoubleName));
+    }
+    let label = Label::new(String::from_str(alloc, name)?);
+    Ok(Spot::CellParameterValue(cell, label))
+}
+
+/// The name of a port.
+pub fn port_name(alloc: Global, draft: &Draft, cell: CellDraft, name: &str) -> Result<Spot, Stop>
+    requires { FitsCell (draft_of draft.now) cell }
+    ensures step { Gives (λ s. (draft_of draft.now, s)) result (port_name (draft_of draft.now) cell name.now) }
+    ensures fits { IfOk result (λ s. Fits (draft_of draft.now) s) }
+{
+    let name = bare_name(name);
+    if cell.cell.has_port(name) {
+        return Err(Stop::Fault(ReadFaultKind::DoubleName));
+    }
+    let label = Label::new(String::from_str(alloc, name)?);
+    Ok(Spot::Signal(Target::Port(cell, label), Segments::new(alloc)))
+}
+
+/// A parameter whose x, z and - are free bits.
+fn free_parameter(
+    alloc: Global,
+    draft: &mut Draft,
+    cell: CellDraft,
+    label: Label,
+    digits: &[u8],
+) -> Result<Spot, Stop>
+    requires fits { FitsCell (draft_of draft.old) cell }
+    requires fresh { has_parameter cell.cell label ≡ false }
+    requires free { takes_free cell.cell.kind label ≡ true }
+    ensures step { Gives (λ s. (draft_of draft.new, s)) result (cell_parameter (draft_of draft.old) cell label digits.now) }
+    ensures fits { IfOk result (λ s. Fits (draft_of draft.new) s) }
+    ensures indexed { IsIndexed draft.old → OnOk result (IsIndexed draft.new) }
+{
+    let mut cell = cell;
+    let count = open_digits(digits);
+    if !has_room(&draft.design, count) {
+        return Err(Stop::Fault(ReadFaultKind::Limit));
+    }
+    let row = numbered_digits(alloc, draft.design.free(), digits)?;
+    cell.cell
+        .push_parameter(label.into_string(), Digits::new(row))?;
+    number_free(&mut draft.design, count as u32);
+    Ok(Spot::CellLine(cell))
+}
+
+/// A parameter's constant.
+pub fn cell_parameter(
+    alloc: Global,
+    draft: &mut Draft,
+    cell: CellDraft,
+    label: Label,
+    digits: &[u8],
+) -> Result<Spot, Stop>
+    requires fits { FitsCell (draft_of draft.old) cell }
+    requires fresh { has_parameter cell.cell label ≡ false }
+    ensures step { Gives (λ s. (draft_of draft.new, s)) result (cell_parameter (draft_of draft.old) cell label digits.now) }
+    ensures fits { IfOk result (λ s. Fits (draft_of draft.new) s) }
+    ensures indexed { IsIndexed draft.old → OnOk result (IsIndexed draft.new) }
+{
+    if takes_free(cell.cell.kind(), label.as_str()) {
+        return free_parameter(alloc, draft, cell, label, digits);
+    }
+    let mut cell = cell;
+    let row = plain_digits(alloc, digits)?;
+    cell.cell
+        .push_parameter(label.into_string(), Digits::new(row))?;
+    Ok(Spot::CellLine(cell))
+}
+
+/// Adds a port to a cell.
+pub fn add_port(cell: CellDraft, label: Label, signal: Signal) -> Result<CellDraft, AllocError>
+    requires { has_port cell.cell label ≡ false }
+    ensures { (row : List SigBit) → signal ≡ reverse row → IfOk result (λ c. c ≡ with_port cell label row) }
+{
+    let mut cell = cell;
+    cell.cell.push_port(label.into_string(), signal)?;
+    Ok(cell)
 }

@@ -2,7 +2,7 @@
 
 ghost use Rattle.std.specs.Prelude.{◌≡◌, bytes_eq};
 ghost use Rattle.std.specs.Map.{lookup};
-ghost use Rattle.rtlil_reader.specs.Kinds.{kind_of, kind_by_form, named_kinds};
+ghost use Rattle.rtlil_reader.specs.Kinds.{is_ignored, kind_of, kind_by_form, named_kinds};
 ghost use Rattle.rtlil_reader.specs.Views.{kind_rows};
 
 use rtlil_design::kind::{
@@ -124,4 +124,11 @@ pub fn kind(name: &str) -> Kind
         Some(kind) => kind,
         None => form_kind(name),
     }
+}
+
+/// Whether cells of this type are read and ignored.
+pub fn is_ignored(name: &str) -> bool
+    ensures { result ≡ is_ignored name.now }
+{
+    name == "$scopeinfo" || name == "$print"
 }

@@ -1,226 +1,333 @@
-// The items of a module.
+// Lines of the file and of the module.
 
-ghost use Rattle.std.specs.Prelude.{◌≡◌, ◌+◌, ◌≤◌, ◌<◌, ◌^◌, List, ◌∷◌, length, All, codes, IfOk, OnOk, string_bytes};
-ghost use Rattle.rtlil_design.specs.Shape.{WireOf};
-ghost use Rattle.rtlil_reader.specs.Grammar.{IsCellBody, IsItem, IsItems, IsFile, start_digits};
-ghost use Rattle.rtlil_reader.specs.Reading.{Gives, Parses, ItemStep, wire_names, wire_line_of, wire_of, init_wire_of, cell_head_of, module_head_of};
-ghost use Rattle.rtlil_reader.specs.Drafts.{IsIndexed};
+ghost use Rattle.std.specs.Prelude.{◌≡◌, ◌≤◌, true, [], ◌∷◌, List, length, Ok, IfOk, OnOk};
+ghost use Rattle.rtlil_design.specs.declared.shape.SigBit.{SigBit};
+ghost use Rattle.rtlil_reader.specs.Grammar.{file_line, line, bare_line, wire_option, wire_number, with_attribute, is_form, module_value, behind_signal, begins_slice, goes_on, needs, ◌⊳◌, part_word, part_name};
+ghost use Rattle.rtlil_reader.specs.Drafts.{Gives, draft_of, IsIndexed, Fits, FitsTarget, FitsRows, HasRoom};
+ghost use Rattle.rtlil_reader.specs.Constants.{constant_of};
+ghost use Rattle.rtlil_reader.specs.declared.fault.ReadFaultKind.TheVariants.{Syntax};
+ghost use Rattle.rtlil_reader.specs.declared.spot.Spot.TheVariants.{Line};
 
-use crate::constant::{constant, is_numeral};
-use crate::draft::{Draft, add_cell, add_wire, new_draft};
-use crate::kinds::kind;
-use crate::names::Names;
+use crate::cell_text::{add_port, cell_line};
+use crate::constant::{constant, is_constant, is_number, is_signed_number, number};
+use crate::draft::{Draft, add_connect, has_room};
+use crate::fault::ReadFaultKind;
+use crate::segments::Segments;
+use crate::signal_text::{begins_slice, signal_name, signal_word, slice};
+use crate::spot::{Attributes, NumberedOption, Spot, Target, WireOptions};
 use crate::stop::Stop;
-use crate::words::{Words, identifier};
-use rtlil_design::cell::Cell;
-use rtlil_design::design::Design;
-use rtlil_design::signal::StartDigits;
-use std::alloc::{AllocError, Global};
+use std::alloc::Global;
 
-/// The start digits of a wire of one bit.
-fn start(alloc: Global, row: &[bool]) -> Result<StartDigits, AllocError>
-    ensures { IfOk result (λ s. s ≡ start_digits 1 row.now) }
+/// A line of the file.
+pub fn file_line(draft: &Draft, behind: bool, word: &[u8]) -> Result<Spot, Stop>
+    ensures step { Gives (λ s. (draft_of draft.now, s)) result (file_line (draft_of draft.now) behind word.now) }
+    ensures fits { IfOk result (λ s. Fits (draft_of draft.now) s) }
 {
-    let mut digits = Vec::new(alloc);
-    match row {
-        [] => digits.push(None)?,
-        [lowest, ..] => digits.push(Some(*lowest))?,
+    if word == b"autoidx".as_slice() {
+        return Ok(Spot::AutoIdx(behind));
     }
-    Ok(StartDigits::new(digits))
+    if word == b"attribute".as_slice() {
+        return Ok(Spot::FileAttribute(behind));
+    }
+    if word != b"module".as_slice() {
+        return Err(Stop::Fault(ReadFaultKind::Syntax));
+    }
+    if behind {
+        return Err(Stop::Fault(ReadFaultKind::SeveralModules));
+    }
+    Ok(Spot::Module)
 }
 
-impl<'a> Words<'a> {
-    /// Whether a wire is an input, and its name, behind `wire`.
-    #[tactic(auto, unfolding(crate::specs::Reading::wire_line_of))]
-    fn wire_line(&mut self) -> Result<(bool, &'a str), Stop>
-        ensures { Gives (λ x. (x.0, x.1.now, self.new)) result (wire_line_of self.old) }
-    {
-        let word = self.word()?;
-        if word == b"input".as_slice() {
-            let number = self.word()?;
-            if !is_numeral(number) {
-                return Err(Stop::Refused);
+/// A line of the module that no attribute stands before.
+fn bare_line(alloc: Global, draft: &Draft, word: &[u8]) -> Result<Spot, Stop>
+    ensures step { Gives (λ s. (draft_of draft.now, s)) result (bare_line (draft_of draft.now) word.now) }
+    ensures fits { IfOk result (λ s. Fits (draft_of draft.now) s) }
+{
+    if word == b"parameter".as_slice() {
+        return Ok(Spot::ModuleParameter);
+    }
+    if word == b"connect".as_slice() {
+        return Ok(Spot::Signal(Target::Left, Segments::new(alloc)));
+    }
+    if word == b"end".as_slice() {
+        return Ok(Spot::File(true));
+    }
+    Err(Stop::Fault(ReadFaultKind::Syntax))
+}
+
+/// A line of the module.
+#[tactic(auto, unfolding(crate::specs::Grammar::line))]
+pub fn line(alloc: Global, draft: &Draft, attributes: Attributes, word: &[u8]) -> Result<Spot, Stop>
+    ensures step { Gives (λ s. (draft_of draft.now, s)) result (line (draft_of draft.now) attributes word.now) }
+    ensures fits { IfOk result (λ s. Fits (draft_of draft.now) s) }
+{
+    if word == b"attribute".as_slice() {
+        return Ok(Spot::Attribute(attributes));
+    }
+    if word == b"wire".as_slice() {
+        if !has_room(&draft.design, 1) {
+            return Err(Stop::Fault(ReadFaultKind::Limit));
+        }
+        let options = WireOptions {
+            width: None,
+            input: false,
+        };
+        return Ok(Spot::WireOption(attributes, options));
+    }
+    if word == b"cell".as_slice() {
+        return Ok(Spot::CellType);
+    }
+    if word == b"memory".as_slice() || word == b"process".as_slice() {
+        return Err(Stop::Fault(ReadFaultKind::LeftOut));
+    }
+    if attributes.some() {
+        return Err(Stop::Fault(ReadFaultKind::Syntax));
+    }
+    bare_line(alloc, draft, word)
+}
+
+/// An option of a wire.
+pub fn wire_option(
+    draft: &Draft,
+    attributes: Attributes,
+    options: WireOptions,
+    word: &[u8],
+) -> Result<Spot, Stop>
+    requires { HasRoom (draft_of draft.now) options }
+    ensures step { Gives (λ s. (draft_of draft.now, s)) result (wire_option (draft_of draft.now) attributes options word.now) }
+    ensures fits { IfOk result (λ s. Fits (draft_of draft.now) s) }
+{
+    let numbered = if word == b"width".as_slice() {
+        if options.width.is_some() {
+            return Err(Stop::Fault(ReadFaultKind::Syntax));
+        }
+        NumberedOption::Width
+    } else if word == b"offset".as_slice() {
+        NumberedOption::Offset
+    } else if word == b"input".as_slice() {
+        NumberedOption::Input
+    } else if word == b"output".as_slice() {
+        NumberedOption::Output
+    } else if word == b"inout".as_slice() {
+        return Err(Stop::Fault(ReadFaultKind::LeftOut));
+    } else if word == b"upto".as_slice() || word == b"signed".as_slice() {
+        return Ok(Spot::WireOption(attributes, options));
+    } else {
+        return Err(Stop::Fault(ReadFaultKind::Syntax));
+    };
+    Ok(Spot::WireNumber(attributes, options, numbered))
+}
+
+/// A wire's width.
+fn wire_width(
+    draft: &Draft,
+    attributes: Attributes,
+    options: WireOptions,
+    word: &[u8],
+) -> Result<Spot, Stop>
+    ensures step { Gives (λ s. (draft_of draft.now, s)) result (wire_number (draft_of draft.now) attributes options NumberedOption.Width word.now) }
+    ensures fits { IfOk result (λ s. Fits (draft_of draft.now) s) }
+{
+    let Some(width) = number(word) else {
+        return Err(Stop::Fault(ReadFaultKind::Syntax));
+    };
+    if width == 0 {
+        return Err(Stop::Fault(ReadFaultKind::LeftOut));
+    }
+    if !has_room(&draft.design, width as usize) {
+        return Err(Stop::Fault(ReadFaultKind::Limit));
+    }
+    let options = WireOptions {
+        width: Some(width as u32),
+        input: options.input,
+    };
+    Ok(Spot::WireOption(attributes, options))
+}
+
+/// The number of a wire's option.
+pub fn wire_number(
+    draft: &Draft,
+    attributes: Attributes,
+    options: WireOptions,
+    option: NumberedOption,
+    word: &[u8],
+) -> Result<Spot, Stop>
+    requires { HasRoom (draft_of draft.now) options }
+    ensures step { Gives (λ s. (draft_of draft.now, s)) result (wire_number (draft_of draft.now) attributes options option word.now) }
+    ensures fits { IfOk result (λ s. Fits (draft_of draft.now) s) }
+{
+    let options = match option {
+        NumberedOption::Width => return wire_width(draft, attributes, options, word),
+        NumberedOption::Offset => {
+            if !is_signed_number(word) {
+                return Err(Stop::Fault(ReadFaultKind::Syntax));
             }
-            let name = self.identifier()?;
-            return Ok((true, name));
+            return Ok(Spot::WireOption(attributes, options));
         }
-        let name = identifier(word)?;
-        Ok((false, name))
+        NumberedOption::Input => WireOptions {
+            width: options.width,
+            input: true,
+        },
+        NumberedOption::Output => options,
+    };
+    if !is_number(word) {
+        return Err(Stop::Fault(ReadFaultKind::Syntax));
     }
+    Ok(Spot::WireOption(attributes, options))
+}
 
-    /// A wire, behind `wire`.
-    #[tactic(auto, unfolding(crate::specs::Reading::wire_of))]
-    fn wire(
-        &mut self,
-        alloc: Global,
-        draft: &mut Draft<'a>,
-        inits: Vec<StartDigits>,
-    ) -> Result<(), Stop>
-        requires indexed { IsIndexed draft.old }
-        requires inits { All (λ digits. length digits ≡ 1) inits.items }
-        ensures wire { Gives (λ _. (draft.new.design, self.new)) result (wire_of draft.old.design inits.items self.old) }
-        ensures indexed { OnOk result (IsIndexed draft.new) }
-    {
-        let (input, name) = self.wire_line()?;
-        add_wire(alloc, draft, name, input, inits)
+/// The constant of an attribute, which is kept where it is that of `\init`.
+pub fn attribute_value(
+    alloc: Global,
+    draft: &Draft,
+    attributes: Attributes,
+    is_init: bool,
+    word: &[u8],
+) -> Result<Spot, Stop>
+    ensures step { Gives (λ s. (draft_of draft.now, s)) result (needs Syntax (constant_of 0 word.now) ⊳ λ digits. goes_on (draft_of draft.now) (Line (with_attribute attributes is_init digits))) }
+    ensures fits { IfOk result (λ s. Fits (draft_of draft.now) s) }
+{
+    let mut attributes = attributes;
+    if is_init {
+        attributes.push(constant(alloc, 0, word)?)?;
+        return Ok(Spot::Line(attributes));
     }
-
-    /// A wire and its start digits, behind `attribute`.
-    #[tactic(auto, unfolding(crate::specs::Reading::init_wire_of))]
-    fn init_wire(&mut self, alloc: Global, draft: &mut Draft<'a>) -> Result<(), Stop>
-        requires indexed { IsIndexed draft.old }
-        ensures wire { Gives (λ _. (draft.new.design, self.new)) result (init_wire_of draft.old.design self.old) }
-        ensures indexed { OnOk result (IsIndexed draft.new) }
-    {
-        self.keyword(b"\\init")?;
-        let word = self.word()?;
-        let row = constant(alloc, 0, word)?;
-        let digits = start(alloc, &row)?;
-        let mut inits = Vec::new(alloc);
-        inits.push(digits)?;
-        self.keyword(b"wire")?;
-        self.wire(alloc, draft, inits)
+    if !is_constant(0, word) {
+        return Err(Stop::Fault(ReadFaultKind::Syntax));
     }
+    attributes.pass();
+    Ok(Spot::Line(attributes))
+}
 
-    /// A cell's type and its name, behind `cell`.
-    #[tactic(auto, unfolding(crate::specs::Reading::cell_head_of))]
-    fn cell_head(&mut self) -> Result<(&'a str, &'a str), Stop>
-        ensures { Gives (λ x. (x.0.now, x.1.now, self.new)) result (cell_head_of self.old) }
-    {
-        let type_name = self.identifier()?;
-        let name = self.identifier()?;
-        Ok((type_name, name))
+pub fn is_form(word: &[u8]) -> bool
+    ensures { result ≡ is_form word.now }
+{
+    word == b"signed".as_slice() || word == b"real".as_slice()
+}
+
+/// The constant of a parameter of the module, or the next line.
+pub fn module_value(alloc: Global, draft: &Draft, word: &[u8]) -> Result<Spot, Stop>
+    ensures step { Gives (λ s. (draft_of draft.now, s)) result (module_value (draft_of draft.now) word.now (constant_of 1 word.now)) }
+    ensures fits { IfOk result (λ s. Fits (draft_of draft.now) s) }
+{
+    let attributes = Attributes::none(alloc);
+    if is_constant(1, word) {
+        return Ok(Spot::Line(attributes));
     }
+    line(alloc, draft, attributes, word)
+}
 
-    /// The lines of a cell, up to its `end`.
-    fn cell_body(&mut self, alloc: Global, wires: &Names, cell: Cell) -> Result<Cell, Stop>
-        requires { length wires.now ≤ 2 ^ 20 }
-        ensures { (ws : List WireOf) → wires.now ≡ wire_names ws
-            → Parses (λ c rest. IsCellBody ws c rest cell self.old) (λ c. c) result self.new }
-    {
-        let mut body = cell;
-        'lines: loop {
-            match self.cell_line(alloc, wires, &mut body) {
-                Ok(true) => {}
-                Ok(false) => return Ok(body),
-                Err(stop) => return Err(stop),
-            }
+/// What stands behind a signal that is in no concatenation.
+fn behind_signal(
+    alloc: Global,
+    draft: &mut Draft,
+    target: Target,
+    segments: Segments,
+    word: &[u8],
+) -> Result<Spot, Stop>
+    requires one { length segments ≡ 1 }
+    requires target { FitsTarget (draft_of draft.old) target }
+    requires rows { FitsRows (draft_of draft.old) segments }
+    ensures step { (row : List SigBit) → segments ≡ row ∷ []
+        → Gives (λ s. (draft_of draft.new, s)) result (behind_signal (draft_of draft.old) target row word.now) }
+    ensures fits { IfOk result (λ s. Fits (draft_of draft.new) s) }
+    ensures indexed { IsIndexed draft.old → OnOk result (IsIndexed draft.new) }
+{
+    let signal = segments.into_signal();
+    match target {
+        Target::Port(cell, label) => {
+            let cell = add_port(cell, label, signal)?;
+            cell_line(alloc, draft, cell, word)
         }
-    }
-
-    /// A cell, behind `cell`.
-    fn cell(&mut self, alloc: Global, draft: &mut Draft<'a>) -> Result<(), Stop>
-        requires indexed { IsIndexed draft.old }
-        requires few { length draft.old.design.cells < 2 ^ 26 }
-        ensures item { Parses (IsItem draft.old.design (codes "cell" ∷ self.old)) (λ _. draft.new.design) result self.new }
-        ensures indexed { OnOk result (IsIndexed draft.new) }
-    {
-        let (type_name, name) = match self.cell_head() {
-            Ok(head) => head,
-            Err(stop) => return Err(stop),
-        };
-        let count = draft.design.wires().len();
-        prove!(count <= 1 << 20);
-        let text = String::from_str(alloc, name)?;
-        let cell = Cell::new(alloc, kind(type_name), text);
-        let cell = match self.cell_body(alloc, &draft.wires, cell) {
-            Ok(cell) => cell,
-            Err(stop) => return Err(stop),
-        };
-        add_cell(draft, name, cell)
-    }
-
-    /// An item, behind its keyword.
-    fn keyword_item(
-        &mut self,
-        alloc: Global,
-        draft: &mut Draft<'a>,
-        word: &[u8],
-    ) -> Result<(), Stop>
-        requires indexed { IsIndexed draft.old }
-        requires few { length draft.old.design.cells < 2 ^ 26 }
-        ensures item { Parses (IsItem draft.old.design (word.now ∷ self.old)) (λ _. draft.new.design) result self.new }
-        ensures indexed { OnOk result (IsIndexed draft.new) }
-    {
-        if word == b"wire".as_slice() {
-            return self.wire(alloc, draft, Vec::new(alloc));
+        Target::Left => {
+            let target = Target::Right(signal);
+            signal_word(alloc, draft, target, Segments::new(alloc), word)
         }
-        if word == b"attribute".as_slice() {
-            return self.init_wire(alloc, draft);
-        }
-        if word == b"cell".as_slice() {
-            return self.cell(alloc, draft);
-        }
-        Err(Stop::Refused)
-    }
-
-    /// An item, or the module's `end`.
-    fn item(&mut self, alloc: Global, draft: &mut Draft<'a>) -> Result<bool, Stop>
-        requires indexed { IsIndexed draft.old }
-        requires few { length draft.old.design.cells + length self.old ≤ 2 ^ 26 }
-        ensures step { Parses (ItemStep draft.old.design self.old) (λ more. (more, draft.new.design)) result self.new }
-        ensures indexed { OnOk result (IsIndexed draft.new) }
-    {
-        let word = match self.word() {
-            Ok(word) => word,
-            Err(at_end) => return Err(at_end),
-        };
-        if word == b"end".as_slice() {
-            return Ok(false);
-        }
-        match self.keyword_item(alloc, draft, word) {
-            Ok(()) => Ok(true),
-            Err(stop) => Err(stop),
+        Target::Right(left) => {
+            add_connect(&mut draft.design, left, signal)?;
+            line(alloc, draft, Attributes::none(alloc), word)
         }
     }
+}
 
-    /// The items of a module, up to its `end`.
-    fn items(&mut self, alloc: Global, draft: &mut Draft<'a>) -> Result<(), Stop>
-        requires indexed { IsIndexed draft.old }
-        requires few { length draft.old.design.cells + length self.old ≤ 2 ^ 26 }
-        ensures { Parses (λ e rest. IsItems e rest draft.old.design self.old) (λ _. draft.new.design) result self.new }
-    {
-        'items: loop {
-            match self.item(alloc, draft) {
-                Ok(true) => {}
-                Ok(false) => return Ok(()),
-                Err(stop) => return Err(stop),
-            }
-        }
+/// A slice of the signal that was just read.
+#[tactic(auto, unfolding(crate::specs::Grammar::part_word))]
+fn slice_part(
+    alloc: Global,
+    draft: &Draft,
+    target: Target,
+    segments: Segments,
+    word: &[u8],
+) -> Result<Spot, Stop>
+    requires some { 1 ≤ length segments }
+    requires slice { begins_slice word.now ≡ true }
+    requires target { FitsTarget (draft_of draft.now) target }
+    requires rows { FitsRows (draft_of draft.now) segments }
+    ensures step { Gives (λ s. (draft_of draft.now, s)) result (part_word (draft_of draft.now) target segments word.now) }
+    ensures fits { IfOk result (λ s. Fits (draft_of draft.now) s) }
+{
+    match slice(alloc, segments, word) {
+        Ok(segments) => Ok(Spot::Part(target, segments)),
+        Err(stop) => Err(stop),
     }
+}
 
-    /// One module and nothing behind it.
-    pub fn file(&mut self, alloc: Global) -> Result<Design, Stop>
-        requires { length self.old ≤ 2 ^ 26 }
-        ensures { Parses (λ d _. IsFile self.old d) (λ d. d) result self.new }
-    {
-        let name = match self.module_head() {
-            Ok(name) => name,
-            Err(stop) => return Err(stop),
-        };
-        let text = String::from_str(alloc, name)?;
-        let mut draft = new_draft(alloc, text);
-        match self.items(alloc, &mut draft) {
-            Ok(()) => {}
-            Err(stop) => return Err(stop),
-        }
-        if !self.is_empty() {
-            return Err(Stop::Refused);
-        }
-        let Draft {
-            design,
-            wires: _,
-            cells: _,
-        } = draft;
-        Ok(design)
+/// Behind a signal: a slice of it, the end of its concatenation, the next part, or what stands behind it.
+#[tactic(auto, unfolding(crate::specs::Grammar::part_word))]
+pub fn part_word(
+    alloc: Global,
+    draft: &mut Draft,
+    target: Target,
+    segments: Segments,
+    word: &[u8],
+) -> Result<Spot, Stop>
+    requires some { 1 ≤ length segments }
+    requires target { FitsTarget (draft_of draft.old) target }
+    requires rows { FitsRows (draft_of draft.old) segments }
+    ensures step { Gives (λ s. (draft_of draft.new, s)) result (part_word (draft_of draft.old) target segments word.now) }
+    ensures fits { IfOk result (λ s. Fits (draft_of draft.new) s) }
+    ensures indexed { IsIndexed draft.old → OnOk result (IsIndexed draft.new) }
+{
+    if begins_slice(word) {
+        return slice_part(alloc, draft, target, segments, word);
     }
+    if segments.len() == 1 {
+        return behind_signal(alloc, draft, target, segments, word);
+    }
+    let mut segments = segments;
+    segments.join();
+    if word == b"}".as_slice() {
+        return Ok(Spot::Part(target, segments));
+    }
+    signal_word(alloc, draft, target, segments, word)
+}
 
-    /// `module` and its name.
-    #[tactic(auto, unfolding(crate::specs::Reading::module_head_of))]
-    fn module_head(&mut self) -> Result<&'a str, Stop>
-        ensures { Gives (λ name. (name.now, self.new)) result (module_head_of self.old) }
-    {
-        self.keyword(b"module")?;
-        self.identifier()
+/// A name behind a signal: the next part of its concatenation, or the right side of a `connect`.
+#[tactic(auto, unfolding(crate::specs::Grammar::part_name))]
+pub fn part_name(
+    alloc: Global,
+    draft: &Draft,
+    target: Target,
+    segments: Segments,
+    name: &str,
+) -> Result<Spot, Stop>
+    requires some { 1 ≤ length segments }
+    requires indexed { IsIndexed draft.now }
+    requires target { FitsTarget (draft_of draft.now) target }
+    requires rows { FitsRows (draft_of draft.now) segments }
+    ensures step { Gives (λ s. (draft_of draft.now, s)) result (part_name (draft_of draft.now) target segments name.now) }
+    ensures fits { IfOk result (λ s. Fits (draft_of draft.now) s) }
+{
+    if segments.len() > 1 {
+        let mut segments = segments;
+        segments.join();
+        return signal_name(draft, target, segments, name);
+    }
+    match target {
+        Target::Left => {
+            let target = Target::Right(segments.into_signal());
+            signal_name(draft, target, Segments::new(alloc), name)
+        }
+        Target::Port(..) | Target::Right(_) => Err(Stop::Fault(ReadFaultKind::Syntax)),
     }
 }

@@ -1,15 +1,16 @@
 // Why reading stops.
 
 ghost use Rattle.std.specs.Prelude.{◌≡◌};
-ghost use Rattle.rtlil_reader.specs.declared.stop.Stop.TheVariants.{Memory};
+ghost use Rattle.rtlil_reader.specs.declared.stop.Stop.TheVariants.{Memory, Fault};
 
+use crate::fault::ReadFaultKind;
 use std::alloc::{AllocError, AllocFailed};
 
-/// Want of memory, or words outside the grammar.
+/// Want of memory, or a word that is refused.
 #[derive(Clone, Copy, Debug, PartialEq, Eq)]
 pub enum Stop {
     Memory,
-    Refused,
+    Fault(ReadFaultKind),
 }
 
 impl From<AllocError> for Stop {
@@ -25,5 +26,13 @@ impl<T: Drop> From<AllocFailed<T>> for Stop {
 
     fn from(_e: AllocFailed<T>) -> Stop {
         Stop::Memory
+    }
+}
+
+impl From<ReadFaultKind> for Stop {
+    ghost from_gives = { λ kind e. e ≡ Fault kind };
+
+    fn from(kind: ReadFaultKind) -> Stop {
+        Stop::Fault(kind)
     }
 }

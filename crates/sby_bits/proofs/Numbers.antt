@@ -7,7 +7,7 @@ use Rattle.std.proofs.lemmas.Int.{ints}
 use Rattle.std.proofs.lemmas.List.{ext_get_or, length-take-le}
 use Rattle.std.proofs.Math.Nat.{pow-suc}
 use Rattle.std.proofs.Math.Numerals.{add-one}
-use Rattle.std.specs.Prelude.{ℤ, pos, negsuc}
+use Rattle.std.specs.Prelude.{ℤ, pos, negsuc, ◌-ℤ◌}
 use Rattle.std.specs.Int.{int_div_euclid}
 use Rattle.sby_bits.specs.Rows.{Row, num, top_bit, snum, residue, low_bits, fit, value}
 use Rattle.sby_bits.specs.Words.{filled_number}
@@ -142,6 +142,26 @@ top_bit-at (b ∷ c ∷ r) =
 pub extended : (r : Row) (signed fill : Bool) → fill ≡ (signed && top_bit r) → int_div_euclid (filled_number r fill) (pos (2 ^ 0)) ≡ value signed r
 extended r true fill e = rw e (whole (snum r))
 extended r false fill e = rw e (whole (pos (num r)))
+
+-- the bits of a row's value are its own, and above it its sign or zeros
+pub value-at : (r : Row) (signed : Bool) (i : ℕ) → bit_of (value signed r) i ≡ get_or r i (signed && top_bit r)
+value-at r true i = sym (filled-at r (top_bit r) i)
+value-at r false i = sym (filled-at r false i)
+
+odd_turned : (m : ℕ) → eqb (m % 2) 0 ≡ not (eqb (m % 2) 1)
+odd_turned m = grind (arith, nat_tests)
+
+even_turned : (m : ℕ) → eqb (m % 2) 1 ≡ not (eqb (m % 2) 0)
+even_turned m = grind (arith, nat_tests)
+
+-- -1 less z has the opposite bits of z
+pub complement-at : (z : ℤ) (i : ℕ) → bit_of (negsuc 0 -ℤ z) i ≡ not (bit_of z i)
+complement-at (pos n) i =
+    let e : negsuc 0 -ℤ pos n ≡ negsuc n = omega (arith, ints) in
+    rw e (odd_turned (n / 2 ^ i))
+complement-at (negsuc n) i =
+    let e : negsuc 0 -ℤ negsuc n ≡ pos n = omega (arith, ints) in
+    rw e (even_turned (n / 2 ^ i))
 
 pub num-lt : (r : Row) → num r < 2 ^ length r
 num-lt r = omega (arith, num-turned r)

@@ -1,5 +1,5 @@
 -- What the definitions of rows mean.
-use Rattle.std.proofs.Common.{◌≡◌, ◌≢◌, ℕ, zero, suc, ◌+◌, ◌-◌, ◌*◌, ◌/◌, ◌%◌, ◌^◌, ◌<◌, ◌≤◌, Bool, true, false, cond, eqb, [], ◌∷◌, ◌++◌, length, get_or, refl, sym, ◌∙◌, ap, inl, inr, arith}
+use Rattle.std.proofs.Common.{◌≡◌, ◌≢◌, ℕ, zero, suc, ◌+◌, ◌-◌, ◌*◌, ◌/◌, ◌%◌, ◌^◌, ◌<◌, ◌≤◌, Bool, true, false, cond, eqb, ◌&&◌, [], ◌∷◌, ◌++◌, length, get_or, refl, sym, ◌∙◌, ap, inl, inr, arith}
 use Rattle.std.proofs.lemmas.Bool.{cases_lt, cases_Bool}
 use Rattle.std.proofs.lemmas.Bool.Decides.{nat_tests}
 use Rattle.std.proofs.lemmas.Int.{ints, quot-rem, rem_below}
@@ -11,7 +11,7 @@ use Rattle.std.specs.Prelude.{ℤ, pos, negsuc, ◌+ℤ◌, ◌-ℤ◌, ◌*ℤ�
 use Rattle.std.specs.Int.{int_rem_euclid, int_div_euclid}
 use Rattle.sby_bits.specs.Rows.{Row, num, top_bit, snum, residue, low_bits, fit, ext, value}
 use Rattle.sby_bits.specs.Words.{quotient, remainder, filled_number, moved_number, bit_at, left_shift_row, right_shift_row, any_shift_row, slice_row, concat_row}
-use Rattle.sby_bits.proofs.Numbers.{bit_of, fit-at, filled-at, down-at, num-at, num-lt, length-fit, row_is, top_bit-at, low_half, high_half}
+use Rattle.sby_bits.proofs.Numbers.{bit_of, fit-at, value-at, filled-at, down-at, num-at, num-lt, length-fit, row_is, top_bit-at, low_half, high_half}
 use Rattle.sby_bits.proofs.Moves.{up-at_low, up-at_high, num-append}
 
 odd_part : (n : ℕ) → cond (eqb (n % 2) 1) 1 0 ≡ n % 2
@@ -95,6 +95,9 @@ extended_longer (b ∷ r) true (suc y) h =
     let least = snum_least (b ∷ r) (length r) refl in
     let most = snum_most (b ∷ r) (length r) refl in
     snum-fit y (snum (b ∷ r)) (omega (arith, ints)) (omega (arith, ints))
+
+pub extended_bits : (r : Row) (signed : Bool) (y i : ℕ) → i < y → get_or (ext r signed y) i false ≡ get_or r i (signed && top_bit r)
+extended_bits r signed y i h = fit-at y (value signed r) i h ∙ value-at r signed i
 
 up_bits : (a : Row) (p y i : ℕ) → i < y → get_or (fit y (pos (num a * 2 ^ p))) i false ≡ bit_at a (pos i -ℤ pos p)
 up_bits a p y i h =

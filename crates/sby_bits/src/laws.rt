@@ -10,6 +10,7 @@ ghost use Rattle.std.specs.Prelude.{
   ◌^◌,
   ◌<◌,
   ◌≤◌,
+  ◌&&◌,
   Bool,
   true,
   false,
@@ -63,8 +64,10 @@ pub fn extension_keeps_value()
     ensures longer { (r : Row) (signed : Bool) (y : ℕ) → length r ≤ y → value signed (ext r signed y) ≡ value signed r }
 {}
 
-/// Which bit stands at each place of a row that was moved, joined or cut.
+/// Which bit stands at each place of a row that was extended, moved, joined or cut.
 pub fn places_of_bits()
+    ensures extended { (r : Row) (signed : Bool) (y i : ℕ) → i < y
+        → slice_index_or (ext r signed y) i false ≡ slice_index_or r i (signed && top_bit r) }
     ensures left { (a by : Row) (y i : ℕ) → i < y
         → slice_index_or (left_shift_row a by y) i false ≡ bit_at a (pos i -ℤ pos (num by)) }
     ensures right { (a by : Row) (fill : Bool) (y i : ℕ) → i < y

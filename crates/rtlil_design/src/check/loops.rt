@@ -1,102 +1,81 @@
-// Combinational cells that read the output of themselves or of a later one, and connects.
+// Loops of combinational cells and connects.
 
-ghost use Rattle.std.specs.Prelude.{◌≡◌, ◌↔◌, ◌++◌, ℕ, IsTrue, IfOk, Contains, List, All, length};
-ghost use Rattle.rtlil_design.specs.Asked.{Combinational, role_of};
-ghost use Rattle.rtlil_design.specs.Faults.{Instance, IsFirst, IsRead, ReadsLater};
-ghost use Rattle.rtlil_design.specs.Marks.{Marked};
-ghost use Rattle.rtlil_design.specs.Places.{places};
-ghost use Rattle.rtlil_design.specs.Shape.{IsCellOf, IsDeclared};
-ghost use Rattle.rtlil_design.specs.declared.shape.SigBit.{SigBit};
+ghost use Rattle.std.specs.Prelude.{◌≡◌, ◌↔◌, ◌+◌, ◌<◌, ℕ, IsTrue, None, IfOk, length};
+ghost use Rattle.digraph.specs.Graph.{Graph, IsSorted};
+ghost use Rattle.rtlil_design.specs.Edges.{IsLooped, IsRestGraph, IsWireOnLoop};
+ghost use Rattle.rtlil_design.specs.Faults.{Instance, IsFirst};
+ghost use Rattle.rtlil_design.specs.Order.{IsCellOnLoop};
 
-use super::drivers::no_marks;
-use crate::cell::{Cell, output_port};
+use super::edges::rest_graph;
 use crate::design::Design;
 use crate::fault::FaultKind;
-use crate::kind::Kind;
-use crate::shape::SigBit;
+use digraph::{Sorted, sort};
 use std::alloc::{AllocError, Global};
 
-// Whether a cell's output follows from its inputs.
-fn is_combinational(kind: Kind) -> bool
-    ensures { IsTrue result ↔ (role_of kind ≡ Combinational) }
+// The bits and the combinational cells, sorted by what rests on what.
+pub(super) fn sorted_rests(alloc: Global, design: &Design) -> Result<Sorted, AllocError>
+    ensures looped { IfOk result (λ s. IsLooped design.now s.cyclic.items) }
+    ensures sorted { IfOk result (λ s. (g : Graph) × IsRestGraph design.now g × IsSorted g s.order.items s.cyclic.items s.leaders.items) }
 {
-    match kind {
-        Kind::Ff | Kind::Dff | Kind::Dffe | Kind::Sdff | Kind::Sdffe | Kind::Sdffce => false,
-        Kind::Statement(_) | Kind::LeftOut(_) | Kind::Unknown => false,
-        Kind::Any(_) | Kind::InitState => false,
-        _ => true,
-    }
+    let _ = design.cells();
+    let graph = rest_graph(alloc, design)?;
+    let sorted = sort(alloc, graph.as_slice())?;
+    Ok(sorted)
 }
 
-// Marks these bits too.
-fn mark(design: &Design, bits: &[SigBit], marks: &mut [bool])
-    requires declared { All (IsDeclared design.now.wires design.now.free) bits.now }
-    requires one_each { length marks.old ≡ places design.now }
-    ensures { (seen : List SigBit) → Marked design.now seen marks.old → Marked design.now (seen ++ bits.now) marks.new }
+// The first cell that is on a loop.
+fn first_cell_on_loop(design: &Design, cyclic: &[bool]) -> Option<usize>
+    requires { IsLooped design.now cyclic.now }
+    ensures { IsFirst (IsCellOnLoop design.now) result }
 {
-    for bit in bits {
-        marks[design.place(*bit)] = true;
+    let before = design.places();
+    for place in 0..design.cells().len() {
+        if cyclic[before + place] {
+            return Some(place);
+        }
     }
+    None
 }
 
-// Whether one of these bits is marked.
-fn is_any_marked(design: &Design, bits: &[SigBit], marks: &[bool]) -> bool
-    requires declared { All (IsDeclared design.now.wires design.now.free) bits.now }
-    requires one_each { length marks.now ≡ places design.now }
-    ensures { (seen : List SigBit) → Marked design.now seen marks.now → (IsTrue result ↔ ((a : SigBit) × Contains bits.now a × Contains seen a)) }
+// Whether some bit of the wire is on a loop.
+fn is_wire_on_loop(design: &Design, cyclic: &[bool], wire: u32) -> bool
+    requires looped { IsLooped design.now cyclic.now }
+    requires wire { wire < length design.now.wires }
+    ensures { IsTrue result ↔ IsWireOnLoop design.now wire }
 {
-    for bit in bits {
-        if marks[design.place(*bit)] {
+    let first = design.offset(wire) as usize;
+    let width = design.wires()[wire as usize].width() as usize;
+    for bit in 0..width {
+        if cyclic[first + bit] {
             return true;
         }
     }
     false
 }
 
-// Whether the cell reads a bit that is marked.
-fn reads_marked(design: &Design, cell: &Cell, marks: &[bool]) -> bool
-    requires declared { IsCellOf design.now.wires design.now.free cell.now }
-    requires one_each { length marks.now ≡ places design.now }
-    ensures { (seen : List SigBit) → Marked design.now seen marks.now → (IsTrue result ↔ ((a : SigBit) × IsRead cell.now a × Contains seen a)) }
+// The first wire that has a bit on a loop.
+fn first_wire_on_loop(design: &Design, cyclic: &[bool]) -> Option<usize>
+    requires { IsLooped design.now cyclic.now }
+    ensures { IsFirst (IsWireOnLoop design.now) result }
 {
-    let output = output_port(cell.kind());
-    for place in 0..cell.ports() {
-        let (name, signal) = cell.port(place);
-        if name != output && is_any_marked(design, signal, marks) {
-            return true;
+    for wire in 0..design.wires().len() {
+        if is_wire_on_loop(design, cyclic, wire as u32) {
+            return Some(wire);
         }
     }
-    false
+    None
 }
 
-// The first combinational cell that reads an output of its own or of a later one.
-fn first_later_read(alloc: Global, design: &Design) -> Result<Option<usize>, AllocError>
-    ensures { IfOk result (λ r. IsFirst (ReadsLater design.now) r) }
+// The first place, wires behind the cells, of a loop.
+pub(super) fn first_loop(design: &Design, cyclic: &[bool]) -> Option<usize>
+    requires { IsLooped design.now cyclic.now }
+    ensures { IsFirst (Instance design.now FaultKind.Loop) result }
 {
-    let cells = design.cells();
-    let mut table = no_marks(alloc, design.places())?;
-    let marks = table.as_mut_slice();
-    let mut first = None;
-    for place in (0..cells.len()).rev() {
-        let cell = &cells[place];
-        if is_combinational(cell.kind()) {
-            mark(design, cell.output(), marks);
-            if reads_marked(design, cell, marks) {
-                first = Some(place);
-            }
-        }
+    if let Some(place) = first_cell_on_loop(design, cyclic) {
+        return Some(place);
     }
-    Ok(first)
-}
-
-// The first place, connects behind the cells, of a loop.
-pub(crate) fn first_loop(alloc: Global, design: &Design) -> Result<Option<usize>, AllocError>
-    ensures { IfOk result (λ r. IsFirst (Instance design.now FaultKind.Loop) r) }
-{
-    let first = first_later_read(alloc, design)?;
-    match first {
-        Some(place) => Ok(Some(place)),
-        None if design.connects().is_empty() => Ok(None),
-        None => Ok(Some(design.cells().len())),
+    match first_wire_on_loop(design, cyclic) {
+        Some(wire) => Some(design.cells().len() + wire),
+        None => None,
     }
 }

@@ -1,5 +1,8 @@
-use Rattle.sby_bits.proofs.RowLaws.{any_bits, concat_high_bits, concat_low_bits, left_bits, right_bits, slice_bits}
+use Rattle.sby_bits.proofs.RowLaws.{any_bits, concat_high_bits, concat_low_bits, extended_bits, left_bits, right_bits, slice_bits}
 use Rattle.sby_bits.proofs.laws.places_of_bits.Goals as goal
+
+pub returns-clause-extended : goal.returns-clause-extended
+returns-clause-extended c = extended_bits
 
 pub returns-clause-left : goal.returns-clause-left
 returns-clause-left c = left_bits

@@ -1,22 +1,24 @@
 use Rattle.std.proofs.Common.{◌≡◌, ◌∙◌, true, refl, ap, sym, subst}
 use Rattle.std.proofs.lemmas.Bool.{true≢false, false≢true}
-use Rattle.rtlil_design.specs.Shape.{CellOf}
+use Rattle.std.specs.Prelude.{All}
+use Rattle.std.proofs.lemmas.List.Elements.{All-contains}
+use Rattle.rtlil_design.specs.Shape.{CellOf, IsCellOf}
 use Rattle.rtlil_design.specs.Asked.{is_clocked}
 use Rattle.rtlil_design.specs.Faults.{IsOneClock}
 use Rattle.rtlil_design.specs.declared.kind.Kind.{Kind}
-use Rattle.rtlil_design.proofs.Lists.{each_more, item_is, item_at}
+use Rattle.rtlil_design.proofs.Lists.{Contains-from_place, each_more, item_is, item_at}
 use Rattle.rtlil_design.proofs.Clocks.{first_clock-within, first_clock-from, no_clock, clock-differs, one_clock}
 use Rattle.rtlil_design.proofs.check.clocks.first_multi_clock.Goals as goal
 use Rattle.rtlil_design.proofs.check.clocks.first_multi_clock.Goals.{else-is_clocked-via-then-is_clocked+else-not-is_one_clock, else-is_clocked-via-else-is_clocked}
 
 pub loop-place-preserved : goal.loop-place-preserved
 loop-place-preserved c =
-    each_more (λ (x : CellOf). is_clocked x.kind ≡ true → IsOneClock c.index-cells-first.result x) c.cells-cells.result.now c.loop-place.place c.loop-place.invariant
+    each_more (λ (x : CellOf). is_clocked x.kind ≡ true → IsOneClock c.args.design.now c.index-cells-first.result x) c.cells-cells.result.now c.loop-place.place c.loop-place.invariant
     (λ x h clocked.
     let e = item_is c.cells-cells.result.now c.loop-place.place c.index-cells-place.result x c.index-cells-place.is h in
-    elim c.else-is_clocked.branch as (λ _. IsOneClock c.index-cells-first.result x) [
+    elim c.else-is_clocked.branch as (λ _. IsOneClock c.args.design.now c.index-cells-first.result x) [
       | else-is_clocked-via-then-is_clocked+else-not-is_one_clock w ↦
-          subst (IsOneClock c.index-cells-first.result) e (w.if-not-is_one_clock.ensures.0 refl)
+          subst (IsOneClock c.args.design.now c.index-cells-first.result) e (w.if-not-is_one_clock.ensures.0 refl)
       | else-is_clocked-via-else-is_clocked w ↦
           let kind = c.is_clocked.ensures ∙ ap (λ (k : Kind). is_clocked k) (c.kind.ensures ∙ ap (λ (y : CellOf). y.kind) e) in
           absurd (true≢false (sym clocked ∙ (sym kind ∙ w.if-is_clocked.false)))
@@ -46,3 +48,15 @@ returns c =
     let before = rw c.cells-cells.ensures.cells at c.loop-place.invariant in
     let most = rw c.cells-cells.ensures.cells at c.loop-place-test.false in
     one_clock d c.in-Some.first c.index-cells-first.result (first_clock-from d c.in-Some.first c.index-cells-first.result is start) c.loop-place.place before most
+
+pub is_one_clock-requires-clause-first : goal.is_one_clock-requires-clause-first
+is_one_clock-requires-clause-first c =
+    let all : All (IsCellOf c.args.design.now.wires c.args.design.now.free) c.cells-cells.result.now = rw c.cells-cells.ensures.cells c.cells-cells.ensures.design.cells in
+    let at = item_at c.cells-cells.result.now c.in-Some.first c.index-cells-first.result c.index-cells-first.is (first_clock-within c.cells-cells.result.now c.in-Some.first c.in-Some.ensures) in
+    All-contains (IsCellOf c.args.design.now.wires c.args.design.now.free) c.cells-cells.result.now c.index-cells-first.result all (Contains-from_place c.cells-cells.result.now c.in-Some.first c.index-cells-first.result at)
+
+pub is_one_clock-requires-clause-other : goal.is_one_clock-requires-clause-other
+is_one_clock-requires-clause-other c =
+    let all : All (IsCellOf c.args.design.now.wires c.args.design.now.free) c.cells-cells.result.now = rw c.cells-cells.ensures.cells c.cells-cells.ensures.design.cells in
+    let at = item_at c.cells-cells.result.now c.loop-place.place c.index-cells-place.result c.index-cells-place.is c.loop-place-test.true in
+    All-contains (IsCellOf c.args.design.now.wires c.args.design.now.free) c.cells-cells.result.now c.index-cells-place.result all (Contains-from_place c.cells-cells.result.now c.loop-place.place c.index-cells-place.result at)

@@ -7,4 +7,4 @@ abbrev pub invariant-loop-asked : goal.invariant-loop-asked
 invariant-loop-asked l = (k : ℕ) (p : PortAsked) → k < l.place → slice_get (ports_asked l.cell.kind l.cell.parameters) k ≡ Some p → l.name ≢ p.name
 
 abbrev pub decreases-loop-asked : goal.decreases-loop-asked
-decreases-loop-asked l = 3 - l.place
+decreases-loop-asked l = 4 - l.place

@@ -8,4 +8,4 @@ abbrev pub invariant-loop-name : goal.invariant-loop-name
 invariant-loop-name l = (k : ℕ) (p : PortAsked) → k < l.place → slice_get (ports_asked l.cell.kind l.cell.parameters) k ≡ Some p → HasPort l.cell p
 
 abbrev pub decreases-loop-name : goal.decreases-loop-name
-decreases-loop-name l = 3 - l.place
+decreases-loop-name l = 4 - l.place

@@ -1,0 +1,9 @@
+pub mod Lists
+pub mod Entering
+pub mod Scanning
+pub mod Leaving
+pub mod Closings
+pub mod Works
+pub mod Ends
+pub mod Leaders
+pub mod Growing

@@ -1,0 +1,44 @@
+use Rattle.std.proofs.Common.{◌≡◌, ◌∙◌, ◌+◌, ◌*◌, [], arith, length, codes, true}
+use Rattle.std.proofs.lemmas.Result.{IfOk-weaker}
+use Rattle.cnf_form.specs.Cnf.{Assignment}
+use Rattle.sby_bits.specs.Rows.{value}
+use Rattle.gate_words.specs.Words.{Builds, MeansRow, row_of}
+use Rattle.gate_words.proofs.Building.{Builds-more}
+use Rattle.gate_words.proofs.Functions.{length-binary}
+use Rattle.rtlil_design.specs.Cells.{binary_fn}
+use Rattle.rtlil_design.specs.Asked.{signal_at}
+use Rattle.frame_cnf.specs.Encoding.{port_bits}
+use Rattle.frame_cnf.specs.Lines.{line}
+use Rattle.frame_cnf.proofs.Words.{MeansRow-same, binary_kind, binary_line, word_bits}
+use Rattle.frame_cnf.proofs.cells.binary_word.Goals as goal
+
+pub returns-clause-row : goal.returns-clause-row
+returns-clause-row c =
+    IfOk-weaker c.binary.result (λ w. MeansRow c.binary.new.gates (λ x. binary_fn c.args.kind c.width.result (value c.is_set.result (row_of x c.args.a.now)) (value c.is_set.result (row_of x c.args.b.now))) w.items) (λ w. MeansRow c.binary.new.gates (λ x. line c.args.cell.now.kind c.args.cell.now.parameters (row_of x c.args.a.now) (row_of x c.args.b.now) []) w.items)
+    (λ w m. MeansRow-same c.binary.new.gates (λ x. binary_fn c.args.kind c.width.result (value c.is_set.result (row_of x c.args.a.now)) (value c.is_set.result (row_of x c.args.b.now))) (λ x. line c.args.cell.now.kind c.args.cell.now.parameters (row_of x c.args.a.now) (row_of x c.args.b.now) []) w.items (λ x. binary_line c.args.cell.now c.args.kind c.requires.cell c.requires.kind c.width.result c.is_set.result c.width.ensures c.is_set.ensures (row_of x c.args.a.now) (row_of x c.args.b.now) []) m)
+    c.binary.ensures.row
+
+pub returns-clause-width : goal.returns-clause-width
+returns-clause-width c =
+    IfOk-weaker c.binary.result (λ w. MeansRow c.binary.new.gates (λ x. binary_fn c.args.kind c.width.result (value c.is_set.result (row_of x c.args.a.now)) (value c.is_set.result (row_of x c.args.b.now))) w.items) (λ w. length w.items ≡ length (signal_at c.args.cell.now.ports (codes "Y")))
+    (λ w m. let x : Assignment = λ v. true in m.as_many x ∙ length-binary c.args.kind c.width.result (value c.is_set.result (row_of x c.args.a.now)) (value c.is_set.result (row_of x c.args.b.now)) (binary_kind c.args.cell.now c.args.kind c.requires.cell c.requires.kind) ∙ c.width.ensures)
+    c.binary.ensures.row
+
+pub returns-clause-builds : goal.returns-clause-builds
+returns-clause-builds c =
+    let bits = word_bits c.args.cell.now in
+    let a = c.requires.a_width in
+    let y = c.width.ensures in
+    let b = c.requires.b_width in
+    IfOk-weaker c.binary.result (λ w. MeansRow c.binary.new.gates (λ x. binary_fn c.args.kind c.width.result (value c.is_set.result (row_of x c.args.a.now)) (value c.is_set.result (row_of x c.args.b.now))) w.items) (λ w. Builds c.args.gates.now c.binary.new.gates (16 * port_bits c.args.cell.now))
+    (λ w m. Builds-more c.args.gates.now c.binary.new.gates (16 * (length c.args.a.now + length c.args.b.now + c.width.result)) (16 * port_bits c.args.cell.now) c.binary.ensures.builds (omega arith))
+    c.binary.ensures.row
+
+pub returns-clause-too_many : goal.returns-clause-too_many
+returns-clause-too_many c = λ e.
+    let bits = word_bits c.args.cell.now in
+    let a = c.requires.a_width in
+    let y = c.width.ensures in
+    let b = c.requires.b_width in
+    let past = (c.binary.ensures.too_many e).past in
+    omega arith

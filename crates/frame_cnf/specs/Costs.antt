@@ -1,0 +1,30 @@
+-- How many gates the parts of a cycle take at most.
+use Rattle.std.specs.Prelude.{ℕ, ◌+◌, ◌*◌, cond, List, Option, Some, None, slice_get}
+use Rattle.std.specs.List.{sum_by}
+use Rattle.rtlil_design.specs.declared.driver.Driver.{Driver}
+use Rattle.rtlil_design.specs.declared.driver.Driver.TheVariants.{Cell, Connect}
+use Rattle.rtlil_design.specs.Shape.{CellOf, DesignOf}
+use Rattle.rtlil_design.specs.Meaning.{is_assert, is_assume}
+use Rattle.frame_cnf.specs.Encoding.{port_bits}
+
+abbrev pub word_gates : Option CellOf → ℕ
+word_gates None = 0
+word_gates (Some c) = 16 * port_bits c
+
+-- a driver's gates: those of a cell's word; a connect has none
+abbrev pub driver_gates : DesignOf → Driver → ℕ
+driver_gates d (Cell i) = word_gates (slice_get d.cells i)
+driver_gates d (Connect i k) = 0
+
+abbrev pub order_gates : DesignOf → List Driver → ℕ
+order_gates d order = sum_by (driver_gates d) order
+
+abbrev pub assume_gates : CellOf → ℕ
+assume_gates c = cond (is_assume c.kind) 2 0
+
+abbrev pub assert_gates : CellOf → ℕ
+assert_gates c = cond (is_assert c.kind) 2 0
+
+-- the gates of a cycle
+abbrev pub cycle_gates : DesignOf → List Driver → ℕ
+cycle_gates d order = order_gates d order + (sum_by assume_gates d.cells + sum_by assert_gates d.cells)

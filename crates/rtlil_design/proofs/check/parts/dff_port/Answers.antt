@@ -1,0 +1,13 @@
+use Rattle.std.proofs.Common.{refl}
+use Rattle.std.specs.Prelude.{codes}
+use Rattle.rtlil_design.specs.Asked.{parameter, port}
+use Rattle.rtlil_design.proofs.check.parts.dff_port.Goals as goal
+
+pub returns-in-0-clause-asked : goal.returns-in-0-clause-asked
+returns-in-0-clause-asked c = (port (codes "CLK") 1, rw c.in-0.is refl, refl, refl)
+
+pub returns-in-1-clause-asked : goal.returns-in-1-clause-asked
+returns-in-1-clause-asked c = (port (codes "D") (parameter c.args.cell.now.parameters (codes "WIDTH")), rw c.in-1.is refl, refl, c.width.ensures)
+
+pub returns-in-2-clause-asked : goal.returns-in-2-clause-asked
+returns-in-2-clause-asked c = (port (codes "Q") (parameter c.args.cell.now.parameters (codes "WIDTH")), rw c.in-2.is refl, refl, c.width-in-2.ensures)

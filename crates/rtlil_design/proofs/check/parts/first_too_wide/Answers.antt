@@ -1,0 +1,23 @@
+use Rattle.std.proofs.Common.{◌<◌, refl, sym, subst, arith}
+use Rattle.std.proofs.lemmas.Bool.{false≢true}
+use Rattle.std.proofs.lemmas.Option.{slice_get_within}
+use Rattle.rtlil_design.specs.Shape.{CellOf}
+use Rattle.rtlil_design.specs.Faults.{IsTooWide}
+use Rattle.rtlil_design.proofs.Lists.{item_at, item_is, each_more}
+use Rattle.rtlil_design.proofs.check.parts.first_too_wide.Goals as goal
+
+pub loop-place-preserved : goal.loop-place-preserved
+loop-place-preserved c =
+    each_more (λ (e : CellOf). IsTooWide e → ⊥) c.args.cells.now c.loop-place.place c.loop-place.invariant
+    (λ x h bad. false≢true (c.if-is_too_wide.ensures.1 (subst IsTooWide (sym (item_is c.args.cells.now c.loop-place.place _ x c.index-cells-place.is h)) bad)))
+
+pub returns-then-is_too_wide : goal.returns-then-is_too_wide
+returns-then-is_too_wide c = (
+  (c.index-cells-place.result, item_at c.args.cells.now c.loop-place.place c.index-cells-place.result c.index-cells-place.is c.loop-place-test.true, c.if-is_too_wide.ensures.0 refl),
+  λ k lt h. c.loop-place.invariant k h.0 lt h.1 h.2,
+)
+
+pub returns : goal.returns
+returns c = λ i h.
+    let lt : i < c.loop-place.place = omega (arith, slice_get_within c.args.cells.now i h.0 h.1) in
+    c.loop-place.invariant i h.0 lt h.1 h.2

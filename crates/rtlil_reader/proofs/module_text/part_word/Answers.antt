@@ -1,0 +1,20 @@
+use Rattle.std.proofs.Common.{◌∙◌, sym, arith, codes, bytes_eq}
+use Rattle.rtlil_reader.specs.Drafts.{draft_of}
+use Rattle.rtlil_reader.proofs.WordLemmas.{tested}
+use Rattle.rtlil_reader.proofs.PartLemmas.{joined_fits, joined_step}
+use Rattle.rtlil_reader.proofs.module_text.part_word.Goals as goal
+
+pub returns-then-eq-clause-fits : goal.returns-then-eq-clause-fits
+returns-then-eq-clause-fits c =
+    let kept = joined_fits (draft_of c.args.draft.now) c.args.segments c.join.new.self (omega (arith, c.len.ensures, c.if-len-eq1.false, c.requires.some)) c.requires.rows c.join.ensures in
+    (c.requires.target, kept.0, kept.1)
+
+pub signal_word-requires-clause-rows : goal.signal_word-requires-clause-rows
+signal_word-requires-clause-rows c =
+    (joined_fits (draft_of c.args.draft.now) c.args.segments c.join.new.self (omega (arith, c.len.ensures, c.if-len-eq1.false, c.requires.some)) c.requires.rows c.join.ensures).0
+
+pub returns-clause-step : goal.returns-clause-step
+returns-clause-step c =
+    rw (joined_step (draft_of c.args.draft.now) c.args.target c.args.segments c.join.new.self c.args.word.now (omega (arith, c.len.ensures, c.if-len-eq1.false, c.requires.some)) c.join.ensures
+    (sym c.begins_slice.ensures ∙ c.if-begins_slice.false) (tested _ _ c.args.word.now _ (codes "}") c.eq.ensures c.as_slice.ensures c.if-eq.false))
+    c.signal_word.ensures.step

@@ -1,0 +1,141 @@
+// Signals.
+
+ghost use Rattle.std.specs.Prelude.{◌≡◌, ℕ, ◌+◌, ◌<◌, ◌≤◌, ◌^◌, false, [], ◌∷◌, ◌++◌, List, Ok, None, min, length, All, OnOk, IfOk, slice_index, reverse};
+ghost use Rattle.rtlil_design.specs.declared.shape.SigBit.{SigBit};
+ghost use Rattle.rtlil_reader.specs.Grammar.{constant_part, signal_word, signal_name, slice_fault, slice_word, ◌⊳◌, begins_slice, is_ignored_target};
+ghost use Rattle.rtlil_reader.specs.Drafts.{Gives, draft_of, IsIndexed, Fits, FitsTarget, FitsRows};
+
+use crate::constant::{constant, slice_indices};
+use crate::draft::{Draft, has_room, number_free, open_digits};
+use crate::fault::ReadFaultKind;
+use crate::segments::Segments;
+use crate::spot::{Spot, Target};
+use crate::stop::Stop;
+use std::alloc::Global;
+
+fn is_ignored(target: &Target) -> bool
+    ensures { result ≡ is_ignored_target target.now }
+{
+    match target {
+        Target::Port(cell, _) => cell.ignored,
+        Target::Left | Target::Right(_) => false,
+    }
+}
+
+/// A constant as a signal.
+fn constant_part(
+    draft: &mut Draft,
+    target: Target,
+    segments: Segments,
+    digits: &[u8],
+) -> Result<Spot, Stop>
+    requires target { FitsTarget (draft_of draft.old) target }
+    requires rows { FitsRows (draft_of draft.old) segments }
+    ensures step { Gives (λ s. (draft_of draft.new, s)) result (constant_part (draft_of draft.old) target segments digits.now) }
+    ensures fits { IfOk result (λ s. Fits (draft_of draft.new) s) }
+    ensures indexed { IsIndexed draft.old → OnOk result (IsIndexed draft.new) }
+{
+    let mut segments = segments;
+    if digits.is_empty() {
+        return Err(Stop::Fault(ReadFaultKind::Syntax));
+    }
+    if digits.contains(&b'm') {
+        return Err(Stop::Fault(ReadFaultKind::LeftOut));
+    }
+    if is_ignored(&target) {
+        segments.push_plain(digits)?;
+        return Ok(Spot::Part(target, segments));
+    }
+    let count = open_digits(digits);
+    if !has_room(&draft.design, count) {
+        return Err(Stop::Fault(ReadFaultKind::Limit));
+    }
+    let first = draft.design.free();
+    segments.push_numbered(first, digits)?;
+    number_free(&mut draft.design, count as u32);
+    Ok(Spot::Part(target, segments))
+}
+
+/// A signal begins.
+#[tactic(auto, unfolding(crate::specs::Grammar::signal_word))]
+pub fn signal_word(
+    alloc: Global,
+    draft: &mut Draft,
+    target: Target,
+    segments: Segments,
+    word: &[u8],
+) -> Result<Spot, Stop>
+    requires target { FitsTarget (draft_of draft.old) target }
+    requires rows { FitsRows (draft_of draft.old) segments }
+    ensures step { Gives (λ s. (draft_of draft.new, s)) result (signal_word (draft_of draft.old) target segments word.now) }
+    ensures fits { IfOk result (λ s. Fits (draft_of draft.new) s) }
+    ensures indexed { IsIndexed draft.old → OnOk result (IsIndexed draft.new) }
+{
+    if word == b"{".as_slice() {
+        let mut segments = segments;
+        segments.open()?;
+        return Ok(Spot::Signal(target, segments));
+    }
+    let digits = constant(alloc, 1, word)?;
+    constant_part(draft, target, segments, digits.as_slice())
+}
+
+/// A wire as a signal.
+#[tactic(auto, unfolding(crate::specs::Grammar::signal_name))]
+pub fn signal_name(
+    draft: &Draft,
+    target: Target,
+    segments: Segments,
+    name: &str,
+) -> Result<Spot, Stop>
+    requires indexed { IsIndexed draft.now }
+    requires target { FitsTarget (draft_of draft.now) target }
+    requires rows { FitsRows (draft_of draft.now) segments }
+    ensures step { Gives (λ s. (draft_of draft.now, s)) result (signal_name (draft_of draft.now) target segments name.now) }
+    ensures fits { IfOk result (λ s. Fits (draft_of draft.now) s) }
+{
+    let Some(place) = draft.wires.place(name) else {
+        return Err(Stop::Fault(ReadFaultKind::UnknownWire));
+    };
+    let wires = draft.design.wires();
+    let mut segments = segments;
+    segments.push_wire(place as u32, wires[place].width())?;
+    Ok(Spot::Part(target, segments))
+}
+
+pub fn begins_slice(word: &[u8]) -> bool
+    ensures { result ≡ begins_slice word.now }
+{
+    matches!(word, [b'[', ..])
+}
+
+/// Why bits `high` down to `low` aren't in a row of so many bits.
+fn slice_fault(width: usize, high: u64, low: u64) -> Option<ReadFaultKind>
+    ensures fault { (n m : ℕ) → high ≡ min n 18446744073709551615 → low ≡ min m 18446744073709551615 → result ≡ slice_fault width n m }
+    ensures within { result ≡ None → (low ≤ high) × (high < width) × (high < 18446744073709551615) }
+{
+    if high >= width as u64 || low >= width as u64 {
+        return Some(ReadFaultKind::Index);
+    }
+    if low > high {
+        return Some(ReadFaultKind::Syntax);
+    }
+    None
+}
+
+/// A slice of the last row.
+pub fn slice(alloc: Global, segments: Segments, word: &[u8]) -> Result<Segments, Stop>
+    requires { 1 ≤ length segments }
+    ensures { (row : List SigBit) (rows : List (List SigBit)) → segments ≡ row ∷ rows
+        → Gives (λ s. s) result (slice_word row word.now ⊳ λ part. Ok (part ∷ rows)) }
+{
+    let mut segments = segments;
+    let Some((high, low)) = slice_indices(word) else {
+        return Err(Stop::Fault(ReadFaultKind::Syntax));
+    };
+    if let Some(kind) = slice_fault(segments.width(), high, low) {
+        return Err(Stop::Fault(kind));
+    }
+    segments.slice(alloc, high as usize, low as usize)?;
+    Ok(segments)
+}

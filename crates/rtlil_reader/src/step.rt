@@ -1,0 +1,123 @@
+// What each word makes of what is read before it.
+
+ghost use Rattle.std.specs.Prelude.{◌≡◌, true, IfOk, OnOk, slice_index};
+ghost use Rattle.rtlil_reader.specs.Grammar.{name_step, step, word_step};
+ghost use Rattle.rtlil_reader.specs.Drafts.{Gives, draft_of, IsIndexed, Fits};
+
+use crate::cell_text::{
+    cell_line, cell_name, cell_parameter, parameter_name, port_name, starts_name,
+};
+use crate::constant::{constant, is_constant, is_number};
+use crate::draft::{Draft, add_wire, new_draft};
+use crate::fault::ReadFaultKind;
+use crate::kinds::{is_ignored, kind};
+use crate::module_text::{
+    attribute_value, file_line, is_form, line, module_value, part_name, part_word, wire_number,
+    wire_option,
+};
+use crate::signal_text::{signal_name, signal_word};
+use crate::spot::{Attributes, Spot};
+use crate::stop::Stop;
+use std::alloc::Global;
+
+/// A word that is no name.
+#[tactic(auto, unfolding(crate::specs::Grammar::word_step))]
+fn word_step(alloc: Global, draft: &mut Draft, spot: Spot, word: &[u8]) -> Result<Spot, Stop>
+    requires fits { Fits (draft_of draft.old) spot }
+    ensures step { Gives (λ s. (draft_of draft.new, s)) result (word_step (draft_of draft.old) spot word.now) }
+    ensures fits { IfOk result (λ s. Fits (draft_of draft.new) s) }
+    ensures indexed { IsIndexed draft.old → OnOk result (IsIndexed draft.new) }
+{
+    match spot {
+        Spot::File(behind) => file_line(draft, behind, word),
+        Spot::AutoIdx(behind) if is_number(word) => Ok(Spot::File(behind)),
+        Spot::FileValue(behind) if is_constant(0, word) => Ok(Spot::File(behind)),
+        Spot::Line(attributes) => line(alloc, draft, attributes, word),
+        Spot::Value(attributes, is_init) => {
+            attribute_value(alloc, draft, attributes, is_init, word)
+        }
+        Spot::ModuleParameter if is_form(word) => Ok(Spot::ModuleParameterName),
+        Spot::ModuleParameterValue => module_value(alloc, draft, word),
+        Spot::WireOption(attributes, options) => wire_option(draft, attributes, options, word),
+        Spot::WireNumber(attributes, options, option) => {
+            wire_number(draft, attributes, options, option, word)
+        }
+        Spot::CellLine(cell) => cell_line(alloc, draft, cell, word),
+        Spot::CellParameter(cell) if is_form(word) => Ok(Spot::CellParameterName(cell)),
+        Spot::CellParameterValue(cell, label) => {
+            let digits = constant(alloc, 1, word)?;
+            cell_parameter(alloc, draft, cell, label, digits.as_slice())
+        }
+        Spot::Signal(target, segments) => signal_word(alloc, draft, target, segments, word),
+        Spot::Part(target, segments) => part_word(alloc, draft, target, segments, word),
+        _ => Err(Stop::Fault(ReadFaultKind::Syntax)),
+    }
+}
+
+/// The module's name.
+#[tactic(auto, unfolding(crate::specs::Grammar::name_step))]
+fn module_name(alloc: Global, draft: &mut Draft, name: &str) -> Result<Spot, Stop>
+    ensures step { Gives (λ s. (draft_of draft.new, s)) result (name_step (draft_of draft.old) Spot.Module name.now) }
+    ensures fits { IfOk result (λ s. Fits (draft_of draft.new) s) }
+    ensures indexed { OnOk result (IsIndexed draft.new) }
+{
+    *draft = new_draft(alloc, String::from_str(alloc, name)?);
+    Ok(Spot::Line(Attributes::none(alloc)))
+}
+
+/// A name.
+#[tactic(auto, unfolding(crate::specs::Grammar::name_step))]
+fn name_step<'a>(
+    alloc: Global,
+    draft: &mut Draft<'a>,
+    spot: Spot,
+    name: &'a str,
+) -> Result<Spot, Stop>
+    requires fits { Fits (draft_of draft.old) spot }
+    requires indexed { IsIndexed draft.old }
+    ensures step { Gives (λ s. (draft_of draft.new, s)) result (name_step (draft_of draft.old) spot name.now) }
+    ensures fits { IfOk result (λ s. Fits (draft_of draft.new) s) }
+    ensures indexed { OnOk result (IsIndexed draft.new) }
+{
+    match spot {
+        Spot::FileAttribute(behind) => Ok(Spot::FileValue(behind)),
+        Spot::Module => module_name(alloc, draft, name),
+        Spot::Attribute(attributes) => Ok(Spot::Value(attributes, name == r"\init")),
+        Spot::ModuleParameter | Spot::ModuleParameterName => Ok(Spot::ModuleParameterValue),
+        Spot::WireOption(attributes, options) => {
+            add_wire(alloc, draft, &attributes, options, name)?;
+            Ok(Spot::Line(Attributes::none(alloc)))
+        }
+        Spot::CellType => Ok(Spot::CellName(kind(name), is_ignored(name))),
+        Spot::CellName(kind, ignored) => cell_name(alloc, draft, kind, ignored, name),
+        Spot::CellParameter(cell) | Spot::CellParameterName(cell) => {
+            parameter_name(alloc, draft, cell, name)
+        }
+        Spot::Port(cell) => port_name(alloc, draft, cell, name),
+        Spot::Signal(target, segments) => signal_name(draft, target, segments, name),
+        Spot::Part(target, segments) => part_name(alloc, draft, target, segments, name),
+        _ => Err(Stop::Fault(ReadFaultKind::Syntax)),
+    }
+}
+
+/// One word.
+pub fn step<'a>(
+    alloc: Global,
+    draft: &mut Draft<'a>,
+    spot: Spot,
+    word: &'a [u8],
+) -> Result<Spot, Stop>
+    requires fits { Fits (draft_of draft.old) spot }
+    requires indexed { IsIndexed draft.old }
+    ensures step { Gives (λ s. (draft_of draft.new, s)) result (step (draft_of draft.old) spot word.now) }
+    ensures fits { IfOk result (λ s. Fits (draft_of draft.new) s) }
+    ensures indexed { OnOk result (IsIndexed draft.new) }
+{
+    if !starts_name(word) {
+        return word_step(alloc, draft, spot, word);
+    }
+    match str::from_utf8(word) {
+        Ok(name) => name_step(alloc, draft, spot, name),
+        Err(_) => Err(Stop::Fault(ReadFaultKind::NotUtf8Name)),
+    }
+}
