@@ -6,7 +6,7 @@ use Rattle.std.specs.Prelude.{slice_index}
 use Rattle.memchr.specs.Find.{is_byte}
 use Rattle.cert_wire.specs.Text.{lines_of, put_first, last_ending}
 use Rattle.cert_wire.specs.Reading.{LinesOf, left}
-use Rattle.cert_wire.specs.Stream.{sayings_from, text_sayings}
+use Rattle.cert_wire.specs.Stream.{amid_after, sayings_from, text_sayings}
 use Rattle.cert_wire.specs.declared.words.Ending.{Ending}
 use Rattle.cert_wire.specs.declared.words.Ending.TheVariants.{Feed}
 use Rattle.cert_wire.specs.declared.saying.Saying.{Saying}
@@ -41,40 +41,42 @@ some_line (b ∷ bytes) =
       | inr e ↦ let w = some_line bytes in (b ∷ w.0, w.1, rw e (ap (put_first b) w.2))
     ]
 
-pub line_said : (vars : ℕ) (ending : Ending) (start : ℕ) (text bytes : List ℕ)
-    → sayings_from vars ending start (text ∷ lines_of bytes) ≡ text_sayings vars Feed start text ++ sayings_from vars ending (start + length text + 1) (lines_of bytes)
-line_said vars ending start text bytes = let w = some_line bytes in rw w.2 refl
+pub line_said : (vars : ℕ) (ending : Ending) (amid : Bool) (start : ℕ) (text bytes : List ℕ)
+    → sayings_from vars ending amid start (text ∷ lines_of bytes)
+    ≡ text_sayings vars Feed amid start text ++ sayings_from vars ending (amid_after amid (text_sayings vars Feed amid start text)) (start + length text + 1) (lines_of bytes)
+line_said vars ending amid start text bytes = let w = some_line bytes in rw w.2 refl
 
 pub no_feed_found : (bytes : List ℕ) (n : ℕ) → ((k : ℕ) → 0 ≤ k → k < n → is_byte 10 (slice_index bytes k) ≡ true → ⊥) → NoFeed bytes n
 no_feed_found bytes n h = record { before = λ k l. elim (cases_Bool (eqb (get_or bytes k 0) 10)) [ inl t ↦ absurd (h k (omega arith) l t) | inr f ↦ f ] }
 
-abbrev lines_at : ℕ → List ℕ → Bool → ℕ → Bool → LinesOf
-lines_at vars bytes ended start over = record { vars = vars; ended = ended; start = start; rest = drop start bytes; over = over }
+abbrev lines_at : ℕ → List ℕ → Bool → Bool → ℕ → Bool → LinesOf
+lines_at vars bytes ended amid start over = record { vars = vars; ended = ended; amid = amid; start = start; rest = drop start bytes; over = over }
 
 abbrev what_is_left : List ℕ → ℕ → List ℕ
 what_is_left bytes start = take (length bytes - start) (drop start bytes)
 
 -- what a line with a line feed says, and what is left behind it
-pub left_fed : (vars : ℕ) (bytes : List ℕ) (ended : Bool) (start : ℕ) (over : Bool) (n : ℕ) (said : List Saying) → over ≡ false → n < length (what_is_left bytes start)
+pub left_fed : (vars : ℕ) (bytes : List ℕ) (ended amid after : Bool) (start : ℕ) (over : Bool) (n : ℕ) (said : List Saying) → over ≡ false → n < length (what_is_left bytes start)
     → eqb (slice_index (what_is_left bytes start) n) 10 ≡ true → ((k : ℕ) → 0 ≤ k → k < n → is_byte 10 (slice_index (what_is_left bytes start) k) ≡ true → ⊥)
-    → said ≡ text_sayings vars Feed start (take n (what_is_left bytes start))
-    → left (lines_at vars bytes ended start over) ≡ said ++ left (lines_at vars bytes ended (start + (n + 1)) over)
-left_fed vars bytes ended start over n said o = fed (what_is_left bytes start) (take_rest bytes start)
+    → said ≡ text_sayings vars Feed amid start (take n (what_is_left bytes start)) → after ≡ amid_after amid said
+    → left (lines_at vars bytes ended amid start over) ≡ said ++ left (lines_at vars bytes ended after (start + (n + 1)) over)
+left_fed vars bytes ended amid after start over n said o = fed (what_is_left bytes start) (take_rest bytes start)
   where
     fed : (all : List ℕ) → all ≡ drop start bytes → n < length all → eqb (slice_index all n) 10 ≡ true → ((k : ℕ) → 0 ≤ k → k < n → is_byte 10 (slice_index all k) ≡ true → ⊥)
-        → said ≡ text_sayings vars Feed start (take n all) → left (lines_at vars bytes ended start over) ≡ said ++ left (lines_at vars bytes ended (start + (n + 1)) over)
-    fed all e h f b s =
+        → said ≡ text_sayings vars Feed amid start (take n all) → after ≡ amid_after amid said
+        → left (lines_at vars bytes ended amid start over) ≡ said ++ left (lines_at vars bytes ended after (start + (n + 1)) over)
+    fed all e h f b s m =
         let cut = line_cut all n h f (no_feed_found all n b) in
         let len : start + length (take n all) + 1 ≡ start + (n + 1) = omega (arith, length-take-le n all (omega arith)) in
         let rest : drop (suc n) all ≡ drop (start + (n + 1)) bytes = ap (drop (suc n)) e ∙ drop-drop (suc n) start bytes ∙ ap (λ k. drop k bytes) (omega arith) in
-        rw (o, s, ← e, cut, line_said, len, rest) refl
+        rw (o, m, s, ← e, cut, line_said, len, rest) refl
 
 -- what the last line says
-pub left_last : (vars : ℕ) (bytes : List ℕ) (ended : Bool) (start : ℕ) (over : Bool) (said : List Saying) → over ≡ false
+pub left_last : (vars : ℕ) (bytes : List ℕ) (ended amid : Bool) (start : ℕ) (over : Bool) (said : List Saying) → over ≡ false
     → ((k : ℕ) → 0 ≤ k → k < length (what_is_left bytes start) → is_byte 10 (slice_index (what_is_left bytes start) k) ≡ true → ⊥)
-    → said ≡ text_sayings vars (last_ending ended) start (what_is_left bytes start) → left (lines_at vars bytes ended start over) ≡ said ++ []
-left_last vars bytes ended start over said o = last (what_is_left bytes start) (take_rest bytes start)
+    → said ≡ text_sayings vars (last_ending ended) amid start (what_is_left bytes start) → left (lines_at vars bytes ended amid start over) ≡ said ++ []
+left_last vars bytes ended amid start over said o = last (what_is_left bytes start) (take_rest bytes start)
   where
     last : (all : List ℕ) → all ≡ drop start bytes → ((k : ℕ) → 0 ≤ k → k < length all → is_byte 10 (slice_index all k) ≡ true → ⊥)
-        → said ≡ text_sayings vars (last_ending ended) start all → left (lines_at vars bytes ended start over) ≡ said ++ []
+        → said ≡ text_sayings vars (last_ending ended) amid start all → left (lines_at vars bytes ended amid start over) ≡ said ++ []
     last all e b s = rw (o, ← e, line_whole all (no_feed_found all (length all) b), append-nil) (sym s)

@@ -3,3 +3,8 @@ pub mod Numbers
 pub mod Cuts
 pub mod Within
 pub mod GoingOn
+pub mod Fitting
+pub mod Steps
+pub mod FirstFault
+pub mod Completing
+pub mod Beginnings

@@ -4,11 +4,17 @@ use Rattle.std.specs.Str.Parse.{digits_value}
 use Rattle.cert_wire.specs.Text.{is_blank, last_ending, lines_of, is_number}
 use Rattle.cert_wire.specs.Stream.{sayings_from}
 use Rattle.cert_wire.specs.declared.saying.Saying.{Saying}
-use Rattle.cert_wire.specs.declared.saying.Saying.TheVariants.{Clause, BadLine}
-use Rattle.cert_wire.specs.declared.line.Said.{Said}
-use Rattle.cert_wire.specs.declared.line.Said.TheVariants.{Nothing, Clause as OneClause, ClauseThenBad, BadLine as OneBadLine}
+use Rattle.cert_wire.specs.declared.saying.Saying.TheVariants.{Fault}
+use Rattle.cert_wire.specs.declared.saying.WireFault.{WireFault}
+use Rattle.cert_wire.specs.declared.list.Said.{Said}
+use Rattle.cert_wire.specs.declared.list.Said.TheVariants.{Nothing, One, ThenFault}
 
--- how many visible bytes stand at the front
+-- how much white space stands at the front
+abbrev pub blanks_before : List ℕ → ℕ
+blanks_before [] = 0
+blanks_before (b ∷ bs) = cond (is_blank b) (suc (blanks_before bs)) 0
+
+-- how many visible bytes stand there
 abbrev pub visible_before : List ℕ → ℕ
 visible_before [] = 0
 visible_before (b ∷ bs) = cond (is_blank b) 0 (suc (visible_before bs))
@@ -25,27 +31,28 @@ number_upto most digits = cond (is_number digits && leb (digits_value 10 digits)
 -- what a line said
 abbrev pub sayings_of : Said → List Saying
 sayings_of Nothing = []
-sayings_of (OneClause line) = Clause line ∷ []
-sayings_of (ClauseThenBad line) = Clause line ∷ BadLine line.place ∷ []
-sayings_of (OneBadLine place) = BadLine place ∷ []
+sayings_of (One s) = s ∷ []
+sayings_of (ThenFault s f) = s ∷ Fault f ∷ []
 
--- the lines that are left: their bytes, the number of the first of these in the stream, and whether all lines were read
+-- the lines that are left: their bytes, the number of the first of these in the stream, whether they come amid values, and whether
+-- all lines were read
 pub record LinesOf : Type 0 where
   pub vars : ℕ
   pub ended : Bool
+  pub amid : Bool
   pub start : ℕ
   pub rest : List ℕ
   pub over : Bool
 
 -- what they say
 abbrev pub left : LinesOf → List Saying
-left l = cond l.over [] (sayings_from l.vars (last_ending l.ended) l.start (lines_of l.rest))
+left l = cond l.over [] (sayings_from l.vars (last_ending l.ended) l.amid l.start (lines_of l.rest))
 
 -- one more than the bytes that are left, or none
 abbrev pub lines_left : LinesOf → ℕ
 lines_left l = cond l.over 0 (1 + length l.rest)
 
 -- what is still to be said of a line
-abbrev pub late : Option ℕ → List Saying
+abbrev pub late : Option WireFault → List Saying
 late None = []
-late (Some place) = BadLine place ∷ []
+late (Some f) = Fault f ∷ []

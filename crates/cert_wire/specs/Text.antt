@@ -38,27 +38,22 @@ is_open Open = true
 is_open Feed = false
 is_open End = false
 
-abbrev pub grow_first : ℕ → List Word → List Word
-grow_first b [] = []
-grow_first b (w ∷ ws) = record { text = b ∷ w.text; done = w.done } ∷ ws
+abbrev pub grow_first : ℕ → ℕ → List Word → List Word
+grow_first at b [] = []
+grow_first at b (w ∷ ws) = record { place = at; text = b ∷ w.text; done = w.done } ∷ ws
 
 -- what comes behind the last line
 abbrev pub last_ending : Bool → Ending
 last_ending true = End
 last_ending false = Open
 
--- the words of a text; `fed` tells whether a line feed follows it
-abbrev pub words_of : Bool → List ℕ → List Word
-words_of fed [] = []
-words_of fed (b ∷ []) = cond (is_blank b) [] (record { text = b ∷ []; done = fed } ∷ [])
-words_of fed (b ∷ c ∷ bs) =
-    cond (is_blank b) (words_of fed (c ∷ bs))
-    (cond (is_blank c) (record { text = b ∷ []; done = true } ∷ words_of fed (c ∷ bs)) (grow_first b (words_of fed (c ∷ bs))))
-
--- how much white space stands before a text's first visible byte
-abbrev pub blanks_before : List ℕ → ℕ
-blanks_before [] = 0
-blanks_before (b ∷ bs) = cond (is_blank b) (suc (blanks_before bs)) 0
+-- the words of a text whose first byte is byte number `at`; `fed` tells whether a line feed follows it
+abbrev pub words_of : Bool → ℕ → List ℕ → List Word
+words_of fed at [] = []
+words_of fed at (b ∷ []) = cond (is_blank b) [] (record { place = at; text = b ∷ []; done = fed } ∷ [])
+words_of fed at (b ∷ c ∷ bs) =
+    cond (is_blank b) (words_of fed (suc at) (c ∷ bs))
+    (cond (is_blank c) (record { place = at; text = b ∷ []; done = true } ∷ words_of fed (suc at) (c ∷ bs)) (grow_first at b (words_of fed (suc at) (c ∷ bs))))
 
 -- a decimal number without a leading 0
 abbrev pub is_number : List ℕ → Bool

@@ -1,10 +1,12 @@
 // Laws of what streams say.
 
-ghost use Rattle.std.specs.Prelude.{◌≡◌, ◌++◌, ℕ, Bool, true, false, List};
+ghost use Rattle.std.specs.Prelude.{◌≡◌, ◌++◌, ◌+◌, ◌<◌, ℕ, Bool, true, false, List, length, take};
 ghost use Rattle.cert_wire.specs.Stream.{AreWithin, sayings};
+ghost use Rattle.cert_wire.specs.Beginning.{Begins, HasFault, HasNoFault};
 ghost use Rattle.cert_wire.specs.declared.saying.Saying.{Saying};
+ghost use Rattle.cert_wire.specs.declared.saying.WireFault.{WireFault};
 
-/// The clauses of a stream have variables from 1 to `vars`.
+/// The literals of a stream have variables from 1 to `vars`.
 pub fn sayings_are_within()
     ensures { (vars : ℕ) (ended : Bool) (bytes : List ℕ) → AreWithin vars (sayings vars ended bytes) }
 {}
@@ -13,4 +15,14 @@ pub fn sayings_are_within()
 pub fn sayings_go_on()
     ensures goes_on { (vars : ℕ) (bytes rest : List ℕ) → (more : List Saying) × (sayings vars false (bytes ++ rest) ≡ sayings vars false bytes ++ more) }
     ensures ends { (vars : ℕ) (bytes : List ℕ) → (more : List Saying) × (sayings vars true bytes ≡ sayings vars false bytes ++ more) }
+{}
+
+/// A fault's byte is the number of bytes of the longest part of the stream with which some stream begins. Where there is no
+/// fault, some stream begins with all bytes.
+pub fn fault_is_first()
+    ensures within { (vars : ℕ) (ended : Bool) (bytes : List ℕ) (f : WireFault) → HasFault (sayings vars ended bytes) f → f.byte < length bytes }
+    ensures before { (vars : ℕ) (ended : Bool) (bytes : List ℕ) (f : WireFault) → HasFault (sayings vars ended bytes) f → Begins vars (take f.byte bytes) }
+    ensures past { (vars : ℕ) (ended : Bool) (bytes : List ℕ) (f : WireFault) → HasFault (sayings vars ended bytes) f
+        → Begins vars (take (f.byte + 1) bytes) → ⊥ }
+    ensures none { (vars : ℕ) (ended : Bool) (bytes : List ℕ) → HasNoFault (sayings vars ended bytes) → Begins vars bytes }
 {}

@@ -3,11 +3,14 @@
 
 mod laws;
 mod line;
+mod list;
 mod literal;
 mod reader;
 mod saying;
+#[cfg(test)]
+mod tests;
 mod words;
 
-pub use laws::{sayings_are_within, sayings_go_on};
+pub use laws::{fault_is_first, sayings_are_within, sayings_go_on};
 pub use reader::Reader;
-pub use saying::{ClauseLine, Saying};
+pub use saying::{LiteralLine, Saying, WireFault, WireFaultKind};

@@ -5,26 +5,26 @@ ghost use Rattle.std.specs.Prelude.{◌≡◌};
 use cnf_form::Lit;
 use std::marker::Model;
 
-/// A clause, and the place in the stream of its line's first visible byte, counted from 0.
+/// Literals, and the place in the stream of their line's first visible byte, counted from 0.
 #[derive(Drop)]
-pub struct ClauseLine {
+pub struct LiteralLine {
     place: u64,
     lits: Vec<Lit>,
 }
 
-impl Model for ClauseLine {
-    ghost use Rattle.cert_wire.specs.Line.{ClauseLineOf};
+impl Model for LiteralLine {
+    ghost use Rattle.cert_wire.specs.Line.{LiteralLineOf};
 
-    ghost Value = { ClauseLineOf };
+    ghost Value = { LiteralLineOf };
 
     ghost view = { λ c. record { place = c.place; lits = c.lits.items } };
 }
 
-impl ClauseLine {
-    pub(crate) fn new(place: u64, lits: Vec<Lit>) -> ClauseLine
+impl LiteralLine {
+    pub(crate) fn new(place: u64, lits: Vec<Lit>) -> LiteralLine
         ensures { result ≡ record { place = place; lits = lits.items } }
     {
-        ClauseLine { place, lits }
+        LiteralLine { place, lits }
     }
 
     /// The place of its line's first visible byte.
@@ -42,11 +42,38 @@ impl ClauseLine {
     }
 }
 
+/// What is wrong where no stream goes on.
+#[derive(Clone, Copy, Debug, PartialEq, Eq)]
+pub enum WireFaultKind {
+    /// The line's kind, its end, or what stands behind its 0.
+    BadLine,
+    /// A word of a list is neither 0 nor a literal.
+    BadLiteral,
+    /// A line has more literals than there are variables.
+    LineTooLong,
+}
+
+/// A fault: no stream begins with the bytes up to and with byte number `byte`, counted from 0, but some stream begins with those
+/// before it.
+#[derive(Clone, Copy, Debug, PartialEq, Eq)]
+pub struct WireFault {
+    pub kind: WireFaultKind,
+    pub byte: u64,
+}
+
 /// What a line of a stream says.
 #[derive(Drop)]
 pub enum Saying {
     /// A clause.
-    Clause(ClauseLine),
-    /// No stream begins as this line does. The place is that of its first visible byte, counted from 0.
-    BadLine(u64),
+    Clause(LiteralLine),
+    /// A clause is deleted.
+    Delete(LiteralLine),
+    /// Literals that are true, of a line without its 0: more may come.
+    Values(LiteralLine),
+    /// Literals that are true, the last ones.
+    LastValues(LiteralLine),
+    /// The engine doesn't know.
+    Unknown,
+    /// No stream goes on.
+    Fault(WireFault),
 }

@@ -1,8 +1,8 @@
 // The words of a line.
 
-ghost use Rattle.std.specs.Prelude.{◌≡◌, ◌≤◌, [], ◌∷◌, length, MatchOption, codes, bytes_eq};
-ghost use Rattle.cert_wire.specs.Text.{is_blank, blanks_before, is_feed, is_end, is_open, last_ending};
-ghost use Rattle.cert_wire.specs.Reading.{is_followed, visible_before};
+ghost use Rattle.std.specs.Prelude.{◌≡◌, ◌≤◌, ◌<◌, ◌+◌, ◌^◌, [], ◌∷◌, length, IfSome, MatchOption, codes, bytes_eq};
+ghost use Rattle.cert_wire.specs.Text.{is_blank, is_feed, is_end, is_open, last_ending};
+ghost use Rattle.cert_wire.specs.Reading.{blanks_before, is_followed, visible_before};
 
 use std::marker::Model;
 
@@ -82,9 +82,10 @@ fn is_followed(rest: &[u8], fed: bool) -> bool
     }
 }
 
-/// A run of visible bytes, and whether white space or a line feed follows it.
+/// A run of visible bytes, the number of its first byte in the stream, and whether white space or a line feed follows it.
 #[derive(Drop)]
 pub struct Word<'a> {
+    place: u64,
     text: &'a [u8],
     done: bool,
 }
@@ -94,10 +95,16 @@ impl<'a> Model for Word<'a> {
 
     ghost Value = { Word };
 
-    ghost view = { λ w. record { text = w.text.now; done = w.done } };
+    ghost view = { λ w. record { place = w.place; text = w.text.now; done = w.done } };
 }
 
 impl<'a> Word<'a> {
+    pub fn place(&self) -> u64
+        ensures { result ≡ self.now.place }
+    {
+        self.place
+    }
+
     pub fn text(&self) -> &'a [u8]
         ensures { result.now ≡ self.now.text }
     {
@@ -121,41 +128,54 @@ impl<'a> Word<'a> {
 #[derive(Drop)]
 pub struct Words<'a> {
     rest: &'a [u8],
+    at: u64,
     fed: bool,
 }
 
 impl<'a> Model for Words<'a> {
-    ghost use Rattle.std.specs.Prelude.{List};
+    ghost use Rattle.std.specs.Prelude.{List, ◌+◌, ◌<◌, ◌^◌, length};
     ghost use Rattle.cert_wire.specs.Word.{Word};
     ghost use Rattle.cert_wire.specs.Text.{words_of};
 
     ghost Value = { List Word };
 
-    ghost view = { λ a. words_of a.fed a.rest.now };
+    ghost view = { λ a. words_of a.fed a.at a.rest.now };
+
+    ghost invariant = { λ a. a.at + length a.rest.now < 2 ^ 64 };
 }
 
 ghost use Rattle.cert_wire.specs.Text.{words_of};
 
 impl<'a> Words<'a> {
-    /// The words of a text; `fed` tells whether a line feed follows it.
-    pub fn new(text: &'a [u8], fed: bool) -> Self
-        ensures { result ≡ words_of fed text.now }
+    /// The words of a text, whose first byte is byte number `at` of the stream; `fed` tells whether a line feed follows it.
+    pub fn new(text: &'a [u8], at: u64, fed: bool) -> Self
+        requires { at + length text.now < 2 ^ 64 }
+        ensures { result ≡ words_of fed at text.now }
     {
-        Words { rest: text, fed }
+        Words {
+            rest: text,
+            at,
+            fed,
+        }
     }
 
     /// The next word, if there is one.
     pub fn next(&mut self) -> Option<Word<'a>>
-        ensures { MatchOption result (self.old ≡ []) (λ w. self.old ≡ w ∷ self.new) }
+        ensures next { MatchOption result (self.old ≡ []) (λ w. self.old ≡ w ∷ self.new) }
+        ensures within { IfSome result (λ w. w.place + length w.text < 2 ^ 64) }
+        ensures visible { IfSome result (λ w. 0 < length w.text) }
     {
-        let visible = &self.rest[blanks_before(self.rest)..];
+        let blanks = blanks_before(self.rest);
+        let visible = &self.rest[blanks..];
         if visible.is_empty() {
             return None;
         }
         let length = visible_before(visible);
         let (text, rest) = visible.split_at(length);
         let done = is_followed(rest, self.fed);
+        let place = self.at + blanks as u64;
         self.rest = rest;
-        Some(Word { text, done })
+        self.at = place + length as u64;
+        Some(Word { place, text, done })
     }
 }

@@ -1,35 +1,66 @@
 -- What sayings come to, and what that is worth.
-use Rattle.std.proofs.Common.{◌≡◌, ◌≢◌, ℕ, ◌<◌, ◌≤◌, Bool, true, false, leb, List, [], ◌∷◌, ◌++◌, length, take, Some, None, refl, sym, ap, subst, inl, inr, arith, ◌⊎◌}
-use Rattle.std.specs.Prelude.{Option, MatchOption, Result, Ok, Err, IfOk, Contains}
+use Rattle.std.proofs.Common.{◌≡◌, ℕ, ◌<◌, ◌≤◌, Bool, true, false, leb, List, [], ◌∷◌, ◌++◌, length, take, Some, None, refl, subst, inl, inr, arith, ◌⊎◌}
+use Rattle.std.specs.Prelude.{Option, Contains}
 use Rattle.std.proofs.lemmas.Bool.{cases_Bool, leb-true, leb-false}
-use Rattle.std.proofs.lemmas.List.Elements.{Contains-push_cases}
-use Rattle.cnf_form.specs.Cnf.{LitOf, FormulaOf, Assignment, Satisfies, SatisfiesClause, IsUnsatisfiable, IsAdmitted}
-use Rattle.cnf_form.specs.Dimacs.{IsDimacs}
+use Rattle.cnf_form.specs.Cnf.{LitOf, FormulaOf, Assignment, IsUnsatisfiable, IsAdmitted, Deletes}
 use Rattle.cnf_form.proofs.Rup.{Admitted-true, Satisfies-push}
 use Rattle.cnf_form.proofs.Members.{Contains-empty}
-use Rattle.cert_wire.specs.Line.{ClauseLineOf}
-use Rattle.cert_wire.specs.Stream.{sayings}
+use Rattle.cnf_form.proofs.Removal.{Deletes-within}
+use Rattle.cert_wire.specs.Line.{LiteralLineOf}
+use Rattle.cert_wire.specs.Stream.{AreWithin, sayings}
 use Rattle.cert_wire.specs.declared.saying.Saying.{Saying}
-use Rattle.cert_wire.specs.declared.saying.Saying.TheVariants.{Clause, BadLine}
+use Rattle.cert_wire.specs.declared.saying.Saying.TheVariants.{Clause, Delete, Values, LastValues, Unknown as IsUnknown, Fault}
 use Rattle.sby_terms.specs.declared.names.Answer.TheVariants.{Unsat}
-use Rattle.judge.specs.declared.stream.BadCert.{BadCert}
-use Rattle.judge.specs.declared.stream.CertKind.TheVariants.{NotRup, EarlyEnd, TooLong}
+use Rattle.judge.specs.declared.stream.CertKind.TheVariants.{NotRup}
 use Rattle.judge.specs.declared.judging.Came.{Came}
-use Rattle.judge.specs.declared.judging.Came.TheVariants.{Refuted, Bad as CameBad}
-use Rattle.judge.specs.Fate.{Fate, Found, Bad, ComesTo, FateSoFar, FateOf}
+use Rattle.judge.specs.declared.judging.Came.TheVariants.{Refuted, Unknown as CameUnknown, Bad as CameBad}
+use Rattle.judge.specs.Fate.{Fate, Found, Bad, Comes, ComesTo, ValuesComeTo, FateSoFar, FateOf}
+use Rattle.judge.specs.Values.{bits_in, named_from, unnamed}
 use Rattle.judge.specs.Judging.{FateWhere, fate_come, at_end, past_most}
 
 -- at a clause that isn't admitted
-pub not_rup : (F : List (List LitOf)) (ss rest : List Saying) (saying : Saying) (line : ClauseLineOf) (lits : List LitOf) (place : ℕ) → ss ≡ saying ∷ rest → saying ≡ Clause line
-    → (IsAdmitted F lits → ⊥) → lits ≡ line.lits → place ≡ line.place → ComesTo F ss (Some (Bad NotRup place))
-not_rup F ss rest saying line lits place e f n g h = rw (e, f, h) (inr (inr (subst (λ c. IsAdmitted F c → ⊥) g n, refl)))
+pub not_rup : (C F : List (List LitOf)) (x : Assignment) (ss rest : List Saying) (saying : Saying) (line : LiteralLineOf) (lits : List LitOf) (place : ℕ) → ss ≡ saying ∷ rest → saying ≡ Clause line
+    → (IsAdmitted F lits → ⊥) → lits ≡ line.lits → place ≡ line.place → ComesTo C F x ss (Some (Bad NotRup place))
+not_rup C F x ss rest saying line lits place e f n g h = rw (e, f, h) (inr (inr (subst (λ c. IsAdmitted F c → ⊥) g n, refl)))
 
-pub refuted : (F : List (List LitOf)) (ss : List Saying) → ComesTo F ss (Some (Found Unsat)) → IsUnsatisfiable F
-refuted F [] e x s = cc
-refuted F (BadLine place ∷ ss) e x s = cc
-refuted F (Clause c ∷ ss) (inl (a, n, e)) x s = let t = Admitted-true x F c.lits a s in Contains-empty t.0 (subst (λ z. Contains z t.0) n t.1)
-refuted F (Clause c ∷ ss) (inr (inl (a, n, h))) x s = refuted (F ++ c.lits ∷ []) ss h x (Satisfies-push x F c.lits s (Admitted-true x F c.lits a s))
-refuted F (Clause c ∷ ss) (inr (inr (n, e))) x s = cc
+-- at a deletion
+pub deleted : (C F G : List (List LitOf)) (x : Assignment) (ss rest : List Saying) (saying : Saying) (line : LiteralLineOf) (lits : List LitOf) (fate : Option Fate) → ss ≡ saying ∷ rest → saying ≡ Delete line
+    → lits ≡ line.lits → Deletes F lits G → ComesTo C G x rest fate → ComesTo C F x ss fate
+deleted C F G x ss rest saying line lits fate e f g d h = rw (e, f) (G, subst (λ c. Deletes F c G) g d, h)
+
+same_values : (x y : Assignment) → ((v : ℕ) → x v ≡ y v) → x ≡ y
+same_values x y h = λ i v. h v i
+
+-- at values
+pub more_values : (C F : List (List LitOf)) (x y : Assignment) (ss rest : List Saying) (saying : Saying) (line : LiteralLineOf) (lits : List LitOf) (fate : Option Fate) → ss ≡ saying ∷ rest → saying ≡ Values line
+    → lits ≡ line.lits → ((v : ℕ) → y v ≡ named_from x lits v) → ComesTo C F y rest fate → ComesTo C F x ss fate
+more_values C F x y ss rest saying line lits fate e f g n h = rw (e, f, ← g) (subst (λ z. ComesTo C F z rest fate) (same_values y (named_from x lits) n) h)
+
+pub last_values : (C F : List (List LitOf)) (x y : Assignment) (ss rest : List Saying) (saying : Saying) (line : LiteralLineOf) (lits : List LitOf) (place : ℕ) (fate : Option Fate) → ss ≡ saying ∷ rest
+    → saying ≡ LastValues line → lits ≡ line.lits → place ≡ line.place → ((v : ℕ) → y v ≡ named_from x lits v) → ValuesComeTo C y place fate → ComesTo C F x ss fate
+last_values C F x y ss rest saying line lits place fate e f g p n h = rw (e, f, ← g, ← p) (subst (λ z. ValuesComeTo C z place fate) (same_values y (named_from x lits) n) h)
+
+-- before all sayings no variable is named
+pub from_start : (f : FormulaOf) (F : List (List LitOf)) (bits : List Bool) (ss ts : List Saying) (fate : Option Fate) → F ≡ f.clauses → ss ≡ ts → ((v : ℕ) → bits_in bits v ≡ false)
+    → ComesTo f.clauses F (bits_in bits) ss fate → Comes f ts fate
+from_start f F bits ss ts fate e g n h =
+    let k = subst (λ z. ComesTo f.clauses F z ss fate) (same_values (bits_in bits) unnamed n) h in
+    subst (λ (t : List Saying). Comes f t fate) g (subst (λ (z : List (List LitOf)). ComesTo f.clauses z unnamed ss fate) e k)
+
+pub within_rest : (vars : ℕ) (ss rest : List Saying) (saying : Saying) → ss ≡ saying ∷ rest → AreWithin vars ss → AreWithin vars rest
+within_rest vars ss rest saying e h = let w = rw e at h in w.1
+
+pub refuted : (C F : List (List LitOf)) (x : Assignment) (ss : List Saying) → ComesTo C F x ss (Some (Found Unsat)) → IsUnsatisfiable F
+refuted C F x [] e y s = cc
+refuted C F x (Clause c ∷ ss) (inl (a, n, e)) y s = let t = Admitted-true y F c.lits a s in Contains-empty t.0 (subst (λ z. Contains z t.0) n t.1)
+refuted C F x (Clause c ∷ ss) (inr (inl (a, n, h))) y s = refuted C (F ++ c.lits ∷ []) x ss h y (Satisfies-push y F c.lits s (Admitted-true y F c.lits a s))
+refuted C F x (Clause c ∷ ss) (inr (inr (n, e))) y s = cc
+refuted C F x (Delete c ∷ ss) (G, d, h) y s = refuted C G x ss h y (λ e k. s e (Deletes-within F G c.lits d e k))
+refuted C F x (Values c ∷ ss) h y s = refuted C F (named_from x c.lits) ss h y s
+refuted C F x (LastValues c ∷ ss) (inl (t, e)) y s = cc
+refuted C F x (LastValues c ∷ ss) (inr (n, u, e)) y s = cc
+refuted C F x (IsUnknown ∷ ss) e y s = cc
+refuted C F x (Fault f ∷ ss) e y s = cc
 
 pub sides : (n most : ℕ) → (n ≤ most) ⊎ (most < n)
 sides n most = elim (cases_Bool (leb n most)) [ inl t ↦ inl (leb-true n most t) | inr f ↦ inr (leb-false n most f) ]
@@ -38,9 +69,9 @@ sides n most = elim (cases_Bool (leb n most)) [ inl t ↦ inl (leb-true n most t
 pub refuted_so_far : (f : FormulaOf) (bytes : List ℕ) (most : ℕ) → FateSoFar f bytes most (Some (Found Unsat)) → IsUnsatisfiable f.clauses
 refuted_so_far f bytes most h =
     elim (sides (length bytes) most) [
-      | inl l ↦ refuted f.clauses (sayings f.vars false bytes) (h.within l)
+      | inl l ↦ refuted f.clauses f.clauses unnamed (sayings f.vars false bytes) (h.within l)
       | inr l ↦ elim (h.beyond l) [
-        | inl (x, k, e) ↦ refuted f.clauses (sayings f.vars false (take most bytes)) (rw e k)
+        | inl (x, k, e) ↦ refuted f.clauses f.clauses unnamed (sayings f.vars false (take most bytes)) (rw e k)
         | inr (k, e) ↦ λ x s. cc
       ]
     ]
@@ -49,7 +80,7 @@ pub refuted_at_end : (f : FormulaOf) (bytes : List ℕ) (most : ℕ) → FateOf 
 refuted_at_end f bytes most h =
     elim (sides (length bytes) most) [
       | inl l ↦ elim (h.within l) [
-        | inl k ↦ refuted f.clauses (sayings f.vars true bytes) k
+        | inl k ↦ refuted f.clauses f.clauses unnamed (sayings f.vars true bytes) k
         | inr (k, e) ↦ λ x s. cc
       ]
       | inr l ↦ refuted_so_far f bytes most (h.beyond l)
@@ -65,30 +96,33 @@ come_unsat ended f bytes most come came e g h = unsat_where ended f bytes most (
 
 -- the fate of bytes of which there aren't too many
 within_most : (ended : Bool) (f : FormulaOf) (bytes : List ℕ) (most : ℕ) (come : Option Came) → length bytes ≤ most
-    → ComesTo f.clauses (sayings f.vars ended bytes) (fate_come come) → FateWhere ended f bytes most (fate_come (at_end come ended (length bytes)))
+    → Comes f (sayings f.vars ended bytes) (fate_come come) → FateWhere ended f bytes most (fate_come (at_end come ended (length bytes)))
 within_most true f bytes most None l h = record { within = λ _. inr (h, refl); beyond = λ b. absurd (omega arith) }
 within_most true f bytes most (Some Refuted) l h = record { within = λ _. inl h; beyond = λ b. absurd (omega arith) }
+within_most true f bytes most (Some CameUnknown) l h = record { within = λ _. inl h; beyond = λ b. absurd (omega arith) }
 within_most true f bytes most (Some (CameBad b)) l h = record { within = λ _. inl h; beyond = λ b. absurd (omega arith) }
 within_most false f bytes most None l h = record { within = λ _. h; beyond = λ b. absurd (omega arith) }
 within_most false f bytes most (Some came) l h = record { within = λ _. h; beyond = λ b. absurd (omega arith) }
 
 -- and of bytes of which there are
 past : (f : FormulaOf) (bytes : List ℕ) (most : ℕ) (come : Option Came) → most < length bytes
-    → ComesTo f.clauses (sayings f.vars false (take most bytes)) (fate_come come) → FateSoFar f bytes most (fate_come (Some (past_most come most)))
+    → Comes f (sayings f.vars false (take most bytes)) (fate_come come) → FateSoFar f bytes most (fate_come (Some (past_most come most)))
 past f bytes most None l h = record { within = λ b. absurd (omega arith); beyond = λ _. inr (h, refl) }
 past f bytes most (Some Refuted) l h = record { within = λ b. absurd (omega arith); beyond = λ _. inl (_, h, refl) }
+past f bytes most (Some CameUnknown) l h = record { within = λ b. absurd (omega arith); beyond = λ _. inl (_, h, refl) }
 past f bytes most (Some (CameBad b)) l h = record { within = λ b. absurd (omega arith); beyond = λ _. inl (_, h, refl) }
 
 past_where : (ended : Bool) (f : FormulaOf) (bytes : List ℕ) (most : ℕ) (came : Came) → most < length bytes → FateSoFar f bytes most (fate_come (Some came))
     → FateWhere ended f bytes most (fate_come (Some came))
 past_where true f bytes most Refuted l h = record { within = λ b. absurd (omega arith); beyond = λ _. h }
+past_where true f bytes most CameUnknown l h = record { within = λ b. absurd (omega arith); beyond = λ _. h }
 past_where true f bytes most (CameBad b) l h = record { within = λ b. absurd (omega arith); beyond = λ _. h }
 past_where false f bytes most came l h = h
 
 pub came_within : (ended : Bool) (f : FormulaOf) (bytes taken : List ℕ) (most : ℕ) (come out : Option Came) → taken ≡ bytes → out ≡ at_end come ended (length taken) → length taken ≤ most
-    → ComesTo f.clauses (sayings f.vars ended taken) (fate_come come) → FateWhere ended f bytes most (fate_come out)
+    → Comes f (sayings f.vars ended taken) (fate_come come) → FateWhere ended f bytes most (fate_come out)
 came_within ended f bytes taken most come out e o l h = rw (o, ← e) (within_most ended f taken most come l h)
 
 pub came_past : (ended : Bool) (f : FormulaOf) (bytes taken : List ℕ) (most : ℕ) (come : Option Came) (out : Came) → taken ≡ bytes → out ≡ past_most come most → most < length taken
-    → ComesTo f.clauses (sayings f.vars false (take most taken)) (fate_come come) → FateWhere ended f bytes most (fate_come (Some out))
+    → Comes f (sayings f.vars false (take most taken)) (fate_come come) → FateWhere ended f bytes most (fate_come (Some out))
 came_past ended f bytes taken most come out e o l h = rw (o, ← e) (past_where ended f taken most (past_most come most) l (past f taken most come l h))

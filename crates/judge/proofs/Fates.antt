@@ -1,56 +1,74 @@
 -- Fates: one, none missing, and for good.
-use Rattle.std.proofs.Common.{◌≡◌, ◌≢◌, ℕ, suc, ◌-◌, ◌+◌, ◌<◌, ◌≤◌, Bool, true, false, List, [], ◌∷◌, ◌++◌, length, take, Some, None, refl, sym, ap, ◌∙◌, subst, inl, inr, arith, ◌⊎◌}
+use Rattle.std.proofs.Common.{◌≡◌, ◌≢◌, ℕ, suc, ◌-◌, ◌+◌, ◌<◌, ◌≤◌, true, false, List, [], ◌∷◌, ◌++◌, length, take, Some, None, refl, sym, ap, ◌∙◌, subst, inl, inr, arith, ◌⊎◌}
 use Rattle.std.specs.Prelude.{Option}
-use Rattle.std.proofs.lemmas.List.{take_all, take-append-le, length-append}
-use Rattle.cnf_form.specs.Cnf.{LitOf, FormulaOf, IsAdmitted, IsUnsatisfiable}
+use Rattle.std.proofs.lemmas.List.{take-append-le, length-append}
+use Rattle.cnf_form.specs.Cnf.{LitOf, FormulaOf, Assignment, IsAdmitted, IsUnsatisfiable}
 use Rattle.cnf_form.specs.Dimacs.{IsDimacs}
 use Rattle.cnf_form.proofs.Reading.{IsDimacs-one}
-use Rattle.cert_wire.specs.Text.{lines_of}
-use Rattle.cert_wire.specs.Stream.{sayings, sayings_from}
-use Rattle.cert_wire.specs.declared.words.Ending.TheVariants.{Open, End}
+use Rattle.cert_wire.specs.Stream.{sayings}
 use Rattle.cert_wire.specs.declared.saying.Saying.{Saying}
-use Rattle.cert_wire.specs.declared.saying.Saying.TheVariants.{Clause, BadLine}
-use Rattle.cert_wire.proofs.GoingOn.{lines_go_on}
-use Rattle.std.proofs.lemmas.List.{append-nil}
+use Rattle.cert_wire.specs.declared.saying.Saying.TheVariants.{Clause, Delete, Values, LastValues, Unknown as IsUnknown, Fault}
+use Rattle.cert_wire.proofs.GoingOn.{sayings_more, sayings_end}
 use Rattle.sby_terms.specs.declared.names.Answer.TheVariants.{Unsat}
 use Rattle.judge.specs.declared.stream.CertKind.TheVariants.{EarlyEnd, TooLong}
-use Rattle.judge.specs.Fate.{Fate, Found, Bad, ComesTo, FateSoFar, FateOf, IsFate, IsFateSoFar}
+use Rattle.judge.specs.Values.{named_from, unnamed}
+use Rattle.judge.specs.Fate.{Fate, Found, Bad, Comes, ComesTo, FateSoFar, FateOf, IsFate, IsFateSoFar}
 use Rattle.judge.proofs.Coming.{sides, refuted_at_end}
+use Rattle.judge.proofs.Valuing.{values_once, values_somewhere}
+use Rattle.judge.proofs.Deletions.{Clauses, Alike, alike_itself, alike_admitted, admitted_alike, alike_more, alike_deleted, some_deletion}
 
 -- what is said later changes no fate
-comes_more : (F : List (List LitOf)) (ss more : List Saying) (x : Fate) → ComesTo F ss (Some x) → ComesTo F (ss ++ more) (Some x)
-comes_more F [] more x h = cc
-comes_more F (BadLine place ∷ ss) more x h = h
-comes_more F (Clause c ∷ ss) more x (inl h) = inl h
-comes_more F (Clause c ∷ ss) more x (inr (inl (a, n, h))) = inr (inl (a, n, comes_more (F ++ c.lits ∷ []) ss more x h))
-comes_more F (Clause c ∷ ss) more x (inr (inr h)) = inr (inr h)
+comes_more : (C F : Clauses) (x : Assignment) (ss more : List Saying) (fate : Fate) → ComesTo C F x ss (Some fate) → ComesTo C F x (ss ++ more) (Some fate)
+comes_more C F x [] more fate h = cc
+comes_more C F x (Clause c ∷ ss) more fate (inl h) = inl h
+comes_more C F x (Clause c ∷ ss) more fate (inr (inl (a, n, h))) = inr (inl (a, n, comes_more C (F ++ c.lits ∷ []) x ss more fate h))
+comes_more C F x (Clause c ∷ ss) more fate (inr (inr h)) = inr (inr h)
+comes_more C F x (Delete c ∷ ss) more fate (G, d, h) = (G, d, comes_more C G x ss more fate h)
+comes_more C F x (Values c ∷ ss) more fate h = comes_more C F (named_from x c.lits) ss more fate h
+comes_more C F x (LastValues c ∷ ss) more fate h = h
+comes_more C F x (IsUnknown ∷ ss) more fate h = h
+comes_more C F x (Fault f ∷ ss) more fate h = h
 
-comes_once : (F : List (List LitOf)) (ss : List Saying) (x y : Option Fate) → ComesTo F ss x → ComesTo F ss y → x ≡ y
-comes_once F [] x y h k = h ∙ sym k
-comes_once F (BadLine place ∷ ss) x y h k = h ∙ sym k
-comes_once F (Clause c ∷ ss) x y (inl (a, e, h)) (inl (b, f, k)) = h ∙ sym k
-comes_once F (Clause c ∷ ss) x y (inl (a, e, h)) (inr (inl (b, f, k))) = absurd (f e)
-comes_once F (Clause c ∷ ss) x y (inl (a, e, h)) (inr (inr (b, k))) = absurd (b a)
-comes_once F (Clause c ∷ ss) x y (inr (inl (a, e, h))) (inl (b, f, k)) = absurd (e f)
-comes_once F (Clause c ∷ ss) x y (inr (inl (a, e, h))) (inr (inl (b, f, k))) = comes_once (F ++ c.lits ∷ []) ss x y h k
-comes_once F (Clause c ∷ ss) x y (inr (inl (a, e, h))) (inr (inr (b, k))) = absurd (b a)
-comes_once F (Clause c ∷ ss) x y (inr (inr (a, h))) (inl (b, f, k)) = absurd (a b)
-comes_once F (Clause c ∷ ss) x y (inr (inr (a, h))) (inr (inl (b, f, k))) = absurd (a b)
-comes_once F (Clause c ∷ ss) x y (inr (inr (a, h))) (inr (inr (b, k))) = h ∙ sym k
+-- from the same clauses, whichever copies were deleted
+module _ (C : Clauses) where
+  comes_alike : (F G : Clauses) (v : Assignment) (ss : List Saying) (x y : Option Fate) → Alike F G → ComesTo C F v ss x → ComesTo C G v ss y → x ≡ y
+  comes_alike F G v [] x y w h k = h ∙ sym k
+  comes_alike F G v (Clause c ∷ ss) x y w (inl (a, e, h)) (inl (b, f, k)) = h ∙ sym k
+  comes_alike F G v (Clause c ∷ ss) x y w (inl (a, e, h)) (inr (inl (b, f, k))) = absurd (f e)
+  comes_alike F G v (Clause c ∷ ss) x y w (inl (a, e, h)) (inr (inr (b, k))) = absurd (b (alike_admitted F G c.lits w a))
+  comes_alike F G v (Clause c ∷ ss) x y w (inr (inl (a, e, h))) (inl (b, f, k)) = absurd (e f)
+  comes_alike F G v (Clause c ∷ ss) x y w (inr (inl (a, e, h))) (inr (inl (b, f, k))) =
+      comes_alike (F ++ c.lits ∷ []) (G ++ c.lits ∷ []) v ss x y (alike_more F G c.lits w) h k
+  comes_alike F G v (Clause c ∷ ss) x y w (inr (inl (a, e, h))) (inr (inr (b, k))) = absurd (b (alike_admitted F G c.lits w a))
+  comes_alike F G v (Clause c ∷ ss) x y w (inr (inr (a, h))) (inl (b, f, k)) = absurd (a (admitted_alike F G c.lits w b))
+  comes_alike F G v (Clause c ∷ ss) x y w (inr (inr (a, h))) (inr (inl (b, f, k))) = absurd (a (admitted_alike F G c.lits w b))
+  comes_alike F G v (Clause c ∷ ss) x y w (inr (inr (a, h))) (inr (inr (b, k))) = h ∙ sym k
+  comes_alike F G v (Delete c ∷ ss) x y w (H, d, h) (K, e, k) = comes_alike H K v ss x y (alike_deleted F G H K c.lits w d e) h k
+  comes_alike F G v (Values c ∷ ss) x y w h k = comes_alike F G (named_from v c.lits) ss x y w h k
+  comes_alike F G v (LastValues c ∷ ss) x y w h k = values_once C (named_from v c.lits) c.place x y h k
+  comes_alike F G v (IsUnknown ∷ ss) x y w h k = h ∙ sym k
+  comes_alike F G v (Fault f ∷ ss) x y w h k = h ∙ sym k
+
+comes_once : (f : FormulaOf) (ss : List Saying) (x y : Option Fate) → Comes f ss x → Comes f ss y → x ≡ y
+comes_once f ss x y h k = comes_alike f.clauses f.clauses f.clauses unnamed ss x y (alike_itself f.clauses) h k
 
 empty_or_not : (c : List LitOf) → (c ≡ []) ⊎ (c ≢ [])
 empty_or_not [] = inl refl
 empty_or_not (l ∷ c) = inr (λ e. cc)
 
-comes_somewhere : (F : List (List LitOf)) (ss : List Saying) → ((x : Option Fate) → ComesTo F ss x → ⊥) → ⊥
-comes_somewhere F [] k = k None refl
-comes_somewhere F (BadLine place ∷ ss) k = k _ refl
-comes_somewhere F (Clause c ∷ ss) k =
+comes_somewhere : (C F : Clauses) (v : Assignment) (ss : List Saying) → ((x : Option Fate) → ComesTo C F v ss x → ⊥) → ⊥
+comes_somewhere C F v [] k = k None refl
+comes_somewhere C F v (Clause c ∷ ss) k =
     let unadmitted : IsAdmitted F c.lits → ⊥ = λ a. elim (empty_or_not c.lits) [
       | inl e ↦ k _ (inl (a, e, refl))
-      | inr n ↦ comes_somewhere (F ++ c.lits ∷ []) ss (λ x h. k x (inr (inl (a, n, h))))
+      | inr n ↦ comes_somewhere C (F ++ c.lits ∷ []) v ss (λ x h. k x (inr (inl (a, n, h))))
     ] in
     k _ (inr (inr (unadmitted, refl)))
+comes_somewhere C F v (Delete c ∷ ss) k = some_deletion F c.lits (λ G d. comes_somewhere C G v ss (λ x h. k x (G, d, h)))
+comes_somewhere C F v (Values c ∷ ss) k = comes_somewhere C F (named_from v c.lits) ss k
+comes_somewhere C F v (LastValues c ∷ ss) k = values_somewhere C (named_from v c.lits) c.place k
+comes_somewhere C F v (IsUnknown ∷ ss) k = k _ refl
+comes_somewhere C F v (Fault f ∷ ss) k = k _ refl
 
 take_front : (bytes rest : List ℕ) (n : ℕ) → take (length bytes + n) (bytes ++ rest) ≡ bytes ++ take n rest
 take_front [] rest n = ap (λ k. take k rest) (omega arith)
@@ -58,16 +76,15 @@ take_front (b ∷ bytes) rest n = let e : length (b ∷ bytes) + n ≡ suc (leng
 
 -- of the bytes so far
 module _ (f : FormulaOf) (most : ℕ) where
-  comes_on : (bytes rest : List ℕ) (x : Fate) → ComesTo f.clauses (sayings f.vars false bytes) (Some x) → ComesTo f.clauses (sayings f.vars false (bytes ++ rest)) (Some x)
+  comes_on : (bytes rest : List ℕ) (x : Fate) → Comes f (sayings f.vars false bytes) (Some x) → Comes f (sayings f.vars false (bytes ++ rest)) (Some x)
   comes_on bytes rest x h =
-      let w = lines_go_on f.vars Open 0 bytes rest in
-      subst (λ (z : List Saying). ComesTo f.clauses z (Some x)) (sym w.1) (comes_more f.clauses (sayings f.vars false bytes) w.0 x h)
+      let w = sayings_more f.vars bytes rest in
+      subst (λ (z : List Saying). Comes f z (Some x)) (sym w.1) (comes_more f.clauses f.clauses unnamed (sayings f.vars false bytes) w.0 x h)
 
-  comes_at_end : (bytes : List ℕ) (x : Fate) → ComesTo f.clauses (sayings f.vars false bytes) (Some x) → ComesTo f.clauses (sayings f.vars true bytes) (Some x)
+  comes_at_end : (bytes : List ℕ) (x : Fate) → Comes f (sayings f.vars false bytes) (Some x) → Comes f (sayings f.vars true bytes) (Some x)
   comes_at_end bytes x h =
-      let w = lines_go_on f.vars End 0 bytes [] in
-      let e : sayings f.vars true bytes ≡ sayings f.vars false bytes ++ w.0 = subst (λ (z : List ℕ). sayings_from f.vars End 0 (lines_of z) ≡ sayings f.vars false bytes ++ w.0) (append-nil bytes) w.1 in
-      subst (λ (z : List Saying). ComesTo f.clauses z (Some x)) (sym e) (comes_more f.clauses (sayings f.vars false bytes) w.0 x h)
+      let w = sayings_end f.vars bytes in
+      subst (λ (z : List Saying). Comes f z (Some x)) (sym w.1) (comes_more f.clauses f.clauses unnamed (sayings f.vars false bytes) w.0 x h)
 
   take_past : (bytes rest : List ℕ) → length bytes ≤ most → take most (bytes ++ rest) ≡ bytes ++ take (most - length bytes) rest
   take_past bytes rest h =
@@ -92,19 +109,19 @@ module _ (f : FormulaOf) (most : ℕ) where
 
   abbrev Beyond : List ℕ → Option Fate → Type 0
   Beyond bytes z =
-      ((v : Fate) × ComesTo f.clauses (sayings f.vars false (take most bytes)) (Some v) × (z ≡ Some v))
-      ⊎ (ComesTo f.clauses (sayings f.vars false (take most bytes)) None × (z ≡ Some (Bad TooLong most)))
+      ((v : Fate) × Comes f (sayings f.vars false (take most bytes)) (Some v) × (z ≡ Some v))
+      ⊎ (Comes f (sayings f.vars false (take most bytes)) None × (z ≡ Some (Bad TooLong most)))
 
   one_beyond : (bytes : List ℕ) (x y : Option Fate) → Beyond bytes x → Beyond bytes y → x ≡ y
-  one_beyond bytes x y (inl (v, a, e)) (inl (w, b, g)) = e ∙ comes_once f.clauses (sayings f.vars false (take most bytes)) (Some v) (Some w) a b ∙ sym g
-  one_beyond bytes x y (inl (v, a, e)) (inr (b, g)) = absurd (let q = comes_once f.clauses (sayings f.vars false (take most bytes)) (Some v) None a b in cc)
-  one_beyond bytes x y (inr (a, e)) (inl (w, b, g)) = absurd (let q = comes_once f.clauses (sayings f.vars false (take most bytes)) None (Some w) a b in cc)
+  one_beyond bytes x y (inl (v, a, e)) (inl (w, b, g)) = e ∙ comes_once f (sayings f.vars false (take most bytes)) (Some v) (Some w) a b ∙ sym g
+  one_beyond bytes x y (inl (v, a, e)) (inr (b, g)) = absurd (let q = comes_once f (sayings f.vars false (take most bytes)) (Some v) None a b in cc)
+  one_beyond bytes x y (inr (a, e)) (inl (w, b, g)) = absurd (let q = comes_once f (sayings f.vars false (take most bytes)) None (Some w) a b in cc)
   one_beyond bytes x y (inr (a, e)) (inr (b, g)) = e ∙ sym g
 
   pub one_so_far : (bytes : List ℕ) (x y : Option Fate) → FateSoFar f bytes most x → FateSoFar f bytes most y → x ≡ y
   one_so_far bytes x y h k =
       elim (sides (length bytes) most) [
-        | inl l ↦ comes_once f.clauses (sayings f.vars false bytes) x y (h.within l) (k.within l)
+        | inl l ↦ comes_once f (sayings f.vars false bytes) x y (h.within l) (k.within l)
         | inr l ↦ one_beyond bytes x y (h.beyond l) (k.beyond l)
       ]
 
@@ -112,12 +129,12 @@ module _ (f : FormulaOf) (most : ℕ) where
   some_same x y e = cc
 
   abbrev Within : List ℕ → Fate → Type 0
-  Within bytes z = ComesTo f.clauses (sayings f.vars true bytes) (Some z) ⊎ (ComesTo f.clauses (sayings f.vars true bytes) None × (z ≡ Bad EarlyEnd (length bytes)))
+  Within bytes z = Comes f (sayings f.vars true bytes) (Some z) ⊎ (Comes f (sayings f.vars true bytes) None × (z ≡ Bad EarlyEnd (length bytes)))
 
   one_within : (bytes : List ℕ) (x y : Fate) → Within bytes x → Within bytes y → x ≡ y
-  one_within bytes x y (inl a) (inl b) = some_same x y (comes_once f.clauses (sayings f.vars true bytes) (Some x) (Some y) a b)
-  one_within bytes x y (inl a) (inr (b, g)) = absurd (let q = comes_once f.clauses (sayings f.vars true bytes) (Some x) None a b in cc)
-  one_within bytes x y (inr (a, e)) (inl b) = absurd (let q = comes_once f.clauses (sayings f.vars true bytes) None (Some y) a b in cc)
+  one_within bytes x y (inl a) (inl b) = some_same x y (comes_once f (sayings f.vars true bytes) (Some x) (Some y) a b)
+  one_within bytes x y (inl a) (inr (b, g)) = absurd (let q = comes_once f (sayings f.vars true bytes) (Some x) None a b in cc)
+  one_within bytes x y (inr (a, e)) (inl b) = absurd (let q = comes_once f (sayings f.vars true bytes) None (Some y) a b in cc)
   one_within bytes x y (inr (a, e)) (inr (b, g)) = e ∙ sym g
 
   pub one_of : (bytes : List ℕ) (x y : Fate) → FateOf f bytes most x → FateOf f bytes most y → x ≡ y
@@ -128,27 +145,27 @@ module _ (f : FormulaOf) (most : ℕ) where
       ]
 
   beyond_somewhere : (bytes : List ℕ) → most < length bytes → ((x : Fate) → FateSoFar f bytes most (Some x) → ⊥) → ⊥
-  beyond_somewhere bytes l k = comes_somewhere f.clauses (sayings f.vars false (take most bytes)) there
+  beyond_somewhere bytes l k = comes_somewhere f.clauses f.clauses unnamed (sayings f.vars false (take most bytes)) there
     where
-      there : (x : Option Fate) → ComesTo f.clauses (sayings f.vars false (take most bytes)) x → ⊥
+      there : (x : Option Fate) → Comes f (sayings f.vars false (take most bytes)) x → ⊥
       there None h = k (Bad TooLong most) (record { within = λ w. absurd (omega arith); beyond = λ _. inr (h, refl) })
       there (Some x) h = k x (record { within = λ w. absurd (omega arith); beyond = λ _. inl (x, h, refl) })
 
   pub somewhere_so_far : (bytes : List ℕ) → ((x : Option Fate) → FateSoFar f bytes most x → ⊥) → ⊥
   somewhere_so_far bytes k =
       elim (sides (length bytes) most) [
-        | inl l ↦ comes_somewhere f.clauses (sayings f.vars false bytes) (λ x h. k x (record { within = λ _. h; beyond = λ b. absurd (omega arith) }))
+        | inl l ↦ comes_somewhere f.clauses f.clauses unnamed (sayings f.vars false bytes) (λ x h. k x (record { within = λ _. h; beyond = λ b. absurd (omega arith) }))
         | inr l ↦ beyond_somewhere bytes l (λ x h. k (Some x) h)
       ]
 
   pub somewhere_at_end : (bytes : List ℕ) → ((x : Fate) → FateOf f bytes most x → ⊥) → ⊥
   somewhere_at_end bytes k =
       elim (sides (length bytes) most) [
-        | inl l ↦ comes_somewhere f.clauses (sayings f.vars true bytes) (there l)
+        | inl l ↦ comes_somewhere f.clauses f.clauses unnamed (sayings f.vars true bytes) (there l)
         | inr l ↦ beyond_somewhere bytes l (λ x h. k x (record { within = λ w. absurd (omega arith); beyond = λ _. h }))
       ]
     where
-      there : length bytes ≤ most → (x : Option Fate) → ComesTo f.clauses (sayings f.vars true bytes) x → ⊥
+      there : length bytes ≤ most → (x : Option Fate) → Comes f (sayings f.vars true bytes) x → ⊥
       there l None h = k (Bad EarlyEnd (length bytes)) (record { within = λ _. inr (h, refl); beyond = λ b. absurd (omega arith) })
       there l (Some x) h = k x (record { within = λ _. inl h; beyond = λ b. absurd (omega arith) })
 

@@ -1,5 +1,5 @@
 -- What a judge's answers tell of its job's file.
-use Rattle.std.proofs.Common.{◌≡◌, ℕ, Bool, true, false, List, Some, None, refl, sym, subst}
+use Rattle.std.proofs.Common.{◌≡◌, ℕ, true, false, List, Some, None, subst}
 use Rattle.std.specs.Prelude.{Option, MatchOption, Result, Ok, Err, IfOk}
 use Rattle.cnf_form.specs.Cnf.{FormulaOf}
 use Rattle.cnf_form.specs.Dimacs.{IsDimacs}
@@ -8,7 +8,7 @@ use Rattle.judge.specs.declared.stream.BadCert.{BadCert}
 use Rattle.judge.specs.declared.judging.Progress.{Progress}
 use Rattle.judge.specs.declared.judging.State.{State}
 use Rattle.judge.specs.Problem.{AskedOf, IsFormulaOf, IsJobFile}
-use Rattle.judge.specs.Fate.{Fate, FateSoFar, FateOf, IsFateSoFar, IsFate}
+use Rattle.judge.specs.Fate.{Fate, FateSoFar, FateOf, IsFate}
 use Rattle.judge.specs.Judging.{JudgeOf, Feeds, Ends, Finds, FateWhere, fate_told, state_behind}
 use Rattle.judge.proofs.Problems.{one_formula}
 

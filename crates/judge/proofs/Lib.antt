@@ -1,6 +1,9 @@
 pub mod Problems
 pub mod Truth
+pub mod Valuing
 pub mod Coming
+pub mod Deletions
 pub mod Feeding
 pub mod Fates
 pub mod Certs
+pub mod Accepting

@@ -1,12 +1,10 @@
 -- Problems, and their jobs' places.
-use Rattle.std.proofs.Common.{◌≡◌, ℕ, zero, suc, ◌+◌, ◌*◌, ◌<◌, ◌≤◌, ◌^◌, List, [], ◌∷◌, length, Some, None, get_or, refl, sym, ap, subst, ◌∙◌, arith}
+use Rattle.std.proofs.Common.{◌≡◌, ℕ, zero, suc, ◌+◌, ◌<◌, List, [], ◌∷◌, length, Some, get_or, refl, sym, ap, subst, ◌∙◌, arith}
 use Rattle.std.specs.Prelude.{◌↔◌, slice_get, map}
 use Rattle.std.specs.List.{range_with_len}
 use Rattle.std.proofs.lemmas.Option.{slice_get_within, slice_get_read}
 use Rattle.cnf_form.specs.Cnf.{FormulaOf}
 use Rattle.cnf_form.specs.Dimacs.{dimacs_text}
-use Rattle.frame_cnf.specs.Jobs.{Solvable}
-use Rattle.frame_cnf.specs.Encoding.{CanBeSatisfied}
 use Rattle.rtlil_design.specs.Shape.{DesignOf}
 use Rattle.rtlil_design.specs.Meaning.{covers}
 use Rattle.rtlil_design.specs.Faults.{IsFlat}
@@ -15,7 +13,7 @@ use Rattle.sby_terms.specs.declared.names.Mode.{Mode}
 use Rattle.sby_terms.specs.declared.names.Mode.TheVariants.{Bmc, Prove, Cover as CoverMode}
 use Rattle.sby_terms.specs.declared.names.JobName.{JobName}
 use Rattle.sby_terms.specs.declared.names.JobName.TheVariants.{Base, Step, Cover}
-use Rattle.judge.specs.Problem.{AskedOf, IsJob, IsJobAt, IsFormulaOf, IsJobFile, IsProblem, jobs_of}
+use Rattle.judge.specs.Problem.{AskedOf, IsJob, IsJobAt, IsFormulaOf, IsJobFile, IsJobFormula, IsProblem, jobs_of}
 use Rattle.judge.specs.Places.{place_of}
 
 -- the covers from number a on
@@ -62,9 +60,9 @@ asked text n d fs = record { problem = record { text = text; mode = Bmc; depth =
 
 -- the problem of a design that is checked, whose one job is encoded
 pub made : (text : List ℕ) (mode : Mode) (n : ℕ) (d : DesignOf) (f : FormulaOf) (fs : List FormulaOf) → mode ≡ Bmc → Reads text d → ((e : DesignOf) → Reads text e → e ≡ d) → IsFlat d
-    → (CanBeSatisfied f ↔ Solvable d Base n) → fs ≡ f ∷ [] → IsProblem (record { problem = record { text = text; mode = mode; depth = n }; design = d; formulas = fs })
-made text mode n d f fs m r o l s e = rw (m, e) (record { reads = r; only = o; flat = l; each = refl; speaks = speaks })
+    → IsJobFormula d Base n f → fs ≡ f ∷ [] → IsProblem (record { problem = record { text = text; mode = mode; depth = n }; design = d; formulas = fs })
+made text mode n d f fs m r o l s e = rw (m, e) (record { reads = r; only = o; flat = l; each = refl; encodes = encodes })
   where
-    speaks : (job : JobName) (g : FormulaOf) → IsFormulaOf (asked text n d (f ∷ [])) job g → CanBeSatisfied g ↔ Solvable d job n
-    speaks job g (zero, a, b) = let j : Base ≡ job = cc in let h : f ≡ g = cc in subst (λ z. CanBeSatisfied z ↔ Solvable d job n) h (subst (λ z. CanBeSatisfied f ↔ Solvable d z n) j s)
-    speaks job g (suc i, a, b) = cc
+    encodes : (job : JobName) (g : FormulaOf) → IsFormulaOf (asked text n d (f ∷ [])) job g → IsJobFormula d job n g
+    encodes job g (zero, a, b) = let j : Base ≡ job = cc in let h : f ≡ g = cc in subst (λ z. IsJobFormula d job n z) h (subst (λ z. IsJobFormula d z n f) j s)
+    encodes job g (suc i, a, b) = cc

@@ -1,5 +1,5 @@
 -- Why a finding is true.
-use Rattle.std.proofs.Common.{◌≡◌, ℕ, List, Some, None, refl, sym, subst}
+use Rattle.std.proofs.Common.{◌≡◌, ℕ, List, None, refl, sym, subst}
 use Rattle.cnf_form.specs.Cnf.{FormulaOf, IsUnsatisfiable}
 use Rattle.frame_cnf.specs.Jobs.{Solvable}
 use Rattle.rtlil_design.specs.Shape.{DesignOf}
@@ -27,7 +27,7 @@ unsat p job = record { problem = p; job = job; answer = Unsat; run = None }
 
 unsat_true : (p : AskedOf) (job : JobName) → IsProblem p → ((f : FormulaOf) × IsFormulaOf p job f × IsUnsatisfiable f.clauses) → IsTrueFinding (unsat p.problem job)
 unsat_true p job h w =
-    let unsolved : Solvable p.design job p.problem.depth → ⊥ = λ s. let x = (h.speaks job w.0 w.1).1 s in w.2 x.0 x.1 in
+    let unsolved : Solvable p.design job p.problem.depth → ⊥ = λ s. let x = (h.encodes job w.0 w.1).speaks.1 s in w.2 x.0 x.1 in
     let base = never p.design job p.problem.depth unsolved in
     record {
       design = p.design;

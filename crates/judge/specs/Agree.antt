@@ -1,6 +1,6 @@
 -- Two true findings of one problem and job have one answer.
-use Rattle.std.specs.Prelude.{◌≡◌, ℕ, List, Option, Some, None, length, refl}
-use Rattle.std.proofs.Common.{ap, subst, sym}
+use Rattle.std.specs.Prelude.{◌≡◌, ℕ, List, Option, Some, None, refl}
+use Rattle.std.proofs.Common.{subst, sym}
 use Rattle.rtlil_design.specs.Shape.{DesignOf}
 use Rattle.rtlil_design.specs.Runs.{CycleOf}
 use Rattle.sby_terms.specs.declared.names.Answer.{Answer}

@@ -1,15 +1,16 @@
 -- Certificates, whole: a stream that shows what a job's formula is, with deletions and values.
-use Rattle.std.specs.Prelude.{◌≡◌, ◌≢◌, ◌⊎◌, ℕ, ◌≤◌, Bool, true, false, not, cond, eqb, List, [], ◌∷◌, ◌++◌, length, map, Some, slice_index, codes}
+use Rattle.std.specs.Prelude.{◌≡◌, ◌≢◌, ◌⊎◌, ℕ, ◌≤◌, true, List, [], ◌∷◌, ◌++◌, length, map, Some, slice_index, codes}
 use Rattle.cnf_form.specs.Cnf.{LitOf, FormulaOf, Assignment, Satisfies, IsAdmitted, Deletes}
 use Rattle.cnf_form.specs.Dimacs.{IsDimacs}
 use Rattle.cert_wire.specs.Word.{Word}
 use Rattle.cert_wire.specs.Text.{lines_of, words_of, literal_of}
+use Rattle.judge.specs.Values.{named_from, unnamed}
 use Rattle.sby_terms.specs.declared.names.Answer.{Answer}
 use Rattle.sby_terms.specs.declared.names.Answer.TheVariants.{Sat, Unsat}
 
 -- the words of a line's text, and the lines of a stream as their words
 abbrev pub words : List ℕ → List (List ℕ)
-words text = map (λ (w : Word). w.text) (words_of true text)
+words text = map (λ (w : Word). w.text) (words_of true 0 text)
 
 abbrev pub lines : List ℕ → List (List (List ℕ))
 lines stream = map words (lines_of stream)
@@ -52,13 +53,9 @@ Names vars (ws ∷ us ∷ ls) values =
     ⊎ ((rest : List (List ℕ)) × (a : List LitOf) × (b : List LitOf) × (ws ≡ codes "v" ∷ rest) × Writes vars rest a × (length a ≤ vars) × (values ≡ a ++ b)
     × Names vars (us ∷ ls) b)
 
--- a variable has the sign of the last literal that names it, and one that isn't named is false
-abbrev pub named_from : Assignment → List LitOf → Assignment
-named_from x [] = x
-named_from x (l ∷ ls) = named_from (λ v. cond (eqb v l.var) (not l.negated) (x v)) ls
-
+-- the values that literals name, one after the other
 abbrev pub named : List LitOf → Assignment
-named values = named_from (λ v. false) values
+named values = named_from unnamed values
 
 -- Unsat: behind the lines of a proof, a last line with the word 0 alone, where the empty clause is admitted. Sat: behind them,
 -- values that satisfy the formula.

@@ -1,14 +1,17 @@
 -- What a stream comes to: a certificate, or why it is none.
 use Rattle.std.specs.Prelude.{◌≡◌, ◌≢◌, ◌⊎◌, ℕ, ◌<◌, ◌≤◌, true, false, List, [], ◌∷◌, ◌++◌, length, take, Option, Some, None}
-use Rattle.cnf_form.specs.Cnf.{LitOf, FormulaOf, IsAdmitted}
+use Rattle.cnf_form.specs.Cnf.{LitOf, FormulaOf, Assignment, IsAdmitted, Deletes, Satisfies}
 use Rattle.cnf_form.specs.Dimacs.{IsDimacs}
 use Rattle.cert_wire.specs.Stream.{sayings}
 use Rattle.cert_wire.specs.declared.saying.Saying.{Saying}
-use Rattle.cert_wire.specs.declared.saying.Saying.TheVariants.{Clause, BadLine}
+use Rattle.cert_wire.specs.declared.saying.Saying.TheVariants.{Clause, Delete, Values, LastValues, Unknown as IsUnknown, Fault}
+use Rattle.cert_wire.specs.declared.saying.WireFaultKind.{WireFaultKind}
+use Rattle.cert_wire.specs.declared.saying.WireFaultKind.TheVariants.{BadLine, BadLiteral, LineTooLong}
 use Rattle.sby_terms.specs.declared.names.Answer.{Answer}
 use Rattle.sby_terms.specs.declared.names.Answer.TheVariants.{Unsat}
 use Rattle.judge.specs.declared.stream.CertKind.{CertKind}
-use Rattle.judge.specs.declared.stream.CertKind.TheVariants.{BadLine as BadLineKind, NotRup, TooLong, EarlyEnd}
+use Rattle.judge.specs.declared.stream.CertKind.TheVariants.{BadLine as BadLineKind, BadLiteral as BadLiteralKind, LineTooLong as LineTooLongKind, NotRup, NotSatisfying, TooLong, EarlyEnd}
+use Rattle.judge.specs.Values.{IsFirstUnsatisfied, named_from, unnamed}
 
 -- a certificate for an answer; the engine doesn't know; or a fault, by its kind and place
 pub data Fate : Type 0 where
@@ -16,28 +19,45 @@ pub data Fate : Type 0 where
   Unknown : Fate
   Bad : CertKind → ℕ → Fate
 
--- What sayings come to, where these clauses are present: each clause has to be admitted, and joins them; the empty one completes the
--- certificate. None where they come to nothing yet.
-abbrev pub ComesTo : List (List LitOf) → List Saying → Option Fate → Type 0
-ComesTo F [] fate = fate ≡ None
-ComesTo F (BadLine place ∷ ss) fate = fate ≡ Some (Bad BadLineKind place)
-ComesTo F (Clause c ∷ ss) fate =
+abbrev pub cert_kind : WireFaultKind → CertKind
+cert_kind BadLine = BadLineKind
+cert_kind BadLiteral = BadLiteralKind
+cert_kind LineTooLong = LineTooLongKind
+
+-- What values that end come to: the first clause that they don't satisfy. Values that satisfy all clauses aren't served yet.
+abbrev pub ValuesComeTo : List (List LitOf) → Assignment → ℕ → Option Fate → Type 0
+ValuesComeTo C x place fate = (Satisfies x C × (fate ≡ Some (Bad BadLineKind place))) ⊎ ((n : ℕ) × IsFirstUnsatisfied x C n × (fate ≡ Some (Bad NotSatisfying n)))
+
+-- What sayings come to, from a formula with the clauses C, where the clauses F are present and the values x were named: each clause
+-- has to be admitted, and joins them; the empty one completes the certificate. None where they come to nothing yet.
+abbrev pub ComesTo : List (List LitOf) → List (List LitOf) → Assignment → List Saying → Option Fate → Type 0
+ComesTo C F x [] fate = fate ≡ None
+ComesTo C F x (Clause c ∷ ss) fate =
     (IsAdmitted F c.lits × (c.lits ≡ []) × (fate ≡ Some (Found Unsat)))
-    ⊎ (IsAdmitted F c.lits × (c.lits ≢ []) × ComesTo (F ++ c.lits ∷ []) ss fate)
+    ⊎ (IsAdmitted F c.lits × (c.lits ≢ []) × ComesTo C (F ++ c.lits ∷ []) x ss fate)
     ⊎ ((IsAdmitted F c.lits → ⊥) × (fate ≡ Some (Bad NotRup c.place)))
+ComesTo C F x (Delete c ∷ ss) fate = (G : List (List LitOf)) × Deletes F c.lits G × ComesTo C G x ss fate
+ComesTo C F x (Values c ∷ ss) fate = ComesTo C F (named_from x c.lits) ss fate
+ComesTo C F x (LastValues c ∷ ss) fate = ValuesComeTo C (named_from x c.lits) c.place fate
+ComesTo C F x (IsUnknown ∷ ss) fate = fate ≡ Some Unknown
+ComesTo C F x (Fault f ∷ ss) fate = fate ≡ Some (Bad (cert_kind f.kind) f.byte)
+
+-- what the sayings of a stream come to, as a certificate of a formula
+abbrev pub Comes : FormulaOf → List Saying → Option Fate → Type 0
+Comes f ss fate = ComesTo f.clauses f.clauses unnamed ss fate
 
 -- what these bytes of a stream come to, `most` of them at most: where more may follow
 pub record FateSoFar (f : FormulaOf) (bytes : List ℕ) (most : ℕ) (fate : Option Fate) : Type 0 where
-  pub within : length bytes ≤ most → ComesTo f.clauses (sayings f.vars false bytes) fate
+  pub within : length bytes ≤ most → Comes f (sayings f.vars false bytes) fate
   pub beyond : most < length bytes
-      → ((x : Fate) × ComesTo f.clauses (sayings f.vars false (take most bytes)) (Some x) × (fate ≡ Some x))
-      ⊎ (ComesTo f.clauses (sayings f.vars false (take most bytes)) None × (fate ≡ Some (Bad TooLong most)))
+      → ((x : Fate) × Comes f (sayings f.vars false (take most bytes)) (Some x) × (fate ≡ Some x))
+      ⊎ (Comes f (sayings f.vars false (take most bytes)) None × (fate ≡ Some (Bad TooLong most)))
 
 -- and where the stream ends with them
 pub record FateOf (f : FormulaOf) (bytes : List ℕ) (most : ℕ) (fate : Fate) : Type 0 where
   pub within : length bytes ≤ most
-      → ComesTo f.clauses (sayings f.vars true bytes) (Some fate)
-      ⊎ (ComesTo f.clauses (sayings f.vars true bytes) None × (fate ≡ Bad EarlyEnd (length bytes)))
+      → Comes f (sayings f.vars true bytes) (Some fate)
+      ⊎ (Comes f (sayings f.vars true bytes) None × (fate ≡ Bad EarlyEnd (length bytes)))
   pub beyond : most < length bytes → FateSoFar f bytes most (Some fate)
 
 -- the fate so far of the bytes of a stream, as a certificate of the formula that the bytes of a job's file are

@@ -13,7 +13,7 @@ use Rattle.judge.specs.declared.judging.State.TheVariants.{Reading, Refused, Ove
 use Rattle.judge.specs.declared.judging.Progress.{Progress}
 use Rattle.judge.specs.declared.judging.Progress.TheVariants.{More, Done, Unknown as IsUnknown}
 use Rattle.judge.specs.declared.judging.Came.{Came}
-use Rattle.judge.specs.declared.judging.Came.TheVariants.{Refuted, Bad as CameBad}
+use Rattle.judge.specs.declared.judging.Came.TheVariants.{Refuted, Unknown as CameUnknown, Bad as CameBad}
 
 -- the problem and its job, the greatest number of bytes, the bytes taken so far, and how the judge stands
 pub record JudgeOf : Type 0 where
@@ -63,6 +63,7 @@ pub record Ends (old new : JudgeOf) (r : Result Progress BadCert) : Type 0 where
 abbrev pub fate_come : Option Came → Option Fate
 fate_come None = None
 fate_come (Some Refuted) = Some (Found Unsat)
+fate_come (Some CameUnknown) = Some Unknown
 fate_come (Some (CameBad b)) = Some (Bad b.kind b.at)
 
 -- the fate of the bytes where the stream ended with them, or the fate so far

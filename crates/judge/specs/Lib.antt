@@ -3,6 +3,7 @@ pub mod Places
 pub mod Fault
 pub mod Finding
 pub mod Agree
+pub mod Values
 pub mod Fate
 pub mod Judging
 pub mod Numbers

@@ -1,9 +1,10 @@
 // The judge of one stream.
 
-ghost use Rattle.std.specs.Prelude.{◌≡◌, ◌≢◌, ◌≤◌, ◌<◌, ◌^◌, ◌++◌, Bool, [], List, IfOk, OnErr, IsErr, Ok, Err};
+ghost use Rattle.std.specs.Prelude.{◌≡◌, ◌≢◌, ◌≤◌, ◌<◌, ◌+◌, ◌^◌, ◌++◌, Bool, [], List, length, IfOk, OnErr, IsErr, Ok, Err, Some};
 ghost use Rattle.cnf_form.specs.Cnf.{FormulaOf};
 ghost use Rattle.cert_wire.specs.Stream.{sayings};
-ghost use Rattle.judge.specs.Fate.{ComesTo};
+ghost use Rattle.judge.specs.Fate.{Bad, Comes, ValuesComeTo, cert_kind};
+ghost use Rattle.judge.specs.Values.{bits_in};
 ghost use Rattle.judge.specs.Judging.{Ends, FateWhere, Feeds, Finds, JudgeOf, at_end, fate_come, fate_told, past_most, state_behind};
 ghost use Rattle.judge.specs.Problem.{IsFormulaOf, IsJob};
 ghost use Rattle.judge.specs.declared.stream.BadCert.{BadCert};
@@ -11,7 +12,8 @@ ghost use Rattle.judge.specs.declared.stream.BadCert.{BadCert};
 use crate::finding::{Finding, unsat};
 use crate::problem::Problem;
 use crate::stream::{BadCert, CertKind, StreamKind};
-use cert_wire::{Reader, Saying, sayings_are_within};
+use crate::values::Values;
+use cert_wire::{Reader, Saying, WireFaultKind, sayings_are_within};
 use cnf_form::Formula;
 use drup_check::{Added, Checker};
 use sby_terms::JobName;
@@ -46,6 +48,7 @@ pub enum State {
 #[derive(Clone, Copy)]
 enum Came {
     Refuted,
+    Unknown,
     Bad(BadCert),
 }
 
@@ -169,6 +172,7 @@ impl<'a> Judge<'a> {
         match self.came(ended)? {
             None => Ok(Ok(Progress::More)),
             Some(Came::Bad(bad)) => Ok(Err(bad)),
+            Some(Came::Unknown) => Ok(Ok(Progress::Unknown)),
             Some(Came::Refuted) => {
                 let finding = unsat(self.alloc, self.problem, self.job)?;
                 Ok(Ok(Progress::Done(finding)))
@@ -230,6 +234,33 @@ fn past_most(came: Option<Came>, most: u64) -> Came
     }
 }
 
+fn cert_kind(kind: WireFaultKind) -> CertKind
+    ensures { result ≡ cert_kind kind }
+{
+    match kind {
+        WireFaultKind::BadLine => CertKind::BadLine,
+        WireFaultKind::BadLiteral => CertKind::BadLiteral,
+        WireFaultKind::LineTooLong => CertKind::LineTooLong,
+    }
+}
+
+fn refused(kind: CertKind, at: u64) -> Option<Came>
+    ensures { fate_come result ≡ Some (Bad kind at) }
+{
+    Some(Came::Bad(BadCert { kind, at }))
+}
+
+// What values that end come to, whose last line has its first visible byte at `place`.
+fn values_come_to(formula: &Formula, values: &Values, place: u64) -> Option<Came>
+    requires { length values.now ≡ formula.now.vars + 1 }
+    ensures { ValuesComeTo formula.now.clauses (bits_in values.now) place (fate_come result) }
+{
+    match values.first_unsatisfied(formula) {
+        None => refused(CertKind::BadLine, place),
+        Some(clause) => refused(CertKind::NotSatisfying, clause),
+    }
+}
+
 // What the bytes of a stream come to.
 fn comes_to(
     alloc: Global,
@@ -237,31 +268,33 @@ fn comes_to(
     bytes: &[u8],
     ended: bool,
 ) -> Result<Option<Came>, AllocError>
-    ensures { IfOk result (λ came. ComesTo formula.now.clauses (sayings formula.now.vars ended bytes.now) (fate_come came)) }
+    ensures { IfOk result (λ came. Comes formula.now (sayings formula.now.vars ended bytes.now) (fate_come came)) }
 {
     sayings_are_within();
     let mut checker = Checker::new(alloc, formula)?;
+    let mut values = Values::new(alloc, formula.vars())?;
     let mut reader = Reader::new(formula.vars(), bytes, ended);
     'sayings: while let Some(saying) = reader.next(alloc)? {
         match saying {
-            Saying::BadLine(at) => {
-                return Ok(Some(Came::Bad(BadCert {
-                    kind: CertKind::BadLine,
-                    at,
-                })));
-            }
             Saying::Clause(line) => match checker.add(line.lits())? {
-                Added::Admitted if line.lits().is_empty() => {
-                    return Ok(Some(Came::Refuted));
-                }
-                Added::Admitted => {}
-                Added::NotRup => {
-                    return Ok(Some(Came::Bad(BadCert {
-                        kind: CertKind::NotRup,
-                        at: line.place(),
-                    })));
-                }
+                Added::Admitted if line.lits().is_empty() => return Ok(Some(Came::Refuted)),
+                Added::Admitted => continue 'sayings,
+                Added::NotRup => return Ok(refused(CertKind::NotRup, line.place())),
             },
+            Saying::Delete(line) => {
+                checker.delete(line.lits());
+                continue 'sayings;
+            }
+            Saying::Values(line) => {
+                values.name_all(line.lits());
+                continue 'sayings;
+            }
+            Saying::LastValues(line) => {
+                values.name_all(line.lits());
+                return Ok(values_come_to(formula, &values, line.place()));
+            }
+            Saying::Unknown => return Ok(Some(Came::Unknown)),
+            Saying::Fault(fault) => return Ok(refused(cert_kind(fault.kind), fault.byte)),
         }
     }
     Ok(None)

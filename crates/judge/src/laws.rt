@@ -52,6 +52,11 @@ pub fn found_fate_begins_certificate()
         → (n : ℕ) × (n ≤ length stream) × (n ≤ most) × IsCert job (take n stream) answer }
 {}
 
+/// A certificate for Unsat, all of whose bytes are taken, is found to be one.
+pub fn certificate_is_found()
+    ensures { (job stream : List ℕ) (most : ℕ) → IsCert job stream Unsat → length stream ≤ most → IsFate job stream most (Found Unsat) }
+{}
+
 /// A job of a problem has one formula, and one file.
 pub fn one_file()
     ensures formula { (p : AskedOf) (job : JobName) (f g : FormulaOf) → IsFormulaOf p job f → IsFormulaOf p job g → f ≡ g }

@@ -6,11 +6,12 @@ mod judging;
 mod laws;
 mod problem;
 mod stream;
+mod values;
 
 pub use finding::Finding;
 pub use judging::{Judge, Progress, State};
 pub use laws::{
-    fate_so_far_is_the_fate, fates_stay, found_fate_begins_certificate,
+    certificate_is_found, fate_so_far_is_the_fate, fates_stay, found_fate_begins_certificate,
     found_unsat_is_unsatisfiable, one_fate, one_file, some_fate,
 };
 pub use problem::{Problem, ProblemFault};

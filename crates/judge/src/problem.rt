@@ -138,6 +138,13 @@ impl Problem {
         self.text.as_slice()
     }
 
+    /// The design's text, which the problem gives up.
+    pub fn into_text(self) -> Vec<u8>
+        ensures { result.items ≡ self.problem.text }
+    {
+        self.text
+    }
+
     /// The mode.
     pub fn mode(&self) -> Mode
         ensures { result ≡ self.now.problem.mode }

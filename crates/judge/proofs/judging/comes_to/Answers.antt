@@ -1,10 +1,47 @@
-use Rattle.std.proofs.Common.{◌≡◌}
+use Rattle.std.proofs.Common.{◌∙◌, ◌+◌, ap}
 use Rattle.cnf_form.specs.Cnf.{IsAdmitted}
-use Rattle.judge.proofs.Coming.{not_rup}
+use Rattle.drup_check.specs.Checking.{CheckerOf}
+use Rattle.cert_wire.specs.Stream.{sayings}
+use Rattle.judge.proofs.Coming.{from_start, deleted, last_values, more_values, not_rup, within_rest}
 use Rattle.judge.proofs.judging.comes_to.Goals as goal
+
+pub sayings-init : goal.sayings-init
+sayings-init c = record {
+  vars = ap (λ (k : CheckerOf). k.vars) c.in_ok-checker.ensures;
+  size = c.in_ok-values.ensures.size ∙ ap (λ n. n + 1) c.vars.ensures.vars;
+  within = rw (c.new-reader.ensures, c.vars-2.ensures.vars) (c.sayings_are_within.ensures c.args.formula.now.vars c.args.ended c.args.bytes.now);
+  so_far = λ fate h. from_start c.args.formula.now _ _ _ _ fate (ap (λ (k : CheckerOf). k.clauses) c.in_ok-checker.ensures)
+      (c.new-reader.ensures ∙ ap (λ n. sayings n c.args.ended c.args.bytes.now) c.vars-2.ensures.vars) c.in_ok-values.ensures.unnamed h;
+}
 
 pub returns-in-NotRup : goal.returns-in-NotRup
 returns-in-NotRup c =
     let said = rw c.in-Some.is at c.in_ok-saying.ensures.said in
     let unadmitted : IsAdmitted c.sayings.checker.clauses c.lits.result.now → ⊥ = λ a. let e = c.in_ok-add-in-Clause.ensures.exact.1 a in let n = c.in-NotRup.is in cc in
-    c.sayings.invariant.so_far _ (not_rup _ _ _ _ _ _ _ said c.in-Clause.is unadmitted c.lits.ensures c.place.ensures)
+    rw c.refused.ensures (c.sayings.invariant.so_far _ (not_rup _ _ _ _ _ _ _ _ _ said c.in-Clause.is unadmitted c.lits.ensures c.place.ensures))
+
+pub sayings-preserved-in-Delete : goal.sayings-preserved-in-Delete
+sayings-preserved-in-Delete c =
+    let said = rw c.in-Some.is at c.in_ok-saying.ensures.said in
+    record {
+      vars = ap (λ (k : CheckerOf). k.vars) c.delete.ensures.rest ∙ c.sayings.invariant.vars;
+      size = c.sayings.invariant.size;
+      within = within_rest _ _ _ _ said c.sayings.invariant.within;
+      so_far = λ fate h. c.sayings.invariant.so_far fate (deleted _ _ _ _ _ _ _ _ _ fate said c.in-Delete.is c.lits-in-Delete.ensures c.delete.ensures.deleted h);
+    }
+
+pub sayings-preserved : goal.sayings-preserved
+sayings-preserved c =
+    let said = rw c.in-Some.is at c.in_ok-saying.ensures.said in
+    record {
+      vars = c.sayings.invariant.vars;
+      size = c.name_all.ensures.size ∙ c.sayings.invariant.size;
+      within = within_rest _ _ _ _ said c.sayings.invariant.within;
+      so_far = λ fate h. c.sayings.invariant.so_far fate (more_values _ _ _ _ _ _ _ _ _ fate said c.in-Values.is c.lits-in-Values.ensures c.name_all.ensures.named h);
+    }
+
+pub returns-in-LastValues : goal.returns-in-LastValues
+returns-in-LastValues c =
+    let said = rw c.in-Some.is at c.in_ok-saying.ensures.said in
+    c.sayings.invariant.so_far _
+    (last_values _ _ _ _ _ _ _ _ _ _ _ said c.in-LastValues.is c.lits-in-LastValues.ensures c.place-in-LastValues.ensures c.name_all-in-LastValues.ensures.named c.values_come_to.ensures)
