@@ -1,0 +1,3 @@
+pub mod Trace
+pub mod Reading
+pub mod Stopped
