@@ -1,5 +1,5 @@
 -- Counts of faults. A count is a u64 that stays at its greatest value.
-use Rattle.std.specs.Prelude.{◌≡◌, ℕ, ◌+◌, ◌-◌, ◌<◌, ◌≤◌, ◌^◌, min, Result, OnErr, IsErrOf}
+use Rattle.std.specs.Prelude.{◌≡◌, ℕ, ◌+◌, ◌-◌, ◌<◌, ◌≤◌, ◌^◌, min, Result, OnErr, IsErrOf, IsOk}
 use Rattle.sby_edge.specs.declared.outside.Fail.{Fail}
 use Rattle.sby_edge.specs.declared.outside.Fail.TheVariants.{Failed as FailFailed, Memory as FailMemory}
 
@@ -15,14 +15,15 @@ counted n = min (n + 1) greatest
 abbrev pub Rose : ℕ → ℕ → Type 0
 Rose before now = counted before ≤ now
 
--- the count didn't fall, and has risen where the call failed; want of memory leaves it
+-- the count rises where the call failed; an answer leaves it as it was, and so does want of memory
 pub record HasCause {T : Type 0} (before now : ℕ) (result : Result T Fail) : Type 0 where
   pub later : before ≤ now
   pub stays : before ≡ greatest → now ≡ before
+  pub ok : IsOk result → now ≡ before
   pub failed : IsErrOf result FailFailed → Rose before now
   pub memory : IsErrOf result FailMemory → now ≡ before
 
--- the same of a call that takes no memory
+-- of a call that takes no memory: the count didn't fall, and has risen where the call failed
 pub record HasPlainCause {T E : Type 0} (before now : ℕ) (result : Result T E) : Type 0 where
   pub later : before ≤ now
   pub stays : before ≡ greatest → now ≡ before

@@ -95,7 +95,6 @@ pub trait Launch {
         ensures fresh { IfOk result (λ child. (Self.Hold.is_killed child.1 ≡ false) × (Self.Hold.is_reaped child.1 ≡ false)
             × (Self.Pipe.faults child.0 ≡ 0) × (Self.Hold.faults child.1 ≡ 0)) }
         ensures starts { HasCause (start_faults self.old) (start_faults self.new) result }
-        ensures only { OnOk result (start_faults self.new ≡ start_faults self.old) }
         ensures reads { read_faults self.new ≡ read_faults self.old }
         ensures holds { hold_faults self.new ≡ hold_faults self.old };
 

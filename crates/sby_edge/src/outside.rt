@@ -1,6 +1,6 @@
 // Files and output.
 
-ghost use Rattle.std.specs.Prelude.{◌≡◌, ℕ, ◌<◌, ◌≤◌, List, Option, IfOk, OnOk, OnErr, length, option_map};
+ghost use Rattle.std.specs.Prelude.{◌≡◌, ℕ, ◌<◌, ◌≤◌, ◌⊎◌, List, Option, IfOk, OnOk, OnErr, length, option_map};
 ghost use Rattle.sby_edge.specs.declared.outside.Fail.TheVariants.{Memory as FailMemory};
 ghost use Rattle.sby_edge.specs.Cause.{HasCause, HasPlainCause, Rose};
 ghost use Rattle.sby_edge.specs.Files.{Store, put_at, GotFrom, GotFits};
@@ -105,5 +105,6 @@ pub trait Sink {
         ensures taken { Takes (taken self.old) (taken self.new) piece.now result }
         ensures fits { IfOk result (λ count. count ≤ length piece.now) }
         ensures some { IfOk result (λ count. count ≡ 0 → 0 < length piece.now → Rose (faults self.old) (faults self.new)) }
+        ensures stands { IfOk result (λ count. (0 < count) ⊎ (length piece.now ≡ 0) → faults self.new ≡ faults self.old) }
         ensures cause { HasPlainCause (faults self.old) (faults self.new) result };
 }
