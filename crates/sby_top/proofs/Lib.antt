@@ -1,0 +1,13 @@
+pub mod WordsTaken
+pub mod WordsAsked
+pub mod WordsRequest
+pub mod WordsPlain
+pub mod TellLemmas
+pub mod StatusLemmas
+pub mod LineLemmas
+pub mod ServeLemmas
+pub mod JudgeLemmas
+pub mod PlainLemmas
+pub mod TruthLemmas
+pub mod RunLemmas
+pub mod LawLemmas

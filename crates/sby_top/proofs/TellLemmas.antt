@@ -1,0 +1,67 @@
+use Rattle.std.proofs.Common.{◌≡◌, ℕ, ◌+◌, List, [], ◌++◌, refl, ap, ◌∙◌, sym, arith, take, drop, append_assoc, append-nil, length, length-append}
+use Rattle.std.specs.Prelude.{Option, Some, None, Result, Ok, Err}
+use Rattle.std.specs.List.{concat}
+use Rattle.sby_top.specs.declared.tell.Stop.{Stop}
+use Rattle.sby_top.specs.declared.tell.Stop.TheVariants.{Memory, Sink}
+use Rattle.std.proofs.Math.Seq.{take-add, take-append-add}
+use Rattle.std.proofs.lemmas.List.{take-append-le}
+use Rattle.std.proofs.lemmas.List.Folds.{concat-append}
+use Rattle.std.proofs.lemmas.Result.{on_ok_weaker}
+use Rattle.sby_top.specs.Telling.{Tells, grown}
+
+pub grown-grown : (o : Option (List ℕ)) (a b : List ℕ) → grown (grown o a) b ≡ grown o (a ++ b)
+grown-grown None a b = refl
+grown-grown (Some t) a b = ap Some (append_assoc t a b)
+
+pub grown-nil : (o : Option (List ℕ)) → grown o [] ≡ o
+grown-nil None = refl
+grown-nil (Some t) = ap Some (append-nil t)
+
+-- a call took more of a piece
+pub grown_more : (o m n : Option (List ℕ)) (at count : ℕ) (piece rest : List ℕ) → rest ≡ drop at piece → m ≡ grown o (take at piece) → n ≡ grown m (take count rest) → n ≡ grown o (take (at + count) piece)
+grown_more o m n at count piece rest is had got =
+    got ∙ ap (λ r. grown m (take count r)) is ∙ ap (λ x. grown x (take count (drop at piece))) had
+    ∙ grown-grown o (take at piece) (take count (drop at piece)) ∙ ap (grown o) (sym (take-add at count piece))
+
+-- lines were told, and then more
+pub tells_then : {T U : Type 0} (b m n : Option (List ℕ)) (f g h : ℕ) (first more : List (List ℕ)) (x : T) (r : Result U Stop) → Tells {T = T} b m f g first (Ok x) → Tells {T = U} m n g h more r → Tells {T = U} b n f h (first ++ more) r
+tells_then {T} {U} b m n f g h first more x r p q = record {
+  later = omega (arith, p.later, q.later);
+  whole = on_ok_weaker r (λ e. e ∙ ap (λ o. grown o (concat more)) p.whole ∙ grown-grown b (concat first) (concat more) ∙ ap (grown b) (sym (concat-append first more))) q.whole;
+  still = on_ok_weaker r (λ e. e ∙ p.still) q.still;
+  still_memory = λ e. q.still_memory e ∙ p.still;
+  memory = λ e. let k = q.memory e in (
+    length first + k.0,
+    simp length-append (omega (arith, k.1)),
+    k.2 ∙ ap (λ o. grown o (concat (take k.0 more))) p.whole ∙ grown-grown b (concat first) (concat (take k.0 more))
+        ∙ ap (grown b) (sym (concat-append first (take k.0 more)) ∙ ap concat (sym (take-append-add first more k.0))),
+  );
+  fault = λ e. let k = q.fault e in (
+    omega (arith, k.0, p.later),
+    (
+      length (concat first) + k.1.0,
+      rw concat-append (simp length-append (omega (arith, k.1.1))),
+      k.1.2 ∙ ap (λ o. grown o (take k.1.0 (concat more))) p.whole ∙ grown-grown b (concat first) (take k.1.0 (concat more))
+          ∙ ap (grown b) (sym (take-append-add (concat first) (concat more) k.1.0) ∙ ap (take (length (concat first) + k.1.0)) (sym (concat-append first more))),
+    ),
+  );
+}
+
+-- telling stopped at the first lines
+pub tells_stopped : {T U : Type 0} (b m : Option (List ℕ)) (f g : ℕ) (first more : List (List ℕ)) (e : Stop) → Tells {T = T} b m f g first (Err e) → Tells {T = U} b m f g (first ++ more) (Err e)
+tells_stopped {T} {U} b m f g first more e p = record {
+  later = p.later;
+  whole = tt;
+  still = tt;
+  still_memory = λ w. let same : e ≡ Memory = cc in p.still_memory (ap Err same);
+  memory = λ w. let same : e ≡ Memory = cc in let k = p.memory (ap Err same) in
+      (k.0, simp length-append (omega (arith, k.1)), k.2 ∙ ap (λ ls. grown b (concat ls)) (sym (take-append-le k.0 first more (omega (arith, k.1)))));
+  fault = λ w. let same : e ≡ Sink = cc in let k = p.fault (ap Err same) in (
+    k.0,
+    (
+      k.1.0,
+      rw concat-append (simp length-append (omega (arith, k.1.1))),
+      k.1.2 ∙ ap (grown b) (sym (take-append-le k.1.0 (concat first) (concat more) k.1.1) ∙ ap (take k.1.0) (sym (concat-append first more))),
+    ),
+  );
+}

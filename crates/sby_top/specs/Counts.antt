@@ -1,0 +1,33 @@
+-- What the design line counts.
+use Rattle.std.specs.Prelude.{ℕ, Bool, true, false, length}
+use Rattle.std.specs.List.{sum_by, filter}
+use Rattle.rtlil_design.specs.Shape.{CellOf, DesignOf}
+use Rattle.rtlil_design.specs.Asked.{Role, Combinational, Register, Constant, Initial, Source, Saying, Stranger, role_of, output_of}
+use Rattle.rtlil_design.specs.Meaning.{asserts, assumes, covers, is_assert, is_assume, is_cover}
+use Rattle.rtlil_design.specs.declared.kind.Kind.{Kind}
+use Rattle.rtlil_design.specs.declared.kind.Statement.{Statement}
+use Rattle.rtlil_design.specs.declared.kind.Statement.TheVariants.{Assert, Assume, Cover}
+use Rattle.sby_top.specs.declared.counts.Counts.{Counts}
+
+abbrev pub is_register : Role → Bool
+is_register Register = true
+is_register Combinational = false
+is_register Constant = false
+is_register Initial = false
+is_register Source = false
+is_register Saying = false
+is_register Stranger = false
+
+-- the bits that registers hold
+abbrev pub register_bits : DesignOf → ℕ
+register_bits d = sum_by (λ (c : CellOf). length (output_of c)) (filter (λ (c : CellOf). is_register (role_of c.kind)) d.cells)
+
+-- the cell's type is this statement's
+abbrev pub is_statement : Statement → Kind → Bool
+is_statement Assert kind = is_assert kind
+is_statement Assume kind = is_assume kind
+is_statement Cover kind = is_cover kind
+
+-- a design's register bits, assertions, assumptions and cover statements
+abbrev pub counts_of : DesignOf → Counts
+counts_of d = record { registers = register_bits d; asserts = length (asserts d); assumes = length (assumes d); covers = length (covers d) }

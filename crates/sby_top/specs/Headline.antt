@@ -1,0 +1,157 @@
+-- What is promised of a task that was run.
+use Rattle.std.specs.Prelude.{◌≡◌, ◌≢◌, ◌⊎◌, ℕ, ◌<◌, ◌≤◌, List, [], ◌∷◌, length, map, string_bytes, Option, Some, None}
+use Rattle.std.specs.List.{concat}
+use Rattle.sby_edge.specs.Cause.{Rose}
+use Rattle.sby_edge.specs.Files.{Store}
+use Rattle.frame_cnf.specs.Jobs.{Solvable}
+use Rattle.judge.specs.Fate.{Fate, IsFate, Found, Unknown, Bad}
+use Rattle.judge.specs.Problem.{AskedOf, IsJobFile}
+use Rattle.judge.specs.declared.problem.ProblemFault.{ProblemFault}
+use Rattle.judge.specs.declared.problem.ProblemFault.TheVariants.{Read as ReadFault, Design as DesignFault, TooMany as TooManyFault}
+use Rattle.rtlil_design.specs.Claims.{NeverBreak, NoBreak}
+use Rattle.rtlil_design.specs.Faults.{IsFlat}
+use Rattle.rtlil_design.specs.Shape.{DesignOf}
+use Rattle.rtlil_reader.specs.Grammar.{Reads}
+use Rattle.sby_terms.specs.Code.{HasCode}
+use Rattle.sby_terms.specs.declared.names.Answer.{Answer}
+use Rattle.sby_terms.specs.declared.names.Event.{Event}
+use Rattle.sby_terms.specs.declared.names.Event.TheVariants.{Quiet, Fault}
+use Rattle.sby_terms.specs.declared.names.JobName.{JobName}
+use Rattle.sby_terms.specs.declared.names.JobName.TheVariants.{Base}
+use Rattle.sby_terms.specs.declared.names.Mode.{Mode}
+use Rattle.sby_terms.specs.declared.names.Mode.TheVariants.{Bmc, Prove, Cover}
+use Rattle.sby_terms.specs.declared.names.Status.{Status}
+use Rattle.sby_terms.specs.declared.names.Status.TheVariants.{Pass, Fail, Error, Memory}
+use Rattle.sby_top.specs.Came.{Came}
+use Rattle.sby_top.specs.Lines.{HasLines}
+use Rattle.sby_top.specs.Served.{ArePut, IsAccepted, IsGot, IsRefused, IsStored, jobs_in, most_design, most_stream}
+use Rattle.sby_top.specs.Status.{IsStatus, IsStatusOf}
+use Rattle.sby_top.specs.Telling.{GrownByFirst, GrownBySome, grown}
+use Rattle.sby_top.specs.Words.{Request}
+use Rattle.sby_top.specs.World.{World}
+use Rattle.sby_top.specs.declared.outcome.Early.{Early}
+use Rattle.sby_top.specs.declared.outcome.Early.TheVariants.{Read, Design, TooMany, Streams}
+use Rattle.sby_top.specs.declared.outcome.TaskEnd.{TaskEnd}
+
+-- What PASS says of a design at depth n: in bmc no run of at most n cycles breaks an assertion, in prove no run of any length does.
+-- Cover isn't served yet.
+abbrev pub PassClaim : Mode → DesignOf → ℕ → Type 0
+PassClaim Bmc d n = NoBreak d n
+PassClaim Prove d n = NeverBreak d
+PassClaim Cover d n = ⊥
+
+-- What FAIL says: in bmc and prove some run of at most n cycles breaks an assertion. No stream comes to it yet, and its run's lines
+-- come with the runs.
+abbrev pub FailClaim : Mode → DesignOf → ℕ → Type 0
+FailClaim Bmc d n = Solvable d Base n
+FailClaim Prove d n = Solvable d Base n
+FailClaim Cover d n = ⊥
+
+-- the text that the design's path gave reads a flat design of which the claim is true
+abbrev pub IsTrueOf : Option Store → Request → List ℕ → (DesignOf → ℕ → Type 0) → Type 0
+IsTrueOf told request text claim =
+    IsGot told request.design most_design text × ((d : DesignOf) × Reads text d × IsFlat d × claim d request.depth)
+
+-- each status names its event
+pub record NamesEvent (before after : World) (request : Request) (end : TaskEnd) : Type 0 where
+  pub name : string_bytes end.name ≡ request.folder
+  pub status : IsStatus request.mode end.early end.reports.items end.status ⊎ (end.status ≡ Memory)
+  pub cause : Came request before.told after.told before.file_faults after.file_faults end.early end.text.items end.reports.items
+  pub start : end.start ≡ None
+  pub unput : end.unput.items ≡ []
+
+-- how a run of tasks exits: with a number, or cut short by a failed call of the sink
+pub data Exit : Type 0 where
+  Code : ℕ → Exit
+  Cut : Exit
+
+-- a task that came to this end has these lines
+abbrev pub AreLines : Request → TaskEnd → List (List ℕ) → Type 0
+AreLines request end lines = HasLines request.mode request.folder end.text.items end.early end.reports.items lines
+
+-- its status is the one that its ends give
+abbrev pub HasOwnStatus : Request → TaskEnd → Type 0
+HasOwnStatus request end = IsStatus request.mode end.early end.reports.items end.status
+
+-- its lines were all printed
+abbrev pub PrintedWhole : Option (List ℕ) → Option (List ℕ) → Request → TaskEnd → List (List ℕ) → Type 0
+PrintedWhole before now request end lines = HasOwnStatus request end × (now ≡ grown before (concat lines))
+
+-- they were printed up to one for which memory was wanting, and the status is MEMORY
+abbrev pub PrintedUpTo : Option (List ℕ) → Option (List ℕ) → TaskEnd → List (List ℕ) → Type 0
+PrintedUpTo before now end lines = (end.status ≡ Memory) × GrownByFirst before now lines
+
+-- they were cut short
+abbrev pub PrintedCut : Option (List ℕ) → Option (List ℕ) → Request → TaskEnd → List (List ℕ) → Type 0
+PrintedCut before now request end lines = HasOwnStatus request end × GrownBySome before now (concat lines)
+
+-- The lines of a task were printed, whole or up to a line, where no call of the sink failed; they were cut short where one did.
+abbrev pub IsPrinted : Option (List ℕ) → Option (List ℕ) → ℕ → ℕ → Request → TaskEnd → Exit → Type 0
+IsPrinted before now faults_before faults request end (Code rc) =
+    (faults ≡ faults_before) × HasCode (Pass ∷ []) end.status rc
+    × ((lines : List (List ℕ)) × AreLines request end lines × (PrintedWhole before now request end lines ⊎ PrintedUpTo before now end lines))
+IsPrinted before now faults_before faults request end Cut =
+    Rose faults_before faults × ((lines : List (List ℕ)) × AreLines request end lines × PrintedCut before now request end lines)
+
+-- the answer and the event of a job by its stream's fate; without a stream it has neither
+abbrev pub fate_answer : Option Fate → Option Answer
+fate_answer (Some (Found answer)) = Some answer
+fate_answer (Some Unknown) = None
+fate_answer (Some (Bad kind at)) = None
+fate_answer None = None
+
+abbrev pub fate_event : Option Fate → Event
+fate_event (Some (Found answer)) = Quiet
+fate_event (Some Unknown) = Quiet
+fate_event (Some (Bad kind at)) = Fault
+fate_event None = Quiet
+
+-- the fates of the stored streams as certificates for the jobs' files, in the order of the jobs; none for a job without a stream
+abbrev pub AreFates : AskedOf → Store → List JobName → List (List ℕ) → List (Option Fate) → Type 0
+AreFates p store [] paths fates = fates ≡ []
+AreFates p store (job ∷ jobs) [] (None ∷ fates) = AreFates p store jobs [] fates
+AreFates p store (job ∷ jobs) (path ∷ paths) (Some fate ∷ fates) =
+    ((stream : List ℕ) × (file : List ℕ) × (store path ≡ Some stream) × IsJobFile p job file × IsFate file stream most_stream fate)
+    × AreFates p store jobs paths fates
+AreFates p store (job ∷ jobs) paths fates = ⊥
+
+abbrev pub early_of : ProblemFault → Early
+early_of (ReadFault f) = Read f
+early_of (DesignFault f) = Design f
+early_of (TooManyFault job) = TooMany job
+
+-- What the stores give, without any lane: the refusal of the design's text; that of too many streams; or the status of the
+-- streams' fates, for the files that were put.
+abbrev pub IsPlainStatus : Store → Store → Request → Option Early → Status → Type 0
+IsPlainStatus before after request early status =
+    ((fault : ProblemFault) × IsRefused (Some before) request fault × (early ≡ Some (early_of fault)) × (status ≡ Error))
+    ⊎ ((p : AskedOf) × IsAccepted (Some before) request p × (length (jobs_in p) < length request.streams) × (early ≡ Some Streams) × (status ≡ Error))
+    ⊎ ((p : AskedOf) × (fates : List (Option Fate)) × IsAccepted (Some before) request p × (length request.streams ≤ length (jobs_in p))
+    × ArePut p request.folder (jobs_in p) (Some before) (Some after) × AreFates p after (jobs_in p) request.streams fates
+    × (early ≡ None) × IsStatusOf request.mode (map fate_answer fates) (map fate_event fates) status)
+
+-- no call failed, and memory was not wanting
+pub record IsSmooth (before after : World) (end : TaskEnd) : Type 0 where
+  pub files : Rose before.file_faults after.file_faults → ⊥
+  pub sink : Rose before.sink_faults after.sink_faults → ⊥
+  pub memory : end.status ≢ Memory
+
+-- completeness: over a store that tells, where no call failed and memory was not wanting, the status is the plain one
+abbrev pub IsComplete : World → World → Request → TaskEnd → Type 0
+IsComplete before after request end =
+    (store now : Store) → before.told ≡ Some store → after.told ≡ Some now → IsSmooth before after end → IsPlainStatus store now request end.early end.status
+
+-- the counts of faults didn't fall
+pub record IsLater (before after : World) : Type 0 where
+  pub files : before.file_faults ≤ after.file_faults
+  pub sink : before.sink_faults ≤ after.sink_faults
+
+-- a task was run, from one moment to another
+pub record TaskRan (before after : World) (request : Request) (end : TaskEnd) (exit : Exit) : Type 0 where
+  pub pass : end.status ≡ Pass → IsTrueOf before.told request end.text.items (PassClaim request.mode)
+  pub fail : end.status ≡ Fail → IsTrueOf before.told request end.text.items (FailClaim request.mode)
+  pub named : NamesEvent before after request end
+  pub printed : IsPrinted before.taken after.taken before.sink_faults after.sink_faults request end exit
+  pub stored : IsStored request before.told after.told
+  pub complete : IsComplete before after request end
+  pub later : IsLater before after

@@ -1,0 +1,70 @@
+-- How the jobs of a task end.
+use Rattle.std.specs.Prelude.{◌≡◌, ℕ, List, [], ◌∷◌, length, replicate, Option, Some, None, MatchOption}
+use Rattle.sby_edge.specs.Files.{Store}
+use Rattle.judge.specs.Fate.{IsFate, Found as FoundFate, Unknown as UnknownFate, Bad as BadFate}
+use Rattle.judge.specs.Finding.{FindingOf, IsTrueFinding}
+use Rattle.judge.specs.Numbers.{number_of}
+use Rattle.judge.specs.Problem.{AskedOf, IsJobFile}
+use Rattle.judge.specs.declared.stream.CertKind.{CertKind}
+use Rattle.race_core.specs.Report.{ReportOf, no_events}
+use Rattle.race_core.specs.declared.end.JobEnd.{JobEnd}
+use Rattle.race_core.specs.declared.end.JobEnd.TheVariants.{Found, Unknown, NotServed, Bad, ReadFailed, StartFailed, HoldFailed, Skipped, CalledOff, Stopped, Memory}
+use Rattle.sby_terms.specs.declared.names.JobName.{JobName}
+use Rattle.sby_top.specs.Served.{jobs_in, most_stream}
+
+-- what a path has meets this, where the store tells; a path that has nothing doesn't
+abbrev pub Has : Option Store → List ℕ → (List ℕ → Type 0) → Type 0
+Has None path P = Unit {0}
+Has (Some store) path P = MatchOption (store path) ⊥ P
+
+-- the end of a job is its stream's fate, as a certificate for the job's file; or memory was wanting
+abbrev pub IsFateEnd : List ℕ → List ℕ → JobEnd FindingOf → Type 0
+IsFateEnd file stream (Found f) = IsFate file stream most_stream (FoundFate f.answer)
+IsFateEnd file stream Unknown = IsFate file stream most_stream UnknownFate
+IsFateEnd file stream (Bad number at) = (kind : CertKind) × (number ≡ number_of kind) × IsFate file stream most_stream (BadFate kind at)
+IsFateEnd file stream Memory = Unit {0}
+IsFateEnd file stream NotServed = ⊥
+IsFateEnd file stream ReadFailed = ⊥
+IsFateEnd file stream StartFailed = ⊥
+IsFateEnd file stream HoldFailed = ⊥
+IsFateEnd file stream (Skipped f) = ⊥
+IsFateEnd file stream (CalledOff f) = ⊥
+IsFateEnd file stream (Stopped reading) = ⊥
+
+-- a finding is true, and is of this problem and job
+pub record IsFindingOf (p : AskedOf) (job : JobName) (f : FindingOf) : Type 0 where
+  pub problem : f.problem ≡ p.problem
+  pub of_job : f.job ≡ job
+  pub is_true : IsTrueFinding f
+
+abbrev pub IsEndOf : AskedOf → JobName → JobEnd FindingOf → Type 0
+IsEndOf p job (Found f) = IsFindingOf p job f
+IsEndOf p job Unknown = Unit {0}
+IsEndOf p job (Bad number at) = Unit {0}
+IsEndOf p job Memory = Unit {0}
+IsEndOf p job NotServed = ⊥
+IsEndOf p job ReadFailed = ⊥
+IsEndOf p job StartFailed = ⊥
+IsEndOf p job HoldFailed = ⊥
+IsEndOf p job (Skipped f) = ⊥
+IsEndOf p job (CalledOff f) = ⊥
+IsEndOf p job (Stopped reading) = ⊥
+
+-- the stream at this path was judged
+pub record IsJudged (p : AskedOf) (told : Option Store) (job : JobName) (path : List ℕ) (end : JobEnd FindingOf) : Type 0 where
+  pub of : IsEndOf p job end
+  pub fate : (file : List ℕ) → IsJobFile p job file → Has told path (λ stream. IsFateEnd file stream end)
+
+-- each job has an end, in the order of the jobs: its stream was judged, or it has none and isn't served
+abbrev pub AreJudged : AskedOf → Option Store → List JobName → List (List ℕ) → List (JobEnd FindingOf) → Type 0
+AreJudged p told [] paths ends = ends ≡ []
+AreJudged p told (job ∷ jobs) paths [] = ⊥
+AreJudged p told (job ∷ jobs) [] (end ∷ ends) = (end ≡ NotServed) × AreJudged p told jobs [] ends
+AreJudged p told (job ∷ jobs) (path ∷ paths) (end ∷ ends) = IsJudged p told job path end × AreJudged p told jobs paths ends
+
+-- the report of stored streams: that of lane 0, without events
+pub record IsReport (p : AskedOf) (told : Option Store) (paths : List (List ℕ)) (report : ReportOf FindingOf) : Type 0 where
+  pub lane : report.lane ≡ 0
+  pub jobs : report.jobs ≡ length (jobs_in p)
+  pub events : report.events ≡ replicate (length (jobs_in p)) no_events
+  pub ends : AreJudged p told (jobs_in p) paths report.ends

@@ -1,0 +1,15 @@
+pub mod Words
+pub mod Askable
+pub mod World
+pub mod Texts
+pub mod Counts
+pub mod Lines
+pub mod Telling
+pub mod Status
+pub mod Served
+pub mod Judged
+pub mod Came
+pub mod Headline
+pub mod Run
+pub mod End
+pub mod Steps

@@ -1,0 +1,88 @@
+// A job's stream is judged.
+
+ghost use Rattle.std.specs.Prelude.{◌≡◌, ◌↔◌, [], IfOk, IsTrue, None, option_map};
+ghost use Rattle.judge.specs.Judging.{fate_told};
+ghost use Rattle.judge.specs.Problem.{IsJob};
+ghost use Rattle.sby_top.specs.Steps.{end_of, IsBytesJudged, IsStreamJudged, IsTrueEnd, WasFed};
+
+use judge::{BadCert, Finding, Judge, Problem, Progress, State, StreamKind, fates_stay};
+use race_core::JobEnd;
+use sby_terms::JobName;
+use std::alloc::{AllocError, Global};
+
+const MOST_STREAM: u64 = 1 << 32;
+
+fn is_more(answer: &Result<Progress, BadCert>) -> bool
+    ensures { IsTrue result ↔ (fate_told answer.now ≡ None) }
+{
+    matches!(answer, Ok(Progress::More))
+}
+
+// Feeds all bytes, and the end where they aren't a fate.
+fn feed_all(judge: &mut Judge, bytes: &[u8]) -> Result<Result<Progress, BadCert>, AllocError>
+    requires state { judge.old.state ≡ State.Reading }
+    requires fresh { judge.old.taken ≡ [] }
+    ensures { IfOk result (λ r. WasFed judge.old bytes.now r) }
+{
+    fates_stay();
+    let answer = judge.feed(bytes)?;
+    if is_more(&answer) {
+        judge.end()
+    } else {
+        Ok(answer)
+    }
+}
+
+// The end of a job whose stream came to this. A stream that has ended came to something.
+fn end_of(answer: Result<Progress, BadCert>) -> JobEnd<Finding>
+    ensures end { result ≡ end_of answer }
+    ensures is_true { IsTrueEnd result }
+{
+    match answer {
+        Ok(Progress::Done(finding)) => {
+            // It tells that it is true.
+            let _ = finding.job();
+            JobEnd::Found(finding)
+        }
+        Ok(Progress::Unknown | Progress::More) => JobEnd::Unknown,
+        Err(bad) => JobEnd::Bad {
+            no: bad.kind.number(),
+            at: bad.at,
+        },
+    }
+}
+
+fn judge_bytes(
+    alloc: Global,
+    problem: &Problem,
+    job: JobName,
+    bytes: &[u8],
+) -> Result<JobEnd<Finding>, AllocError>
+    requires { IsJob problem.now job }
+    ensures { IfOk result (λ end. IsBytesJudged problem.now job bytes.now end) }
+{
+    // The job has a file.
+    let _ = problem.job_bytes(job);
+    let mut judge = Judge::new(alloc, problem, job, StreamKind::Drup, MOST_STREAM)?;
+    let answer = feed_all(&mut judge, bytes)?;
+    Ok(end_of(answer))
+}
+
+/// The end of a job with this stream, or without one: by the stream's fate as a certificate for the job's file.
+pub fn judge_job(
+    alloc: Global,
+    problem: &Problem,
+    job: JobName,
+    stream: &Option<Vec<u8>>,
+) -> JobEnd<Finding>
+    requires { IsJob problem.now job }
+    ensures { IsStreamJudged problem.now job (option_map (λ v. v.items) stream.now) result }
+{
+    match stream {
+        None => JobEnd::NotServed,
+        Some(bytes) => match judge_bytes(alloc, problem, job, bytes) {
+            Ok(end) => end,
+            Err(AllocError) => JobEnd::Memory,
+        },
+    }
+}

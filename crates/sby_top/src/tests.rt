@@ -1,0 +1,526 @@
+// Whole runs over files and output in memory.
+
+ghost use Rattle.std.specs.Prelude.{None};
+
+use super::*;
+use sby_edge::{Fail as FileFail, Failed, Files, MemFiles, MemSink, NoYard, Sink, StillClock};
+use std::alloc::{AllocError, Global};
+use std::test::Fail;
+
+const HEAD: &str = "module \\t\n wire input 1 \\clk\n attribute \\init 1'0\n wire \\q\n wire \\d\n";
+
+const OPEN_HEAD: &str = "module \\t\n wire input 1 \\clk\n wire \\q\n wire \\d\n";
+
+const NOT: &str =
+    " cell $not $n\n parameter \\A_SIGNED 0\n parameter \\A_WIDTH 1\n parameter \\Y_WIDTH 1\n connect \\A \\q\n connect \\Y \\d\n end\n";
+
+const REGISTER: &str =
+    " cell $dff $r\n parameter \\CLK_POLARITY 1'1\n parameter \\WIDTH 1\n connect \\CLK \\clk\n connect \\D \\d\n connect \\Q \\q\n end\n";
+
+const ASSERT: &str = " cell $assert \\a0\n connect \\A \\d\n connect \\EN 1'1\n end\n";
+
+const END: &str = "end\n";
+
+const T: &[&str] = &[HEAD, NOT, REGISTER, ASSERT, END];
+
+const DESIGN: &str = "SBY [t] design: 1 register bits, 1 assert, 0 assume, 0 cover";
+
+pub const UNSAT: &str = "SBY [t] base: UNSAT";
+
+pub const PASS: &str = "SBY [t] DONE (PASS, rc=0)";
+
+pub const ERROR: &str = "SBY [t] DONE (ERROR, rc=16)";
+
+const UNKNOWN: &str = "SBY [t] DONE (UNKNOWN, rc=4)";
+
+// What a run printed, and its exit status.
+#[derive(Drop)]
+pub struct Printed {
+    rc: u8,
+    bytes: Vec<u8>,
+}
+
+fn joined(alloc: Global, parts: &[&str]) -> Result<Vec<u8>, AllocError> {
+    let mut bytes = Vec::new(alloc);
+    for part in parts {
+        bytes.extend_from_slice(part.as_bytes())?;
+    }
+    Ok(bytes)
+}
+
+fn are_lines(bytes: &[u8], lines: &[&str]) -> bool {
+    let mut rest = bytes;
+    for line in lines {
+        let Some(behind) = rest.strip_prefix(line.as_bytes()) else {
+            return false;
+        };
+        let Some(behind) = behind.strip_prefix(b"\n") else {
+            return false;
+        };
+        rest = behind;
+    }
+    rest.is_empty()
+}
+
+fn owned(alloc: Global, words: &[&str]) -> Result<Vec<String>, AllocError> {
+    let mut list = Vec::new(alloc);
+    for word in words {
+        list.push(String::from_str(alloc, word)?)?;
+    }
+    Ok(list)
+}
+
+fn put(alloc: Global, files: &mut MemFiles, path: &str, bytes: &[u8]) -> Result<(), FileFail> {
+    files.put(alloc, path, bytes)
+}
+
+// A store with the design and the streams `s0` and `s1`, whose calls from then on fail where they are listed.
+fn store(
+    alloc: Global,
+    design: &[&str],
+    stream: &[u8],
+    failing: Vec<u64>,
+) -> Result<MemFiles, FileFail> {
+    let mut files = MemFiles::new(alloc, failing);
+    put(alloc, &mut files, "t.il", &joined(alloc, design)?)?;
+    put(alloc, &mut files, "s0", stream)?;
+    put(alloc, &mut files, "s1", stream)?;
+    Ok(files)
+}
+
+// The exit status of a run into a sink.
+fn run_into<S: Sink>(
+    rt: &HostRuntime,
+    files: &mut MemFiles,
+    words: &[&str],
+    out: &mut S,
+) -> Result<u8, AllocError> {
+    let words = owned(rt.alloc(), words)?;
+    let mut yard = NoYard::new();
+    let done = run_sby(
+        rt,
+        rt.alloc(),
+        &words,
+        files,
+        out,
+        &mut yard,
+        &StillClock(0),
+    );
+    Ok(done.rc)
+}
+
+fn run(
+    rt: &HostRuntime,
+    files: &mut MemFiles,
+    words: &[&str],
+    failing: Vec<u64>,
+) -> Result<Printed, AllocError> {
+    let mut out = MemSink::new(rt.alloc(), 2000, failing)?;
+    let rc = run_into(rt, files, words, &mut out)?;
+    let bytes = Vec::from_slice(rt.alloc(), out.bytes())?;
+    Ok(Printed { rc, bytes })
+}
+
+// A run of a stored stream for a design.
+pub fn judged(
+    rt: &HostRuntime,
+    design: &[&str],
+    depth: &str,
+    stream: &[u8],
+) -> Result<Printed, Fail> {
+    let alloc = rt.alloc();
+    let mut files = store(alloc, design, stream, Vec::new(alloc))?;
+    let words = ["--judge", "t.il", "bmc", depth, "s0"];
+    Ok(run(rt, &mut files, &words, Vec::new(alloc))?)
+}
+
+pub fn prints(printed: &Printed, rc: u8, lines: &[&str]) -> bool {
+    printed.rc == rc && are_lines(printed.bytes.as_slice(), lines)
+}
+
+#[test]
+fn streams_are_judged(rt: HostRuntime) -> Result<(), Fail> {
+    for (depth, stream, rc, last) in [
+        ("1", "0\n", 0, [UNSAT, PASS]),
+        (
+            "1",
+            "s UNSATISFIABLE\n",
+            16,
+            [
+                "SBY [t] engine_0 base: certificate EarlyEnd at byte 16",
+                ERROR,
+            ],
+        ),
+        (
+            "2",
+            "c x\n0\n",
+            16,
+            ["SBY [t] engine_0 base: certificate NotRup at byte 4", ERROR],
+        ),
+        ("1", "c hello\n-1 0\n0\n", 0, [UNSAT, PASS]),
+        ("1", "c hello\n-1 0\n0", 0, [UNSAT, PASS]),
+        (
+            "1",
+            "c hello\n-1 0\n",
+            16,
+            [
+                "SBY [t] engine_0 base: certificate EarlyEnd at byte 13",
+                ERROR,
+            ],
+        ),
+        (
+            "1",
+            "c hel",
+            16,
+            [
+                "SBY [t] engine_0 base: certificate EarlyEnd at byte 5",
+                ERROR,
+            ],
+        ),
+        ("1", "0\n@@@ rubbish", 0, [UNSAT, PASS]),
+        (
+            "1000",
+            "0\n",
+            16,
+            ["SBY [t] engine_0 base: certificate NotRup at byte 0", ERROR],
+        ),
+    ] {
+        let printed = judged(&rt, T, depth, stream.as_bytes())?;
+        assert!(rt;
+            prints(&printed, rc, &[DESIGN, last[0], last[1]]),
+            "{depth} {stream}"
+        );
+    }
+    Ok(())
+}
+
+#[test]
+fn lines_of_streams_are_told(rt: HostRuntime) -> Result<(), Fail> {
+    for (stream, rc, last) in [
+        ("s UNKNOWN", 4, ["SBY [t] engine_0 base: unknown", UNKNOWN]),
+        ("s UNKNOWN x\n0\n", 0, [UNSAT, PASS]),
+        (
+            "sx",
+            16,
+            [
+                "SBY [t] engine_0 base: certificate BadLine at byte 1",
+                ERROR,
+            ],
+        ),
+        (
+            "1 \n",
+            16,
+            [
+                "SBY [t] engine_0 base: certificate BadLine at byte 2",
+                ERROR,
+            ],
+        ),
+        (
+            "d 1\n",
+            16,
+            [
+                "SBY [t] engine_0 base: certificate BadLine at byte 3",
+                ERROR,
+            ],
+        ),
+        (
+            "-0",
+            16,
+            [
+                "SBY [t] engine_0 base: certificate BadLiteral at byte 1",
+                ERROR,
+            ],
+        ),
+        (
+            "01 0",
+            16,
+            [
+                "SBY [t] engine_0 base: certificate BadLiteral at byte 1",
+                ERROR,
+            ],
+        ),
+        ("d 1 0\n0\n", 0, [UNSAT, PASS]),
+    ] {
+        let printed = judged(&rt, T, "1", stream.as_bytes())?;
+        assert!(rt;
+            prints(&printed, rc, &[DESIGN, last[0], last[1]]),
+            "{stream}"
+        );
+    }
+    Ok(())
+}
+
+#[test]
+fn each_prefix_ends_early(rt: HostRuntime) -> Result<(), Fail> {
+    let stream = b"c hello\n-1 0\n0\n";
+    for length in 0..14 {
+        let printed = judged(&rt, T, "1", &stream[..length])?;
+        let line = format!(in rt.alloc();
+            "SBY [t] engine_0 base: certificate EarlyEnd at byte {length}"
+        )?;
+        assert!(rt;
+            prints(&printed, 16, &[DESIGN, line.as_str(), ERROR]),
+            "{length}"
+        );
+    }
+    Ok(())
+}
+
+// What a run over a store prints, and the content of the job's file.
+fn run_over(rt: &HostRuntime, words: &[&str], failing: Vec<u64>) -> Result<Printed, Fail> {
+    let mut files = store(rt.alloc(), T, b"0\n", failing)?;
+    Ok(run(rt, &mut files, words, Vec::new(rt.alloc()))?)
+}
+
+const USAGE: &str =
+    "usage: sby [-f] [-d DIR] FILE.sby [TASK ..] | sby [-d DIR] --judge DESIGN MODE DEPTH [STREAM ..] | sby --dumptasks FILE.sby | sby [-d DIR] --gen N";
+
+#[test]
+fn words_are_answered(rt: HostRuntime) -> Result<(), Fail> {
+    let cases: [(&[&str], u8, &[&str]); 9] = [
+        (&[], 16, &[USAGE]),
+        (&["--judge", "t.il", "live", "1"], 16, &[USAGE]),
+        (&["--gen", "1"], 16, &[USAGE]),
+        (&["--help"], 16, &[USAGE]),
+        (
+            &["-d", "w", "--judge", "t.il", "bmc", "1", "s0"],
+            0,
+            &[
+                "SBY [w] design: 1 register bits, 1 assert, 0 assume, 0 cover",
+                "SBY [w] base: UNSAT",
+                "SBY [w] DONE (PASS, rc=0)",
+            ],
+        ),
+        (
+            &["--judge", "t.il", "bmc", "1"],
+            4,
+            &[DESIGN, "SBY [t] engine_0 base: not served", UNKNOWN],
+        ),
+        (
+            &["--judge", "t.il", "bmc", "1", "s0", "s1"],
+            16,
+            &["SBY [t] ERROR: streams", ERROR],
+        ),
+        (
+            &["--judge", "u.il", "bmc", "1", "s0"],
+            16,
+            &["SBY [u] ERROR: file u.il", "SBY [u] DONE (ERROR, rc=16)"],
+        ),
+        (
+            &["--judge", "t.il", "bmc", "1", "s2"],
+            16,
+            &["SBY [t] ERROR: file s2", ERROR],
+        ),
+    ];
+    for (words, rc, lines) in cases {
+        let printed = run_over(&rt, words, Vec::new(rt.alloc()))?;
+        assert!(rt; prints(&printed, rc, lines), "{words:?}");
+    }
+    Ok(())
+}
+
+#[test]
+fn failed_files_are_told(rt: HostRuntime) -> Result<(), Fail> {
+    let words = ["--judge", "t.il", "bmc", "1", "s0"];
+    // Three calls put the files of the test.
+    for (call, line) in [
+        (4, "SBY [t] ERROR: file t.il"),
+        (5, "SBY [t] ERROR: file t/model/base.cnf"),
+        (6, "SBY [t] ERROR: file s0"),
+    ] {
+        let printed = run_over(&rt, &words, vec![in rt.alloc(); call]?)?;
+        assert!(rt; prints(&printed, 16, &[line, ERROR]), "{call}");
+    }
+    Ok(())
+}
+
+#[test]
+fn a_failed_sink_ends_the_run(rt: HostRuntime) -> Result<(), Fail> {
+    let words = ["--judge", "t.il", "bmc", "1", "s0"];
+    let lines = [DESIGN, UNSAT, PASS];
+    for (call, rc, count) in [(1, 16, 0), (2, 16, 1), (3, 16, 2), (4, 0, 3)] {
+        let mut files = store(rt.alloc(), T, b"0\n", Vec::new(rt.alloc()))?;
+        let printed = run(&rt, &mut files, &words, vec![in rt.alloc(); call]?)?;
+        assert!(rt; prints(&printed, rc, &lines[..count]), "{call}");
+    }
+    Ok(())
+}
+
+// Output that takes at most seven bytes at a time.
+#[derive(Drop)]
+struct SlowSink {
+    taken: Vec<u8>,
+    faults: u64,
+}
+
+impl Sink for SlowSink {
+    ghost taken = { λ _. None };
+
+    ghost faults = { λ s. s.faults };
+
+    fn write(&mut self, piece: &[u8]) -> Result<usize, Failed> {
+        let count = piece.len().min(7);
+        match self.taken.extend_from_slice(&piece[..count]) {
+            Ok(()) => Ok(count),
+            Err(_) => {
+                self.faults = self.faults.saturating_add(1);
+                Err(Failed)
+            }
+        }
+    }
+}
+
+#[test]
+fn a_slow_sink_is_offered_the_rest(rt: HostRuntime) -> Result<(), Fail> {
+    let mut files = store(rt.alloc(), T, b"0\n", Vec::new(rt.alloc()))?;
+    let mut out = SlowSink {
+        taken: Vec::new(rt.alloc()),
+        faults: 0,
+    };
+    let words = ["--judge", "t.il", "bmc", "1", "s0"];
+    assert_eq!(rt; run_into(&rt, &mut files, &words, &mut out)?, 0);
+    assert!(rt; are_lines(out.taken.as_slice(), &[DESIGN, UNSAT, PASS]));
+    Ok(())
+}
+
+fn base_file(rt: &HostRuntime, design: &[&str], depth: &str) -> Result<Vec<u8>, Fail> {
+    let alloc = rt.alloc();
+    let mut files = store(alloc, design, b"0\n", Vec::new(alloc))?;
+    run(
+        rt,
+        &mut files,
+        &["--judge", "t.il", "bmc", depth, "s0"],
+        Vec::new(alloc),
+    )?;
+    match files.content("t/model/base.cnf") {
+        Some(bytes) => Ok(Vec::from_slice(alloc, bytes)?),
+        None => Ok(Vec::new(alloc)),
+    }
+}
+
+#[test]
+fn job_files_are_put(rt: HostRuntime) -> Result<(), Fail> {
+    let plain: &[&str] = &[HEAD, NOT, REGISTER, END];
+    assert_eq!(rt;
+        base_file(&rt, plain, "5")?.as_slice(),
+        b"p cnf 1 1\n0\n".as_slice()
+    );
+    let printed = judged(&rt, plain, "5", b"0\n")?;
+    assert!(rt;
+        prints(
+            &printed,
+            0,
+            &[
+                "SBY [t] design: 1 register bits, 0 assert, 0 assume, 0 cover",
+                UNSAT,
+                PASS
+            ]
+        )
+    );
+    assert!(rt; base_file(&rt, T, "2")?.starts_with(b"p cnf "));
+    assert!(rt; base_file(&rt, &[HEAD, NOT, NOT, REGISTER, END], "2")?.is_empty());
+    assert!(rt; base_file(&rt, &["x"], "2")?.is_empty());
+    Ok(())
+}
+
+#[test]
+fn an_open_register_starts_anyhow(rt: HostRuntime) -> Result<(), Fail> {
+    let printed = judged(&rt, &[OPEN_HEAD, NOT, REGISTER, ASSERT, END], "1", b"0\n")?;
+    assert!(rt;
+        prints(
+            &printed,
+            16,
+            &[
+                DESIGN,
+                "SBY [t] engine_0 base: certificate NotRup at byte 0",
+                ERROR
+            ]
+        )
+    );
+    Ok(())
+}
+
+const TWO: &str =
+    " cell $not $m\n parameter \\A_SIGNED 0\n parameter \\A_WIDTH 1\n parameter \\Y_WIDTH 1\n connect \\A \\q\n connect \\Y \\d\n end\n";
+
+const LOOP: &str =
+    " cell $not $n\n parameter \\A_SIGNED 0\n parameter \\A_WIDTH 1\n parameter \\Y_WIDTH 1\n connect \\A \\d\n connect \\Y \\d\n end\n";
+
+const NO_WIDTH: &str =
+    " cell $not $n\n parameter \\A_SIGNED 0\n parameter \\A_WIDTH 1\n connect \\A \\q\n connect \\Y \\d\n end\n";
+
+const NO_PORT: &str =
+    " cell $not $n\n parameter \\A_SIGNED 0\n parameter \\A_WIDTH 1\n parameter \\Y_WIDTH 1\n connect \\A \\q\n end\n";
+
+const NO_TYPE: &str = " cell $nothing $n\n connect \\A \\q\n connect \\Y \\d\n end\n";
+
+const FALLING: &str =
+    " cell $dff $s\n parameter \\CLK_POLARITY 1'0\n parameter \\WIDTH 1\n connect \\CLK \\clk\n connect \\D \\q\n connect \\Q \\d\n end\n";
+
+#[test]
+fn design_faults_are_told(rt: HostRuntime) -> Result<(), Fail> {
+    let cases: [(&[&str], &str); 6] = [
+        (
+            &[HEAD, NO_TYPE, END],
+            "SBY [t] ERROR: design UnknownCell $n",
+        ),
+        (
+            &[HEAD, NO_WIDTH, END],
+            "SBY [t] ERROR: design BadParameter $n",
+        ),
+        (&[HEAD, NO_PORT, END], "SBY [t] ERROR: design PortWidth $n"),
+        (
+            &[HEAD, NOT, TWO, END],
+            "SBY [t] ERROR: design TwoDrivers \\d [0]",
+        ),
+        (
+            &[HEAD, REGISTER, FALLING, END],
+            "SBY [t] ERROR: design MultiClock $s",
+        ),
+        (&[HEAD, LOOP, END], "SBY [t] ERROR: design Loop $n"),
+    ];
+    for (design, line) in cases {
+        let printed = judged(&rt, design, "1", b"0\n")?;
+        assert!(rt; prints(&printed, 16, &[line, ERROR]), "{line}");
+    }
+    let printed = judged(&rt, &["x"], "1", b"0\n")?;
+    assert!(rt;
+        prints(
+            &printed,
+            16,
+            &["SBY [t] ERROR: rtlil byte 0: Syntax", ERROR]
+        )
+    );
+    Ok(())
+}
+
+// Forty inverters behind a register that starts at 1.
+fn chain(alloc: Global) -> Result<String, AllocError> {
+    let mut text = String::from_str(
+        alloc,
+        "module \\t\n wire input 1 \\clk\n attribute \\init 1'1\n wire \\w0\n",
+    )?;
+    for i in 1..41 {
+        text.push_str(format!(in alloc; " wire \\w{i}\n")?.as_str())?;
+    }
+    let mut before = 0;
+    for i in 1..41 {
+        text.push_str(format!(in alloc;
+            " cell $not $n{i}\n parameter \\A_SIGNED 0\n parameter \\A_WIDTH 1\n parameter \\Y_WIDTH 1\n connect \\A \\w{before}\n connect \\Y \\w{i}\n end\n"
+        )?.as_str())?;
+        before = i;
+    }
+    text.push_str(
+        " cell $dff $r\n parameter \\CLK_POLARITY 1'1\n parameter \\WIDTH 1\n connect \\CLK \\clk\n connect \\D \\w40\n connect \\Q \\w0\n end\n",
+    )?;
+    text.push_str(" cell $assert \\a0\n connect \\A \\w40\n connect \\EN 1'1\n end\nend\n")?;
+    Ok(text)
+}
+
+#[test]
+fn a_chain_is_followed(rt: HostRuntime) -> Result<(), Fail> {
+    let text = chain(rt.alloc())?;
+    let printed = judged(&rt, &[text.as_str()], "1", b"0\n")?;
+    assert!(rt; prints(&printed, 0, &[DESIGN, UNSAT, PASS]));
+    Ok(())
+}

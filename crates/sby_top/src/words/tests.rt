@@ -1,0 +1,108 @@
+// Words that are asked, and words that are refused.
+
+use super::{Asked, asked_of};
+use sby_terms::Mode;
+use std::alloc::{AllocError, Global};
+use std::process::Abort;
+use std::test::Fail;
+
+fn ask(alloc: Global, words: &[&str]) -> Result<Option<Asked>, AllocError> {
+    let mut list = Vec::new(alloc);
+    for word in words {
+        list.push(String::from_str(alloc, word)?)?;
+    }
+    asked_of(alloc, list.as_slice())
+}
+
+const REFUSED: [&[&str]; 22] = [
+    &[],
+    &["t.sby"],
+    &["--help"],
+    &["-h"],
+    &["--gen", "1"],
+    &["--dumptasks", "t.sby"],
+    &["--judge", "--gen", "t.il", "bmc", "1"],
+    &["--judge", "t.il", "live", "1"],
+    &["--judge", "t.il", "prove", "1"],
+    &["--judge", "t.il", "bmc"],
+    &["--judge", "t.il", "bmc", "0"],
+    &["--judge", "t.il", "bmc", "01"],
+    &["--judge", "t.il", "bmc", "+1"],
+    &["--judge", "t.il", "bmc", "1x"],
+    &["--judge", "t.il", "bmc", "1001"],
+    &["--judge", ".il", "bmc", "1"],
+    &["-d", "out", "--judge", ".rtlil", "bmc", "1"],
+    &["-d", "", "--judge", "t.il", "bmc", "1"],
+    &["--judge", "t.il", "bmc", "1", "t.wit"],
+    &["--judge", "--judge", "t.il", "bmc", "1"],
+    &["--judge", "t.il", "bmc", "1", "-d"],
+    &["--judge", "t.il", "bmc", "1", "-x"],
+];
+
+#[test]
+fn other_words_are_refused(rt: HostRuntime) -> Result<(), Fail> {
+    for words in REFUSED {
+        assert!(rt; ask(rt.alloc(), words)?.is_none(), "{words:?}");
+    }
+    Ok(())
+}
+
+const ASKED: [(&[&str], &str, &str, u32, &[&str]); 6] = [
+    (&["--judge", "t.il", "bmc", "1"], "t", "t.il", 1, &[]),
+    (
+        &["-d", "out", "--judge", "a/b.il", "bmc", "3", "x", "y"],
+        "out",
+        "a/b.il",
+        3,
+        &["x", "y"],
+    ),
+    (
+        &["a/b.rtlil", "-f", "bmc", "--judge", "1000", "x", "-d", "o"],
+        "o",
+        "a/b.rtlil",
+        1000,
+        &["x"],
+    ),
+    (
+        &["--judge", "a/b.rtlil", "bmc", "20", "t.drup"],
+        "a/b",
+        "a/b.rtlil",
+        20,
+        &["t.drup"],
+    ),
+    (&["--judge", "-fdo", "t", "bmc", "1"], "o", "t", 1, &[]),
+    (
+        &["--judge", "--", "t.il.il", "bmc", "7"],
+        "t.il",
+        "t.il.il",
+        7,
+        &[],
+    ),
+];
+
+fn is_same(asked: &Asked, folder: &str, design: &str, depth: u32, streams: &[&str]) -> bool {
+    asked.folder.as_str() == folder
+        && asked.design.as_str() == design
+        && asked.mode == Mode::Bmc
+        && asked.depth == depth
+        && asked.streams.len() == streams.len()
+        && asked
+            .streams
+            .iter()
+            .zip(streams)
+            .all(|(stream, name)| stream.as_str() == *name)
+}
+
+#[test]
+fn judged_designs_are_asked(rt: HostRuntime) -> Result<(), Fail> {
+    for (words, folder, design, depth, streams) in ASKED {
+        match ask(rt.alloc(), words)? {
+            None => panic!(rt; "{words:?}"),
+            Some(asked) => assert!(rt;
+                is_same(&asked, folder, design, depth, streams),
+                "{words:?}"
+            ),
+        }
+    }
+    Ok(())
+}
