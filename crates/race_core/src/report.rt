@@ -16,11 +16,14 @@ pub struct JobEvents<T> {
 }
 
 impl<T> Model for JobEvents<T> {
+    ghost use Rattle.std.specs.Prelude.{◌≤◌, vec_capacity};
     ghost use Rattle.race_core.specs.Report.{EventsOf};
 
     ghost Value = { EventsOf T };
 
     ghost view = { λ e. record { reader = e.reader.items; keeper = e.keeper.items } };
+
+    ghost invariant = { λ e. (1 ≤ vec_capacity e.reader) × (2 ≤ vec_capacity e.keeper) };
 }
 
 impl<T: Drop> JobEvents<T> {

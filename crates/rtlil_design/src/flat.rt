@@ -83,13 +83,11 @@ impl Flat {
 
     /// Whether each cycle of the run has rows of this design's lengths.
     pub fn fits(&self, run: &Run) -> bool
-        ensures { IsTrue result → IsRunOf self.now run.now }
+        ensures { IsTrue result ↔ IsRunOf self.now run.now }
     {
-        let bits = self.design.bits() as usize;
-        let free = self.design.free() as usize;
         let cycles = run.cycles();
         for cycle in cycles {
-            if cycle.wires().len() != bits || cycle.free().len() != free {
+            if !fits_cycle(&self.design, cycle) {
                 return false;
             }
         }
@@ -125,6 +123,13 @@ impl Flat {
         }
         unreachable!()
     }
+}
+
+// Whether the cycle has rows of the design's lengths.
+fn fits_cycle(design: &Design, cycle: &Cycle) -> bool
+    ensures { IsTrue result ↔ IsCycleOf design.now cycle.now }
+{
+    cycle.wires().len() == design.bits() as usize && cycle.free().len() == design.free() as usize
 }
 
 fn is_assert(kind: Kind) -> bool

@@ -14,6 +14,4 @@ mod number;
 pub mod row;
 pub mod shape;
 pub mod signal;
-#[cfg(test)]
-mod tests;
 pub mod wire;

@@ -10,3 +10,6 @@ pub mod StartLemmas
 pub mod PartLemmas
 pub mod Wholes
 pub mod ReadLemmas
+pub mod Room
+pub mod Closing
+pub mod Continuing

@@ -1,6 +1,6 @@
 -- Whole texts, token by token.
-use Rattle.std.proofs.Common.{◌≡◌, ◌⊎◌, ℕ, ◌+◌, ◌<◌, ◌≤◌, ◌^◌, true, false, cond, List, [], ◌∷◌, ◌++◌, length, map, Option, Some, None, Result, Ok, Err, refl, sym, ap, ◌∙◌, subst, inl, inr, append-nil, arith}
-use Rattle.rtlil_lex.specs.Tokens.{TokenOf, IsTokens, Lexes, Front, Gap, IsToken}
+use Rattle.std.proofs.Common.{◌≡◌, ◌⊎◌, ℕ, ◌+◌, true, false, List, [], ◌∷◌, ◌++◌, length, Some, Ok, Err, refl, sym, ap, ◌∙◌, subst, inl, inr, append-nil, arith}
+use Rattle.rtlil_lex.specs.Tokens.{TokenOf, IsTokens, Front, Gap, IsToken}
 use Rattle.rtlil_lex.proofs.Lexing.{one_list, no_tokens}
 use Rattle.rtlil_lex.proofs.Fronts.{front_lexes, one_front, break_ends, break_place}
 use Rattle.rtlil_design.specs.Shape.{DesignOf}
@@ -37,7 +37,7 @@ words_then : (ts us : List TokenOf) → words_of (ts ++ us) ≡ words_of ts ++ w
 words_then [] us = refl
 words_then (t ∷ ts) us = ap (λ (x : List Word). t.text ∷ x) (words_then ts us)
 
-reading_then : (ts us : List TokenOf) → reading (ts ++ us) ≡ (reading ts ⊳ λ x. steps x.0 x.1 (words_of us))
+pub reading_then : (ts us : List TokenOf) → reading (ts ++ us) ≡ (reading ts ⊳ λ x. steps x.0 x.1 (words_of us))
 reading_then ts us = ap (λ (x : List Word). steps (new_draft []) (File false) x) (words_then ts us) ∙ steps_then (new_draft []) (File false) (words_of ts) (words_of us)
 
 -- one more word
@@ -63,7 +63,7 @@ one_read text d e r q =
     ap f (sym r.whole ∙ both ∙ q.whole)
 
 -- a word that is refused stands in no text that is read so far
-refused_start : (ts us : List TokenOf) (k : ReadFaultKind) (x : State) → reading ts ≡ Err k → reading (ts ++ us) ≡ Ok x → ⊥
+pub refused_start : (ts us : List TokenOf) (k : ReadFaultKind) (x : State) → reading ts ≡ Err k → reading (ts ++ us) ≡ Ok x → ⊥
 refused_start ts us k x e f = let g = refused_on ts us k e in cc
 
 -- ---- a text is read or refused, and by one fault

@@ -20,10 +20,6 @@ bare_other (b ∷ name) h =
       | false ↦ λ e. refl
     ] refl
 
--- what a comparison in the code says of a keyword
-pub tested : (b v : Bool) (word x key : List ℕ) → b ≡ bytes_eq word x → x ≡ key → b ≡ v → bytes_eq word key ≡ v
-tested b v word x key e f g = sym (ap (λ (y : List ℕ). bytes_eq word y) f) ∙ (sym e ∙ g)
-
 -- ---- names
 
 pub utf8_yes : (w : Word) → IsUtf8 w → is_utf8 w ≡ true

@@ -177,13 +177,14 @@ bare_line d w =
     (cond (bytes_eq w (codes "connect")) (goes_on d (Signal Left []))
     (cond (bytes_eq w (codes "end")) (goes_on d (File true)) (Err Syntax)))
 
--- a line of the module; a wire has a bit at least
+-- a line of the module; a wire has a bit at least, and no module stands in another
 unfoldable pub line : DraftOf → AttributesOf → Word → Outcome
 line d a w =
     cond (bytes_eq w (codes "attribute")) (goes_on d (Attribute a))
     (cond (bytes_eq w (codes "wire")) (cond (nat_lt (bits d) most_bits) (goes_on d (WireOption a (record { width = None; input = false }))) (Err Limit))
     (cond (bytes_eq w (codes "cell")) (goes_on d CellType)
-    (cond (bytes_eq w (codes "memory") || bytes_eq w (codes "process")) (Err LeftOut) (cond a.some (Err Syntax) (bare_line d w)))))
+    (cond (bytes_eq w (codes "memory") || bytes_eq w (codes "process")) (Err LeftOut)
+    (cond (bytes_eq w (codes "module")) (Err SeveralModules) (cond a.some (Err Syntax) (bare_line d w))))))
 
 -- the width is given once at most; other options may be repeated
 abbrev pub wire_option : DraftOf → AttributesOf → WireOptions → Word → Outcome
@@ -222,7 +223,8 @@ unfoldable pub cell_line : DraftOf → CellDraft → Word → Outcome
 cell_line d c w =
     cond (bytes_eq w (codes "parameter")) (goes_on d (CellParameter c))
     (cond (bytes_eq w (codes "connect")) (goes_on d (Port c))
-    (cond (bytes_eq w (codes "end")) (goes_on (cond c.ignored d (with_cell d c.cell)) (Line no_attributes)) (Err Syntax)))
+    (cond (bytes_eq w (codes "end")) (goes_on (cond c.ignored d (with_cell d c.cell)) (Line no_attributes))
+    (cond (bytes_eq w (codes "module")) (Err SeveralModules) (Err Syntax))))
 
 -- the registers that are reset in step with the clock
 abbrev pub is_reset : Kind → Bool

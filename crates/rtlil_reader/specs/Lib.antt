@@ -5,4 +5,5 @@ pub mod Grammar
 pub mod Faults
 pub mod Views
 pub mod Drafts
+pub mod Beginnings
 pub mod Outcome

@@ -1,17 +1,22 @@
 // Cells.
 
-ghost use Rattle.std.specs.Prelude.{◌≡◌, ℕ, ◌+◌, ◌<◌, ◌≤◌, ◌^◌, [], ◌∷◌, ◌++◌, map, reverse, true, false, List, slice_index, length, IfOk, OnOk};
+ghost use Rattle.std.specs.Prelude.{◌≡◌, ℕ, ◌+◌, ◌<◌, ◌≤◌, ◌^◌, [], ◌∷◌, ◌++◌, map, reverse, true, false, cond, List, slice_index, length, IfOk, OnOk};
 ghost use Rattle.rtlil_lex.specs.Tokens.{begins_name};
 ghost use Rattle.rtlil_design.specs.declared.shape.SigBit.{SigBit};
-ghost use Rattle.rtlil_reader.specs.Grammar.{bare, has_parameter, has_port, is_reset, takes_free, cell_line, cell_name, cell_parameter, parameter_name, port_name, with_port, numbered_digits, plain_digit, open_digits};
+ghost use Rattle.rtlil_reader.specs.Grammar.{bare, has_parameter, has_port, is_reset, takes_free, cell_line, cell_name, cell_parameter, parameter_name, port_name, with_cell, with_port, goes_on, needs, ◌⊳◌, numbered_digits, plain_digit, open_digits};
+ghost use Rattle.rtlil_reader.specs.Constants.{constant_of};
+ghost use Rattle.rtlil_reader.specs.Parts.{no_attributes};
 ghost use Rattle.rtlil_reader.specs.Drafts.{Gives, draft_of, IsIndexed, Fits, FitsCell};
+ghost use Rattle.rtlil_reader.specs.declared.fault.ReadFaultKind.TheVariants.{Syntax};
+ghost use Rattle.rtlil_reader.specs.declared.spot.Spot.TheVariants.{CellLine, Line};
 
-use crate::constant::is_open;
+use crate::constant::{constant, is_open};
 use crate::draft::{Draft, add_cell, has_room, number_free, open_digits};
 use crate::fault::ReadFaultKind;
 use crate::segments::Segments;
 use crate::spot::{Attributes, CellDraft, Label, Spot, Target};
 use crate::stop::Stop;
+use crate::word::is_word;
 use rtlil_design::cell::Cell;
 use rtlil_design::kind::Kind;
 use rtlil_design::shape::Digit;
@@ -116,6 +121,20 @@ pub fn cell_name<'a>(
     }))
 }
 
+/// The end of a cell.
+fn end_cell(alloc: Global, draft: &mut Draft, cell: CellDraft) -> Result<Spot, Stop>
+    requires { FitsCell (draft_of draft.old) cell }
+    ensures step { Gives (λ s. (draft_of draft.new, s)) result
+        (goes_on (cond cell.ignored (draft_of draft.old) (with_cell (draft_of draft.old) cell.cell)) (Line no_attributes)) }
+    ensures fits { IfOk result (λ s. Fits (draft_of draft.new) s) }
+    ensures indexed { IsIndexed draft.old → OnOk result (IsIndexed draft.new) }
+{
+    if !cell.ignored {
+        add_cell(&mut draft.design, cell.into_cell())?;
+    }
+    Ok(Spot::Line(Attributes::none(alloc)))
+}
+
 /// A line of a cell, or its `end`.
 #[tactic(auto, unfolding(crate::specs::Grammar::cell_line))]
 pub fn cell_line(
@@ -129,19 +148,19 @@ pub fn cell_line(
     ensures fits { IfOk result (λ s. Fits (draft_of draft.new) s) }
     ensures indexed { IsIndexed draft.old → OnOk result (IsIndexed draft.new) }
 {
-    if word == b"parameter".as_slice() {
+    if is_word(word, "parameter") {
         return Ok(Spot::CellParameter(cell));
     }
-    if word == b"connect".as_slice() {
+    if is_word(word, "connect") {
         return Ok(Spot::Port(cell));
     }
-    if word != b"end".as_slice() {
-        return Err(Stop::Fault(ReadFaultKind::Syntax));
+    if is_word(word, "end") {
+        return end_cell(alloc, draft, cell);
     }
-    if !cell.ignored {
-        add_cell(&mut draft.design, cell.cell)?;
+    if is_word(word, "module") {
+        return Err(Stop::Fault(ReadFaultKind::SeveralModules));
     }
-    Ok(Spot::Line(Attributes::none(alloc)))
+    Err(Stop::Fault(ReadFaultKind::Syntax))
 }
 
 /// The name of a parameter.
@@ -177,22 +196,21 @@ pub fn port_name(alloc: Global, draft: &Draft, cell: CellDraft, name: &str) -> R
     Ok(Spot::Signal(Target::Port(cell, label), Segments::new(alloc)))
 }
 
-/// A parameter whose x, z and - are free bits.
-fn free_parameter(
+/// Adds a parameter whose x, z and - are free bits.
+fn push_free(
     alloc: Global,
     draft: &mut Draft,
-    cell: CellDraft,
+    cell: &mut CellDraft,
     label: Label,
     digits: &[u8],
-) -> Result<Spot, Stop>
-    requires fits { FitsCell (draft_of draft.old) cell }
-    requires fresh { has_parameter cell.cell label ≡ false }
-    requires free { takes_free cell.cell.kind label ≡ true }
-    ensures step { Gives (λ s. (draft_of draft.new, s)) result (cell_parameter (draft_of draft.old) cell label digits.now) }
-    ensures fits { IfOk result (λ s. Fits (draft_of draft.new) s) }
+) -> Result<(), Stop>
+    requires fits { FitsCell (draft_of draft.old) cell.old }
+    requires fresh { has_parameter cell.old.cell label ≡ false }
+    requires free { takes_free cell.old.cell.kind label ≡ true }
+    ensures step { Gives (λ _. (draft_of draft.new, CellLine cell.new)) result (cell_parameter (draft_of draft.old) cell.old label digits.now) }
+    ensures fits { OnOk result (FitsCell (draft_of draft.new) cell.new) }
     ensures indexed { IsIndexed draft.old → OnOk result (IsIndexed draft.new) }
 {
-    let mut cell = cell;
     let count = open_digits(digits);
     if !has_room(&draft.design, count) {
         return Err(Stop::Fault(ReadFaultKind::Limit));
@@ -201,30 +219,49 @@ fn free_parameter(
     cell.cell
         .push_parameter(label.into_string(), Digits::new(row))?;
     number_free(&mut draft.design, count as u32);
-    Ok(Spot::CellLine(cell))
+    Ok(())
+}
+
+/// Adds a parameter of these digits.
+fn push_parameter(
+    alloc: Global,
+    draft: &mut Draft,
+    cell: &mut CellDraft,
+    label: Label,
+    digits: &[u8],
+) -> Result<(), Stop>
+    requires fits { FitsCell (draft_of draft.old) cell.old }
+    requires fresh { has_parameter cell.old.cell label ≡ false }
+    ensures step { Gives (λ _. (draft_of draft.new, CellLine cell.new)) result (cell_parameter (draft_of draft.old) cell.old label digits.now) }
+    ensures fits { OnOk result (FitsCell (draft_of draft.new) cell.new) }
+    ensures indexed { IsIndexed draft.old → OnOk result (IsIndexed draft.new) }
+{
+    if takes_free(cell.cell.kind(), label.as_str()) {
+        return push_free(alloc, draft, cell, label, digits);
+    }
+    let row = plain_digits(alloc, digits)?;
+    cell.cell
+        .push_parameter(label.into_string(), Digits::new(row))?;
+    Ok(())
 }
 
 /// A parameter's constant.
-pub fn cell_parameter(
+pub fn parameter_value(
     alloc: Global,
     draft: &mut Draft,
     cell: CellDraft,
     label: Label,
-    digits: &[u8],
+    word: &[u8],
 ) -> Result<Spot, Stop>
     requires fits { FitsCell (draft_of draft.old) cell }
     requires fresh { has_parameter cell.cell label ≡ false }
-    ensures step { Gives (λ s. (draft_of draft.new, s)) result (cell_parameter (draft_of draft.old) cell label digits.now) }
+    ensures step { Gives (λ s. (draft_of draft.new, s)) result (needs Syntax (constant_of 1 word.now) ⊳ cell_parameter (draft_of draft.old) cell label) }
     ensures fits { IfOk result (λ s. Fits (draft_of draft.new) s) }
     ensures indexed { IsIndexed draft.old → OnOk result (IsIndexed draft.new) }
 {
-    if takes_free(cell.cell.kind(), label.as_str()) {
-        return free_parameter(alloc, draft, cell, label, digits);
-    }
     let mut cell = cell;
-    let row = plain_digits(alloc, digits)?;
-    cell.cell
-        .push_parameter(label.into_string(), Digits::new(row))?;
+    let digits = constant(alloc, 1, word)?;
+    push_parameter(alloc, draft, &mut cell, label, digits.as_slice())?;
     Ok(Spot::CellLine(cell))
 }
 

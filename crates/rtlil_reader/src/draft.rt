@@ -34,6 +34,11 @@ pub struct Draft<'a> {
     pub cells: Names<'a>,
 }
 
+impl<'a> Draft<'a> {
+    /// Lets the draft go.
+    pub fn discard(self) {}
+}
+
 /// A module of this name with no items yet.
 pub fn new_draft<'a>(alloc: Global, name: String) -> Draft<'a>
     ensures draft { draft_of result ≡ new_draft (string_bytes name) }

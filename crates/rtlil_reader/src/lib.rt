@@ -6,6 +6,7 @@ mod constant;
 mod draft;
 mod fault;
 mod kinds;
+mod laws;
 mod module_text;
 mod names;
 mod reader;
@@ -15,9 +16,8 @@ mod signal_text;
 mod spot;
 mod step;
 mod stop;
+mod word;
 
 pub use fault::{ReadFault, ReadFaultKind};
+pub use laws::{each_reading_goes_on, refused_where_no_text_goes_on, texts_are_read};
 pub use reading::{one_design, one_refusal, read, read_or_refused};
-
-#[cfg(test)]
-mod tests;

@@ -16,6 +16,7 @@ use crate::segments::Segments;
 use crate::signal_text::{begins_slice, signal_name, signal_word, slice};
 use crate::spot::{Attributes, NumberedOption, Spot, Target, WireOptions};
 use crate::stop::Stop;
+use crate::word::is_word;
 use std::alloc::Global;
 
 /// A line of the file.
@@ -23,13 +24,13 @@ pub fn file_line(draft: &Draft, behind: bool, word: &[u8]) -> Result<Spot, Stop>
     ensures step { Gives (λ s. (draft_of draft.now, s)) result (file_line (draft_of draft.now) behind word.now) }
     ensures fits { IfOk result (λ s. Fits (draft_of draft.now) s) }
 {
-    if word == b"autoidx".as_slice() {
+    if is_word(word, "autoidx") {
         return Ok(Spot::AutoIdx(behind));
     }
-    if word == b"attribute".as_slice() {
+    if is_word(word, "attribute") {
         return Ok(Spot::FileAttribute(behind));
     }
-    if word != b"module".as_slice() {
+    if !is_word(word, "module") {
         return Err(Stop::Fault(ReadFaultKind::Syntax));
     }
     if behind {
@@ -43,13 +44,13 @@ fn bare_line(alloc: Global, draft: &Draft, word: &[u8]) -> Result<Spot, Stop>
     ensures step { Gives (λ s. (draft_of draft.now, s)) result (bare_line (draft_of draft.now) word.now) }
     ensures fits { IfOk result (λ s. Fits (draft_of draft.now) s) }
 {
-    if word == b"parameter".as_slice() {
+    if is_word(word, "parameter") {
         return Ok(Spot::ModuleParameter);
     }
-    if word == b"connect".as_slice() {
+    if is_word(word, "connect") {
         return Ok(Spot::Signal(Target::Left, Segments::new(alloc)));
     }
-    if word == b"end".as_slice() {
+    if is_word(word, "end") {
         return Ok(Spot::File(true));
     }
     Err(Stop::Fault(ReadFaultKind::Syntax))
@@ -61,10 +62,10 @@ pub fn line(alloc: Global, draft: &Draft, attributes: Attributes, word: &[u8]) -
     ensures step { Gives (λ s. (draft_of draft.now, s)) result (line (draft_of draft.now) attributes word.now) }
     ensures fits { IfOk result (λ s. Fits (draft_of draft.now) s) }
 {
-    if word == b"attribute".as_slice() {
+    if is_word(word, "attribute") {
         return Ok(Spot::Attribute(attributes));
     }
-    if word == b"wire".as_slice() {
+    if is_word(word, "wire") {
         if !has_room(&draft.design, 1) {
             return Err(Stop::Fault(ReadFaultKind::Limit));
         }
@@ -74,11 +75,14 @@ pub fn line(alloc: Global, draft: &Draft, attributes: Attributes, word: &[u8]) -
         };
         return Ok(Spot::WireOption(attributes, options));
     }
-    if word == b"cell".as_slice() {
+    if is_word(word, "cell") {
         return Ok(Spot::CellType);
     }
-    if word == b"memory".as_slice() || word == b"process".as_slice() {
+    if is_word(word, "memory") || is_word(word, "process") {
         return Err(Stop::Fault(ReadFaultKind::LeftOut));
+    }
+    if is_word(word, "module") {
+        return Err(Stop::Fault(ReadFaultKind::SeveralModules));
     }
     if attributes.some() {
         return Err(Stop::Fault(ReadFaultKind::Syntax));
@@ -97,20 +101,20 @@ pub fn wire_option(
     ensures step { Gives (λ s. (draft_of draft.now, s)) result (wire_option (draft_of draft.now) attributes options word.now) }
     ensures fits { IfOk result (λ s. Fits (draft_of draft.now) s) }
 {
-    let numbered = if word == b"width".as_slice() {
+    let numbered = if is_word(word, "width") {
         if options.width.is_some() {
             return Err(Stop::Fault(ReadFaultKind::Syntax));
         }
         NumberedOption::Width
-    } else if word == b"offset".as_slice() {
+    } else if is_word(word, "offset") {
         NumberedOption::Offset
-    } else if word == b"input".as_slice() {
+    } else if is_word(word, "input") {
         NumberedOption::Input
-    } else if word == b"output".as_slice() {
+    } else if is_word(word, "output") {
         NumberedOption::Output
-    } else if word == b"inout".as_slice() {
+    } else if is_word(word, "inout") {
         return Err(Stop::Fault(ReadFaultKind::LeftOut));
-    } else if word == b"upto".as_slice() || word == b"signed".as_slice() {
+    } else if is_word(word, "upto") || is_word(word, "signed") {
         return Ok(Spot::WireOption(attributes, options));
     } else {
         return Err(Stop::Fault(ReadFaultKind::Syntax));
@@ -202,7 +206,7 @@ pub fn attribute_value(
 pub fn is_form(word: &[u8]) -> bool
     ensures { result ≡ is_form word.now }
 {
-    word == b"signed".as_slice() || word == b"real".as_slice()
+    is_word(word, "signed") || is_word(word, "real")
 }
 
 /// The constant of a parameter of the module, or the next line.
@@ -268,7 +272,10 @@ fn slice_part(
 {
     match slice(alloc, segments, word) {
         Ok(segments) => Ok(Spot::Part(target, segments)),
-        Err(stop) => Err(stop),
+        Err(stop) => {
+            target.discard();
+            Err(stop)
+        }
     }
 }
 
@@ -296,7 +303,7 @@ pub fn part_word(
     }
     let mut segments = segments;
     segments.join();
-    if word == b"}".as_slice() {
+    if is_word(word, "}") {
         return Ok(Spot::Part(target, segments));
     }
     signal_word(alloc, draft, target, segments, word)
@@ -328,6 +335,9 @@ pub fn part_name(
             let target = Target::Right(segments.into_signal());
             signal_name(draft, target, Segments::new(alloc), name)
         }
-        Target::Port(..) | Target::Right(_) => Err(Stop::Fault(ReadFaultKind::Syntax)),
+        Target::Port(..) | Target::Right(_) => {
+            target.discard();
+            Err(Stop::Fault(ReadFaultKind::Syntax))
+        }
     }
 }

@@ -17,7 +17,6 @@ use std::alloc::Global;
 use std::marker::Model;
 
 /// The module so far, and what comes next.
-#[derive(Drop)]
 pub struct Reader<'a> {
     draft: Draft<'a>,
     spot: Spot,
@@ -33,6 +32,14 @@ impl<'a> Model for Reader<'a> {
     ghost view = { λ a. (draft_of a.draft, a.spot) };
 
     ghost invariant = { λ a. IsIndexed a.draft × Fits (draft_of a.draft) a.spot };
+}
+
+impl<'a> Drop for Reader<'a> {
+    fn drop(self) {
+        let Reader { draft, spot } = self;
+        draft.discard();
+        spot.discard();
+    }
 }
 
 /// Why a text that ends at this spot is refused.
@@ -67,12 +74,12 @@ impl<'a> Reader<'a> {
         let Reader { mut draft, spot } = self;
         match step(alloc, &mut draft, spot, word) {
             Ok(spot) => Ok(Reader { draft, spot }),
-            Err(stop) => Err(stop),
+            Err(stop) => {
+                draft.discard();
+                Err(stop)
+            }
         }
     }
-
-    /// Nothing more is read.
-    pub fn discard(self) {}
 
     /// The design of a text that ends here, or why it is refused at its end.
     pub fn end(self, len: u64) -> Result<Design, ReadFault>
@@ -80,12 +87,10 @@ impl<'a> Reader<'a> {
     {
         let Reader { draft, spot } = self;
         let fault = at_end(&spot);
-        discard(spot);
+        spot.discard();
         ended(into_design(draft), len, fault)
     }
 }
-
-fn discard(_spot: Spot) {}
 
 fn into_design(draft: Draft) -> Design
     ensures { result ≡ draft.entry.design }

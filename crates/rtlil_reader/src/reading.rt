@@ -37,10 +37,7 @@ fn design(alloc: Global, bytes: &[u8]) -> Result<Result<Design, ReadFault>, Allo
                 Err(Stop::Memory) => return Err(AllocError),
             },
             Ok(None) => return Ok(reader.end(bytes.len() as u64)),
-            Err(fault) => {
-                reader.discard();
-                return Ok(refused(fault.byte, ReadFaultKind::Syntax));
-            }
+            Err(fault) => return Ok(refused(fault.byte, ReadFaultKind::Syntax)),
         }
     }
 }

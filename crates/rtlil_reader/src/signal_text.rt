@@ -2,7 +2,11 @@
 
 ghost use Rattle.std.specs.Prelude.{◌≡◌, ℕ, ◌+◌, ◌<◌, ◌≤◌, ◌^◌, false, [], ◌∷◌, ◌++◌, List, Ok, None, min, length, All, OnOk, IfOk, slice_index, reverse};
 ghost use Rattle.rtlil_design.specs.declared.shape.SigBit.{SigBit};
-ghost use Rattle.rtlil_reader.specs.Grammar.{constant_part, signal_word, signal_name, slice_fault, slice_word, ◌⊳◌, begins_slice, is_ignored_target};
+ghost use Rattle.rtlil_reader.specs.Grammar.{constant_part, signal_word, signal_name, slice_fault, slice_word, needs, ◌⊳◌, begins_slice, is_ignored_target};
+ghost use Rattle.rtlil_reader.specs.Constants.{constant_of};
+ghost use Rattle.rtlil_reader.specs.declared.fault.ReadFaultKind.TheVariants.{Syntax};
+ghost use Rattle.rtlil_reader.specs.declared.spot.Target.{Target as AnyTarget};
+ghost use Rattle.rtlil_reader.specs.declared.spot.Spot.TheVariants.{Part};
 ghost use Rattle.rtlil_reader.specs.Drafts.{Gives, draft_of, IsIndexed, Fits, FitsTarget, FitsRows};
 
 use crate::constant::{constant, slice_indices};
@@ -11,6 +15,7 @@ use crate::fault::ReadFaultKind;
 use crate::segments::Segments;
 use crate::spot::{Spot, Target};
 use crate::stop::Stop;
+use crate::word::is_word;
 use std::alloc::Global;
 
 fn is_ignored(target: &Target) -> bool
@@ -22,29 +27,28 @@ fn is_ignored(target: &Target) -> bool
     }
 }
 
-/// A constant as a signal.
-fn constant_part(
+/// Adds the bits of a constant's digits as a row.
+fn push_digits(
     draft: &mut Draft,
-    target: Target,
-    segments: Segments,
+    target: &Target,
+    segments: &mut Segments,
     digits: &[u8],
-) -> Result<Spot, Stop>
-    requires target { FitsTarget (draft_of draft.old) target }
-    requires rows { FitsRows (draft_of draft.old) segments }
-    ensures step { Gives (λ s. (draft_of draft.new, s)) result (constant_part (draft_of draft.old) target segments digits.now) }
-    ensures fits { IfOk result (λ s. Fits (draft_of draft.new) s) }
+) -> Result<(), Stop>
+    requires target { FitsTarget (draft_of draft.old) target.now }
+    requires rows { FitsRows (draft_of draft.old) segments.old }
+    ensures step { Gives (λ _. (draft_of draft.new, Part target.now segments.new)) result (constant_part (draft_of draft.old) target.now segments.old digits.now) }
+    ensures fits { OnOk result (Fits (draft_of draft.new) (Part target.now segments.new)) }
     ensures indexed { IsIndexed draft.old → OnOk result (IsIndexed draft.new) }
 {
-    let mut segments = segments;
     if digits.is_empty() {
         return Err(Stop::Fault(ReadFaultKind::Syntax));
     }
     if digits.contains(&b'm') {
         return Err(Stop::Fault(ReadFaultKind::LeftOut));
     }
-    if is_ignored(&target) {
+    if is_ignored(target) {
         segments.push_plain(digits)?;
-        return Ok(Spot::Part(target, segments));
+        return Ok(());
     }
     let count = open_digits(digits);
     if !has_room(&draft.design, count) {
@@ -53,7 +57,26 @@ fn constant_part(
     let first = draft.design.free();
     segments.push_numbered(first, digits)?;
     number_free(&mut draft.design, count as u32);
-    Ok(Spot::Part(target, segments))
+    Ok(())
+}
+
+/// Adds a constant's bits as a row.
+fn push_constant(
+    alloc: Global,
+    draft: &mut Draft,
+    target: &Target,
+    segments: &mut Segments,
+    word: &[u8],
+) -> Result<(), Stop>
+    requires target { FitsTarget (draft_of draft.old) target.now }
+    requires rows { FitsRows (draft_of draft.old) segments.old }
+    ensures step { Gives (λ _. (draft_of draft.new, Part target.now segments.new)) result
+        (needs Syntax (constant_of 1 word.now) ⊳ constant_part (draft_of draft.old) target.now segments.old) }
+    ensures fits { OnOk result (Fits (draft_of draft.new) (Part target.now segments.new)) }
+    ensures indexed { IsIndexed draft.old → OnOk result (IsIndexed draft.new) }
+{
+    let digits = constant(alloc, 1, word)?;
+    push_digits(draft, target, segments, digits.as_slice())
 }
 
 /// A signal begins.
@@ -71,17 +94,41 @@ pub fn signal_word(
     ensures fits { IfOk result (λ s. Fits (draft_of draft.new) s) }
     ensures indexed { IsIndexed draft.old → OnOk result (IsIndexed draft.new) }
 {
-    if word == b"{".as_slice() {
-        let mut segments = segments;
-        segments.open()?;
+    let mut segments = segments;
+    if is_word(word, "{") {
+        let Ok(()) = segments.open() else {
+            target.discard();
+            return Err(Stop::Memory);
+        };
         return Ok(Spot::Signal(target, segments));
     }
-    let digits = constant(alloc, 1, word)?;
-    constant_part(draft, target, segments, digits.as_slice())
+    match push_constant(alloc, draft, &target, &mut segments, word) {
+        Ok(()) => Ok(Spot::Part(target, segments)),
+        Err(stop) => {
+            target.discard();
+            Err(stop)
+        }
+    }
+}
+
+/// Adds a wire's bits as a row.
+#[tactic(auto, unfolding(crate::specs::Grammar::signal_name))]
+fn push_named(draft: &Draft, segments: &mut Segments, name: &str) -> Result<(), Stop>
+    requires indexed { IsIndexed draft.now }
+    requires rows { FitsRows (draft_of draft.now) segments.old }
+    ensures step { (t : AnyTarget) → Gives (λ _. (draft_of draft.now, Part t segments.new)) result (signal_name (draft_of draft.now) t segments.old name.now) }
+    ensures rows { OnOk result (FitsRows (draft_of draft.now) segments.new) }
+    ensures some { OnOk result (0 < length segments.new) }
+{
+    let Some(place) = draft.wires.place(name) else {
+        return Err(Stop::Fault(ReadFaultKind::UnknownWire));
+    };
+    let wires = draft.design.wires();
+    segments.push_wire(place as u32, wires[place].width())?;
+    Ok(())
 }
 
 /// A wire as a signal.
-#[tactic(auto, unfolding(crate::specs::Grammar::signal_name))]
 pub fn signal_name(
     draft: &Draft,
     target: Target,
@@ -94,13 +141,14 @@ pub fn signal_name(
     ensures step { Gives (λ s. (draft_of draft.now, s)) result (signal_name (draft_of draft.now) target segments name.now) }
     ensures fits { IfOk result (λ s. Fits (draft_of draft.now) s) }
 {
-    let Some(place) = draft.wires.place(name) else {
-        return Err(Stop::Fault(ReadFaultKind::UnknownWire));
-    };
-    let wires = draft.design.wires();
     let mut segments = segments;
-    segments.push_wire(place as u32, wires[place].width())?;
-    Ok(Spot::Part(target, segments))
+    match push_named(draft, &mut segments, name) {
+        Ok(()) => Ok(Spot::Part(target, segments)),
+        Err(stop) => {
+            target.discard();
+            Err(stop)
+        }
+    }
 }
 
 pub fn begins_slice(word: &[u8]) -> bool

@@ -143,10 +143,27 @@ pub enum NumberedOption {
 }
 
 /// A cell so far, and whether its type is one that is ignored.
-#[derive(Drop)]
 pub struct CellDraft {
     pub cell: Cell,
     pub ignored: bool,
+}
+
+impl CellDraft {
+    pub fn into_cell(self) -> Cell
+        ensures { result ≡ self.cell }
+    {
+        let CellDraft { cell, ignored: _ } = self;
+        cell
+    }
+}
+
+impl Drop for CellDraft {
+    fn drop(self) {
+        let CellDraft {
+            cell: _,
+            ignored: _,
+        } = self;
+    }
 }
 
 /// What a signal is for: a port of a cell, or a side of a `connect`, the right one behind the left one.
@@ -155,6 +172,11 @@ pub enum Target {
     Port(CellDraft, Label),
     Left,
     Right(Signal),
+}
+
+impl Target {
+    /// Lets the target go.
+    pub fn discard(self) {}
 }
 
 /// What comes next. A `bool` in a variant says whether the module is behind.
@@ -204,4 +226,9 @@ pub enum Spot {
     Signal(Target, Segments),
     /// A slice of the signal that is the first segment, or what stands behind it.
     Part(Target, Segments),
+}
+
+impl Spot {
+    /// Lets the spot go.
+    pub fn discard(self) {}
 }

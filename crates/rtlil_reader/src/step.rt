@@ -5,9 +5,9 @@ ghost use Rattle.rtlil_reader.specs.Grammar.{name_step, step, word_step};
 ghost use Rattle.rtlil_reader.specs.Drafts.{Gives, draft_of, IsIndexed, Fits};
 
 use crate::cell_text::{
-    cell_line, cell_name, cell_parameter, parameter_name, port_name, starts_name,
+    cell_line, cell_name, parameter_name, parameter_value, port_name, starts_name,
 };
-use crate::constant::{constant, is_constant, is_number};
+use crate::constant::{is_constant, is_number};
 use crate::draft::{Draft, add_wire, new_draft};
 use crate::fault::ReadFaultKind;
 use crate::kinds::{is_ignored, kind};
@@ -19,6 +19,7 @@ use crate::signal_text::{signal_name, signal_word};
 use crate::spot::{Attributes, Spot};
 use crate::stop::Stop;
 use std::alloc::Global;
+use std::mem;
 
 /// A word that is no name.
 #[tactic(auto, unfolding(crate::specs::Grammar::word_step))]
@@ -44,13 +45,13 @@ fn word_step(alloc: Global, draft: &mut Draft, spot: Spot, word: &[u8]) -> Resul
         }
         Spot::CellLine(cell) => cell_line(alloc, draft, cell, word),
         Spot::CellParameter(cell) if is_form(word) => Ok(Spot::CellParameterName(cell)),
-        Spot::CellParameterValue(cell, label) => {
-            let digits = constant(alloc, 1, word)?;
-            cell_parameter(alloc, draft, cell, label, digits.as_slice())
-        }
+        Spot::CellParameterValue(cell, label) => parameter_value(alloc, draft, cell, label, word),
         Spot::Signal(target, segments) => signal_word(alloc, draft, target, segments, word),
         Spot::Part(target, segments) => part_word(alloc, draft, target, segments, word),
-        _ => Err(Stop::Fault(ReadFaultKind::Syntax)),
+        _ => {
+            spot.discard();
+            Err(Stop::Fault(ReadFaultKind::Syntax))
+        }
     }
 }
 
@@ -61,7 +62,8 @@ fn module_name(alloc: Global, draft: &mut Draft, name: &str) -> Result<Spot, Sto
     ensures fits { IfOk result (λ s. Fits (draft_of draft.new) s) }
     ensures indexed { OnOk result (IsIndexed draft.new) }
 {
-    *draft = new_draft(alloc, String::from_str(alloc, name)?);
+    let new = new_draft(alloc, String::from_str(alloc, name)?);
+    mem::replace(draft, new).discard();
     Ok(Spot::Line(Attributes::none(alloc)))
 }
 
@@ -96,7 +98,10 @@ fn name_step<'a>(
         Spot::Port(cell) => port_name(alloc, draft, cell, name),
         Spot::Signal(target, segments) => signal_name(draft, target, segments, name),
         Spot::Part(target, segments) => part_name(alloc, draft, target, segments, name),
-        _ => Err(Stop::Fault(ReadFaultKind::Syntax)),
+        _ => {
+            spot.discard();
+            Err(Stop::Fault(ReadFaultKind::Syntax))
+        }
     }
 }
 
@@ -118,6 +123,9 @@ pub fn step<'a>(
     }
     match str::from_utf8(word) {
         Ok(name) => name_step(alloc, draft, spot, name),
-        Err(_) => Err(Stop::Fault(ReadFaultKind::NotUtf8Name)),
+        Err(_) => {
+            spot.discard();
+            Err(Stop::Fault(ReadFaultKind::NotUtf8Name))
+        }
     }
 }

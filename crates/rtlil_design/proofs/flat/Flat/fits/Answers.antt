@@ -1,16 +1,29 @@
-use Rattle.std.proofs.Common.{◌∙◌, Bool, List, length, ap, sym, subst}
-use Rattle.rtlil_design.specs.Shape.{DesignOf, wire_bits}
-use Rattle.rtlil_design.specs.Runs.{IsCycleOf}
-use Rattle.rtlil_design.proofs.Lists.{each_more, item_is, All-from_places}
+use Rattle.std.proofs.Common.{All, List, refl, subst, sym}
+use Rattle.std.proofs.lemmas.Bool.{false≢true}
+use Rattle.std.proofs.lemmas.List.Elements.{All-contains}
+use Rattle.rtlil_design.specs.Shape.{DesignOf}
+use Rattle.rtlil_design.specs.Runs.{CycleOf, IsCycleOf}
+use Rattle.rtlil_design.proofs.Lists.{All-from_places, Contains-from_place, each_more, item_at, item_is}
 use Rattle.rtlil_design.proofs.flat.Flat.fits.Goals as goal
 
 pub loop-cycle-preserved : goal.loop-cycle-preserved
 loop-cycle-preserved c =
     each_more (IsCycleOf c.args.self.now) c.cycles-cycles.result.now c.loop-cycle.cycle-index c.loop-cycle.invariant
-    (λ x h. subst (IsCycleOf c.args.self.now) (item_is c.cycles-cycles.result.now c.loop-cycle.cycle-index c.cycle-item.result x c.cycle-item.is h) (record {
-      wires = ap (λ (r : List Bool). length r) (sym c.wires.ensures) ∙ (c.if-wires-bits.false ∙ (c.bits-bits.ensures.bits ∙ ap (λ (d : DesignOf). wire_bits d) c.self.view_is));
-      free = ap (λ (r : List Bool). length r) (sym c.free.ensures) ∙ (c.if-free.false ∙ (c.free-free.ensures.free ∙ ap (λ (d : DesignOf). d.free) c.self.view_is));
-    }))
+    (λ x h. subst (IsCycleOf c.args.self.now) (item_is c.cycles-cycles.result.now c.loop-cycle.cycle-index c.cycle-item.result x c.cycle-item.is h)
+    (subst (λ (d : DesignOf). IsCycleOf d c.cycle-item.result) c.self.view_is (c.if-not-fits_cycle.ensures.0 refl)))
+
+pub returns-then-not-fits_cycle : goal.returns-then-not-fits_cycle
+returns-then-not-fits_cycle c = (
+  λ h. absurd (false≢true h),
+  λ all.
+      let here = item_at c.cycles-cycles.result.now c.loop-cycle.cycle-index c.cycle-item.result c.cycle-item.is c.loop-cycle-test.true in
+      let each = subst (λ (cs : List CycleOf). All (IsCycleOf c.args.self.now) cs) (sym c.cycles-cycles.ensures) all in
+      let fit = All-contains (IsCycleOf c.args.self.now) c.cycles-cycles.result.now _ each (Contains-from_place c.cycles-cycles.result.now _ _ here) in
+      c.if-not-fits_cycle.ensures.1 (subst (λ (d : DesignOf). IsCycleOf d c.cycle-item.result) (sym c.self.view_is) fit),
+)
 
 pub returns : goal.returns
-returns c = λ _. rw c.cycles-cycles.ensures at (All-from_places (IsCycleOf c.args.self.now) c.cycles-cycles.result.now c.loop-cycle.cycle-index c.loop-cycle-test.false c.loop-cycle.invariant)
+returns c = (
+  λ _. rw c.cycles-cycles.ensures at (All-from_places (IsCycleOf c.args.self.now) c.cycles-cycles.result.now c.loop-cycle.cycle-index c.loop-cycle-test.false c.loop-cycle.invariant),
+  λ _. refl,
+)

@@ -6,7 +6,7 @@ use Rattle.rtlil_reader.specs.Grammar.{signal_name, name_place, wire_names, wire
 use Rattle.rtlil_reader.specs.Drafts.{draft_of}
 use Rattle.rtlil_reader.proofs.Declared.{rows_with, wire_declared}
 use Rattle.rtlil_reader.proofs.WireLemmas.{few_wires, place_within}
-use Rattle.rtlil_reader.proofs.signal_text.signal_name.Goals as goal
+use Rattle.rtlil_reader.proofs.signal_text.push_named.Goals as goal
 
 pub overflow_cast-place : goal.overflow_cast-place
 overflow_cast-place c =
@@ -15,7 +15,7 @@ overflow_cast-place c =
 
 pub returns-clause-step : goal.returns-clause-step
 unfolding signal_name
-returns-clause-step c =
+returns-clause-step c = λ t.
     let d = c.args.draft.now.design in
     let lt = place_within c.args.draft.now.wires d.wires c.in-Some.place c.requires.indexed c.in-Some.ensures.within in
     let found : name_place (wire_names d.wires) c.args.name.now ≡ Some c.in-Some.place =
@@ -24,14 +24,11 @@ returns-clause-step c =
     item_at d.wires c.in-Some.place c.index-wires-place.result (rw c.wires-wires.ensures.wires at c.index-wires-place.is) lt in
     rw (found, at, c.in_ok-push_wire.ensures, c.width.ensures) refl
 
-pub returns-clause-fits : goal.returns-clause-fits
-returns-clause-fits c =
+pub returns-clause-rows : goal.returns-clause-rows
+returns-clause-rows c =
     let d = c.args.draft.now.design in
     let lt = place_within c.args.draft.now.wires d.wires c.in-Some.place c.requires.indexed c.in-Some.ensures.within in
     let x = c.index-wires-place.result in
     let at : slice_get d.wires c.in-Some.place ≡ Some x = item_at d.wires c.in-Some.place x (rw c.wires-wires.ensures.wires at c.index-wires-place.is) lt in
-    rw (c.in_ok-push_wire.ensures, c.width.ensures) (
-      c.requires.target,
-      rows_with (draft_of c.args.draft.now) (wire_row c.in-Some.place x.width) c.args.segments (wire_declared d.wires d.free c.in-Some.place x at x.width (omega arith)) c.requires.rows,
-      omega arith,
-    )
+    rw (c.in_ok-push_wire.ensures, c.width.ensures)
+    (rows_with (draft_of c.args.draft.now) (wire_row c.in-Some.place x.width) c.args.segments.now (wire_declared d.wires d.free c.in-Some.place x at x.width (omega arith)) c.requires.rows)

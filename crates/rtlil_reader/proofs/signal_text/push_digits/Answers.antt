@@ -2,14 +2,14 @@ use Rattle.std.proofs.Common.{◌+◌, ◌∷◌, arith, map}
 use Rattle.rtlil_reader.specs.Grammar.{open_digits, plain_bit, numbered_bits, with_free}
 use Rattle.rtlil_reader.specs.Drafts.{draft_of}
 use Rattle.rtlil_reader.proofs.Declared.{target_more, plain_declared, numbered_declared, rows_with, rows_more_free}
-use Rattle.rtlil_reader.proofs.signal_text.constant_part.Goals as goal
+use Rattle.rtlil_reader.proofs.signal_text.push_digits.Goals as goal
 
 pub returns-then-is_ignored-clause-fits : goal.returns-then-is_ignored-clause-fits
 returns-then-is_ignored-clause-fits c =
     let d = draft_of c.args.draft.now in
     rw c.in_ok-push_plain.ensures (
       c.requires.target,
-      rows_with d (map plain_bit c.args.digits.now) c.args.segments (plain_declared d.design.wires d.design.free c.args.digits.now) c.requires.rows,
+      rows_with d (map plain_bit c.args.digits.now) c.args.segments.now (plain_declared d.design.wires d.design.free c.args.digits.now) c.requires.rows,
       omega arith,
     )
 
@@ -18,8 +18,8 @@ returns-clause-fits c =
     let d = draft_of c.args.draft.now in
     let n = open_digits c.args.digits.now in
     rw (c.number_free.ensures, c.in_ok-push_numbered.ensures, c.free-first.ensures.free, c.open_digits-count.ensures.count) (
-      target_more d n c.args.target c.requires.target,
-      rows_with (with_free d n) (numbered_bits d.design.free c.args.digits.now) c.args.segments
-          (numbered_declared d.design.wires (d.design.free + n) d.design.free c.args.digits.now (omega arith)) (rows_more_free d n c.args.segments c.requires.rows),
+      target_more d n c.args.target.now c.requires.target,
+      rows_with (with_free d n) (numbered_bits d.design.free c.args.digits.now) c.args.segments.now
+          (numbered_declared d.design.wires (d.design.free + n) d.design.free c.args.digits.now (omega arith)) (rows_more_free d n c.args.segments.now c.requires.rows),
       omega arith,
     )

@@ -1,16 +1,16 @@
 // Designs as lists of items, and what the check says of them.
 
-use crate::cell::Cell;
-use crate::check::check;
-use crate::connect::Connect;
-use crate::design::Design;
-use crate::driver::Driver;
-use crate::fault::FaultKind;
-use crate::kind::{Binary, Kind, LeftOut, Statement, Unary};
-use crate::row::{Cycle, Row, Run};
-use crate::shape::{Digit, SigBit};
-use crate::signal::{Digits, Signal, StartDigits};
-use crate::wire::Wire;
+use rtlil_design::cell::Cell;
+use rtlil_design::check::check;
+use rtlil_design::connect::Connect;
+use rtlil_design::design::Design;
+use rtlil_design::driver::Driver;
+use rtlil_design::fault::FaultKind;
+use rtlil_design::kind::{Binary, Kind, LeftOut, Statement, Unary};
+use rtlil_design::row::{Cycle, Row, Run};
+use rtlil_design::shape::{Digit, SigBit};
+use rtlil_design::signal::{Digits, Signal, StartDigits};
+use rtlil_design::wire::Wire;
 use std::alloc::Global;
 use std::test::Fail;
 
@@ -18,6 +18,8 @@ use std::test::Fail;
 enum Item {
     // a `$not` of a bit to a bit
     Not(&'static str, SigBit, SigBit),
+    // a `$not` of as many bits 1 to a bit
+    Wide(&'static str, u32),
     // a `$dff` on a clock, of a bit to a bit
     Register(&'static str, SigBit, SigBit, SigBit),
     // an `$and` of a signed bit and an unsigned one
@@ -69,26 +71,45 @@ fn add_wire(
     Ok(())
 }
 
-fn add_parameter(alloc: Global, cell: &mut Cell, name: &str, value: bool) -> Result<(), Fail> {
+fn add_number(alloc: Global, cell: &mut Cell, name: &str, value: u32) -> Result<(), Fail> {
     if cell.has_parameter(name) {
         return Err(Fail::from("not built"));
     }
     let mut digits = Vec::new(alloc);
-    digits.push(Digit::Const(value))?;
+    for place in 0..32u32 {
+        digits.push(Digit::Const((value >> place) % 2 == 1))?;
+    }
     let name = String::from_str(alloc, name)?;
     cell.push_parameter(name, Digits::new(digits))?;
     Ok(())
 }
 
-fn add_port(alloc: Global, cell: &mut Cell, name: &str, bit: SigBit) -> Result<(), Fail> {
+fn add_parameter(alloc: Global, cell: &mut Cell, name: &str, value: bool) -> Result<(), Fail> {
+    add_number(alloc, cell, name, u32::from(value))
+}
+
+// Adds a port of as many copies of a bit.
+fn add_copies(
+    alloc: Global,
+    cell: &mut Cell,
+    name: &str,
+    bit: SigBit,
+    count: u32,
+) -> Result<(), Fail> {
     if cell.has_port(name) {
         return Err(Fail::from("not built"));
     }
     let mut bits = Vec::new(alloc);
-    bits.push(bit)?;
+    for _ in 0..count {
+        bits.push(bit)?;
+    }
     let name = String::from_str(alloc, name)?;
     cell.push_port(name, Signal::new(bits))?;
     Ok(())
+}
+
+fn add_port(alloc: Global, cell: &mut Cell, name: &str, bit: SigBit) -> Result<(), Fail> {
+    add_copies(alloc, cell, name, bit, 1)
 }
 
 fn add_cell(design: &mut Design, cell: Cell) -> Result<(), Fail> {
@@ -128,6 +149,16 @@ fn unary(alloc: Global, name: &str, from: SigBit, to: SigBit) -> Result<Cell, Fa
     add_parameter(alloc, &mut cell, "Y_WIDTH", true)?;
     add_port(alloc, &mut cell, "A", from)?;
     add_port(alloc, &mut cell, "Y", to)?;
+    Ok(cell)
+}
+
+fn wide(alloc: Global, name: &str, width: u32) -> Result<Cell, Fail> {
+    let mut cell = Cell::new(alloc, Kind::Unary(Unary::Not), text(alloc, name)?);
+    add_parameter(alloc, &mut cell, "A_SIGNED", false)?;
+    add_number(alloc, &mut cell, "A_WIDTH", width)?;
+    add_parameter(alloc, &mut cell, "Y_WIDTH", true)?;
+    add_copies(alloc, &mut cell, "A", ONE, width)?;
+    add_port(alloc, &mut cell, "Y", X)?;
     Ok(cell)
 }
 
@@ -174,6 +205,7 @@ fn add(alloc: Global, design: &mut Design, item: Item) -> Result<(), Fail> {
         Item::Register(name, clock, from, to) => {
             add_cell(design, register(alloc, name, clock, from, to)?)
         }
+        Item::Wide(name, width) => add_cell(design, wide(alloc, name, width)?),
         Item::Mixed(name) => add_cell(design, mixed(alloc, name)?),
         Item::Assert(name, bit) => add_cell(design, assertion(alloc, name, bit)?),
         Item::Bare(name, kind) => add_cell(design, Cell::new(alloc, kind, text(alloc, name)?)),
@@ -266,6 +298,7 @@ fn cell_rows(alloc: Global) -> Result<bool, Fail> {
             Item::Bare("$c", Kind::Statement(Statement::Assume)),
             FaultKind::PortWidth,
         ),
+        (Item::Wide("$c", 4097), FaultKind::WidthLimit),
         (Item::Mixed("$c"), FaultKind::MixedSign),
     ] {
         if !is_refused(alloc, &[item], kind, "$c")? {
