@@ -1,0 +1,17 @@
+pub mod Cutting
+pub mod Digits
+pub mod Distinct
+pub mod Driving
+pub mod Filtered
+pub mod Following
+pub mod Numbering
+pub mod Running
+pub mod Flats
+pub mod Frames
+pub mod Kept
+pub mod Saying
+pub mod Stepping
+pub mod Tables
+pub mod Turning
+pub mod Wholes
+pub mod Words
