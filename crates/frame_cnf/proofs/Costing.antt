@@ -25,7 +25,9 @@ use Rattle.sby_terms.specs.declared.names.JobName.TheVariants.{Base}
 use Rattle.frame_cnf.specs.Jobs.{frames}
 use Rattle.frame_cnf.specs.Encoding.{cell_cost, cost, is_square, port_bits}
 use Rattle.frame_cnf.specs.Sources.{AreSources, outputs_by, outputs_of}
-use Rattle.frame_cnf.specs.Costs.{assert_gates, assume_gates, cycle_gates, driver_gates, order_gates, word_gates}
+use Rattle.frame_cnf.specs.Costs.{CanPass, assert_gates, assume_gates, cycle_gates, driver_gates, order_gates, word_gates}
+use Rattle.frame_cnf.proofs.Inputs.{source_inputs}
+use Rattle.frame_cnf.proofs.Registers.{outputs_are_held}
 use Rattle.frame_cnf.proofs.Lists.{push-either}
 use Rattle.frame_cnf.proofs.Words.{length_cond}
 use Rattle.frame_cnf.proofs.Saying.{statement_of}
@@ -215,11 +217,11 @@ module _ (d : DesignOf) (flat : IsFlat d) (design : IsDesign d) where
       let rest = cells_bound xs (λ k y g. h (suc k) y g) in
       omega (arith, o, a, b, c, e, here, rest)
 
-  pub cost_bound : (order : List Driver) (outs news : List SigBit) (starts : List (Option Bool)) (opens : List SigBit) (n : ℕ) → IsOrder d order → AreSources d outs news starts opens → 1 ≤ n →
+  pub cost_bound : (order : List Driver) (outs news : List SigBit) (starts : List (Option Bool)) (reads : List Bool) (opens : List SigBit) (n : ℕ) → IsOrder d order → AreSources d outs news starts reads opens → 1 ≤ n →
       MAX_VARS < 1 + length starts + n * (length opens + cycle_gates d order) → 2 ^ 27 < frames Base n * cost d
-  cost_bound order outs news starts opens zero iso is m more = absurd (omega arith)
-  cost_bound order outs news starts opens (suc k) iso is m more =
-      let few = is.inputs.few in
+  cost_bound order outs news starts reads opens zero iso is m more = absurd (omega arith)
+  cost_bound order outs news starts reads opens (suc k) iso is m more =
+      let few = (source_inputs d outs news starts reads opens is).few in
       let s = is.starts.as_many in
       let o = ap (λ (xs : List SigBit). length xs) is.outputs in
       let gates = order_bound d order iso in
@@ -227,3 +229,10 @@ module _ (d : DesignOf) (flat : IsFlat d) (design : IsDesign d) where
       let all : 16 + (length starts + (length opens + cycle_gates d order)) ≤ cost d = omega (arith, few, s, o, gates, bound) in
       let times = mul-le-mul_left (suc k) all in
       omega (arith, times, more)
+
+  pub can_pass : (order : List Driver) (outs news : List SigBit) (starts : List (Option Bool)) (reads : List Bool) (opens : List SigBit) (n : ℕ) → IsOrder d order → AreSources d outs news starts reads opens →
+      MAX_VARS < 1 + length starts + n * (length opens + cycle_gates d order) → CanPass d n
+  can_pass order outs news starts reads opens n iso is m =
+      let s = is.starts.as_many in
+      let o = ap (λ (xs : List SigBit). length xs) (is.outputs ∙ outputs_are_held d flat) in
+      record { order = order; is_order = iso; inputs = opens; are_inputs = source_inputs d outs news starts reads opens is; past = omega (arith, m, s, o) }

@@ -1,5 +1,5 @@
 -- A cycle's bits follow from the bits on which it rests.
-use Rattle.std.proofs.Common.{◌≡◌, ◌≢◌, ◌↔◌, ◌⊎◌, ℕ, zero, suc, ◌+◌, ◌<◌, true, List, [], Some, refl, sym, ap, ◌∙◌, subst, inl, inr, arith, codes}
+use Rattle.std.proofs.Common.{◌≡◌, ◌≢◌, ◌↔◌, ◌⊎◌, ℕ, zero, suc, ◌<◌, true, List, [], Some, refl, sym, ap, ◌∙◌, subst, inl, inr, arith, codes}
 use Rattle.std.specs.Prelude.{slice_get, Contains, All}
 use Rattle.std.specs.List.{flat_map}
 use Rattle.std.proofs.lemmas.Bool.{true≢false}
@@ -12,7 +12,7 @@ use Rattle.rtlil_design.specs.declared.driver.Driver.{Driver}
 use Rattle.rtlil_design.specs.declared.driver.Driver.TheVariants.{Cell, Connect}
 use Rattle.rtlil_design.specs.declared.kind.Kind.{Kind}
 use Rattle.rtlil_design.specs.declared.kind.Kind.TheVariants.{Unary as UnaryCell, Binary as BinaryCell, Compare as CompareCell, Mux, Dff, Statement}
-use Rattle.rtlil_design.specs.Shape.{PortOf, CellOf, ConnectOf, DesignOf, IsDesign, IsDeclared, wire_bits}
+use Rattle.rtlil_design.specs.Shape.{PortOf, CellOf, ConnectOf, DesignOf, IsDesign, IsDeclared}
 use Rattle.rtlil_design.specs.Asked.{is_served, output_of, output_port, ports_asked, role_of, signal_at, port, PortAsked, Combinational, Register, Saying}
 use Rattle.rtlil_design.specs.Meaning.{Valuation, Frame, CellHolds, IsCell, bit_in, row_in}
 use Rattle.rtlil_design.specs.Faults.{IsFlat, driven}
@@ -24,7 +24,7 @@ use Rattle.frame_cnf.specs.Sources.{AreInputs, outputs, outputs_by, outputs_of}
 use Rattle.frame_cnf.specs.Tables.{Holds}
 use Rattle.frame_cnf.proofs.Lists.{at_place, contained_at, contained_flat, flat_contains, nothing_at, one_at, place_of_contained}
 use Rattle.frame_cnf.proofs.Flats.{IsOperandName, at_a, at_b, at_s, bits_rows, cell_line, cell_of, connect_of, connect_width, operand_otherwise, operand_read, rows_bits, rows_same, signal_port, stable_bit, word_cell}
-use Rattle.frame_cnf.proofs.Inputs.{bit_place}
+use Rattle.frame_cnf.proofs.Inputs.{free_bit, free_undriven, wire_bit}
 use Rattle.frame_cnf.proofs.Reading.{read_through}
 
 -- the kinds that are served, by their parts
@@ -144,7 +144,7 @@ module _ (d : DesignOf) (flat : IsFlat d) (design : IsDesign d) where
           inr (contained_flat outputs_of d.cells i c b is (subst (λ (xs : List SigBit). Contains xs b) e h))
       by i c is h (statement s) = absurd (no_name i c is s h)
 
-  module _ (order : List Driver) (is : IsOrder d order) (inputs : List SigBit) (opens : AreInputs d (wire_bits d + d.free) inputs)
+  module _ (order : List Driver) (is : IsOrder d order) (inputs : List SigBit) (opens : AreInputs d inputs)
       (u v : Valuation) (fu : Frame d u) (fv : Frame d v)
       (regs : (b : SigBit) → Contains (outputs d) b → bit_in u b ≡ bit_in v b) (ins : (b : SigBit) → Contains inputs b → bit_in u b ≡ bit_in v b) where
     -- bits that no driver drives
@@ -156,8 +156,8 @@ module _ (d : DesignOf) (flat : IsFlat d) (design : IsDesign d) where
         by (Const c) db read none ne = ne refl
         by (Wire w i) db read none ne =
             let undriven : Contains (driven d) (Wire w i) → ⊥ = λ h. elim (driven_cases (Wire w i) h) as (λ _. ⊥) [ inl p ↦ none p.0 p.1 | inr p ↦ ne (regs (Wire w i) p) ] in
-            ne (ins (Wire w i) (opens.all (Wire w i) (db, undriven) read (bit_place d (Wire w i) db)))
-        by (Free n) db read none ne = ne (ins (Free n) (opens.all (Free n) db read (bit_place d (Free n) db)))
+            ne (ins (Wire w i) (opens.all (Wire w i) (wire_bit d w i db, undriven) read))
+        by (Free n) db read none ne = ne (ins (Free n) (opens.all (Free n) (free_bit d n db, free_undriven d flat n) read))
 
     -- bits that one of the first n drivers drives
     driven_same : (n k : ℕ) (r : Driver) → k < n → slice_get order k ≡ Some r → (b : SigBit) → IsReadOtherwise d b → Drives d r b → bit_in u b ≡ bit_in v b

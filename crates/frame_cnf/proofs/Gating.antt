@@ -1,16 +1,19 @@
 -- The inputs of cycles, as gates.
-use Rattle.std.proofs.Common.{◌≡◌, ℕ, ◌+◌, ◌<◌, ◌≤◌, Bool, true, false, cond, List, [], ◌∷◌, ◌++◌, Option, Some, None, refl, sym, ap, ◌∙◌, subst, inl, inr, arith, length, take, get_or}
+use Rattle.std.proofs.Common.{◌≡◌, ℕ, ◌+◌, ◌<◌, ◌≤◌, Bool, true, false, cond, List, [], ◌∷◌, ◌++◌, Option, Some, None, refl, sym, ap, ◌∙◌, subst, inl, inr, arith, length, map, append_assoc, take, get_or}
 use Rattle.std.specs.Prelude.{slice_get, All}
-use Rattle.std.specs.List.{count_by}
+use Rattle.std.specs.List.{count_by, flat_map}
 use Rattle.std.proofs.lemmas.Option.{slice_get_within, slice_get-get_or, get_or_from_slice_get}
 use Rattle.std.proofs.lemmas.List.Sums.{sum_by_more}
-use Rattle.std.proofs.lemmas.List.Elements.{All-nil, All-push, All-weaker}
+use Rattle.std.proofs.lemmas.List.Elements.{All-append, All-nil, All-push, All-weaker}
+use Rattle.std.proofs.lemmas.List.{append-nil, map-append}
 use Rattle.cnf_form.specs.Cnf.{LitOf, Assignment, SatisfiesClause, LitWithin, lit_in}
 use Rattle.gate_graph.specs.Circuit.{GatesOf, IsGates, Means, MakesInput, AgreeTo, Continues}
 use Rattle.gate_graph.specs.Laws.{keeps, Continues-refl, Continues-trans, Grows-gates, GrowsFreely-input}
 use Rattle.frame_cnf.specs.Encoding.{IsDistinct}
 use Rattle.frame_cnf.specs.Tables.{bit_at}
-use Rattle.frame_cnf.specs.Unroll.{AddsInputs, AreBits, Opens, Starts, StartsAs, StartsOne, is_free}
+use Rattle.frame_cnf.specs.Unroll.{AddsInputs, AreBits, AreNamed, MakesInputs, Opens, Starts, StartsAs, StartsOne, free_bits, is_free}
+use Rattle.frame_cnf.specs.Decoding.{FrameOf}
+use Rattle.rtlil_design.specs.declared.shape.SigBit.{SigBit}
 use Rattle.frame_cnf.proofs.Lists.{IsDistinct-push, below_or_last, length-push, one_at}
 use Rattle.frame_cnf.proofs.Values.{bit_literal, bit_push-new, bit_push-old}
 
@@ -36,6 +39,62 @@ AddsInputs-input g h l is m = record {
       let t = i.1 in
       absurd (omega arith)));
   count = let e = m.inputs in rw e (let n = length-push g.inputs l.var in omega arith);
+}
+
+-- the variables of inputs
+pub MakesInput-var : (g h : GatesOf) (l k : LitOf) → k.var ≡ l.var → MakesInput g h l → MakesInput g h k
+MakesInput-var g h l k e m = record {
+  continues = m.continues;
+  inputs = m.inputs ∙ ap (λ (v : ℕ). g.inputs ++ v ∷ []) (sym e);
+  most = m.most;
+  within = subst (λ (v : ℕ). (0 < v) × (v ≤ h.formula.vars)) (sym e) m.within;
+  fresh = subst (λ (v : ℕ). g.formula.vars < v) (sym e) m.fresh;
+}
+
+pub MakesInputs-none : (g : GatesOf) → MakesInputs g g []
+MakesInputs-none g = record { vars = sym (append-nil g.inputs); plain = All-nil (λ (l : LitOf). l.negated ≡ false) }
+
+pub MakesInputs-one : (g h : GatesOf) (l : LitOf) → MakesInput g h l → l.negated ≡ false → MakesInputs g h (l ∷ [])
+MakesInputs-one g h l m e = record { vars = m.inputs; plain = All-push (λ (k : LitOf). k.negated ≡ false) [] l (All-nil (λ (k : LitOf). k.negated ≡ false)) e }
+
+pub MakesInputs-trans : (f g h : GatesOf) (xs ys : List LitOf) → MakesInputs f g xs → MakesInputs g h ys → MakesInputs f h (xs ++ ys)
+MakesInputs-trans f g h xs ys p q = record {
+  vars = q.vars ∙ ap (λ (vs : List ℕ). vs ++ map (λ (l : LitOf). l.var) ys) p.vars ∙ append_assoc f.inputs (map (λ (l : LitOf). l.var) xs) (map (λ (l : LitOf). l.var) ys)
+      ∙ ap (λ (vs : List ℕ). f.inputs ++ vs) (sym (map-append (λ (l : LitOf). l.var) xs ys));
+  plain = All-append (λ (l : LitOf). l.negated ≡ false) xs ys p.plain q.plain;
+}
+
+pub MakesInputs-same : (f g h : GatesOf) (xs : List LitOf) → h.inputs ≡ g.inputs → MakesInputs f g xs → MakesInputs f h xs
+MakesInputs-same f g h xs e p = record { vars = e ∙ p.vars; plain = p.plain }
+
+-- what stands at the open digits, with one more digit
+pub free_append : (xs : List LitOf) (digits : List (Option Bool)) (x : LitOf) (s : Option Bool) → length xs ≡ length digits →
+    free_bits (xs ++ x ∷ []) (digits ++ s ∷ []) ≡ free_bits xs digits ++ cond (is_free s) (x ∷ []) []
+free_append [] [] x s n = refl
+free_append [] (d ∷ digits) x s n = absurd (omega arith)
+free_append (y ∷ xs) [] x s n = absurd (omega arith)
+free_append (y ∷ xs) (None ∷ digits) x s n = ap (λ (ls : List LitOf). y ∷ ls) (free_append xs digits x s (omega arith))
+free_append (y ∷ xs) (Some v ∷ digits) x s n = free_append xs digits x s (omega arith)
+
+flat_push : {A B : Type 0} (f : A → List B) (xs : List A) (x : A) → flat_map f (xs ++ x ∷ []) ≡ flat_map f xs ++ f x
+flat_push f [] x = append-nil (f x)
+flat_push {B} f (y ∷ xs) x = ap (λ (zs : List B). f y ++ zs) (flat_push f xs x) ∙ sym (append_assoc (f y) (flat_map f xs) (f x))
+
+pub AreNamed-none : (opens : List SigBit) (f g : GatesOf) (lits : List LitOf) → f.inputs ≡ [] → MakesInputs f g lits → AreNamed opens g lits []
+AreNamed-none opens f g lits e m = record {
+  vars = m.vars ∙ ap (λ (vs : List ℕ). vs ++ map (λ (l : LitOf). l.var) lits) e ∙ sym (append-nil (map (λ (l : LitOf). l.var) lits));
+  starts = m.plain;
+  inputs = All-nil (λ (k : FrameOf). (length k.inputs ≡ length opens) × All (λ (l : LitOf). l.negated ≡ false) k.inputs);
+}
+
+pub AreNamed-push : (opens : List SigBit) (f g : GatesOf) (lits ins bads : List LitOf) (frames : List FrameOf) → AreNamed opens f lits frames → MakesInputs f g ins → length ins ≡ length opens →
+    AreNamed opens g lits (frames ++ record { inputs = ins; bads = bads } ∷ [])
+AreNamed-push opens f g lits ins bads frames p m n = record {
+  vars = m.vars ∙ ap (λ (vs : List ℕ). vs ++ map (λ (l : LitOf). l.var) ins) p.vars
+      ∙ append_assoc (map (λ (l : LitOf). l.var) lits) (flat_map (λ (k : FrameOf). map (λ (l : LitOf). l.var) k.inputs) frames) (map (λ (l : LitOf). l.var) ins)
+      ∙ ap (λ (vs : List ℕ). map (λ (l : LitOf). l.var) lits ++ vs) (sym (flat_push (λ (k : FrameOf). map (λ (l : LitOf). l.var) k.inputs) frames (record { inputs = ins; bads = bads })));
+  starts = p.starts;
+  inputs = All-push (λ (k : FrameOf). (length k.inputs ≡ length opens) × All (λ (l : LitOf). l.negated ≡ false) k.inputs) frames (record { inputs = ins; bads = bads }) p.inputs (n, m.plain);
 }
 
 -- literals within what has grown

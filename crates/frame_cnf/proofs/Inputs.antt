@@ -1,112 +1,149 @@
--- The open bits that are read, place by place.
-use Rattle.std.proofs.Common.{◌≡◌, ℕ, zero, suc, ◌+◌, ◌<◌, ◌≤◌, List, [], ◌∷◌, ◌++◌, Some, None, sym, ap, subst, inl, inr, arith, length, take, codes}
+-- The open bits that are read.
+use Rattle.std.proofs.Common.{◌≡◌, ℕ, zero, suc, ◌+◌, ◌<◌, ◌≤◌, List, [], ◌∷◌, map, Option, Some, None, refl, sym, ap, ◌∙◌, subst, inl, inr, arith, length, length-append, take, codes, Bool}
 use Rattle.std.specs.Prelude.{slice_get, Contains, All}
-use Rattle.std.specs.List.{sum_by, flat_map}
-use Rattle.std.proofs.lemmas.List.Elements.{Contains-append_left, Contains-push}
+use Rattle.std.specs.List.{sum_by, flat_map, range_with_len}
+use Rattle.std.proofs.lemmas.List.FromFn.{get_or-map-range_with_len, length-map-range_with_len}
 use Rattle.std.proofs.lemmas.List.Sums.{sum_by-cons}
+use Rattle.std.proofs.lemmas.Option.{slice_get_within, get_or_from_slice_get}
 use Rattle.rtlil_design.specs.declared.shape.SigBit.{SigBit}
 use Rattle.rtlil_design.specs.declared.shape.SigBit.TheVariants.{Wire, Const, Free}
 use Rattle.rtlil_design.specs.declared.kind.Kind.{Kind}
 use Rattle.rtlil_design.specs.declared.kind.Kind.TheVariants.{Dff}
-use Rattle.rtlil_design.specs.Shape.{WireOf, CellOf, DesignOf, IsDesign, IsDeclared, IsWire, wire_bits}
+use Rattle.rtlil_design.specs.Shape.{WireOf, CellOf, DesignOf, IsDesign, IsDeclared, wire_bits}
 use Rattle.rtlil_design.specs.Asked.{signal_at}
-use Rattle.rtlil_design.specs.Places.{offset, place_of}
+use Rattle.rtlil_design.specs.Places.{place_of}
 use Rattle.rtlil_design.specs.Faults.{driven, IsFlat}
 use Rattle.rtlil_design.specs.declared.fault.FaultKind.TheVariants.{TwoDrivers}
-use Rattle.rtlil_design.proofs.Places.{place_of-same, place_of-wire}
-use Rattle.frame_cnf.specs.Encoding.{IsOpen, IsReadOtherwise}
-use Rattle.frame_cnf.specs.Sources.{AreInputs, IsBit, nexts_by, nexts_of, outputs_by, outputs_of}
-use Rattle.frame_cnf.proofs.Lists.{IsDistinct-push, all_flat, below_or_last, length-push, nothing_at, place_of_contained, push-either}
+use Rattle.run_choices.specs.Choices.{AreThose, IsUndriven, all_bits, wire_row}
+use Rattle.run_choices.proofs.Those.{those_are, those_contain}
+use Rattle.run_choices.proofs.Opening.{all_is}
+use Rattle.frame_cnf.specs.Encoding.{IsDistinct, IsReadOtherwise}
+use Rattle.frame_cnf.specs.Sources.{AreInputs, AreSources, nexts_by, nexts_of, outputs_by, outputs_of}
+use Rattle.frame_cnf.proofs.Lists.{all_flat, app_cases, contained_at, place_of_contained}
 use Rattle.frame_cnf.proofs.Flats.{declared_signal}
 
-pub open_bit : (d : DesignOf) (b : SigBit) → IsOpen d b → IsBit d b
-open_bit d (Wire w i) o = o.0
-open_bit d (Const c) o = o
-open_bit d (Free n) o = o
+pub bit_declared : (d : DesignOf) (b : SigBit) → Contains (all_bits d) b → IsDeclared d.wires d.free b
+bit_declared d b h = ((all_is d b).0 h).0
 
-pub bit_declared : (d : DesignOf) (b : SigBit) → IsBit d b → IsDeclared d.wires d.free b
-bit_declared d (Wire w i) h = h
-bit_declared d (Const c) h = absurd h
-bit_declared d (Free n) h = h
+pub bit_constant : (d : DesignOf) (z : Bool) → Contains (all_bits d) (Const z) → ⊥
+bit_constant d z h = ((all_is d (Const z)).0 h).1 tt
 
-pub undriven_open : (d : DesignOf) (b : SigBit) → IsBit d b → (Contains (driven d) b → ⊥) → IsOpen d b
-undriven_open d (Wire w i) h n = (h, n)
-undriven_open d (Const i) h n = absurd h
-undriven_open d (Free m) h n = h
+pub wire_bit : (d : DesignOf) (w i : ℕ) → IsDeclared d.wires d.free (Wire w i) → Contains (all_bits d) (Wire w i)
+wire_bit d w i h = (all_is d (Wire w i)).1 (h, (λ c. c))
 
--- what is open isn't driven
-pub open_free : (d : DesignOf) → IsFlat d → (b : SigBit) → IsOpen d b → Contains (driven d) b → ⊥
-open_free d flat (Wire w i) o c = o.1 c
-open_free d flat (Const i) o c = o
-open_free d flat (Free n) o c = let at = place_of_contained (driven d) (Free n) c in flat TwoDrivers at.0 (Free n, at.1, inr (inr tt))
+pub free_bit : (d : DesignOf) (n : ℕ) → n < d.free → Contains (all_bits d) (Free n)
+free_bit d n h = (all_is d (Free n)).1 (h, (λ c. c))
 
--- all bits but the constants stand at the first places
-pub bit_place : (d : DesignOf) (b : SigBit) → IsBit d b → place_of d b < wire_bits d + d.free
-bit_place d (Wire w i) h = let l = place_of-wire d w i h in omega arith
-bit_place d (Const c) h = absurd h
-bit_place d (Free n) h = omega arith
+-- a free bit isn't driven
+pub free_undriven : (d : DesignOf) → IsFlat d → (n : ℕ) → IsUndriven d (Free n)
+free_undriven d flat n c = let at = place_of_contained (driven d) (Free n) c in flat TwoDrivers at.0 (Free n, at.1, inr (inr tt))
 
-pub no_inputs : (d : DesignOf) → AreInputs d 0 []
-no_inputs d = record {
-  each = λ k b e. absurd (nothing_at k b e);
-  all = λ b o r l. absurd (omega arith);
-  distinct = λ i j x lt ei ej. nothing_at i x ei;
-  few = omega arith;
-}
+-- all bits stand at their places
+range_at : (f : ℕ → SigBit) (m p : ℕ) (b : SigBit) → slice_get (map f (range_with_len 0 m)) p ≡ Some b → (p < m) × (b ≡ f p)
+range_at f m p b e =
+    let l = slice_get_within (map f (range_with_len 0 m)) p b e in
+    let n = length-map-range_with_len f 0 m in
+    let lt : p < m = omega arith in
+    (lt, sym (get_or_from_slice_get (map f (range_with_len 0 m)) p b b e) ∙ get_or-map-range_with_len f 0 m p p b lt (omega arith))
 
-module _ (d : DesignOf) (b : SigBit) (bit : IsBit d b) (inputs : List SigBit) (is : AreInputs d (place_of d b) inputs) where
-  pub input_added : IsOpen d b → IsReadOtherwise d b → AreInputs d (place_of d b + 1) (inputs ++ b ∷ [])
-  input_added o r = record {
-    each = λ k x e. elim (push-either inputs b x k e) as (λ _. IsOpen d x × IsReadOtherwise d x × (place_of d x < place_of d b + 1)) [
-      | inl p ↦ let i = is.each k x p in (i.0, i.1, (let l = i.2 in omega arith))
-      | inr p ↦ subst (λ (z : SigBit). IsOpen d z × IsReadOtherwise d z × (place_of d z < place_of d b + 1)) (sym p.1) (o, r, omega arith)
-    ];
-    all = λ x ox rx l. elim (below_or_last (place_of d x) (place_of d b) l) as (λ _. Contains (inputs ++ b ∷ []) x) [
-      | inl p ↦ Contains-append_left inputs (b ∷ []) x (is.all x ox rx p)
-      | inr p ↦
-          subst (Contains (inputs ++ b ∷ [])) (sym (place_of-same d x b (bit_declared d x (open_bit d x ox)) (bit_declared d b bit) p)) (Contains-push inputs b)
-    ];
-    distinct = IsDistinct-push inputs b is.distinct (λ k e. let i = is.each k b e in absurd (let l = i.2 in omega arith));
-    few = let f = is.few in let n = length-push inputs b in omega arith;
-  }
+length_wires : (n : ℕ) (ws : List WireOf) → length (wire_row n ws) ≡ sum_by (λ w. w.width) ws
+length_wires n [] = refl
+length_wires n (w ∷ ws) =
+    let a = length-append (map (Wire n) (range_with_len 0 w.width)) (wire_row (suc n) ws) in
+    let m = length-map-range_with_len (Wire n) 0 w.width in
+    let s = sum_by-cons (λ (x : WireOf). x.width) w ws in
+    let r = length_wires (suc n) ws in
+    omega (arith, a, m, s, r)
 
-  pub input_skipped : (IsOpen d b → IsReadOtherwise d b → ⊥) → AreInputs d (place_of d b + 1) inputs
-  input_skipped none = record {
-    each = λ k x e. let i = is.each k x e in (i.0, i.1, (let l = i.2 in omega arith));
-    all = λ x ox rx l. elim (below_or_last (place_of d x) (place_of d b) l) as (λ _. Contains inputs x) [
-      | inl p ↦ is.all x ox rx p
-      | inr p ↦
-          let same = place_of-same d x b (bit_declared d x (open_bit d x ox)) (bit_declared d b bit) p in
-          absurd (none (subst (IsOpen d) same ox) (subst (IsReadOtherwise d) same rx))
-    ];
-    distinct = is.distinct;
-    few = let f = is.few in omega arith;
-  }
+-- a bit of a wire, and its place
+wire_at : (n : ℕ) (ws : List WireOf) (p : ℕ) (b : SigBit) → slice_get (wire_row n ws) p ≡ Some b → (k : ℕ) × (i : ℕ) × (b ≡ Wire (n + k) i) × (p ≡ sum_by (λ w. w.width) (take k ws) + i)
+wire_at n [] p b e = absurd (let z : None ≡ Some b = e in cc)
+wire_at n (w ∷ ws) p b e = elim (app_cases (map (Wire n) (range_with_len 0 w.width)) (wire_row (suc n) ws) p b e) as (λ _.
+    (k : ℕ) × (i : ℕ) × (b ≡ Wire (n + k) i) × (p ≡ sum_by (λ (y : WireOf). y.width) (take k (w ∷ ws)) + i)) [
+      | inl a ↦
+          let r = range_at (Wire n) w.width p b a in
+          let z : n ≡ n + 0 = omega arith in
+          (0, p, r.1 ∙ ap (λ (m : ℕ). Wire m p) z, omega arith)
+      | inr a ↦
+          let r = wire_at (suc n) ws a.0 b a.2 in
+          let z : suc n + r.0 ≡ n + suc r.0 = omega arith in
+          let m = length-map-range_with_len (Wire n) 0 w.width in
+          let s = sum_by-cons (λ (x : WireOf). x.width) w (take r.0 ws) in
+          let pe : p ≡ length (map (Wire n) (range_with_len 0 w.width)) + a.0 = a.1 in
+          let re : a.0 ≡ sum_by (λ (x : WireOf). x.width) (take r.0 ws) + r.1 = r.3 in
+          (suc r.0, r.1, r.2 ∙ ap (λ (j : ℕ). Wire j r.1) z, omega (arith, pe, re, m, s))
+    ]
 
--- where the next wire begins
-pub offset_more : (d : DesignOf) (w : ℕ) (x : WireOf) → slice_get d.wires w ≡ Some x → offset d (w + 1) ≡ offset d w + x.width
-offset_more d w x e = by d.wires w e
-  where
-    by : (ws : List WireOf) (w : ℕ) → slice_get ws w ≡ Some x → sum_by (λ y. y.width) (take (w + 1) ws) ≡ sum_by (λ y. y.width) (take w ws) + x.width
-    by [] w e = absurd (let z : None ≡ Some x = e in cc)
-    by (y ∷ ws) zero e = let s : y ≡ x = cc in let n = ap (λ (z : WireOf). z.width) s in let c = sum_by-cons (λ (z : WireOf). z.width) y [] in omega (arith, c, n)
-    by (y ∷ ws) (suc w) e =
-        let n : suc w + 1 ≡ suc (w + 1) = omega arith in
-        let a = sum_by-cons (λ (z : WireOf). z.width) y (take (w + 1) ws) in
-        let b = sum_by-cons (λ (z : WireOf). z.width) y (take w ws) in
-        let r = by ws w e in
-        rw n (omega (arith, a, b, r))
+all_at_place : (d : DesignOf) (p : ℕ) (b : SigBit) → slice_get (all_bits d) p ≡ Some b → p ≡ place_of d b
+all_at_place d p b e = elim (app_cases (wire_row 0 d.wires) (map Free (range_with_len 0 d.free)) p b e) as (λ _. p ≡ place_of d b) [
+  | inl a ↦
+      let r = wire_at 0 d.wires p b a in
+      let z : 0 + r.0 ≡ r.0 = omega arith in
+      r.3 ∙ sym (ap (place_of d) (r.2 ∙ ap (λ (j : ℕ). Wire j r.1) z))
+  | inr a ↦
+      let r = range_at Free d.free a.0 b a.2 in
+      let l = length_wires 0 d.wires in
+      let pe : p ≡ length (wire_row 0 d.wires) + a.0 = a.1 in
+      let here : p ≡ wire_bits d + a.0 = omega (arith, pe, l) in
+      here ∙ sym (ap (place_of d) r.1)
+]
 
-pub few_wires : (d : DesignOf) → IsDesign d → length d.wires ≤ wire_bits d
-few_wires d design = by d.wires design.wires
-  where
-    by : (ws : List WireOf) → All IsWire ws → length ws ≤ sum_by (λ y. y.width) ws
-    by [] h = omega arith
-    by (y ∷ ws) h =
-        let a = sum_by-cons (λ (z : WireOf). z.width) y ws in
-        let p = (h 0 y (omega arith)).0 in
-        let r = by ws (λ k x l. h (suc k) x (omega arith)) in
-        omega (arith, a, p, r)
+all_distinct : (d : DesignOf) → IsDistinct (all_bits d)
+all_distinct d i j b lt ei ej = let p = all_at_place d i b ei in let q = all_at_place d j b ej in absurd (omega (arith, lt, p, q))
+
+all_few : (d : DesignOf) → length (all_bits d) ≤ wire_bits d + d.free
+all_few d =
+    let a = length-append (wire_row 0 d.wires) (map Free (range_with_len 0 d.free)) in
+    let w = length_wires 0 d.wires in
+    let m = length-map-range_with_len Free 0 d.free in
+    omega (arith, a, w, m)
+
+-- those of a kind are as distinct as all, and no more
+distinct_cons : (x : SigBit) (xs : List SigBit) → IsDistinct xs → ((k : ℕ) → slice_get xs k ≡ Some x → ⊥) → IsDistinct (x ∷ xs)
+distinct_cons x xs d new zero zero y lt ei ej = absurd (omega arith)
+distinct_cons x xs d new zero (suc j) y lt ei ej = let same : x ≡ y = cc in new j (ej ∙ ap Some (sym same))
+distinct_cons x xs d new (suc i) zero y lt ei ej = absurd (omega arith)
+distinct_cons x xs d new (suc i) (suc j) y lt ei ej = d i j y (omega arith) ei ej
+
+those_distinct : (Is : SigBit → Type 0) (xs those : List SigBit) → AreThose Is xs those → IsDistinct xs → IsDistinct those
+those_distinct Is [] those h d = subst (λ (ys : List SigBit). IsDistinct ys) (sym h) d
+those_distinct Is (x ∷ xs) those h d =
+    let rest : IsDistinct xs = λ i j y lt ei ej. d (suc i) (suc j) y (omega arith) ei ej in
+    elim h as (λ _. IsDistinct those) [
+      | inl p ↦
+          subst (λ (ys : List SigBit). IsDistinct ys) (sym p.1.1)
+          (distinct_cons x p.1.0 (those_distinct Is xs p.1.0 p.1.2 rest)
+          (λ k e.
+          let c = those_are Is xs p.1.0 p.1.2 x (contained_at p.1.0 x k e) in
+          let at = place_of_contained xs x c.0 in
+          d 0 (suc at.0) x (omega arith) refl at.1))
+      | inr p ↦ those_distinct Is xs those p.1 rest
+    ]
+
+those_few : (Is : SigBit → Type 0) (xs those : List SigBit) → AreThose Is xs those → length those ≤ length xs
+those_few Is [] those h = let e = ap length h in omega (arith, e)
+those_few Is (x ∷ xs) those h = elim h as (λ _. length those ≤ length (x ∷ xs)) [
+  | inl p ↦ let e = ap length p.1.1 in let r = those_few Is xs p.1.0 p.1.2 in omega (arith, e, r)
+  | inr p ↦ let r = those_few Is xs those p.1 in omega (arith, r)
+]
+
+-- the inputs
+pub source_inputs : (d : DesignOf) (outs news : List SigBit) (starts : List (Option Bool)) (reads : List Bool) (opens : List SigBit) → AreSources d outs news starts reads opens → AreInputs d opens
+source_inputs d outs news starts reads opens is =
+    let bits : List SigBit = is.undriven.0 in
+    let free = is.undriven.1 in
+    let read = is.undriven.2.inputs in
+    record {
+      each = λ k b e.
+          let r = those_are (IsReadOtherwise d) is.undriven.0 opens read b (contained_at opens b k e) in
+          (those_are (IsUndriven d) (all_bits d) is.undriven.0 free b r.0, r.1);
+      all = λ b o r. those_contain (IsReadOtherwise d) is.undriven.0 opens read b (those_contain (IsUndriven d) (all_bits d) is.undriven.0 free b o.0 o.1) r;
+      distinct = those_distinct (IsReadOtherwise d) is.undriven.0 opens read (those_distinct (IsUndriven d) (all_bits d) is.undriven.0 free (all_distinct d));
+      few = let a = those_few (IsReadOtherwise d) is.undriven.0 opens read in
+          let b = those_few (IsUndriven d) (all_bits d) is.undriven.0 free in
+          let c = all_few d in
+          omega (arith, a, b, c);
+    }
 
 module _ (d : DesignOf) (design : IsDesign d) where
   pub outputs_declared : All (IsDeclared d.wires d.free) (flat_map outputs_of d.cells)

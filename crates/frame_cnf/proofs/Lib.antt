@@ -13,4 +13,5 @@ pub mod Gating
 pub mod Unrolling
 pub mod Sourcing
 pub mod Costing
+pub mod Choosing
 pub mod Origins

@@ -233,6 +233,12 @@ lengths_same f g (x ∷ xs) h =
     let r = lengths_same f g xs (λ k. h (suc k)) in
     omega (arith, a, b, e, r)
 
+pub length-take_within : {A : Type 0} (xs : List A) (n : ℕ) → n < length xs + 1 → length (take n xs) ≡ n
+length-take_within [] zero h = refl
+length-take_within [] (suc n) h = absurd (omega arith)
+length-take_within (x ∷ xs) zero h = refl
+length-take_within (x ∷ xs) (suc n) h = ap suc (length-take_within xs n (omega arith))
+
 -- what was written to a slice of the whole list
 pub take_front : {A : Type 0} (xs ys : List A) (n : ℕ) → n ≡ length xs → take n (xs ++ ys) ≡ xs
 take_front [] ys zero e = refl

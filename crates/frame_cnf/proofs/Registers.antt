@@ -1,5 +1,5 @@
 -- The bits of registers, what they take next, and how they start.
-use Rattle.std.proofs.Common.{◌≡◌, ◌≢◌, ℕ, zero, suc, ◌+◌, ◌<◌, Bool, eqb, List, Option, Some, None, refl, sym, ap, ◌∙◌, subst, arith, length, codes, get_or}
+use Rattle.std.proofs.Common.{◌≡◌, ◌≢◌, ℕ, zero, suc, ◌+◌, ◌<◌, Bool, true, eqb, List, [], ◌∷◌, Option, Some, None, refl, sym, ap, ◌∙◌, subst, arith, length, codes, get_or}
 use Rattle.std.specs.Prelude.{slice_get, Contains}
 use Rattle.std.specs.List.{flat_map}
 use Rattle.std.proofs.lemmas.Bool.{true≢false}
@@ -11,20 +11,20 @@ use Rattle.rtlil_design.specs.declared.kind.Kind.{Kind}
 use Rattle.rtlil_design.specs.declared.kind.Kind.TheVariants.{Dff}
 use Rattle.rtlil_design.specs.Shape.{CellOf, DesignOf, IsDesign}
 use Rattle.rtlil_design.specs.Cells.{next_fn}
-use Rattle.rtlil_design.specs.Asked.{output_of, output_port, ports_asked, parameter, role_of, signal_at, port, PortAsked, Combinational, Register, Constant, Initial, Saying}
+use Rattle.rtlil_design.specs.Asked.{Role, is_served, output_of, output_port, ports_asked, parameter, role_of, signal_at, port, PortAsked, Combinational, Register, Constant, Initial, Saying}
 use Rattle.rtlil_design.specs.Meaning.{Valuation, Frame, Follows, Starts, Chain, IsCell, IsHeld, bit_in, row_in, parameters_in, ports_in}
 use Rattle.rtlil_design.specs.Faults.{IsFlat, driven}
 use Rattle.rtlil_design.specs.Order.{Drives}
 use Rattle.rtlil_design.specs.declared.driver.Driver.{Driver}
 use Rattle.rtlil_design.specs.declared.driver.Driver.TheVariants.{Cell, Connect}
 use Rattle.rtlil_design.proofs.Asking.{flat-served, flat-ports}
+use Rattle.run_choices.specs.Choices.{held_bits, held_by}
 use Rattle.frame_cnf.specs.Encoding.{IsDistinct, IsReadOtherwise}
 use Rattle.frame_cnf.specs.Sources.{AreInputs, AreStarts, nexts, nexts_by, nexts_of, outputs, outputs_by, outputs_of}
 use Rattle.frame_cnf.specs.Unroll.{StartsAs}
 use Rattle.frame_cnf.proofs.Lists.{at_place, contained_at, contained_flat, flat_at, flat_from, flat_once, lengths_same, nothing_at, one_at, place_of_contained, start, starts_same}
 use Rattle.frame_cnf.proofs.Flats.{bits_rows, row_of_signal, rows_bits, signal_port}
 use Rattle.frame_cnf.proofs.Frames.{IsPart, word, register, statement, part_of}
-use Rattle.frame_cnf.proofs.Inputs.{open_free}
 use Rattle.frame_cnf.proofs.Driving.{connect_place, output_constant, one_place, cell_place}
 
 output_kind : (k : Kind) (c : CellOf) (n : ℕ) (b : SigBit) → slice_get (outputs_by k c) n ≡ Some b → (k ≡ Dff) × (slice_get (signal_at c.ports (codes "Q")) n ≡ Some b)
@@ -159,8 +159,8 @@ module _ (d : DesignOf) (flat : IsFlat d) (design : IsDesign d) where
       contained_at (driven d) b _ (cell_place d flat design i c q.0 b is q.1)
   drives_driven (Connect i k) b (j, e, p) = contained_at (driven d) b _ (connect_place d flat design i j k b e p)
 
-  pub output_no_input : (p : ℕ) (opens : List SigBit) → AreInputs d p opens → (k : ℕ) (b : SigBit) → slice_get opens k ≡ Some b → Contains (outputs d) b → ⊥
-  output_no_input p opens is k b e h = open_free d flat b (is.each k b e).0 (output_driven b h)
+  pub output_no_input : (opens : List SigBit) → AreInputs d opens → (k : ℕ) (b : SigBit) → slice_get opens k ≡ Some b → Contains (outputs d) b → ⊥
+  output_no_input opens is k b e h = (is.each k b e).0.1 (output_driven b h)
 
   pub held_output : (b : SigBit) → IsHeld d b → Contains (outputs d) b
   held_output b (i, c, is, role, h) = by (part_of c.kind (flat-served d flat i c is))
@@ -245,3 +245,24 @@ module _ (d : DesignOf) (flat : IsFlat d) (design : IsDesign d) where
       initial i c role (word e) = let z : Combinational ≡ Initial = sym e ∙ role in cc
       initial i c role (statement e) = let z : Saying ≡ Initial = sym e ∙ role in cc
       initial i c role (register k) = let z : Register ≡ Initial = sym (ap role_of k) ∙ role in cc
+
+-- the registers' bits
+pub outputs_are_held : (d : DesignOf) → IsFlat d → outputs d ≡ held_bits d
+outputs_are_held d flat = by d.cells (λ i c e. flat-served d flat i c e)
+  where
+    one : (c : CellOf) → IsPart c.kind → outputs_of c ≡ held_by (role_of c.kind) c
+    one c (word e) = other c.kind (λ z. let y : Combinational ≡ Register = sym e ∙ ap role_of z in cc) ∙ sym (ap (λ (r : Role). held_by r c) e)
+      where
+        other : (k : Kind) → (k ≡ Dff → ⊥) → outputs_by k c ≡ []
+        other Dff n = absurd (n refl)
+        other _ n = refl
+    one c (statement e) = other c.kind (λ z. let y : Saying ≡ Register = sym e ∙ ap role_of z in cc) ∙ sym (ap (λ (r : Role). held_by r c) e)
+      where
+        other : (k : Kind) → (k ≡ Dff → ⊥) → outputs_by k c ≡ []
+        other Dff n = absurd (n refl)
+        other _ n = refl
+    one c (register e) = ap (λ (k : Kind). outputs_by k c) e ∙ sym (dff_output c e) ∙ sym (ap (λ (k : Kind). held_by (role_of k) c) e)
+
+    by : (xs : List CellOf) → ((i : ℕ) (c : CellOf) → slice_get xs i ≡ Some c → is_served c.kind ≡ true) → flat_map outputs_of xs ≡ flat_map (λ (c : CellOf). held_by (role_of c.kind) c) xs
+    by [] h = refl
+    by (c ∷ xs) h = let e = one c (part_of c.kind (h 0 c refl)) in let r = by xs (λ i. h (suc i)) in rw (e, r) refl

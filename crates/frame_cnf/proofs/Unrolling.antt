@@ -1,17 +1,17 @@
 -- One cycle more, in both directions.
-use Rattle.std.proofs.Common.{◌≡◌, ◌↔◌, ℕ, zero, suc, ◌+◌, ◌<◌, ◌≤◌, Bool, true, false, cond, ◌&&◌, List, [], ◌∷◌, Option, Some, None, refl, sym, ap, ◌∙◌, subst, inl, inr, arith, eqb, eq-eqb, length}
+use Rattle.std.proofs.Common.{◌≡◌, ◌↔◌, ℕ, zero, suc, ◌<◌, ◌≤◌, Bool, true, false, cond, ◌&&◌, List, [], ◌∷◌, ◌++◌, Option, Some, None, refl, sym, ap, ◌∙◌, subst, inl, inr, arith, eqb, eq-eqb, length}
 use Rattle.std.specs.Prelude.{slice_get, Contains, All}
 use Rattle.std.specs.List.{list_all, list_any}
 use Rattle.std.proofs.lemmas.Bool.{cases_lt}
 use Rattle.std.proofs.lemmas.Option.{slice_get_within}
-use Rattle.std.proofs.lemmas.List.Elements.{All-nil, Contains-push, Contains-push_cases, Contains-append_left}
+use Rattle.std.proofs.lemmas.List.Elements.{All-nil, All-push, All-weaker, Contains-push, Contains-push_cases, Contains-append_left}
 use Rattle.cnf_form.specs.Cnf.{LitOf, Assignment, Satisfies, SatisfiesClause, LitWithin, lit_in}
 use Rattle.gate_graph.specs.Circuit.{GatesOf, Means}
-use Rattle.gate_words.specs.Words.{MeansBit}
+use Rattle.gate_words.specs.Words.{MeansBit, row_of}
 use Rattle.rtlil_design.specs.declared.shape.SigBit.{SigBit}
 use Rattle.rtlil_design.specs.declared.driver.Driver.{Driver}
-use Rattle.rtlil_design.specs.Shape.{DesignOf, IsDesign, IsDeclared, wire_bits}
-use Rattle.rtlil_design.specs.Meaning.{Valuation, Assumed, Broken, Follows, Frame, Starts as StartsDesign, bit_in}
+use Rattle.rtlil_design.specs.Shape.{DesignOf, IsDesign, IsDeclared}
+use Rattle.rtlil_design.specs.Meaning.{Valuation, Assumed, Broken, Follows, Frame, Starts as StartsDesign, bit_in, row_in}
 use Rattle.rtlil_design.specs.Claims.{Shows}
 use Rattle.rtlil_design.specs.Faults.{IsFlat}
 use Rattle.rtlil_design.specs.Order.{IsOrder}
@@ -20,15 +20,16 @@ use Rattle.sby_terms.specs.declared.names.JobName.TheVariants.{Base}
 use Rattle.frame_cnf.specs.Jobs.{Solvable}
 use Rattle.frame_cnf.specs.Encoding.{CanBeSatisfied, IsReadOtherwise}
 use Rattle.frame_cnf.specs.Sources.{AreInputs, AreStarts, nexts, outputs}
-use Rattle.frame_cnf.specs.Tables.{IsRead, IsTable, bit_at, is_assumed, is_broken, valued}
-use Rattle.frame_cnf.specs.Unroll.{AllAssumed, AreBits, AreNext, Cycles, Judges, Opens, Starts, StartsAs, Unrolled, with_clause}
-use Rattle.frame_cnf.proofs.Lists.{all_at, at_place, below_or_last, place_of_contained}
+use Rattle.frame_cnf.specs.Tables.{AllLow, IsRead, IsTable, bit_at, is_assumed, is_broken, valued}
+use Rattle.frame_cnf.specs.Decoding.{FrameOf}
+use Rattle.frame_cnf.specs.Unroll.{AllAssumed, AreBits, AreNext, Cycles, HasCycles, HasFrame, HasRun, IsBad, IsUnread, Judges, Opens, SomeBad, Starts, StartsAs, Unrolled, all_bads, free_bits, is_free, with_clause}
+use Rattle.frame_cnf.proofs.Lists.{all_at, at_place, below_or_last, contained_flat, flat_contains, length-push, nothing_at, place_of_contained, push-either, push-new, push-old}
 use Rattle.frame_cnf.proofs.Flats.{and_left, and_right}
 use Rattle.frame_cnf.proofs.Inputs.{nexts_declared}
 use Rattle.frame_cnf.proofs.Frames.{frames_same}
 use Rattle.frame_cnf.proofs.Saying.{all_assumed, any_broken, assumed_same, broken_same}
 use Rattle.frame_cnf.proofs.Registers.{as_many, bits_follow, bits_start, follows_bits, next_read, starts_bits}
-use Rattle.frame_cnf.proofs.Gating.{AreBits-agrees, clause_agrees, lit_agrees}
+use Rattle.frame_cnf.proofs.Gating.{AreBits-agrees, all_more, clause_agrees, lit_agrees}
 use Rattle.frame_cnf.proofs.Values.{valued_at}
 
 -- the cycles with another one at t
@@ -56,8 +57,35 @@ pub record IsCycle (d : DesignOf) (opens : List SigBit) (old new : GatesOf) (row
   pub frame : (x : Assignment) → Satisfies x new.formula.clauses → Frame d (valued d table x)
   pub outputs_set : (x : Assignment) → Satisfies x new.formula.clauses → (k : ℕ) (b : SigBit) → slice_get (outputs d) k ≡ Some b → bit_in (valued d table x) b ≡ bit_at x row k
   pub inputs_set : (x : Assignment) → Satisfies x new.formula.clauses → (k : ℕ) (b : SigBit) → slice_get opens k ≡ Some b → bit_in (valued d table x) b ≡ bit_at x ins k
+  pub unread : (x : Assignment) → Satisfies x new.formula.clauses → (b : SigBit) → IsUnread d opens b → bit_in (valued d table x) b ≡ false
 
-module _ (d : DesignOf) (flat : IsFlat d) (design : IsDesign d) (order : List Driver) (is : IsOrder d order) (opens : List SigBit) (inputs : AreInputs d (wire_bits d + d.free) opens)
+-- a prefix of cycles
+pub assumed_like : (d : DesignOf) (t : ℕ) (us vs : ℕ → Valuation) → ((k : ℕ) → k < t → vs k ≡ us k) → AllAssumed d t us → AllAssumed d t vs
+assumed_like d t us vs same a k h = subst (Assumed d) (sym (same k h)) (a k h)
+
+pub assumed_fewer : (d : DesignOf) (s t : ℕ) (vs : ℕ → Valuation) → s ≤ t → AllAssumed d t vs → AllAssumed d s vs
+assumed_fewer d s t vs h a k l = a k (omega arith)
+
+pub bad_like : (d : DesignOf) (k : ℕ) (us vs : ℕ → Valuation) → ((j : ℕ) → j < suc k → vs j ≡ us j) → IsBad d k us → IsBad d k vs
+bad_like d k us vs same b = (assumed_like d (suc k) us vs same b.0, (b.1.0, subst (λ (u : Valuation). Broken d u b.1.0) (sym (same k (omega arith))) b.1.1))
+
+-- the literals of a cycle tell the same of cycles that are the same so far
+pub frame_like : (d : DesignOf) (opens : List SigBit) (x : Assignment) (us vs : ℕ → Valuation) (k : ℕ) (f : FrameOf) → ((j : ℕ) → j < suc k → vs j ≡ us j) → HasFrame d opens x us k f → HasFrame d opens x vs k f
+frame_like d opens x us vs k f same h = record {
+  inputs = λ j b e. ap (λ (u : Valuation). bit_in u b) (same k (omega arith)) ∙ h.inputs j b e;
+  unread = λ b u. ap (λ (w : Valuation). bit_in w b) (same k (omega arith)) ∙ h.unread b u;
+  bads = ((λ s. bad_like d k us vs same (h.bads.0 s)), (λ b. h.bads.1 (bad_like d k vs us (λ j l. sym (same j l)) b)));
+}
+
+-- a bad cycle of a run
+pub bad_shows : (d : DesignOf) (t k : ℕ) (vs : ℕ → Valuation) → Cycles d t vs → k < t → (b : IsBad d k vs) → Shows d (suc k) vs b.1.0
+bad_shows d t k vs c h b = record {
+  run = record { window = record { some = omega arith; frames = λ j l. c.frames j (omega arith); follows = λ j l. c.follows j (omega arith) }; starts = c.starts (omega arith) };
+  assumed = b.0;
+  last = λ j e. let i : k ≡ j = omega arith in subst (λ (n : ℕ). Broken d (vs n) b.1.0) i b.1.1;
+}
+
+module _ (d : DesignOf) (flat : IsFlat d) (design : IsDesign d) (order : List Driver) (is : IsOrder d order) (opens : List SigBit) (inputs : AreInputs d opens)
     (starts : List (Option Bool)) (digits : AreStarts d (outputs d) starts) where
   -- the bits that a cycle of a run has where it is the next one
   bits_of : Valuation → List SigBit → ℕ → Bool
@@ -117,11 +145,14 @@ module _ (d : DesignOf) (flat : IsFlat d) (design : IsDesign d) (order : List Dr
   cycles_fewer : (t : ℕ) (vs : ℕ → Valuation) → Cycles d (suc t) vs → Cycles d t vs
   cycles_fewer t vs c = record { frames = λ k h. c.frames k (omega arith); follows = λ k h. c.follows k (omega arith); starts = λ h. c.starts (omega arith) }
 
-  module _ (t : ℕ) (f g : GatesOf) (row ins table tab new_row before bads : List LitOf) (old held : LitOf)
-      (un : Unrolled d (outputs d) (nexts d) starts t f tab row old before) (cycle : IsCycle d opens f g row ins table) (it : IsTable d g table)
+  module _ (t : ℕ) (f g : GatesOf) (first row ins table tab new_row bads : List LitOf) (before : List FrameOf) (old held : LitOf)
+      (un : Unrolled d (outputs d) (nexts d) opens starts t f first tab row old before) (cycle : IsCycle d opens f g row ins table) (it : IsTable d g table)
       (assumes : MeansBit g (λ x. lit_in x old && list_all (is_assumed (valued d table x)) d.cells) held)
-      (judges : Judges (λ x. lit_in x held && list_any (is_broken (valued d table x)) d.cells) g before bads)
+      (judges : Judges (λ x. lit_in x held && list_any (is_broken (valued d table x)) d.cells) g [] bads)
       (read : IsRead d table (nexts d) new_row) where
+    frame : FrameOf
+    frame = record { inputs = ins; bads = bads }
+
     holds_x : (x : Assignment) → Satisfies x g.formula.clauses → lit_in x held ≡ true → (lit_in x old ≡ true) × Assumed d (valued d table x)
     holds_x x s e =
         let b = sym (assumes.means x s) ∙ e in (
@@ -146,51 +177,80 @@ module _ (d : DesignOf) (flat : IsFlat d) (design : IsDesign d) (order : List Dr
         mapped (y ∷ signal) zero e = let same : y ≡ b = cc in ap (λ (z : SigBit). bit_at x table (place_of d z)) same
         mapped (y ∷ signal) (suc k) e = mapped signal k e
 
-    sound : (x : Assignment) → Satisfies x g.formula.clauses →
-        (vs : ℕ → Valuation) × Cycles d (suc t) vs × AreNext (nexts d) starts (suc t) vs (bit_at x new_row) × (lit_in x held ≡ true → AllAssumed d (suc t) vs) × (SatisfiesClause x bads → Solvable d Base (suc t))
+    -- what the new literals tell, where these are the cycles
+    new_frame : (x : Assignment) → Satisfies x g.formula.clauses → (vs : ℕ → Valuation) → vs t ≡ valued d table x → (lit_in x held ≡ true) ↔ AllAssumed d (suc t) vs →
+        HasFrame d opens x vs t (record { inputs = ins; bads = bads })
+    new_frame x s vs e assumed = record {
+      inputs = λ j b i. ap (λ (u : Valuation). bit_in u b) e ∙ cycle.inputs_set x s j b i;
+      unread = λ b u. ap (λ (w : Valuation). bit_in w b) e ∙ cycle.unread x s b u;
+      bads = (
+        (λ c. elim (judges.sound x s c) as (λ _. IsBad d t vs) [
+          | inl n ↦ absurd (let l : n.1.0 < 0 = n.1.1 in omega arith)
+          | inr b ↦
+              let broken = (any_broken d (valued d table x)).0 (and_right (lit_in x held) (list_any (is_broken (valued d table x)) d.cells) b) in (
+                assumed.0 (and_left (lit_in x held) (list_any (is_broken (valued d table x)) d.cells) b),
+                (broken.0, subst (λ (u : Valuation). Broken d u broken.0) (sym e) broken.1),
+              )
+        ]),
+        (λ b. judges.complete x s
+            (both_true (lit_in x held) (list_any (is_broken (valued d table x)) d.cells) (assumed.1 b.0)
+            ((any_broken d (valued d table x)).1 (b.1.0, subst (λ (u : Valuation). Broken d u b.1.0) e b.1.1)))),
+      );
+    }
+
+    sound : (x : Assignment) → Satisfies x g.formula.clauses → (vs : ℕ → Valuation) × HasCycles d (outputs d) (nexts d) opens starts (suc t) x vs first new_row held (before ++ frame ∷ [])
+    unfolding frame
     sound x s =
         let o = un.sound x (cycle.grows.keeps x s) in
-        let v : Valuation = valued d table x in
+        let was = o.1 in
         let vs : ℕ → Valuation = put_cycle o.0 t (valued d table x) in
-        let cycles : Cycles d (suc t) (put_cycle o.0 t (valued d table x)) = cycles_more t o.0 (valued d table x) (bit_at x row) o.1 o.2 (cycle.frame x s) (cycle.outputs_set x s) in
-        let assumed : lit_in x held ≡ true → AllAssumed d (suc t) (put_cycle o.0 t (valued d table x)) = λ e k h.
-        elim (below_or_last k t (omega arith)) as (λ _. Assumed d (put_cycle o.0 t (valued d table x) k)) [
-          | inl p ↦ subst (Assumed d) (sym (put-other o.0 t (valued d table x) k p)) (o.3 (holds_x x s e).0 k p)
-          | inr p ↦ subst (λ (j : ℕ). Assumed d (put_cycle o.0 t (valued d table x) j)) (sym p) (subst (Assumed d) (sym (put-same o.0 t (valued d table x))) (holds_x x s e).1)
-        ] in (
+        let here = put-same o.0 t (valued d table x) in
+        let assumed = assumed_now x s o.0 was in (
           put_cycle o.0 t (valued d table x),
-          cycles,
-          (λ k b e. next_row x s k b e ∙ sym (ap (λ (u : Valuation). bit_in u b) (put-same o.0 t (valued d table x)))),
-          assumed,
-          (λ c. elim (judges.sound x s c) as (λ _. Solvable d Base (suc t)) [
-            | inl b ↦ let r = o.4 b in (r.0, r.1, r.2, (let l : r.0 ≤ t = r.3 in omega arith), r.4)
-            | inr b ↦
-                let e = and_left (lit_in x held) (list_any (is_broken (valued d table x)) d.cells) b in
-                let broken = (any_broken d (valued d table x)).0 (and_right (lit_in x held) (list_any (is_broken (valued d table x)) d.cells) b) in (
-                  suc t,
-                  put_cycle o.0 t (valued d table x),
-                  broken.0,
-                  omega arith,
-                  record {
-                    run = record { window = record { some = omega arith; frames = cycles.frames; follows = cycles.follows }; starts = cycles.starts (omega arith) };
-                    assumed = assumed e;
-                    last = λ k h.
-                        let i : t ≡ k = omega arith in
-                        subst (λ (j : ℕ). Broken d (put_cycle o.0 t (valued d table x) j) broken.0) i
-                        (subst (λ (u : Valuation). Broken d u broken.0) (sym (put-same o.0 t (valued d table x))) broken.1);
-                  },
-                )
+          record {
+            cycles = cycles_more t o.0 (valued d table x) (bit_at x row) was.cycles was.next (cycle.frame x s) (cycle.outputs_set x s);
+            start = λ h k b e. started x s o.0 was t refl k b e;
+            next = λ k b e. next_row x s k b e ∙ sym (ap (λ (u : Valuation). bit_in u b) here);
+            assumed = assumed;
+            each = λ k f e. elim (push-either before (record { inputs = ins; bads = bads }) f k e) as (λ _. HasFrame d opens x (put_cycle o.0 t (valued d table x)) k f) [
+              | inl p ↦
+                  let l = slice_get_within before k f p in
+                  let n = un.frames_as_many in
+                  frame_like d opens x o.0 (put_cycle o.0 t (valued d table x)) k f (λ j h. put-other o.0 t (valued d table x) j (omega arith)) (was.each k f p)
+              | inr p ↦
+                  let at : k ≡ t = p.0 ∙ un.frames_as_many in
+                  subst (λ (j : ℕ). HasFrame d opens x (put_cycle o.0 t (valued d table x)) j f) (sym at)
+                  (subst (λ (z : FrameOf). HasFrame d opens x (put_cycle o.0 t (valued d table x)) t z) (sym p.1) (new_frame x s (put_cycle o.0 t (valued d table x)) here assumed))
+            ];
+          },
+        )
+      where
+        assumed_now : (x : Assignment) → Satisfies x g.formula.clauses → (us : ℕ → Valuation) → HasCycles d (outputs d) (nexts d) opens starts t x us first row old before →
+            (lit_in x held ≡ true) ↔ AllAssumed d (suc t) (put_cycle us t (valued d table x))
+        assumed_now x s us was = (
+          (λ e k h. elim (below_or_last k t (omega arith)) as (λ _. Assumed d (put_cycle us t (valued d table x) k)) [
+            | inl p ↦ subst (Assumed d) (sym (put-other us t (valued d table x) k p)) (was.assumed.0 (holds_x x s e).0 k p)
+            | inr p ↦ subst (λ (j : ℕ). Assumed d (put_cycle us t (valued d table x) j)) (sym p) (subst (Assumed d) (sym (put-same us t (valued d table x))) (holds_x x s e).1)
           ]),
+          (λ a. x_holds x s (was.assumed.1 (λ k h. subst (Assumed d) (put-other us t (valued d table x) k h) (a k (omega arith))))
+              (subst (Assumed d) (put-same us t (valued d table x)) (a t (omega arith)))),
         )
 
+        started : (x : Assignment) → Satisfies x g.formula.clauses → (us : ℕ → Valuation) → HasCycles d (outputs d) (nexts d) opens starts t x us first row old before → (n : ℕ) → t ≡ n →
+            (k : ℕ) (b : SigBit) → slice_get (outputs d) k ≡ Some b → bit_in (put_cycle us t (valued d table x) 0) b ≡ bit_at x first k
+        started x s us was zero e k b at =
+            let now : put_cycle us t (valued d table x) 0 ≡ valued d table x = subst (λ (j : ℕ). put_cycle us t (valued d table x) j ≡ valued d table x) e (put-same us t (valued d table x)) in
+            ap (λ (u : Valuation). bit_in u b) now ∙ cycle.outputs_set x s k b at ∙ ap (λ (lits : List LitOf). bit_at x lits k) (un.row_first e)
+        started x s us was (suc n) e k b at = ap (λ (u : Valuation). bit_in u b) (put-other us t (valued d table x) 0 (omega arith)) ∙ was.start (omega arith) k b at
+
     -- an assignment that has a run's cycles
-    pub record HasRun (vs : ℕ → Valuation) : Type 0 where
+    pub record RunHas (vs : ℕ → Valuation) : Type 0 where
       pub x : Assignment
       pub satisfies : Satisfies x g.formula.clauses
       pub same : (b : SigBit) → IsDeclared d.wires d.free b → IsReadOtherwise d b → bit_in (valued d table x) b ≡ bit_in (vs t) b
       pub held_before : AllAssumed d t vs → lit_in x old ≡ true
 
-    has_run : (vs : ℕ → Valuation) → Cycles d (suc t) vs → HasRun vs
+    has_run : (vs : ℕ → Valuation) → Cycles d (suc t) vs → RunHas vs
     has_run vs c =
         let a = un.complete vs (bits_of (vs t) (outputs d)) (cycles_fewer t vs c) (run_next t vs c) in
         let b = cycle.grows.extends a.0 (bits_of (vs t) opens) a.1 in
@@ -229,76 +289,151 @@ module _ (d : DesignOf) (flat : IsFlat d) (design : IsDesign d) (order : List Dr
         )
 
     -- an assertion that is broken in the last cycle
-    reach_last : (vs : ℕ → Valuation) (a : ℕ) → Shows d (suc t) vs a → (x : Assignment) × Satisfies x g.formula.clauses × SatisfiesClause x bads
+    reach_last : (vs : ℕ → Valuation) (a : ℕ) → Shows d (suc t) vs a → (x : Assignment) × Satisfies x g.formula.clauses × SomeBad x (before ++ frame ∷ [])
+    unfolding frame
     reach_last vs a shows =
         let c : Cycles d (suc t) vs = record { frames = shows.run.window.frames; follows = shows.run.window.follows; starts = λ h. shows.run.starts } in
         let r = has_run vs c in
         let h = x_holds r.x r.satisfies (r.held_before (λ k l. shows.assumed k (omega arith)))
         (assumed_same d flat design (vs t) (valued d table r.x) (λ b db rb. sym (r.same b db rb)) (shows.assumed t (omega arith))) in
-        let b = broken_same d flat design (vs t) (valued d table r.x) (λ b db rb. sym (r.same b db rb)) a (shows.last t (omega arith)) in (
+        let b = (any_broken d (valued d table r.x)).1 (a, broken_same d flat design (vs t) (valued d table r.x) (λ b db rb. sym (r.same b db rb)) a (shows.last t refl)) in
+        let f : FrameOf = record { inputs = ins; bads = bads } in (
           r.x,
           r.satisfies,
-          judges.complete r.x r.satisfies (both_true (lit_in r.x held) (list_any (is_broken (valued d table r.x)) d.cells) h ((any_broken d (valued d table r.x)).1 (a, b))),
+          (length before, record { inputs = ins; bads = bads }, push-new before (record { inputs = ins; bads = bads }), judges.complete r.x r.satisfies (both_true (lit_in r.x held) (list_any (is_broken (valued d table r.x)) d.cells) h b)),
         )
 
-    reaches : Solvable d Base (suc t) → (x : Assignment) × Satisfies x g.formula.clauses × SatisfiesClause x bads
-    reaches (m, vs, a, le, shows) = elim (cases_lt m (suc t)) as (λ _. (x : Assignment) × Satisfies x g.formula.clauses × SatisfiesClause x bads) [
-      | inl l ↦ earlier (m, vs, a, (let q : m < suc t = l in omega arith), shows)
-      | inr l ↦ let e : m ≡ suc t = (let q : m ≤ suc t = le in omega arith) in reach_last vs a (subst (λ (j : ℕ). Shows d j vs a) e shows)
+    reaches : Solvable d Base (suc t) → (x : Assignment) × Satisfies x g.formula.clauses × SomeBad x (before ++ frame ∷ [])
+    unfolding frame
+    reaches (m, vs, a, le, shows) = elim (below_or_last m (suc t) (omega arith)) as (λ _. (x : Assignment) × Satisfies x g.formula.clauses × SomeBad x (before ++ record { inputs = ins; bads = bads } ∷ [])) [
+      | inl p ↦ earlier (m, vs, a, omega arith, shows)
+      | inr e ↦ reach_last vs a (subst (λ (j : ℕ). Shows d j vs a) e shows)
     ]
       where
-        earlier : Solvable d Base t → (x : Assignment) × Satisfies x g.formula.clauses × SatisfiesClause x bads
+        earlier : Solvable d Base t → (x : Assignment) × Satisfies x g.formula.clauses × SomeBad x (before ++ record { inputs = ins; bads = bads } ∷ [])
         earlier s =
             let o = un.reaches s in
             let b = cycle.grows.extends o.0 (λ k. false) o.1 in
-            (b.0, b.1, judges.kept b.0 (clause_agrees f.formula.vars o.0 b.0 before b.2 un.bads_within o.2))
+            let some = o.2 in (
+              b.0,
+              b.1,
+              (
+                some.0,
+                some.1,
+                push-old before (record { inputs = ins; bads = bads }) some.1 some.0 some.2,
+                clause_agrees f.formula.vars o.0 b.0 some.1.bads b.2 (all_at (λ (z : FrameOf). All (LitWithin f.formula.vars) z.bads) before some.0 some.1 un.bads_within some.2) some.3,
+              ),
+            )
 
-    pub Unrolled-step : Unrolled d (outputs d) (nexts d) starts (suc t) g table new_row held bads
+    pub Unrolled-step : Unrolled d (outputs d) (nexts d) opens starts (suc t) g first table new_row held (before ++ record { inputs = ins; bads = bads } ∷ [])
+    unfolding frame
     Unrolled-step = record {
       is_table = it;
       row_as_many = read.as_many ∙ sym (as_many d flat design);
       row_within = read.within g.formula.vars it.within;
+      row_first = λ e. absurd (omega arith);
       held_within = assumes.within;
-      bads_within = judges.within;
+      frames_as_many = length-push before (record { inputs = ins; bads = bads }) ∙ ap suc un.frames_as_many;
+      bads_within = All-push (λ (z : FrameOf). All (LitWithin g.formula.vars) z.bads) before (record { inputs = ins; bads = bads })
+          (All-weaker (λ (z : FrameOf). All (LitWithin f.formula.vars) z.bads) (λ (z : FrameOf). All (LitWithin g.formula.vars) z.bads) (λ z w. all_more f.formula.vars g.formula.vars z.bads cycle.grows.continues.vars w) before un.bads_within)
+          judges.within;
+      unread = λ x s b u. sym (valued_at d g table it x s b) ∙ cycle.unread x s b u;
       sound = sound;
       complete = complete;
       reaches = reaches;
     }
 
 -- before the first cycle
-pub Unrolled-none : (d : DesignOf) (outs news : List SigBit) (starts : List (Option Bool)) (g : GatesOf) (table row : List LitOf) (held : LitOf) → length starts ≡ length outs → Starts starts g (length starts) row →
-    IsTable d g table → LitWithin g.formula.vars held → Means g held (λ _. true) → Unrolled d outs news starts 0 g table row held []
-Unrolled-none d outs news starts g table row held n st t w m = record {
+pub Unrolled-none : (d : DesignOf) (outs news opens : List SigBit) (starts : List (Option Bool)) (g : GatesOf) (table row : List LitOf) (held : LitOf) → length starts ≡ length outs → Starts starts g (length starts) row →
+    IsTable d g table → AllLow d g table → LitWithin g.formula.vars held → Means g held (λ _. true) → Unrolled d outs news opens starts 0 g row table row held []
+Unrolled-none d outs news opens starts g table row held n st t low w m = record {
   is_table = t;
   row_as_many = st.as_many ∙ n;
   row_within = st.within;
+  row_first = λ e. refl;
   held_within = w;
-  bads_within = All-nil (LitWithin g.formula.vars);
+  frames_as_many = refl;
+  bads_within = All-nil (λ (f : FrameOf). All (LitWithin g.formula.vars) f.bads);
+  unread = λ x s b u. low x s b u.0.0;
   sound = λ x s. (
     (λ k. valued d table x),
-    record { frames = λ k h. absurd (omega arith); follows = λ k h. absurd (omega arith); starts = λ h. absurd (omega arith) },
-    st.sound x s,
-    (λ e k h. absurd (omega arith)),
-    (λ c. absurd (let l : c.1.0 < 0 = c.1.1 in omega arith)),
+    record {
+      cycles = record { frames = λ k h. absurd (omega arith); follows = λ k h. absurd (omega arith); starts = λ h. absurd (omega arith) };
+      start = λ h. absurd (omega arith);
+      next = st.sound x s;
+      assumed = ((λ e k h. absurd (omega arith)), (λ a. m x s));
+      each = λ k f e. absurd (nothing_at k f e);
+    },
   );
   complete = λ vs bits c next. let y = st.complete bits next in (y.0, y.1, y.2, (λ h. m y.0 y.1));
   reaches = λ (k, vs, a, le, shows). absurd (let l : k ≤ 0 = le in let some = shows.run.window.some in omega arith);
 }
 
--- the whole formula
-pub Unrolled-whole : (d : DesignOf) (outs news : List SigBit) (starts : List (Option Bool)) (t : ℕ) (g : GatesOf) (table row : List LitOf) (held : LitOf) (bads : List LitOf) → Unrolled d outs news starts t g table row held bads →
-    CanBeSatisfied (with_clause g.formula bads) ↔ Solvable d Base t
-Unrolled-whole d outs news starts t g table row held bads un = (
+-- the literals of what stands at the open digits
+pub free_rows : (x : Assignment) (v : Valuation) (outs : List SigBit) (row : List LitOf) (digits : List (Option Bool)) → length row ≡ length outs → ((k : ℕ) (b : SigBit) → slice_get outs k ≡ Some b → bit_in v b ≡ bit_at x row k) →
+    row_in v (free_bits outs digits) ≡ row_of x (free_bits row digits)
+free_rows x v [] [] digits n h = refl
+free_rows x v [] (l ∷ row) digits n h = absurd (omega arith)
+free_rows x v (b ∷ outs) [] digits n h = absurd (omega arith)
+free_rows x v (b ∷ outs) (l ∷ row) [] n h = refl
+free_rows x v (b ∷ outs) (l ∷ row) (s ∷ digits) n h = by s (h 0 b refl) (free_rows x v outs row digits (omega arith) (λ k. h (suc k)))
+  where
+    by : (s : Option Bool) → bit_in v b ≡ lit_in x l → row_in v (free_bits outs digits) ≡ row_of x (free_bits row digits) →
+        row_in v (cond (is_free s) (b ∷ free_bits outs digits) (free_bits outs digits)) ≡ row_of x (cond (is_free s) (l ∷ free_bits row digits) (free_bits row digits))
+    by None p q = rw (p, q) refl
+    by (Some z) p q = q
+
+pub free_length : {A B : Type 0} (xs : List A) (ys : List B) (digits : List (Option Bool)) → length xs ≡ length ys → length (free_bits xs digits) ≡ length (free_bits ys digits)
+free_length [] [] digits n = refl
+free_length [] (y ∷ ys) digits n = absurd (omega arith)
+free_length (x ∷ xs) [] digits n = absurd (omega arith)
+free_length (x ∷ xs) (y ∷ ys) [] n = refl
+free_length (x ∷ xs) (y ∷ ys) (None ∷ digits) n = ap suc (free_length xs ys digits (omega arith))
+free_length (x ∷ xs) (y ∷ ys) (Some z ∷ digits) n = free_length xs ys digits (omega arith)
+
+-- all cycles
+pub Unrolled-run : (d : DesignOf) (outs news opens : List SigBit) (starts : List (Option Bool)) (t : ℕ) (g : GatesOf) (first table row : List LitOf) (held : LitOf) (frames : List FrameOf) → length first ≡ length outs →
+    Unrolled d outs news opens starts t g first table row held frames → (x : Assignment) → Satisfies x g.formula.clauses →
+    (vs : ℕ → Valuation) × HasRun d outs opens starts t x vs (free_bits first starts) frames
+Unrolled-run d outs news opens starts t g first table row held frames n un x s =
+    let o = un.sound x s in
+    (o.0, record { cycles = o.1.cycles; start = λ h. free_rows x (o.0 0) outs first starts n (o.1.start h); each = o.1.each })
+
+-- the clause of all literals that tell that a cycle is bad
+some_clause : (x : Assignment) (frames : List FrameOf) → SatisfiesClause x (all_bads frames) → SomeBad x frames
+some_clause x frames c =
+    let r = flat_contains (λ (f : FrameOf). f.bads) frames c.0 c.1 in
+    (r.0, r.1, r.2, (c.0, r.3, c.2))
+
+clause_some : (x : Assignment) (frames : List FrameOf) → SomeBad x frames → SatisfiesClause x (all_bads frames)
+clause_some x frames (k, f, e, c) = (c.0, contained_flat (λ (z : FrameOf). z.bads) frames k f c.0 e c.1, c.2)
+
+-- an assignment of the whole formula
+pub whole_parts : (g : GatesOf) (frames : List FrameOf) (x : Assignment) → Satisfies x (with_clause g.formula (all_bads frames)).clauses → Satisfies x g.formula.clauses × SomeBad x frames
+whole_parts g frames x s = (
+  (λ c h. s c (Contains-append_left g.formula.clauses (all_bads frames ∷ []) c h)),
+  some_clause x frames (s (all_bads frames) (Contains-push g.formula.clauses (all_bads frames))),
+)
+
+pub whole_solvable : (d : DesignOf) (outs opens : List SigBit) (starts : List (Option Bool)) (t : ℕ) (g : GatesOf) (lits : List LitOf) (frames : List FrameOf) → length frames ≡ t →
+    ((x : Assignment) → Satisfies x g.formula.clauses → (vs : ℕ → Valuation) × HasRun d outs opens starts t x vs lits frames) →
+    (Solvable d Base t → (x : Assignment) × Satisfies x g.formula.clauses × SomeBad x frames) →
+    CanBeSatisfied (with_clause g.formula (all_bads frames)) ↔ Solvable d Base t
+whole_solvable d outs opens starts t g lits frames n runs reaches = (
   (λ p.
-      let s : Satisfies p.0 g.formula.clauses = λ c h. p.1 c (Contains-append_left g.formula.clauses (bads ∷ []) c h) in
-      let o = un.sound p.0 s in
-      o.4 (p.1 bads (Contains-push g.formula.clauses bads))),
+      let w = whole_parts g frames p.0 p.1 in
+      let o = runs p.0 w.0 in
+      let k : ℕ = w.1.0 in
+      let l = slice_get_within frames w.1.0 w.1.1 w.1.2 in
+      let lt : w.1.0 < t = omega (arith, l, n) in
+      let bad = (o.1.each w.1.0 w.1.1 w.1.2).bads.0 w.1.3 in
+      (suc w.1.0, o.0, bad.1.0, omega arith, bad_shows d t w.1.0 o.0 o.1.cycles lt bad)),
   (λ b.
-      let y = un.reaches b in (
+      let y = reaches b in (
         y.0,
-        (λ c h. elim (Contains-push_cases g.formula.clauses bads c h) as (λ _. SatisfiesClause y.0 c) [
+        (λ c h. elim (Contains-push_cases g.formula.clauses (all_bads frames) c h) as (λ _. SatisfiesClause y.0 c) [
           | inl p ↦ y.1 c p
-          | inr p ↦ subst (λ (z : List LitOf). SatisfiesClause y.0 z) p y.2
+          | inr p ↦ subst (λ (z : List LitOf). SatisfiesClause y.0 z) p (clause_some y.0 frames y.2)
         ]),
       )),
 )

@@ -1,6 +1,6 @@
 -- What the literals of a table make of a design's bits.
 use Rattle.std.proofs.Common.{◌≡◌, ◌≢◌, ℕ, zero, suc, ◌+◌, ◌<◌, Bool, true, false, List, [], ◌∷◌, ◌++◌, map, Some, None, refl, sym, ap, ◌∙◌, subst, inl, inr, arith, length, get_or, set, replicate}
-use Rattle.std.specs.Prelude.{slice_get, All}
+use Rattle.std.specs.Prelude.{slice_get, All, Contains}
 use Rattle.std.proofs.lemmas.List.{get_or-set_other, get_or-set_same, length-set, map-append}
 use Rattle.std.proofs.lemmas.List.Elements.{All-push}
 use Rattle.std.proofs.lemmas.Option.{slice_get-get_or}
@@ -15,9 +15,11 @@ use Rattle.rtlil_design.specs.Shape.{DesignOf, IsDeclared}
 use Rattle.rtlil_design.specs.Places.{place_of, places}
 use Rattle.rtlil_design.specs.Meaning.{Valuation, bit_in, row_in}
 use Rattle.rtlil_design.proofs.Marks.{cases_same}
-use Rattle.rtlil_design.proofs.Places.{place_of-within, place_of-same}
+use Rattle.rtlil_design.proofs.Places.{place_of-within, place_of-same, place_of-wire}
+use Rattle.run_choices.specs.Choices.{all_bits}
 use Rattle.frame_cnf.specs.Encoding.{IsDistinct}
-use Rattle.frame_cnf.specs.Tables.{IsRead, IsTable, IsWritten, bit_at, valued}
+use Rattle.frame_cnf.specs.Tables.{AllLow, IsRead, IsTable, IsWritten, bit_at, valued}
+use Rattle.frame_cnf.proofs.Inputs.{bit_constant, bit_declared}
 use Rattle.frame_cnf.proofs.Lists.{all_at, below_or_last, one_at, length-push}
 
 -- a literal of a word
@@ -185,3 +187,14 @@ table_new d g n low high e wl wh ml mh =
         let size : length (replicate n low) ≡ n = length_same n low in
         let here : place_of d (Const true) ≡ length (replicate n low) = omega arith in
         ap (bit_at x (replicate n low ++ high ∷ [])) here ∙ bit_push-new x (replicate n low) high ∙ mh x s
+
+pub table_low : (d : DesignOf) (g : GatesOf) (n : ℕ) (low high : LitOf) → n + 1 ≡ places d → Means g low (λ _. false) → AllLow d g (replicate n low ++ high ∷ [])
+table_low d g n low high e ml x s b h =
+    let size : length (replicate n low) ≡ n = length_same n low in
+    let p : place_of d b < n = below b h in
+    bit_push-old x (replicate n low) high (place_of d b) (omega arith) ∙ bit_same x n (place_of d b) low p ∙ ml x s
+  where
+    below : (b : SigBit) → Contains (all_bits d) b → place_of d b < n
+    below (Wire w i) h = let l = place_of-wire d w i (bit_declared d (Wire w i) h) in omega arith
+    below (Const c) h = absurd (bit_constant d c h)
+    below (Free m) h = let l : m < d.free = bit_declared d (Free m) h in omega arith

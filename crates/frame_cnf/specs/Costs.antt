@@ -1,11 +1,15 @@
 -- How many gates the parts of a cycle take at most.
-use Rattle.std.specs.Prelude.{ℕ, ◌+◌, ◌*◌, cond, List, Option, Some, None, slice_get}
+use Rattle.std.specs.Prelude.{ℕ, ◌+◌, ◌*◌, ◌^◌, ◌<◌, cond, length, List, Option, Some, None, slice_get}
 use Rattle.std.specs.List.{sum_by}
 use Rattle.rtlil_design.specs.declared.driver.Driver.{Driver}
 use Rattle.rtlil_design.specs.declared.driver.Driver.TheVariants.{Cell, Connect}
 use Rattle.rtlil_design.specs.Shape.{CellOf, DesignOf}
 use Rattle.rtlil_design.specs.Meaning.{is_assert, is_assume}
+use Rattle.rtlil_design.specs.declared.shape.SigBit.{SigBit}
+use Rattle.rtlil_design.specs.Order.{IsOrder}
+use Rattle.run_choices.specs.Choices.{held_bits}
 use Rattle.frame_cnf.specs.Encoding.{port_bits}
+use Rattle.frame_cnf.specs.Sources.{AreInputs}
 
 abbrev pub word_gates : Option CellOf → ℕ
 word_gates None = 0
@@ -28,3 +32,12 @@ assert_gates c = cond (is_assert c.kind) 2 0
 -- the gates of a cycle
 abbrev pub cycle_gates : DesignOf → List Driver → ℕ
 cycle_gates d order = order_gates d order + (sum_by assume_gates d.cells + sum_by assert_gates d.cells)
+
+-- The variables of n cycles can pass 2 ^ 27: one for the constants, one for each bit of a register, and in each cycle one for each input
+-- and for each gate.
+pub record CanPass (d : DesignOf) (n : ℕ) : Type 0 where
+  pub order : List Driver
+  pub is_order : IsOrder d order
+  pub inputs : List SigBit
+  pub are_inputs : AreInputs d inputs
+  pub past : 2 ^ 27 < 1 + length (held_bits d) + n * (length inputs + cycle_gates d order)

@@ -1,7 +1,8 @@
 pub mod Jobs
+pub mod Tables
+pub mod Decoding
 pub mod Encoding
 pub mod Lines
 pub mod Sources
-pub mod Tables
 pub mod Costs
 pub mod Unroll

@@ -1,8 +1,7 @@
 -- The bits on which a cycle rests: those of registers, and the open bits that are read.
-use Rattle.std.specs.Prelude.{◌≡◌, ◌↔◌, ℕ, ◌+◌, ◌<◌, ◌≤◌, Bool, true, false, not, ◌&&◌, cond, bytes_eq, List, [], length, Option, Some, slice_get, slice_index_or, Contains, codes}
+use Rattle.std.specs.Prelude.{◌≡◌, ◌↔◌, ℕ, ◌+◌, ◌≤◌, Bool, true, false, not, ◌&&◌, cond, bytes_eq, List, [], length, Option, Some, slice_get, slice_index_or, Contains, codes}
 use Rattle.std.specs.List.{flat_map}
 use Rattle.rtlil_design.specs.declared.shape.SigBit.{SigBit}
-use Rattle.rtlil_design.specs.declared.shape.SigBit.TheVariants.{Wire, Const, Free}
 use Rattle.rtlil_design.specs.declared.kind.Kind.{Kind}
 use Rattle.rtlil_design.specs.declared.kind.Kind.TheVariants.{Dff}
 use Rattle.rtlil_design.specs.declared.driver.Driver.{Driver}
@@ -12,13 +11,8 @@ use Rattle.rtlil_design.specs.Marks.{Marked}
 use Rattle.rtlil_design.specs.Places.{place_of, places}
 use Rattle.rtlil_design.specs.Asked.{output_port, role_of, signal_at}
 use Rattle.rtlil_design.specs.Meaning.{IsRegisterStart}
+use Rattle.run_choices.specs.Choices.{AreThose, IsUndriven, all_bits}
 use Rattle.frame_cnf.specs.Encoding.{IsDistinct, IsOpen, IsReadOtherwise}
-
--- a bit of a wire that is there, or a free bit that is numbered
-abbrev pub IsBit : DesignOf → SigBit → Type 0
-IsBit d (Wire w b) = IsDeclared d.wires d.free (Wire w b)
-IsBit d (Const b) = ⊥
-IsBit d (Free n) = n < d.free
 
 -- a register's bits, and the bits that they take in the next cycle
 abbrev pub outputs_by : Kind → CellOf → List SigBit
@@ -82,16 +76,25 @@ pub record MarksRead (d : DesignOf) (marks : List Bool) : Type 0 where
   pub size : length marks ≡ places d
   pub each : (b : SigBit) → IsDeclared d.wires d.free b → IsMarked d marks b ↔ IsReadOtherwise d b
 
--- of the bits at places below p, those that are open and read otherwise than as clocks
-pub record AreInputs (d : DesignOf) (p : ℕ) (inputs : List SigBit) : Type 0 where
-  pub each : (k : ℕ) (b : SigBit) → slice_get inputs k ≡ Some b → IsOpen d b × IsReadOtherwise d b × (place_of d b < p)
-  pub all : (b : SigBit) → IsOpen d b → IsReadOtherwise d b → place_of d b < p → Contains inputs b
+-- the open bits that are read otherwise than as clocks
+pub record AreInputs (d : DesignOf) (inputs : List SigBit) : Type 0 where
+  pub each : (k : ℕ) (b : SigBit) → slice_get inputs k ≡ Some b → IsOpen d b × IsReadOtherwise d b
+  pub all : (b : SigBit) → IsOpen d b → IsReadOtherwise d b → Contains inputs b
   pub distinct : IsDistinct inputs
-  pub few : length inputs ≤ p
+  pub few : length inputs ≤ wire_bits d + d.free
 
--- the bits of registers, those that they take next, their start digits, and the inputs
-pub record AreSources (d : DesignOf) (outs news : List SigBit) (digits : List (Option Bool)) (opens : List SigBit) : Type 0 where
+-- for each bit whether it is of this kind
+abbrev pub AreTests : (SigBit → Type 0) → List SigBit → List Bool → Type 0
+AreTests Is bits tests = (length tests ≡ length bits) × ((k : ℕ) (b : SigBit) (r : Bool) → slice_get bits k ≡ Some b → slice_get tests k ≡ Some r → (r ≡ true) ↔ Is b)
+
+-- which of the bits are read, and those that are
+pub record AreRead (d : DesignOf) (bits : List SigBit) (reads : List Bool) (ins : List SigBit) : Type 0 where
+  pub tests : AreTests (IsReadOtherwise d) bits reads
+  pub inputs : AreThose (IsReadOtherwise d) bits ins
+
+-- the bits of registers, those that they take next, their start digits, which of the bits open in each cycle are read, and the inputs
+pub record AreSources (d : DesignOf) (outs news : List SigBit) (digits : List (Option Bool)) (reads : List Bool) (opens : List SigBit) : Type 0 where
   pub outputs : outs ≡ outputs d
   pub nexts : news ≡ nexts d
   pub starts : AreStarts d outs digits
-  pub inputs : AreInputs d (wire_bits d + d.free) opens
+  pub undriven : (bits : List SigBit) × AreThose (IsUndriven d) (all_bits d) bits × AreRead d bits reads opens

@@ -1,5 +1,5 @@
 -- Tables of literals: at the place of each bit of a design the literal that the bit has in a cycle.
-use Rattle.std.specs.Prelude.{◌≡◌, ℕ, ◌<◌, Bool, false, not, ◌&&◌, ◌||◌, List, length, map, Some, slice_get, slice_index_or, All}
+use Rattle.std.specs.Prelude.{◌≡◌, ℕ, ◌<◌, Bool, false, not, ◌&&◌, ◌||◌, List, length, map, Some, slice_get, slice_index_or, All, Contains}
 use Rattle.cnf_form.specs.Cnf.{LitOf, Assignment, Satisfies, LitWithin}
 use Rattle.gate_graph.specs.Circuit.{GatesOf}
 use Rattle.gate_words.specs.Words.{row_of}
@@ -11,6 +11,7 @@ use Rattle.rtlil_design.specs.Shape.{CellOf, ConnectOf, DesignOf, IsDeclared}
 use Rattle.rtlil_design.specs.Places.{place_of, places}
 use Rattle.rtlil_design.specs.Meaning.{Valuation, CellHolds, IsCell, bit_in, is_assert, is_assume, is_enabled, says}
 use Rattle.rtlil_design.specs.Order.{Drives}
+use Rattle.run_choices.specs.Choices.{all_bits}
 
 -- the bit of the literal at a place
 abbrev pub bit_at : Assignment → List LitOf → ℕ → Bool
@@ -25,6 +26,10 @@ pub record IsTable (d : DesignOf) (g : GatesOf) (table : List LitOf) : Type 0 wh
   pub size : length table ≡ places d
   pub within : All (LitWithin g.formula.vars) table
   pub constants : (x : Assignment) → Satisfies x g.formula.clauses → (c : Bool) → bit_at x table (place_of d (Const c)) ≡ c
+
+-- each bit but the constants has a literal that is false
+abbrev pub AllLow : DesignOf → GatesOf → List LitOf → Type 0
+AllLow d g table = (x : Assignment) → Satisfies x g.formula.clauses → (b : SigBit) → Contains (all_bits d) b → bit_at x table (place_of d b) ≡ false
 
 -- a word of the literals at the places of a signal's bits
 pub record IsRead (d : DesignOf) (table : List LitOf) (signal : List SigBit) (word : List LitOf) : Type 0 where

@@ -1,13 +1,17 @@
 -- The cycles of a design as a formula: the literals of a cycle, and those of the assertions broken so far.
-use Rattle.std.specs.Prelude.{◌≡◌, ◌⊎◌, ℕ, zero, suc, ◌+◌, ◌<◌, Bool, true, false, cond, All, List, [], ◌∷◌, ◌++◌, Option, Some, None, length, slice_get}
+use Rattle.std.specs.Prelude.{◌≡◌, ◌↔◌, ◌⊎◌, ℕ, zero, suc, ◌+◌, ◌<◌, Bool, true, false, cond, All, List, [], ◌∷◌, ◌++◌, Option, Some, None, length, map, slice_get, Contains}
+use Rattle.std.specs.List.{flat_map}
 use Rattle.cnf_form.specs.Cnf.{LitOf, FormulaOf, Assignment, Satisfies, SatisfiesClause, LitWithin, lit_in}
 use Rattle.gate_graph.specs.Circuit.{GatesOf, AgreeTo, Continues}
+use Rattle.gate_words.specs.Words.{row_of}
 use Rattle.rtlil_design.specs.declared.shape.SigBit.{SigBit}
 use Rattle.rtlil_design.specs.Shape.{DesignOf}
-use Rattle.rtlil_design.specs.Meaning.{Valuation, Assumed, Follows, Frame, Starts as StartsDesign, bit_in}
+use Rattle.rtlil_design.specs.Meaning.{Valuation, Assumed, Broken, Follows, Frame, Starts as StartsDesign, bit_in, row_in}
+use Rattle.rtlil_design.specs.Places.{place_of}
 use Rattle.sby_terms.specs.declared.names.JobName.TheVariants.{Base}
 use Rattle.frame_cnf.specs.Jobs.{Solvable}
-use Rattle.frame_cnf.specs.Encoding.{IsDistinct}
+use Rattle.frame_cnf.specs.Encoding.{IsDistinct, IsOpen}
+use Rattle.frame_cnf.specs.Decoding.{FrameOf}
 use Rattle.frame_cnf.specs.Tables.{IsTable, bit_at}
 
 -- the literals have these bits
@@ -18,6 +22,11 @@ AreBits x lits bits = (k : ℕ) → k < length lits → bit_at x lits k ≡ bits
 pub record AddsInputs (old new : GatesOf) (n : ℕ) : Type 0 where
   pub distinct : IsDistinct old.inputs → IsDistinct new.inputs
   pub count : length new.inputs ≡ length old.inputs + n
+
+-- inputs are made for these literals, in their order; each is a variable and no negation
+pub record MakesInputs (old new : GatesOf) (lits : List LitOf) : Type 0 where
+  pub vars : new.inputs ≡ old.inputs ++ map (λ l. l.var) lits
+  pub plain : All (λ l. l.negated ≡ false) lits
 
 -- so many literals that may have any bits
 pub record Opens (old new : GatesOf) (n : ℕ) (lits : List LitOf) : Type 0 where
@@ -38,8 +47,8 @@ abbrev pub is_free : Option Bool → Bool
 is_free None = true
 is_free (Some x) = false
 
--- those of the bits that may start with either value
-abbrev pub free_bits : List SigBit → List (Option Bool) → List SigBit
+-- what stands at the digits that may be either value
+abbrev pub free_bits : {A : Type 0} → List A → List (Option Bool) → List A
 free_bits [] starts = []
 free_bits (b ∷ bs) [] = []
 free_bits (b ∷ bs) (s ∷ ss) = cond (is_free s) (b ∷ free_bits bs ss) (free_bits bs ss)
@@ -84,24 +93,73 @@ AreNext news starts (suc t) vs bits = (k : ℕ) (b : SigBit) → slice_get news 
 abbrev pub AllAssumed : DesignOf → ℕ → (ℕ → Valuation) → Type 0
 AllAssumed d t vs = (k : ℕ) → k < t → Assumed d (vs k)
 
--- The first t cycles: the literals of what the registers have after them, the literal that all of them are assumed, and literals
--- of which one is true where a run of at most so many cycles breaks an assertion.
-pub record Unrolled (d : DesignOf) (outs news : List SigBit) (starts : List (Option Bool)) (t : ℕ) (g : GatesOf) (table row : List LitOf) (held : LitOf) (bads : List LitOf) : Type 0 where
+-- cycle k breaks an assertion, and it and all before it are assumed
+abbrev pub IsBad : DesignOf → ℕ → (ℕ → Valuation) → Type 0
+IsBad d k vs = AllAssumed d (suc k) vs × ((a : ℕ) × Broken d (vs k) a)
+
+-- an open bit that has no literal of its own
+abbrev pub IsUnread : DesignOf → List SigBit → SigBit → Type 0
+IsUnread d opens b = IsOpen d b × ¬ Contains opens b
+
+-- the literals tell what is open in cycle k, and whether it is bad
+pub record HasFrame (d : DesignOf) (opens : List SigBit) (x : Assignment) (vs : ℕ → Valuation) (k : ℕ) (f : FrameOf) : Type 0 where
+  pub inputs : (j : ℕ) (b : SigBit) → slice_get opens j ≡ Some b → bit_in (vs k) b ≡ bit_at x f.inputs j
+  pub unread : (b : SigBit) → IsUnread d opens b → bit_in (vs k) b ≡ false
+  pub bads : SatisfiesClause x f.bads ↔ IsBad d k vs
+
+-- one of the cycles is bad
+abbrev pub SomeBad : Assignment → List FrameOf → Type 0
+SomeBad x frames = (k : ℕ) × (f : FrameOf) × (slice_get frames k ≡ Some f) × SatisfiesClause x f.bads
+
+-- t cycles that an assignment has: the literals of the registers' bits in the first, of what they have next, that all are assumed, and of
+-- each cycle
+pub record HasCycles (d : DesignOf) (outs news opens : List SigBit) (starts : List (Option Bool)) (t : ℕ) (x : Assignment) (vs : ℕ → Valuation) (first row : List LitOf) (held : LitOf) (frames : List FrameOf) : Type 0 where
+  pub cycles : Cycles d t vs
+  pub start : 0 < t → (k : ℕ) (b : SigBit) → slice_get outs k ≡ Some b → bit_in (vs 0) b ≡ bit_at x first k
+  pub next : AreNext news starts t vs (bit_at x row)
+  pub assumed : (lit_in x held ≡ true) ↔ AllAssumed d t vs
+  pub each : (k : ℕ) (f : FrameOf) → slice_get frames k ≡ Some f → HasFrame d opens x vs k f
+
+-- The first t cycles: the literals of the registers' bits in the first cycle and of what they have after the last, the literal that all
+-- cycles are assumed, and the literals of each cycle. Each assignment has such cycles, and each run of so many has an assignment.
+pub record Unrolled (d : DesignOf) (outs news opens : List SigBit) (starts : List (Option Bool)) (t : ℕ) (g : GatesOf) (first table row : List LitOf) (held : LitOf) (frames : List FrameOf) : Type 0 where
   pub is_table : IsTable d g table
   pub row_as_many : length row ≡ length outs
   pub row_within : All (LitWithin g.formula.vars) row
+  pub row_first : t ≡ 0 → row ≡ first
   pub held_within : LitWithin g.formula.vars held
-  pub bads_within : All (LitWithin g.formula.vars) bads
-  pub sound : (x : Assignment) → Satisfies x g.formula.clauses →
-      (vs : ℕ → Valuation) × Cycles d t vs × AreNext news starts t vs (bit_at x row) × (lit_in x held ≡ true → AllAssumed d t vs) × (SatisfiesClause x bads → Solvable d Base t)
+  pub frames_as_many : length frames ≡ t
+  pub bads_within : All (λ f. All (LitWithin g.formula.vars) f.bads) frames
+  pub unread : (x : Assignment) → Satisfies x g.formula.clauses → (b : SigBit) → IsUnread d opens b → bit_at x table (place_of d b) ≡ false
+  pub sound : (x : Assignment) → Satisfies x g.formula.clauses → (vs : ℕ → Valuation) × HasCycles d outs news opens starts t x vs first row held frames
   pub complete : (vs : ℕ → Valuation) (bits : ℕ → Bool) → Cycles d t vs → AreNext news starts t vs bits →
       (x : Assignment) × Satisfies x g.formula.clauses × AreBits x row bits × (AllAssumed d t vs → lit_in x held ≡ true)
-  pub reaches : Solvable d Base t → (x : Assignment) × Satisfies x g.formula.clauses × SatisfiesClause x bads
+  pub reaches : Solvable d Base t → (x : Assignment) × Satisfies x g.formula.clauses × SomeBad x frames
 
 -- one more cycle
-abbrev pub Unrolls : DesignOf → List SigBit → List SigBit → List (Option Bool) → GatesOf → List LitOf → List LitOf → LitOf → List LitOf → GatesOf → List LitOf → List LitOf → LitOf → List LitOf → Type 0
-Unrolls d outs news starts old table row held bads new tables next holds more =
-    (t : ℕ) → Unrolled d outs news starts t old table row held bads → Unrolled d outs news starts (suc t) new tables next holds more
+abbrev pub Unrolls : DesignOf → List SigBit → List SigBit → List SigBit → List (Option Bool) → List LitOf → GatesOf → List LitOf → List LitOf → LitOf → List FrameOf → GatesOf → List LitOf → List LitOf → LitOf → List FrameOf → Type 0
+Unrolls d outs news opens starts first old table row held frames new tables next holds more =
+    (t : ℕ) → Unrolled d outs news opens starts t old first table row held frames → Unrolled d outs news opens starts (suc t) new first tables next holds more
+
+-- the cycles of an assignment, n of them, with the bits of registers that may start with either value
+pub record HasRun (d : DesignOf) (outs opens : List SigBit) (digits : List (Option Bool)) (n : ℕ) (x : Assignment) (vs : ℕ → Valuation) (starts : List LitOf) (frames : List FrameOf) : Type 0 where
+  pub cycles : Cycles d n vs
+  pub start : 0 < n → row_in (vs 0) (free_bits outs digits) ≡ row_of x starts
+  pub each : (k : ℕ) (f : FrameOf) → slice_get frames k ≡ Some f → HasFrame d opens x vs k f
+
+-- the literals of which one is true where a cycle is bad
+abbrev pub all_bads : List FrameOf → List LitOf
+all_bads frames = flat_map (λ f. f.bads) frames
+
+-- the variables of the starts and of the inputs of each cycle, in this order
+abbrev pub vars_of : List LitOf → List FrameOf → List ℕ
+vars_of starts frames = map (λ l. l.var) starts ++ flat_map (λ f. map (λ l. l.var) f.inputs) frames
+
+-- the inputs of the gates are these variables, and no literal of them is a negation
+pub record AreNamed (opens : List SigBit) (g : GatesOf) (lits : List LitOf) (frames : List FrameOf) : Type 0 where
+  pub vars : g.inputs ≡ vars_of lits frames
+  pub starts : All (λ l. l.negated ≡ false) lits
+  pub inputs : All (λ f. (length f.inputs ≡ length opens) × All (λ l. l.negated ≡ false) f.inputs) frames
 
 -- the formula with one more clause
 abbrev pub with_clause : FormulaOf → List LitOf → FormulaOf

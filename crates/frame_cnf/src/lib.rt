@@ -2,6 +2,7 @@
 #![tactic(auto)]
 
 mod cells;
+mod decoding;
 mod drivers;
 mod encoding;
 mod marks;

@@ -1,8 +1,7 @@
-// Which bits of a design are driven, and which are read otherwise than as clocks: marks at their places.
+// Which bits of a design are read otherwise than as clocks: marks at their places.
 
-ghost use Rattle.std.specs.Prelude.{◌≡◌, ◌++◌, ◌+◌, ◌-◌, ◌&&◌, ◌<◌, ◌≤◌, All, IfOk, OnOk, bytes_eq, codes, false, flat_map, length, not, replicate};
-ghost use Rattle.rtlil_design.specs.Asked.{output_of, output_port, role_of};
-ghost use Rattle.rtlil_design.specs.Faults.{IsFlat, driven};
+ghost use Rattle.std.specs.Prelude.{◌≡◌, ◌++◌, ◌+◌, ◌<◌, All, IfOk, OnOk, false, length, replicate};
+ghost use Rattle.rtlil_design.specs.Faults.{IsFlat};
 ghost use Rattle.rtlil_design.specs.Order.{IsOrder};
 ghost use Rattle.rtlil_design.specs.Places.{places};
 ghost use Rattle.rtlil_design.specs.Shape.{IsDeclared, IsDesign};
@@ -10,43 +9,10 @@ ghost use Rattle.frame_cnf.specs.Sources.{AreMarked, FollowsReads, MarksRead, is
 
 use crate::drivers::sides;
 use rtlil_design::cell::{Cell, output_port};
-use rtlil_design::connect::Connect;
 use rtlil_design::design::Design;
 use rtlil_design::driver::Driver;
 use rtlil_design::shape::SigBit;
 use std::alloc::{AllocError, Global};
-
-// The bits that these cells drive, in order.
-fn outputs(alloc: Global, cells: &[Cell]) -> Result<Vec<SigBit>, AllocError>
-    ensures { IfOk result (λ bits. bits.items ≡ flat_map output_of cells.now) }
-{
-    let mut bits = Vec::new(alloc);
-    for cell in cells {
-        bits.extend_from_slice(cell.output())?;
-    }
-    Ok(bits)
-}
-
-// The bits that these connects drive, in order.
-fn lefts(alloc: Global, connects: &[Connect]) -> Result<Vec<SigBit>, AllocError>
-    ensures { IfOk result (λ bits. bits.items ≡ flat_map (λ j. j.left) connects.now) }
-{
-    let mut bits = Vec::new(alloc);
-    for connect in connects {
-        bits.extend_from_slice(connect.left())?;
-    }
-    Ok(bits)
-}
-
-// The bits that cells and connects drive.
-fn driven_bits(alloc: Global, design: &Design) -> Result<Vec<SigBit>, AllocError>
-    ensures { IfOk result (λ bits. bits.items ≡ driven design.now) }
-{
-    let mut bits = outputs(alloc, design.cells())?;
-    let others = lefts(alloc, design.connects())?;
-    bits.extend_from_slice(others.as_slice())?;
-    Ok(bits)
-}
 
 // Whether a cell reads at the port of this name, and not as a clock.
 fn is_read(cell: &Cell, name: &str) -> bool
@@ -119,16 +85,6 @@ fn follow(design: &Design, order: &[Driver], place: usize, marks: &mut [bool])
     if marks[design.place(left)] {
         marks[design.place(right)] = true;
     }
-}
-
-// The marks of the driven bits.
-pub fn driven_marks(alloc: Global, design: &Design) -> Result<Vec<bool>, AllocError>
-    requires { IsDesign design.now }
-    ensures { IfOk result (λ marks. AreMarked design.now (driven design.now) marks.items) }
-{
-    let bits = driven_bits(alloc, design)?;
-    let marks = marks_of(alloc, design, bits.as_slice())?;
-    Ok(marks)
 }
 
 // The marks of the bits that are read otherwise than as clocks, through chains of connects too.

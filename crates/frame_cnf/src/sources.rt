@@ -1,28 +1,30 @@
 // The bits on which a cycle rests.
 
-ghost use Rattle.std.specs.Prelude.{◌≡◌, ◌+◌, ◌<◌, ◌≤◌, ◌++◌, ℕ, All, IfOk, OnOk, Some, length, slice_get};
-ghost use Rattle.rtlil_design.specs.Faults.{IsFlat, driven};
+ghost use Rattle.std.specs.Prelude.{◌≡◌, ◌++◌, All, IfOk, OnOk};
 ghost use Rattle.rtlil_design.specs.Order.{IsOrder};
-ghost use Rattle.rtlil_design.specs.Places.{offset, place_of};
-ghost use Rattle.rtlil_design.specs.Shape.{IsDeclared, WireOf, wire_bits};
-ghost use Rattle.frame_cnf.specs.Sources.{AreInputs, AreMarked, AreSources, AreStarts, IsBit, MarksRead, nexts_of, outputs_of};
+ghost use Rattle.rtlil_design.specs.Shape.{IsDeclared};
+ghost use Rattle.run_choices.specs.Choices.{AreThose};
+ghost use Rattle.frame_cnf.specs.Encoding.{IsReadOtherwise};
+ghost use Rattle.frame_cnf.specs.Sources.{AreSources, AreStarts, AreTests, MarksRead, nexts_of, outputs_of};
 
-use crate::marks::{driven_marks, read_marks};
+use crate::marks::read_marks;
 use rtlil_design::cell::Cell;
 use rtlil_design::design::Design;
 use rtlil_design::driver::Driver;
 use rtlil_design::flat::Flat;
 use rtlil_design::kind::Kind;
 use rtlil_design::shape::SigBit;
+use run_choices::open_of;
 use std::alloc::{AllocError, Global};
 
-// The bits of registers, the bits that they take in the next cycle and their start digits, each at one place, and the open bits
-// that are read otherwise than as clocks.
+// The bits of registers, the bits that they take in the next cycle and their start digits, each at one place; for each bit that is open
+// in each cycle whether it is read otherwise than as a clock; and those that are.
 #[derive(Drop)]
 pub struct Sources {
     pub outputs: Vec<SigBit>,
     pub nexts: Vec<SigBit>,
     pub starts: Vec<Option<bool>>,
+    pub reads: Vec<bool>,
     pub inputs: Vec<SigBit>,
 }
 
@@ -55,68 +57,40 @@ fn starts_of(alloc: Global, flat: &Flat, bits: &[SigBit]) -> Result<Vec<Option<b
     Ok(starts)
 }
 
-// Puts a bit behind the inputs where it is read and not driven.
-fn add_input(
+// For each of these bits whether it is marked.
+fn reads_of(
+    alloc: Global,
     design: &Design,
-    read: &[bool],
-    taken: &[bool],
-    bit: SigBit,
-    inputs: &mut Vec<SigBit>,
-) -> Result<(), AllocError>
-    requires flat { IsFlat design.now }
-    requires read { MarksRead design.now read.now }
-    requires taken { AreMarked design.now (driven design.now) taken.now }
-    requires bit { IsBit design.now bit }
-    requires inputs { AreInputs design.now (place_of design.now bit) inputs.old.items }
-    ensures { OnOk result (AreInputs design.now (place_of design.now bit + 1) inputs.new.items) }
+    marks: &[bool],
+    bits: &[SigBit],
+) -> Result<Vec<bool>, AllocError>
+    requires marks { MarksRead design.now marks.now }
+    requires bits { All (IsDeclared design.now.wires design.now.free) bits.now }
+    ensures { IfOk result (λ reads. AreTests (IsReadOtherwise design.now) bits.now reads.items) }
 {
-    let place = design.place(bit);
-    if read[place] && !taken[place] {
-        inputs.push(bit)?;
+    let mut reads = Vec::new(alloc);
+    for bit in bits {
+        reads.push(marks[design.place(*bit)])?;
     }
-    Ok(())
+    Ok(reads)
 }
 
-// The same for all bits of a wire.
-fn add_wire(
-    design: &Design,
-    read: &[bool],
-    taken: &[bool],
-    wire: u32,
-    inputs: &mut Vec<SigBit>,
-) -> Result<(), AllocError>
-    requires flat { IsFlat design.now }
-    requires read { MarksRead design.now read.now }
-    requires taken { AreMarked design.now (driven design.now) taken.now }
-    requires wire { wire < length design.now.wires }
-    requires inputs { AreInputs design.now (offset design.now wire) inputs.old.items }
-    ensures { OnOk result (AreInputs design.now (offset design.now (wire + 1)) inputs.new.items) }
-{
-    let width = design.wires()[wire as usize].width();
-    for bit in 0..width {
-        add_input(design, read, taken, SigBit::Wire(wire, bit), inputs)?;
-    }
-    Ok(())
-}
-
-// The open bits that are read otherwise than as clocks.
+// Of these bits those that are marked.
 fn inputs_of(
     alloc: Global,
     design: &Design,
-    read: &[bool],
-    taken: &[bool],
+    marks: &[bool],
+    bits: &[SigBit],
 ) -> Result<Vec<SigBit>, AllocError>
-    requires flat { IsFlat design.now }
-    requires read { MarksRead design.now read.now }
-    requires taken { AreMarked design.now (driven design.now) taken.now }
-    ensures { IfOk result (λ inputs. AreInputs design.now (wire_bits design.now + design.now.free) inputs.items) }
+    requires marks { MarksRead design.now marks.now }
+    requires bits { All (IsDeclared design.now.wires design.now.free) bits.now }
+    ensures { IfOk result (λ inputs. AreThose (IsReadOtherwise design.now) bits.now inputs.items) }
 {
     let mut inputs = Vec::new(alloc);
-    for wire in 0..design.wires().len() as u32 {
-        add_wire(design, read, taken, wire, &mut inputs)?;
-    }
-    for number in 0..design.free() {
-        add_input(design, read, taken, SigBit::Free(number), &mut inputs)?;
+    for bit in bits {
+        if marks[design.place(*bit)] {
+            inputs.push(*bit)?;
+        }
     }
     Ok(inputs)
 }
@@ -124,7 +98,7 @@ fn inputs_of(
 // The bits on which each cycle of a design rests.
 pub fn sources_of(alloc: Global, flat: &Flat, order: &[Driver]) -> Result<Sources, AllocError>
     requires { IsOrder flat.now order.now }
-    ensures { IfOk result (λ s. AreSources flat.now s.outputs.items s.nexts.items s.starts.items s.inputs.items) }
+    ensures { IfOk result (λ s. AreSources flat.now s.outputs.items s.nexts.items s.starts.items s.reads.items s.inputs.items) }
 {
     let design = flat.design();
     let mut outputs = Vec::new(alloc);
@@ -134,13 +108,15 @@ pub fn sources_of(alloc: Global, flat: &Flat, order: &[Driver]) -> Result<Source
         add_register(cell, &mut outputs, &mut nexts)?;
     }
     let starts = starts_of(alloc, flat, outputs.as_slice())?;
-    let read = read_marks(alloc, design, order)?;
-    let taken = driven_marks(alloc, design)?;
-    let inputs = inputs_of(alloc, design, read.as_slice(), taken.as_slice())?;
+    let open = open_of(alloc, flat)?;
+    let marks = read_marks(alloc, design, order)?;
+    let reads = reads_of(alloc, design, marks.as_slice(), open.inputs())?;
+    let inputs = inputs_of(alloc, design, marks.as_slice(), open.inputs())?;
     Ok(Sources {
         outputs,
         nexts,
         starts,
+        reads,
         inputs,
     })
 }

@@ -5,7 +5,7 @@ ghost use Rattle.cnf_form.specs.Cnf.{LitOf};
 ghost use Rattle.rtlil_design.specs.Places.{places};
 ghost use Rattle.rtlil_design.specs.Shape.{IsDeclared};
 ghost use Rattle.frame_cnf.specs.Encoding.{IsDistinct};
-ghost use Rattle.frame_cnf.specs.Tables.{IsRead, IsTable, IsWritten};
+ghost use Rattle.frame_cnf.specs.Tables.{AllLow, IsRead, IsTable, IsWritten};
 
 use cnf_form::Lit;
 use gate_graph::Gates;
@@ -23,7 +23,8 @@ pub fn push(lits: &mut Vec<Lit>, lit: Lit) -> Result<(), AllocError>
 
 // A table in which each bit but the constant 1 has the literal that is false.
 pub fn new_table(alloc: Global, gates: &Gates, design: &Design) -> Result<Vec<Lit>, AllocError>
-    ensures { IfOk result (λ table. IsTable design.now gates.now table.items) }
+    ensures table { IfOk result (λ table. IsTable design.now gates.now table.items) }
+    ensures low { IfOk result (λ table. AllLow design.now gates.now table.items) }
 {
     let low = gates.constant(false);
     let mut table = Vec::new(alloc);

@@ -1,21 +1,20 @@
-use Rattle.std.proofs.Common.{◌≡◌, ◌+◌, arith, ap, List, length, ◌∙◌}
-use Rattle.std.specs.List.{sum_by}
-use Rattle.std.proofs.lemmas.List.{take_all}
-use Rattle.rtlil_design.specs.Shape.{WireOf, wire_bits}
-use Rattle.rtlil_design.specs.Places.{offset}
-use Rattle.frame_cnf.proofs.Inputs.{few_wires}
+use Rattle.std.proofs.Common.{ap, ◌∙◌, sym}
+use Rattle.std.proofs.lemmas.Bool.{true≢false}
+use Rattle.run_choices.proofs.Those.{those_left, those_taken}
+use Rattle.frame_cnf.specs.Encoding.{IsReadOtherwise}
 use Rattle.frame_cnf.proofs.sources.inputs_of.Goals as goal
+use Rattle.frame_cnf.proofs.sources.inputs_of.Goals.{then-marks-place+in_ok-push, else-marks-place}
 
-pub overflow_cast-wire-end : goal.overflow_cast-wire-end
-overflow_cast-wire-end c =
-    let w = ap (λ (xs : List WireOf). length xs) c.wires.ensures.wires in
-    let few = few_wires c.args.design.now c.wires.ensures.design in
-    let bits = c.wires.ensures.design.bits in
-    omega (arith, w, few, bits)
-
-pub loop-number-init : goal.loop-number-init
-loop-number-init c =
-    let w = ap (λ (xs : List WireOf). length xs) c.wires.ensures.wires in
-    let all : offset c.args.design.now c.loop-wire.wire ≡ wire_bits c.args.design.now + 0 =
-    ap (sum_by (λ (x : WireOf). x.width)) (take_all c.loop-wire.wire c.args.design.now.wires (omega (arith, w))) ∙ (let e : wire_bits c.args.design.now ≡ wire_bits c.args.design.now + 0 = omega arith in e) in
-    rw all at c.loop-wire.invariant
+pub loop-bit-preserved : goal.loop-bit-preserved
+loop-bit-preserved c =
+    let h = c.requires.bits c.loop-bit.bit-index _ c.loop-bit-test.true in
+    let is = c.requires.marks.each _ h in
+    let e = c.place.ensures.place in
+    elim c.if-marks-place.branch [
+      | then-marks-place+in_ok-push w ↦
+          those_taken (IsReadOtherwise c.args.design.now) c.args.bits.now c.loop-bit.inputs.items _ c.loop-bit.bit-index _ c.loop-bit-test.true c.loop-bit.invariant (is.0 (rw e at w.if-marks-place.true))
+          (ap (λ v. v.items) w.inputs-is ∙ w.in_ok-push.ensures.items)
+      | else-marks-place w ↦
+          those_left (IsReadOtherwise c.args.design.now) c.args.bits.now c.loop-bit.inputs.items _ c.loop-bit.bit-index _ c.loop-bit-test.true c.loop-bit.invariant
+          (λ r. true≢false (sym (is.1 r) ∙ (rw e at w.if-marks-place.false))) (ap (λ v. v.items) w.inputs-is)
+    ]

@@ -1,5 +1,6 @@
-use Rattle.std.proofs.Common.{◌≡◌, add-one, arith}
-use Rattle.frame_cnf.proofs.Unrolling.{Unrolled-none, Unrolled-whole}
+use Rattle.std.proofs.Common.{◌≡◌, ◌∙◌, add-one, arith}
+use Rattle.frame_cnf.proofs.Gating.{AreNamed-none}
+use Rattle.frame_cnf.proofs.Unrolling.{Unrolled-none, Unrolled-run, free_length}
 use Rattle.frame_cnf.proofs.Lists.{IsDistinct-none}
 use Rattle.frame_cnf.proofs.unroll.unroll.Goals as goal
 
@@ -12,8 +13,9 @@ loop-init c =
     let one = c.in_ok-gates.ensures.most in
     record {
       unrolled = rw c.new-2.ensures.items
-          (Unrolled-none c.args.design.now c.args.sources.now.outputs.items c.args.sources.now.nexts.items c.args.sources.now.starts.items c.start_row.new.gates c.in_ok-new_table.field-0.items c.in_ok-row.row.items
-          c.constant.result c.requires.sources.starts.as_many starts c.in_ok-new_table.ensures c.constant.ensures.within c.constant.ensures.means);
+          (Unrolled-none c.args.design.now c.args.sources.now.outputs.items c.args.sources.now.nexts.items c.args.sources.now.inputs.items c.args.sources.now.starts.items c.start_row.new.gates c.in_ok-new_table.field-0.items c.in_ok-row.row.items
+          c.constant.result c.requires.sources.starts.as_many starts c.in_ok-new_table.ensures.table c.in_ok-new_table.ensures.low c.constant.ensures.within c.constant.ensures.means);
+      named = rw c.new-2.ensures.items (AreNamed-none c.args.sources.now.inputs.items c.in_ok-gates.gates c.start_row.new.gates _ none (rw c.as_slice.ensures.value at c.in_ok-row.ensures.makes));
       distinct = inputs.distinct (IsDistinct-none c.in_ok-gates.gates.inputs none);
       count = let e = inputs.count in let z = rw none at e in omega (arith, z);
       most = omega (arith, most, one);
@@ -27,18 +29,42 @@ loop-preserved c =
     let most = c.in_ok-unroll_cycle.ensures.most in
     let old_most = c.loop.invariant.most in
     record {
-      unrolled = rw add-one (c.in_ok-unroll_cycle.ensures.unrolls c.loop.counter c.loop.invariant.unrolled);
+      unrolled = rw add-one (c.in_ok-unroll_cycle.ensures.unrolls _ c.loop.counter c.loop.invariant.unrolled);
+      named = c.in_ok-unroll_cycle.ensures.named _ c.loop.invariant.named;
       distinct = inputs.distinct c.loop.invariant.distinct;
       count = omega (arith, count, old_count);
       most = omega (arith, most, old_most);
     }
 
-pub returns-clause-solvable : goal.returns-clause-solvable
-returns-clause-solvable c =
+pub returns-clause-runs : goal.returns-clause-runs
+returns-clause-runs c = λ x s.
     let t = c.loop-test.false in
     let e : c.loop.counter ≡ c.args.depth = omega arith in
-    Unrolled-whole c.args.design.now c.args.sources.now.outputs.items c.args.sources.now.nexts.items c.args.sources.now.starts.items c.args.depth c.loop.gates c.loop.cycles.table.items c.loop.cycles.row.items c.loop.cycles.held
-    c.loop.cycles.bads.items (rw e at c.loop.invariant.unrolled)
+    let row = rw c.as_slice.ensures.value at c.in_ok-row.ensures.starts in
+    rw (c.in_ok-starts.ensures, c.as_slice-2.ensures.value, c.as_slice-3.ensures.value)
+    (Unrolled-run c.args.design.now c.args.sources.now.outputs.items c.args.sources.now.nexts.items c.args.sources.now.inputs.items c.args.sources.now.starts.items c.args.depth c.loop.gates c.in_ok-row.row.items
+    c.loop.cycles.table.items c.loop.cycles.row.items c.loop.cycles.held c.loop.cycles.frames.items (row.as_many ∙ c.requires.sources.starts.as_many) (rw e at c.loop.invariant.unrolled) x s)
+
+pub returns-clause-reaches : goal.returns-clause-reaches
+returns-clause-reaches c =
+    let t = c.loop-test.false in
+    let e : c.loop.counter ≡ c.args.depth = omega arith in
+    (rw e at c.loop.invariant.unrolled).reaches
+
+pub returns-clause-frames : goal.returns-clause-frames
+returns-clause-frames c =
+    let t = c.loop-test.false in
+    let n = c.loop.invariant.unrolled.frames_as_many in
+    omega (arith, n)
+
+pub returns-clause-bads : goal.returns-clause-bads
+returns-clause-bads c = c.loop.invariant.unrolled.bads_within
+
+pub returns-clause-starts : goal.returns-clause-starts
+returns-clause-starts c =
+    let row = rw c.as_slice.ensures.value at c.in_ok-row.ensures.starts in
+    rw (c.in_ok-starts.ensures, c.as_slice-2.ensures.value, c.as_slice-3.ensures.value)
+    (free_length c.in_ok-row.row.items c.args.sources.now.outputs.items c.args.sources.now.starts.items (row.as_many ∙ c.requires.sources.starts.as_many))
 
 pub returns-clause-some : goal.returns-clause-some
 returns-clause-some c = let w = c.loop.invariant.unrolled.held_within in let a = w.0 in let b = w.1 in omega (arith, a, b)
@@ -55,5 +81,5 @@ unroll_cycle-requires-clause-row_as_many c = c.loop.invariant.unrolled.row_as_ma
 pub unroll_cycle-requires-clause-held : goal.unroll_cycle-requires-clause-held
 unroll_cycle-requires-clause-held c = c.loop.invariant.unrolled.held_within
 
-pub unroll_cycle-requires-clause-bads : goal.unroll_cycle-requires-clause-bads
-unroll_cycle-requires-clause-bads c = c.loop.invariant.unrolled.bads_within
+pub returns-clause-named : goal.returns-clause-named
+returns-clause-named c = rw (c.in_ok-starts.ensures, c.as_slice-2.ensures.value, c.as_slice-3.ensures.value) c.loop.invariant.named
