@@ -37,7 +37,7 @@ behind_none [] n = refl
 behind_none (w ∷ ws) n = cc
 
 -- the words with a line feed behind them
-abbrev finish : List Word → List Word
+abbrev pub finish : List Word → List Word
 finish [] = []
 finish (w ∷ ws) = record { place = w.place; text = w.text; done = true } ∷ finish ws
 
@@ -45,7 +45,7 @@ finish_grown : (at b : ℕ) (ws : List Word) → grow_first at b (finish ws) ≡
 finish_grown at b [] = refl
 finish_grown at b (w ∷ ws) = refl
 
-finished : (at : ℕ) (p : List ℕ) → words_of true at p ≡ finish (words_of false at p)
+pub finished : (at : ℕ) (p : List ℕ) → words_of true at p ≡ finish (words_of false at p)
 finished at [] = refl
 finished at (b ∷ []) = elim (cases_Bool (is_blank b)) [ inl h ↦ rw h refl | inr h ↦ rw h refl ]
 finished at (b ∷ c ∷ t) =
@@ -61,7 +61,7 @@ finished at (b ∷ c ∷ t) =
 grow_both : (at a : ℕ) (w : Word) (ws vs us : List Word) → us ≡ w ∷ ws → grow_first at a (us ++ vs) ≡ grow_first at a us ++ vs
 grow_both at a w ws vs us e = rw e refl
 
-parted : (f : Bool) (b : ℕ) (u : List ℕ) → is_blank b ≡ true → (at : ℕ) (p : List ℕ) → words_of f at (p ++ b ∷ u) ≡ words_of true at p ++ words_of f (at + length p + 1) u
+pub parted : (f : Bool) (b : ℕ) (u : List ℕ) → is_blank b ≡ true → (at : ℕ) (p : List ℕ) → words_of f at (p ++ b ∷ u) ≡ words_of true at p ++ words_of f (at + length p + 1) u
 parted f b u e at [] = blank_step f at b u e ∙ ap (λ k. words_of f k u) (omega arith)
 parted f b u e at (a ∷ []) =
     let on : suc (suc at) ≡ at + length (a ∷ []) + 1 = omega arith in

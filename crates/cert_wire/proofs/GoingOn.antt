@@ -27,19 +27,19 @@ use Rattle.cert_wire.proofs.Runs.{word_split}
 abbrev pub Begins : List Saying → List Saying → Type 0
 Begins xs ys = (more : List Saying) × (ys ≡ xs ++ more)
 
-begins_nothing : (ys : List Saying) → Begins [] ys
+pub begins_nothing : (ys : List Saying) → Begins [] ys
 begins_nothing ys = (ys, refl)
 
-begins_itself : (xs : List Saying) → Begins xs xs
+pub begins_itself : (xs : List Saying) → Begins xs xs
 begins_itself xs = ([], sym (append-nil xs))
 
-begins_same : (xs ys : List Saying) → xs ≡ ys → Begins xs ys
+pub begins_same : (xs ys : List Saying) → xs ≡ ys → Begins xs ys
 begins_same xs ys e = ([], sym e ∙ sym (append-nil xs))
 
-begins_behind : (xs ys zs : List Saying) → Begins ys zs → Begins (xs ++ ys) (xs ++ zs)
+pub begins_behind : (xs ys zs : List Saying) → Begins ys zs → Begins (xs ++ ys) (xs ++ zs)
 begins_behind xs ys zs w = (w.0, ap (λ z. xs ++ z) w.1 ∙ sym (append_assoc xs ys w.0))
 
-begins_more : (xs ys zs : List Saying) → Begins xs ys → Begins xs (ys ++ zs)
+pub begins_more : (xs ys zs : List Saying) → Begins xs ys → Begins xs (ys ++ zs)
 begins_more xs ys zs w = (w.0 ++ zs, ap (λ z. z ++ zs) w.1 ∙ append_assoc xs w.0 zs)
 
 -- the last word of a text, of visible bytes, goes on
@@ -356,7 +356,7 @@ module _ (vars : ℕ) where
   lines_go_on ending bytes rest = rw (front_nothing bytes, front_nothing (bytes ++ rest)) at (front_goes_on ending false 0 [] bytes rest)
 
   -- up to the first fault
-  until_more : (xs more : List Saying) → Begins (until_fault xs) (until_fault (xs ++ more))
+  pub until_more : (xs more : List Saying) → Begins (until_fault xs) (until_fault (xs ++ more))
   until_more [] more = begins_nothing _
   until_more (s ∷ xs) more =
       elim (cases_Bool (is_fault s)) [ inl f ↦ rw f (begins_itself _) | inr f ↦ rw f (begins_behind (s ∷ []) (until_fault xs) (until_fault (xs ++ more)) (until_more xs more)) ]

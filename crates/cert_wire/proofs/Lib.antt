@@ -8,3 +8,4 @@ pub mod Steps
 pub mod FirstFault
 pub mod Completing
 pub mod Beginnings
+pub mod Closing

@@ -11,6 +11,6 @@ mod saying;
 mod tests;
 mod words;
 
-pub use laws::{fault_is_first, sayings_are_within, sayings_go_on};
+pub use laws::{fault_is_first, sayings_are_within, sayings_go_on, sayings_stay_before_more};
 pub use reader::Reader;
 pub use saying::{LiteralLine, Saying, WireFault, WireFaultKind};

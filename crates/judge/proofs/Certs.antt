@@ -1,15 +1,14 @@
--- A stream that is found to refute begins with a certificate.
-use Rattle.std.proofs.Common.{◌≡◌, ℕ, suc, ◌+◌, ◌≤◌, Bool, true, false, cond, not, ◌&&◌, leb, eqb, List, [], ◌∷◌, ◌++◌, length, take, drop, Some, None, refl, sym, ap, ◌∙◌, subst, inl, inr, arith, ◌⊎◌, append_assoc}
+-- A stream that is found to be a certificate begins with one.
+use Rattle.std.proofs.Common.{◌≡◌, ℕ, suc, ◌+◌, ◌≤◌, Bool, true, false, cond, not, ◌&&◌, leb, eqb, List, [], ◌∷◌, ◌++◌, length, take, Some, None, refl, sym, ap, ◌∙◌, subst, inl, inr, arith, ◌⊎◌, append_assoc}
 use Rattle.std.specs.Prelude.{Option, ◌||◌, codes, slice_index, map}
 use Rattle.std.proofs.lemmas.Bool.{cases_Bool, eqb-true, leb-false}
 use Rattle.std.proofs.lemmas.List.{append-nil, map-append, length_push, take-take, length-take}
 use Rattle.std.proofs.lemmas.Slice.Eq.{bytes_eq-Decides}
-use Rattle.cnf_form.specs.Cnf.{LitOf, FormulaOf, Assignment, IsAdmitted}
+use Rattle.cnf_form.specs.Cnf.{LitOf, FormulaOf, Assignment, IsAdmitted, Satisfies}
 use Rattle.cert_wire.specs.Word.{Word}
 use Rattle.cert_wire.specs.Line.{LiteralLineOf}
-use Rattle.cert_wire.specs.Text.{is_blank, literal_of, lines_of, last_ending, put_first, words_of, grow_first, is_feed, is_end, is_open}
+use Rattle.cert_wire.specs.Text.{is_blank, literal_of, lines_of, last_ending, words_of, grow_first, is_feed, is_end, is_open}
 use Rattle.cert_wire.specs.Stream.{alone, amid_after, bad_word, begins_clause, behind, ended, first_byte, is_begun, is_text, is_unknown, line_sayings, list_sayings, plain_sayings, sayings, sayings_from, status_sayings, text_sayings, unended, until_fault}
-use Rattle.cert_wire.specs.Reading.{visible_before}
 use Rattle.cert_wire.specs.declared.words.Ending.{Ending}
 use Rattle.cert_wire.specs.declared.words.Ending.TheVariants.{Open, Feed, End}
 use Rattle.cert_wire.specs.declared.list.ListKind.{ListKind}
@@ -17,16 +16,13 @@ use Rattle.cert_wire.specs.declared.list.ListKind.TheVariants.{Clause as ClauseL
 use Rattle.cert_wire.specs.declared.saying.Saying.{Saying}
 use Rattle.cert_wire.specs.declared.saying.Saying.TheVariants.{Clause, Delete, Values, LastValues, Unknown, Fault}
 use Rattle.cert_wire.proofs.Numbers.{both_true}
-use Rattle.cert_wire.proofs.Runs.{word_split}
-use Rattle.cert_wire.proofs.Cuts.{some_line}
+use Rattle.sby_terms.specs.declared.names.Answer.{Answer}
 use Rattle.sby_terms.specs.declared.names.Answer.TheVariants.{Sat, Unsat}
 use Rattle.judge.specs.Values.{named_from, unnamed}
 use Rattle.judge.specs.Fate.{Fate, Found, Comes, ComesTo, FateOf}
-use Rattle.judge.specs.Cert.{words, IsIdle, Writes, Leads, IsCertOf}
+use Rattle.judge.specs.Cert.{words, lines, IsIdle, IsRemark, Writes, Leads, Names, IsCertOf}
 use Rattle.judge.proofs.Coming.{sides}
-
-abbrev pub texts : List Word → List (List ℕ)
-texts ws = map (λ (w : Word). w.text) ws
+use Rattle.judge.proofs.Prefixes.{texts, texts_anywhere, words_cut, cut}
 
 -- white space or a line feed follows each word of a line that a line feed ends
 abbrev pub AllDone : List Word → Type 0
@@ -49,25 +45,6 @@ done_words at (b ∷ c ∷ t) =
       ]
     ]
 
--- the texts of words, wherever the first byte stands
-texts_grown : (at to b : ℕ) (ws vs : List Word) → texts ws ≡ texts vs → texts (grow_first at b ws) ≡ texts (grow_first to b vs)
-texts_grown at to b [] [] e = refl
-texts_grown at to b [] (v ∷ vs) e = cc
-texts_grown at to b (w ∷ ws) [] e = cc
-texts_grown at to b (w ∷ ws) (v ∷ vs) e = let p : w.text ≡ v.text = cc in let q : texts ws ≡ texts vs = cc in rw (p, q) refl
-
-pub texts_anywhere : (f : Bool) (at to : ℕ) (t : List ℕ) → texts (words_of f at t) ≡ texts (words_of f to t)
-texts_anywhere f at to [] = refl
-texts_anywhere f at to (b ∷ []) = elim (cases_Bool (is_blank b)) [ inl h ↦ rw h refl | inr h ↦ rw h refl ]
-texts_anywhere f at to (b ∷ c ∷ t) =
-    elim (cases_Bool (is_blank b)) [
-      | inl h ↦ rw h (texts_anywhere f (suc at) (suc to) (c ∷ t))
-      | inr h ↦ elim (cases_Bool (is_blank c)) [
-        | inl k ↦ rw (h, k) (ap (λ z. (b ∷ []) ∷ z) (texts_anywhere f (suc at) (suc to) (c ∷ t)))
-        | inr k ↦ rw (h, k) (texts_grown at to b (words_of f (suc at) (c ∷ t)) (words_of f (suc to) (c ∷ t)) (texts_anywhere f (suc at) (suc to) (c ∷ t)))
-      ]
-    ]
-
 is_the_text : (w : Word) (text : List ℕ) → is_text text w ≡ true → w.text ≡ text
 is_the_text w text h = (bytes_eq-Decides w.text text).0 h
 
@@ -84,67 +61,44 @@ writes_nothing : (vars : ℕ) (front : List (List ℕ)) → Writes vars front []
 writes_nothing vars [] h = refl
 writes_nothing vars (w ∷ front) h = absurd h
 
-abbrev ZeroCut : List ℕ → Type 0
-ZeroCut t = (s : List ℕ) × (x : List ℕ) × (t ≡ s ++ x) × (words s ≡ codes "0" ∷ [])
+pub named_append : (x : Assignment) (a b : List LitOf) → named_from x (a ++ b) ≡ named_from (named_from x a) b
+named_append x [] b = refl
+named_append x (l ∷ a) b = named_append (λ v. cond (eqb v l.var) (not l.negated) (x v)) a b
 
-blank_before : (b : ℕ) (t : List ℕ) → is_blank b ≡ true → ZeroCut t → ZeroCut (b ∷ t)
-blank_before b t h ([], x, e, z) = cc
-blank_before b t h (c ∷ s, x, e, z) = (b ∷ c ∷ s, x, ap (λ k. b ∷ k) e, rw h (texts_anywhere true 1 0 (c ∷ s) ∙ z))
-
-blank_skipped : (f : Bool) (at b : ℕ) (t : List ℕ) (ws : List (List ℕ)) → is_blank b ≡ true → texts (words_of f at (b ∷ t)) ≡ ws → texts (words_of f (suc at) t) ≡ ws
-blank_skipped f at b [] ws h q = rw h at q
-blank_skipped f at b (c ∷ t) ws h q = rw h at q
-
-zero_first : (f : Bool) (at b : ℕ) (t : List ℕ) (more : List (List ℕ)) → is_blank b ≡ false → texts (words_of f at (b ∷ t)) ≡ codes "0" ∷ more → b ≡ 48
-zero_first f at b t more h e =
-    let q : take (visible_before (b ∷ t)) (b ∷ t) ∷ texts (words_of f (at + visible_before (b ∷ t)) (drop (visible_before (b ∷ t)) (b ∷ t))) ≡ codes "0" ∷ more = sym (ap texts (word_split f at b t h)) ∙ e in
-    let n : visible_before (b ∷ t) ≡ suc (visible_before t) = rw h refl in
-    let k : take (visible_before (b ∷ t)) (b ∷ t) ≡ codes "0" = cc in
-    let g : b ∷ take (visible_before t) t ≡ 48 ∷ [] = ap (λ i. take i (b ∷ t)) (sym n) ∙ k in
-    cc
-
--- the text up to a line's first word 0
-zero_cut : (f : Bool) (at : ℕ) (t : List ℕ) (more : List (List ℕ)) → texts (words_of f at t) ≡ codes "0" ∷ more → ZeroCut t
-zero_cut f at [] more e = cc
-zero_cut f at (b ∷ t) more e =
-    elim (cases_Bool (is_blank b)) [
-      | inl h ↦ blank_before b t h (zero_cut f (suc at) t more (blank_skipped f at b t (codes "0" ∷ more) h e))
-      | inr h ↦ (48 ∷ [], t, ap (λ z. z ∷ t) (zero_first f at b t more h e), refl)
-    ]
-
--- a saying with which a stream comes to something else
+-- a saying with which a stream comes to no certificate
 abbrev stops : Saying → Bool
 stops (Clause line) = false
 stops (Delete line) = false
 stops (Values line) = false
-stops (LastValues line) = true
+stops (LastValues line) = false
 stops Unknown = true
 stops (Fault f) = true
 
 abbrev Stops : List Saying → Type 0
 Stops said = (s : Saying) × (ss : List Saying) × (said ≡ s ∷ ss) × (stops s ≡ true)
 
--- or values that go on
-abbrev Ends : List Saying → Type 0
-Ends said = Stops said ⊎ ((line : LiteralLineOf) × (said ≡ Values line ∷ []))
-
 module _ (vars : ℕ) where
-  -- what the words of a list say
+  -- what the words of a list say, with their 0
   abbrev SaysList : ListKind → ℕ → List (List ℕ) → List Saying → Type 0
   SaysList kind place all said =
       (c : List LitOf) × (front : List (List ℕ)) × (rest : List Word) × (said ≡ ended kind (record { place = place; lits = c }) ∷ behind rest)
       × (all ≡ front ++ codes "0" ∷ texts rest) × Writes vars front c × (length c ≤ vars)
 
+  -- and without it: only values go on
+  abbrev GoesOn : ListKind → ℕ → List (List ℕ) → List Saying → Type 0
+  GoesOn kind place all said = (c : List LitOf) × (kind ≡ ValuesList) × (said ≡ Values (record { place = place; lits = c }) ∷ []) × Writes vars all c × (length c ≤ vars)
+
   abbrev ListSays : ListKind → ℕ → Ending → List (List ℕ) → List Saying → Type 0
-  ListSays kind place ending all said = ((said ≡ []) × (is_feed ending ≡ true → ⊥)) ⊎ SaysList kind place all said ⊎ Ends said
+  ListSays kind place ending all said = ((said ≡ []) × (is_feed ending ≡ true → ⊥)) ⊎ SaysList kind place all said ⊎ GoesOn kind place all said ⊎ Stops said
 
-  bad_stops : (room : Bool) (w : Word) → Ends (bad_word vars room w)
-  bad_stops room w = inl (_, [], refl, refl)
+  bad_stops : (room : Bool) (w : Word) → Stops (bad_word vars room w)
+  bad_stops room w = (_, [], refl, refl)
 
-  unended_stops : (kind : ListKind) (line : LiteralLineOf) (feed : ℕ) → Ends (unended kind line feed)
-  unended_stops ClauseList line feed = inl (_, [], refl, refl)
-  unended_stops Deletion line feed = inl (_, [], refl, refl)
-  unended_stops ValuesList line feed = inr (line, refl)
+  unended_says : (kind : ListKind) (place feed : ℕ) (all : List (List ℕ)) (lits : List LitOf) → Writes vars all lits → length lits ≤ vars
+      → GoesOn kind place all (unended kind (record { place = place; lits = lits }) feed) ⊎ Stops (unended kind (record { place = place; lits = lits }) feed)
+  unended_says ClauseList place feed all lits w l = inr (_, [], refl, refl)
+  unended_says Deletion place feed all lits w l = inr (_, [], refl, refl)
+  unended_says ValuesList place feed all lits w l = inl (lits, refl, refl, w, l)
 
   module _ (kind : ListKind) (place : ℕ) (ending : Ending) (feed : ℕ) where
     at_word : (all : List (List ℕ)) (lits : List LitOf) (w : Word) (ws : List Word) (o : Option LitOf) → literal_of vars w.text ≡ o
@@ -155,7 +109,7 @@ module _ (vars : ℕ) where
     at_word all lits w ws None q d more =
         elim (cases_Bool (is_begun w)) [
           | inl b ↦ rw b (inl (refl, λ t. let g = (d t).0 in let m = (both_true (is_text (codes "-") w) (not w.done) b).1 in let n = rw g at m in cc))
-          | inr b ↦ rw b (inr (inr (bad_stops true w)))
+          | inr b ↦ rw b (inr (inr (inr (bad_stops true w))))
         ]
     at_word all lits w ws (Some m) q d more =
         elim (cases_Bool w.done) [
@@ -166,7 +120,10 @@ module _ (vars : ℕ) where
     list_says : (all front : List (List ℕ)) (lits : List LitOf) (ws : List Word) → all ≡ front ++ texts ws → Writes vars front lits → length lits ≤ vars
         → (is_feed ending ≡ true → AllDone ws) → ListSays kind place ending all (list_sayings vars kind ending feed place lits ws)
     list_says all front lits [] e h l d =
-        elim (cases_Bool (is_feed ending)) [ inl t ↦ rw t (inr (inr (unended_stops kind (record { place = place; lits = lits }) feed))) | inr f ↦ rw f (inl (refl, λ t. cc)) ]
+        elim (cases_Bool (is_feed ending)) [
+          | inl t ↦ let q : all ≡ front = e ∙ append-nil front in rw t (inr (inr (unended_says kind place feed all lits (subst (λ z. Writes vars z lits) (sym q) h) l)))
+          | inr f ↦ rw f (inl (refl, λ t. cc))
+        ]
     list_says all front lits (w ∷ ws) e h l d =
         elim (cases_Bool (is_text (codes "0") w)) [
           | inl z ↦ elim (cases_Bool (w.done || is_end ending)) [
@@ -174,7 +131,7 @@ module _ (vars : ℕ) where
             | inr k ↦ rw (z, k) (inl (refl, λ t. let g = (d t).0 in let q : (w.done || is_end ending) ≡ true = rw g refl in apart (w.done || is_end ending) k q))
           ]
           | inr z ↦ rw z (elim (cases_Bool (leb vars (length lits))) [
-            | inl k ↦ rw k (inr (inr (bad_stops false w)))
+            | inl k ↦ rw k (inr (inr (inr (bad_stops false w))))
             | inr k ↦ let room = leb-false vars (length lits) k in
                 rw k (at_word all lits w ws (literal_of vars w.text) refl d
                 (λ m q. list_says all (front ++ w.text ∷ []) (lits ++ m ∷ []) ws (e ∙ sym (append_assoc front (w.text ∷ []) (texts ws))) (writes_more vars front lits w.text m h q)
@@ -182,13 +139,26 @@ module _ (vars : ℕ) where
           ])
         ]
 
-  -- what a line says, amid no values
+  -- what a line says
   abbrev SaysDelete : ℕ → List (List ℕ) → List Saying → Type 0
   SaysDelete place all said = (rest : List (List ℕ)) × (all ≡ codes "d" ∷ rest) × SaysList Deletion place rest said
 
+  abbrev SaysLast : ℕ → List (List ℕ) → List Saying → Type 0
+  SaysLast place all said = (rest : List (List ℕ)) × (all ≡ codes "v" ∷ rest) × SaysList ValuesList place rest said
+
+  abbrev SaysMore : ℕ → List (List ℕ) → List Saying → Type 0
+  SaysMore place all said = (rest : List (List ℕ)) × (all ≡ codes "v" ∷ rest) × GoesOn ValuesList place rest said
+
+  abbrev SaysValues : ℕ → List (List ℕ) → List Saying → Type 0
+  SaysValues place all said = SaysLast place all said ⊎ SaysMore place all said ⊎ Stops said
+
   abbrev LineSays : ℕ → Ending → List (List ℕ) → List Saying → Type 0
   LineSays place ending all said =
-      ((said ≡ []) × (is_feed ending ≡ true → IsIdle all)) ⊎ SaysList ClauseList place all said ⊎ SaysDelete place all said ⊎ Ends said
+      ((said ≡ []) × (is_feed ending ≡ true → IsIdle all)) ⊎ SaysList ClauseList place all said ⊎ SaysDelete place all said ⊎ SaysValues place all said
+
+  -- amid values
+  abbrev AmidSays : ℕ → Ending → List (List ℕ) → List Saying → Type 0
+  AmidSays place ending all said = ((said ≡ []) × (is_feed ending ≡ true → IsRemark all)) ⊎ SaysValues place all said
 
   not_open : (ending : Ending) → is_feed ending ≡ true → is_open ending ≡ false
   not_open Open h = cc
@@ -213,31 +183,47 @@ module _ (vars : ℕ) where
     no_lits : 0 ≤ vars
     no_lits = omega arith
 
+    stop : {A : Type 0} {said : List Saying} → Stops said → A ⊎ SaysValues w.place (texts (w ∷ ws)) said
+    stop s = inr (inr (inr s))
+
     clause_line : (said : List Saying) → ListSays ClauseList w.place ending (texts (w ∷ ws)) said → LineSays w.place ending (texts (w ∷ ws)) said
     clause_line said (inl (e, h)) = inl (e, λ t. absurd (h t))
     clause_line said (inr (inl h)) = inr (inl h)
-    clause_line said (inr (inr h)) = inr (inr (inr h))
+    clause_line said (inr (inr (inl (c, k, e, u, l)))) = cc
+    clause_line said (inr (inr (inr h))) = inr (inr (stop h))
 
     delete_line : w.text ≡ codes "d" → (said : List Saying) → ListSays Deletion w.place ending (texts ws) said → LineSays w.place ending (texts (w ∷ ws)) said
     delete_line t said (inl (e, h)) = inl (e, λ g. absurd (h g))
     delete_line t said (inr (inl h)) = inr (inr (inl (texts ws, ap (λ z. z ∷ texts ws) t, h)))
-    delete_line t said (inr (inr h)) = inr (inr (inr h))
+    delete_line t said (inr (inr (inl (c, k, e, u, l)))) = cc
+    delete_line t said (inr (inr (inr h))) = inr (inr (stop h))
 
-    values_line : (said : List Saying) → ListSays ValuesList w.place ending (texts ws) said → LineSays w.place ending (texts (w ∷ ws)) said
-    values_line said (inl (e, h)) = inl (e, λ g. absurd (h g))
-    values_line said (inr (inl (c, front, rest, e, u, v, l))) = inr (inr (inr (inl (LastValues (record { place = w.place; lits = c }), behind rest, e, refl))))
-    values_line said (inr (inr h)) = inr (inr (inr h))
-
-    alone_says : (said : List Saying) → (eqb (length w.text) 1 ≡ true → LineSays w.place ending (texts (w ∷ ws)) said) → LineSays w.place ending (texts (w ∷ ws)) (alone w said)
-    alone_says said more = elim (cases_Bool (eqb (length w.text) 1)) [ inl a ↦ rw a (more a) | inr a ↦ rw a (inr (inr (inr (inl (_, [], refl, refl))))) ]
+    -- a line of values says nothing only where it is cut
+    values_line : w.text ≡ codes "v" → (said : List Saying) → ListSays ValuesList w.place ending (texts ws) said
+        → ((said ≡ []) × (is_feed ending ≡ true → ⊥)) ⊎ SaysValues w.place (texts (w ∷ ws)) said
+    values_line t said (inl h) = inl h
+    values_line t said (inr (inl h)) = inr (inl (texts ws, ap (λ z. z ∷ texts ws) t, h))
+    values_line t said (inr (inr (inl h))) = inr (inr (inl (texts ws, ap (λ z. z ∷ texts ws) t, h)))
+    values_line t said (inr (inr (inr h))) = stop h
 
     list_line : (kind : ListKind) → ListSays kind w.place ending (texts ws) (list_sayings vars kind ending feed w.place [] ws)
     list_line kind = list_says kind w.place ending feed (texts ws) [] [] ws refl refl no_lits (λ t. (d t).1)
 
+    values_says : eqb (first_byte w) 118 ≡ true
+        → ((alone w (list_sayings vars ValuesList ending feed w.place [] ws) ≡ []) × (is_feed ending ≡ true → ⊥)) ⊎ SaysValues w.place (texts (w ∷ ws)) (alone w (list_sayings vars ValuesList ending feed w.place [] ws))
+    values_says v =
+        elim (cases_Bool (eqb (length w.text) 1)) [
+          | inl a ↦ rw a (values_line (one_byte w.text 118 v a) (list_sayings vars ValuesList ending feed w.place [] ws) (list_line ValuesList))
+          | inr a ↦ rw a (stop (_, [], refl, refl))
+        ]
+
+    alone_says : (said : List Saying) → (eqb (length w.text) 1 ≡ true → LineSays w.place ending (texts (w ∷ ws)) said) → LineSays w.place ending (texts (w ∷ ws)) (alone w said)
+    alone_says said more = elim (cases_Bool (eqb (length w.text) 1)) [ inl a ↦ rw a (more a) | inr a ↦ rw a (inr (inr (stop (_, [], refl, refl)))) ]
+
     status_line : w.text ≡ codes "s" → LineSays w.place ending (texts (w ∷ ws)) (status_sayings ending ws)
     status_line s =
         elim (cases_Bool (is_unknown ws && not (is_open ending))) [
-          | inl u ↦ rw u (inr (inr (inr (inl (_, [], refl, refl)))))
+          | inl u ↦ rw u (inr (inr (stop (_, [], refl, refl))))
           | inr u ↦ rw u (inl (refl, λ t. inr (s, λ q. known (is_unknown ws) (is_open ending) u (not_open ending t) (unknown_words ws q))))
         ]
 
@@ -251,18 +237,36 @@ module _ (vars : ℕ) where
             | inr k ↦ rw k (elim (cases_Bool (begins_clause (first_byte w))) [
               | inl b ↦ rw b (clause_line (list_sayings vars ClauseList ending feed w.place [] (w ∷ ws))
                   (list_says ClauseList w.place ending feed (texts (w ∷ ws)) [] [] (w ∷ ws) refl refl no_lits d))
-              | inr b ↦ rw b (inr (inr (inr (inl (_, [], refl, refl)))))
+              | inr b ↦ rw b (inr (inr (stop (_, [], refl, refl))))
             ])
           ])
         ]
+
+    of_values : (said : List Saying) → ((said ≡ []) × (is_feed ending ≡ true → ⊥)) ⊎ SaysValues w.place (texts (w ∷ ws)) said → LineSays w.place ending (texts (w ∷ ws)) said
+    of_values said (inl (e, h)) = inl (e, λ t. absurd (h t))
+    of_values said (inr h) = inr (inr (inr h))
 
     line_says : LineSays w.place ending (texts (w ∷ ws)) (line_sayings vars ending false feed (w ∷ ws))
     line_says =
         elim (cases_Bool (eqb (first_byte w) 99)) [
           | inl c ↦ rw c (inl (refl, λ _. inl (eqb-true (first_byte w) 99 c)))
           | inr c ↦ rw c (elim (cases_Bool (eqb (first_byte w) 118)) [
-            | inl v ↦ rw v (alone_says (list_sayings vars ValuesList ending feed w.place [] ws) (λ a. values_line (list_sayings vars ValuesList ending feed w.place [] ws) (list_line ValuesList)))
+            | inl v ↦ rw v (of_values (alone w (list_sayings vars ValuesList ending feed w.place [] ws)) (values_says v))
             | inr v ↦ rw v plain_line
+          ])
+        ]
+
+    amid_values : (said : List Saying) → ((said ≡ []) × (is_feed ending ≡ true → ⊥)) ⊎ SaysValues w.place (texts (w ∷ ws)) said → AmidSays w.place ending (texts (w ∷ ws)) said
+    amid_values said (inl (e, h)) = inl (e, λ t. absurd (h t))
+    amid_values said (inr h) = inr h
+
+    amid_says : AmidSays w.place ending (texts (w ∷ ws)) (line_sayings vars ending true feed (w ∷ ws))
+    amid_says =
+        elim (cases_Bool (eqb (first_byte w) 99)) [
+          | inl c ↦ rw c (inl (refl, λ _. eqb-true (first_byte w) 99 c))
+          | inr c ↦ rw c (elim (cases_Bool (eqb (first_byte w) 118)) [
+            | inl v ↦ rw v (amid_values (alone w (list_sayings vars ValuesList ending feed w.place [] ws)) (values_says v))
+            | inr v ↦ rw v (stop (_, [], refl, refl))
           ])
         ]
 
@@ -270,258 +274,257 @@ module _ (vars : ℕ) where
   abbrev TextSays : Ending → List ℕ → List Saying → Type 0
   TextSays ending t said = (place : ℕ) × LineSays place ending (texts (words_of (is_feed ending) 0 t)) said
 
+  abbrev AmidText : Ending → List ℕ → List Saying → Type 0
+  AmidText ending t said = (place : ℕ) × AmidSays place ending (texts (words_of (is_feed ending) 0 t)) said
+
+  all_done : (ending : Ending) (start : ℕ) (t : List ℕ) → is_feed ending ≡ true → AllDone (words_of (is_feed ending) start t)
+  all_done ending start t e = subst (λ f. AllDone (words_of f start t)) (sym e) (done_words start t)
+
   text_says : (ending : Ending) (start : ℕ) (t : List ℕ) → TextSays ending t (text_sayings vars ending false start t)
-  text_says ending start t =
-      says (words_of (is_feed ending) start t) (texts_anywhere (is_feed ending) start 0 t) (λ e. subst (λ f. AllDone (words_of f start t)) (sym e) (done_words start t))
+  text_says ending start t = says (words_of (is_feed ending) start t) (texts_anywhere (is_feed ending) start 0 t) (all_done ending start t)
     where
       says : (ws : List Word) → texts ws ≡ texts (words_of (is_feed ending) 0 t) → (is_feed ending ≡ true → AllDone ws) → TextSays ending t (line_sayings vars ending false (start + length t) ws)
       says [] e d = (0, inl (refl, λ _. subst (λ z. IsIdle z) e tt))
       says (w ∷ ws) e d = (w.place, subst (λ z. LineSays w.place ending z (line_sayings vars ending false (start + length t) (w ∷ ws))) e (line_says ending (start + length t) w ws d))
 
-module _ (vars : ℕ) where
-  -- lines of a proof, and a line that begins with the word 0 where the empty clause is admitted
-  abbrev Refuting : List (List LitOf) → List (List ℕ) → Type 0
-  Refuting F ls =
-      (before : List (List ℕ)) × (t : List ℕ) × (after : List (List ℕ)) × (G : List (List LitOf)) × (f : Bool) × (more : List (List ℕ))
-      × (ls ≡ before ++ t ∷ after) × Leads vars (map words before) F G × (texts (words_of f 0 t) ≡ codes "0" ∷ more) × IsAdmitted G []
+  text_amid : (ending : Ending) (start : ℕ) (t : List ℕ) → AmidText ending t (text_sayings vars ending true start t)
+  text_amid ending start t = says (words_of (is_feed ending) start t) (texts_anywhere (is_feed ending) start 0 t) (all_done ending start t)
+    where
+      says : (ws : List Word) → texts ws ≡ texts (words_of (is_feed ending) 0 t) → (is_feed ending ≡ true → AllDone ws) → AmidText ending t (line_sayings vars ending true (start + length t) ws)
+      says [] e d = (0, inl (refl, λ _. subst (λ z. IsRemark z) e tt))
+      says (w ∷ ws) e d = (w.place, subst (λ z. AmidSays w.place ending z (line_sayings vars ending true (start + length t) (w ∷ ws))) e (amid_says ending (start + length t) w ws d))
 
-  refuting_now : (F : List (List LitOf)) (c : List LitOf) (t : List ℕ) (after : List (List ℕ)) (f : Bool) (front more : List (List ℕ)) → IsAdmitted F c → c ≡ []
-      → texts (words_of f 0 t) ≡ front ++ codes "0" ∷ more → Writes vars front c → Refuting F (t ∷ after)
-  refuting_now F c t after f front more a n e w =
-      let z : front ≡ [] = writes_nothing vars front (subst (λ d. Writes vars front d) n w) in
-      let q = rw z at e in
-      ([], t, after, F, f, more, refl, refl, q, subst (λ d. IsAdmitted F d) n a)
+-- lines up to one's word 0, which are so
+abbrev Upto : (List (List (List ℕ)) → Type 0) → List (List ℕ) → Type 0
+Upto P ls =
+    (before : List (List ℕ)) × (t : List ℕ) × (after : List (List ℕ)) × (fed : Bool) × (front : List (List ℕ)) × (more : List (List ℕ))
+    × (ls ≡ before ++ t ∷ after) × (texts (words_of fed 0 t) ≡ front ++ codes "0" ∷ more) × P (map words before ++ (front ++ codes "0" ∷ []) ∷ [])
 
-  refuting_later : (F H : List (List LitOf)) (t : List ℕ) (ls : List (List ℕ)) → ((G : List (List LitOf)) (ts : List (List ℕ)) → Leads vars (map words ts) H G → Leads vars (words t ∷ map words ts) F G)
-      → Refuting H ls → Refuting F (t ∷ ls)
-  refuting_later F H t ls step (before, u, after, G, f, more, e, h, z, a) = (t ∷ before, u, after, G, f, more, ap (λ k. t ∷ k) e, step G before h, z, a)
+upto_now : (P : List (List (List ℕ)) → Type 0) (t : List ℕ) (after : List (List ℕ)) (fed : Bool) (front more : List (List ℕ)) → texts (words_of fed 0 t) ≡ front ++ codes "0" ∷ more
+    → P ((front ++ codes "0" ∷ []) ∷ []) → Upto P (t ∷ after)
+upto_now P t after fed front more e p = ([], t, after, fed, front, more, refl, e, p)
 
-  module _ (C : List (List LitOf)) (x : Assignment) where
-    abbrev Finds : List (List LitOf) → List Saying → Type 0
-    Finds F ss = ComesTo C F x ss (Some (Found Unsat))
+upto_later : (P Q : List (List (List ℕ)) → Type 0) (t : List ℕ) (ls : List (List ℕ)) → ((us : List (List (List ℕ))) → Q us → P (words t ∷ us)) → Upto Q ls → Upto P (t ∷ ls)
+upto_later P Q t ls step (before, u, after, fed, front, more, e, z, q) = (t ∷ before, u, after, fed, front, more, ap (λ k. t ∷ k) e, z, step (map words before ++ (front ++ codes "0" ∷ []) ∷ []) q)
 
-    behind_found : (F : List (List LitOf)) (rest : List Word) (more : List Saying) → Finds F (behind rest ++ more) → (rest ≡ []) × Finds F more
-    behind_found F [] more h = (refl, h)
-    behind_found F (w ∷ rest) more h = cc
+upto_as : (P Q : List (List (List ℕ)) → Type 0) (ls : List (List ℕ)) → ((us : List (List (List ℕ))) → Q us → P us) → Upto Q ls → Upto P ls
+upto_as P Q ls to (before, u, after, fed, front, more, e, z, q) = (before, u, after, fed, front, more, e, z, to (map words before ++ (front ++ codes "0" ∷ []) ∷ []) q)
 
-    stopped : (F : List (List LitOf)) (said more : List Saying) → Stops said → Finds F (said ++ more) → ⊥
-    stopped F said more (s, ss, e, t) h = found s t (subst (λ z. Finds F (z ++ more)) e h)
+module _ (vars : ℕ) (C : List (List LitOf)) where
+  -- lines of values that satisfy the clauses C
+  abbrev NameLines : Assignment → List (List (List ℕ)) → Type 0
+  NameLines x ls = (values : List LitOf) × Names vars ls values × Satisfies (named_from x values) C
+
+  -- lines that are a certificate
+  abbrev CertLines : Assignment → List (List LitOf) → Answer → List (List (List ℕ)) → Type 0
+  CertLines x F Unsat ls = (proof : List (List (List ℕ))) × (G : List (List LitOf)) × (ls ≡ proof ++ (codes "0" ∷ []) ∷ []) × Leads vars proof F G × IsAdmitted G []
+  CertLines x F Sat ls =
+      (proof : List (List (List ℕ))) × (last : List (List (List ℕ))) × (G : List (List LitOf)) × (values : List LitOf)
+      × (ls ≡ proof ++ last) × Leads vars proof F G × Names vars last values × Satisfies (named_from x values) C
+
+  names_more : (x : Assignment) (ws : List (List ℕ)) (ls : List (List (List ℕ))) (rest : List (List ℕ)) (c : List LitOf) → ws ≡ codes "v" ∷ rest → Writes vars rest c → length c ≤ vars
+      → NameLines (named_from x c) ls → NameLines x (ws ∷ ls)
+  names_more x ws [] rest c e w l (values, n, s) = absurd n
+  names_more x ws (u ∷ us) rest c e w l (values, n, s) = (c ++ values, inr (rest, c, values, e, w, l, refl, n), subst (λ y. Satisfies y C) (sym (named_append x c values)) s)
+
+  names_remark : (x : Assignment) (ws : List (List ℕ)) (ls : List (List (List ℕ))) → IsRemark ws → NameLines x ls → NameLines x (ws ∷ ls)
+  names_remark x ws [] r (values, n, s) = absurd n
+  names_remark x ws (u ∷ us) r (values, n, s) = (values, inl (r, n), s)
+
+  names_cert : (x : Assignment) (F : List (List LitOf)) (a : Answer) (ls : List (List (List ℕ))) → a ≡ Sat → NameLines x ls → CertLines x F a ls
+  names_cert x F Unsat ls e n = cc
+  names_cert x F Sat ls e (values, n, s) = ([], ls, F, values, refl, refl, n, s)
+
+  cert_step : (x : Assignment) (F H : List (List LitOf)) (a : Answer) (ws : List (List ℕ)) (ls : List (List (List ℕ)))
+      → ((G : List (List LitOf)) (ps : List (List (List ℕ))) → Leads vars ps H G → Leads vars (ws ∷ ps) F G) → CertLines x H a ls → CertLines x F a (ws ∷ ls)
+  cert_step x F H Unsat ws ls step (proof, G, e, k, d) = (ws ∷ proof, G, ap (λ z. ws ∷ z) e, step G proof k, d)
+  cert_step x F H Sat ws ls step (proof, last, G, values, e, k, n, s) = (ws ∷ proof, last, G, values, ap (λ z. ws ∷ z) e, step G proof k, n, s)
+
+  zero_cert : (x : Assignment) (F : List (List LitOf)) (a : Answer) → a ≡ Unsat → IsAdmitted F [] → CertLines x F a ((codes "0" ∷ []) ∷ [])
+  zero_cert x F Unsat e d = ([], F, refl, refl, d)
+  zero_cert x F Sat e d = cc
+
+  module _ (a : Answer) where
+    abbrev Finds : List (List LitOf) → Assignment → List Saying → Type 0
+    Finds F x ss = ComesTo C F x ss (Some (Found a))
+
+    abbrev NamesUpto : Assignment → List (List ℕ) → Type 0
+    NamesUpto x ls = (a ≡ Sat) × Upto (NameLines x) ls
+
+    abbrev CertUpto : Assignment → List (List LitOf) → List (List ℕ) → Type 0
+    CertUpto x F ls = Upto (CertLines x F a) ls
+
+    behind_found : (F : List (List LitOf)) (x : Assignment) (rest : List Word) (more : List Saying) → Finds F x (behind rest ++ more) → (rest ≡ []) × Finds F x more
+    behind_found F x [] more h = (refl, h)
+    behind_found F x (w ∷ rest) more h = cc
+
+    stopped : (F : List (List LitOf)) (x : Assignment) (said more : List Saying) → Stops said → Finds F x (said ++ more) → ⊥
+    stopped F x said more (s, ss, e, t) h = found s t (subst (λ z. Finds F x (z ++ more)) e h)
       where
-        found : (s : Saying) → stops s ≡ true → ComesTo C F x (s ∷ (ss ++ more)) (Some (Found Unsat)) → ⊥
+        found : (s : Saying) → stops s ≡ true → ComesTo C F x (s ∷ (ss ++ more)) (Some (Found a)) → ⊥
         found (Clause c) t h = cc
         found (Delete c) t h = cc
         found (Values c) t h = cc
-        found (LastValues c) t (inl (s, k)) = cc
-        found (LastValues c) t (inr (n, u, k)) = cc
+        found (LastValues c) t h = cc
         found Unknown t h = cc
         found (Fault f) t h = cc
 
-    no_more : (F : List (List LitOf)) → Finds F [] → ⊥
-    no_more F h = cc
+    no_more : (F : List (List LitOf)) (x : Assignment) → Finds F x [] → ⊥
+    no_more F x h = cc
 
-    last_line : (ending : Ending) (F : List (List LitOf)) (t : List ℕ) (said : List Saying) → TextSays vars ending t said → Finds F (said ++ []) → Refuting F (t ∷ [])
-    last_line ending F t said (place, inl (e, i)) h = absurd (no_more F (subst (λ z. Finds F (z ++ [])) e h))
-    last_line ending F t said (place, inr (inl (c, front, rest, e, u, w, l))) h = found (subst (λ z. Finds F (z ++ [])) e h)
+    -- values with their 0
+    values_now : (place : ℕ) (fed : Bool) (F : List (List LitOf)) (x : Assignment) (t : List ℕ) (after : List (List ℕ)) (said more : List Saying) → SaysLast vars place (texts (words_of fed 0 t)) said
+        → Finds F x (said ++ more) → NamesUpto x (t ∷ after)
+    values_now place fed F x t after said more (rest, v, (c, front, ws, e, u, w, l)) h = found (subst (λ z. Finds F x (z ++ more)) e h)
       where
-        found : ComesTo C F x (Clause (record { place = place; lits = c }) ∷ (behind rest ++ [])) (Some (Found Unsat)) → Refuting F (t ∷ [])
-        found (inl (a, n, k)) = refuting_now F c t [] (is_feed ending) front (texts rest) a n u w
-        found (inr (inl (a, n, k))) = absurd (no_more (F ++ c ∷ []) (behind_found (F ++ c ∷ []) rest [] k).1)
-        found (inr (inr (a, k))) = absurd (let g = k in cc)
-    last_line ending F t said (place, inr (inr (inl (d, v, (c, front, rest, e, u, w, l))))) h = found (subst (λ z. Finds F (z ++ [])) e h)
-      where
-        found : ComesTo C F x (Delete (record { place = place; lits = c }) ∷ (behind rest ++ [])) (Some (Found Unsat)) → Refuting F (t ∷ [])
-        found (G, a, k) = absurd (no_more G (behind_found G rest [] k).1)
-    last_line ending F t said (place, inr (inr (inr (inl s)))) h = absurd (stopped F said [] s h)
-    last_line ending F t said (place, inr (inr (inr (inr (line, e))))) h = absurd (let k = subst (λ z. Finds F (z ++ [])) e h in cc)
+        found : ComesTo C F x (LastValues (record { place = place; lits = c }) ∷ (behind ws ++ more)) (Some (Found a)) → NamesUpto x (t ∷ after)
+        found (inl (s, k)) = (
+          (let g : a ≡ Sat = cc in g),
+          upto_now (NameLines x) t after fed (codes "v" ∷ front) (texts ws) (v ∙ ap (λ z. codes "v" ∷ z) u) (c, (front ++ codes "0" ∷ [], refl, (front, refl, w, l)), s),
+        )
+        found (inr (n, s, k)) = cc
 
-    one_line : (F : List (List LitOf)) (t : List ℕ) (said more : List Saying) (ls : List (List ℕ)) → TextSays vars Feed t said
-        → (amid_after false said ≡ false → (H : List (List LitOf)) → Finds H more → Refuting H ls) → ((line : LiteralLineOf) → said ≡ Values line ∷ [] → Finds F (said ++ more) → ⊥) → Finds F (said ++ more)
-        → Refuting F (t ∷ ls)
-    one_line F t said more ls (place, inl (e, i)) later never h =
-        refuting_later F F t ls (λ G ts k. inl (i refl, k)) (later (rw e refl) F (subst (λ z. Finds F (z ++ more)) e h))
-    one_line F t said more ls (place, inr (inl (c, front, rest, e, u, w, l))) later never h = found (subst (λ z. Finds F (z ++ more)) e h)
+    -- values without it
+    values_later : (place : ℕ) (F : List (List LitOf)) (x : Assignment) (t : List ℕ) (ls : List (List ℕ)) (said more : List Saying) → SaysMore vars place (words t) said
+        → ((line : LiteralLineOf) → said ≡ Values line ∷ [] → (y : Assignment) → Finds F y more → NamesUpto y ls) → Finds F x (said ++ more) → NamesUpto x (t ∷ ls)
+    values_later place F x t ls said more (rest, v, (c, k, e, w, l)) later h =
+        let n = later (record { place = place; lits = c }) e (named_from x c) (subst (λ z. Finds F x (z ++ more)) e h) in
+        (n.0, upto_later (NameLines x) (NameLines (named_from x c)) t ls (λ us m. names_more x (words t) us rest c v w l m) n.1)
+
+    -- amid values
+    amid_last : (ending : Ending) (F : List (List LitOf)) (x : Assignment) (t : List ℕ) (said : List Saying) → AmidText vars ending t said → Finds F x (said ++ []) → NamesUpto x (t ∷ [])
+    amid_last ending F x t said (place, inl (e, r)) h = absurd (no_more F x (subst (λ z. Finds F x (z ++ [])) e h))
+    amid_last ending F x t said (place, inr (inl s)) h = values_now place (is_feed ending) F x t [] said [] s h
+    amid_last ending F x t said (place, inr (inr (inl (rest, v, (c, k, e, w, l))))) h = absurd (no_more F (named_from x c) (subst (λ z. Finds F x (z ++ [])) e h))
+    amid_last ending F x t said (place, inr (inr (inr s))) h = absurd (stopped F x said [] s h)
+
+    amid_line : (F : List (List LitOf)) (x : Assignment) (t : List ℕ) (said more : List Saying) (ls : List (List ℕ)) → AmidText vars Feed t said
+        → (amid_after true said ≡ true → (y : Assignment) → Finds F y more → NamesUpto y ls) → Finds F x (said ++ more) → NamesUpto x (t ∷ ls)
+    amid_line F x t said more ls (place, inl (e, r)) later h =
+        let n = later (rw e refl) x (subst (λ z. Finds F x (z ++ more)) e h) in
+        (n.0, upto_later (NameLines x) (NameLines x) t ls (λ us m. names_remark x (words t) us (r refl) m) n.1)
+    amid_line F x t said more ls (place, inr (inl s)) later h = values_now place true F x t ls said more s h
+    amid_line F x t said more ls (place, inr (inr (inl s))) later h = values_later place F x t ls said more s (λ line e y k. later (rw e refl) y k) h
+    amid_line F x t said more ls (place, inr (inr (inr s))) later h = absurd (stopped F x said more s h)
+
+    amid_names : (ending : Ending) (start : ℕ) (F : List (List LitOf)) (x : Assignment) (ls : List (List ℕ)) → Finds F x (sayings_from vars ending true start ls) → NamesUpto x ls
+    amid_names ending start F x [] h = cc
+    amid_names ending start F x (t ∷ []) h =
+        amid_last ending F x t (text_sayings vars ending true start t) (text_amid vars ending start t) (subst (λ z. Finds F x z) (sym (append-nil (text_sayings vars ending true start t))) h)
+    amid_names ending start F x (t ∷ u ∷ ts) h =
+        amid_line F x t (text_sayings vars Feed true start t) (sayings_from vars ending (amid_after true (text_sayings vars Feed true start t)) (start + length t + 1) (u ∷ ts)) (u ∷ ts)
+        (text_amid vars Feed start t)
+        (λ e y k. amid_names ending (start + length t + 1) F y (u ∷ ts) (subst (λ z. Finds F y (sayings_from vars ending z (start + length t + 1) (u ∷ ts))) e k)) h
+
+    -- lines of a proof
+    cert_of_names : (x : Assignment) (F : List (List LitOf)) (ls : List (List ℕ)) → NamesUpto x ls → CertUpto x F ls
+    cert_of_names x F ls (e, n) = upto_as (CertLines x F a) (NameLines x) ls (λ us m. names_cert x F a us e m) n
+
+    refuting_now : (F : List (List LitOf)) (x : Assignment) (c : List LitOf) (t : List ℕ) (after : List (List ℕ)) (f : Bool) (front more : List (List ℕ)) → a ≡ Unsat → IsAdmitted F c → c ≡ []
+        → texts (words_of f 0 t) ≡ front ++ codes "0" ∷ more → Writes vars front c → CertUpto x F (t ∷ after)
+    refuting_now F x c t after f front more unsat admitted n e w =
+        let z : front ≡ [] = writes_nothing vars front (subst (λ d. Writes vars front d) n w) in
+        let q = rw z at e in
+        upto_now (CertLines x F a) t after f [] more q (zero_cert x F a unsat (subst (λ d. IsAdmitted F d) n admitted))
+
+    -- a line of clauses, with its 0
+    clause_now : (place : ℕ) (fed : Bool) (F : List (List LitOf)) (x : Assignment) (t : List ℕ) (after : List (List ℕ)) (said more : List Saying)
+        → SaysList vars ClauseList place (texts (words_of fed 0 t)) said
+        → ((c : List LitOf) (front : List (List ℕ)) → amid_after false said ≡ false → texts (words_of fed 0 t) ≡ front ++ codes "0" ∷ [] → Writes vars front c → length c ≤ vars → IsAdmitted F c → (c ≡ [] → ⊥)
+        → Finds (F ++ c ∷ []) x more → CertUpto x F (t ∷ after))
+        → Finds F x (said ++ more) → CertUpto x F (t ∷ after)
+    clause_now place fed F x t after said more (c, front, rest, e, u, w, l) later h = found (subst (λ z. Finds F x (z ++ more)) e h)
       where
-        found : ComesTo C F x (Clause (record { place = place; lits = c }) ∷ (behind rest ++ more)) (Some (Found Unsat)) → Refuting F (t ∷ ls)
-        found (inl (a, n, k)) = refuting_now F c t ls true front (texts rest) a n u w
-        found (inr (inl (a, n, k))) =
-            let b = behind_found (F ++ c ∷ []) rest more k in
-            let v : texts (words_of true 0 t) ≡ front ++ codes "0" ∷ [] = u ∙ ap (λ z. front ++ codes "0" ∷ texts z) b.0 in
-            refuting_later F (F ++ c ∷ []) t ls (λ G ts g. inr (inl (c, (front, v, w, l), n, a, g))) (later (rw e refl) (F ++ c ∷ []) b.1)
-        found (inr (inr (a, k))) = absurd (let g = k in cc)
-    one_line F t said more ls (place, inr (inr (inl (d, v, (c, front, rest, e, u, w, l))))) later never h = found (subst (λ z. Finds F (z ++ more)) e h)
+        found : ComesTo C F x (Clause (record { place = place; lits = c }) ∷ (behind rest ++ more)) (Some (Found a)) → CertUpto x F (t ∷ after)
+        found (inl (d, n, k)) = refuting_now F x c t after fed front (texts rest) (let g : a ≡ Unsat = cc in g) d n u w
+        found (inr (inl (d, n, k))) =
+            let b = behind_found (F ++ c ∷ []) x rest more k in
+            later c front (rw e refl) (u ∙ ap (λ z. front ++ codes "0" ∷ texts z) b.0) w l d n b.1
+        found (inr (inr (d, k))) = cc
+
+    last_line : (ending : Ending) (F : List (List LitOf)) (x : Assignment) (t : List ℕ) (said : List Saying) → TextSays vars ending t said → Finds F x (said ++ []) → CertUpto x F (t ∷ [])
+    last_line ending F x t said (place, inl (e, i)) h = absurd (no_more F x (subst (λ z. Finds F x (z ++ [])) e h))
+    last_line ending F x t said (place, inr (inl s)) h = clause_now place (is_feed ending) F x t [] said [] s (λ c front m q w l d n k. absurd (no_more (F ++ c ∷ []) x k)) h
+    last_line ending F x t said (place, inr (inr (inl (d, v, (c, front, rest, e, u, w, l))))) h = found (subst (λ z. Finds F x (z ++ [])) e h)
       where
-        found : ComesTo C F x (Delete (record { place = place; lits = c }) ∷ (behind rest ++ more)) (Some (Found Unsat)) → Refuting F (t ∷ ls)
-        found (H, a, k) =
-            let b = behind_found H rest more k in
+        found : ComesTo C F x (Delete (record { place = place; lits = c }) ∷ (behind rest ++ [])) (Some (Found a)) → CertUpto x F (t ∷ [])
+        found (G, d, k) = absurd (no_more G x (behind_found G x rest [] k).1)
+    last_line ending F x t said (place, inr (inr (inr s))) h = cert_of_names x F (t ∷ []) (amid_last ending F x t said (place, inr s) h)
+
+    one_line : (F : List (List LitOf)) (x : Assignment) (t : List ℕ) (said more : List Saying) (ls : List (List ℕ)) → TextSays vars Feed t said
+        → (amid_after false said ≡ false → (H : List (List LitOf)) → Finds H x more → CertUpto x H ls) → ((line : LiteralLineOf) → said ≡ Values line ∷ [] → (y : Assignment) → Finds F y more → NamesUpto y ls)
+        → Finds F x (said ++ more) → CertUpto x F (t ∷ ls)
+    one_line F x t said more ls (place, inl (e, i)) later amid h =
+        upto_later (CertLines x F a) (CertLines x F a) t ls (λ us m. cert_step x F F a (words t) us (λ G ps k. inl (i refl, k)) m) (later (rw e refl) F (subst (λ z. Finds F x (z ++ more)) e h))
+    one_line F x t said more ls (place, inr (inl s)) later amid h =
+        clause_now place true F x t ls said more s
+        (λ c front m q w l d n k. upto_later (CertLines x F a) (CertLines x (F ++ c ∷ []) a) t ls (λ us r. cert_step x F (F ++ c ∷ []) a (words t) us (λ G ps g. inr (inl (c, (front, q, w, l), n, d, g))) r)
+        (later m (F ++ c ∷ []) k)) h
+    one_line F x t said more ls (place, inr (inr (inl (d, v, (c, front, rest, e, u, w, l))))) later amid h = found (subst (λ z. Finds F x (z ++ more)) e h)
+      where
+        found : ComesTo C F x (Delete (record { place = place; lits = c }) ∷ (behind rest ++ more)) (Some (Found a)) → CertUpto x F (t ∷ ls)
+        found (H, deletes, k) =
+            let b = behind_found H x rest more k in
             let q : d ≡ front ++ codes "0" ∷ [] = u ∙ ap (λ z. front ++ codes "0" ∷ texts z) b.0 in
-            refuting_later F H t ls (λ G ts g. inr (inr (c, d, H, v, (front, q, w, l), a, g))) (later (rw e refl) H b.1)
-    one_line F t said more ls (place, inr (inr (inr (inl s)))) later never h = absurd (stopped F said more s h)
-    one_line F t said more ls (place, inr (inr (inr (inr (line, e))))) later never h = absurd (never line e h)
+            upto_later (CertLines x F a) (CertLines x H a) t ls (λ us r. cert_step x F H a (words t) us (λ G ps g. inr (inr (c, d, H, v, (front, q, w, l), deletes, g))) r) (later (rw e refl) H b.1)
+    one_line F x t said more ls (place, inr (inr (inr (inl s)))) later amid h = cert_of_names x F (t ∷ ls) (values_now place true F x t ls said more s h)
+    one_line F x t said more ls (place, inr (inr (inr (inr (inl s))))) later amid h = cert_of_names x F (t ∷ ls) (values_later place F x t ls said more s amid h)
+    one_line F x t said more ls (place, inr (inr (inr (inr (inr s))))) later amid h = absurd (stopped F x said more s h)
 
-  -- amid values no clause comes
-  abbrev Amid : List Saying → Type 0
-  Amid said = (said ≡ []) ⊎ Ends said
-
-  from_list : (place : ℕ) (ending : Ending) (all : List (List ℕ)) (said : List Saying) → ListSays vars ValuesList place ending all said → Amid said
-  from_list place ending all said (inl (e, h)) = inl e
-  from_list place ending all said (inr (inl (c, front, rest, e, u, w, l))) = inr (inl (LastValues (record { place = place; lits = c }), behind rest, e, refl))
-  from_list place ending all said (inr (inr h)) = inr h
-
-  text_amid : (ending : Ending) (start : ℕ) (t : List ℕ) → Amid (text_sayings vars ending true start t)
-  text_amid ending start t = says (words_of (is_feed ending) start t)
-      (λ e. subst (λ f. AllDone (words_of f start t)) (sym e) (done_words start t))
-    where
-      says : (ws : List Word) → (is_feed ending ≡ true → AllDone ws) → Amid (line_sayings vars ending true (start + length t) ws)
-      says [] d = inl refl
-      says (w ∷ ws) d =
-          elim (cases_Bool (eqb (first_byte w) 99)) [
-            | inl c ↦ rw c (inl refl)
-            | inr c ↦ rw c (elim (cases_Bool (eqb (first_byte w) 118)) [
-              | inl v ↦ rw v (elim (cases_Bool (eqb (length w.text) 1)) [
-                | inl a ↦ rw a (from_list w.place ending (texts ws) (list_sayings vars ValuesList ending (start + length t) w.place [] ws)
-                    (list_says vars ValuesList w.place ending (start + length t) (texts ws) [] [] ws refl refl (omega arith) (λ e. (d e).1)))
-                | inr a ↦ rw a (inr (inl (_, [], refl, refl)))
-              ])
-              | inr v ↦ rw v (inr (inl (_, [], refl, refl)))
-            ])
-          ]
-
-  module _ (C F : List (List LitOf)) where
-    amid_step : (x : Assignment) (said more : List Saying) → Amid said → (amid_after true said ≡ true → (y : Assignment) → ComesTo C F y more (Some (Found Unsat)) → ⊥)
-        → ComesTo C F x (said ++ more) (Some (Found Unsat)) → ⊥
-    amid_step x said more (inl e) later h = later (rw e refl) x (subst (λ z. ComesTo C F x (z ++ more) (Some (Found Unsat))) e h)
-    amid_step x said more (inr (inl s)) later h = stopped C x F said more s h
-    amid_step x said more (inr (inr (line, e))) later h = later (rw e refl) (named_from x line.lits) (subst (λ z. ComesTo C F x (z ++ more) (Some (Found Unsat))) e h)
-
-    amid_never : (ending : Ending) (start : ℕ) (x : Assignment) (ls : List (List ℕ)) → ComesTo C F x (sayings_from vars ending true start ls) (Some (Found Unsat)) → ⊥
-    amid_never ending start x [] h = cc
-    amid_never ending start x (t ∷ []) h =
-        amid_step x (text_sayings vars ending true start t) [] (text_amid ending start t) (λ e y k. no_more C y F k)
-        (subst (λ z. ComesTo C F x z (Some (Found Unsat))) (sym (append-nil (text_sayings vars ending true start t))) h)
-    amid_never ending start x (t ∷ u ∷ ts) h =
-        amid_step x (text_sayings vars Feed true start t) (sayings_from vars ending (amid_after true (text_sayings vars Feed true start t)) (start + length t + 1) (u ∷ ts)) (text_amid Feed start t)
-        (λ e y k. amid_never ending (start + length t + 1) y (u ∷ ts) (subst (λ z. ComesTo C F y (sayings_from vars ending z (start + length t + 1) (u ∷ ts)) (Some (Found Unsat))) e k)) h
-
-    values_never : (ending : Ending) (start : ℕ) (x : Assignment) (t u : List ℕ) (ts : List (List ℕ)) (line : LiteralLineOf) → text_sayings vars Feed false start t ≡ Values line ∷ []
-        → ComesTo C F x (text_sayings vars Feed false start t ++ sayings_from vars ending (amid_after false (text_sayings vars Feed false start t)) (start + length t + 1) (u ∷ ts)) (Some (Found Unsat)) → ⊥
-    values_never ending start x t u ts line e h =
-        amid_never ending (start + length t + 1) (named_from x line.lits) (u ∷ ts)
-        (subst (λ z. ComesTo C F x (z ++ sayings_from vars ending (amid_after false z) (start + length t + 1) (u ∷ ts)) (Some (Found Unsat))) e h)
-
-  comes_refuting : (C : List (List LitOf)) (x : Assignment) (ending : Ending) (start : ℕ) (F : List (List LitOf)) (ls : List (List ℕ)) → ComesTo C F x (sayings_from vars ending false start ls) (Some (Found Unsat))
-      → Refuting F ls
-  comes_refuting C x ending start F [] h = cc
-  comes_refuting C x ending start F (t ∷ []) h =
-      last_line C x ending F t (text_sayings vars ending false start t) (text_says vars ending start t)
-      (subst (λ z. ComesTo C F x z (Some (Found Unsat))) (sym (append-nil (text_sayings vars ending false start t))) h)
-  comes_refuting C x ending start F (t ∷ u ∷ ts) h =
-      one_line C x F t (text_sayings vars Feed false start t) (sayings_from vars ending (amid_after false (text_sayings vars Feed false start t)) (start + length t + 1) (u ∷ ts)) (u ∷ ts)
-      (text_says vars Feed start t)
-      (λ e H k. comes_refuting C x ending (start + length t + 1) H (u ∷ ts) (subst (λ z. ComesTo C H x (sayings_from vars ending z (start + length t + 1) (u ∷ ts)) (Some (Found Unsat))) e k))
-      (values_never C F ending start x t u ts) h
+    comes_upto : (ending : Ending) (start : ℕ) (F : List (List LitOf)) (x : Assignment) (ls : List (List ℕ)) → Finds F x (sayings_from vars ending false start ls) → CertUpto x F ls
+    comes_upto ending start F x [] h = cc
+    comes_upto ending start F x (t ∷ []) h =
+        last_line ending F x t (text_sayings vars ending false start t) (text_says vars ending start t)
+        (subst (λ z. Finds F x z) (sym (append-nil (text_sayings vars ending false start t))) h)
+    comes_upto ending start F x (t ∷ u ∷ ts) h =
+        one_line F x t (text_sayings vars Feed false start t) (sayings_from vars ending (amid_after false (text_sayings vars Feed false start t)) (start + length t + 1) (u ∷ ts)) (u ∷ ts)
+        (text_says vars Feed start t)
+        (λ e H k. comes_upto ending (start + length t + 1) H x (u ∷ ts) (subst (λ z. Finds H x (sayings_from vars ending z (start + length t + 1) (u ∷ ts))) e k))
+        (λ line e y k. amid_names ending (start + length t + 1) F y (u ∷ ts) (subst (λ z. Finds F y (sayings_from vars ending z (start + length t + 1) (u ∷ ts))) (ap (amid_after false) e) k)) h
 
   -- what stands behind a fault doesn't matter
-  comes_until : (C F : List (List LitOf)) (v : Assignment) (ss : List Saying) (x : Option Fate) → ComesTo C F v (until_fault ss) x → ComesTo C F v ss x
-  comes_until C F v [] x h = h
-  comes_until C F v (Clause c ∷ ss) x (inl h) = inl h
-  comes_until C F v (Clause c ∷ ss) x (inr (inl (a, n, h))) = inr (inl (a, n, comes_until C (F ++ c.lits ∷ []) v ss x h))
-  comes_until C F v (Clause c ∷ ss) x (inr (inr h)) = inr (inr h)
-  comes_until C F v (Delete c ∷ ss) x (G, d, h) = (G, d, comes_until C G v ss x h)
-  comes_until C F v (Values c ∷ ss) x h = comes_until C F (named_from v c.lits) ss x h
-  comes_until C F v (LastValues c ∷ ss) x h = h
-  comes_until C F v (Unknown ∷ ss) x h = h
-  comes_until C F v (Fault f ∷ ss) x h = h
+  comes_until : (F : List (List LitOf)) (v : Assignment) (ss : List Saying) (x : Option Fate) → ComesTo C F v (until_fault ss) x → ComesTo C F v ss x
+  comes_until F v [] x h = h
+  comes_until F v (Clause c ∷ ss) x (inl h) = inl h
+  comes_until F v (Clause c ∷ ss) x (inr (inl (a, n, h))) = inr (inl (a, n, comes_until (F ++ c.lits ∷ []) v ss x h))
+  comes_until F v (Clause c ∷ ss) x (inr (inr h)) = inr (inr h)
+  comes_until F v (Delete c ∷ ss) x (G, d, h) = (G, d, comes_until G v ss x h)
+  comes_until F v (Values c ∷ ss) x h = comes_until F (named_from v c.lits) ss x h
+  comes_until F v (LastValues c ∷ ss) x h = h
+  comes_until F v (Unknown ∷ ss) x h = h
+  comes_until F v (Fault f ∷ ss) x h = h
 
--- the bytes up to a place in a line
-abbrev IsCut : List ℕ → List (List ℕ) → List ℕ → Type 0
-IsCut s before t = (n : ℕ) × (n ≤ length s) × (lines_of (take n s) ≡ before ++ t ∷ [])
+abbrev BeginsCert : FormulaOf → List ℕ → Answer → Type 0
+BeginsCert f s a = (n : ℕ) × (n ≤ length s) × IsCertOf f (take n s) a
 
-module _ (b : ℕ) (s x : List ℕ) (after : List (List ℕ)) (further : (ls : List (List ℕ)) (v : List ℕ) → lines_of s ≡ ls ++ (v ++ x) ∷ after → IsCut s ls v) where
-  feed_cut : eqb b 10 ≡ true → (before : List (List ℕ)) (t : List ℕ) → [] ∷ lines_of s ≡ before ++ (t ++ x) ∷ after → IsCut (b ∷ s) before t
-  feed_cut n [] [] e = (0, omega arith, refl)
-  feed_cut n [] (c ∷ t) e = cc
-  feed_cut n (p ∷ before) t e =
-      let q : lines_of s ≡ before ++ (t ++ x) ∷ after = cc in
-      let z : [] ≡ p = cc in
-      let w = further before t q in
-      (suc w.0, omega (arith, w.1), rw n (ap (λ k. [] ∷ k) w.2 ∙ ap (λ k. k ∷ (before ++ t ∷ [])) z))
+cert_of_lines : (f : FormulaOf) (s : List ℕ) (a : Answer) (ls : List (List (List ℕ))) → lines s ≡ ls → CertLines f.vars f.clauses unnamed f.clauses a ls → IsCertOf f s a
+cert_of_lines f s Unsat ls e (proof, G, g, k, d) = (proof, G, e ∙ g, k, d)
+cert_of_lines f s Sat ls e (proof, last, G, values, g, k, n, m) = (proof, last, G, values, e ∙ g, k, n, m)
 
-  plain_cut : eqb b 10 ≡ false → (u : List ℕ) (us : List (List ℕ)) → lines_of s ≡ u ∷ us → (before : List (List ℕ)) (t : List ℕ) → (b ∷ u) ∷ us ≡ before ++ (t ++ x) ∷ after
-      → IsCut (b ∷ s) before t
-  plain_cut n u us r [] [] e = (0, omega arith, refl)
-  plain_cut n u us r [] (c ∷ t) e =
-      let q : u ∷ us ≡ (t ++ x) ∷ after = cc in
-      let z : b ≡ c = cc in
-      let w = further [] t (r ∙ q) in
-      (suc w.0, omega (arith, w.1), rw n (ap (put_first b) w.2 ∙ ap (λ k. (k ∷ t) ∷ []) z))
-  plain_cut n u us r (p ∷ before) t e =
-      let q : us ≡ before ++ (t ++ x) ∷ after = cc in
-      let z : b ∷ u ≡ p = cc in
-      let w = further (u ∷ before) t (r ∙ ap (λ k. u ∷ k) q) in
-      (suc w.0, omega (arith, w.1), rw n (ap (put_first b) w.2 ∙ ap (λ k. k ∷ (before ++ t ∷ [])) z))
-
-cut : (s : List ℕ) (before : List (List ℕ)) (t x : List ℕ) (after : List (List ℕ)) → lines_of s ≡ before ++ (t ++ x) ∷ after → IsCut s before t
-cut [] [] [] x after e = (0, omega arith, refl)
-cut [] [] (c ∷ t) x after e = cc
-cut [] (p ∷ []) t x after e = cc
-cut [] (p ∷ q ∷ before) t x after e = cc
-cut (b ∷ s) before t x after e =
-    elim (cases_Bool (eqb b 10)) [
-      | inl n ↦ feed_cut b s x after (λ ls v q. cut s ls v x after q) n before t (rw n at e)
-      | inr n ↦ let w = some_line s in
-          let q : put_first b (lines_of s) ≡ before ++ (t ++ x) ∷ after = rw n at e in
-          plain_cut b s x after (λ ls v q. cut s ls v x after q) n w.0 w.1 w.2 before t (ap (put_first b) (sym w.2) ∙ q)
-    ]
-
-abbrev BeginsCert : FormulaOf → List ℕ → Type 0
-BeginsCert f s = (n : ℕ) × (n ≤ length s) × IsCertOf f (take n s) Unsat
-
-cert_found : (f : FormulaOf) (s : List ℕ) (ended : Bool) → Comes f (sayings f.vars ended s) (Some (Found Unsat)) → BeginsCert f s
-cert_found f s ended h =
-    found (comes_refuting f.vars f.clauses unnamed (last_ending ended) 0 f.clauses (lines_of s) (comes_until f.vars f.clauses f.clauses unnamed (sayings_from f.vars (last_ending ended) false 0 (lines_of s)) (Some (Found Unsat)) h))
+cert_found : (f : FormulaOf) (s : List ℕ) (ended : Bool) (a : Answer) → Comes f (sayings f.vars ended s) (Some (Found a)) → BeginsCert f s a
+cert_found f s ended a h =
+    found (comes_upto f.vars f.clauses a (last_ending ended) 0 f.clauses unnamed (lines_of s)
+    (comes_until f.vars f.clauses f.clauses unnamed (sayings_from f.vars (last_ending ended) false 0 (lines_of s)) (Some (Found a)) h))
   where
-    found : Refuting f.vars f.clauses (lines_of s) → BeginsCert f s
-    found (before, t, after, G, fed, more, e, leads, z, a) =
-        let k = zero_cut fed 0 t more z in
+    found : CertUpto f.vars f.clauses a unnamed f.clauses (lines_of s) → BeginsCert f s a
+    found (before, t, after, fed, front, more, e, z, certifies) =
+        let k = words_cut fed 0 t front (codes "0") more z in
         let c = cut s before k.0 k.1 after (e ∙ ap (λ u. before ++ u ∷ after) k.2) in
         let l = ap (map words) c.2 ∙ map-append words before (k.0 ∷ []) ∙ ap (λ u. map words before ++ u ∷ []) k.3 in
-        (c.0, c.1, (map words before, G, l, leads, a))
+        (c.0, c.1, cert_of_lines f (take c.0 s) a (map words before ++ (front ++ codes "0" ∷ []) ∷ []) l certifies)
 
-pub fate_cert : (f : FormulaOf) (s : List ℕ) (most : ℕ) → FateOf f s most (Found Unsat) → (n : ℕ) × (n ≤ length s) × (n ≤ most) × IsCertOf f (take n s) Unsat
-fate_cert f s most h =
+pub fate_cert : (f : FormulaOf) (s : List ℕ) (most : ℕ) (a : Answer) → FateOf f s most (Found a) → (n : ℕ) × (n ≤ length s) × (n ≤ most) × IsCertOf f (take n s) a
+fate_cert f s most a h =
     elim (sides (length s) most) [
       | inl l ↦ elim (h.within l) [
-        | inl k ↦ let w = cert_found f s true k in (w.0, w.1, omega (arith, w.1), w.2)
+        | inl k ↦ let w = cert_found f s true a k in (w.0, w.1, omega (arith, w.1), w.2)
         | inr (k, e) ↦ absurd (let g = e in cc)
       ]
       | inr l ↦ let so_far = h.beyond l in
           elim (so_far.beyond l) [
-            | inl (x, k, e) ↦ let w = cert_found f (take most s) false (subst (λ z. Comes f (sayings f.vars false (take most s)) z) (sym e) k) in
+            | inl (x, k, e) ↦ let w = cert_found f (take most s) false a (subst (λ z. Comes f (sayings f.vars false (take most s)) z) (sym e) k) in
                 let n : w.0 ≤ most = omega (arith, w.1, length-take most s) in
-                (w.0, omega (arith, w.1, length-take most s), n, subst (λ z. IsCertOf f z Unsat) (take-take w.0 most s n) w.2)
+                (w.0, omega (arith, w.1, length-take most s), n, subst (λ z. IsCertOf f z a) (take-take w.0 most s n) w.2)
             | inr (k, e) ↦ absurd (let g = e in cc)
-          ]
-    ]
-
-no_sat : (C F : List (List LitOf)) (x : Assignment) (ss : List Saying) → ComesTo C F x ss (Some (Found Sat)) → ⊥
-no_sat C F x [] h = cc
-no_sat C F x (Clause c ∷ ss) (inl (a, n, e)) = cc
-no_sat C F x (Clause c ∷ ss) (inr (inl (a, n, h))) = no_sat C (F ++ c.lits ∷ []) x ss h
-no_sat C F x (Clause c ∷ ss) (inr (inr (a, e))) = cc
-no_sat C F x (Delete c ∷ ss) (G, d, h) = no_sat C G x ss h
-no_sat C F x (Values c ∷ ss) h = no_sat C F (named_from x c.lits) ss h
-no_sat C F x (LastValues c ∷ ss) (inl (s, e)) = cc
-no_sat C F x (LastValues c ∷ ss) (inr (n, u, e)) = cc
-no_sat C F x (Unknown ∷ ss) h = cc
-no_sat C F x (Fault f ∷ ss) h = cc
-
-pub fate_unsat : (f : FormulaOf) (s : List ℕ) (most : ℕ) → FateOf f s most (Found Sat) → ⊥
-fate_unsat f s most h =
-    elim (sides (length s) most) [
-      | inl l ↦ elim (h.within l) [ inl k ↦ no_sat f.clauses f.clauses unnamed (sayings f.vars true s) k | inr (k, e) ↦ (let g = e in cc) ]
-      | inr l ↦ let so_far = h.beyond l in
-          elim (so_far.beyond l) [
-            | inl (x, k, e) ↦ no_sat f.clauses f.clauses unnamed (sayings f.vars false (take most s)) (subst (λ z. Comes f (sayings f.vars false (take most s)) z) (sym e) k)
-            | inr (k, e) ↦ (let g = e in cc)
           ]
     ]

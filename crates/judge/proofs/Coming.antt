@@ -1,8 +1,8 @@
 -- What sayings come to, and what that is worth.
-use Rattle.std.proofs.Common.{◌≡◌, ℕ, ◌<◌, ◌≤◌, Bool, true, false, leb, List, [], ◌∷◌, ◌++◌, length, take, Some, None, refl, subst, inl, inr, arith, ◌⊎◌}
+use Rattle.std.proofs.Common.{◌≡◌, ℕ, ◌+◌, ◌<◌, ◌≤◌, Bool, true, false, leb, List, [], ◌∷◌, ◌++◌, length, take, Some, None, refl, subst, inl, inr, arith, ◌⊎◌}
 use Rattle.std.specs.Prelude.{Option, Contains}
 use Rattle.std.proofs.lemmas.Bool.{cases_Bool, leb-true, leb-false}
-use Rattle.cnf_form.specs.Cnf.{LitOf, FormulaOf, Assignment, IsUnsatisfiable, IsAdmitted, Deletes}
+use Rattle.cnf_form.specs.Cnf.{LitOf, FormulaOf, Assignment, IsUnsatisfiable, IsAdmitted, Deletes, Satisfies}
 use Rattle.cnf_form.proofs.Rup.{Admitted-true, Satisfies-push}
 use Rattle.cnf_form.proofs.Members.{Contains-empty}
 use Rattle.cnf_form.proofs.Removal.{Deletes-within}
@@ -10,13 +10,14 @@ use Rattle.cert_wire.specs.Line.{LiteralLineOf}
 use Rattle.cert_wire.specs.Stream.{AreWithin, sayings}
 use Rattle.cert_wire.specs.declared.saying.Saying.{Saying}
 use Rattle.cert_wire.specs.declared.saying.Saying.TheVariants.{Clause, Delete, Values, LastValues, Unknown as IsUnknown, Fault}
-use Rattle.sby_terms.specs.declared.names.Answer.TheVariants.{Unsat}
+use Rattle.sby_terms.specs.declared.names.Answer.TheVariants.{Sat, Unsat}
 use Rattle.judge.specs.declared.stream.CertKind.TheVariants.{NotRup}
 use Rattle.judge.specs.declared.judging.Came.{Came}
-use Rattle.judge.specs.declared.judging.Came.TheVariants.{Refuted, Unknown as CameUnknown, Bad as CameBad}
+use Rattle.judge.specs.declared.judging.Came.TheVariants.{Refuted, Satisfied, Unknown as CameUnknown, Bad as CameBad}
 use Rattle.judge.specs.Fate.{Fate, Found, Bad, Comes, ComesTo, ValuesComeTo, FateSoFar, FateOf}
-use Rattle.judge.specs.Values.{bits_in, named_from, unnamed}
-use Rattle.judge.specs.Judging.{FateWhere, fate_come, at_end, past_most}
+use Rattle.frame_cnf.specs.Encoding.{values_of}
+use Rattle.judge.specs.Values.{named_from, unnamed}
+use Rattle.judge.specs.Judging.{AreSatisfying, FateWhere, fate_come, at_end, past_most}
 
 -- at a clause that isn't admitted
 pub not_rup : (C F : List (List LitOf)) (x : Assignment) (ss rest : List Saying) (saying : Saying) (line : LiteralLineOf) (lits : List LitOf) (place : ℕ) → ss ≡ saying ∷ rest → saying ≡ Clause line
@@ -36,15 +37,15 @@ pub more_values : (C F : List (List LitOf)) (x y : Assignment) (ss rest : List S
     → lits ≡ line.lits → ((v : ℕ) → y v ≡ named_from x lits v) → ComesTo C F y rest fate → ComesTo C F x ss fate
 more_values C F x y ss rest saying line lits fate e f g n h = rw (e, f, ← g) (subst (λ z. ComesTo C F z rest fate) (same_values y (named_from x lits) n) h)
 
-pub last_values : (C F : List (List LitOf)) (x y : Assignment) (ss rest : List Saying) (saying : Saying) (line : LiteralLineOf) (lits : List LitOf) (place : ℕ) (fate : Option Fate) → ss ≡ saying ∷ rest
-    → saying ≡ LastValues line → lits ≡ line.lits → place ≡ line.place → ((v : ℕ) → y v ≡ named_from x lits v) → ValuesComeTo C y place fate → ComesTo C F x ss fate
-last_values C F x y ss rest saying line lits place fate e f g p n h = rw (e, f, ← g, ← p) (subst (λ z. ValuesComeTo C z place fate) (same_values y (named_from x lits) n) h)
+pub last_values : (C F : List (List LitOf)) (x y : Assignment) (ss rest : List Saying) (saying : Saying) (line : LiteralLineOf) (lits : List LitOf) (fate : Option Fate) → ss ≡ saying ∷ rest
+    → saying ≡ LastValues line → lits ≡ line.lits → ((v : ℕ) → y v ≡ named_from x lits v) → ValuesComeTo C y fate → ComesTo C F x ss fate
+last_values C F x y ss rest saying line lits fate e f g n h = rw (e, f, ← g) (subst (λ z. ValuesComeTo C z fate) (same_values y (named_from x lits) n) h)
 
 -- before all sayings no variable is named
-pub from_start : (f : FormulaOf) (F : List (List LitOf)) (bits : List Bool) (ss ts : List Saying) (fate : Option Fate) → F ≡ f.clauses → ss ≡ ts → ((v : ℕ) → bits_in bits v ≡ false)
-    → ComesTo f.clauses F (bits_in bits) ss fate → Comes f ts fate
+pub from_start : (f : FormulaOf) (F : List (List LitOf)) (bits : List Bool) (ss ts : List Saying) (fate : Option Fate) → F ≡ f.clauses → ss ≡ ts → ((v : ℕ) → values_of bits v ≡ false)
+    → ComesTo f.clauses F (values_of bits) ss fate → Comes f ts fate
 from_start f F bits ss ts fate e g n h =
-    let k = subst (λ z. ComesTo f.clauses F z ss fate) (same_values (bits_in bits) unnamed n) h in
+    let k = subst (λ z. ComesTo f.clauses F z ss fate) (same_values (values_of bits) unnamed n) h in
     subst (λ (t : List Saying). Comes f t fate) g (subst (λ (z : List (List LitOf)). ComesTo f.clauses z unnamed ss fate) e k)
 
 pub within_rest : (vars : ℕ) (ss rest : List Saying) (saying : Saying) → ss ≡ saying ∷ rest → AreWithin vars ss → AreWithin vars rest
@@ -61,6 +62,19 @@ refuted C F x (LastValues c ∷ ss) (inl (t, e)) y s = cc
 refuted C F x (LastValues c ∷ ss) (inr (n, u, e)) y s = cc
 refuted C F x (IsUnknown ∷ ss) e y s = cc
 refuted C F x (Fault f ∷ ss) e y s = cc
+
+-- values that satisfy a formula's clauses, where its certificate for Sat is complete
+satisfied : (C F : List (List LitOf)) (x : Assignment) (ss : List Saying) → ComesTo C F x ss (Some (Found Sat)) → (y : Assignment) × Satisfies y C
+satisfied C F x [] e = cc
+satisfied C F x (Clause c ∷ ss) (inl (a, n, e)) = cc
+satisfied C F x (Clause c ∷ ss) (inr (inl (a, n, h))) = satisfied C (F ++ c.lits ∷ []) x ss h
+satisfied C F x (Clause c ∷ ss) (inr (inr (n, e))) = cc
+satisfied C F x (Delete c ∷ ss) (G, d, h) = satisfied C G x ss h
+satisfied C F x (Values c ∷ ss) h = satisfied C F (named_from x c.lits) ss h
+satisfied C F x (LastValues c ∷ ss) (inl (s, e)) = (named_from x c.lits, s)
+satisfied C F x (LastValues c ∷ ss) (inr (n, u, e)) = cc
+satisfied C F x (IsUnknown ∷ ss) e = cc
+satisfied C F x (Fault f ∷ ss) e = cc
 
 pub sides : (n most : ℕ) → (n ≤ most) ⊎ (most < n)
 sides n most = elim (cases_Bool (leb n most)) [ inl t ↦ inl (leb-true n most t) | inr f ↦ inr (leb-false n most f) ]
@@ -86,6 +100,29 @@ refuted_at_end f bytes most h =
       | inr l ↦ refuted_so_far f bytes most (h.beyond l)
     ]
 
+abbrev CanSatisfy : FormulaOf → Type 0
+CanSatisfy f = (y : Assignment) × Satisfies y f.clauses
+
+satisfied_so_far : (f : FormulaOf) (bytes : List ℕ) (most : ℕ) → FateSoFar f bytes most (Some (Found Sat)) → CanSatisfy f
+satisfied_so_far f bytes most h =
+    elim (sides (length bytes) most) [
+      | inl l ↦ satisfied f.clauses f.clauses unnamed (sayings f.vars false bytes) (h.within l)
+      | inr l ↦ elim (h.beyond l) [
+        | inl (x, k, e) ↦ satisfied f.clauses f.clauses unnamed (sayings f.vars false (take most bytes)) (rw e k)
+        | inr (k, e) ↦ absurd (let g = e in cc)
+      ]
+    ]
+
+pub satisfied_at_end : (f : FormulaOf) (bytes : List ℕ) (most : ℕ) → FateOf f bytes most (Found Sat) → (y : Assignment) × Satisfies y f.clauses
+satisfied_at_end f bytes most h =
+    elim (sides (length bytes) most) [
+      | inl l ↦ elim (h.within l) [
+        | inl k ↦ satisfied f.clauses f.clauses unnamed (sayings f.vars true bytes) k
+        | inr (k, e) ↦ absurd (let g = e in cc)
+      ]
+      | inr l ↦ satisfied_so_far f bytes most (h.beyond l)
+    ]
+
 unsat_where : (ended : Bool) (f : FormulaOf) (bytes : List ℕ) (most : ℕ) → FateWhere ended f bytes most (Some (Found Unsat)) → IsUnsatisfiable f.clauses
 unsat_where true f bytes most h = refuted_at_end f bytes most h
 unsat_where false f bytes most h = refuted_so_far f bytes most h
@@ -94,11 +131,16 @@ pub come_unsat : (ended : Bool) (f : FormulaOf) (bytes : List ℕ) (most : ℕ) 
     → FateWhere ended f bytes most (fate_come come) → IsUnsatisfiable f.clauses
 come_unsat ended f bytes most come came e g h = unsat_where ended f bytes most (rw (e, g) at h)
 
+pub come_satisfying : (f : FormulaOf) (come : Option Came) (came : Came) (bits : List Bool) → come ≡ Some came → came ≡ Satisfied bits → AreSatisfying f come
+    → (length bits ≡ f.vars + 1) × Satisfies (values_of bits) f.clauses
+come_satisfying f come came bits e g h = rw (e, g) at h
+
 -- the fate of bytes of which there aren't too many
 within_most : (ended : Bool) (f : FormulaOf) (bytes : List ℕ) (most : ℕ) (come : Option Came) → length bytes ≤ most
     → Comes f (sayings f.vars ended bytes) (fate_come come) → FateWhere ended f bytes most (fate_come (at_end come ended (length bytes)))
 within_most true f bytes most None l h = record { within = λ _. inr (h, refl); beyond = λ b. absurd (omega arith) }
 within_most true f bytes most (Some Refuted) l h = record { within = λ _. inl h; beyond = λ b. absurd (omega arith) }
+within_most true f bytes most (Some (Satisfied bits)) l h = record { within = λ _. inl h; beyond = λ b. absurd (omega arith) }
 within_most true f bytes most (Some CameUnknown) l h = record { within = λ _. inl h; beyond = λ b. absurd (omega arith) }
 within_most true f bytes most (Some (CameBad b)) l h = record { within = λ _. inl h; beyond = λ b. absurd (omega arith) }
 within_most false f bytes most None l h = record { within = λ _. h; beyond = λ b. absurd (omega arith) }
@@ -109,12 +151,14 @@ past : (f : FormulaOf) (bytes : List ℕ) (most : ℕ) (come : Option Came) → 
     → Comes f (sayings f.vars false (take most bytes)) (fate_come come) → FateSoFar f bytes most (fate_come (Some (past_most come most)))
 past f bytes most None l h = record { within = λ b. absurd (omega arith); beyond = λ _. inr (h, refl) }
 past f bytes most (Some Refuted) l h = record { within = λ b. absurd (omega arith); beyond = λ _. inl (_, h, refl) }
+past f bytes most (Some (Satisfied bits)) l h = record { within = λ b. absurd (omega arith); beyond = λ _. inl (_, h, refl) }
 past f bytes most (Some CameUnknown) l h = record { within = λ b. absurd (omega arith); beyond = λ _. inl (_, h, refl) }
 past f bytes most (Some (CameBad b)) l h = record { within = λ b. absurd (omega arith); beyond = λ _. inl (_, h, refl) }
 
 past_where : (ended : Bool) (f : FormulaOf) (bytes : List ℕ) (most : ℕ) (came : Came) → most < length bytes → FateSoFar f bytes most (fate_come (Some came))
     → FateWhere ended f bytes most (fate_come (Some came))
 past_where true f bytes most Refuted l h = record { within = λ b. absurd (omega arith); beyond = λ _. h }
+past_where true f bytes most (Satisfied bits) l h = record { within = λ b. absurd (omega arith); beyond = λ _. h }
 past_where true f bytes most CameUnknown l h = record { within = λ b. absurd (omega arith); beyond = λ _. h }
 past_where true f bytes most (CameBad b) l h = record { within = λ b. absurd (omega arith); beyond = λ _. h }
 past_where false f bytes most came l h = h
@@ -126,3 +170,19 @@ came_within ended f bytes taken most come out e o l h = rw (o, ← e) (within_mo
 pub came_past : (ended : Bool) (f : FormulaOf) (bytes taken : List ℕ) (most : ℕ) (come : Option Came) (out : Came) → taken ≡ bytes → out ≡ past_most come most → most < length taken
     → Comes f (sayings f.vars false (take most taken)) (fate_come come) → FateWhere ended f bytes most (fate_come (Some out))
 came_past ended f bytes taken most come out e o l h = rw (o, ← e) (past_where ended f taken most (past_most come most) l (past f taken most come l h))
+
+-- the values that came
+satisfying_at_end : (f : FormulaOf) (come : Option Came) (ended : Bool) (count : ℕ) → AreSatisfying f come → AreSatisfying f (at_end come ended count)
+satisfying_at_end f (Some came) ended count h = h
+satisfying_at_end f None true count h = tt
+satisfying_at_end f None false count h = tt
+
+pub satisfying_within : (f g : FormulaOf) (come out : Option Came) (ended : Bool) (count : ℕ) → g ≡ f → out ≡ at_end come ended count → AreSatisfying g come → AreSatisfying f out
+satisfying_within f g come out ended count same e h = subst (λ (z : FormulaOf). AreSatisfying z out) same (rw e (satisfying_at_end g come ended count h))
+
+satisfying_past_most : (f : FormulaOf) (come : Option Came) (most : ℕ) → AreSatisfying f come → AreSatisfying f (Some (past_most come most))
+satisfying_past_most f None most h = tt
+satisfying_past_most f (Some came) most h = h
+
+pub satisfying_past : (f g : FormulaOf) (come : Option Came) (out : Came) (most : ℕ) → g ≡ f → out ≡ past_most come most → AreSatisfying g come → AreSatisfying f (Some out)
+satisfying_past f g come out most same e h = subst (λ (z : FormulaOf). AreSatisfying z (Some out)) same (rw e (satisfying_past_most g come most h))

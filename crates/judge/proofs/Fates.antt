@@ -2,23 +2,23 @@
 use Rattle.std.proofs.Common.{◌≡◌, ◌≢◌, ℕ, suc, ◌-◌, ◌+◌, ◌<◌, ◌≤◌, true, false, List, [], ◌∷◌, ◌++◌, length, take, Some, None, refl, sym, ap, ◌∙◌, subst, inl, inr, arith, ◌⊎◌}
 use Rattle.std.specs.Prelude.{Option}
 use Rattle.std.proofs.lemmas.List.{take-append-le, length-append}
-use Rattle.cnf_form.specs.Cnf.{LitOf, FormulaOf, Assignment, IsAdmitted, IsUnsatisfiable}
+use Rattle.cnf_form.specs.Cnf.{LitOf, FormulaOf, Assignment, IsAdmitted, IsUnsatisfiable, Satisfies}
 use Rattle.cnf_form.specs.Dimacs.{IsDimacs}
 use Rattle.cnf_form.proofs.Reading.{IsDimacs-one}
 use Rattle.cert_wire.specs.Stream.{sayings}
 use Rattle.cert_wire.specs.declared.saying.Saying.{Saying}
 use Rattle.cert_wire.specs.declared.saying.Saying.TheVariants.{Clause, Delete, Values, LastValues, Unknown as IsUnknown, Fault}
 use Rattle.cert_wire.proofs.GoingOn.{sayings_more, sayings_end}
-use Rattle.sby_terms.specs.declared.names.Answer.TheVariants.{Unsat}
+use Rattle.sby_terms.specs.declared.names.Answer.TheVariants.{Sat, Unsat}
 use Rattle.judge.specs.declared.stream.CertKind.TheVariants.{EarlyEnd, TooLong}
 use Rattle.judge.specs.Values.{named_from, unnamed}
 use Rattle.judge.specs.Fate.{Fate, Found, Bad, Comes, ComesTo, FateSoFar, FateOf, IsFate, IsFateSoFar}
-use Rattle.judge.proofs.Coming.{sides, refuted_at_end}
+use Rattle.judge.proofs.Coming.{sides, refuted_at_end, satisfied_at_end}
 use Rattle.judge.proofs.Valuing.{values_once, values_somewhere}
 use Rattle.judge.proofs.Deletions.{Clauses, Alike, alike_itself, alike_admitted, admitted_alike, alike_more, alike_deleted, some_deletion}
 
 -- what is said later changes no fate
-comes_more : (C F : Clauses) (x : Assignment) (ss more : List Saying) (fate : Fate) → ComesTo C F x ss (Some fate) → ComesTo C F x (ss ++ more) (Some fate)
+pub comes_more : (C F : Clauses) (x : Assignment) (ss more : List Saying) (fate : Fate) → ComesTo C F x ss (Some fate) → ComesTo C F x (ss ++ more) (Some fate)
 comes_more C F x [] more fate h = cc
 comes_more C F x (Clause c ∷ ss) more fate (inl h) = inl h
 comes_more C F x (Clause c ∷ ss) more fate (inr (inl (a, n, h))) = inr (inl (a, n, comes_more C (F ++ c.lits ∷ []) x ss more fate h))
@@ -45,7 +45,7 @@ module _ (C : Clauses) where
   comes_alike F G v (Clause c ∷ ss) x y w (inr (inr (a, h))) (inr (inr (b, k))) = h ∙ sym k
   comes_alike F G v (Delete c ∷ ss) x y w (H, d, h) (K, e, k) = comes_alike H K v ss x y (alike_deleted F G H K c.lits w d e) h k
   comes_alike F G v (Values c ∷ ss) x y w h k = comes_alike F G (named_from v c.lits) ss x y w h k
-  comes_alike F G v (LastValues c ∷ ss) x y w h k = values_once C (named_from v c.lits) c.place x y h k
+  comes_alike F G v (LastValues c ∷ ss) x y w h k = values_once C (named_from v c.lits) x y h k
   comes_alike F G v (IsUnknown ∷ ss) x y w h k = h ∙ sym k
   comes_alike F G v (Fault f ∷ ss) x y w h k = h ∙ sym k
 
@@ -66,11 +66,11 @@ comes_somewhere C F v (Clause c ∷ ss) k =
     k _ (inr (inr (unadmitted, refl)))
 comes_somewhere C F v (Delete c ∷ ss) k = some_deletion F c.lits (λ G d. comes_somewhere C G v ss (λ x h. k x (G, d, h)))
 comes_somewhere C F v (Values c ∷ ss) k = comes_somewhere C F (named_from v c.lits) ss k
-comes_somewhere C F v (LastValues c ∷ ss) k = values_somewhere C (named_from v c.lits) c.place k
+comes_somewhere C F v (LastValues c ∷ ss) k = values_somewhere C (named_from v c.lits) k
 comes_somewhere C F v (IsUnknown ∷ ss) k = k _ refl
 comes_somewhere C F v (Fault f ∷ ss) k = k _ refl
 
-take_front : (bytes rest : List ℕ) (n : ℕ) → take (length bytes + n) (bytes ++ rest) ≡ bytes ++ take n rest
+pub take_front : (bytes rest : List ℕ) (n : ℕ) → take (length bytes + n) (bytes ++ rest) ≡ bytes ++ take n rest
 take_front [] rest n = ap (λ k. take k rest) (omega arith)
 take_front (b ∷ bytes) rest n = let e : length (b ∷ bytes) + n ≡ suc (length bytes + n) = omega arith in rw e (ap (λ z. b ∷ z) (take_front bytes rest n))
 
@@ -184,3 +184,8 @@ pub file_refuted : (job bytes : List ℕ) (most : ℕ) (f : FormulaOf) → IsDim
 file_refuted job bytes most f d w =
     let e : w.0 ≡ f = IsDimacs-one job w.0 f w.1 d in
     refuted_at_end f bytes most (subst (λ (z : FormulaOf). FateOf z bytes most (Found Unsat)) e w.2)
+
+pub file_satisfied : (job bytes : List ℕ) (most : ℕ) (f : FormulaOf) → IsDimacs job f → IsFate job bytes most (Found Sat) → (x : Assignment) × Satisfies x f.clauses
+file_satisfied job bytes most f d w =
+    let e : w.0 ≡ f = IsDimacs-one job w.0 f w.1 d in
+    satisfied_at_end f bytes most (subst (λ (z : FormulaOf). FateOf z bytes most (Found Sat)) e w.2)

@@ -5,5 +5,7 @@ pub mod Coming
 pub mod Deletions
 pub mod Feeding
 pub mod Fates
+pub mod Prefixes
 pub mod Certs
 pub mod Accepting
+pub mod Following

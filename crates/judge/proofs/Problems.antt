@@ -1,10 +1,11 @@
 -- Problems, and their jobs' places.
 use Rattle.std.proofs.Common.{◌≡◌, ℕ, zero, suc, ◌+◌, ◌<◌, List, [], ◌∷◌, length, Some, get_or, refl, sym, ap, subst, ◌∙◌, arith}
-use Rattle.std.specs.Prelude.{◌↔◌, slice_get, map}
+use Rattle.std.specs.Prelude.{slice_get, map}
 use Rattle.std.specs.List.{range_with_len}
 use Rattle.std.proofs.lemmas.Option.{slice_get_within, slice_get_read}
 use Rattle.cnf_form.specs.Cnf.{FormulaOf}
 use Rattle.cnf_form.specs.Dimacs.{dimacs_text}
+use Rattle.frame_cnf.specs.Encoding.{EncodedOf}
 use Rattle.rtlil_design.specs.Shape.{DesignOf}
 use Rattle.rtlil_design.specs.Meaning.{covers}
 use Rattle.rtlil_design.specs.Faults.{IsFlat}
@@ -13,7 +14,7 @@ use Rattle.sby_terms.specs.declared.names.Mode.{Mode}
 use Rattle.sby_terms.specs.declared.names.Mode.TheVariants.{Bmc, Prove, Cover as CoverMode}
 use Rattle.sby_terms.specs.declared.names.JobName.{JobName}
 use Rattle.sby_terms.specs.declared.names.JobName.TheVariants.{Base, Step, Cover}
-use Rattle.judge.specs.Problem.{AskedOf, IsJob, IsJobAt, IsFormulaOf, IsJobFile, IsJobFormula, IsProblem, jobs_of}
+use Rattle.judge.specs.Problem.{AskedOf, IsJob, IsJobAt, IsEncodedOf, IsFormulaOf, IsJobFile, IsEncodedJob, IsProblem, jobs_of}
 use Rattle.judge.specs.Places.{place_of}
 
 -- the covers from number a on
@@ -39,30 +40,52 @@ place_found CoverMode d i job e = covers_place (length (covers d)) i job e
 pub job_at : (p : AskedOf) (job : JobName) → IsJob p job → IsJobAt p (place_of job) job
 job_at p job w = subst (λ i. IsJobAt p i job) (place_found p.problem.mode p.design w.0 job w.1) w.1
 
-pub job_room : (p : AskedOf) → IsProblem p → (job : JobName) → IsJob p job → place_of job < length p.formulas
+pub job_room : (p : AskedOf) → IsProblem p → (job : JobName) → IsJob p job → place_of job < length p.encoded
 job_room p h job w = rw h.each (slice_get_within (jobs_of p.problem.mode p.design) (place_of job) job (job_at p job w))
 
-pub job_found : (p : AskedOf) → IsProblem p → (job : JobName) (f : FormulaOf) → IsJob p job → f ≡ get_or p.formulas (place_of job) f → IsFormulaOf p job f
-job_found p h job f w e = (place_of job, job_at p job w, slice_get_read p.formulas (length p.formulas) (place_of job) f refl (job_room p h job w) e)
+pub job_found : (p : AskedOf) → IsProblem p → (job : JobName) (e : EncodedOf) → IsJob p job → e ≡ get_or p.encoded (place_of job) e → IsEncodedOf p job e
+job_found p h job e w is = (place_of job, job_at p job w, slice_get_read p.encoded (length p.encoded) (place_of job) e refl (job_room p h job w) is)
 
--- a job has one formula
-pub one_formula : (p : AskedOf) (job : JobName) (f g : FormulaOf) → IsFormulaOf p job f → IsFormulaOf p job g → f ≡ g
-one_formula p job f g v w =
+-- a job is encoded once
+pub one_encoded : (p : AskedOf) (job : JobName) (a b : EncodedOf) → IsEncodedOf p job a → IsEncodedOf p job b → a ≡ b
+one_encoded p job a b v w =
     let i : v.0 ≡ w.0 = place_found p.problem.mode p.design v.0 job v.1 ∙ sym (place_found p.problem.mode p.design w.0 job w.1) in
-    let e : slice_get p.formulas w.0 ≡ Some f = subst (λ k. slice_get p.formulas k ≡ Some f) i v.2 in
+    let e : slice_get p.encoded w.0 ≡ Some a = subst (λ k. slice_get p.encoded k ≡ Some a) i v.2 in
     let h = w.2 in cc
+
+-- and has one formula
+pub one_formula : (p : AskedOf) (job : JobName) (f g : FormulaOf) → IsFormulaOf p job f → IsFormulaOf p job g → f ≡ g
+one_formula p job f g v w = v.2 ∙ ap (λ (e : EncodedOf). e.formula) (one_encoded p job v.0 w.0 v.1 w.1) ∙ sym w.2
 
 pub one_job_file : (p : AskedOf) (job : JobName) (a b : List ℕ) → IsJobFile p job a → IsJobFile p job b → a ≡ b
 one_job_file p job a b v w = v.2 ∙ ap dimacs_text (one_formula p job v.0 w.0 v.1 w.1) ∙ sym w.2
 
-abbrev asked : List ℕ → ℕ → DesignOf → List FormulaOf → AskedOf
-asked text n d fs = record { problem = record { text = text; mode = Bmc; depth = n }; design = d; formulas = fs }
+-- what holds of the one job holds of each
+one_place : (P : JobName → EncodedOf → Type 0) (e : EncodedOf) → P Base e → (i : ℕ) (job : JobName) (b : EncodedOf) → slice_get (Base ∷ []) i ≡ Some job → slice_get (e ∷ []) i ≡ Some b → P job b
+one_place P e h zero job b a c = let j : Base ≡ job = cc in let g : e ≡ b = cc in subst (λ z. P job z) g (subst (λ z. P z e) j h)
+one_place P e h (suc i) job b a c = cc
+
+abbrev asked : List ℕ → Mode → ℕ → DesignOf → List EncodedOf → AskedOf
+asked text mode n d es = record { problem = record { text = text; mode = mode; depth = n }; design = d; encoded = es }
 
 -- the problem of a design that is checked, whose one job is encoded
-pub made : (text : List ℕ) (mode : Mode) (n : ℕ) (d : DesignOf) (f : FormulaOf) (fs : List FormulaOf) → mode ≡ Bmc → Reads text d → ((e : DesignOf) → Reads text e → e ≡ d) → IsFlat d
-    → IsJobFormula d Base n f → fs ≡ f ∷ [] → IsProblem (record { problem = record { text = text; mode = mode; depth = n }; design = d; formulas = fs })
-made text mode n d f fs m r o l s e = rw (m, e) (record { reads = r; only = o; flat = l; each = refl; encodes = encodes })
+pub made : (text : List ℕ) (mode : Mode) (n : ℕ) (d : DesignOf) (e : EncodedOf) (es : List EncodedOf) → mode ≡ Bmc → Reads text d → ((b : DesignOf) → Reads text b → b ≡ d) → IsFlat d
+    → IsEncodedJob d Base n e → es ≡ e ∷ [] → IsProblem (record { problem = record { text = text; mode = mode; depth = n }; design = d; encoded = es })
+made text mode n d e es m r o l s is =
+    let one : IsProblem (asked text Bmc n d (e ∷ [])) = record {
+      mode = refl;
+      reads = r;
+      only = o;
+      flat = l;
+      each = refl;
+      encodes = λ job b w. one_place (λ j k. IsEncodedJob d j n k) e s w.0 job b w.1 w.2;
+    } in
+    subst (λ (k : Mode). IsProblem (asked text k n d es)) (sym m) (subst (λ (ks : List EncodedOf). IsProblem (asked text Bmc n d ks)) (sym is) one)
+
+-- the one job of bmc
+pub only_base : (p : AskedOf) → IsProblem p → (job : JobName) → IsJob p job → job ≡ Base
+only_base p h job (i, at) = one i (subst (λ m. slice_get (jobs_of m p.design) i ≡ Some job) h.mode at)
   where
-    encodes : (job : JobName) (g : FormulaOf) → IsFormulaOf (asked text n d (f ∷ [])) job g → IsJobFormula d job n g
-    encodes job g (zero, a, b) = let j : Base ≡ job = cc in let h : f ≡ g = cc in subst (λ z. IsJobFormula d job n z) h (subst (λ z. IsJobFormula d z n f) j s)
-    encodes job g (suc i, a, b) = cc
+    one : (i : ℕ) → slice_get (Base ∷ []) i ≡ Some job → job ≡ Base
+    one zero e = let g : Base ≡ job = cc in sym g
+    one (suc i) e = cc

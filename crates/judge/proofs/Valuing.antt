@@ -7,7 +7,8 @@ use Rattle.std.proofs.lemmas.Option.{slice_get_read, slice_get_within, slice_get
 use Rattle.cnf_form.specs.Cnf.{LitOf, Assignment, SatisfiesClause, Satisfies, ClauseWithin, Within}
 use Rattle.cnf_form.proofs.Members.{Contains-cases, Contains-empty, take_one_more}
 use Rattle.cnf_form.proofs.Rup.{clause_cases, lit_in-negate}
-use Rattle.judge.specs.Values.{IsFirstUnsatisfied, bits_in, named_from}
+use Rattle.frame_cnf.specs.Encoding.{values_of}
+use Rattle.judge.specs.Values.{IsFirstUnsatisfied, named_from}
 use Rattle.judge.specs.Fate.{Fate, Bad, ValuesComeTo}
 use Rattle.judge.specs.declared.stream.CertKind.TheVariants.{NotSatisfying}
 
@@ -16,7 +17,7 @@ pub named_push : (x : Assignment) (ls : List LitOf) (l : LitOf) (v : ℕ) → na
 named_push x [] l v = refl
 named_push x (m ∷ ls) l v = named_push (λ v. cond (eqb v m.var) (not m.negated) (x v)) ls l v
 
-pub bit_set : (bits : List Bool) (k : ℕ) (b : Bool) (v : ℕ) → k < length bits → bits_in (set bits k b) v ≡ cond (eqb v k) b (bits_in bits v)
+pub bit_set : (bits : List Bool) (k : ℕ) (b : Bool) (v : ℕ) → k < length bits → values_of (set bits k b) v ≡ cond (eqb v k) b (values_of bits v)
 bit_set bits k b v h =
     elim (cases_Bool (eqb v k)) [
       | inl t ↦ rw (t, eqb-true v k t) (get_or-set_same bits k b false h)
@@ -71,18 +72,18 @@ some_unsatisfied x (c ∷ F) =
     further s i before (suc j) d l h = before j d (omega arith) h
 
 -- what values that end come to
-pub values_once : (C : List (List LitOf)) (x : Assignment) (place : ℕ) (f g : Option Fate) → ValuesComeTo C x place f → ValuesComeTo C x place g → f ≡ g
-values_once C x place f g (inl (s, e)) (inl (t, h)) = e ∙ sym h
-values_once C x place f g (inl (s, e)) (inr (n, u, h)) = absurd (not_satisfied x C n s u)
-values_once C x place f g (inr (m, u, e)) (inl (t, h)) = absurd (not_satisfied x C m t u)
-values_once C x place f g (inr (m, u, e)) (inr (n, w, h)) = e ∙ ap (λ k. Some (Bad NotSatisfying k)) (one_unsatisfied x C m n u w) ∙ sym h
+pub values_once : (C : List (List LitOf)) (x : Assignment) (f g : Option Fate) → ValuesComeTo C x f → ValuesComeTo C x g → f ≡ g
+values_once C x f g (inl (s, e)) (inl (t, h)) = e ∙ sym h
+values_once C x f g (inl (s, e)) (inr (n, u, h)) = absurd (not_satisfied x C n s u)
+values_once C x f g (inr (m, u, e)) (inl (t, h)) = absurd (not_satisfied x C m t u)
+values_once C x f g (inr (m, u, e)) (inr (n, w, h)) = e ∙ ap (λ k. Some (Bad NotSatisfying k)) (one_unsatisfied x C m n u w) ∙ sym h
 
-pub values_somewhere : (C : List (List LitOf)) (x : Assignment) (place : ℕ) → ((f : Option Fate) → ValuesComeTo C x place f → ⊥) → ⊥
-values_somewhere C x place k = elim (some_unsatisfied x C) [ inl s ↦ k _ (inl (s, refl)) | inr (n, u) ↦ k _ (inr (n, u, refl)) ]
+pub values_somewhere : (C : List (List LitOf)) (x : Assignment) → ((f : Option Fate) → ValuesComeTo C x f → ⊥) → ⊥
+values_somewhere C x k = elim (some_unsatisfied x C) [ inl s ↦ k _ (inl (s, refl)) | inr (n, u) ↦ k _ (inr (n, u, refl)) ]
 
 -- naming one literal after the other
 pub named_next : (bits : List Bool) (old : Assignment) (n : ℕ) (ls : List LitOf) (i : ℕ) (l : LitOf) (k : ℕ) (b : Bool) → All (λ (m : LitOf). m.var < n) ls → length bits ≡ n → i < length ls
-    → l ≡ get_or ls i l → k ≡ l.var → b ≡ l.negated → ((v : ℕ) → bits_in bits v ≡ named_from old (take i ls) v) → (v : ℕ) → bits_in (set bits k (not b)) v ≡ named_from old (take (i + 1) ls) v
+    → l ≡ get_or ls i l → k ≡ l.var → b ≡ l.negated → ((v : ℕ) → values_of bits v ≡ named_from old (take i ls) v) → (v : ℕ) → values_of (set bits k (not b)) v ≡ named_from old (take (i + 1) ls) v
 named_next bits old n ls i l k b all len h e p q inv v =
     let room : l.var < n = subst (λ (m : LitOf). m.var < n) (sym e) (all i l h) in
     bit_set bits k (not b) v (omega (arith, room, p, len))

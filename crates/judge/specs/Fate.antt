@@ -8,7 +8,7 @@ use Rattle.cert_wire.specs.declared.saying.Saying.TheVariants.{Clause, Delete, V
 use Rattle.cert_wire.specs.declared.saying.WireFaultKind.{WireFaultKind}
 use Rattle.cert_wire.specs.declared.saying.WireFaultKind.TheVariants.{BadLine, BadLiteral, LineTooLong}
 use Rattle.sby_terms.specs.declared.names.Answer.{Answer}
-use Rattle.sby_terms.specs.declared.names.Answer.TheVariants.{Unsat}
+use Rattle.sby_terms.specs.declared.names.Answer.TheVariants.{Sat, Unsat}
 use Rattle.judge.specs.declared.stream.CertKind.{CertKind}
 use Rattle.judge.specs.declared.stream.CertKind.TheVariants.{BadLine as BadLineKind, BadLiteral as BadLiteralKind, LineTooLong as LineTooLongKind, NotRup, NotSatisfying, TooLong, EarlyEnd}
 use Rattle.judge.specs.Values.{IsFirstUnsatisfied, named_from, unnamed}
@@ -24,12 +24,13 @@ cert_kind BadLine = BadLineKind
 cert_kind BadLiteral = BadLiteralKind
 cert_kind LineTooLong = LineTooLongKind
 
--- What values that end come to: the first clause that they don't satisfy. Values that satisfy all clauses aren't served yet.
-abbrev pub ValuesComeTo : List (List LitOf) → Assignment → ℕ → Option Fate → Type 0
-ValuesComeTo C x place fate = (Satisfies x C × (fate ≡ Some (Bad BadLineKind place))) ⊎ ((n : ℕ) × IsFirstUnsatisfied x C n × (fate ≡ Some (Bad NotSatisfying n)))
+-- What values that end come to: a certificate where they satisfy all clauses, else the first clause that they don't satisfy.
+abbrev pub ValuesComeTo : List (List LitOf) → Assignment → Option Fate → Type 0
+ValuesComeTo C x fate = (Satisfies x C × (fate ≡ Some (Found Sat))) ⊎ ((n : ℕ) × IsFirstUnsatisfied x C n × (fate ≡ Some (Bad NotSatisfying n)))
 
 -- What sayings come to, from a formula with the clauses C, where the clauses F are present and the values x were named: each clause
--- has to be admitted, and joins them; the empty one completes the certificate. None where they come to nothing yet.
+-- has to be admitted, and joins them; the empty one, or values that satisfy C, complete the certificate. None where they come to
+-- nothing yet.
 abbrev pub ComesTo : List (List LitOf) → List (List LitOf) → Assignment → List Saying → Option Fate → Type 0
 ComesTo C F x [] fate = fate ≡ None
 ComesTo C F x (Clause c ∷ ss) fate =
@@ -38,7 +39,7 @@ ComesTo C F x (Clause c ∷ ss) fate =
     ⊎ ((IsAdmitted F c.lits → ⊥) × (fate ≡ Some (Bad NotRup c.place)))
 ComesTo C F x (Delete c ∷ ss) fate = (G : List (List LitOf)) × Deletes F c.lits G × ComesTo C G x ss fate
 ComesTo C F x (Values c ∷ ss) fate = ComesTo C F (named_from x c.lits) ss fate
-ComesTo C F x (LastValues c ∷ ss) fate = ValuesComeTo C (named_from x c.lits) c.place fate
+ComesTo C F x (LastValues c ∷ ss) fate = ValuesComeTo C (named_from x c.lits) fate
 ComesTo C F x (IsUnknown ∷ ss) fate = fate ≡ Some Unknown
 ComesTo C F x (Fault f ∷ ss) fate = fate ≡ Some (Bad (cert_kind f.kind) f.byte)
 

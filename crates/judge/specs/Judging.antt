@@ -1,10 +1,11 @@
 -- A judge, and what its answers tell.
-use Rattle.std.specs.Prelude.{◌≡◌, ℕ, true, false, Bool, List, Option, Some, None, MatchOption, Result, Ok, Err}
-use Rattle.cnf_form.specs.Cnf.{FormulaOf}
-use Rattle.sby_terms.specs.declared.names.Answer.TheVariants.{Unsat}
+use Rattle.std.specs.Prelude.{◌≡◌, ℕ, ◌+◌, true, false, Bool, List, length, Option, Some, None, MatchOption, Result, Ok, Err}
+use Rattle.cnf_form.specs.Cnf.{FormulaOf, Satisfies}
+use Rattle.sby_terms.specs.declared.names.Answer.TheVariants.{Sat, Unsat}
 use Rattle.sby_terms.specs.declared.names.JobName.{JobName}
 use Rattle.judge.specs.Problem.{AskedOf, IsJobFile}
 use Rattle.judge.specs.Finding.{FindingOf}
+use Rattle.frame_cnf.specs.Encoding.{values_of}
 use Rattle.judge.specs.Fate.{Fate, Found, Unknown, Bad, FateSoFar, FateOf, IsFateSoFar, IsFate}
 use Rattle.judge.specs.declared.stream.BadCert.{BadCert}
 use Rattle.judge.specs.declared.stream.CertKind.TheVariants.{TooLong, EarlyEnd}
@@ -13,7 +14,7 @@ use Rattle.judge.specs.declared.judging.State.TheVariants.{Reading, Refused, Ove
 use Rattle.judge.specs.declared.judging.Progress.{Progress}
 use Rattle.judge.specs.declared.judging.Progress.TheVariants.{More, Done, Unknown as IsUnknown}
 use Rattle.judge.specs.declared.judging.Came.{Came}
-use Rattle.judge.specs.declared.judging.Came.TheVariants.{Refuted, Unknown as CameUnknown, Bad as CameBad}
+use Rattle.judge.specs.declared.judging.Came.TheVariants.{Refuted, Satisfied, Unknown as CameUnknown, Bad as CameBad}
 
 -- the problem and its job, the greatest number of bytes, the bytes taken so far, and how the judge stands
 pub record JudgeOf : Type 0 where
@@ -63,8 +64,17 @@ pub record Ends (old new : JudgeOf) (r : Result Progress BadCert) : Type 0 where
 abbrev pub fate_come : Option Came → Option Fate
 fate_come None = None
 fate_come (Some Refuted) = Some (Found Unsat)
+fate_come (Some (Satisfied bits)) = Some (Found Sat)
 fate_come (Some CameUnknown) = Some Unknown
 fate_come (Some (CameBad b)) = Some (Bad b.kind b.at)
+
+-- values that came, one for each variable, satisfy the formula
+abbrev pub AreSatisfying : FormulaOf → Option Came → Type 0
+AreSatisfying f None = Unit {0}
+AreSatisfying f (Some Refuted) = Unit {0}
+AreSatisfying f (Some (Satisfied bits)) = (length bits ≡ f.vars + 1) × Satisfies (values_of bits) f.clauses
+AreSatisfying f (Some CameUnknown) = Unit {0}
+AreSatisfying f (Some (CameBad b)) = Unit {0}
 
 -- the fate of the bytes where the stream ended with them, or the fate so far
 abbrev pub FateWhere : Bool → FormulaOf → List ℕ → ℕ → Option Fate → Type 0

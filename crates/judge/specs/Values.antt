@@ -1,5 +1,5 @@
 -- The values that a stream names.
-use Rattle.std.specs.Prelude.{◌≡◌, ℕ, ◌+◌, ◌<◌, Bool, false, not, cond, eqb, List, [], ◌∷◌, Some, slice_get, slice_index_or}
+use Rattle.std.specs.Prelude.{◌≡◌, ℕ, ◌+◌, ◌<◌, false, not, cond, eqb, List, [], ◌∷◌, Some, slice_get}
 use Rattle.cnf_form.specs.Cnf.{LitOf, Assignment, SatisfiesClause}
 
 -- a variable that isn't named is false
@@ -16,7 +16,3 @@ abbrev pub IsFirstUnsatisfied : Assignment → List (List LitOf) → ℕ → Typ
 IsFirstUnsatisfied x F n =
     (i : ℕ) × (c : List LitOf) × (n ≡ i + 1) × (slice_get F i ≡ Some c) × (SatisfiesClause x c → ⊥)
     × ((j : ℕ) (d : List LitOf) → j < i → slice_get F j ≡ Some d → SatisfiesClause x d)
-
--- the table's bit for each variable
-abbrev pub bits_in : List Bool → Assignment
-bits_in bits v = slice_index_or bits v false

@@ -1,14 +1,17 @@
 // A finding: what was found of a job.
 
-ghost use Rattle.std.specs.Prelude.{◌≡◌, ◌↔◌, ◌++◌, [], take, List, IfOk, IsTrue, None, Some, MatchOption, option_map};
-ghost use Rattle.cnf_form.specs.Cnf.{FormulaOf, IsUnsatisfiable};
-ghost use Rattle.judge.specs.Finding.{Claim, IsTrueFinding};
-ghost use Rattle.judge.specs.Problem.{IsFormulaOf, IsJob};
+ghost use Rattle.std.specs.Prelude.{◌≡◌, ◌↔◌, ◌+◌, ◌++◌, [], take, length, List, IfOk, IsTrue, None, Some, MatchOption, option_map};
+ghost use Rattle.cnf_form.specs.Cnf.{FormulaOf, IsUnsatisfiable, Satisfies};
+ghost use Rattle.frame_cnf.specs.Encoding.{EncodedOf, values_of};
+ghost use Rattle.judge.specs.Finding.{Claim, IsTrueFinding, RunShows};
+ghost use Rattle.judge.specs.Problem.{IsEncodedOf, IsFormulaOf, IsJob};
 ghost use Rattle.rtlil_design.specs.Shape.{DesignOf};
 ghost use Rattle.rtlil_reader.specs.Grammar.{Reads};
 
 use crate::problem::Problem;
+use crate::values::Values;
 use rtlil_design::row::{Cycle, Row, Run};
+use run_play::play;
 use sby_terms::{Answer, JobName, Mode, Settled};
 use std::alloc::{AllocError, Global};
 use std::marker::Model;
@@ -89,6 +92,44 @@ pub(crate) fn unsat(alloc: Global, problem: &Problem, job: JobName) -> Result<Fi
         job,
         answer: Answer::Unsat,
         run: None,
+    })
+}
+
+// The run that values which satisfy the formula of Base stand for.
+fn shown(alloc: Global, problem: &Problem, job: JobName, values: &Values) -> Result<Run, AllocError>
+    requires { (e : EncodedOf) × IsEncodedOf problem.now job e × (length values.now ≡ e.formula.vars + 1)
+        × Satisfies (values_of values.now) e.formula.clauses }
+    ensures { IfOk result (λ run. RunShows problem.now.design problem.now.problem.depth (Some run)) }
+{
+    let flat = problem.flat();
+    let choices = problem.encoded(job).decode(alloc, values.bits())?;
+    let run = play(alloc, flat, &choices)?;
+    Ok(run)
+}
+
+// The finding that a job can be solved, where these values satisfy its formula.
+pub(crate) fn sat(
+    alloc: Global,
+    problem: &Problem,
+    job: JobName,
+    values: &Values,
+) -> Result<Finding, AllocError>
+    requires { (e : EncodedOf) × IsEncodedOf problem.now job e × (length values.now ≡ e.formula.vars + 1)
+        × Satisfies (values_of values.now) e.formula.clauses }
+    ensures problem { IfOk result (λ f. f.problem ≡ problem.now.problem) }
+    ensures job { IfOk result (λ f. f.job ≡ job) }
+    ensures answer { IfOk result (λ f. f.answer ≡ Answer.Sat) }
+{
+    let run = shown(alloc, problem, job, values)?;
+    let _flat = problem.flat();
+    let text = Vec::from_slice(alloc, problem.text())?;
+    Ok(Finding {
+        text,
+        mode: problem.mode(),
+        depth: problem.depth(),
+        job,
+        answer: Answer::Sat,
+        run: Some(run),
     })
 }
 

@@ -2,14 +2,14 @@
 
 ghost use Rattle.std.specs.Prelude.{◌≡◌, ◌≢◌, ◌≤◌, ◌<◌, ◌+◌, ◌^◌, ◌++◌, Bool, [], List, length, IfOk, OnErr, IsErr, Ok, Err, Some};
 ghost use Rattle.cnf_form.specs.Cnf.{FormulaOf};
+ghost use Rattle.frame_cnf.specs.Encoding.{EncodedOf, values_of};
 ghost use Rattle.cert_wire.specs.Stream.{sayings};
 ghost use Rattle.judge.specs.Fate.{Bad, Comes, ValuesComeTo, cert_kind};
-ghost use Rattle.judge.specs.Values.{bits_in};
-ghost use Rattle.judge.specs.Judging.{Ends, FateWhere, Feeds, Finds, JudgeOf, at_end, fate_come, fate_told, past_most, state_behind};
-ghost use Rattle.judge.specs.Problem.{IsFormulaOf, IsJob};
+ghost use Rattle.judge.specs.Judging.{AreSatisfying, Ends, FateWhere, Feeds, Finds, JudgeOf, at_end, fate_come, fate_told, past_most, state_behind};
+ghost use Rattle.judge.specs.Problem.{IsEncodedOf, IsFormulaOf, IsJob};
 ghost use Rattle.judge.specs.declared.stream.BadCert.{BadCert};
 
-use crate::finding::{Finding, unsat};
+use crate::finding::{Finding, sat, unsat};
 use crate::problem::Problem;
 use crate::stream::{BadCert, CertKind, StreamKind};
 use crate::values::Values;
@@ -25,7 +25,7 @@ use std::marker::Model;
 pub enum Progress {
     /// Nothing yet.
     More,
-    /// The stream is a certificate up to here.
+    /// The stream is a certificate up to here, for the finding's answer.
     Done(Finding),
     /// The engine doesn't know.
     Unknown,
@@ -45,9 +45,11 @@ pub enum State {
 }
 
 // What a stream comes to.
-#[derive(Clone, Copy)]
+#[derive(Drop)]
 enum Came {
     Refuted,
+    // By these values.
+    Satisfied(Values),
     Unknown,
     Bad(BadCert),
 }
@@ -177,14 +179,20 @@ impl<'a> Judge<'a> {
                 let finding = unsat(self.alloc, self.problem, self.job)?;
                 Ok(Ok(Progress::Done(finding)))
             }
+            Some(Came::Satisfied(values)) => {
+                let finding = sat(self.alloc, self.problem, self.job, &values)?;
+                Ok(Ok(Progress::Done(finding)))
+            }
         }
     }
 
     fn came(&self, ended: bool) -> Result<Option<Came>, AllocError>
-        ensures { IfOk result (λ came. (f : FormulaOf) × IsFormulaOf self.now.asked self.now.job f
+        ensures fate { IfOk result (λ came. (f : FormulaOf) × IsFormulaOf self.now.asked self.now.job f
             × FateWhere ended f self.now.taken self.now.most (fate_come came)) }
+        ensures satisfying { IfOk result (λ came. (e : EncodedOf) × IsEncodedOf self.now.asked self.now.job e
+            × AreSatisfying e.formula came) }
     {
-        let formula = self.problem.formula(self.job);
+        let formula = self.problem.encoded(self.job).formula();
         let taken = self.taken.as_slice();
         let count = taken.len() as u64;
         if count <= self.most {
@@ -250,13 +258,14 @@ fn refused(kind: CertKind, at: u64) -> Option<Came>
     Some(Came::Bad(BadCert { kind, at }))
 }
 
-// What values that end come to, whose last line has its first visible byte at `place`.
-fn values_come_to(formula: &Formula, values: &Values, place: u64) -> Option<Came>
-    requires { length values.now ≡ formula.now.vars + 1 }
-    ensures { ValuesComeTo formula.now.clauses (bits_in values.now) place (fate_come result) }
+// What values that end come to.
+fn values_come_to(formula: &Formula, values: Values) -> Option<Came>
+    requires { length values ≡ formula.now.vars + 1 }
+    ensures come { ValuesComeTo formula.now.clauses (values_of values) (fate_come result) }
+    ensures satisfying { AreSatisfying formula.now result }
 {
     match values.first_unsatisfied(formula) {
-        None => refused(CertKind::BadLine, place),
+        None => Some(Came::Satisfied(values)),
         Some(clause) => refused(CertKind::NotSatisfying, clause),
     }
 }
@@ -268,7 +277,8 @@ fn comes_to(
     bytes: &[u8],
     ended: bool,
 ) -> Result<Option<Came>, AllocError>
-    ensures { IfOk result (λ came. Comes formula.now (sayings formula.now.vars ended bytes.now) (fate_come came)) }
+    ensures comes { IfOk result (λ came. Comes formula.now (sayings formula.now.vars ended bytes.now) (fate_come came)) }
+    ensures satisfying { IfOk result (λ came. AreSatisfying formula.now came) }
 {
     sayings_are_within();
     let mut checker = Checker::new(alloc, formula)?;
@@ -291,7 +301,7 @@ fn comes_to(
             }
             Saying::LastValues(line) => {
                 values.name_all(line.lits());
-                return Ok(values_come_to(formula, &values, line.place()));
+                return Ok(values_come_to(formula, values));
             }
             Saying::Unknown => return Ok(Some(Came::Unknown)),
             Saying::Fault(fault) => return Ok(refused(cert_kind(fault.kind), fault.byte)),

@@ -1,10 +1,11 @@
 // Laws of fates, and of problems.
 
-ghost use Rattle.std.specs.Prelude.{◌≡◌, ◌≤◌, ◌++◌, ℕ, List, length, take, Option, Some};
-ghost use Rattle.cnf_form.specs.Cnf.{FormulaOf, IsUnsatisfiable};
+ghost use Rattle.std.specs.Prelude.{◌≡◌, ◌⊎◌, ◌<◌, ◌≤◌, ◌∷◌, ◌++◌, ℕ, true, List, length, take, Option, Some};
+ghost use Rattle.cert_wire.specs.Text.{is_blank};
+ghost use Rattle.cnf_form.specs.Cnf.{Assignment, FormulaOf, IsUnsatisfiable, Satisfies};
 ghost use Rattle.cnf_form.specs.Dimacs.{IsDimacs};
 ghost use Rattle.sby_terms.specs.declared.names.Answer.{Answer};
-ghost use Rattle.sby_terms.specs.declared.names.Answer.TheVariants.{Unsat};
+ghost use Rattle.sby_terms.specs.declared.names.Answer.TheVariants.{Sat, Unsat};
 ghost use Rattle.judge.specs.Cert.{IsCert};
 ghost use Rattle.sby_terms.specs.declared.names.JobName.{JobName};
 ghost use Rattle.judge.specs.Fate.{Fate, Found, IsFate, IsFateSoFar};
@@ -46,15 +47,37 @@ pub fn found_unsat_is_unsatisfiable()
         → IsUnsatisfiable f.clauses }
 {}
 
+/// Where a stream is found to be a certificate for Sat, some assignment satisfies the formula of the job's file.
+pub fn found_sat_is_satisfiable()
+    ensures { (job stream : List ℕ) (most : ℕ) (f : FormulaOf) → IsDimacs job f → IsFate job stream most (Found Sat)
+        → (x : Assignment) × Satisfies x f.clauses }
+{}
+
 /// A stream that is found to be a certificate begins with one, within the bytes that are taken.
 pub fn found_fate_begins_certificate()
     ensures { (job stream : List ℕ) (most : ℕ) (answer : Answer) → IsFate job stream most (Found answer)
         → (n : ℕ) × (n ≤ length stream) × (n ≤ most) × IsCert job (take n stream) answer }
 {}
 
-/// A certificate for Unsat, all of whose bytes are taken, is found to be one.
+/// A certificate, all of whose bytes are taken, is found to be one.
 pub fn certificate_is_found()
-    ensures { (job stream : List ℕ) (most : ℕ) → IsCert job stream Unsat → length stream ≤ most → IsFate job stream most (Found Unsat) }
+    ensures { (job stream : List ℕ) (most : ℕ) (answer : Answer) → IsCert job stream answer → length stream ≤ most
+        → IsFate job stream most (Found answer) }
+{}
+
+/// What follows a certificate isn't read: a stream that is found to be one is found as well where white space or a line feed
+/// follows, whatever comes then.
+pub fn found_fate_stays_before_more()
+    ensures { (job stream rest : List ℕ) (b most : ℕ) (answer : Answer) → IsFate job stream most (Found answer) → (is_blank b ≡ true) ⊎ (b ≡ 10)
+        → length stream < most → IsFateSoFar job (stream ++ b ∷ rest) most (Some (Found answer)) }
+{}
+
+/// A certificate that white space or a line feed follows is found, whatever comes then, once that byte is taken.
+pub fn certificate_is_found_before_more()
+    ensures so_far { (job cert rest : List ℕ) (b most : ℕ) (answer : Answer) → IsCert job cert answer → (is_blank b ≡ true) ⊎ (b ≡ 10)
+        → length cert < most → IsFateSoFar job (cert ++ b ∷ rest) most (Some (Found answer)) }
+    ensures whole { (job cert rest : List ℕ) (b most : ℕ) (answer : Answer) → IsCert job cert answer → (is_blank b ≡ true) ⊎ (b ≡ 10)
+        → length cert < most → IsFate job (cert ++ b ∷ rest) most (Found answer) }
 {}
 
 /// A job of a problem has one formula, and one file.

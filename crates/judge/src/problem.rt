@@ -1,16 +1,15 @@
-// A problem: a text, its design, and the formulas of its jobs.
+// A problem: a text, its design, and its jobs as formulas.
 
 ghost use Rattle.std.specs.Prelude.{◌≡◌, ◌≤◌, ◌<◌, ◌+◌, ◌*◌, ◌^◌, IfOk, MatchResult, [], ◌∷◌, length, Some, slice_get};
-ghost use Rattle.cnf_form.specs.Cnf.{FormulaOf};
 ghost use Rattle.cnf_form.specs.Dimacs.{IsDimacs, dimacs_text};
 ghost use Rattle.frame_cnf.specs.Encoding.{CanBeSatisfied, cost};
 ghost use Rattle.frame_cnf.specs.Jobs.{Solvable, frames};
-ghost use Rattle.judge.specs.Problem.{AskedOf, IsFormulaOf, IsJob, IsJobFile, IsProblem, jobs_of};
+ghost use Rattle.judge.specs.Problem.{AskedOf, IsEncodedOf, IsJob, IsJobFile, IsProblem, jobs_of};
 ghost use Rattle.judge.specs.Fault.{IsProblemFault};
 ghost use Rattle.judge.specs.Places.{place_of};
 ghost use Rattle.rtlil_design.specs.Faults.{IsFlat};
 
-use cnf_form::{Formula, write_dimacs};
+use cnf_form::write_dimacs;
 use frame_cnf::{Encoded, TooMany, encode};
 use rtlil_design::check::{DesignFault, check};
 use rtlil_design::flat::Flat;
@@ -28,39 +27,39 @@ struct Job {
 
 impl Model for Job {
     ghost use Rattle.std.specs.Prelude.{◌≡◌};
-    ghost use Rattle.cnf_form.specs.Cnf.{FormulaOf};
     ghost use Rattle.cnf_form.specs.Dimacs.{IsDimacs, dimacs_text};
+    ghost use Rattle.frame_cnf.specs.Encoding.{EncodedOf};
 
-    ghost Value = { FormulaOf };
+    ghost Value = { EncodedOf };
 
-    ghost view = { λ a. a.encoded.formula };
+    ghost view = { λ a. a.encoded };
 
     ghost invariant = { λ a. (a.file.items ≡ dimacs_text a.encoded.formula) × IsDimacs a.file.items a.encoded.formula };
 }
 
 impl Job {
     fn new(alloc: Global, encoded: Encoded) -> Result<Job, AllocError>
-        ensures { IfOk result (λ job. job ≡ encoded.formula) }
+        ensures { IfOk result (λ job. job ≡ encoded) }
     {
         let file = write_dimacs(alloc, encoded.formula())?;
         Ok(Job { encoded, file })
     }
 
-    fn formula(&self) -> &Formula
+    fn encoded(&self) -> &Encoded
         ensures { result.now ≡ self.now }
     {
-        self.encoded.formula()
+        &self.encoded
     }
 
     fn file(&self) -> &[u8]
-        ensures text { result.now ≡ dimacs_text self.now }
-        ensures grammar { IsDimacs result.now self.now }
+        ensures text { result.now ≡ dimacs_text self.now.formula }
+        ensures grammar { IsDimacs result.now self.now.formula }
     {
         self.file.as_slice()
     }
 }
 
-/// What is asked: a design's text, a mode and a depth; with the design that the text reads, and its jobs' formulas.
+/// What is asked: a design's text, a mode and a depth; with the design that the text reads, and its jobs as they are encoded.
 #[derive(Drop)]
 pub struct Problem {
     text: Vec<u8>,
@@ -77,9 +76,9 @@ impl Model for Problem {
 
     ghost use Rattle.judge.specs.Problem.{IsProblem};
 
-    ghost view = { λ a. record { problem = record { text = a.text.items; mode = a.mode; depth = a.depth }; design = a.flat; formulas = a.jobs.items } };
+    ghost view = { λ a. record { problem = record { text = a.text.items; mode = a.mode; depth = a.depth }; design = a.flat; encoded = a.jobs.items } };
 
-    ghost invariant = { λ a. IsProblem (record { problem = record { text = a.text.items; mode = a.mode; depth = a.depth }; design = a.flat; formulas = a.jobs.items }) };
+    ghost invariant = { λ a. IsProblem (record { problem = record { text = a.text.items; mode = a.mode; depth = a.depth }; design = a.flat; encoded = a.jobs.items }) };
 }
 
 /// Why a problem is refused: the text reads no design, the design has a fault, or a job has too many variables.
@@ -175,17 +174,17 @@ impl Problem {
         self.job(job).file()
     }
 
-    // The job's formula.
-    pub(crate) fn formula(&self, job: JobName) -> &Formula
+    // The job as it is encoded.
+    pub(crate) fn encoded(&self, job: JobName) -> &Encoded
         requires { IsJob self.now job }
-        ensures { IsFormulaOf self.now job result.now }
+        ensures { IsEncodedOf self.now job result.now }
     {
-        self.job(job).formula()
+        self.job(job).encoded()
     }
 
     fn job(&self, job: JobName) -> &Job
         requires { IsJob self.now job }
-        ensures { IsFormulaOf self.now job result.now }
+        ensures { IsEncodedOf self.now job result.now }
     {
         let jobs = self.jobs.as_slice();
         &jobs[place_of(job)]

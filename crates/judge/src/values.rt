@@ -2,7 +2,8 @@
 
 ghost use Rattle.std.specs.Prelude.{◌≡◌, ◌↔◌, ℕ, ◌+◌, ◌<◌, false, All, length, IfNone, IfOk, IfSome, IsTrue};
 ghost use Rattle.cnf_form.specs.Cnf.{ClauseWithin, LitOf, Satisfies, SatisfiesClause, lit_in};
-ghost use Rattle.judge.specs.Values.{IsFirstUnsatisfied, bits_in, named_from};
+ghost use Rattle.frame_cnf.specs.Encoding.{values_of};
+ghost use Rattle.judge.specs.Values.{IsFirstUnsatisfied, named_from};
 
 use cnf_form::{Formula, Lit};
 use std::alloc::{AllocError, Global};
@@ -10,7 +11,7 @@ use std::marker::Model;
 
 fn is_true(values: &[bool], l: Lit) -> bool
     requires { l.var < length values.now }
-    ensures { result ≡ lit_in (bits_in values.now) l }
+    ensures { result ≡ lit_in (values_of values.now) l }
 {
     let value = values[l.var() as usize];
     if l.is_negated() { !value } else { value }
@@ -18,7 +19,7 @@ fn is_true(values: &[bool], l: Lit) -> bool
 
 fn satisfies_clause(values: &[bool], clause: &[Lit]) -> bool
     requires { All (λ l. l.var < length values.now) clause.now }
-    ensures { IsTrue result ↔ SatisfiesClause (bits_in values.now) clause.now }
+    ensures { IsTrue result ↔ SatisfiesClause (values_of values.now) clause.now }
 {
     for l in clause {
         if is_true(values, *l) {
@@ -31,8 +32,8 @@ fn satisfies_clause(values: &[bool], clause: &[Lit]) -> bool
 // The number of the first clause, from 1, that the values don't satisfy.
 fn first_unsatisfied(values: &[bool], formula: &Formula) -> Option<u64>
     requires { length values.now ≡ formula.now.vars + 1 }
-    ensures some { IfSome result (IsFirstUnsatisfied (bits_in values.now) formula.now.clauses) }
-    ensures none { IfNone result (Satisfies (bits_in values.now) formula.now.clauses) }
+    ensures some { IfSome result (IsFirstUnsatisfied (values_of values.now) formula.now.clauses) }
+    ensures none { IfNone result (Satisfies (values_of values.now) formula.now.clauses) }
 {
     let clauses = formula.clauses();
     for place in 0..clauses.len() {
@@ -46,7 +47,7 @@ fn first_unsatisfied(values: &[bool], formula: &Formula) -> Option<u64>
 // Gives each literal's variable its sign, one literal after the other.
 fn name_each(values: &mut [bool], lits: &[Lit])
     requires { All (λ l. l.var < length values.old) lits.now }
-    ensures { (v : ℕ) → bits_in values.new v ≡ named_from (bits_in values.old) lits.now v }
+    ensures { (v : ℕ) → values_of values.new v ≡ named_from (values_of values.old) lits.now v }
 {
     for l in lits {
         values[l.var() as usize] = !l.is_negated();
@@ -71,17 +72,24 @@ impl Values {
     /// Before any variable is named.
     pub(crate) fn new(alloc: Global, vars: u32) -> Result<Values, AllocError>
         ensures size { IfOk result (λ values. length values ≡ vars + 1) }
-        ensures unnamed { IfOk result (λ values. (v : ℕ) → bits_in values v ≡ false) }
+        ensures unnamed { IfOk result (λ values. (v : ℕ) → values_of values v ≡ false) }
     {
         let bits = vec![in alloc; false; vars as usize + 1]?;
         Ok(Values { bits })
+    }
+
+    /// A bit for each variable, at its number.
+    pub(crate) fn bits(&self) -> &[bool]
+        ensures { result.now ≡ self.now }
+    {
+        self.bits.as_slice()
     }
 
     /// The literals are named, one after the other.
     pub(crate) fn name_all(&mut self, lits: &[Lit])
         requires { All (λ l. l.var < length self.old) lits.now }
         ensures size { length self.new ≡ length self.old }
-        ensures named { (v : ℕ) → bits_in self.new v ≡ named_from (bits_in self.old) lits.now v }
+        ensures named { (v : ℕ) → values_of self.new v ≡ named_from (values_of self.old) lits.now v }
     {
         name_each(self.bits.as_mut_slice(), lits);
     }
@@ -89,8 +97,8 @@ impl Values {
     /// The number of the formula's first clause, from 1, that they don't satisfy.
     pub(crate) fn first_unsatisfied(&self, formula: &Formula) -> Option<u64>
         requires { length self.now ≡ formula.now.vars + 1 }
-        ensures some { IfSome result (IsFirstUnsatisfied (bits_in self.now) formula.now.clauses) }
-        ensures none { IfNone result (Satisfies (bits_in self.now) formula.now.clauses) }
+        ensures some { IfSome result (IsFirstUnsatisfied (values_of self.now) formula.now.clauses) }
+        ensures none { IfNone result (Satisfies (values_of self.now) formula.now.clauses) }
     {
         first_unsatisfied(self.bits.as_slice(), formula)
     }

@@ -1,78 +1,20 @@
-use Rattle.std.proofs.Common.{◌≡◌, ℕ, ◌+◌, ◌<◌, List, [], ◌∷◌, ◌++◌, refl, ap, sym, ◌∙◌, subst, inl, inr, length, take, drop, arith}
+use Rattle.std.proofs.Common.{◌≡◌, ℕ, ◌+◌, ◌<◌, List, [], ◌++◌, refl, ap, sym, ◌∙◌, subst, inl, inr, length, take, drop, arith}
 use Rattle.std.specs.Prelude.{◌≢◌, Bool, true, false, IsTrue, Some, None, MatchOption, Result, Ok, Err}
 use Rattle.std.proofs.lemmas.Bool.{cases_lt}
 use Rattle.std.proofs.lemmas.List.{length-take-le, take-append-drop, take_all}
-use Rattle.cert_wire.specs.Stream.{sayings}
-use Rattle.cert_wire.specs.declared.saying.Saying.{Saying}
-use Rattle.cert_wire.specs.declared.saying.Saying.TheVariants.{Clause, Delete, Values, LastValues, Unknown as IsUnknown, Fault}
-use Rattle.cnf_form.specs.Cnf.{Assignment, FormulaOf, LitOf}
-use Rattle.judge.specs.Values.{named_from, unnamed}
-use Rattle.sby_terms.specs.declared.names.Answer.{Answer}
-use Rattle.sby_terms.specs.declared.names.Answer.TheVariants.{Unsat}
-use Rattle.judge.specs.Fate.{Comes, ComesTo, Fate, FateOf, FateSoFar, IsFate, IsFateSoFar, Found as FoundFate, Unknown as UnknownFate, Bad as BadFate}
+use Rattle.judge.specs.Fate.{Fate, IsFate, IsFateSoFar, Found as FoundFate, Unknown as UnknownFate, Bad as BadFate}
 use Rattle.judge.specs.Finding.{FindingOf}
 use Rattle.race_core.specs.declared.end.JobEnd.{JobEnd}
 use Rattle.judge.specs.Judging.{Ends, Feeds, Finds, JudgeOf, fate_told}
-use Rattle.judge.specs.Problem.{AskedOf, IsJobFile}
+use Rattle.judge.specs.Problem.{AskedOf}
 use Rattle.judge.specs.declared.judging.Progress.{Progress}
 use Rattle.judge.specs.declared.judging.Progress.TheVariants.{More, Done, Unknown as UnknownProgress}
 use Rattle.judge.specs.declared.stream.BadCert.{BadCert}
 use Rattle.sby_terms.specs.declared.names.JobName.{JobName}
 use Rattle.judge.specs.declared.judging.State.TheVariants.{Reading}
 use Rattle.sby_top.specs.Judged.{IsEndOf, IsFateEnd}
-use Rattle.sby_top.specs.Steps.{end_of, IsBytesJudged, IsLined, IsTrueEnd, IsUnsatOnly, WasFed}
+use Rattle.sby_top.specs.Steps.{end_of, IsBytesJudged, IsTrueEnd, WasFed}
 use Rattle.sby_top.specs.Served.{most_stream}
-
--- sayings come to no answer but Unsat
-found_unsat : (C F : List (List LitOf)) (x : Assignment) (ss : List Saying) (answer : Answer) → ComesTo C F x ss (Some (FoundFate answer)) → answer ≡ Unsat
-found_unsat C F x [] answer h = cc
-found_unsat C F x (Clause c ∷ ss) answer h = elim h [
-  | inl p ↦ let e : Some (FoundFate answer) ≡ Some (FoundFate Unsat) = p.2 in cc
-  | inr q ↦ elim q [
-    | inl r ↦ found_unsat C (F ++ c.lits ∷ []) x ss answer r.2
-    | inr r ↦ cc
-  ]
-]
-found_unsat C F x (Delete c ∷ ss) answer h = found_unsat C h.0 x ss answer h.2
-found_unsat C F x (Values c ∷ ss) answer h = found_unsat C F (named_from x c.lits) ss answer h
-found_unsat C F x (LastValues c ∷ ss) answer h = elim h [
-  | inl p ↦ cc
-  | inr q ↦ cc
-]
-found_unsat C F x (IsUnknown ∷ ss) answer h = cc
-found_unsat C F x (Fault f ∷ ss) answer h = cc
-
-so_far_unsat : (f : FormulaOf) (bytes : List ℕ) (most : ℕ) (answer : Answer) → FateSoFar f bytes most (Some (FoundFate answer)) → answer ≡ Unsat
-so_far_unsat f bytes most answer h = elim (cases_lt most (length bytes)) [
-  | inl long ↦ elim (h.beyond long) [
-    | inl p ↦ let e : FoundFate answer ≡ p.0 = cc in
-        found_unsat f.clauses f.clauses unnamed (sayings f.vars false (take most bytes)) answer (subst (λ fate. Comes f (sayings f.vars false (take most bytes)) (Some fate)) (sym e) p.1)
-    | inr q ↦ cc
-  ]
-  | inr short ↦ found_unsat f.clauses f.clauses unnamed (sayings f.vars false bytes) answer (h.within (omega (arith, short)))
-]
-
-whole_unsat : (f : FormulaOf) (bytes : List ℕ) (most : ℕ) (answer : Answer) → FateOf f bytes most (FoundFate answer) → answer ≡ Unsat
-whole_unsat f bytes most answer h = elim (cases_lt most (length bytes)) [
-  | inl long ↦ so_far_unsat f bytes most answer (h.beyond long)
-  | inr short ↦ elim (h.within (omega (arith, short))) [
-    | inl p ↦ found_unsat f.clauses f.clauses unnamed (sayings f.vars true bytes) answer p
-    | inr q ↦ cc
-  ]
-]
-
--- what a judge tells of the bytes so far, and of a whole stream, is no answer but Unsat
-unsat_so_far : (file bytes : List ℕ) (most : ℕ) (r : Result Progress BadCert) → IsFateSoFar file bytes most (fate_told r) → IsUnsatOnly r
-unsat_so_far file bytes most (Ok More) h = tt
-unsat_so_far file bytes most (Ok (Done f)) h = so_far_unsat h.0 bytes most f.answer h.2
-unsat_so_far file bytes most (Ok UnknownProgress) h = tt
-unsat_so_far file bytes most (Err bad) h = tt
-
-unsat_at_end : (file stream : List ℕ) (most : ℕ) (r : Result Progress BadCert) → MatchOption (fate_told r) ⊥ (IsFate file stream most) → IsUnsatOnly r
-unsat_at_end file stream most (Ok More) h = absurd h
-unsat_at_end file stream most (Ok (Done f)) h = whole_unsat h.0 stream most f.answer h.2
-unsat_at_end file stream most (Ok UnknownProgress) h = tt
-unsat_at_end file stream most (Err bad) h = tt
 
 -- behind `most` bytes there is always a fate
 never_more : (job bytes : List ℕ) (most : ℕ) → most < length bytes → IsFateSoFar job bytes most None → ⊥
@@ -121,7 +63,6 @@ told_fate stay file bytes stream most (Err bad) apart is h = fate_of_stream stay
 pub fed_at_once : Stay → (j new : JudgeOf) (bytes : List ℕ) (r : Result Progress BadCert) → r ≢ Ok More → j.taken ≡ [] → Feeds j new (j.taken ++ bytes) r → WasFed j bytes r
 fed_at_once stay j new bytes r apart fresh fed = record {
   finds = fed.finds;
-  unsat = λ file is. unsat_so_far file (j.taken ++ bytes) j.most r (fed.fate file is);
   fate = λ file stream is cut. told_fate stay file bytes stream j.most r apart cut (subst (λ t. IsFateSoFar file (t ++ bytes) j.most (fate_told r)) fresh (fed.fate file is));
 }
 
@@ -132,7 +73,6 @@ fed_to_end j mid new bytes r fresh fed ended =
     let last : Ends (record j { taken = bytes; state = Reading }) new r = subst (λ m. Ends m new r) stands ended in
     record {
       finds = last.finds;
-      unsat = λ file is. unsat_at_end file bytes j.most r (last.fate file is);
       fate = λ file stream is cut.
           let more : IsFateSoFar file bytes j.most None = subst (λ t. IsFateSoFar file (t ++ bytes) j.most None) fresh (fed.fate file is) in
           subst (λ s. MatchOption (fate_told r) ⊥ (IsFate file s j.most)) (sym (stream_is_whole file bytes stream j.most cut more)) (last.fate file is);
@@ -164,20 +104,13 @@ end_kind p job (Ok (Done f)) finds holds = record { problem = finds.0; of_job = 
 end_kind p job (Ok UnknownProgress) finds holds = tt
 end_kind p job (Err bad) finds holds = tt
 
-end_lined : (r : Result Progress BadCert) → IsUnsatOnly r → IsLined (end_of r)
-end_lined (Ok More) unsat = tt
-end_lined (Ok (Done f)) unsat = unsat
-end_lined (Ok UnknownProgress) unsat = tt
-end_lined (Err bad) unsat = tt
-
 -- a job whose judge was fed these bytes
-pub bytes_judged : (p : AskedOf) (job : JobName) (bytes file : List ℕ) (j : JudgeOf) (r : Result Progress BadCert) (end : JobEnd FindingOf) → j ≡ record { asked = p; job = job; most = most_stream; taken = []; state = Reading }
-    → IsJobFile p job file → end ≡ end_of r → IsTrueEnd end → WasFed j bytes r → IsBytesJudged p job bytes end
-bytes_judged p job bytes file j r end fresh is_file is holds fed =
+pub bytes_judged : (p : AskedOf) (job : JobName) (bytes : List ℕ) (j : JudgeOf) (r : Result Progress BadCert) (end : JobEnd FindingOf) → j ≡ record { asked = p; job = job; most = most_stream; taken = []; state = Reading }
+    → end ≡ end_of r → IsTrueEnd end → WasFed j bytes r → IsBytesJudged p job bytes end
+bytes_judged p job bytes j r end fresh is holds fed =
     let was : WasFed (record { asked = p; job = job; most = most_stream; taken = []; state = Reading }) bytes r = subst (λ k. WasFed k bytes r) fresh fed in
     rw is (record {
       of = end_kind p job r was.finds (subst IsTrueEnd is holds);
-      lined = end_lined r (was.unsat file is_file);
       fate = λ file stream at cut. end_by_fate file stream r (was.fate file stream at cut);
     })
 

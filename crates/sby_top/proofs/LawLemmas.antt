@@ -7,22 +7,21 @@ use Rattle.judge.specs.Fate.{Fate, Found, IsFate}
 use Rattle.judge.specs.Fault.{IsProblemFault}
 use Rattle.judge.specs.Problem.{AskedOf, IsJobFile}
 use Rattle.judge.specs.declared.problem.ProblemFault.{ProblemFault}
-use Rattle.sby_terms.specs.declared.names.Answer.TheVariants.{Unsat}
+use Rattle.sby_terms.specs.declared.names.Answer.{Answer}
 use Rattle.sby_terms.specs.declared.names.JobName.{JobName}
 use Rattle.sby_terms.specs.declared.names.JobName.TheVariants.{Base}
 use Rattle.sby_terms.specs.declared.names.Mode.TheVariants.{Bmc}
 use Rattle.sby_terms.specs.declared.names.Status.{Status}
-use Rattle.sby_terms.specs.declared.names.Status.TheVariants.{Pass}
 use Rattle.sby_top.specs.Headline.{AreFates, Exit, IsPlainStatus, IsSmooth, TaskRan, fate_answer, fate_event}
 use Rattle.sby_top.specs.Served.{ArePut, IsGot, jobs_in, most_design, most_stream, problem_of}
-use Rattle.sby_top.specs.Status.{IsStatusOf}
+use Rattle.sby_top.specs.Status.{IsStatusOf, status_for}
 use Rattle.sby_top.specs.Texts.{job_path}
 use Rattle.sby_top.specs.Words.{Request}
 use Rattle.sby_top.specs.World.{World}
 use Rattle.sby_top.specs.declared.outcome.Early.{Early}
 use Rattle.sby_top.specs.declared.outcome.TaskEnd.{TaskEnd}
 use Rattle.sby_top.proofs.ServeLemmas.{one_job_in}
-use Rattle.sby_top.proofs.StatusLemmas.{unsat_passes}
+use Rattle.sby_top.proofs.StatusLemmas.{answer_gives}
 
 -- the judge's laws
 abbrev pub OneFate : Type 0
@@ -48,23 +47,23 @@ one_put_stands p folder store now file put stands =
     let there : now (job_path folder Base) ≡ Some put.0 = ap (λ (s : Store). s (job_path folder Base)) is ∙ put_stands (job_path folder Base) put.0 store in
     subst (IsJobFile p Base) (one_some (now (job_path folder Base)) put.0 file there stands) put.1
 
-fate_is_found : OneFate → OneFile → (p : AskedOf) (folder : List ℕ) (store now : Store) (path stream file : List ℕ) (fates : List (Option Fate)) → ArePut p folder (Base ∷ []) (Some store) (Some now)
-    → now path ≡ Some stream → now (job_path folder Base) ≡ Some file → IsFate file stream most_stream (Found Unsat) → AreFates p now (Base ∷ []) (path ∷ []) fates → fates ≡ Some (Found Unsat) ∷ []
-fate_is_found one_fate one_file p folder store now path stream file [] put has stands valid fates_are = absurd fates_are
-fate_is_found one_fate one_file p folder store now path stream file (None ∷ fates) put has stands valid fates_are = absurd fates_are
-fate_is_found one_fate one_file p folder store now path stream file (Some fate ∷ fates) put has stands valid fates_are =
+fate_is_found : OneFate → OneFile → (p : AskedOf) (folder : List ℕ) (store now : Store) (path stream file : List ℕ) (answer : Answer) (fates : List (Option Fate)) → ArePut p folder (Base ∷ []) (Some store) (Some now)
+    → now path ≡ Some stream → now (job_path folder Base) ≡ Some file → IsFate file stream most_stream (Found answer) → AreFates p now (Base ∷ []) (path ∷ []) fates → fates ≡ Some (Found answer) ∷ []
+fate_is_found one_fate one_file p folder store now path stream file answer [] put has stands valid fates_are = absurd fates_are
+fate_is_found one_fate one_file p folder store now path stream file answer (None ∷ fates) put has stands valid fates_are = absurd fates_are
+fate_is_found one_fate one_file p folder store now path stream file answer (Some fate ∷ fates) put has stands valid fates_are =
     let told = fates_are.0 in
     let same_stream : told.0 ≡ stream = one_some (now path) told.0 stream told.2 has in
     let same_file : told.1 ≡ file = one_file p Base told.1 file told.3 (one_put_stands p folder store now file put stands) in
     let here : IsFate file stream most_stream fate = subst (λ s. IsFate file s most_stream fate) same_stream (subst (λ f. IsFate f told.0 most_stream fate) same_file told.4) in
-    let is : fate ≡ Found Unsat = one_fate file stream most_stream fate (Found Unsat) here valid in
+    let is : fate ≡ Found answer = one_fate file stream most_stream fate (Found answer) here valid in
     let none : fates ≡ [] = fates_are.1 in
-    ap (λ f. Some f ∷ fates) is ∙ ap (λ fs. Some (Found Unsat) ∷ fs) none
+    ap (λ f. Some f ∷ fates) is ∙ ap (λ fs. Some (Found answer) ∷ fs) none
 
-plain_passes : OneFate → OneFile → (store now : Store) (request : Request) (early : Option Early) (status : Status) (text path stream file : List ℕ) → request.mode ≡ Bmc
+plain_gives : OneFate → OneFile → (store now : Store) (request : Request) (early : Option Early) (status : Status) (text path stream file : List ℕ) (answer : Answer) → request.mode ≡ Bmc
     → IsGot (Some store) request.design most_design text → ((fault : ProblemFault) → IsProblemFault (problem_of request text) fault → ⊥) → request.streams ≡ path ∷ [] → now path ≡ Some stream
-    → now (job_path request.folder Base) ≡ Some file → IsFate file stream most_stream (Found Unsat) → IsPlainStatus store now request early status → status ≡ Pass
-plain_passes one_fate one_file store now request early status text path stream file bmc got accepted streams has stands valid plain = elim plain [
+    → now (job_path request.folder Base) ≡ Some file → IsFate file stream most_stream (Found answer) → IsPlainStatus store now request early status → status ≡ status_for answer
+plain_gives one_fate one_file store now request early status text path stream file answer bmc got accepted streams has stands valid plain = elim plain [
   | inl refused ↦ absurd (accepted refused.0 (subst (λ t. IsProblemFault (problem_of request t) refused.0) (one_text store request.design most_design refused.1.0 text refused.1.1 got) refused.1.2))
   | inr others ↦ elim others [
     | inl many ↦
@@ -75,15 +74,15 @@ plain_passes one_fate one_file store now request early status text path stream f
         let jobs : jobs_in p ≡ Base ∷ [] = one_job_in p (ap (λ q. q.mode) judged.2.asked ∙ bmc) in
         let put : ArePut p request.folder (Base ∷ []) (Some store) (Some now) = subst (λ js. ArePut p request.folder js (Some store) (Some now)) jobs judged.4 in
         let fates : AreFates p now (Base ∷ []) (path ∷ []) judged.1 = subst (λ js. AreFates p now js (path ∷ []) judged.1) jobs (subst (λ ps. AreFates p now (jobs_in p) ps judged.1) streams judged.5) in
-        let found : judged.1 ≡ Some (Found Unsat) ∷ [] = fate_is_found one_fate one_file p request.folder store now path stream file judged.1 put has stands valid fates in
+        let found : judged.1 ≡ Some (Found answer) ∷ [] = fate_is_found one_fate one_file p request.folder store now path stream file answer judged.1 put has stands valid fates in
         let s : IsStatusOf Bmc (map fate_answer judged.1) (map fate_event judged.1) status = subst (λ m. IsStatusOf m (map fate_answer judged.1) (map fate_event judged.1) status) bmc judged.7 in
-        unsat_passes status (subst (λ fs. IsStatusOf Bmc (map fate_answer fs) (map fate_event fs) status) found s)
+        answer_gives answer status (subst (λ fs. IsStatusOf Bmc (map fate_answer fs) (map fate_event fs) status) found s)
   ]
 ]
 
-pub passes : OneFate → OneFile → (before after : World) (request : Request) (end : TaskEnd) (exit : Exit) (store now : Store) (text path stream file : List ℕ)
+pub gives : OneFate → OneFile → (before after : World) (request : Request) (end : TaskEnd) (exit : Exit) (store now : Store) (text path stream file : List ℕ) (answer : Answer)
     → TaskRan before after request end exit → IsSmooth before after end → before.told ≡ Some store → after.told ≡ Some now → request.mode ≡ Bmc
     → IsGot (Some store) request.design most_design text → ((fault : ProblemFault) → IsProblemFault (problem_of request text) fault → ⊥)
-    → request.streams ≡ path ∷ [] → now path ≡ Some stream → now (job_path request.folder Base) ≡ Some file → IsFate file stream most_stream (Found Unsat) → end.status ≡ Pass
-passes one_fate one_file before after request end exit store now text path stream file ran smooth told_before told_after bmc got accepted streams has stands valid =
-    plain_passes one_fate one_file store now request end.early end.status text path stream file bmc got accepted streams has stands valid (ran.complete store now told_before told_after smooth)
+    → request.streams ≡ path ∷ [] → now path ≡ Some stream → now (job_path request.folder Base) ≡ Some file → IsFate file stream most_stream (Found answer) → end.status ≡ status_for answer
+gives one_fate one_file before after request end exit store now text path stream file answer ran smooth told_before told_after bmc got accepted streams has stands valid =
+    plain_gives one_fate one_file store now request end.early end.status text path stream file answer bmc got accepted streams has stands valid (ran.complete store now told_before told_after smooth)

@@ -4,6 +4,7 @@ pub mod WordsRequest
 pub mod WordsPlain
 pub mod TellLemmas
 pub mod StatusLemmas
+pub mod BrokenLemmas
 pub mod LineLemmas
 pub mod ServeLemmas
 pub mod JudgeLemmas

@@ -12,9 +12,10 @@ use Rattle.sby_top.specs.Askable.{IsAskable}
 use Rattle.judge.specs.Finding.{FindingOf}
 use Rattle.race_core.specs.Report.{ReportOf, no_events}
 use Rattle.race_core.specs.declared.end.JobEnd.{JobEnd}
+use Rattle.race_core.specs.declared.end.JobEnd.TheVariants.{Found, Unknown, NotServed, Bad, ReadFailed, StartFailed, HoldFailed, Skipped, CalledOff, Stopped, Memory as MemoryEnd}
 use Rattle.sby_top.specs.Came.{HasReason, IsDone}
 use Rattle.sby_top.specs.Steps.{got_items, AreLined, IsFailedCall, IsFirstGot, IsLined, IsRefusal, IsStreamJudged}
-use Rattle.sby_top.specs.Judged.{AreJudged, Has, IsFateEnd, IsReport}
+use Rattle.sby_top.specs.Judged.{AreJudged, Has, IsEndOf, IsFateEnd, IsReport}
 use Rattle.sby_top.specs.Served.{ArePut, IsAccepted, IsGot, IsServed, IsStored, jobs_in, most_design, most_stream, problem_of, with_file}
 use Rattle.sby_top.specs.Texts.{job_path}
 use Rattle.sby_top.specs.Words.{Request}
@@ -140,16 +141,29 @@ is_report p told paths report old end bmc empty is judged =
       ends = rw (one_job_in p bmc) judged;
     })
 
-stream_lined : (p : AskedOf) (job : JobName) (stream : Option (List ℕ)) (end : JobEnd FindingOf) → IsStreamJudged p job stream end → IsLined end
+judged_lined : (p : AskedOf) (job : JobName) (end : JobEnd FindingOf) → IsEndOf p job end → IsLined p job end
+judged_lined p job (Found f) of = of
+judged_lined p job Unknown of = tt
+judged_lined p job NotServed of = tt
+judged_lined p job (Bad number at) of = tt
+judged_lined p job ReadFailed of = tt
+judged_lined p job StartFailed of = tt
+judged_lined p job HoldFailed of = tt
+judged_lined p job (Skipped f) of = tt
+judged_lined p job (CalledOff f) of = tt
+judged_lined p job (Stopped reading) of = of
+judged_lined p job MemoryEnd of = tt
+
+stream_lined : (p : AskedOf) (job : JobName) (stream : Option (List ℕ)) (end : JobEnd FindingOf) → IsStreamJudged p job stream end → IsLined p job end
 stream_lined p job None end judged = rw judged tt
-stream_lined p job (Some bytes) end judged = judged.lined
+stream_lined p job (Some bytes) end judged = judged_lined p job end judged.of
 
 -- the one end has lines
-pub report_lined : (p : AskedOf) (job : JobName) (stream : Option (List ℕ)) (report old : ReportOf FindingOf) (end : JobEnd FindingOf) → old ≡ empty_report → report ≡ record old { ends = old.ends ++ end ∷ [] }
-    → IsStreamJudged p job stream end → AreLined report.ends
-report_lined p job stream report old end empty is judged =
+pub report_lined : (p : AskedOf) (stream : Option (List ℕ)) (report old : ReportOf FindingOf) (end : JobEnd FindingOf) → old ≡ empty_report → report ≡ record old { ends = old.ends ++ end ∷ [] }
+    → IsStreamJudged p Base stream end → AreLined p report.ends
+report_lined p stream report old end empty is judged =
     let one : report ≡ record empty_report { ends = end ∷ [] } = is ∙ ap {A = ReportOf FindingOf} (λ r. record r { ends = r.ends ++ end ∷ [] }) empty in
-    rw one (stream_lined p job stream end judged, tt)
+    rw one (stream_lined p Base stream end judged, tt)
 
 -- a file was put
 abbrev pub OnePut : AskedOf → List ℕ → Option Store → Option Store → Type 0

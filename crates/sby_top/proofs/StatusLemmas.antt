@@ -12,7 +12,7 @@ use Rattle.sby_terms.specs.declared.names.Status.{Status}
 use Rattle.sby_terms.specs.declared.names.Status.TheVariants.{Pass, Fail, Unknown, Error, Timeout, Memory}
 use Rattle.sby_terms.specs.declared.names.Verdict.{Verdict}
 use Rattle.sby_terms.specs.declared.names.Verdict.TheVariants.{Pass as PassVerdict, Fail as FailVerdict}
-use Rattle.sby_top.specs.Status.{AreDecided, IsStatusOf}
+use Rattle.sby_top.specs.Status.{AreDecided, IsStatusOf, status_for}
 
 undecided : (mode : Mode) (answers : List (Option Answer)) (given : Option Verdict) → given ≡ None → ((given ≡ Some PassVerdict) ↔ Decides mode answers PassVerdict)
     → ((given ≡ Some FailVerdict) ↔ Decides mode answers FailVerdict) → (verdict : Verdict) → Decides mode answers verdict → ⊥
@@ -98,11 +98,25 @@ pass_of events Error h = absurd h
 pass_of events Timeout h = absurd h
 pass_of events Memory h = absurd h
 
+fail_of : (events : List Event) (status : Status) → HasStatus (Some FailVerdict) events status → status ≡ Fail
+fail_of events Fail h = refl
+fail_of events Pass h = cc
+fail_of events Unknown h = absurd h
+fail_of events Error h = absurd h
+fail_of events Timeout h = absurd h
+fail_of events Memory h = absurd h
+
 unsat_decides : (verdict : Option Verdict) → AreDecided Bmc (Some Unsat ∷ []) verdict → verdict ≡ Some PassVerdict
 unsat_decides (Some PassVerdict) d = refl
 unsat_decides (Some FailVerdict) d = cc
 unsat_decides None d = absurd (d PassVerdict refl)
 
--- the answer Unsat gives PASS in bmc
-pub unsat_passes : {events : List Event} (status : Status) → IsStatusOf Bmc (Some Unsat ∷ []) events status → status ≡ Pass
-unsat_passes {events} status s = pass_of events status (subst (λ v. HasStatus v events status) (unsat_decides s.0 s.1) s.2)
+pub sat_decides : (verdict : Option Verdict) → AreDecided Bmc (Some Sat ∷ []) verdict → verdict ≡ Some FailVerdict
+sat_decides (Some FailVerdict) d = refl
+sat_decides (Some PassVerdict) d = cc
+sat_decides None d = absurd (d FailVerdict refl)
+
+-- the status that an answer gives in bmc
+pub answer_gives : {events : List Event} (answer : Answer) (status : Status) → IsStatusOf Bmc (Some answer ∷ []) events status → status ≡ status_for answer
+answer_gives {events} Unsat status s = pass_of events status (subst (λ v. HasStatus v events status) (unsat_decides s.0 s.1) s.2)
+answer_gives {events} Sat status s = fail_of events status (subst (λ v. HasStatus v events status) (sat_decides s.0 s.1) s.2)

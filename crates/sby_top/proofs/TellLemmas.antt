@@ -1,13 +1,13 @@
-use Rattle.std.proofs.Common.{◌≡◌, ℕ, ◌+◌, List, [], ◌++◌, refl, ap, ◌∙◌, sym, arith, take, drop, append_assoc, append-nil, length, length-append}
+use Rattle.std.proofs.Common.{◌≡◌, ℕ, ◌+◌, ◌<◌, ◌≤◌, List, [], ◌++◌, refl, ap, ◌∙◌, sym, arith, take, drop, append_assoc, append-nil, length, length-append}
 use Rattle.std.specs.Prelude.{Option, Some, None, Result, Ok, Err}
 use Rattle.std.specs.List.{concat}
 use Rattle.sby_top.specs.declared.tell.Stop.{Stop}
 use Rattle.sby_top.specs.declared.tell.Stop.TheVariants.{Memory, Sink}
 use Rattle.std.proofs.Math.Seq.{take-add, take-append-add}
-use Rattle.std.proofs.lemmas.List.{take-append-le}
+use Rattle.std.proofs.lemmas.List.{length-take-le, take-append-drop, take-append-le}
 use Rattle.std.proofs.lemmas.List.Folds.{concat-append}
 use Rattle.std.proofs.lemmas.Result.{on_ok_weaker}
-use Rattle.sby_top.specs.Telling.{Tells, grown}
+use Rattle.sby_top.specs.Telling.{GrownBySome, Tells, grown}
 
 pub grown-grown : (o : Option (List ℕ)) (a b : List ℕ) → grown (grown o a) b ≡ grown o (a ++ b)
 grown-grown None a b = refl
@@ -22,6 +22,18 @@ pub grown_more : (o m n : Option (List ℕ)) (at count : ℕ) (piece rest : List
 grown_more o m n at count piece rest is had got =
     got ∙ ap (λ r. grown m (take count r)) is ∙ ap (λ x. grown x (take count (drop at piece))) had
     ∙ grown-grown o (take at piece) (take count (drop at piece)) ∙ ap (grown o) (sym (take-add at count piece))
+
+-- a call took some of a piece that stands in a text
+pub grown_part : (o m n : Option (List ℕ)) (at count : ℕ) (text rest line : List ℕ) → rest ≡ drop at text → line ≡ take count rest → count ≤ length rest → at + count ≤ length text
+    → m ≡ grown o (take at text) → GrownBySome m n line → GrownBySome o n text
+grown_part o m n at count text rest line is front within fits had got =
+    let long : length line ≡ count = ap length front ∙ length-take-le count rest within in
+    let whole : line ++ drop count rest ≡ rest = ap (λ l. l ++ drop count rest) front ∙ take-append-drop count rest in
+    let same : take got.0 line ≡ take got.0 rest = sym (take-append-le got.0 line (drop count rest) got.1) ∙ ap (take got.0) whole in (
+      at + got.0,
+      omega (arith, long, got.1),
+      grown_more o m n at got.0 text rest is had (got.2 ∙ ap (grown m) same),
+    )
 
 -- lines were told, and then more
 pub tells_then : {T U : Type 0} (b m n : Option (List ℕ)) (f g h : ℕ) (first more : List (List ℕ)) (x : T) (r : Result U Stop) → Tells {T = T} b m f g first (Ok x) → Tells {T = U} m n g h more r → Tells {T = U} b n f h (first ++ more) r
@@ -45,6 +57,17 @@ tells_then {T} {U} b m n f g h first more x r p q = record {
           ∙ ap (grown b) (sym (take-append-add (concat first) (concat more) k.1.0) ∙ ap (take (length (concat first) + k.1.0)) (sym (concat-append first more))),
     ),
   );
+}
+
+-- memory was wanting before any line
+pub tells_nothing : {T : Type 0} (b : Option (List ℕ)) (f : ℕ) (lines : List (List ℕ)) → 0 < length lines → Tells {T = T} b b f f lines (Err Memory)
+tells_nothing {T} b f lines some = record {
+  later = omega arith;
+  whole = tt;
+  still = tt;
+  still_memory = λ e. refl;
+  memory = λ e. (0, some, sym (grown-nil b));
+  fault = λ e. let no : ⊥ = cc in absurd no;
 }
 
 -- telling stopped at the first lines

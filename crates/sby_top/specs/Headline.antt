@@ -1,16 +1,20 @@
 -- What is promised of a task that was run.
-use Rattle.std.specs.Prelude.{◌≡◌, ◌≢◌, ◌⊎◌, ℕ, ◌<◌, ◌≤◌, List, [], ◌∷◌, length, map, string_bytes, Option, Some, None}
+use Rattle.std.specs.Prelude.{◌≡◌, ◌≢◌, ◌⊎◌, ℕ, ◌<◌, ◌≤◌, List, [], ◌∷◌, ◌++◌, length, map, slice_get, string_bytes, Option, Some, None}
 use Rattle.std.specs.List.{concat}
 use Rattle.sby_edge.specs.Cause.{Rose}
 use Rattle.sby_edge.specs.Files.{Store}
 use Rattle.frame_cnf.specs.Jobs.{Solvable}
 use Rattle.judge.specs.Fate.{Fate, IsFate, Found, Unknown, Bad}
-use Rattle.judge.specs.Problem.{AskedOf, IsJobFile}
+use Rattle.judge.specs.Finding.{FindingOf}
+use Rattle.judge.specs.Problem.{AskedOf, IsJobFile, jobs_of}
 use Rattle.judge.specs.declared.problem.ProblemFault.{ProblemFault}
 use Rattle.judge.specs.declared.problem.ProblemFault.TheVariants.{Read as ReadFault, Design as DesignFault, TooMany as TooManyFault}
-use Rattle.rtlil_design.specs.Claims.{NeverBreak, NoBreak}
+use Rattle.race_core.specs.Report.{ReportOf}
+use Rattle.rtlil_design.specs.Claims.{NeverBreak, NoBreak, Shows}
 use Rattle.rtlil_design.specs.Faults.{IsFlat}
-use Rattle.rtlil_design.specs.Shape.{DesignOf}
+use Rattle.rtlil_design.specs.Meaning.{asserts}
+use Rattle.rtlil_design.specs.Runs.{CycleOf, IsRunOf, shown_of, valuations}
+use Rattle.rtlil_design.specs.Shape.{CellOf, DesignOf}
 use Rattle.rtlil_reader.specs.Grammar.{Reads}
 use Rattle.sby_terms.specs.Code.{HasCode}
 use Rattle.sby_terms.specs.declared.names.Answer.{Answer}
@@ -22,6 +26,7 @@ use Rattle.sby_terms.specs.declared.names.Mode.{Mode}
 use Rattle.sby_terms.specs.declared.names.Mode.TheVariants.{Bmc, Prove, Cover}
 use Rattle.sby_terms.specs.declared.names.Status.{Status}
 use Rattle.sby_terms.specs.declared.names.Status.TheVariants.{Pass, Fail, Error, Memory}
+use Rattle.sby_top.specs.Broken.{AreLinesOf, CarriesRun, IsFirstBroken, broken_line, last_of}
 use Rattle.sby_top.specs.Came.{Came}
 use Rattle.sby_top.specs.Lines.{HasLines}
 use Rattle.sby_top.specs.Served.{ArePut, IsAccepted, IsGot, IsRefused, IsStored, jobs_in, most_design, most_stream}
@@ -32,6 +37,7 @@ use Rattle.sby_top.specs.World.{World}
 use Rattle.sby_top.specs.declared.outcome.Early.{Early}
 use Rattle.sby_top.specs.declared.outcome.Early.TheVariants.{Read, Design, TooMany, Streams}
 use Rattle.sby_top.specs.declared.outcome.TaskEnd.{TaskEnd}
+use Rattle.trace_text.specs.Trace.{trace}
 
 -- What PASS says of a design at depth n: in bmc no run of at most n cycles breaks an assertion, in prove no run of any length does.
 -- Cover isn't served yet.
@@ -40,12 +46,39 @@ PassClaim Bmc d n = NoBreak d n
 PassClaim Prove d n = NeverBreak d
 PassClaim Cover d n = ⊥
 
--- What FAIL says: in bmc and prove some run of at most n cycles breaks an assertion. No stream comes to it yet, and its run's lines
--- come with the runs.
-abbrev pub FailClaim : Mode → DesignOf → ℕ → Type 0
-FailClaim Bmc d n = Solvable d Base n
-FailClaim Prove d n = Solvable d Base n
-FailClaim Cover d n = ⊥
+-- a task that came to this end has these lines
+abbrev pub AreLines : Request → TaskEnd → List (List ℕ) → Type 0
+AreLines request end lines = HasLines request.mode request.folder end.text.items end.early end.reports.items lines
+
+-- the one report of a task carries this run, in its finding for Base
+abbrev pub IsCarried : Mode → DesignOf → List (ReportOf FindingOf) → List CycleOf → Type 0
+IsCarried mode d reports run = (report : ReportOf FindingOf) × (reports ≡ report ∷ []) × CarriesRun (jobs_of mode d) report.ends run
+
+-- somewhere in the lines stands that of the broken assertion, then the trace of the run, then the last
+abbrev pub ArePrintedOf : DesignOf → List ℕ → CellOf → List CycleOf → List (List ℕ) → Type 0
+ArePrintedOf d name cell run lines =
+    (front : List (List ℕ)) × (traced : List (List ℕ)) × (last : List ℕ) × AreLinesOf (trace d (shown_of run)) traced
+    × (lines ≡ front ++ broken_line name cell run ∷ (traced ++ last ∷ []))
+
+-- The run by which a task fails at depth n: the report carries it; it has at most n cycles, all assumed; its last breaks an assertion,
+-- the first in the file of those that it breaks; and whatever lines the task has, they name that assertion and show that run.
+pub record IsShown (request : Request) (end : TaskEnd) (d : DesignOf) (n : ℕ) : Type 0 where
+  pub run : List CycleOf
+  pub assertion : ℕ
+  pub cell : CellOf
+  pub carried : IsCarried request.mode d end.reports.items run
+  pub rows : IsRunOf d run
+  pub within : length run ≤ n
+  pub shows : Shows d (length run) (valuations d run) assertion
+  pub first : IsFirstBroken d (last_of d run) assertion
+  pub is_cell : slice_get (asserts d) assertion ≡ Some cell
+  pub printed : (lines : List (List ℕ)) → AreLines request end lines → ArePrintedOf d request.folder cell run lines
+
+-- what FAIL says at depth n: in bmc it shows a run that breaks an assertion, in prove there is one
+abbrev pub FailClaim : Mode → Request → TaskEnd → DesignOf → ℕ → Type 0
+FailClaim Bmc request end d n = IsShown request end d n
+FailClaim Prove request end d n = Solvable d Base n
+FailClaim Cover request end d n = ⊥
 
 -- the text that the design's path gave reads a flat design of which the claim is true
 abbrev pub IsTrueOf : Option Store → Request → List ℕ → (DesignOf → ℕ → Type 0) → Type 0
@@ -64,10 +97,6 @@ pub record NamesEvent (before after : World) (request : Request) (end : TaskEnd)
 pub data Exit : Type 0 where
   Code : ℕ → Exit
   Cut : Exit
-
--- a task that came to this end has these lines
-abbrev pub AreLines : Request → TaskEnd → List (List ℕ) → Type 0
-AreLines request end lines = HasLines request.mode request.folder end.text.items end.early end.reports.items lines
 
 -- its status is the one that its ends give
 abbrev pub HasOwnStatus : Request → TaskEnd → Type 0
@@ -149,7 +178,7 @@ pub record IsLater (before after : World) : Type 0 where
 -- a task was run, from one moment to another
 pub record TaskRan (before after : World) (request : Request) (end : TaskEnd) (exit : Exit) : Type 0 where
   pub pass : end.status ≡ Pass → IsTrueOf before.told request end.text.items (PassClaim request.mode)
-  pub fail : end.status ≡ Fail → IsTrueOf before.told request end.text.items (FailClaim request.mode)
+  pub fail : end.status ≡ Fail → IsTrueOf before.told request end.text.items (FailClaim request.mode request end)
   pub named : NamesEvent before after request end
   pub printed : IsPrinted before.taken after.taken before.sink_faults after.sink_faults request end exit
   pub stored : IsStored request before.told after.told

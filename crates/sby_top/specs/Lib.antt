@@ -3,6 +3,7 @@ pub mod Askable
 pub mod World
 pub mod Texts
 pub mod Counts
+pub mod Broken
 pub mod Lines
 pub mod Telling
 pub mod Status

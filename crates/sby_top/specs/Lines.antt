@@ -7,6 +7,7 @@ use Rattle.judge.specs.declared.stream.CertKind.TheVariants.{BadLine, BadLiteral
 use Rattle.race_core.specs.Report.{ReportOf}
 use Rattle.race_core.specs.declared.end.JobEnd.{JobEnd}
 use Rattle.race_core.specs.declared.end.JobEnd.TheVariants.{Found, Unknown, NotServed, Bad, ReadFailed, StartFailed, HoldFailed, Skipped, CalledOff, Stopped, Memory as MemoryEnd}
+use Rattle.rtlil_design.specs.Runs.{CycleOf}
 use Rattle.rtlil_design.specs.Shape.{DesignOf}
 use Rattle.rtlil_reader.specs.Grammar.{Reads}
 use Rattle.sby_terms.specs.Code.{HasCode}
@@ -15,8 +16,10 @@ use Rattle.sby_terms.specs.declared.names.JobName.{JobName}
 use Rattle.sby_terms.specs.declared.names.Mode.{Mode}
 use Rattle.sby_terms.specs.declared.names.Mode.TheVariants.{Bmc, Prove, Cover}
 use Rattle.sby_terms.specs.declared.names.Status.{Status}
-use Rattle.sby_terms.specs.declared.names.Status.TheVariants.{Pass, Fail, Timeout}
+use Rattle.sby_terms.specs.declared.names.Status.TheVariants.{Pass, Timeout}
 use Rattle.sby_terms.specs.declared.names.Verdict.{Verdict}
+use Rattle.sby_terms.specs.declared.names.Verdict.TheVariants.{Pass as PassVerdict, Fail as FailVerdict}
+use Rattle.sby_top.specs.Broken.{CarriesRun, HasBrokenLines}
 use Rattle.sby_top.specs.Counts.{counts_of}
 use Rattle.sby_top.specs.Status.{AreDecided, IsStatus, answer_of}
 use Rattle.sby_top.specs.Texts.{answer_text, cert_kind_text, cert_text, design_kind_text, design_text, done_text, fault_text, file_text, hold_failed_text, job_text, lane_text, line_of, memory_text, not_served_text, read_failed_text, read_kind_text, read_text, settled_text, start_failed_text, status_text, streams_text, too_many_text, unknown_text}
@@ -83,13 +86,20 @@ abbrev pub unless_decided : Option Verdict → List (List ℕ) → List (List �
 unless_decided None lines = lines
 unless_decided (Some verdict) lines = []
 
--- The lines of a design and its jobs in bmc: those of the design that the text reads, of the settled jobs, and, without a verdict,
--- of the unsettled jobs. Prove and cover aren't served yet.
+-- FAIL has the lines of the run that the finding for Base carries; PASS has none, nor is there a run without a verdict
+abbrev pub HasVerdictLines : DesignOf → List ℕ → List (JobEnd FindingOf) → Option Verdict → List (List ℕ) → Type 0
+HasVerdictLines d name ends (Some FailVerdict) lines = (run : List CycleOf) × CarriesRun (jobs_of Bmc d) ends run × HasBrokenLines d name run lines
+HasVerdictLines d name ends (Some PassVerdict) lines = lines ≡ []
+HasVerdictLines d name ends None lines = lines ≡ []
+
+-- The lines of a design and its jobs in bmc: those of the design that the text reads, of the settled jobs, without a verdict of the
+-- unsettled jobs, and of the run where it is FAIL. Prove and cover aren't served yet.
 abbrev pub HasJobLines : Mode → List ℕ → List ℕ → ReportOf FindingOf → List (List ℕ) → Type 0
 HasJobLines Bmc name text report body =
-    (d : DesignOf) × (verdict : Option Verdict) × Reads text d × AreDecided Bmc (map answer_of report.ends) verdict
+    (d : DesignOf) × (verdict : Option Verdict) × (shown : List (List ℕ)) × Reads text d × AreDecided Bmc (map answer_of report.ends) verdict
+    × HasVerdictLines d name report.ends verdict shown
     × (body ≡ line_of name (design_text (counts_of d)) ∷ settled_lines name (jobs_of Bmc d) report.ends
-    ++ unless_decided verdict (lane_lines name report.lane (jobs_of Bmc d) report.ends))
+    ++ unless_decided verdict (lane_lines name report.lane (jobs_of Bmc d) report.ends) ++ shown)
 HasJobLines Prove name text report body = ⊥
 HasJobLines Cover name text report body = ⊥
 
@@ -104,14 +114,14 @@ HasBody mode name text None (report ∷ other ∷ reports) body = ⊥
 abbrev pub done_line : List ℕ → Status → ℕ → List ℕ
 done_line name status rc = line_of name (done_text (status_text status) rc)
 
--- All lines of a task. They go by the status that its ends give, also where MEMORY stands in place of it. That is neither FAIL, whose
--- run has lines of its own, nor TIMEOUT, which has one: these aren't served yet.
+-- All lines of a task. They go by the status that its ends give, also where MEMORY stands in place of it. That isn't TIMEOUT, which has
+-- a line of its own: it isn't served yet.
 pub record HasLines (mode : Mode) (name text : List ℕ) (early : Option Early) (reports : List (ReportOf FindingOf)) (lines : List (List ℕ)) : Type 0 where
   pub status : Status
   pub rc : ℕ
   pub body : List (List ℕ)
   pub is_status : IsStatus mode early reports status
   pub is_rc : HasCode (Pass ∷ []) status rc
-  pub is_served : (status ≢ Fail) × (status ≢ Timeout)
+  pub is_served : status ≢ Timeout
   pub is_body : HasBody mode name text early reports body
   pub all : lines ≡ body ++ done_line name status rc ∷ []

@@ -7,11 +7,12 @@ use Rattle.race_core.specs.declared.end.JobEnd.TheVariants.{Found, Unknown as Un
 use Rattle.sby_terms.specs.Decide.{Decides}
 use Rattle.sby_terms.specs.Status.{HasStatus}
 use Rattle.sby_terms.specs.declared.names.Answer.{Answer}
+use Rattle.sby_terms.specs.declared.names.Answer.TheVariants.{Sat, Unsat}
 use Rattle.sby_terms.specs.declared.names.Event.{Event}
 use Rattle.sby_terms.specs.declared.names.Event.TheVariants.{Quiet, Fault, Stopped as StoppedEvent, Memory as MemoryEvent}
 use Rattle.sby_terms.specs.declared.names.Mode.{Mode}
 use Rattle.sby_terms.specs.declared.names.Status.{Status}
-use Rattle.sby_terms.specs.declared.names.Status.TheVariants.{Error, Memory}
+use Rattle.sby_terms.specs.declared.names.Status.TheVariants.{Pass, Fail, Error, Memory}
 use Rattle.sby_terms.specs.declared.names.Verdict.{Verdict}
 use Rattle.sby_top.specs.declared.outcome.Early.{Early}
 use Rattle.sby_top.specs.declared.outcome.Early.TheVariants.{File, Read, Design, TooMany, Streams, Memory as MemoryEarly}
@@ -43,6 +44,11 @@ event_of (Skipped f) = Quiet
 event_of (CalledOff f) = Quiet
 event_of (StoppedEnd reading) = StoppedEvent
 event_of MemoryEnd = MemoryEvent
+
+-- the status that the answer to the one job of bmc gives
+abbrev pub status_for : Answer → Status
+status_for Unsat = Pass
+status_for Sat = Fail
 
 -- the answers decide this verdict, or none
 abbrev pub AreDecided : Mode → List (Option Answer) → Option Verdict → Type 0

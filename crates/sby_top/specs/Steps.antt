@@ -1,5 +1,5 @@
 -- What the steps of a task answer, for the contracts of private functions.
-use Rattle.std.specs.Prelude.{◌≡◌, ℕ, ◌+◌, List, [], ◌∷◌, ◌++◌, take, string_bytes, Option, Some, None, MatchOption, Result, Ok, Err}
+use Rattle.std.specs.Prelude.{◌≡◌, ℕ, ◌+◌, ◌<◌, List, [], ◌∷◌, ◌++◌, length, take, string_bytes, Option, Some, None, MatchOption, Result, Ok, Err}
 use Rattle.sby_edge.specs.Cause.{Rose}
 use Rattle.sby_edge.specs.Files.{Store}
 use Rattle.sby_edge.specs.declared.outside.Got.{Got}
@@ -16,11 +16,14 @@ use Rattle.judge.specs.declared.problem.ProblemFault.TheVariants.{Read as ReadFa
 use Rattle.judge.specs.declared.stream.BadCert.{BadCert}
 use Rattle.race_core.specs.declared.end.JobEnd.{JobEnd}
 use Rattle.race_core.specs.declared.end.JobEnd.TheVariants.{Found, Unknown, NotServed, Bad, Stopped}
+use Rattle.rtlil_design.specs.Meaning.{Broken}
+use Rattle.rtlil_design.specs.Runs.{CycleOf, IsRunOf}
+use Rattle.rtlil_design.specs.Shape.{DesignOf}
 use Rattle.sby_terms.specs.Problem.{ProblemOf}
-use Rattle.sby_terms.specs.declared.names.Answer.TheVariants.{Unsat}
 use Rattle.sby_terms.specs.declared.names.JobName.{JobName}
 use Rattle.sby_terms.specs.declared.names.JobName.TheVariants.{Base}
-use Rattle.sby_top.specs.Judged.{IsEndOf, IsFateEnd}
+use Rattle.sby_top.specs.Broken.{HasBrokenLines, last_of}
+use Rattle.sby_top.specs.Judged.{IsEndOf, IsFateEnd, IsFindingOf}
 use Rattle.sby_top.specs.Lines.{end_text, lane_line, settled_line}
 use Rattle.sby_top.specs.Served.{IsGot, most_stream}
 use Rattle.sby_top.specs.Status.{answer_of}
@@ -64,25 +67,35 @@ abbrev pub IsTrueEnd : JobEnd FindingOf → Type 0
 IsTrueEnd (Found f) = IsTrueFinding f
 IsTrueEnd _ = Unit {0}
 
--- a finding, if there is one, is Unsat, which is all that streams come to so far
-abbrev pub IsUnsatOnly : Result Progress BadCert → Type 0
-IsUnsatOnly (Ok (Done f)) = f.answer ≡ Unsat
-IsUnsatOnly _ = Unit {0}
+-- an end whose lines are served: its finding, if it is one, is true and of this problem and job, and it is no stop
+abbrev pub IsLined : AskedOf → JobName → JobEnd FindingOf → Type 0
+IsLined p job (Found f) = IsFindingOf p job f
+IsLined p job (Stopped reading) = ⊥
+IsLined p job _ = Unit {0}
 
--- an end whose lines are served: it is no finding that is Sat, and no stop
-abbrev pub IsLined : JobEnd FindingOf → Type 0
-IsLined (Found f) = f.answer ≡ Unsat
-IsLined (Stopped reading) = ⊥
-IsLined _ = Unit {0}
+-- of the one job Base
+abbrev pub AreLined : AskedOf → List (JobEnd FindingOf) → Type 0
+AreLined p [] = Unit {0}
+AreLined p (end ∷ ends) = IsLined p Base end × AreLined p ends
 
-abbrev pub AreLined : List (JobEnd FindingOf) → Type 0
-AreLined [] = Unit {0}
-AreLined (end ∷ ends) = IsLined end × AreLined ends
+-- a run of this design's lengths, whose last cycle breaks an assertion
+pub record Breaks (d : DesignOf) (run : List CycleOf) : Type 0 where
+  pub rows : IsRunOf d run
+  pub some : 0 < length run
+  pub broken : (a : ℕ) × Broken d (last_of d run) a
+
+-- the lines of the run that an end carries, if it carries one
+abbrev pub HasShownLines : DesignOf → List ℕ → Option (List CycleOf) → List (List ℕ) → Type 0
+HasShownLines d name None lines = lines ≡ []
+HasShownLines d name (Some run) lines = HasBrokenLines d name run lines
+
+abbrev pub HasEndLines : DesignOf → List ℕ → JobEnd FindingOf → List (List ℕ) → Type 0
+HasEndLines d name (Found f) lines = HasShownLines d name f.run lines
+HasEndLines d name _ lines = lines ≡ []
 
 -- a judge was fed these bytes as its whole stream, or as one that goes on past what it takes
 pub record WasFed (j : JudgeOf) (bytes : List ℕ) (r : Result Progress BadCert) : Type 0 where
   pub finds : Finds j r
-  pub unsat : (file : List ℕ) → IsJobFile j.asked j.job file → IsUnsatOnly r
   pub fate : (file stream : List ℕ) → IsJobFile j.asked j.job file → bytes ≡ take (j.most + 1) stream → MatchOption (fate_told r) ⊥ (IsFate file stream j.most)
 
 -- the end of a job whose stream came to this
@@ -95,7 +108,6 @@ end_of (Err bad) = Bad (number_of bad.kind) bad.at
 -- these bytes were judged: as the whole stream, or as one that is cut behind `most_stream + 1` bytes
 pub record IsBytesJudged (p : AskedOf) (job : JobName) (bytes : List ℕ) (end : JobEnd FindingOf) : Type 0 where
   pub of : IsEndOf p job end
-  pub lined : IsLined end
   pub fate : (file stream : List ℕ) → IsJobFile p job file → bytes ≡ take (most_stream + 1) stream → IsFateEnd file stream end
 
 -- a job's stream was judged, or it has none
@@ -103,7 +115,7 @@ abbrev pub IsStreamJudged : AskedOf → JobName → Option (List ℕ) → JobEnd
 IsStreamJudged p job None end = end ≡ NotServed
 IsStreamJudged p job (Some bytes) end = IsBytesJudged p job bytes end
 
--- the lines before the last of a task with the one job Base, which a lane ended so
+-- the lines of a design and of its one job Base, which a lane ended so
 abbrev pub one_job_body : List ℕ → Counts → ℕ → JobEnd FindingOf → List (List ℕ)
 one_job_body name counts lane end =
     line_of name (design_text counts) ∷ (settled_line name Base (answer_of end) ++ lane_line name lane Base (end_text end))

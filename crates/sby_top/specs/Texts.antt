@@ -122,6 +122,9 @@ hold_failed_text = codes "hold failed"
 unfoldable pub memory_text : List ℕ
 memory_text = codes "out of memory"
 
+unfoldable pub broken_text : List ℕ → ℕ → List ℕ
+broken_text name cycle = codes "broken: " ++ name ++ codes " at cycle " ++ decimal cycle
+
 unfoldable pub done_text : List ℕ → ℕ → List ℕ
 done_text status rc = codes "DONE (" ++ status ++ codes ", rc=" ++ decimal rc ++ codes ")"
 

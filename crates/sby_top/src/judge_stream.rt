@@ -61,8 +61,6 @@ fn judge_bytes(
     requires { IsJob problem.now job }
     ensures { IfOk result (λ end. IsBytesJudged problem.now job bytes.now end) }
 {
-    // The job has a file.
-    let _ = problem.job_bytes(job);
     let mut judge = Judge::new(alloc, problem, job, StreamKind::Drup, MOST_STREAM)?;
     let answer = feed_all(&mut judge, bytes)?;
     Ok(end_of(answer))

@@ -1,32 +1,56 @@
 // Laws of what is promised.
 
-ghost use Rattle.std.specs.Prelude.{◌≡◌, [], ◌∷◌, ℕ, List, Some};
+ghost use Rattle.std.specs.Prelude.{◌≡◌, ◌⊎◌, ◌<◌, ◌≤◌, [], ◌∷◌, ◌++◌, ℕ, true, List, length, Some};
+ghost use Rattle.cert_wire.specs.Text.{is_blank};
+ghost use Rattle.judge.specs.Cert.{IsCert};
 ghost use Rattle.judge.specs.Fate.{Found, IsFate};
 ghost use Rattle.judge.specs.Fault.{IsProblemFault};
 ghost use Rattle.judge.specs.declared.problem.ProblemFault.{ProblemFault};
 ghost use Rattle.sby_edge.specs.Files.{Store};
-ghost use Rattle.sby_terms.specs.declared.names.Answer.TheVariants.{Unsat};
+ghost use Rattle.sby_terms.specs.declared.names.Answer.{Answer};
 ghost use Rattle.sby_terms.specs.declared.names.JobName.TheVariants.{Base};
 ghost use Rattle.sby_terms.specs.declared.names.Mode.TheVariants.{Bmc};
-ghost use Rattle.sby_terms.specs.declared.names.Status.TheVariants.{Pass};
 ghost use Rattle.sby_top.specs.Headline.{Exit, IsSmooth, TaskRan};
 ghost use Rattle.sby_top.specs.Served.{IsGot, most_design, most_stream, problem_of};
+ghost use Rattle.sby_top.specs.Status.{status_for};
 ghost use Rattle.sby_top.specs.Texts.{job_path};
 ghost use Rattle.sby_top.specs.Words.{Request};
 ghost use Rattle.sby_top.specs.World.{World};
 ghost use Rattle.sby_top.specs.declared.outcome.TaskEnd.{TaskEnd};
 
-use judge::{one_fate, one_file};
+use judge::{certificate_is_found, certificate_is_found_before_more, one_fate, one_file};
 
-/// A valid certificate gives PASS: over a store that tells, where no call failed and memory was not wanting, where the design's text
-/// is not refused, and the one stream is a certificate for Unsat of the job's file as it stands.
-pub fn valid_certificate_passes()
-    ensures { (before after : World) (request : Request) (end : TaskEnd) (exit : Exit) (store now : Store) (text path stream file : List ℕ)
+/// A valid certificate gives its verdict, PASS for Unsat and FAIL for Sat: over a store that tells, where no call failed and memory was
+/// not wanting, where the design's text is not refused, and the one stream is a certificate for this answer of the job's file as it
+/// stands.
+pub fn valid_certificate_gives_its_verdict()
+    ensures { (before after : World) (request : Request) (end : TaskEnd) (exit : Exit) (store now : Store) (text path stream file : List ℕ) (answer : Answer)
         → TaskRan before after request end exit → IsSmooth before after end → before.told ≡ Some store → after.told ≡ Some now → request.mode ≡ Bmc
         → IsGot (Some store) request.design most_design text → ((fault : ProblemFault) → IsProblemFault (problem_of request text) fault → ⊥)
         → request.streams ≡ path ∷ [] → now path ≡ Some stream → now (job_path request.folder Base) ≡ Some file
-        → IsFate file stream most_stream (Found Unsat) → end.status ≡ Pass }
+        → IsFate file stream most_stream (Found answer) → end.status ≡ status_for answer }
 {
     one_fate();
     one_file();
+}
+
+/// A stored certificate gives its verdict: over a store that tells, where no call failed and memory was not wanting, where the design's
+/// text is not refused, and the one stream is a certificate of the job's file as it stands, of at most 2^32 bytes; or where it goes on
+/// behind one, with white space or a line feed within these bytes and whatever comes then.
+pub fn stored_certificate_gives_its_verdict()
+    ensures alone { (before after : World) (request : Request) (end : TaskEnd) (exit : Exit) (store now : Store) (text path cert file : List ℕ) (answer : Answer)
+        → TaskRan before after request end exit → IsSmooth before after end → before.told ≡ Some store → after.told ≡ Some now → request.mode ≡ Bmc
+        → IsGot (Some store) request.design most_design text → ((fault : ProblemFault) → IsProblemFault (problem_of request text) fault → ⊥)
+        → request.streams ≡ path ∷ [] → now path ≡ Some cert → now (job_path request.folder Base) ≡ Some file
+        → IsCert file cert answer → length cert ≤ most_stream → end.status ≡ status_for answer }
+    ensures followed { (before after : World) (request : Request) (end : TaskEnd) (exit : Exit) (store now : Store) (text path cert rest file : List ℕ) (b : ℕ) (answer : Answer)
+        → TaskRan before after request end exit → IsSmooth before after end → before.told ≡ Some store → after.told ≡ Some now → request.mode ≡ Bmc
+        → IsGot (Some store) request.design most_design text → ((fault : ProblemFault) → IsProblemFault (problem_of request text) fault → ⊥)
+        → request.streams ≡ path ∷ [] → now path ≡ Some (cert ++ b ∷ rest) → now (job_path request.folder Base) ≡ Some file
+        → IsCert file cert answer → (is_blank b ≡ true) ⊎ (b ≡ 10) → length cert < most_stream → end.status ≡ status_for answer }
+{
+    one_fate();
+    one_file();
+    certificate_is_found();
+    certificate_is_found_before_more();
 }

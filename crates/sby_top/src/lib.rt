@@ -10,16 +10,12 @@ mod run;
 mod serve;
 mod status;
 mod tell;
+mod tell_run;
 mod tell_task;
 mod text;
 mod words;
 
-pub use laws::valid_certificate_passes;
+pub use laws::{stored_certificate_gives_its_verdict, valid_certificate_gives_its_verdict};
 pub use outcome::{Done, Early, TaskEnd};
 pub use run::run_sby;
 pub use words::{Asked, asked_of, plain_words_are_asked, words_have_one_request};
-
-#[cfg(test)]
-mod cell_tests;
-#[cfg(test)]
-mod tests;

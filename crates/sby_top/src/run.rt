@@ -1,13 +1,11 @@
 // The top call.
 
 ghost use Rattle.std.specs.Prelude.{◌≡◌, ◌⊎◌, ◌≤◌, [], ◌∷◌, IfOk, None, Some, length, map, string_bytes, vec_capacity};
-ghost use Rattle.rtlil_design.specs.Shape.{DesignOf};
-ghost use Rattle.rtlil_reader.specs.Grammar.{Reads};
+ghost use Rattle.judge.specs.Problem.{IsProblem};
 ghost use Rattle.sby_edge.specs.Cause.{Rose};
 ghost use Rattle.sby_terms.specs.declared.names.Mode.TheVariants.{Bmc};
 ghost use Rattle.sby_terms.specs.declared.names.Status.TheVariants.{Pass};
 ghost use Rattle.sby_top.specs.Askable.{IsAskable};
-ghost use Rattle.sby_top.specs.Counts.{counts_of};
 ghost use Rattle.sby_top.specs.End.{IsEnd, IsPrintedAs, IsRoom, ended};
 ghost use Rattle.sby_top.specs.Headline.{Exit, TaskRan};
 ghost use Rattle.sby_top.specs.Run.{Did, IsDoneAs, rc_of_exit};
@@ -105,20 +103,16 @@ fn finish_served<S: Sink>(
     requires name { string_bytes name ≡ asked.now.folder }
     requires mode { asked.now.mode ≡ Bmc }
     requires expect { expect.now ≡ Pass ∷ [] }
-    requires counts { (d : DesignOf) × Reads served.text.items d × (served.counts ≡ counts_of d) }
     requires one { length served.report.ends ≡ 1 }
-    requires lined { AreLined served.report.ends }
+    requires problem { IsProblem served.problem }
+    requires lined { AreLined served.problem served.report.ends }
     requires none { reports.items ≡ [] }
     requires room { 1 ≤ vec_capacity reports }
-    ensures end { IsEnd asked.now None served.text.items (served.report ∷ []) result.0 }
+    ensures end { IsEnd asked.now None served.problem.problem.text (served.report ∷ []) result.0 }
     ensures printed { IsPrintedAs (S.taken out.old) (S.taken out.new) (S.faults out.old) (S.faults out.new) asked.now result.0 result.1 }
     ensures later { S.faults out.old ≤ S.faults out.new }
 {
-    let Served {
-        text,
-        counts,
-        report,
-    } = served;
+    let Served { problem, report } = served;
     let ends = report.ends();
     let end = &ends[0];
     let decided = end_status(asked.mode, end);
@@ -127,7 +121,7 @@ fn finish_served<S: Sink>(
         alloc,
         out,
         name.as_str(),
-        &counts,
+        &problem,
         report.lane(),
         end,
         decided,
@@ -143,7 +137,7 @@ fn finish_served<S: Sink>(
         start: None,
         reports,
         unput: Vec::new(alloc),
-        text,
+        text: problem.into_text(),
     };
     (end, rc)
 }

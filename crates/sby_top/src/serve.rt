@@ -3,13 +3,10 @@
 ghost use Rattle.std.specs.Prelude.{◌≡◌, ◌⊎◌, ◌≤◌, [], ◌∷◌, ℕ, List, IfErr, IfOk, OnErr, OnOk, Contains, map, option_map, replicate, string_bytes};
 ghost use Rattle.judge.specs.Problem.{IsJobFile, IsProblem};
 ghost use Rattle.race_core.specs.Report.{no_events};
-ghost use Rattle.rtlil_design.specs.Shape.{DesignOf};
-ghost use Rattle.rtlil_reader.specs.Grammar.{Reads};
 ghost use Rattle.sby_terms.specs.declared.names.Mode.TheVariants.{Bmc};
 ghost use Rattle.sby_terms.specs.declared.names.JobName.TheVariants.{Base};
 ghost use Rattle.sby_top.specs.Came.{HasReason, IsDone};
 ghost use Rattle.sby_top.specs.Steps.{got_items, AreLined, IsFailedCall, IsFirstGot, IsRefusal};
-ghost use Rattle.sby_top.specs.Counts.{counts_of};
 ghost use Rattle.sby_top.specs.Served.{IsGot, IsServed, IsStored, problem_of, with_file};
 ghost use Rattle.sby_edge.specs.Files.{put_at};
 ghost use Rattle.sby_top.specs.Headline.{early_of};
@@ -18,7 +15,6 @@ ghost use Rattle.sby_terms.specs.Problem.{ProblemOf};
 ghost use Rattle.sby_top.specs.Texts.{job_path};
 ghost use Rattle.sby_top.specs.Askable.{IsAskable};
 
-use crate::counts::{Counts, counts_of};
 use crate::judge_stream::judge_job;
 use crate::outcome::Early;
 use crate::text;
@@ -36,8 +32,7 @@ const MOST_STREAM: u64 = 1 << 32;
 /// A task whose design was accepted and whose streams were judged.
 #[derive(Drop)]
 pub struct Served {
-    pub text: Vec<u8>,
-    pub counts: Counts,
+    pub problem: Problem,
     pub report: Report<Finding>,
 }
 
@@ -184,10 +179,10 @@ fn judge_problem<F: Files>(
     requires askable { IsAskable asked.now }
     requires served { IsServed (F.told files.old) asked.now problem }
     requires report { report ≡ record { lane = 0; jobs = 1; ends = []; events = replicate 1 no_events } }
-    ensures ok { IfOk result (λ s. IsDone asked.now (F.told files.old) (F.told files.new) s.text.items s.report
-        × ((d : DesignOf) × Reads s.text.items d × (s.counts ≡ counts_of d))) }
+    ensures ok { IfOk result (λ s. IsDone asked.now (F.told files.old) (F.told files.new) s.problem.problem.text s.report) }
     ensures err { IfErr result (HasReason asked.now (F.told files.old) (F.told files.new) (F.faults files.old) (F.faults files.new)) }
-    ensures lined { IfOk result (λ s. AreLined s.report.ends) }
+    ensures problem { IfOk result (λ s. IsProblem s.problem) }
+    ensures lined { IfOk result (λ s. AreLined s.problem s.report.ends) }
     ensures stored { IsStored asked.now (F.told files.old) (F.told files.new) }
     ensures still { OnOk result (F.faults files.new ≡ F.faults files.old) }
     ensures later { F.faults files.old ≤ F.faults files.new }
@@ -197,12 +192,7 @@ fn judge_problem<F: Files>(
     let stream = get_stream(alloc, files, &asked.streams)?;
     let end = judge_job(alloc, &problem, JobName::Base, &stream);
     report.push_end(end);
-    let counts = counts_of(problem.flat().design());
-    Ok(Served {
-        text: problem.into_text(),
-        counts,
-        report,
-    })
+    Ok(Served { problem, report })
 }
 
 /// Gets the design, puts the job's file, gets the stream and judges it.
@@ -214,10 +204,10 @@ pub fn serve<F: Files>(
 ) -> Result<Served, Early>
     requires askable { IsAskable asked.now }
     requires report { report ≡ record { lane = 0; jobs = 1; ends = []; events = replicate 1 no_events } }
-    ensures ok { IfOk result (λ s. IsDone asked.now (F.told files.old) (F.told files.new) s.text.items s.report
-        × ((d : DesignOf) × Reads s.text.items d × (s.counts ≡ counts_of d))) }
+    ensures ok { IfOk result (λ s. IsDone asked.now (F.told files.old) (F.told files.new) s.problem.problem.text s.report) }
     ensures err { IfErr result (HasReason asked.now (F.told files.old) (F.told files.new) (F.faults files.old) (F.faults files.new)) }
-    ensures lined { IfOk result (λ s. AreLined s.report.ends) }
+    ensures problem { IfOk result (λ s. IsProblem s.problem) }
+    ensures lined { IfOk result (λ s. AreLined s.problem s.report.ends) }
     ensures stored { IsStored asked.now (F.told files.old) (F.told files.new) }
     ensures still { OnOk result (F.faults files.new ≡ F.faults files.old) }
     ensures later { F.faults files.old ≤ F.faults files.new }

@@ -1,12 +1,14 @@
 // Printing: lines are offered to a sink one after the other.
 
-ghost use Rattle.std.specs.Prelude.{◌≡◌, ◌≤◌, [], ◌∷◌, OnErr, OnOk, option_map, string_bytes};
+ghost use Rattle.std.specs.Prelude.{◌≡◌, ◌≢◌, ◌+◌, ◌-◌, ◌<◌, ◌≤◌, [], ◌∷◌, ℕ, List, OnErr, OnOk, length, option_map, slice_index, string_bytes};
+ghost use Rattle.std.specs.List.{concat};
 ghost use Rattle.sby_edge.specs.Cause.{Rose};
 ghost use Rattle.sby_top.specs.Lines.{line_if};
 ghost use Rattle.sby_top.specs.Telling.{GrownBySome, Tells, grown};
 ghost use Rattle.sby_top.specs.Texts.{line_of};
 
 use crate::text;
+use memchr::memchr;
 use sby_edge::{Failed, Sink};
 use std::alloc::Global;
 
@@ -34,6 +36,49 @@ pub fn offer<S: Sink>(out: &mut S, piece: &[u8]) -> Result<(), Failed>
         at += count;
     }
     Ok(())
+}
+
+// How many bytes the first line of a text has, with its line feed.
+fn first_line(text: &[u8]) -> usize
+    requires { 0 < length text.now }
+    ensures some { 0 < result }
+    ensures within { result ≤ length text.now }
+    ensures alone { (k : ℕ) → k + 1 < result → slice_index text.now k ≢ 10 }
+    ensures ends { result < length text.now → slice_index text.now (result - 1) ≡ 10 }
+{
+    match memchr(b'\n', text) {
+        Some(at) => at + 1,
+        None => text.len(),
+    }
+}
+
+// Offers a text line by line: each line is one piece.
+fn offer_lines<S: Sink>(out: &mut S, text: &[u8]) -> Result<(), Failed>
+    ensures whole { OnOk result (S.taken out.new ≡ grown (S.taken out.old) text.now) }
+    ensures part { OnErr result (GrownBySome (S.taken out.old) (S.taken out.new) text.now) }
+    ensures later { S.faults out.old ≤ S.faults out.new }
+    ensures still { OnOk result (S.faults out.new ≡ S.faults out.old) }
+    ensures failed { OnErr result (Rose (S.faults out.old) (S.faults out.new)) }
+{
+    let mut at = 0;
+    while at < text.len() {
+        let rest = text.split_at(at).1;
+        let count = first_line(rest);
+        offer(out, rest.split_at(count).0)?;
+        at += count;
+    }
+    Ok(())
+}
+
+/// Offers the lines of a text.
+pub fn tell_lines<S: Sink>(out: &mut S, text: &[u8]) -> Result<(), Stop>
+    ensures { (lines : List (List ℕ)) → concat lines ≡ text.now
+        → Tells (S.taken out.old) (S.taken out.new) (S.faults out.old) (S.faults out.new) lines result }
+{
+    match offer_lines(out, text) {
+        Ok(()) => Ok(()),
+        Err(Failed) => Err(Stop::Sink),
+    }
 }
 
 /// Offers the line of a text, made whole before it is offered.

@@ -1,18 +1,21 @@
 // The lines of a task.
 
-ghost use Rattle.std.specs.Prelude.{◌≡◌, ◌≢◌, [], ◌∷◌, ◌++◌, IfOk, None, OnErr, option_map, string_bytes};
+ghost use Rattle.std.specs.Prelude.{◌≡◌, ◌≢◌, [], ◌∷◌, ◌++◌, ℕ, List, IfOk, None, OnErr, option_map, string_bytes};
 ghost use Rattle.sby_top.specs.Lines.{done_line, early_text, end_text, lane_line, line_if, settled_line};
-ghost use Rattle.sby_top.specs.Steps.{one_job_body};
+ghost use Rattle.sby_terms.specs.declared.names.JobName.TheVariants.{Base};
+ghost use Rattle.sby_top.specs.Counts.{counts_of};
+ghost use Rattle.sby_top.specs.Steps.{HasEndLines, IsLined, one_job_body};
 ghost use Rattle.sby_top.specs.Status.{answer_of};
 ghost use Rattle.sby_top.specs.Telling.{Tells};
 ghost use Rattle.sby_top.specs.Texts.{answer_text, design_text, job_text, lane_text, line_of, settled_text};
 
-use crate::counts::Counts;
+use crate::counts::{Counts, counts_of};
 use crate::outcome::Early;
 use crate::status::answer_of;
 use crate::tell::{Stop, tell_line, tell_line_if};
+use crate::tell_run::tell_run;
 use crate::{ends, text};
-use judge::Finding;
+use judge::{Finding, Problem};
 use race_core::JobEnd;
 use sby_edge::Sink;
 use sby_terms::{Answer, JobName, Status};
@@ -159,20 +162,41 @@ fn tell_body<S: Sink>(
     tell_end(alloc, out, name, lane, JobName::Base, end)
 }
 
+// The last lines of a task with one job: those of its run, where there is one, and that of its status.
+fn tell_verdict<S: Sink>(
+    alloc: Global,
+    out: &mut S,
+    name: &str,
+    problem: &Problem,
+    end: &JobEnd<Finding>,
+    status: Status,
+    rc: u8,
+) -> Result<(), Stop>
+    requires { IsLined problem.now Base end.now }
+    ensures { (shown : List (List ℕ)) → HasEndLines problem.now.design name.now end.now shown
+        → Tells (S.taken out.old) (S.taken out.new) (S.faults out.old) (S.faults out.new) (shown ++ done_line name.now status rc ∷ []) result }
+{
+    tell_run(alloc, out, name, problem, end)?;
+    tell_done(alloc, out, name, status, rc)
+}
+
 /// Offers the lines of a task with one job, which a lane ended so.
 pub fn tell_served<S: Sink>(
     alloc: Global,
     out: &mut S,
     name: &str,
-    counts: &Counts,
+    problem: &Problem,
     lane: u32,
     end: &JobEnd<Finding>,
     status: Status,
     rc: u8,
 ) -> Result<(), Stop>
-    ensures { Tells (S.taken out.old) (S.taken out.new) (S.faults out.old) (S.faults out.new)
-        (one_job_body name.now counts.now lane end.now ++ done_line name.now status rc ∷ []) result }
+    requires { IsLined problem.now Base end.now }
+    ensures { (shown : List (List ℕ)) → HasEndLines problem.now.design name.now end.now shown
+        → Tells (S.taken out.old) (S.taken out.new) (S.faults out.old) (S.faults out.new)
+        (one_job_body name.now (counts_of problem.now.design) lane end.now ++ (shown ++ done_line name.now status rc ∷ [])) result }
 {
-    tell_body(alloc, out, name, counts, lane, end)?;
-    tell_done(alloc, out, name, status, rc)
+    let counts = counts_of(problem.flat().design());
+    tell_body(alloc, out, name, &counts, lane, end)?;
+    tell_verdict(alloc, out, name, problem, end, status, rc)
 }

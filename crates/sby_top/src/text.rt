@@ -2,7 +2,7 @@
 
 ghost use Rattle.std.specs.Prelude.{◌≡◌, IfOk, string_bytes};
 ghost use Rattle.sby_top.specs.Lines.{kind_numbered};
-ghost use Rattle.sby_top.specs.Texts.{answer_text, cert_kind_text, cert_text, design_kind_text, design_text, done_text, fault_text, file_text, hold_failed_text, job_path, path_text, job_text, lane_text, line_of, memory_text, not_served_text, read_failed_text, read_kind_text, read_text, settled_text, start_failed_text, status_text, streams_text, too_many_text, unknown_text, usage_line};
+ghost use Rattle.sby_top.specs.Texts.{answer_text, broken_text, cert_kind_text, cert_text, design_kind_text, design_text, done_text, fault_text, file_text, hold_failed_text, job_path, path_text, job_text, lane_text, line_of, memory_text, not_served_text, read_failed_text, read_kind_text, read_text, settled_text, start_failed_text, status_text, streams_text, too_many_text, unknown_text, usage_line};
 
 use crate::counts::Counts;
 use judge::CertKind;
@@ -241,6 +241,13 @@ pub fn memory_text(alloc: Global) -> Result<String, AllocError>
     ensures { IfOk result (λ t. string_bytes t ≡ memory_text) }
 {
     String::from_str(alloc, "out of memory")
+}
+
+#[tactic(auto, unfolding(crate::specs::Texts::broken_text))]
+pub fn broken_text(alloc: Global, name: &str, cycle: usize) -> Result<String, AllocError>
+    ensures { IfOk result (λ t. string_bytes t ≡ broken_text name.now cycle) }
+{
+    format!(in alloc; "broken: {name} at cycle {cycle}")
 }
 
 #[tactic(auto, unfolding(crate::specs::Texts::done_text))]

@@ -63,6 +63,3 @@ pub fn plain_words_are_asked()
         → r.mode ≡ Bmc → IsDepth word r.depth → IsFolder directory r.design r.folder → All (λ stream. EndsIn (codes ".wit") stream → ⊥) r.streams
         → IsAsked (judge_words directory (r.design ∷ mode_word r.mode ∷ word ∷ r.streams)) (Some r) }
 {}
-
-#[cfg(test)]
-mod tests;

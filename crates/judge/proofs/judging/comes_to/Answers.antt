@@ -14,8 +14,8 @@ sayings-init c = record {
       (c.new-reader.ensures ∙ ap (λ n. sayings n c.args.ended c.args.bytes.now) c.vars-2.ensures.vars) c.in_ok-values.ensures.unnamed h;
 }
 
-pub returns-in-NotRup : goal.returns-in-NotRup
-returns-in-NotRup c =
+pub returns-in-NotRup-clause-comes : goal.returns-in-NotRup-clause-comes
+returns-in-NotRup-clause-comes c =
     let said = rw c.in-Some.is at c.in_ok-saying.ensures.said in
     let unadmitted : IsAdmitted c.sayings.checker.clauses c.lits.result.now → ⊥ = λ a. let e = c.in_ok-add-in-Clause.ensures.exact.1 a in let n = c.in-NotRup.is in cc in
     rw c.refused.ensures (c.sayings.invariant.so_far _ (not_rup _ _ _ _ _ _ _ _ _ said c.in-Clause.is unadmitted c.lits.ensures c.place.ensures))
@@ -40,8 +40,8 @@ sayings-preserved c =
       so_far = λ fate h. c.sayings.invariant.so_far fate (more_values _ _ _ _ _ _ _ _ _ fate said c.in-Values.is c.lits-in-Values.ensures c.name_all.ensures.named h);
     }
 
-pub returns-in-LastValues : goal.returns-in-LastValues
-returns-in-LastValues c =
+pub returns-in-LastValues-clause-comes : goal.returns-in-LastValues-clause-comes
+returns-in-LastValues-clause-comes c =
     let said = rw c.in-Some.is at c.in_ok-saying.ensures.said in
     c.sayings.invariant.so_far _
-    (last_values _ _ _ _ _ _ _ _ _ _ _ said c.in-LastValues.is c.lits-in-LastValues.ensures c.place-in-LastValues.ensures c.name_all-in-LastValues.ensures.named c.values_come_to.ensures)
+    (last_values _ _ _ _ _ _ _ _ _ _ said c.in-LastValues.is c.lits-in-LastValues.ensures c.name_all-in-LastValues.ensures.named c.values_come_to.ensures.come)

@@ -4,8 +4,8 @@ use Rattle.sby_top.proofs.RunLemmas.{task_ran}
 use Rattle.sby_top.proofs.run.run_task.Goals as goal
 
 pub returns-in-Ok : goal.returns-in-Ok
-returns-in-Ok g c = task_ran _ _ c.args.asked.now c.finish_served.result.0 c.finish_served.result.1 None c.in-Ok.served.text.items (c.in-Ok.served.report ∷ []) c.requires.askable c.finish_served.ensures.end
-    (c.in-Ok.served.report, refl, c.in-Ok.ensures.still, c.in-Ok.ensures.ok.0) c.finish_served.ensures.printed c.serve.ensures.stored c.serve.ensures.later c.finish_served.ensures.later
+returns-in-Ok g c = task_ran _ _ c.args.asked.now c.finish_served.result.0 c.finish_served.result.1 None c.in-Ok.served.problem.problem.text (c.in-Ok.served.report ∷ []) c.requires.askable c.finish_served.ensures.end
+    (c.in-Ok.served.report, refl, c.in-Ok.ensures.still, c.in-Ok.ensures.ok) c.finish_served.ensures.printed c.serve.ensures.stored c.serve.ensures.later c.finish_served.ensures.later
 
 pub returns : goal.returns
 returns g c = task_ran _ _ c.args.asked.now c.finish_early.result.0 c.finish_early.result.1 (Some c.in-Err.early) [] [] c.requires.askable c.finish_early.ensures.end

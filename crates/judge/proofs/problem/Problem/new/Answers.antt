@@ -3,7 +3,7 @@ use Rattle.rtlil_design.specs.Shape.{DesignOf}
 use Rattle.rtlil_design.specs.Faults.{IsFlat}
 use Rattle.rtlil_reader.specs.Grammar.{Reads}
 use Rattle.judge.proofs.Problems.{made}
-use Rattle.judge.specs.Problem.{IsJobFormula}
+use Rattle.judge.specs.Problem.{IsEncodedJob}
 use Rattle.sby_terms.specs.declared.names.JobName.TheVariants.{Base}
 use Rattle.judge.proofs.problem.Problem.new.Goals as goal
 
@@ -27,13 +27,14 @@ invariant_of-problem c =
     let same = checked.0 in
     let reads = subst (λ (d : DesignOf). Reads c.args.text.items d) (sym same) read in
     let flat = subst (λ (d : DesignOf). IsFlat d) (sym same) checked.1 in
-    let formula : IsJobFormula c.in-Ok-2.flat Base c.args.depth c.in-Ok-3.encoded.formula =
+    let job : IsEncodedJob c.in-Ok-2.flat Base c.args.depth c.in-Ok-3.encoded =
     record {
       speaks = rw c.in-Ok-3.is at c.in_ok-encoded.ensures.solvable;
-      free_vars = c.in-Ok-3.encoded.free_vars;
       propagates = rw c.in-Ok-3.is at c.in_ok-encoded.ensures.propagates;
       origins = rw c.in-Ok-3.is at c.in_ok-encoded.ensures.origins;
-      empty = λ _ none. rw c.in-Ok-3.is at c.in_ok-encoded.ensures.empty none;
+      empty = λ _ none. (rw c.in-Ok-3.is at c.in_ok-encoded.ensures.empty) none;
+      choices = rw c.in-Ok-3.is at c.in_ok-encoded.ensures.choices;
+      decodes = λ _. rw c.in-Ok-3.is at c.in_ok-encoded.ensures.decoded;
     } in
-    made _ _ _ c.in-Ok-2.flat c.in-Ok-3.encoded.formula _ c.requires.mode reads (λ e r. only e r ∙ sym same) flat
-    formula (c.in_ok-jobs.ensures.items ∙ ap (λ z. z ∷ []) c.in_ok-job.ensures)
+    made _ _ _ c.in-Ok-2.flat c.in-Ok-3.encoded _ c.requires.mode reads (λ e r. only e r ∙ sym same) flat
+    job (c.in_ok-jobs.ensures.items ∙ ap (λ z. z ∷ []) c.in_ok-job.ensures)

@@ -2,28 +2,29 @@
 
 ghost use Rattle.std.specs.Prelude.{None};
 
-use super::*;
 use sby_edge::{Fail as FileFail, Failed, Files, MemFiles, MemSink, NoYard, Sink, StillClock};
+use sby_top::run_sby;
 use std::alloc::{AllocError, Global};
 use std::test::Fail;
 
-const HEAD: &str = "module \\t\n wire input 1 \\clk\n attribute \\init 1'0\n wire \\q\n wire \\d\n";
+pub const HEAD: &str =
+    "module \\t\n wire input 1 \\clk\n attribute \\init 1'0\n wire \\q\n wire \\d\n";
 
 const OPEN_HEAD: &str = "module \\t\n wire input 1 \\clk\n wire \\q\n wire \\d\n";
 
-const NOT: &str =
+pub const NOT: &str =
     " cell $not $n\n parameter \\A_SIGNED 0\n parameter \\A_WIDTH 1\n parameter \\Y_WIDTH 1\n connect \\A \\q\n connect \\Y \\d\n end\n";
 
-const REGISTER: &str =
+pub const REGISTER: &str =
     " cell $dff $r\n parameter \\CLK_POLARITY 1'1\n parameter \\WIDTH 1\n connect \\CLK \\clk\n connect \\D \\d\n connect \\Q \\q\n end\n";
 
 const ASSERT: &str = " cell $assert \\a0\n connect \\A \\d\n connect \\EN 1'1\n end\n";
 
-const END: &str = "end\n";
+pub const END: &str = "end\n";
 
-const T: &[&str] = &[HEAD, NOT, REGISTER, ASSERT, END];
+pub const T: &[&str] = &[HEAD, NOT, REGISTER, ASSERT, END];
 
-const DESIGN: &str = "SBY [t] design: 1 register bits, 1 assert, 0 assume, 0 cover";
+pub const DESIGN: &str = "SBY [t] design: 1 register bits, 1 assert, 0 assume, 0 cover";
 
 pub const UNSAT: &str = "SBY [t] base: UNSAT";
 
@@ -40,7 +41,7 @@ pub struct Printed {
     bytes: Vec<u8>,
 }
 
-fn joined(alloc: Global, parts: &[&str]) -> Result<Vec<u8>, AllocError> {
+pub(crate) fn joined(alloc: Global, parts: &[&str]) -> Result<Vec<u8>, AllocError> {
     let mut bytes = Vec::new(alloc);
     for part in parts {
         bytes.extend_from_slice(part.as_bytes())?;
@@ -122,7 +123,7 @@ fn run(
 }
 
 // A run of a stored stream for a design.
-pub fn judged(
+pub(crate) fn judged(
     rt: &HostRuntime,
     design: &[&str],
     depth: &str,
@@ -134,7 +135,7 @@ pub fn judged(
     Ok(run(rt, &mut files, &words, Vec::new(alloc))?)
 }
 
-pub fn prints(printed: &Printed, rc: u8, lines: &[&str]) -> bool {
+pub(crate) fn prints(printed: &Printed, rc: u8, lines: &[&str]) -> bool {
     printed.rc == rc && are_lines(printed.bytes.as_slice(), lines)
 }
 

@@ -1,7 +1,7 @@
 // Words that are asked, and words that are refused.
 
-use super::{Asked, asked_of};
 use sby_terms::Mode;
+use sby_top::{Asked, asked_of};
 use std::alloc::{AllocError, Global};
 use std::process::Abort;
 use std::test::Fail;

@@ -1,0 +1,43 @@
+// Streams whose values satisfy a job's formula, and the runs that they show.
+
+use crate::tests::{DESIGN, END, ERROR, HEAD, NOT, REGISTER, T, judged, prints};
+use std::test::Fail;
+
+const SAT: &str = "SBY [t] base: SAT";
+
+const BROKEN: &str = "SBY [t] broken: \\a0 at cycle 1";
+
+const DONE: &str = "SBY [t] DONE (FAIL, rc=2)";
+
+// The register is 0 in cycle 0 and 1 in cycle 1, where its negation breaks the assertion.
+const SHOWN: &[&str] = &[
+    DESIGN, SAT, BROKEN, "cycle 0", "\\clk 0", "\\q 0", "\\d 1", "cycle 1", "\\clk 0", "\\q 1",
+    "\\d 0", DONE,
+];
+
+#[test]
+fn values_show_a_run(rt: HostRuntime) -> Result<(), Fail> {
+    for stream in ["v 1 -2 -3 4 5 0\n", "v 1 -2\nv -3 4\nv 5 0\n"] {
+        let printed = judged(&rt, T, "2", stream.as_bytes())?;
+        assert!(rt; prints(&printed, 2, SHOWN), "{stream}");
+    }
+    Ok(())
+}
+
+#[test]
+fn no_assertion_has_no_run(rt: HostRuntime) -> Result<(), Fail> {
+    let printed = judged(&rt, &[HEAD, NOT, REGISTER, END], "5", b"v 0\n")?;
+    assert!(rt;
+        prints(
+            &printed,
+            16,
+            &[
+                "SBY [t] design: 1 register bits, 0 assert, 0 assume, 0 cover",
+                "SBY [t] engine_0 base: certificate NotSatisfying clause 1",
+                ERROR,
+            ],
+        ),
+        "no assertion"
+    );
+    Ok(())
+}

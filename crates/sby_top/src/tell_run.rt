@@ -1,0 +1,98 @@
+// The lines of a run that breaks an assertion.
+
+ghost use Rattle.std.specs.Prelude.{◌≡◌, ◌-◌, ◌<◌, [], ◌∷◌, ℕ, List, IfOk, length, string_bytes};
+ghost use Rattle.rtlil_design.specs.Runs.{IsRunOf, shown_of};
+ghost use Rattle.rtlil_design.specs.Shape.{CellOf};
+ghost use Rattle.sby_terms.specs.declared.names.JobName.TheVariants.{Base};
+ghost use Rattle.sby_top.specs.Broken.{AreLinesOf, HasBrokenLines, IsBrokenCell, broken_line};
+ghost use Rattle.sby_top.specs.Steps.{Breaks, HasEndLines, IsLined};
+ghost use Rattle.sby_top.specs.Telling.{Tells};
+ghost use Rattle.sby_top.specs.Texts.{broken_text};
+ghost use Rattle.trace_text.specs.Trace.{trace};
+
+use crate::tell::{Stop, tell_line, tell_lines};
+use crate::text;
+use judge::{Finding, Problem};
+use race_core::JobEnd;
+use rtlil_design::flat::Flat;
+use rtlil_design::row::Run;
+use sby_edge::Sink;
+use std::alloc::{AllocError, Global};
+
+// What is printed of the assertion that a run breaks: the first one in file order that is broken in its last cycle.
+fn broken_text(alloc: Global, flat: &Flat, run: &Run) -> Result<String, AllocError>
+    requires { Breaks flat.now run.now }
+    ensures { IfOk result (λ t. (cell : CellOf) → IsBrokenCell flat.now run.now cell → string_bytes t ≡ broken_text cell.name (length run.now - 1)) }
+{
+    match flat.broken(run) {
+        Some(number) => {
+            text::broken_text(alloc, flat.assert_name(number), run.cycles().len() - 1)
+        }
+        None => unreachable!(),
+    }
+}
+
+fn tell_assertion<S: Sink>(
+    alloc: Global,
+    out: &mut S,
+    name: &str,
+    flat: &Flat,
+    run: &Run,
+) -> Result<(), Stop>
+    requires { Breaks flat.now run.now }
+    ensures { (cell : CellOf) → IsBrokenCell flat.now run.now cell
+        → Tells (S.taken out.old) (S.taken out.new) (S.faults out.old) (S.faults out.new) (broken_line name.now cell run.now ∷ []) result }
+{
+    match broken_text(alloc, flat, run) {
+        Ok(text) => tell_line(alloc, out, name, text.as_str()),
+        Err(_) => Err(Stop::Memory),
+    }
+}
+
+fn tell_trace<S: Sink>(alloc: Global, out: &mut S, flat: &Flat, run: &Run) -> Result<(), Stop>
+    requires rows { IsRunOf flat.now run.now }
+    requires some { 0 < length run.now }
+    ensures { (lines : List (List ℕ)) → AreLinesOf (trace flat.now (shown_of run.now)) lines
+        → Tells (S.taken out.old) (S.taken out.new) (S.faults out.old) (S.faults out.new) lines result }
+{
+    match trace_text::text(alloc, flat, run) {
+        Ok(text) => tell_lines(out, text.as_slice()),
+        Err(_) => Err(Stop::Memory),
+    }
+}
+
+fn tell_broken<S: Sink>(
+    alloc: Global,
+    out: &mut S,
+    name: &str,
+    flat: &Flat,
+    run: &Run,
+) -> Result<(), Stop>
+    requires { Breaks flat.now run.now }
+    ensures { (lines : List (List ℕ)) → HasBrokenLines flat.now name.now run.now lines
+        → Tells (S.taken out.old) (S.taken out.new) (S.faults out.old) (S.faults out.new) lines result }
+{
+    tell_assertion(alloc, out, name, flat, run)?;
+    tell_trace(alloc, out, flat, run)
+}
+
+/// Offers the lines of the run that the end of the job Base carries, if it carries one.
+pub fn tell_run<S: Sink>(
+    alloc: Global,
+    out: &mut S,
+    name: &str,
+    problem: &Problem,
+    end: &JobEnd<Finding>,
+) -> Result<(), Stop>
+    requires { IsLined problem.now Base end.now }
+    ensures { (lines : List (List ℕ)) → HasEndLines problem.now.design name.now end.now lines
+        → Tells (S.taken out.old) (S.taken out.new) (S.faults out.old) (S.faults out.new) lines result }
+{
+    match end {
+        JobEnd::Found(finding) => match finding.run() {
+            Some(run) => tell_broken(alloc, out, name, problem.flat(), run),
+            None => Ok(()),
+        },
+        _ => Ok(()),
+    }
+}
