@@ -45,11 +45,10 @@ fn problem_of(alloc: Global, design: &[&str], depth: u32) -> Result<Problem, Fai
     ensures { IfOk result (λ p. IsJob p JobName.Base) }
 {
     let text = joined(alloc, design)?;
-    Ok(
-        Problem::new(alloc, text, Mode::Bmc, depth)?
-            .ok()
-            .ok_or("refused")?,
-    )
+    match Problem::new(alloc, text, Mode::Bmc, depth)? {
+        Ok(problem) => Ok(problem),
+        Err(_) => Err(Fail::from("refused")),
+    }
 }
 
 // What a judge answers to a stream in two pieces.
@@ -136,7 +135,7 @@ fn values(alloc: Global, vars: u32, number: u32) -> Result<String, AllocError> {
         text.push_str("v")?;
         for var in 1..=vars {
             if var % 3 == line {
-                let sign = if (number >> (var - 1)) % 2 == 1 {
+                let sign = if (number >> ((var - 1) % 32)) % 2 == 1 {
                     ""
                 } else {
                     "-"
