@@ -104,5 +104,6 @@ module _ (g : Graph) (marks : List Mark) (cursors stack bounds order : List ℕ)
           let d = all-done a (omega (arith, get-below leaders a m h, l.size)) in
           let e = l.leader_done a d.0 m d.1 h in
           omega (arith, get-below marks m (Done e.0) e.1, s.marks_size);
+      led_own = λ a m h. let d = all-done a (omega (arith, get-below leaders a m h, l.size)) in l.own a d.0 m d.1 h;
       parts = λ a b la lb. (both a b la lb, λ r. let da = all-done a la in let db = all-done b lb in l.one a da.0 b db.0 da.1 db.1 r.0 r.1);
     }

@@ -18,6 +18,7 @@ pub Led-none : (g : Graph) (marks : List Mark) (n : ℕ) → n ≡ length g → 
 Led-none g marks n e none = record {
   size = length-replicate n 0 ∙ e;
   leader_done = λ a i l h. absurd (none a i h);
+  own = λ a i l h. absurd (none a i h);
   led = λ a i b j l h. absurd (none a i h);
   one = λ a i b j h. absurd (none a i h);
 }
@@ -26,6 +27,7 @@ pub Led-enter : (g : Graph) (marks : List Mark) (leaders : List ℕ) (w p : ℕ)
 Led-enter g marks leaders w p new s = record {
   size = s.size;
   leader_done = λ a i l h k. let d = s.leader_done a i l (was a i h) k in (d.0, get-set-other marks w l (Open p) (not-new l d.0 d.1) ∙ d.1);
+  own = λ a i l h. s.own a i l (was a i h);
   led = λ a i b j l h k. s.led a i b j l (was a i h) (was b j k);
   one = λ a i b j h k. s.one a i b j (was a i h) (was b j k);
 }
@@ -88,10 +90,21 @@ module _ (g : Graph) (marks : List Mark) (cursors stack bounds front order : Lis
       let e : m ≡ last = same-number m last (sym k ∙ led-now a h.0 h.1 h.2) in
       subst (λ (x : ℕ). IsDone later x) (sym e) (c.done last t (omega (arith, size)) at)
 
+  own-left : (a i m : ℕ) → IsOld a i → slice_get leaders' a ≡ Some m → Reaches g a m × Reaches g m a
+  own-left a i m (inl h) k = led.own a i m h (sym (l.still a i h) ∙ k)
+  own-left a i m (inr h) k =
+      let e : m ≡ last = same-number m last (sym k ∙ led-now a h.0 h.1 h.2) in
+      let here = s.opened a h.0 h.2 in
+      let there = s.opened last t at in
+      let to = reach-each g marks cursors stack bounds front order cyclic last s t at looked_at h.0 t a last h.1 (omega arith) here there in
+      let from = reach-each g marks cursors stack bounds front order cyclic last s t at looked_at t h.0 last a (omega arith) h.1 there here in
+      subst (λ (x : ℕ). Reaches g a x × Reaches g x a) (sym e) (to, from)
+
   pub Led-close : Led g later leaders'
   Led-close = record {
     size = l.size ∙ led.size;
     leader_done = λ a i m h k. leader-left a i m (was a i h) k;
+    own = λ a i m h k. own-left a i m (was a i h) k;
     led = λ a i b j m h k. led-left a i b j m (was a i h) (was b j k);
     one = λ a i b j h k. one-left a i b j (was a i h) (was b j k);
   }

@@ -36,7 +36,7 @@ pub record Extends (g : Graph) (R : ℕ → ℕ → Type 0) (h : Graph) : Type 0
   pub only : (a b : ℕ) → HasEdge h a b → HasEdge g a b ⊎ R a b
 
 -- Each node stands in the order exactly once, and what a node that is on no cycle leads to stands before it. The nodes on a cycle are
--- marked. Two nodes have one leader where each reaches the other.
+-- marked. Two nodes have one leader where each reaches the other. A node and its leader reach each other.
 pub record IsSorted (g : Graph) (order : List ℕ) (cyclic : List Bool) (leaders : List ℕ) : Type 0 where
   pub nodes : (k a : ℕ) → slice_get order k ≡ Some a → a < length g
   pub all : (a : ℕ) → a < length g → Contains order a
@@ -46,4 +46,5 @@ pub record IsSorted (g : Graph) (order : List ℕ) (cyclic : List Bool) (leaders
   pub cycles : (a : ℕ) → a < length g → (slice_get cyclic a ≡ Some true) ↔ IsOnCycle g a
   pub led : length leaders ≡ length g
   pub led_within : (a l : ℕ) → slice_get leaders a ≡ Some l → l < length g
+  pub led_own : (a l : ℕ) → slice_get leaders a ≡ Some l → Reaches g a l × Reaches g l a
   pub parts : (a b : ℕ) → a < length g → b < length g → (slice_get leaders a ≡ slice_get leaders b) ↔ (Reaches g a b × Reaches g b a)

@@ -41,10 +41,11 @@ pub record State (g : Graph) (marks : List Mark) (cursors stack bounds path orde
   pub on_cycle : (a i : ℕ) → slice_get marks a ≡ Some (Done i) → slice_get cyclic a ≡ Some true → IsOnCycle g a
   pub on_none : (a i : ℕ) → slice_get marks a ≡ Some (Done i) → slice_get cyclic a ≡ Some false → IsOnCycle g a → ⊥
 
--- Of the nodes that are done those have one leader that reach each other.
+-- Of the nodes that are done those have one leader that reach each other. It is one of them.
 pub record Led (g : Graph) (marks : List Mark) (leaders : List ℕ) : Type 0 where
   pub size : length leaders ≡ length g
   pub leader_done : (a i l : ℕ) → slice_get marks a ≡ Some (Done i) → slice_get leaders a ≡ Some l → IsDone marks l
+  pub own : (a i l : ℕ) → slice_get marks a ≡ Some (Done i) → slice_get leaders a ≡ Some l → Reaches g a l × Reaches g l a
   pub led : (a i b j l : ℕ) → slice_get marks a ≡ Some (Done i) → slice_get marks b ≡ Some (Done j) → slice_get leaders a ≡ Some l → slice_get leaders b ≡ Some l
       → Reaches g a b
   pub one : (a i b j : ℕ) → slice_get marks a ≡ Some (Done i) → slice_get marks b ≡ Some (Done j) → Reaches g a b → Reaches g b a

@@ -14,7 +14,7 @@ pub struct Sorted {
     pub order: Vec<usize>,
     /// For each node, whether it is on a cycle.
     pub cyclic: Vec<bool>,
-    /// For each node a node of its own component: the same for two nodes exactly where each reaches the other.
+    /// For each node one that it reaches and that reaches it: the same for two nodes exactly where each reaches the other.
     pub leaders: Vec<usize>,
 }
 

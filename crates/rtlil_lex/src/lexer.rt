@@ -16,7 +16,7 @@ pub struct Token<'a> {
     pub text: &'a [u8],
 }
 
-/// No text of the grammar goes on from this byte: a string begins there that doesn't end as a token.
+/// A string begins at this byte that doesn't end as a token.
 #[derive(Clone, Copy, Debug, PartialEq, Eq)]
 pub struct LexFault {
     pub byte: u64,

@@ -44,8 +44,9 @@ fn design(alloc: Global, bytes: &[u8]) -> Result<Result<Design, ReadFault>, Allo
 
 /// Reads RTLIL text: one flat module.
 ///
-/// A text has at most 2^26 bytes, and a design at most 2^20 bits, wires' bits and free bits together. A refusal has the first
-/// byte of the first token after which no text of the grammar can go on, or the text's length.
+/// A text has at most 2^26 bytes, and a design at most 2^20 bits, wires' bits and free bits together. A longer text is refused
+/// by `Limit` at byte 2^26. Any other refusal has the first byte of the first token after which no text of the grammar can go
+/// on, or the text's length.
 ///
 /// The outer error is want of memory alone. A constant of 2^32 digits or more, where its digits count, wants more memory than
 /// there is.

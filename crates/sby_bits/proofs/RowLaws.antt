@@ -153,3 +153,17 @@ pub remainder_small : (m n : ℤ) → n ≢ pos 0 → unsigned_abs (remainder m 
 remainder_small m (pos zero) h = absurd (h refl)
 remainder_small m (pos (suc n)) h = rem_below m (pos (suc n)) (omega arith)
 remainder_small m (negsuc n) h = rem_below m (negsuc n) (omega arith)
+
+pub remainder_not_negative : (m n : ℤ) → pos 0 ≤ℤ m → pos 0 ≤ℤ remainder m n
+remainder_not_negative m (pos zero) h = h
+remainder_not_negative (pos m) (pos (suc n)) h = omega (arith, ints)
+remainder_not_negative (pos m) (negsuc n) h = omega (arith, ints)
+remainder_not_negative (negsuc m) n h = absurd (omega (arith, ints))
+
+pub remainder_not_positive : (m n : ℤ) → m ≤ℤ pos 0 → remainder m n ≤ℤ pos 0
+remainder_not_positive m (pos zero) h = h
+remainder_not_positive (pos zero) (pos (suc n)) h = omega (arith, ints)
+remainder_not_positive (pos zero) (negsuc n) h = omega (arith, ints)
+remainder_not_positive (pos (suc m)) n h = absurd (omega (arith, ints))
+remainder_not_positive (negsuc m) (pos (suc n)) h = omega (arith, ints)
+remainder_not_positive (negsuc m) (negsuc n) h = omega (arith, ints)

@@ -91,8 +91,11 @@ pub fn right_shift_divides()
         → right_shift_row a by (top_bit a) y ≡ fit y (int_div_euclid (snum a) (pos (2 ^ num by))) }
 {}
 
-/// A number is its quotient times the divisor and the remainder, which is smaller than the divisor.
+/// A number is its quotient times the divisor and the remainder, which is smaller than the divisor and never of the other sign
+/// than the number.
 pub fn quotient_and_remainder()
     ensures whole { (m n : ℤ) → quotient m n *ℤ n +ℤ remainder m n ≡ m }
     ensures small { (m n : ℤ) → n ≢ pos 0 → unsigned_abs (remainder m n) < unsigned_abs n }
+    ensures not_negative { (m n : ℤ) → pos 0 ≤ℤ m → pos 0 ≤ℤ remainder m n }
+    ensures not_positive { (m n : ℤ) → m ≤ℤ pos 0 → remainder m n ≤ℤ pos 0 }
 {}
