@@ -41,7 +41,7 @@ module _ (d : DesignOf) (flat : IsFlat d) (design : IsDesign d) where
 
   module _ (order : List Driver) (is : IsOrder d order) where
     -- what the first n drivers say can be written
-    all_driven : (n : ℕ) → n ≤ length order → (old : Row) → IsTable d old → (new : Row) × AreDriven d order n old new
+    pub all_driven : (n : ℕ) → n ≤ length order → (old : Row) → IsTable d old → (new : Row) × AreDriven d order n old new
     all_driven zero l old t = (old, Driven-none d flat design order old t)
     all_driven (suc n) l old t =
         let p = all_driven n (omega arith) old t in

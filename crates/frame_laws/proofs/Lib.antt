@@ -1,3 +1,5 @@
 mod Filling
 mod Widths
 mod Completing
+mod Beginning
+mod Going

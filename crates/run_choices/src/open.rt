@@ -1,6 +1,6 @@
 // The bits that a run leaves open.
 
-ghost use Rattle.std.specs.Prelude.{◌≡◌, All, IfOk, IsTrue};
+ghost use Rattle.std.specs.Prelude.{◌≡◌, ◌↔◌, All, IfOk, IsTrue};
 ghost use Rattle.rtlil_design.specs.Shape.{IsDeclared, IsDesign};
 ghost use Rattle.run_choices.specs.Choices.{AreChoicesFor, AreOpen, AreThose, HasNoStart, IsUndriven};
 
@@ -46,7 +46,7 @@ impl Open {
 
     /// Whether these choices have a bit for each open start, and in each cycle one for each open bit.
     pub fn fits(&self, choices: &Choices) -> bool
-        ensures { IsTrue result → AreChoicesFor self.now choices.now }
+        ensures { IsTrue result ↔ AreChoicesFor self.now choices.now }
     {
         let width = self.inputs.len();
         let rows = choices.inputs();
