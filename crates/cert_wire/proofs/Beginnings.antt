@@ -48,7 +48,7 @@ first_none ss n f h = let e = has_first ss f h in cc
 
 module _ (vars : ℕ) where
   -- the first fault of bytes
-  abbrev fault_so_far : List ℕ → Option WireFault
+  abbrev pub fault_so_far : List ℕ → Option WireFault
   fault_so_far bytes = fault_in (sayings_from vars Open false 0 (lines_of bytes))
 
   abbrev fault_at_end : List ℕ → Option WireFault
@@ -76,8 +76,8 @@ module _ (vars : ℕ) where
   same_fault o f g e h = cc
 
   -- it stands within these bytes, not before its byte, and from it on
-  abbrev IsFirstOf : List ℕ → ℕ → WireFault → Type 0
-  IsFirstOf bytes n f = (f.byte < n) × (fault_so_far (take f.byte bytes) ≡ None) × ((g : WireFault) × (fault_so_far (take (f.byte + 1) bytes) ≡ Some g))
+  abbrev pub IsFirstOf : List ℕ → ℕ → WireFault → Type 0
+  IsFirstOf bytes n f = (f.byte < n) × (fault_so_far (take f.byte bytes) ≡ None) × (fault_so_far (take (f.byte + 1) bytes) ≡ Some f)
 
   first_of : (bytes : List ℕ) (n : ℕ) (f : WireFault) → n ≤ length bytes → fault_so_far (take n bytes) ≡ Some f → IsFirstOf bytes n f
   first_of bytes zero f l e = cc
@@ -94,7 +94,7 @@ module _ (vars : ℕ) where
           let b = comes_at (take n bytes) (get_or bytes n 0) f k next in
           let q : f.byte ≡ n = omega (arith, b, length-take n bytes) in
           let r : f.byte + 1 ≡ suc n = omega (arith, q) in
-          (omega (arith, q), ap (λ i. fault_so_far (take i bytes)) q ∙ k, (f, ap (λ i. fault_so_far (take i bytes)) r ∙ e))
+          (omega (arith, q), ap (λ i. fault_so_far (take i bytes)) q ∙ k, ap (λ i. fault_so_far (take i bytes)) r ∙ e)
       found (Some g) k more =
           let s = same_fault _ g f (stays (take n bytes) (get_or bytes n 0 ∷ []) g k) next in
           let w = more g k in
@@ -135,7 +135,7 @@ module _ (vars : ℕ) where
   begins_before ended bytes f h = begins (take f.byte bytes) (is_first ended bytes f h).1
 
   pub begins_past : (ended : Bool) (bytes : List ℕ) (f : WireFault) → HasFault (sayings vars ended bytes) f → Begins vars (take (f.byte + 1) bytes) → ⊥
-  begins_past ended bytes f h b = let w = (is_first ended bytes f h).2 in begins_not (take (f.byte + 1) bytes) w.0 w.1 b
+  begins_past ended bytes f h b = begins_not (take (f.byte + 1) bytes) f (is_first ended bytes f h).2 b
 
   pub begins_all : (ended : Bool) (bytes : List ℕ) → HasNoFault (sayings vars ended bytes) → Begins vars bytes
   begins_all true bytes h = begins bytes (none (fault_so_far bytes) refl)

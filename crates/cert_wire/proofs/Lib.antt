@@ -9,3 +9,8 @@ pub mod FirstFault
 pub mod Completing
 pub mod Beginnings
 pub mod Closing
+pub mod Lining
+pub mod Placing
+pub mod Parting
+pub mod Exceeding
+pub mod Filling

@@ -2,3 +2,4 @@ pub mod Patterns
 pub mod Lines
 pub mod Faults
 pub mod Readings
+pub mod Printing

@@ -1,3 +1,4 @@
 pub mod Trace
+pub mod Printed
 pub mod Reading
 pub mod Stopped

@@ -5,7 +5,7 @@ mod laws;
 mod reading;
 mod writing;
 
-pub use laws::{text_has_one_run, written_run_is_trace};
+pub use laws::{text_has_one_run, text_shows_the_run, written_run_is_trace};
 pub use reading::{TextFault, read_text};
 pub use writing::text;
 
