@@ -9,3 +9,9 @@ pub mod Pieces
 pub mod Statuses
 pub mod Scopes
 pub mod Tasks
+pub mod Comments
+pub mod Paths
+pub mod Blocks
+pub mod RowsSaid
+pub mod Designs
+pub mod Said

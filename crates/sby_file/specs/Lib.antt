@@ -15,3 +15,7 @@ pub mod Scope
 pub mod Files
 pub mod Task
 pub mod Expand
+pub mod Comments
+pub mod Paths
+pub mod Blocks
+pub mod Said

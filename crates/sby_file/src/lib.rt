@@ -9,6 +9,7 @@ mod expansion;
 mod fault;
 mod files;
 mod headers;
+pub mod laws;
 mod line;
 mod names;
 mod prefix;
@@ -29,6 +30,3 @@ pub use fault::{SbyFault, SbyKind};
 pub use line::Bytes;
 pub use reader::read;
 pub use task_fault::{TaskFault, TaskKind};
-
-#[cfg(test)]
-mod tests;

@@ -1,6 +1,6 @@
 // Task files, whole and at fault.
 
-use super::*;
+use sby_file::{SbyFault, SbyKind, TaskFault, TaskKind, expand, read};
 use sby_terms::{Mode, Status};
 use std::process::Abort;
 use std::test::Fail;
