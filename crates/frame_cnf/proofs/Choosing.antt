@@ -7,28 +7,27 @@ use Rattle.std.proofs.lemmas.Option.{slice_get_within, slice_get-get_or}
 use Rattle.std.proofs.lemmas.List.Elements.{All-nil}
 use Rattle.cnf_form.specs.Cnf.{LitOf, Assignment, Satisfies, SatisfiesClause, LitWithin, lit_in}
 use Rattle.gate_graph.specs.Circuit.{GatesOf}
-use Rattle.gate_words.specs.Words.{row_of}
 use Rattle.sby_bits.specs.Rows.{Row}
 use Rattle.rtlil_design.specs.declared.shape.SigBit.{SigBit}
 use Rattle.rtlil_design.specs.declared.driver.Driver.{Driver}
 use Rattle.rtlil_design.specs.Shape.{DesignOf, IsDesign, IsDeclared}
-use Rattle.rtlil_design.specs.Meaning.{Valuation, Assumed, Broken, IsHeld, Run, bit_in, row_in}
+use Rattle.rtlil_design.specs.Meaning.{Valuation, Broken, IsHeld, Run, bit_in, row_in}
 use Rattle.rtlil_design.specs.Claims.{Shows}
 use Rattle.rtlil_design.specs.Faults.{IsFlat}
 use Rattle.rtlil_design.specs.Order.{IsOrder}
-use Rattle.run_choices.specs.Choices.{AreChoicesFor, AreChosen, AreOpen, AreThose, ChoicesOf, HasNoStart, IsUndriven, OpenOf, Plays, all_bits}
+use Rattle.run_choices.specs.Choices.{AreChoicesFor, AreChosen, AreOpen, AreThose, ChoicesOf, HasNoStart, IsUndriven, OpenOf, Plays, all_bits, held_bits}
 use Rattle.run_choices.proofs.Those.{those_are, those_contain}
 use Rattle.run_choices.proofs.Opening.{open_one}
 use Rattle.frame_cnf.specs.Decoding.{DecodingOf, FrameOf, decoded_by, rows_until, spread}
 use Rattle.frame_cnf.specs.Encoding.{IsDecoded, IsOpen, IsReadOtherwise}
-use Rattle.frame_cnf.specs.Sources.{AreInputs, AreSources, AreStarts, AreTests, nexts, outputs}
+use Rattle.frame_cnf.specs.Sources.{AreInputs, AreSources, AreStartReads, AreStarts, AreTests, IsStartOf, nexts, outputs}
 use Rattle.frame_cnf.specs.Tables.{bit_at}
 use Rattle.frame_cnf.specs.Unroll.{HasRun, IsBad, SomeBad, StartsAs, all_bads, free_bits, is_free, with_clause}
 use Rattle.frame_cnf.proofs.Lists.{all_at, all_flat, at_place, contained_at, length-push, nothing_at, place_of_contained, push-either}
 use Rattle.frame_cnf.proofs.Flats.{rows_bits}
 use Rattle.frame_cnf.proofs.Frames.{frames_same}
 use Rattle.frame_cnf.proofs.Inputs.{nexts_declared, source_inputs}
-use Rattle.frame_cnf.proofs.Registers.{held_output, as_many, follows_bits, next_read, outputs_are_held, starts_bits}
+use Rattle.frame_cnf.proofs.Registers.{held_output, as_many, follows_bits, next_read, outputs_are_held, starts_bit}
 use Rattle.frame_cnf.proofs.Saying.{assumed_same, broken_same}
 use Rattle.frame_cnf.proofs.Unrolling.{assumed_fewer, whole_parts}
 
@@ -192,75 +191,91 @@ rows_end x reads (f ∷ fs) some = by (list_any (lit_in x) f.bads) refl (λ s. r
     by true e ih = (0, f, refl, refl, any_true x f.bads e)
     by false e ih = let r = ih (here some.0 some.1 some.2 some.3 e) in (suc r.0, r.1, ap suc r.2, r.3, r.4)
 
--- the open starts
-starts_those : (d : DesignOf) (outs : List SigBit) (digits : List (Option Bool)) → AreStarts d outs digits → AreThose (HasNoStart d) outs (free_bits outs digits)
-starts_those d [] [] h = refl
-starts_those d [] (s ∷ digits) h = refl
-starts_those d (b ∷ outs) [] h = absurd (let e = h.as_many in omega (arith, e))
-starts_those d (b ∷ outs) (s ∷ digits) h =
-    by s (h.each 0 b s refl refl)
-    (starts_those d outs digits (record { as_many = (let e = h.as_many in omega (arith, e)); each = λ k c t ec et. h.each (suc k) c t ec et }))
-  where
-    by : (s : Option Bool) → ((x : Bool) → (s ≡ Some x) ↔ Rattle.rtlil_design.specs.Meaning.IsRegisterStart d b x) → AreThose (HasNoStart d) outs (free_bits outs digits) →
-        AreThose (HasNoStart d) (b ∷ outs) (cond (is_free s) (b ∷ free_bits outs digits) (free_bits outs digits))
-    by None i r = inl ((λ x start. let z : None ≡ Some x = (i x).1 start in cc), (free_bits outs digits, refl, r))
-    by (Some v) i r = inr ((λ none. none v ((i v).0 refl)), r)
+-- of the open starts those that are read
+starts_rest : (d : DesignOf) (b : SigBit) (outs : List SigBit) (s : Option Bool) (digits : List (Option Bool)) → AreStarts d (b ∷ outs) (s ∷ digits) → AreStarts d outs digits
+starts_rest d b outs s digits h = record {
+  as_many = (let e = h.as_many in omega (arith, e));
+  each = λ k c t ec et. h.each (suc k) c t ec et;
+  digits = λ k c t ec et. h.digits (suc k) c t ec et;
+}
 
-module _ (d : DesignOf) (flat : IsFlat d) (design : IsDesign d) (order : List Driver) (iso : IsOrder d order) (outs news : List SigBit) (digits : List (Option Bool)) (reads : List Bool) (opens : List SigBit)
-    (is : AreSources d outs news digits reads opens) where
+starts_those : (d : DesignOf) (outs open_starts : List SigBit) (digits : List (Option Bool)) → AreStarts d outs digits → AreThose (HasNoStart d) outs open_starts →
+    AreThose (IsReadOtherwise d) open_starts (free_bits outs digits)
+starts_those d [] open_starts digits h those = subst (λ (bits : List SigBit). AreThose (IsReadOtherwise d) bits (let none : List SigBit = [] in none)) (sym those) refl
+starts_those d (b ∷ outs) open_starts [] h those = absurd (let e = h.as_many in omega (arith, e))
+starts_those d (b ∷ outs) open_starts (s ∷ digits) h those = elim those as (λ _. AreThose (IsReadOtherwise d) open_starts (free_bits (b ∷ outs) (s ∷ digits))) [
+  | inl p ↦
+      subst (λ (bits : List SigBit). AreThose (IsReadOtherwise d) bits (free_bits (b ∷ outs) (s ∷ digits))) (sym p.1.1)
+      (taken s (h.each 0 b s refl refl) p.0 p.1.0 (starts_those d outs p.1.0 digits (starts_rest d b outs s digits h) p.1.2))
+  | inr p ↦ left s (h.each 0 b s refl refl) p.0 (starts_those d outs open_starts digits (starts_rest d b outs s digits h) p.1)
+]
+  where
+    taken : (s : Option Bool) → IsStartOf d b s → HasNoStart d b → (rest : List SigBit) → AreThose (IsReadOtherwise d) rest (free_bits outs digits) →
+        AreThose (IsReadOtherwise d) (b ∷ rest) (cond (is_free s) (b ∷ free_bits outs digits) (free_bits outs digits))
+    taken None i none rest r = inl (i.1, (free_bits outs digits, refl, r))
+    taken (Some x) i none rest r = elim i as (λ _. AreThose (IsReadOtherwise d) (b ∷ rest) (free_bits outs digits)) [ inl q ↦ absurd (none x q) | inr q ↦ inr (q.0.1, r) ]
+
+    left : (s : Option Bool) → IsStartOf d b s → (HasNoStart d b → ⊥) → AreThose (IsReadOtherwise d) open_starts (free_bits outs digits) →
+        AreThose (IsReadOtherwise d) open_starts (cond (is_free s) (b ∷ free_bits outs digits) (free_bits outs digits))
+    left None i has r = absurd (has i.0)
+    left (Some x) i has r = r
+
+module _ (d : DesignOf) (flat : IsFlat d) (design : IsDesign d) (order : List Driver) (iso : IsOrder d order) (outs news : List SigBit) (digits : List (Option Bool)) (start_reads reads : List Bool) (opens : List SigBit)
+    (is : AreSources d outs news digits reads opens) (are : AreStartReads d start_reads) where
   inputs : AreInputs d opens
   inputs = source_inputs d outs news digits reads opens is
 
   -- the open bits of the design
   open_bits : OpenOf
-  open_bits = record { starts = free_bits outs digits; inputs = is.undriven.0 }
+  open_bits = record { starts = are.0; inputs = is.undriven.0 }
 
   are_open : AreOpen d open_bits
   unfolding open_bits
-  are_open = record {
-    starts = subst (λ (xs : List SigBit). AreThose (HasNoStart d) xs (free_bits outs digits)) (is.outputs ∙ outputs_are_held d flat) (starts_those d outs digits is.starts);
-    inputs = is.undriven.1;
-  }
+  are_open = record { starts = are.1; inputs = is.undriven.1 }
 
-  pub start_free : (b : SigBit) → IsHeld d b → HasNoStart d b → Contains (free_bits outs digits) b
-  start_free b held none =
-      those_contain (HasNoStart d) outs (free_bits outs digits) (starts_those d outs digits is.starts) b (subst (λ (xs : List SigBit). Contains xs b) (sym is.outputs) (held_output d flat design b held)) none
+  -- those of the open starts that are read
+  read_starts : AreThose (IsReadOtherwise d) are.0 (free_bits outs digits)
+  read_starts = starts_those d outs are.0 digits is.starts (subst (λ (xs : List SigBit). AreThose (HasNoStart d) xs are.0) (sym (is.outputs ∙ outputs_are_held d flat)) are.1)
+
+  open_start : (b : SigBit) → Contains (outputs d) b → HasNoStart d b → Contains are.0 b
+  open_start b c none = those_contain (HasNoStart d) (held_bits d) are.0 are.1 b (subst (λ (xs : List SigBit). Contains xs b) (outputs_are_held d flat) c) none
+
+  -- what a register's bit starts with
+  start_at : (b : SigBit) → Contains (outputs d) b → (k : ℕ) × (s : Option Bool) × (slice_get outs k ≡ Some b) × (slice_get digits k ≡ Some s)
+  start_at b c =
+      let at = place_of_contained (outputs d) b c in
+      let here : slice_get outs at.0 ≡ Some b = subst (λ (xs : List SigBit). slice_get xs at.0 ≡ Some b) (sym is.outputs) at.1 in
+      let l = slice_get_within outs at.0 b here in
+      let n = is.starts.as_many in
+      let s = at_place digits at.0 (omega (arith, l, n)) in
+      (at.0, s.0, here, s.1)
 
   -- two runs with the same choices agree at the bits that are read
   module _ (m : ℕ) (us vs : ℕ → Valuation) (ru : Run d m us) (rv : Run d m vs)
-      (starts_same : row_in (us 0) (free_bits outs digits) ≡ row_in (vs 0) (free_bits outs digits)) (inputs_same : (t : ℕ) → t < m → row_in (us t) is.undriven.0 ≡ row_in (vs t) is.undriven.0) where
+      (starts_same : row_in (us 0) are.0 ≡ row_in (vs 0) are.0) (inputs_same : (t : ℕ) → t < m → row_in (us t) is.undriven.0 ≡ row_in (vs t) is.undriven.0) where
     opens_same : (t : ℕ) → t < m → (b : SigBit) → Contains opens b → bit_in (us t) b ≡ bit_in (vs t) b
     opens_same t h b c =
         let r = those_are (IsReadOtherwise d) is.undriven.0 opens is.undriven.2.inputs b c in
         let at = place_of_contained is.undriven.0 b r.0 in
         rows_bits (us t) (vs t) is.undriven.0 is.undriven.0 (inputs_same t h) at.0 b b at.1 at.1
 
-    first_same : (b : SigBit) → Contains (outputs d) b → bit_in (us 0) b ≡ bit_in (vs 0) b
-    first_same b c =
-        let at = place_of_contained (outputs d) b c in
-        let some = ru.window.some in
-        let here : slice_get outs at.0 ≡ Some b = subst (λ (xs : List SigBit). slice_get xs at.0 ≡ Some b) (sym is.outputs) at.1 in
-        let l = slice_get_within outs at.0 b here in
-        let n = is.starts.as_many in
-        let s = at_place digits at.0 (omega (arith, l, n)) in
-        let are : AreStarts d (outputs d) digits = subst (λ (xs : List SigBit). AreStarts d xs digits) is.outputs is.starts in
-        by at.0 s.0 s.1 here
-        (starts_bits d flat design digits are (us 0) (ru.window.frames 0 some) ru.starts at.0 b s.0 at.1 s.1)
-        (starts_bits d flat design digits are (vs 0) (rv.window.frames 0 some) rv.starts at.0 b s.0 at.1 s.1)
+    first_same : (b : SigBit) → Contains (outputs d) b → IsReadOtherwise d b → bit_in (us 0) b ≡ bit_in (vs 0) b
+    first_same b c read = let at = start_at b c in by at.1 (is.starts.each at.0 b at.1 at.2 at.3)
       where
-        by : (k : ℕ) (s : Option Bool) → slice_get digits k ≡ Some s → slice_get outs k ≡ Some b → StartsAs (bit_in (us 0) b) s → StartsAs (bit_in (vs 0) b) s → bit_in (us 0) b ≡ bit_in (vs 0) b
-        by k None e here p q =
-            let z : HasNoStart d b = λ x start. (let w : None ≡ Some x = (is.starts.each k b None here e x).1 start in cc) in
-            let free = those_contain (HasNoStart d) outs (free_bits outs digits) (starts_those d outs digits is.starts) b (contained_at outs b k here) z in
-            let j = place_of_contained (free_bits outs digits) b free in
-            rows_bits (us 0) (vs 0) (free_bits outs digits) (free_bits outs digits) starts_same j.0 b b j.1 j.1
-        by k (Some x) e here p q = p ∙ sym q
+        by : (s : Option Bool) → IsStartOf d b s → bit_in (us 0) b ≡ bit_in (vs 0) b
+        by None i = let j = place_of_contained are.0 b (open_start b c i.0) in rows_bits (us 0) (vs 0) are.0 are.0 starts_same j.0 b b j.1 j.1
+        by (Some x) i = elim i as (λ _. bit_in (us 0) b ≡ bit_in (vs 0) b) [
+          | inl q ↦
+              let some = ru.window.some in
+              starts_bit d flat design (us 0) (ru.window.frames 0 some) ru.starts b x q ∙ sym (starts_bit d flat design (vs 0) (rv.window.frames 0 some) rv.starts b x q)
+          | inr u ↦ absurd (u.0.1 read)
+        ]
 
     runs_same : (t : ℕ) → t < m → (b : SigBit) → IsDeclared d.wires d.free b → IsReadOtherwise d b → bit_in (us t) b ≡ bit_in (vs t) b
     runs_same zero h = frames_same d flat design order iso opens inputs (us 0) (vs 0) (ru.window.frames 0 h) (rv.window.frames 0 h) first_same (opens_same 0 h)
     runs_same (suc t) h =
         frames_same d flat design order iso opens inputs (us (suc t)) (vs (suc t)) (ru.window.frames (suc t) h) (rv.window.frames (suc t) h)
-        (λ b c.
+        (λ b c _.
         let at = place_of_contained (outputs d) b c in
         let l = slice_get_within (outputs d) at.0 b at.1 in
         let n = as_many d flat design in
@@ -275,7 +290,7 @@ module _ (d : DesignOf) (flat : IsFlat d) (design : IsDesign d) (order : List Dr
       (runs : (x : Assignment) → Satisfies x g.formula.clauses → (vs : ℕ → Valuation) × HasRun d outs opens digits n x vs starts frames)
       (x : Assignment) (s : Satisfies x (with_clause g.formula (all_bads frames)).clauses) where
     choices : ChoicesOf
-    choices = decoded_by (record { starts = starts; reads = reads; frames = frames }) x
+    choices = decoded_by (record { starts = starts; start_reads = start_reads; reads = reads; frames = frames }) x
 
     record IsEnd (vs : ℕ → Valuation) : Type 0 where
       pub run : HasRun d outs opens digits n x vs starts frames
@@ -293,6 +308,20 @@ module _ (d : DesignOf) (flat : IsFlat d) (design : IsDesign d) (order : List Dr
         let e = rows_end x reads frames w.1 in
         (o.0, record { run = o.1; rows = rows_are x reads frames; last = e.0; frame = e.1; size = e.2; at = e.3; bad = e.4 })
 
+    -- the first cycle of the assignment's run
+    some_cycle : (vs : ℕ → Valuation) → IsEnd vs → 0 < n
+    some_cycle vs e = let few = e.rows.few in let size = e.size in omega (arith, few, count, size)
+
+    read_start : (vs : ℕ → Valuation) → IsEnd vs → (j : ℕ) (b : SigBit) → slice_get (free_bits outs digits) j ≡ Some b → bit_in (vs 0) b ≡ bit_at x starts j
+    read_start vs e j b eb = sym (row_at (vs 0) (free_bits outs digits) j b eb) ∙ ap (λ (bits : Row). slice_index_or bits j false) (e.run.start (some_cycle vs e))
+
+    unread_start : (vs : ℕ → Valuation) → IsEnd vs → (b : SigBit) → Contains (outputs d) b → HasNoStart d b → (IsReadOtherwise d b → ⊥) → bit_in (vs 0) b ≡ false
+    unread_start vs e b c none unread = let at = start_at b c in by at.1 (is.starts.each at.0 b at.1 at.2 at.3) (e.run.starts_as (some_cycle vs e) at.0 b at.1 at.2 at.3)
+      where
+        by : (s : Option Bool) → IsStartOf d b s → StartsAs (bit_in (vs 0) b) s → bit_in (vs 0) b ≡ false
+        by None i st = absurd (unread i.1)
+        by (Some y) i st = elim i as (λ _. bit_in (vs 0) b ≡ false) [ inl q ↦ absurd (none y q) | inr u ↦ st ∙ u.1 ]
+
     -- the run of the assignment has these choices
     plays : (vs : ℕ → Valuation) → IsEnd vs → Plays d choices vs
     unfolding choices open_bits
@@ -305,10 +334,14 @@ module _ (d : DesignOf) (flat : IsFlat d) (design : IsDesign d) (order : List Dr
             window = record { some = omega (arith, size); frames = λ t h. c.frames t (omega (arith, few, count, h)); follows = λ t h. c.follows t (omega (arith, few, count, h)) };
             starts = c.starts (omega (arith, few, count, size));
           };
-          opens = record { starts = free_bits outs digits; inputs = is.undriven.0 };
+          opens = record { starts = are.0; inputs = is.undriven.0 };
           are = are_open;
           chosen = record {
-            starts = e.run.start (omega (arith, few, count, size));
+            starts = spread_row (IsReadOtherwise d) x (vs 0) starts are.0 (free_bits outs digits) start_reads 0 are.2 read_starts
+                (λ j b eb. let z : j ≡ 0 + j = omega arith in read_start vs e j b eb ∙ ap (bit_at x starts) z)
+                (λ j b eb none.
+                let r = those_are (HasNoStart d) (held_bits d) are.0 are.1 b (contained_at are.0 b j eb) in
+                unread_start vs e b (subst (λ (xs : List SigBit). Contains xs b) (sym (outputs_are_held d flat)) r.0) r.1 none);
             inputs = λ t row er.
                 let f = e.rows.each t row er in
                 let h = e.run.each t f.0 f.1 in
@@ -328,10 +361,20 @@ module _ (d : DesignOf) (flat : IsFlat d) (design : IsDesign d) (order : List Dr
       unfolding choices open_bits plays
       like =
           let q = plays vs e in
-          runs_same (length (rows_until x reads frames)) us vs p.run q.run (chosen.starts ∙ sym (e.run.start (let few = e.rows.few in let size = e.size in omega (arith, few, count, size))))
+          runs_same (length (rows_until x reads frames)) us vs p.run q.run (chosen.starts ∙ sym q.chosen.starts)
           (λ t h.
           let row = at_place (rows_until x reads frames) t h in
           chosen.inputs t row.0 row.1 ∙ sym (q.chosen.inputs t row.0 row.1))
+
+      start_like : (b : SigBit) → Contains are.0 b → bit_in (us 0) b ≡ bit_in (vs 0) b
+      unfolding choices open_bits plays
+      start_like b c =
+          let q = plays vs e in
+          let at = place_of_contained are.0 b c in
+          rows_bits (us 0) (vs 0) are.0 are.0 (chosen.starts ∙ sym q.chosen.starts) at.0 b b at.1 at.1
+
+      zero_starts : (b : SigBit) → IsHeld d b → HasNoStart d b → (IsReadOtherwise d b → ⊥) → bit_in (us 0) b ≡ false
+      zero_starts b held none unread = let c = held_output d flat design b held in start_like b (open_start b c none) ∙ unread_start vs e b c none unread
 
       bad_end : IsBad d e.last vs
       bad_end = (e.run.each e.last e.frame e.at).bads.0 e.bad
@@ -373,14 +416,22 @@ module _ (d : DesignOf) (flat : IsFlat d) (design : IsDesign d) (order : List Dr
       zeros t b h o none = unread_zero t b h o (λ i. none (those_are (IsReadOtherwise d) is.undriven.0 opens is.undriven.2.inputs b i).1)
 
     -- all runs with these choices have the literals' values
-    pub start_value : (us : ℕ → Valuation) → Plays d (decoded_by (record { starts = starts; reads = reads; frames = frames }) x) us → (j : ℕ) (b : SigBit) → slice_get (free_bits outs digits) j ≡ Some b →
+    pub start_value : (us : ℕ → Valuation) → Plays d (decoded_by (record { starts = starts; start_reads = start_reads; reads = reads; frames = frames }) x) us → (j : ℕ) (b : SigBit) → slice_get (free_bits outs digits) j ≡ Some b →
         bit_in (us 0) b ≡ bit_at x starts j
-    unfolding choices open_bits
+    unfolding choices
     start_value us p j b e =
         let r = ends in
-        sym (row_at (us 0) (free_bits outs digits) j b e) ∙ ap (λ (bits : Row). slice_index_or bits j false) (chosen r.0 us r.1 p).starts
+        let c = those_are (IsReadOtherwise d) are.0 (free_bits outs digits) read_starts b (contained_at (free_bits outs digits) b j e) in
+        start_like r.0 us r.1 p b c.0 ∙ read_start r.0 r.1 j b e
 
-    pub input_value : (us : ℕ → Valuation) → Plays d (decoded_by (record { starts = starts; reads = reads; frames = frames }) x) us → (t : ℕ) (f : FrameOf) → t < length (rows_until x reads frames) →
+    pub start_rest : (us : ℕ → Valuation) → Plays d (decoded_by (record { starts = starts; start_reads = start_reads; reads = reads; frames = frames }) x) us → (b : SigBit) → IsHeld d b → HasNoStart d b →
+        (Contains (free_bits outs digits) b → ⊥) → bit_in (us 0) b ≡ false
+    unfolding choices
+    start_rest us p b held none out =
+        let r = ends in
+        zero_starts r.0 us r.1 p b held none (λ read. out (those_contain (IsReadOtherwise d) are.0 (free_bits outs digits) read_starts b (open_start b (held_output d flat design b held) none) read))
+
+    pub input_value : (us : ℕ → Valuation) → Plays d (decoded_by (record { starts = starts; start_reads = start_reads; reads = reads; frames = frames }) x) us → (t : ℕ) (f : FrameOf) → t < length (rows_until x reads frames) →
         slice_get frames t ≡ Some f → (j : ℕ) (b : SigBit) → slice_get opens j ≡ Some b → bit_in (us t) b ≡ bit_at x f.inputs j
     unfolding choices open_bits plays
     input_value us p t f h e j b eb =
@@ -392,12 +443,12 @@ module _ (d : DesignOf) (flat : IsFlat d) (design : IsDesign d) (order : List Dr
         rows_bits (us t) (r.0 t) is.undriven.0 is.undriven.0 ((chosen r.0 us r.1 p).inputs t row.0 row.1 ∙ sym (q.chosen.inputs t row.0 row.1)) at.0 b b at.1 at.1
         ∙ (r.1.run.each t f e).inputs j b eb
 
-    pub rest_value : (us : ℕ → Valuation) → Plays d (decoded_by (record { starts = starts; reads = reads; frames = frames }) x) us → (t : ℕ) (b : SigBit) → t < length (rows_until x reads frames) →
+    pub rest_value : (us : ℕ → Valuation) → Plays d (decoded_by (record { starts = starts; start_reads = start_reads; reads = reads; frames = frames }) x) us → (t : ℕ) (b : SigBit) → t < length (rows_until x reads frames) →
         IsOpen d b → (Contains opens b → ⊥) → bit_in (us t) b ≡ false
     unfolding choices
     rest_value us p t b h o none = let r = ends in unread_zero r.0 us r.1 p t b h o none
 
-    pub decoded_is : IsDecoded d n (decoded_by (record { starts = starts; reads = reads; frames = frames }) x)
+    pub decoded_is : IsDecoded d n (decoded_by (record { starts = starts; start_reads = start_reads; reads = reads; frames = frames }) x)
     unfolding choices
     decoded_is =
         let r = ends in
@@ -410,24 +461,21 @@ module _ (d : DesignOf) (flat : IsFlat d) (design : IsDesign d) (order : List Dr
           shows = λ us p. shown r.0 us r.1 p;
           first = λ us p t a lt b. none_before r.0 us r.1 p t a lt b;
           zeros = λ us p t b h o none. zeros r.0 us r.1 p t b h o none;
+          zero_starts = λ us p b held none unread. zero_starts r.0 us r.1 p b held none unread;
         }
 
   -- the choices are for this design
-  pub choices_for : (starts : List LitOf) (frames : List FrameOf) → length starts ≡ length (free_bits outs digits) → (o : OpenOf) (x : Assignment) → AreOpen d o →
-      AreChoicesFor o (decoded_by (record { starts = starts; reads = reads; frames = frames }) x)
+  pub choices_for : (starts : List LitOf) (frames : List FrameOf) (o : OpenOf) (x : Assignment) → AreOpen d o →
+      AreChoicesFor o (decoded_by (record { starts = starts; start_reads = start_reads; reads = reads; frames = frames }) x)
   unfolding open_bits
-  choices_for starts frames n o x a =
+  choices_for starts frames o x a =
       let same : open_bits ≡ o = open_one d open_bits o are_open a in
-      subst (λ (p : OpenOf). AreChoicesFor p (decoded_by (record { starts = starts; reads = reads; frames = frames }) x)) same
+      subst (λ (p : OpenOf). AreChoicesFor p (decoded_by (record { starts = starts; start_reads = start_reads; reads = reads; frames = frames }) x)) same
       (record {
-        starts = length_row x starts ∙ n;
+        starts = length_spread x starts 0 start_reads ∙ are.2.0;
         inputs = all_rows;
       })
     where
-      length_row : (x : Assignment) (lits : List LitOf) → length (row_of x lits) ≡ length lits
-      length_row x [] = refl
-      length_row x (l ∷ lits) = ap suc (length_row x lits)
-
       all_rows : All (λ (row : Row). length row ≡ length is.undriven.0) (rows_until x reads frames)
       all_rows k row h =
           let at = slice_get-get_or (rows_until x reads frames) k row h in

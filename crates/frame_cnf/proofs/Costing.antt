@@ -11,7 +11,7 @@ use Rattle.rtlil_design.specs.declared.driver.Driver.{Driver}
 use Rattle.rtlil_design.specs.declared.driver.Driver.TheVariants.{Cell, Connect}
 use Rattle.rtlil_design.specs.declared.kind.Kind.{Kind}
 use Rattle.rtlil_design.specs.declared.kind.Kind.TheVariants.{Unary as UnaryCell, Binary as BinaryCell, Compare as CompareCell, Mux, Dff, Statement}
-use Rattle.rtlil_design.specs.declared.kind.Unary.TheVariants.{Not}
+use Rattle.rtlil_design.specs.declared.kind.Unary.TheVariants.{Not, Pos}
 use Rattle.rtlil_design.specs.declared.kind.Binary.TheVariants.{And, Or, Xor}
 use Rattle.rtlil_design.specs.declared.kind.Compare.TheVariants.{Eq}
 use Rattle.rtlil_design.specs.declared.kind.Statement.TheVariants.{Assert, Assume}
@@ -25,7 +25,7 @@ use Rattle.sby_terms.specs.declared.names.JobName.TheVariants.{Base}
 use Rattle.frame_cnf.specs.Jobs.{frames}
 use Rattle.frame_cnf.specs.Encoding.{cell_cost, cost, is_square, port_bits}
 use Rattle.frame_cnf.specs.Sources.{AreSources, outputs_by, outputs_of}
-use Rattle.frame_cnf.specs.Costs.{CanPass, assert_gates, assume_gates, cycle_gates, driver_gates, order_gates, word_gates}
+use Rattle.frame_cnf.specs.Costs.{CanPass, assert_gates, assume_gates, cycle_gates, driver_gates, kind_gates, order_gates, word_gates}
 use Rattle.frame_cnf.proofs.Inputs.{source_inputs}
 use Rattle.frame_cnf.proofs.Registers.{outputs_are_held}
 use Rattle.frame_cnf.proofs.Lists.{push-either}
@@ -56,12 +56,12 @@ abbrev is_word : Role → Bool
 is_word Combinational = true
 is_word _ = false
 
-abbrev cell_gates : CellOf → ℕ
-cell_gates c = cond (is_word (role_of c.kind)) (16 * port_bits c) 0
+abbrev listed_gates : CellOf → ℕ
+listed_gates c = cond (is_word (role_of c.kind)) (16 * port_bits c) 0
 
 abbrev gates_at : Option CellOf → ℕ
 gates_at None = 0
-gates_at (Some c) = cell_gates c
+gates_at (Some c) = listed_gates c
 
 abbrev amount : List CellOf → Driver → ℕ
 amount cells (Cell i) = gates_at (slice_get cells i)
@@ -108,32 +108,32 @@ once_at n w (r ∷ rs) once = by (is_at n r) refl (once_at n w rs (λ k l s p q.
         omega (arith, a, rest, here)
 
 -- one more cell
-amount_more : (xs : List CellOf) (c : CellOf) (r : Driver) → amount (xs ++ c ∷ []) r ≤ amount xs r + cond (is_at (length xs) r) (cell_gates c) 0
+amount_more : (xs : List CellOf) (c : CellOf) (r : Driver) → amount (xs ++ c ∷ []) r ≤ amount xs r + cond (is_at (length xs) r) (listed_gates c) 0
 amount_more xs c (Connect i k) = omega arith
 amount_more xs c (Cell i) = by (slice_get (xs ++ c ∷ []) i) refl
   where
-    by : (o : Option CellOf) → slice_get (xs ++ c ∷ []) i ≡ o → gates_at (slice_get (xs ++ c ∷ []) i) ≤ gates_at (slice_get xs i) + cond (eqb i (length xs)) (cell_gates c) 0
+    by : (o : Option CellOf) → slice_get (xs ++ c ∷ []) i ≡ o → gates_at (slice_get (xs ++ c ∷ []) i) ≤ gates_at (slice_get xs i) + cond (eqb i (length xs)) (listed_gates c) 0
     by None e = let z = ap gates_at e in omega (arith, z)
-    by (Some y) e = elim (push-either xs c y i e) as (λ _. gates_at (slice_get (xs ++ c ∷ []) i) ≤ gates_at (slice_get xs i) + cond (eqb i (length xs)) (cell_gates c) 0) [
+    by (Some y) e = elim (push-either xs c y i e) as (λ _. gates_at (slice_get (xs ++ c ∷ []) i) ≤ gates_at (slice_get xs i) + cond (eqb i (length xs)) (listed_gates c) 0) [
       | inl g ↦ let z = ap gates_at e in let q = ap gates_at g in omega (arith, z, q)
       | inr g ↦
           let z = ap gates_at e in
-          let q = ap cell_gates g.1 in
+          let q = ap listed_gates g.1 in
           let b : eqb i (length xs) ≡ true = eq-eqb i (length xs) g.0 in
-          let t = ap (λ (x : Bool). cond x (cell_gates c) 0) b in
+          let t = ap (λ (x : Bool). cond x (listed_gates c) 0) b in
           omega (arith, z, q, t)
     ]
 
 module _ (rs : List Driver) (once : (k l : ℕ) (r : Driver) → slice_get rs k ≡ Some r → slice_get rs l ≡ Some r → k ≡ l) where
-  amounts : (xs ys : List CellOf) → sum_by (amount (xs ++ ys)) rs ≤ sum_by (amount xs) rs + sum_by cell_gates ys
+  amounts : (xs ys : List CellOf) → sum_by (amount (xs ++ ys)) rs ≤ sum_by (amount xs) rs + sum_by listed_gates ys
   amounts xs [] = let e = ap (λ (zs : List CellOf). sum_by (amount zs) rs) (append-nil xs) in omega (arith, e)
   amounts xs (y ∷ ys) =
       let e = ap (λ (zs : List CellOf). sum_by (amount zs) rs) (assoc xs y ys) in
       let r = amounts (xs ++ y ∷ []) ys in
-      let m = sum_le (amount (xs ++ y ∷ [])) (λ r. amount xs r + cond (is_at (length xs) r) (cell_gates y) 0) rs (λ k r h. amount_more xs y r) in
-      let b = sum_both (amount xs) (λ r. cond (is_at (length xs) r) (cell_gates y) 0) rs in
-      let o = once_at (length xs) (cell_gates y) rs once in
-      let c = sum_by-cons cell_gates y ys in
+      let m = sum_le (amount (xs ++ y ∷ [])) (λ r. amount xs r + cond (is_at (length xs) r) (listed_gates y) 0) rs (λ k r h. amount_more xs y r) in
+      let b = sum_both (amount xs) (λ r. cond (is_at (length xs) r) (listed_gates y) 0) rs in
+      let o = once_at (length xs) (listed_gates y) rs once in
+      let c = sum_by-cons listed_gates y ys in
       omega (arith, e, r, m, b, o, c)
     where
       assoc : (xs : List CellOf) (y : CellOf) (ys : List CellOf) → xs ++ y ∷ ys ≡ (xs ++ y ∷ []) ++ ys
@@ -151,7 +151,13 @@ module _ (rs : List Driver) (once : (k l : ℕ) (r : Driver) → slice_get rs k 
           none (Cell i) = refl
           none (Connect i k) = refl
 
-pub order_bound : (d : DesignOf) (order : List Driver) → IsOrder d order → order_gates d order ≤ sum_by cell_gates d.cells
+-- a word takes at most 16 gates for each bit of the ports
+kind_few : (k : Kind) (w : ℕ) → kind_gates k w ≤ 16 * w
+kind_few (UnaryCell Not) w = omega arith
+kind_few (UnaryCell Pos) w = omega arith
+kind_few _ w = omega arith
+
+pub order_bound : (d : DesignOf) (order : List Driver) → IsOrder d order → order_gates d order ≤ sum_by listed_gates d.cells
 order_bound d order is =
     let m = sum_le (driver_gates d) (amount d.cells) order (λ k r e. each r (is.drivers k r e)) in
     let a = amounts order is.once [] d.cells in
@@ -164,7 +170,8 @@ order_bound d order is =
         let b = ap gates_at is in
         let e : is_word (role_of c.kind) ≡ true = ap is_word role in
         let t = ap (λ (x : Bool). cond x (16 * port_bits c) 0) e in
-        omega (arith, a, b, t)
+        let few = kind_few c.kind (port_bits c) in
+        omega (arith, a, b, t, few)
     each (Connect i k) h = omega arith
 
 -- a signal is a part of a cell's ports
@@ -195,7 +202,7 @@ kind_bound (Statement Assume) c w s q h = let one = h refl in omega (arith, one)
 kind_bound _ c w s q h = absurd (true≢false (sym s))
 
 module _ (d : DesignOf) (flat : IsFlat d) (design : IsDesign d) where
-  cell_bound : (i : ℕ) (c : CellOf) → IsCell d i c → length (outputs_of c) + (cell_gates c + (assume_gates c + assert_gates c)) ≤ cell_cost c
+  cell_bound : (i : ℕ) (c : CellOf) → IsCell d i c → length (outputs_of c) + (listed_gates c + (assume_gates c + assert_gates c)) ≤ cell_cost c
   cell_bound i c is =
       kind_bound c.kind c (port_bits c) (flat-served d flat i c is) (signal_part c.ports (codes "Q"))
       (λ role.
@@ -204,12 +211,12 @@ module _ (d : DesignOf) (flat : IsFlat d) (design : IsDesign d) where
       let l = signal_part c.ports (codes "A") in
       omega (arith, e, l))
 
-  cells_bound : (xs : List CellOf) → ((k : ℕ) (c : CellOf) → slice_get xs k ≡ Some c → length (outputs_of c) + (cell_gates c + (assume_gates c + assert_gates c)) ≤ cell_cost c) →
-      length (flat_map outputs_of xs) + (sum_by cell_gates xs + (sum_by assume_gates xs + sum_by assert_gates xs)) ≤ sum_by cell_cost xs
+  cells_bound : (xs : List CellOf) → ((k : ℕ) (c : CellOf) → slice_get xs k ≡ Some c → length (outputs_of c) + (listed_gates c + (assume_gates c + assert_gates c)) ≤ cell_cost c) →
+      length (flat_map outputs_of xs) + (sum_by listed_gates xs + (sum_by assume_gates xs + sum_by assert_gates xs)) ≤ sum_by cell_cost xs
   cells_bound [] h = omega arith
   cells_bound (x ∷ xs) h =
       let o = length-append (outputs_of x) (flat_map outputs_of xs) in
-      let a = sum_by-cons cell_gates x xs in
+      let a = sum_by-cons listed_gates x xs in
       let b = sum_by-cons assume_gates x xs in
       let c = sum_by-cons assert_gates x xs in
       let e = sum_by-cons cell_cost x xs in

@@ -146,7 +146,7 @@ module _ (d : DesignOf) (flat : IsFlat d) (design : IsDesign d) where
 
   module _ (order : List Driver) (is : IsOrder d order) (inputs : List SigBit) (opens : AreInputs d inputs)
       (u v : Valuation) (fu : Frame d u) (fv : Frame d v)
-      (regs : (b : SigBit) → Contains (outputs d) b → bit_in u b ≡ bit_in v b) (ins : (b : SigBit) → Contains inputs b → bit_in u b ≡ bit_in v b) where
+      (regs : (b : SigBit) → Contains (outputs d) b → IsReadOtherwise d b → bit_in u b ≡ bit_in v b) (ins : (b : SigBit) → Contains inputs b → bit_in u b ≡ bit_in v b) where
     -- bits that no driver drives
     base_same : (b : SigBit) → IsDeclared d.wires d.free b → IsReadOtherwise d b → ((r : Driver) → Drives d r b → ⊥) → bit_in u b ≡ bit_in v b
     base_same b db read none = stable_bit (bit_in u b) (bit_in v b)
@@ -155,7 +155,7 @@ module _ (d : DesignOf) (flat : IsFlat d) (design : IsDesign d) where
         by : (b : SigBit) → IsDeclared d.wires d.free b → IsReadOtherwise d b → ((r : Driver) → Drives d r b → ⊥) → (bit_in u b ≢ bit_in v b) → ⊥
         by (Const c) db read none ne = ne refl
         by (Wire w i) db read none ne =
-            let undriven : Contains (driven d) (Wire w i) → ⊥ = λ h. elim (driven_cases (Wire w i) h) as (λ _. ⊥) [ inl p ↦ none p.0 p.1 | inr p ↦ ne (regs (Wire w i) p) ] in
+            let undriven : Contains (driven d) (Wire w i) → ⊥ = λ h. elim (driven_cases (Wire w i) h) as (λ _. ⊥) [ inl p ↦ none p.0 p.1 | inr p ↦ ne (regs (Wire w i) p read) ] in
             ne (ins (Wire w i) (opens.all (Wire w i) (wire_bit d w i db, undriven) read))
         by (Free n) db read none ne = ne (ins (Free n) (opens.all (Free n) (free_bit d n db, free_undriven d flat n) read))
 

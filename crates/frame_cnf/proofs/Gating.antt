@@ -42,20 +42,11 @@ AddsInputs-input g h l is m = record {
 }
 
 -- the variables of inputs
-pub MakesInput-var : (g h : GatesOf) (l k : LitOf) → k.var ≡ l.var → MakesInput g h l → MakesInput g h k
-MakesInput-var g h l k e m = record {
-  continues = m.continues;
-  inputs = m.inputs ∙ ap (λ (v : ℕ). g.inputs ++ v ∷ []) (sym e);
-  most = m.most;
-  within = subst (λ (v : ℕ). (0 < v) × (v ≤ h.formula.vars)) (sym e) m.within;
-  fresh = subst (λ (v : ℕ). g.formula.vars < v) (sym e) m.fresh;
-}
-
 pub MakesInputs-none : (g : GatesOf) → MakesInputs g g []
 MakesInputs-none g = record { vars = sym (append-nil g.inputs); plain = All-nil (λ (l : LitOf). l.negated ≡ false) }
 
-pub MakesInputs-one : (g h : GatesOf) (l : LitOf) → MakesInput g h l → l.negated ≡ false → MakesInputs g h (l ∷ [])
-MakesInputs-one g h l m e = record { vars = m.inputs; plain = All-push (λ (k : LitOf). k.negated ≡ false) [] l (All-nil (λ (k : LitOf). k.negated ≡ false)) e }
+pub MakesInputs-one : (g h : GatesOf) (l : LitOf) → MakesInput g h l → MakesInputs g h (l ∷ [])
+MakesInputs-one g h l m = record { vars = m.inputs; plain = All-push (λ (k : LitOf). k.negated ≡ false) [] l (All-nil (λ (k : LitOf). k.negated ≡ false)) m.plain }
 
 pub MakesInputs-trans : (f g h : GatesOf) (xs ys : List LitOf) → MakesInputs f g xs → MakesInputs g h ys → MakesInputs f h (xs ++ ys)
 MakesInputs-trans f g h xs ys p q = record {

@@ -17,14 +17,14 @@ use Rattle.rtlil_design.specs.Faults.{IsFlat}
 use Rattle.sby_terms.specs.declared.names.JobName.TheVariants.{Base}
 use Rattle.run_choices.specs.Choices.{Plays}
 use Rattle.frame_cnf.specs.Jobs.{Solvable}
-use Rattle.frame_cnf.specs.Encoding.{CanBeSatisfied, EncodedOf, Propagates, Origin, Start, Input as InputOrigin, IsOrigin, IsLeftFree, HasOrigins, HasValue, IsDistinct, empty_job, IsOpenIn}
-use Rattle.frame_cnf.specs.Sources.{AreInputs, AreSources}
+use Rattle.frame_cnf.specs.Encoding.{CanBeSatisfied, EncodedOf, Propagates, Origin, Start, Input as InputOrigin, IsOrigin, HasOrigins, HasValue, IsDistinct, empty_job, IsOpenIn}
+use Rattle.frame_cnf.specs.Sources.{AreInputs, AreSources, AreStartReads}
 use Rattle.frame_cnf.specs.Decoding.{DecodingOf, FrameOf, rows_until, decoded_by}
 use Rattle.frame_cnf.specs.Unroll.{AreNamed, HasRun, all_bads, free_bits, is_free, vars_of, with_clause}
 use Rattle.frame_cnf.specs.Tables.{bit_at}
 use Rattle.frame_cnf.proofs.Lists.{all_at, all_from, app_cases, at_place, contained_at, flat_more, nothing_at, app_left, app_right, below_or_last, place_of_contained}
 use Rattle.frame_cnf.proofs.Values.{bit_literal}
-use Rattle.frame_cnf.proofs.Choosing.{input_value, start_value, rest_value, rows_are, start_free}
+use Rattle.frame_cnf.proofs.Choosing.{input_value, start_rest, start_value, rest_value, rows_are}
 use Rattle.frame_cnf.proofs.Inputs.{source_inputs}
 use Rattle.frame_cnf.proofs.Registers.{output_held}
 use Rattle.frame_cnf.proofs.Sourcing.{outs_distinct}
@@ -275,20 +275,19 @@ module _ (x : Assignment) (vs : ℕ → Valuation) (m : ℕ) (starts opens : Lis
       ]
 
 module _ (d : DesignOf) (flat : IsFlat d) (design : IsDesign d) (outs news : List SigBit) (starts : List (Option Bool)) (reads : List Bool) (opens : List SigBit) (is : AreSources d outs news starts reads opens) where
-  left_free : (k : ℕ) (b : SigBit) → slice_get (free_bits outs starts) k ≡ Some b → IsLeftFree d Base b
+  left_free : (k : ℕ) (b : SigBit) → slice_get (free_bits outs starts) k ≡ Some b → IsOrigin d Base 0 (Start b)
   left_free k b h =
-      let f = free_from outs starts k b h in (
-        output_held d flat design f.0 b (subst (λ (xs : List SigBit). slice_get xs f.0 ≡ Some b) is.outputs f.1),
-        (λ x start. let z : None ≡ Some x = (is.starts.each f.0 b None f.1 f.2 x).1 start in cc),
-      )
+      let f = free_from outs starts k b h in
+      let i = is.starts.each f.0 b None f.1 f.2 in
+      ((output_held d flat design f.0 b (subst (λ (xs : List SigBit). slice_get xs f.0 ≡ Some b) is.outputs f.1), i.0), i.1)
 
   inputs : AreInputs d opens
   inputs = source_inputs d outs news starts reads opens is
 
-  pub origins_gates : (order : List Driver) → IsOrder d order → (n : ℕ) (g : GatesOf) (lits : List LitOf) (frames : List FrameOf) → IsGates g → IsDistinct g.inputs → length g.inputs ≡ count_by is_free starts + n * length opens →
+  pub origins_gates : (order : List Driver) → IsOrder d order → (start_reads : List Bool) → AreStartReads d start_reads → (n : ℕ) (g : GatesOf) (lits : List LitOf) (frames : List FrameOf) → IsGates g → IsDistinct g.inputs → length g.inputs ≡ count_by is_free starts + n * length opens →
       AreNamed opens g lits frames → length lits ≡ length (free_bits outs starts) → length frames ≡ n → ((x : Assignment) → Satisfies x g.formula.clauses → (vs : ℕ → Valuation) × HasRun d outs opens starts n x vs lits frames) →
-      HasOrigins d Base n (record { formula = with_clause g.formula (all_bads frames); free_vars = g.inputs; decoding = record { starts = lits; reads = reads; frames = frames } })
-  origins_gates order iso n g lits frames ig distinct count named many as_many runs = record {
+      HasOrigins d Base n (record { formula = with_clause g.formula (all_bads frames); free_vars = g.inputs; decoding = record { starts = lits; start_reads = start_reads; reads = reads; frames = frames } })
+  origins_gates order iso start_reads are n g lits frames ig distinct count named many as_many runs = record {
     distinct = distinct;
     within = all_from (λ v. (0 < v) × (v ≤ g.formula.vars)) g.inputs (λ k v h. ig.inputs_within v (contained_at g.inputs v k h));
     origins = origins_of (free_bits outs starts) opens n;
@@ -301,19 +300,21 @@ module _ (d : DesignOf) (flat : IsFlat d) (design : IsDesign d) (outs news : Lis
         ]);
     values = λ _ x s vs p k v o ev eo.
         named_values x vs (length (rows_until x reads frames)) (free_bits outs starts) opens lits frames named.starts named.inputs many
-        (start_value d flat design order iso outs news starts reads opens is n g lits frames as_many runs x s vs p)
-        (input_value d flat design order iso outs news starts reads opens is n g lits frames as_many runs x s vs p) n (omega (arith, as_many)) k v o
+        (start_value d flat design order iso outs news starts start_reads reads opens is are n g lits frames as_many runs x s vs p)
+        (input_value d flat design order iso outs news starts start_reads reads opens is are n g lits frames as_many runs x s vs p) n (omega (arith, as_many)) k v o
         (subst (λ (us : List ℕ). slice_get us k ≡ Some v) (named.vars ∙ ap (λ (fs : List FrameOf). vars_of lits fs) (sym (take_all n frames (omega (arith, as_many))))) ev) eo;
     rest = λ _ x s vs p o open_bit out. rest_of x s vs p o open_bit out;
   }
     where
-      rest_of : (x : Assignment) → Satisfies x (with_clause g.formula (all_bads frames)).clauses → (vs : ℕ → Valuation) → Plays d (decoded_by (record { starts = lits; reads = reads; frames = frames }) x) vs →
+      rest_of : (x : Assignment) → Satisfies x (with_clause g.formula (all_bads frames)).clauses → (vs : ℕ → Valuation) → Plays d (decoded_by (record { starts = lits; start_reads = start_reads; reads = reads; frames = frames }) x) vs →
           (o : Origin) → IsOpenIn d (length (rows_until x reads frames)) o → (Contains (origins_of (free_bits outs starts) opens n) o → ⊥) → HasValue vs (length (rows_until x reads frames)) o false
       rest_of x s vs p (Start b) open_bit out =
-          let at = place_of_contained (free_bits outs starts) b (start_free d flat design order iso outs news starts reads opens is b open_bit.0 open_bit.1) in
-          absurd (out (contained_at (origins_of (free_bits outs starts) opens n) (Start b) at.0 (origin_start (free_bits outs starts) opens n at.0 b at.1)))
+          start_rest d flat design order iso outs news starts start_reads reads opens is are n g lits frames as_many runs x s vs p b open_bit.0 open_bit.1
+          (λ c.
+          let at = place_of_contained (free_bits outs starts) b c in
+          out (contained_at (origins_of (free_bits outs starts) opens n) (Start b) at.0 (origin_start (free_bits outs starts) opens n at.0 b at.1)))
       rest_of x s vs p (InputOrigin t b) open_bit out = λ lt.
-          rest_value d flat design order iso outs news starts reads opens is n g lits frames as_many runs x s vs p t b lt open_bit.1
+          rest_value d flat design order iso outs news starts start_reads reads opens is are n g lits frames as_many runs x s vs p t b lt open_bit.1
           (λ c.
           let few = (rows_are x reads frames).few in
           let at = place_of_contained opens b c in

@@ -1,5 +1,5 @@
 -- The bits of registers, what they take next, and how they start.
-use Rattle.std.proofs.Common.{◌≡◌, ◌≢◌, ℕ, zero, suc, ◌+◌, ◌<◌, Bool, true, eqb, List, [], ◌∷◌, Option, Some, None, refl, sym, ap, ◌∙◌, subst, arith, length, codes, get_or}
+use Rattle.std.proofs.Common.{◌≡◌, ◌≢◌, ℕ, zero, suc, ◌+◌, ◌<◌, Bool, true, eqb, List, [], ◌∷◌, Option, Some, refl, sym, ap, ◌∙◌, subst, arith, length, codes, get_or}
 use Rattle.std.specs.Prelude.{slice_get, Contains}
 use Rattle.std.specs.List.{flat_map}
 use Rattle.std.proofs.lemmas.Bool.{true≢false}
@@ -12,7 +12,7 @@ use Rattle.rtlil_design.specs.declared.kind.Kind.TheVariants.{Dff}
 use Rattle.rtlil_design.specs.Shape.{CellOf, DesignOf, IsDesign}
 use Rattle.rtlil_design.specs.Cells.{next_fn}
 use Rattle.rtlil_design.specs.Asked.{Role, is_served, output_of, output_port, ports_asked, parameter, role_of, signal_at, port, PortAsked, Combinational, Register, Constant, Initial, Saying}
-use Rattle.rtlil_design.specs.Meaning.{Valuation, Frame, Follows, Starts, Chain, IsCell, IsHeld, bit_in, row_in, parameters_in, ports_in}
+use Rattle.rtlil_design.specs.Meaning.{Valuation, Frame, Follows, Starts, Chain, IsCell, IsHeld, IsRegisterStart, bit_in, row_in, parameters_in, ports_in}
 use Rattle.rtlil_design.specs.Faults.{IsFlat, driven}
 use Rattle.rtlil_design.specs.Order.{Drives}
 use Rattle.rtlil_design.specs.declared.driver.Driver.{Driver}
@@ -220,11 +220,8 @@ module _ (d : DesignOf) (flat : IsFlat d) (design : IsDesign d) where
   chain_value v f zero a b h = ap (bit_in v) h
   chain_value v f (suc n) a b (m, (i, j, k, e, ea, em), rest) = rows_bits v v j.left j.right (f.connects i j e) k a m ea em ∙ chain_value v f n m b rest
 
-  pub starts_bits : (starts : List (Option Bool)) → AreStarts d (outputs d) starts → (v : Valuation) → Frame d v → Starts d v →
-      (k : ℕ) (q : SigBit) (s : Option Bool) → slice_get (outputs d) k ≡ Some q → slice_get starts k ≡ Some s → StartsAs (bit_in v q) s
-  starts_bits starts are v f st k q None eq es = tt
-  starts_bits starts are v f st k q (Some x) eq es =
-      let r = (are.each k q (Some x) eq es x).0 refl in
+  pub starts_bit : (v : Valuation) → Frame d v → Starts d v → (q : SigBit) (x : Bool) → IsRegisterStart d q x → bit_in v q ≡ x
+  starts_bit v f st q x r =
       let (w, b, n, init, chain) = r.1 in
       sym (chain_value v f n (Wire w b) q chain) ∙ st.digits w b x (init, (n, q, chain, r.0))
 
@@ -236,7 +233,7 @@ module _ (d : DesignOf) (flat : IsFlat d) (design : IsDesign d) where
         let l = slice_get_within (outputs d) at.0 a at.1 in
         let m = are.as_many in
         let s = at_place starts at.0 (omega arith) in
-        let e : s.0 ≡ Some x = (are.each at.0 a s.0 at.1 s.1 x).1 (held, (w, b, n, init, chain)) in
+        let e : s.0 ≡ Some x = are.digits at.0 a s.0 at.1 s.1 x (held, (w, b, n, init, chain)) in
         chain_value v f n (Wire w b) a chain ∙ subst (StartsAs (bit_in v a)) e (h at.0 a s.0 at.1 s.1);
     initial = λ i c is role. absurd (initial i c role (part_of c.kind (flat-served d flat i c is)));
   }

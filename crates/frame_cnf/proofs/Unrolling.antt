@@ -19,7 +19,7 @@ use Rattle.rtlil_design.specs.Places.{place_of}
 use Rattle.sby_terms.specs.declared.names.JobName.TheVariants.{Base}
 use Rattle.frame_cnf.specs.Jobs.{Solvable}
 use Rattle.frame_cnf.specs.Encoding.{CanBeSatisfied, IsReadOtherwise}
-use Rattle.frame_cnf.specs.Sources.{AreInputs, AreStarts, nexts, outputs}
+use Rattle.frame_cnf.specs.Sources.{AreInputs, AreStarts, IsStartOf, nexts, outputs}
 use Rattle.frame_cnf.specs.Tables.{AllLow, IsRead, IsTable, bit_at, is_assumed, is_broken, valued}
 use Rattle.frame_cnf.specs.Decoding.{FrameOf}
 use Rattle.frame_cnf.specs.Unroll.{AllAssumed, AreBits, AreNext, Cycles, HasCycles, HasFrame, HasRun, IsBad, IsUnread, Judges, Opens, SomeBad, Starts, StartsAs, Unrolled, all_bads, free_bits, is_free, with_clause}
@@ -28,7 +28,7 @@ use Rattle.frame_cnf.proofs.Flats.{and_left, and_right}
 use Rattle.frame_cnf.proofs.Inputs.{nexts_declared}
 use Rattle.frame_cnf.proofs.Frames.{frames_same}
 use Rattle.frame_cnf.proofs.Saying.{all_assumed, any_broken, assumed_same, broken_same}
-use Rattle.frame_cnf.proofs.Registers.{as_many, bits_follow, bits_start, follows_bits, next_read, starts_bits}
+use Rattle.frame_cnf.proofs.Registers.{as_many, bits_follow, bits_start, follows_bits, next_read, starts_bit}
 use Rattle.frame_cnf.proofs.Gating.{AreBits-agrees, all_more, clause_agrees, lit_agrees}
 use Rattle.frame_cnf.proofs.Values.{valued_at}
 
@@ -130,12 +130,42 @@ module _ (d : DesignOf) (flat : IsFlat d) (design : IsDesign d) (order : List Dr
           (bits_start d flat design starts digits v f (λ k q s eq es. subst (λ (b : Bool). StartsAs b s) (sym (row k q eq)) (n k s (slice_get_within starts k s es) es)))
       first (suc t) c n = subst (StartsDesign d) (sym (put-other vs (suc t) v 0 (omega arith))) (c.starts (omega arith))
 
-  -- what the registers have in a cycle of a run
-  run_next : (t : ℕ) (vs : ℕ → Valuation) → Cycles d (suc t) vs → AreNext (nexts d) starts t vs (bits_of (vs t) (outputs d))
-  run_next zero vs c = λ k s h es.
+  -- The bits that the registers' literals have where the next cycle is that of a run: those of the run, but for what starts with 0 since
+  -- nothing reads it.
+  start_or : Option (Option Bool) → Bool → Bool
+  start_or None z = z
+  start_or (Some None) z = z
+  start_or (Some (Some x)) z = x
+
+  row_bits : ℕ → (ℕ → Valuation) → ℕ → Bool
+  row_bits zero vs k = start_or (slice_get starts k) (bits_of (vs 0) (outputs d) k)
+  row_bits (suc t) vs k = bits_of (vs (suc t)) (outputs d) k
+
+  -- they are the run's where they are read
+  row_read : (t : ℕ) (vs : ℕ → Valuation) → Cycles d (suc t) vs → (k : ℕ) (b : SigBit) → slice_get (outputs d) k ≡ Some b → IsReadOtherwise d b → row_bits t vs k ≡ bit_in (vs t) b
+  unfolding row_bits start_or
+  row_read zero vs c k b e read =
       let n = digits.as_many in
-      let q = at_place (outputs d) k (omega arith) in
-      subst (λ (b : Bool). StartsAs b s) (sym (bits_at (vs 0) (outputs d) k q.0 q.1)) (starts_bits d flat design starts digits (vs 0) (c.frames 0 (omega arith)) (c.starts (omega arith)) k q.0 s q.1 es)
+      let l = slice_get_within (outputs d) k b e in
+      let s = at_place starts k (omega (arith, n, l)) in
+      ap (λ (o : Option (Option Bool)). start_or o (bits_of (vs 0) (outputs d) k)) s.1 ∙ by s.0 (digits.each k b s.0 e s.1)
+    where
+      by : (s : Option Bool) → IsStartOf d b s → start_or (Some s) (bits_of (vs 0) (outputs d) k) ≡ bit_in (vs 0) b
+      by None i = bits_at (vs 0) (outputs d) k b e
+      by (Some x) i = elim i as (λ _. x ≡ bit_in (vs 0) b) [
+        | inl r ↦ sym (starts_bit d flat design (vs 0) (c.frames 0 (omega arith)) (c.starts (omega arith)) b x r)
+        | inr u ↦ absurd (u.0.1 read)
+      ]
+  row_read (suc t) vs c k b e read = bits_at (vs (suc t)) (outputs d) k b e
+
+  -- what the registers have in a cycle of a run
+  run_next : (t : ℕ) (vs : ℕ → Valuation) → Cycles d (suc t) vs → AreNext (nexts d) starts t vs (row_bits t vs)
+  unfolding row_bits start_or
+  run_next zero vs c = λ k s h es. subst (λ (o : Option (Option Bool)). StartsAs (start_or o (bits_of (vs 0) (outputs d) k)) s) (sym es) (by s k)
+    where
+      by : (s : Option Bool) (k : ℕ) → StartsAs (start_or (Some s) (bits_of (vs 0) (outputs d) k)) s
+      by None k = tt
+      by (Some x) k = refl
   run_next (suc t) vs c = λ k b e.
       let n = as_many d flat design in
       let l = slice_get_within (nexts d) k b e in
@@ -252,19 +282,19 @@ module _ (d : DesignOf) (flat : IsFlat d) (design : IsDesign d) (order : List Dr
 
     has_run : (vs : ℕ → Valuation) → Cycles d (suc t) vs → RunHas vs
     has_run vs c =
-        let a = un.complete vs (bits_of (vs t) (outputs d)) (cycles_fewer t vs c) (run_next t vs c) in
+        let a = un.complete vs (row_bits t vs) (cycles_fewer t vs c) (run_next t vs c) in
         let b = cycle.grows.extends a.0 (bits_of (vs t) opens) a.1 in
         let within = un.row_within in
-        let row_bits = AreBits-agrees f.formula.vars a.0 b.0 row (bits_of (vs t) (outputs d)) b.2 un.row_within a.2 in
+        let row_is = AreBits-agrees f.formula.vars a.0 b.0 row (row_bits t vs) b.2 un.row_within a.2 in
         record {
           x = b.0;
           satisfies = b.1;
           same = frames_same d flat design order is opens inputs (valued d table b.0) (vs t) (cycle.frame b.0 b.1) (c.frames t (omega arith))
-              (λ y h.
+              (λ y h read.
               let at = place_of_contained (outputs d) y h in
               let l = slice_get_within (outputs d) at.0 y at.1 in
               let n = un.row_as_many in
-              cycle.outputs_set b.0 b.1 at.0 y at.1 ∙ row_bits at.0 (omega arith) ∙ bits_at (vs t) (outputs d) at.0 y at.1)
+              cycle.outputs_set b.0 b.1 at.0 y at.1 ∙ row_is at.0 (omega arith) ∙ row_read t vs c at.0 y at.1 read)
               (λ y h.
               let at = place_of_contained opens y h in
               let l = slice_get_within opens at.0 y at.1 in
@@ -334,6 +364,7 @@ module _ (d : DesignOf) (flat : IsFlat d) (design : IsDesign d) (order : List Dr
       row_first = λ e. absurd (omega arith);
       held_within = assumes.within;
       frames_as_many = length-push before (record { inputs = ins; bads = bads }) ∙ ap suc un.frames_as_many;
+      firsts = λ x s. un.firsts x (cycle.grows.keeps x s);
       bads_within = All-push (λ (z : FrameOf). All (LitWithin g.formula.vars) z.bads) before (record { inputs = ins; bads = bads })
           (All-weaker (λ (z : FrameOf). All (LitWithin f.formula.vars) z.bads) (λ (z : FrameOf). All (LitWithin g.formula.vars) z.bads) (λ z w. all_more f.formula.vars g.formula.vars z.bads cycle.grows.continues.vars w) before un.bads_within)
           judges.within;
@@ -353,6 +384,7 @@ Unrolled-none d outs news opens starts g table row held n st t low w m = record 
   row_first = λ e. refl;
   held_within = w;
   frames_as_many = refl;
+  firsts = st.sound;
   bads_within = All-nil (λ (f : FrameOf). All (LitWithin g.formula.vars) f.bads);
   unread = λ x s b u. low x s b u.0.0;
   sound = λ x s. (
@@ -396,8 +428,15 @@ pub Unrolled-run : (d : DesignOf) (outs news opens : List SigBit) (starts : List
     Unrolled d outs news opens starts t g first table row held frames → (x : Assignment) → Satisfies x g.formula.clauses →
     (vs : ℕ → Valuation) × HasRun d outs opens starts t x vs (free_bits first starts) frames
 Unrolled-run d outs news opens starts t g first table row held frames n un x s =
-    let o = un.sound x s in
-    (o.0, record { cycles = o.1.cycles; start = λ h. free_rows x (o.0 0) outs first starts n (o.1.start h); each = o.1.each })
+    let o = un.sound x s in (
+      o.0,
+      record {
+        cycles = o.1.cycles;
+        start = λ h. free_rows x (o.0 0) outs first starts n (o.1.start h);
+        starts_as = λ h k b z e ez. subst (λ (y : Bool). StartsAs y z) (sym (o.1.start h k b e)) (un.firsts x s k z (slice_get_within starts k z ez) ez);
+        each = o.1.each;
+      },
+    )
 
 -- the clause of all literals that tell that a cycle is bad
 some_clause : (x : Assignment) (frames : List FrameOf) → SatisfiesClause x (all_bads frames) → SomeBad x frames

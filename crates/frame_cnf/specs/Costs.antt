@@ -3,6 +3,9 @@ use Rattle.std.specs.Prelude.{ℕ, ◌+◌, ◌*◌, ◌^◌, ◌<◌, cond, len
 use Rattle.std.specs.List.{sum_by}
 use Rattle.rtlil_design.specs.declared.driver.Driver.{Driver}
 use Rattle.rtlil_design.specs.declared.driver.Driver.TheVariants.{Cell, Connect}
+use Rattle.rtlil_design.specs.declared.kind.Kind.{Kind}
+use Rattle.rtlil_design.specs.declared.kind.Kind.TheVariants.{Unary}
+use Rattle.rtlil_design.specs.declared.kind.Unary.TheVariants.{Not, Pos}
 use Rattle.rtlil_design.specs.Shape.{CellOf, DesignOf}
 use Rattle.rtlil_design.specs.Meaning.{is_assert, is_assume}
 use Rattle.rtlil_design.specs.declared.shape.SigBit.{SigBit}
@@ -11,9 +14,18 @@ use Rattle.run_choices.specs.Choices.{held_bits}
 use Rattle.frame_cnf.specs.Encoding.{port_bits}
 use Rattle.frame_cnf.specs.Sources.{AreInputs}
 
+-- the gates of a cell's word, the widths of its ports being so many together; `$not` and `$pos` have none
+abbrev pub kind_gates : Kind → ℕ → ℕ
+kind_gates (Unary Not) bits = 0
+kind_gates (Unary Pos) bits = 0
+kind_gates _ bits = 16 * bits
+
+abbrev pub cell_gates : CellOf → ℕ
+cell_gates c = kind_gates c.kind (port_bits c)
+
 abbrev pub word_gates : Option CellOf → ℕ
 word_gates None = 0
-word_gates (Some c) = 16 * port_bits c
+word_gates (Some c) = cell_gates c
 
 -- a driver's gates: those of a cell's word; a connect has none
 abbrev pub driver_gates : DesignOf → Driver → ℕ

@@ -3,7 +3,6 @@ use Rattle.std.specs.Prelude.{ℕ, suc, Bool, ◌&&◌, cond, List, [], ◌∷�
 use Rattle.std.specs.List.{list_any}
 use Rattle.sby_bits.specs.Rows.{Row}
 use Rattle.cnf_form.specs.Cnf.{LitOf, Assignment, lit_in}
-use Rattle.gate_words.specs.Words.{row_of}
 use Rattle.run_choices.specs.Choices.{ChoicesOf}
 use Rattle.frame_cnf.specs.Tables.{bit_at}
 
@@ -13,9 +12,10 @@ pub record FrameOf : Type 0 where
   pub inputs : List LitOf
   pub bads : List LitOf
 
--- the literals of the open starts, which of the bits that are open in each cycle have a literal there, and those of each cycle
+-- the literals of the open starts, and which of these have one; those of each cycle, and which of the bits that are open there have one
 pub record DecodingOf : Type 0 where
   pub starts : List LitOf
+  pub start_reads : List Bool
   pub reads : List Bool
   pub frames : List FrameOf
 
@@ -30,4 +30,4 @@ rows_until x reads [] = []
 rows_until x reads (f ∷ fs) = spread x f.inputs 0 reads ∷ cond (list_any (lit_in x) f.bads) [] (rows_until x reads fs)
 
 abbrev pub decoded_by : DecodingOf → Assignment → ChoicesOf
-decoded_by k x = record { starts = row_of x k.starts; inputs = rows_until x k.reads k.frames }
+decoded_by k x = record { starts = spread x k.starts 0 k.start_reads; inputs = rows_until x k.reads k.frames }

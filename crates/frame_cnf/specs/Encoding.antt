@@ -92,8 +92,9 @@ IsLeftFree d Step b = IsHeld d b
 IsLeftFree d Base b = IsHeld d b × HasNoStart d b
 IsLeftFree d (Cover k) b = IsHeld d b × HasNoStart d b
 
+-- what a free variable may stand for
 abbrev pub IsOrigin : DesignOf → JobName → ℕ → Origin → Type 0
-IsOrigin d job n (Start b) = IsLeftFree d job b
+IsOrigin d job n (Start b) = IsLeftFree d job b × IsReadOtherwise d b
 IsOrigin d job n (Input t b) = (t < frames job n) × IsOpen d b × IsReadOtherwise d b
 
 abbrev pub IsDistinct : {A : Type 0} → List A → Type 0
@@ -109,7 +110,7 @@ abbrev pub IsOpenIn : DesignOf → ℕ → Origin → Type 0
 IsOpenIn d m (Start b) = IsHeld d b × HasNoStart d b
 IsOpenIn d m (Input t b) = (t < m) × IsOpen d b
 
--- Each free variable is of the formula and stands for a bit that the job leaves free, no two for one bit. A run with the choices that an
+-- Each free variable is of the formula and stands for a bit that the job leaves free and that is read, no two for one bit. A run with the choices that an
 -- assignment tells has there what the assignment says, and 0 at what is open and has no variable; of Step no choices are told.
 pub record HasOrigins (d : DesignOf) (job : JobName) (n : ℕ) (e : EncodedOf) : Type 0 where
   pub distinct : IsDistinct e.free_vars
@@ -128,7 +129,7 @@ abbrev pub empty_job : FormulaOf
 empty_job = record { vars = 1; clauses = [] ∷ [] }
 
 -- What an assignment that satisfies the formula of Base at depth n is decoded to: choices of which the runs have at most n cycles, the last
--- of them the first that breaks an assertion. A bit that is read nowhere, or as a clock alone, is chosen 0.
+-- of them the first that breaks an assertion. A bit that is read nowhere, or as a clock alone, is chosen 0, an open start too.
 pub record IsDecoded (d : DesignOf) (n : ℕ) (c : ChoicesOf) : Type 0 where
   pub some : 0 < length c.inputs
   pub most : length c.inputs ≤ n
@@ -136,3 +137,4 @@ pub record IsDecoded (d : DesignOf) (n : ℕ) (c : ChoicesOf) : Type 0 where
   pub shows : (vs : ℕ → Valuation) → Plays d c vs → (a : ℕ) × Shows d (length c.inputs) vs a
   pub first : (vs : ℕ → Valuation) → Plays d c vs → (t a : ℕ) → suc t < length c.inputs → Broken d (vs t) a → ⊥
   pub zeros : (vs : ℕ → Valuation) → Plays d c vs → (t : ℕ) (b : SigBit) → t < length c.inputs → IsOpen d b → ¬ IsReadOtherwise d b → bit_in (vs t) b ≡ false
+  pub zero_starts : (vs : ℕ → Valuation) → Plays d c vs → (b : SigBit) → IsHeld d b → HasNoStart d b → ¬ IsReadOtherwise d b → bit_in (vs 0) b ≡ false

@@ -1,5 +1,5 @@
 -- The bits on which a cycle rests: those of registers, and the open bits that are read.
-use Rattle.std.specs.Prelude.{◌≡◌, ◌↔◌, ℕ, ◌+◌, ◌≤◌, Bool, true, false, not, ◌&&◌, cond, bytes_eq, List, [], length, Option, Some, slice_get, slice_index_or, Contains, codes}
+use Rattle.std.specs.Prelude.{◌≡◌, ◌↔◌, ◌⊎◌, ℕ, ◌+◌, ◌≤◌, Bool, true, false, not, ◌&&◌, cond, bytes_eq, List, [], length, Option, Some, None, slice_get, slice_index_or, Contains, codes}
 use Rattle.std.specs.List.{flat_map}
 use Rattle.rtlil_design.specs.declared.shape.SigBit.{SigBit}
 use Rattle.rtlil_design.specs.declared.kind.Kind.{Kind}
@@ -11,7 +11,7 @@ use Rattle.rtlil_design.specs.Marks.{Marked}
 use Rattle.rtlil_design.specs.Places.{place_of, places}
 use Rattle.rtlil_design.specs.Asked.{output_port, role_of, signal_at}
 use Rattle.rtlil_design.specs.Meaning.{IsRegisterStart}
-use Rattle.run_choices.specs.Choices.{AreThose, IsUndriven, all_bits}
+use Rattle.run_choices.specs.Choices.{AreThose, HasNoStart, IsUndriven, all_bits, held_bits}
 use Rattle.frame_cnf.specs.Encoding.{IsDistinct, IsOpen, IsReadOtherwise}
 
 -- a register's bits, and the bits that they take in the next cycle
@@ -35,10 +35,20 @@ outputs d = flat_map outputs_of d.cells
 abbrev pub nexts : DesignOf → List SigBit
 nexts d = flat_map nexts_of d.cells
 
--- the start digits of these bits
+-- no start digit counts for the bit, and it is read nowhere, or as a clock alone
+abbrev pub IsUnreadStart : DesignOf → SigBit → Type 0
+IsUnreadStart d b = HasNoStart d b × ¬ IsReadOtherwise d b
+
+-- what the bit starts with: its start digit; without one either value where it is read, and else 0
+abbrev pub IsStartOf : DesignOf → SigBit → Option Bool → Type 0
+IsStartOf d b None = HasNoStart d b × IsReadOtherwise d b
+IsStartOf d b (Some x) = IsRegisterStart d b x ⊎ (IsUnreadStart d b × (x ≡ false))
+
+-- what these bits start with; each start digit is there
 pub record AreStarts (d : DesignOf) (bits : List SigBit) (starts : List (Option Bool)) : Type 0 where
   pub as_many : length starts ≡ length bits
-  pub each : (k : ℕ) (b : SigBit) (s : Option Bool) → slice_get bits k ≡ Some b → slice_get starts k ≡ Some s → (x : Bool) → (s ≡ Some x) ↔ IsRegisterStart d b x
+  pub each : (k : ℕ) (b : SigBit) (s : Option Bool) → slice_get bits k ≡ Some b → slice_get starts k ≡ Some s → IsStartOf d b s
+  pub digits : (k : ℕ) (b : SigBit) (s : Option Bool) → slice_get bits k ≡ Some b → slice_get starts k ≡ Some s → (x : Bool) → IsRegisterStart d b x → s ≡ Some x
 
 -- the bit's place is marked
 abbrev pub IsMarked : DesignOf → List Bool → SigBit → Type 0
@@ -92,7 +102,11 @@ pub record AreRead (d : DesignOf) (bits : List SigBit) (reads : List Bool) (ins 
   pub tests : AreTests (IsReadOtherwise d) bits reads
   pub inputs : AreThose (IsReadOtherwise d) bits ins
 
--- the bits of registers, those that they take next, their start digits, which of the bits open in each cycle are read, and the inputs
+-- for each bit of a register that may start with either value whether it is read otherwise than as a clock
+abbrev pub AreStartReads : DesignOf → List Bool → Type 0
+AreStartReads d reads = (bits : List SigBit) × AreThose (HasNoStart d) (held_bits d) bits × AreTests (IsReadOtherwise d) bits reads
+
+-- the bits of registers, those that they take next, what they start with, which of the bits open in each cycle are read, and the inputs
 pub record AreSources (d : DesignOf) (outs news : List SigBit) (digits : List (Option Bool)) (reads : List Bool) (opens : List SigBit) : Type 0 where
   pub outputs : outs ≡ outputs d
   pub nexts : news ≡ nexts d

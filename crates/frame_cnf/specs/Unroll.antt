@@ -42,7 +42,7 @@ abbrev pub StartsAs : Bool → Option Bool → Type 0
 StartsAs b None = Unit {0}
 StartsAs b (Some x) = b ≡ x
 
--- no start digit
+-- the bit may start with either value
 abbrev pub is_free : Option Bool → Bool
 is_free None = true
 is_free (Some x) = false
@@ -129,6 +129,7 @@ pub record Unrolled (d : DesignOf) (outs news opens : List SigBit) (starts : Lis
   pub row_first : t ≡ 0 → row ≡ first
   pub held_within : LitWithin g.formula.vars held
   pub frames_as_many : length frames ≡ t
+  pub firsts : (x : Assignment) → Satisfies x g.formula.clauses → AreStartBits starts (length starts) (bit_at x first)
   pub bads_within : All (λ f. All (LitWithin g.formula.vars) f.bads) frames
   pub unread : (x : Assignment) → Satisfies x g.formula.clauses → (b : SigBit) → IsUnread d opens b → bit_at x table (place_of d b) ≡ false
   pub sound : (x : Assignment) → Satisfies x g.formula.clauses → (vs : ℕ → Valuation) × HasCycles d outs news opens starts t x vs first row held frames
@@ -145,6 +146,7 @@ Unrolls d outs news opens starts first old table row held frames new tables next
 pub record HasRun (d : DesignOf) (outs opens : List SigBit) (digits : List (Option Bool)) (n : ℕ) (x : Assignment) (vs : ℕ → Valuation) (starts : List LitOf) (frames : List FrameOf) : Type 0 where
   pub cycles : Cycles d n vs
   pub start : 0 < n → row_in (vs 0) (free_bits outs digits) ≡ row_of x starts
+  pub starts_as : 0 < n → (k : ℕ) (b : SigBit) (s : Option Bool) → slice_get outs k ≡ Some b → slice_get digits k ≡ Some s → StartsAs (bit_in (vs 0) b) s
   pub each : (k : ℕ) (f : FrameOf) → slice_get frames k ≡ Some f → HasFrame d opens x vs k f
 
 -- the literals of which one is true where a cycle is bad

@@ -5,6 +5,7 @@ ghost use Rattle.cnf_form.specs.Cnf.{Assignment, LitWithin};
 ghost use Rattle.cnf_form.specs.declared.literal.TheConstants.{MAX_VARS};
 ghost use Rattle.rtlil_design.specs.Asked.{digits_at, flag, is_number, signal_at};
 ghost use Rattle.gate_words.specs.Words.{Builds, MeansRow, row_of};
+ghost use Rattle.frame_cnf.specs.Costs.{cell_gates};
 ghost use Rattle.frame_cnf.specs.Encoding.{port_bits};
 ghost use Rattle.frame_cnf.specs.Lines.{IsWordCell, line};
 
@@ -13,7 +14,7 @@ use gate_graph::{GateFault, Gates};
 use gate_words::{binary, compare, mux, unary};
 use rtlil_design::cell::Cell;
 use rtlil_design::kind::{Binary, Compare, Kind, Unary};
-use std::alloc::Global;
+use std::alloc::{AllocError, Global};
 
 // Whether a parameter is not 0.
 fn is_set(cell: &Cell, name: &str) -> bool
@@ -37,20 +38,17 @@ fn width(cell: &Cell) -> u32
 // The word of a `$not` cell.
 fn unary_word(
     alloc: Global,
-    gates: &mut Gates,
+    gates: &Gates,
     cell: &Cell,
     kind: Unary,
     a: &[Lit],
-) -> Result<Vec<Lit>, GateFault>
+) -> Result<Vec<Lit>, AllocError>
     requires cell { IsWordCell cell.now }
     requires kind { cell.now.kind ≡ Kind.Unary kind }
-    requires a { All (LitWithin gates.old.formula.vars) a.now }
-    requires a_width { length a.now ≡ length (signal_at cell.now.ports (codes "A")) }
+    requires a { All (LitWithin gates.now.formula.vars) a.now }
     ensures row { let row = λ (x : Assignment). line cell.now.kind cell.now.parameters (row_of x a.now) [] [] in
-        IfOk result (λ word. MeansRow gates.new row word.items) }
+        IfOk result (λ word. MeansRow gates.now row word.items) }
     ensures width { IfOk result (λ word. length word.items ≡ length (signal_at cell.now.ports (codes "Y"))) }
-    ensures builds { IfOk result (λ _. Builds gates.old gates.new (16 * port_bits cell.now)) }
-    ensures too_many { result ≡ Err GateFault.TooMany → MAX_VARS < gates.old.formula.vars + 16 * port_bits cell.now }
 {
     unary(alloc, gates, kind, a, is_set(cell, "A_SIGNED"), width(cell))
 }
@@ -164,11 +162,11 @@ pub fn cell_word(
     ensures row { let row = λ (x : Assignment). line cell.now.kind cell.now.parameters (row_of x a.now) (row_of x b.now) (row_of x s.now) in
         IfOk result (λ word. MeansRow gates.new row word.items) }
     ensures width { IfOk result (λ word. length word.items ≡ length (signal_at cell.now.ports (codes "Y"))) }
-    ensures builds { IfOk result (λ _. Builds gates.old gates.new (16 * port_bits cell.now)) }
-    ensures too_many { result ≡ Err GateFault.TooMany → MAX_VARS < gates.old.formula.vars + 16 * port_bits cell.now }
+    ensures builds { IfOk result (λ _. Builds gates.old gates.new (cell_gates cell.now)) }
+    ensures too_many { result ≡ Err GateFault.TooMany → MAX_VARS < gates.old.formula.vars + cell_gates cell.now }
 {
     match cell.kind() {
-        Kind::Unary(kind) => unary_word(alloc, gates, cell, kind, a),
+        Kind::Unary(kind) => Ok(unary_word(alloc, gates, cell, kind, a)?),
         Kind::Binary(kind) => binary_word(alloc, gates, cell, kind, a, b),
         Kind::Compare(kind) => compare_word(alloc, gates, cell, kind, a, b),
         Kind::Mux => mux_word(alloc, gates, cell, a, b, s),

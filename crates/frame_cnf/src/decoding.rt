@@ -3,7 +3,6 @@
 ghost use Rattle.std.specs.Prelude.{◌≡◌, ◌++◌, ◌∷◌, [], IfOk, OnOk};
 ghost use Rattle.std.specs.List.{list_any};
 ghost use Rattle.cnf_form.specs.Cnf.{lit_in};
-ghost use Rattle.gate_words.specs.Words.{row_of};
 ghost use Rattle.frame_cnf.specs.Decoding.{decoded_by, rows_until, spread};
 ghost use Rattle.frame_cnf.specs.Encoding.{values_of};
 ghost use Rattle.frame_cnf.specs.Tables.{bit_at};
@@ -51,11 +50,12 @@ impl FrameLits {
     }
 }
 
-// The literals that tell the choices for a run: those of the open starts, which of the bits that are open in each cycle have a literal
-// there, and those of each cycle.
+// The literals that tell the choices for a run: those of the open starts, and which of these have one; those of each cycle, and which of
+// the bits that are open there have one.
 #[derive(Drop)]
 pub struct Decoding {
     starts: Vec<Lit>,
+    start_reads: Vec<bool>,
     reads: Vec<bool>,
     frames: Vec<FrameLits>,
 }
@@ -65,16 +65,22 @@ impl Model for Decoding {
 
     ghost Value = { DecodingOf };
 
-    ghost view = { λ k. record { starts = k.starts.items; reads = k.reads.items; frames = k.frames.items } };
+    ghost view = { λ k. record { starts = k.starts.items; start_reads = k.start_reads.items; reads = k.reads.items; frames = k.frames.items } };
 }
 
 impl Decoding {
     // Of these literals.
-    pub fn new(starts: Vec<Lit>, reads: Vec<bool>, frames: Vec<FrameLits>) -> Decoding
-        ensures { result ≡ record { starts = starts.items; reads = reads.items; frames = frames.items } }
+    pub fn new(
+        starts: Vec<Lit>,
+        start_reads: Vec<bool>,
+        reads: Vec<bool>,
+        frames: Vec<FrameLits>,
+    ) -> Decoding
+        ensures { result ≡ record { starts = starts.items; start_reads = start_reads.items; reads = reads.items; frames = frames.items } }
     {
         Decoding {
             starts,
+            start_reads,
             reads,
             frames,
         }
@@ -84,7 +90,8 @@ impl Decoding {
     pub fn decode(&self, alloc: Global, assignment: &[bool]) -> Result<Choices, AllocError>
         ensures { IfOk result (λ c. c ≡ decoded_by self.now (values_of assignment.now)) }
     {
-        let starts = row_of(alloc, assignment, self.starts.as_slice())?;
+        let (reads, lits) = (self.start_reads.as_slice(), self.starts.as_slice());
+        let starts = spread(alloc, assignment, reads, lits)?;
         let (reads, frames) = (self.reads.as_slice(), self.frames.as_slice());
         let inputs = rows_until(alloc, assignment, reads, frames)?;
         Ok(Choices::new(starts, inputs))
@@ -125,17 +132,6 @@ fn any_true(assignment: &[bool], lits: &[Lit]) -> bool
     ensures { result ≡ list_any (lit_in (values_of assignment.now)) lits.now }
 {
     lits.iter().any(|lit| value(assignment, *lit))
-}
-
-// The bits of the literals.
-fn row_of(alloc: Global, assignment: &[bool], lits: &[Lit]) -> Result<Row, AllocError>
-    ensures { IfOk result (λ row. row ≡ row_of (values_of assignment.now) lits.now) }
-{
-    let mut bits = Vec::new(alloc);
-    for lit in lits {
-        bits.push(value(assignment, *lit))?;
-    }
-    Ok(Row::new(bits))
 }
 
 // A bit for each of `reads`: the value of the next literal where it is true, and else 0.

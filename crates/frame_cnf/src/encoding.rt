@@ -1,6 +1,6 @@
 // The encoding of a job.
 
-ghost use Rattle.std.specs.Prelude.{◌≡◌, ◌↔◌, ◌*◌, ◌<◌, ◌≤◌, ◌^◌, [], All, length, true, IsTrue, IfOk, IfErr};
+ghost use Rattle.std.specs.Prelude.{◌≡◌, ◌≢◌, ◌↔◌, ◌*◌, ◌<◌, ◌≤◌, ◌^◌, [], All, length, true, IsTrue, IfOk, IfErr};
 ghost use Rattle.cnf_form.specs.Cnf.{Assignment, LitWithin, Satisfies};
 ghost use Rattle.rtlil_design.specs.Meaning.{asserts};
 ghost use Rattle.run_choices.specs.Choices.{AreChoicesFor, AreOpen, OpenOf};
@@ -10,9 +10,9 @@ ghost use Rattle.frame_cnf.specs.Jobs.{Solvable, frames};
 ghost use Rattle.frame_cnf.specs.Unroll.{all_bads, with_clause};
 
 use crate::decoding::{Decoding, FrameLits};
+use crate::marks::no_marks;
 use crate::sources::sources_of;
 use crate::statements::is_assertion;
-use crate::table::push;
 use crate::unroll::{Unrolled, unroll};
 use cnf_form::{Formula, Lit};
 use gate_graph::GateFault;
@@ -51,8 +51,8 @@ impl Encoded {
         &self.formula
     }
 
-    /// The variables on which all others rest: one for each bit of a register that the job leaves free in its first frame, and one
-    /// for each input bit of each frame that some cell reads, otherwise than as a clock.
+    /// The variables on which all others rest: at most one for each bit of a register that the job leaves free in its first frame, and at
+    /// most one for each input bit of each frame, where some cell reads the bit otherwise than as a clock.
     pub fn free_vars(&self) -> &[u32]
         ensures { result.now ≡ self.now.free_vars }
     {
@@ -70,17 +70,6 @@ impl Encoded {
     }
 }
 
-// So many times the literal of variable 1.
-fn first_lits(alloc: Global, count: usize) -> Result<Vec<Lit>, AllocError>
-    ensures { IfOk result (λ lits. length lits.items ≡ count) }
-{
-    let mut lits = Vec::new(alloc);
-    for _ in 0..count {
-        push(&mut lits, Lit::new(1, false))?;
-    }
-    Ok(lits)
-}
-
 // The encoding of a job that cannot be solved: one variable and the empty clause. So many starts are open.
 fn empty(alloc: Global, starts: usize) -> Result<Encoded, AllocError>
     ensures formula { IfOk result (λ e. e.formula ≡ empty_job) }
@@ -90,11 +79,12 @@ fn empty(alloc: Global, starts: usize) -> Result<Encoded, AllocError>
 {
     let mut formula = Formula::new(alloc, 1);
     formula.push(&[])?;
-    let starts = first_lits(alloc, starts)?;
+    let start_reads = no_marks(alloc, starts)?;
+    let (lits, reads, frames) = (Vec::new(alloc), Vec::new(alloc), Vec::new(alloc));
     Ok(Encoded {
         formula,
         free_vars: Vec::new(alloc),
-        decoding: Decoding::new(starts, Vec::new(alloc), Vec::new(alloc)),
+        decoding: Decoding::new(lits, start_reads, reads, frames),
     })
 }
 
@@ -110,12 +100,17 @@ fn all_bads(alloc: Global, frames: &[FrameLits]) -> Result<Vec<Lit>, AllocError>
 }
 
 // The gates and the clause that some cycle breaks an assertion.
-fn finish(alloc: Global, unrolled: Unrolled, reads: Vec<bool>) -> Result<Encoded, AllocError>
+fn finish(
+    alloc: Global,
+    unrolled: Unrolled,
+    start_reads: Vec<bool>,
+    reads: Vec<bool>,
+) -> Result<Encoded, AllocError>
     requires { All (λ f. All (LitWithin unrolled.gates.formula.vars) f.bads) unrolled.frames.items }
     ensures { IfOk result (λ e. e ≡ record {
       formula = with_clause unrolled.gates.formula (all_bads unrolled.frames.items);
       free_vars = unrolled.gates.inputs;
-      decoding = record { starts = unrolled.starts.items; reads = reads.items; frames = unrolled.frames.items };
+      decoding = record { starts = unrolled.starts.items; start_reads = start_reads.items; reads = reads.items; frames = unrolled.frames.items };
     }) }
 {
     let Unrolled {
@@ -130,7 +125,7 @@ fn finish(alloc: Global, unrolled: Unrolled, reads: Vec<bool>) -> Result<Encoded
     Ok(Encoded {
         formula,
         free_vars,
-        decoding: Decoding::new(starts, reads, frames),
+        decoding: Decoding::new(starts, start_reads, reads, frames),
     })
 }
 
@@ -151,7 +146,7 @@ fn asserts_none(design: &Design) -> bool
 /// looks at. It can be satisfied exactly where the job can be solved. Served so far is the job `Base`.
 ///
 /// The variables on which all others rest are `free_vars`: where each of them is fixed by a unit clause, unit propagation comes to a
-/// conflict or fixes every variable. Refused where the formula would have more than 2^27 variables.
+/// conflict or fixes every variable. Refused where the formula would have more than 2^27 variables; a design without an assertion never is.
 pub fn encode(
     alloc: Global,
     flat: &Flat,
@@ -164,6 +159,7 @@ pub fn encode(
     ensures solvable { IfOk result (λ r. IfOk r (λ e. CanBeSatisfied e.formula ↔ Solvable flat.now job depth)) }
     ensures too_many { IfOk result (λ r. IfErr r (λ _. 2 ^ 27 < frames job depth * cost flat.now)) }
     ensures past { IfOk result (λ r. IfErr r (λ _. CanPass flat.now (frames job depth))) }
+    ensures asserts { IfOk result (λ r. IfErr r (λ _. asserts flat.now ≢ [])) }
     ensures vars { IfOk result (λ r. IfOk r (λ e. (1 ≤ e.formula.vars) × (e.formula.vars ≤ 2 ^ 27))) }
     ensures propagates { IfOk result (λ r. IfOk r (λ e. Propagates e)) }
     ensures origins { IfOk result (λ r. IfOk r (λ e. HasOrigins flat.now job depth e)) }
@@ -179,7 +175,10 @@ pub fn encode(
     let order = flat.order();
     let sources = sources_of(alloc, flat, order)?;
     match unroll(alloc, design, order, &sources, depth) {
-        Ok(unrolled) => Ok(Ok(finish(alloc, unrolled, sources.reads)?)),
+        Ok(unrolled) => {
+            let encoded = finish(alloc, unrolled, sources.start_reads, sources.reads)?;
+            Ok(Ok(encoded))
+        }
         Err(GateFault::TooMany) => Ok(Err(TooMany)),
         Err(GateFault::Memory) => Err(AllocError),
     }

@@ -46,7 +46,7 @@ fn read_bits(alloc: Global, design: &Design) -> Result<Vec<SigBit>, AllocError>
 }
 
 // `count` times false.
-fn no_marks(alloc: Global, count: usize) -> Result<Vec<bool>, AllocError>
+pub fn no_marks(alloc: Global, count: usize) -> Result<Vec<bool>, AllocError>
     ensures { IfOk result (λ marks. marks.items ≡ replicate count false) }
 {
     let mut marks = Vec::new(alloc);

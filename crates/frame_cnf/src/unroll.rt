@@ -4,7 +4,7 @@ ghost use Rattle.std.specs.Prelude.{◌≡◌, ◌≤◌, ◌<◌, ◌+◌, ◌*
 ghost use Rattle.std.specs.List.{count_by};
 ghost use Rattle.cnf_form.specs.Cnf.{Assignment, LitOf, LitWithin, Satisfies};
 ghost use Rattle.cnf_form.specs.declared.literal.TheConstants.{MAX_VARS};
-ghost use Rattle.gate_graph.specs.Circuit.{GatesOf, IsGates, MakesInput};
+ghost use Rattle.gate_graph.specs.Circuit.{GatesOf, IsGates};
 ghost use Rattle.rtlil_design.specs.declared.shape.SigBit.{SigBit};
 ghost use Rattle.rtlil_design.specs.Faults.{IsFlat};
 ghost use Rattle.rtlil_design.specs.Meaning.{Valuation};
@@ -48,17 +48,6 @@ pub struct Unrolled {
     pub frames: Vec<FrameLits>,
 }
 
-// A literal that may have either value: a variable, and not its negation.
-fn input(gates: &mut Gates) -> Result<Lit, GateFault>
-    ensures input { IfOk result (λ l. MakesInput gates.old gates.new l) }
-    ensures plain { IfOk result (λ l. l.negated ≡ false) }
-    ensures too_many { result ≡ Err GateFault.TooMany → gates.old.formula.vars ≡ MAX_VARS }
-{
-    let lit = gates.input()?;
-    gates.promise();
-    Ok(Lit::new(lit.var(), false))
-}
-
 // The literal of a register's bit in the first cycle.
 fn start(gates: &mut Gates, start: Option<bool>) -> Result<Lit, GateFault>
     ensures starts { IfOk result (λ lit. StartsOne start gates.old gates.new lit) }
@@ -71,7 +60,7 @@ fn start(gates: &mut Gates, start: Option<bool>) -> Result<Lit, GateFault>
     if let Some(value) = start {
         return Ok(gates.constant(value));
     }
-    let lit = input(gates)?;
+    let lit = gates.input()?;
     gates.promise();
     Ok(lit)
 }
@@ -98,14 +87,14 @@ fn start_row(
     Ok(row)
 }
 
-// Whether there is no start digit.
+// Whether the bit may start with either value.
 fn is_open(digit: Option<bool>) -> bool
     ensures { result ≡ is_free digit }
 {
     digit.is_none()
 }
 
-// Those of the registers' literals that have no start digit.
+// Those of the registers' literals that may start with either value.
 fn open_starts(alloc: Global, row: &[Lit], starts: &[Option<bool>]) -> Result<Vec<Lit>, AllocError>
     requires { length row.now ≡ length starts.now }
     ensures { IfOk result (λ lits. lits.items ≡ free_bits row.now starts.now) }
@@ -130,7 +119,7 @@ fn open_inputs(alloc: Global, gates: &mut Gates, count: usize) -> Result<Vec<Lit
     let mut lits = Vec::new(alloc);
     for _ in 0..count {
         gates.promise();
-        let lit = input(gates)?;
+        let lit = gates.input()?;
         gates.promise();
         push(&mut lits, lit)?;
     }

@@ -166,6 +166,7 @@ MakesInput-push g = record {
   most = omega arith;
   within = (omega arith, omega arith);
   fresh = omega arith;
+  plain = refl;
 }
 
 -- a literal seen through its parts

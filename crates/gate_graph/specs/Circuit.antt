@@ -1,5 +1,5 @@
 -- Gates: a formula in which each variable is an input or a function of the inputs.
-use Rattle.std.specs.Prelude.{◌≡◌, ℕ, ◌<◌, ◌≤◌, ◌+◌, Bool, not, if◌then◌else◌, List, [], ◌∷◌, ◌++◌, Contains}
+use Rattle.std.specs.Prelude.{◌≡◌, ℕ, ◌<◌, ◌≤◌, ◌+◌, Bool, false, not, if◌then◌else◌, List, [], ◌∷◌, ◌++◌, Contains}
 use Rattle.cnf_form.specs.Cnf.{LitOf, FormulaOf, Assignment, Satisfies, Closure, LitWithin, Within, lit_in}
 use Rattle.cnf_form.specs.declared.literal.TheConstants.{MAX_VARS}
 
@@ -58,13 +58,14 @@ pub record MakesGate (old new : GatesOf) (value : Assignment → Bool) (l : LitO
   pub within : LitWithin new.formula.vars l
   pub means : Means new l value
 
--- an input at the literal, whose variable is new
+-- an input at the literal, which is a new variable and not its negation
 pub record MakesInput (old new : GatesOf) (l : LitOf) : Type 0 where
   pub continues : Continues old new
   pub inputs : new.inputs ≡ old.inputs ++ l.var ∷ []
   pub most : new.formula.vars ≤ old.formula.vars + 1
   pub within : LitWithin new.formula.vars l
   pub fresh : old.formula.vars < l.var
+  pub plain : l.negated ≡ false
 
 -- Each assignment that satisfies the old gates extends to one that satisfies the new ones, with the same bits for the old variables,
 -- and each that satisfies the new ones satisfies the old.

@@ -110,7 +110,7 @@ impl Gates {
         l.negate()
     }
 
-    /// A literal that may have either value. After an `Err` the gates are as they were.
+    /// A literal that may have either value: a variable, and not its negation. After an `Err` the gates are as they were.
     pub fn input(&mut self) -> Result<Lit, GateFault>
         ensures input { IfOk result (MakesInput self.old self.new) }
         ensures too_many { (result ≡ Err GateFault.TooMany) ↔ (self.old.formula.vars ≡ MAX_VARS) }

@@ -13,21 +13,19 @@ use gate_graph::{GateFault, Gates};
 use rtlil_design::kind::{Binary, Compare, Unary};
 use std::alloc::{AllocError, Global};
 
-/// `$not` and `$pos` at width `y`, by the sign of `a` where `signed`. Neither makes a gate.
+/// `$not` and `$pos` at width `y`, by the sign of `a` where `signed`. Neither makes a gate, so that neither is ever refused.
 pub fn unary(
     alloc: Global,
-    gates: &mut Gates,
+    gates: &Gates,
     kind: Unary,
     a: &[Lit],
     signed: bool,
     y: u32,
-) -> Result<Vec<Lit>, GateFault>
+) -> Result<Vec<Lit>, AllocError>
     requires kind { IsBitwise kind }
-    requires a { All (LitWithin gates.old.formula.vars) a.now }
-    ensures row { let row = λ (x : Assignment). unary_fn kind y (value signed (row_of x a.now)) in
-        IfOk result (λ word. MeansRow gates.new row word.items) }
-    ensures builds { Builds gates.old gates.new (16 * (length a.now + y)) }
-    ensures too_many { result ≡ Err GateFault.TooMany → IsFull gates.old gates.new (16 * (length a.now + y)) }
+    requires a { All (LitWithin gates.now.formula.vars) a.now }
+    ensures { let row = λ (x : Assignment). unary_fn kind y (value signed (row_of x a.now)) in
+        IfOk result (λ word. MeansRow gates.now row word.items) }
 {
     let fill = fill_of(gates, a, signed);
     let mut word = Vec::new(alloc);

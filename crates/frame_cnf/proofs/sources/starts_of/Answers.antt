@@ -1,8 +1,9 @@
-use Rattle.std.proofs.Common.{◌≡◌, ◌↔◌, ◌∙◌, ◌+◌, ℕ, Bool, Some, Option, arith, ap, sym, subst, inl, inr, length}
+use Rattle.std.proofs.Common.{◌≡◌, ◌∙◌, ◌++◌, ◌∷◌, [], ℕ, Some, arith, sym, subst, inl, inr}
 use Rattle.std.specs.Prelude.{slice_get}
 use Rattle.std.proofs.lemmas.Option.{slice_get-get_or}
 use Rattle.rtlil_design.specs.declared.shape.SigBit.{SigBit}
 use Rattle.rtlil_design.specs.Meaning.{IsRegisterStart}
+use Rattle.frame_cnf.specs.Sources.{IsStartOf}
 use Rattle.frame_cnf.proofs.Lists.{length-push, one_at, push-either}
 use Rattle.frame_cnf.proofs.sources.starts_of.Goals as goal
 
@@ -11,17 +12,23 @@ loop-bit-preserved c =
     let i = c.loop-bit.invariant in
     let at = slice_get-get_or c.args.bits.now c.loop-bit.bit-index _ c.loop-bit-test.true in
     record {
-      as_many = let n = length-push c.loop-bit.starts.items c.start.result in let m = i.as_many in rw c.in_ok-push.ensures.items (omega arith);
-      each = λ k b s eb es x.
-          let e : slice_get (Rattle.std.proofs.Common.◌++◌ c.loop-bit.starts.items (Rattle.std.proofs.Common.◌∷◌ c.start.result Rattle.std.proofs.Common.[])) k ≡ Some s = rw c.in_ok-push.ensures.items at es in
-          elim (push-either c.loop-bit.starts.items c.start.result s k e) as (λ _. (s ≡ Some x) ↔ IsRegisterStart c.args.flat.now b x) [
-            | inl p ↦ i.each k b s eb p x
+      as_many = let n = length-push c.loop-bit.starts.items c.start_of.result in let m = i.as_many in rw c.in_ok-push.ensures.items (omega arith);
+      each = λ k b s eb es.
+          let e : slice_get (c.loop-bit.starts.items ++ c.start_of.result ∷ []) k ≡ Some s = rw c.in_ok-push.ensures.items at es in
+          elim (push-either c.loop-bit.starts.items c.start_of.result s k e) as (λ _. IsStartOf c.args.flat.now b s) [
+            | inl p ↦ i.each k b s eb p
             | inr p ↦
                 let here : k ≡ c.loop-bit.bit-index = p.0 ∙ i.as_many in
-                let eb' : slice_get c.args.bits.now c.loop-bit.bit-index ≡ Some b = subst (λ (j : ℕ). slice_get c.args.bits.now j ≡ Some b) here eb in
-                let same = one_at c.args.bits.now c.loop-bit.bit-index _ b at eb' in
-                let f = c.start.ensures x in
-                let g = subst (λ (y : SigBit). (c.start.result ≡ Some x) ↔ IsRegisterStart c.args.flat.now y x) same f in
-                subst (λ (t : Option Bool). (t ≡ Some x) ↔ IsRegisterStart c.args.flat.now b x) (sym p.1) g
+                let same = one_at c.args.bits.now c.loop-bit.bit-index _ b at (subst (λ (j : ℕ). slice_get c.args.bits.now j ≡ Some b) here eb) in
+                subst (IsStartOf c.args.flat.now b) (sym p.1) (subst (λ (y : SigBit). IsStartOf c.args.flat.now y c.start_of.result) same c.start_of.ensures.start)
+          ];
+      digits = λ k b s eb es x start.
+          let e : slice_get (c.loop-bit.starts.items ++ c.start_of.result ∷ []) k ≡ Some s = rw c.in_ok-push.ensures.items at es in
+          elim (push-either c.loop-bit.starts.items c.start_of.result s k e) as (λ _. s ≡ Some x) [
+            | inl p ↦ i.digits k b s eb p x start
+            | inr p ↦
+                let here : k ≡ c.loop-bit.bit-index = p.0 ∙ i.as_many in
+                let same = one_at c.args.bits.now c.loop-bit.bit-index _ b at (subst (λ (j : ℕ). slice_get c.args.bits.now j ≡ Some b) here eb) in
+                p.1 ∙ c.start_of.ensures.digit x (subst (λ (y : SigBit). IsRegisterStart c.args.flat.now y x) (sym same) start)
           ];
     }

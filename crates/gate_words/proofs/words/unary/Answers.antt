@@ -22,8 +22,8 @@ loop-place-preserved c =
     (or_means c.args.gates.now c.args.gates.now c.args.a.now c.args.signed c.loop-place.place c.fill_of-fill.result c.lit_or.result (Continues-refl c.args.gates.now) c.fill_of-fill.ensures.means
     c.lit_or.ensures x s)))
 
-pub returns-clause-row : goal.returns-clause-row
-returns-clause-row c =
+pub returns : goal.returns
+returns c =
     let e : c.loop-place.place ≡ c.args.y = omega arith in
     Built-row c.args.gates.now c.args.gates.now (λ x j. unary_bit_fn c.args.kind (bit_at c.args.a.now c.args.signed x j)) c.args.y c.loop-place.word.items
     (λ x. unary_fn c.args.kind c.args.y (value c.args.signed (row_of x c.args.a.now))) (rw e at c.loop-place.invariant)
