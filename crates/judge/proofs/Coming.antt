@@ -1,7 +1,9 @@
 -- What sayings come to, and what that is worth.
-use Rattle.std.proofs.Common.{◌≡◌, ℕ, ◌+◌, ◌<◌, ◌≤◌, Bool, true, false, leb, List, [], ◌∷◌, ◌++◌, length, take, Some, None, refl, subst, inl, inr, arith, ◌⊎◌}
+use Rattle.std.proofs.Common.{◌≡◌, ℕ, ◌+◌, ◌<◌, ◌≤◌, Bool, true, false, leb, List, [], ◌∷◌, ◌++◌, length, take, Some, None, refl, sym, ap, subst, inl, inr, arith, ◌⊎◌}
 use Rattle.std.specs.Prelude.{Option, Contains}
-use Rattle.std.proofs.lemmas.Bool.{cases_Bool, leb-true, leb-false}
+use Rattle.std.proofs.lemmas.Bool.{cases_Bool, le-leb, lt-leb, leb-true, leb-false}
+use Rattle.std.proofs.lemmas.List.{take_all}
+use Rattle.std.proofs.Math.Bool.{and-true, and-false}
 use Rattle.cnf_form.specs.Cnf.{LitOf, FormulaOf, Assignment, IsUnsatisfiable, IsAdmitted, Deletes, Satisfies}
 use Rattle.cnf_form.proofs.Rup.{Admitted-true, Satisfies-push}
 use Rattle.cnf_form.proofs.Members.{Contains-empty}
@@ -16,8 +18,9 @@ use Rattle.judge.specs.declared.judging.Came.{Came}
 use Rattle.judge.specs.declared.judging.Came.TheVariants.{Refuted, Satisfied, Unknown as CameUnknown, Bad as CameBad}
 use Rattle.judge.specs.Fate.{Fate, Found, Bad, Comes, ComesTo, ValuesComeTo, FateSoFar, FateOf}
 use Rattle.frame_cnf.specs.Encoding.{values_of}
-use Rattle.judge.specs.Values.{named_from, unnamed}
+use Rattle.judge.specs.Values.{named_from, stream_values, unnamed, value_lits, values_said}
 use Rattle.judge.specs.Judging.{AreSatisfying, FateWhere, fate_come, at_end, past_most}
+use Rattle.judge.proofs.Valuing.{named_append}
 
 -- at a clause that isn't admitted
 pub not_rup : (C F : List (List LitOf)) (x : Assignment) (ss rest : List Saying) (saying : Saying) (line : LiteralLineOf) (lits : List LitOf) (place : ℕ) → ss ≡ saying ∷ rest → saying ≡ Clause line
@@ -47,6 +50,21 @@ pub from_start : (f : FormulaOf) (F : List (List LitOf)) (bits : List Bool) (ss 
 from_start f F bits ss ts fate e g n h =
     let k = subst (λ z. ComesTo f.clauses F z ss fate) (same_values (values_of bits) unnamed n) h in
     subst (λ (t : List Saying). Comes f t fate) g (subst (λ (z : List (List LitOf)). ComesTo f.clauses z unnamed ss fate) e k)
+
+-- The values that are named and those that the sayings to come name are all that are said: at the start, past values, and at those
+-- that end.
+pub from_unnamed : (bits : List Bool) (ss ts : List Saying) → ss ≡ ts → ((v : ℕ) → values_of bits v ≡ false) → named_from (values_of bits) (value_lits ss) ≡ values_said ts
+from_unnamed bits ss ts g n =
+    subst (λ (t : List Saying). named_from (values_of bits) (value_lits ss) ≡ values_said t) g (ap (λ z. named_from z (value_lits ss)) (same_values (values_of bits) unnamed n))
+
+pub values_on : (x y : Assignment) (ss rest : List Saying) (saying : Saying) (line : LiteralLineOf) (lits : List LitOf) → ss ≡ saying ∷ rest → saying ≡ Values line → lits ≡ line.lits
+    → ((v : ℕ) → y v ≡ named_from x lits v) → named_from y (value_lits rest) ≡ named_from x (value_lits ss)
+values_on x y ss rest saying line lits e f g n =
+    rw (e, f, ← g) (subst (λ z. named_from z (value_lits rest) ≡ named_from x (lits ++ value_lits rest)) (sym (same_values y (named_from x lits) n)) (sym (named_append x lits (value_lits rest))))
+
+pub values_end : (x y : Assignment) (ss rest : List Saying) (saying : Saying) (line : LiteralLineOf) (lits : List LitOf) → ss ≡ saying ∷ rest → saying ≡ LastValues line → lits ≡ line.lits
+    → ((v : ℕ) → y v ≡ named_from x lits v) → y ≡ named_from x (value_lits ss)
+values_end x y ss rest saying line lits e f g n = rw (e, f, ← g) (same_values y (named_from x lits) n)
 
 pub within_rest : (vars : ℕ) (ss rest : List Saying) (saying : Saying) → ss ≡ saying ∷ rest → AreWithin vars ss → AreWithin vars rest
 within_rest vars ss rest saying e h = let w = rw e at h in w.1
@@ -131,9 +149,9 @@ pub come_unsat : (ended : Bool) (f : FormulaOf) (bytes : List ℕ) (most : ℕ) 
     → FateWhere ended f bytes most (fate_come come) → IsUnsatisfiable f.clauses
 come_unsat ended f bytes most come came e g h = unsat_where ended f bytes most (rw (e, g) at h)
 
-pub come_satisfying : (f : FormulaOf) (come : Option Came) (came : Came) (bits : List Bool) → come ≡ Some came → came ≡ Satisfied bits → AreSatisfying f come
-    → (length bits ≡ f.vars + 1) × Satisfies (values_of bits) f.clauses
-come_satisfying f come came bits e g h = rw (e, g) at h
+pub come_satisfying : (f : FormulaOf) (x : Assignment) (come : Option Came) (came : Came) (bits : List Bool) → come ≡ Some came → came ≡ Satisfied bits → AreSatisfying f x come
+    → (length bits ≡ f.vars + 1) × Satisfies (values_of bits) f.clauses × (values_of bits ≡ x)
+come_satisfying f x come came bits e g h = rw (e, g) at h
 
 -- the fate of bytes of which there aren't too many
 within_most : (ended : Bool) (f : FormulaOf) (bytes : List ℕ) (most : ℕ) (come : Option Came) → length bytes ≤ most
@@ -171,18 +189,34 @@ pub came_past : (ended : Bool) (f : FormulaOf) (bytes taken : List ℕ) (most : 
     → Comes f (sayings f.vars false (take most taken)) (fate_come come) → FateWhere ended f bytes most (fate_come (Some out))
 came_past ended f bytes taken most come out e o l h = rw (o, ← e) (past_where ended f taken most (past_most come most) l (past f taken most come l h))
 
+-- what is read of a stream's bytes
+values_within : (vars : ℕ) (ended : Bool) (bytes : List ℕ) (most : ℕ) → length bytes ≤ most → values_said (sayings vars ended bytes) ≡ stream_values vars ended bytes most
+values_within vars ended bytes most l = rw (le-leb (length bytes) most l, and-true ended, take_all most bytes l) refl
+
+values_past : (vars : ℕ) (ended : Bool) (bytes : List ℕ) (most : ℕ) → most < length bytes → values_said (sayings vars false (take most bytes)) ≡ stream_values vars ended bytes most
+values_past vars ended bytes most l = rw (lt-leb (length bytes) most l, and-false ended) refl
+
 -- the values that came
-satisfying_at_end : (f : FormulaOf) (come : Option Came) (ended : Bool) (count : ℕ) → AreSatisfying f come → AreSatisfying f (at_end come ended count)
-satisfying_at_end f (Some came) ended count h = h
-satisfying_at_end f None true count h = tt
-satisfying_at_end f None false count h = tt
+satisfying_at_end : (f : FormulaOf) (x : Assignment) (come : Option Came) (ended : Bool) (count : ℕ) → AreSatisfying f x come → AreSatisfying f x (at_end come ended count)
+satisfying_at_end f x (Some came) ended count h = h
+satisfying_at_end f x None true count h = tt
+satisfying_at_end f x None false count h = tt
 
-pub satisfying_within : (f g : FormulaOf) (come out : Option Came) (ended : Bool) (count : ℕ) → g ≡ f → out ≡ at_end come ended count → AreSatisfying g come → AreSatisfying f out
-satisfying_within f g come out ended count same e h = subst (λ (z : FormulaOf). AreSatisfying z out) same (rw e (satisfying_at_end g come ended count h))
+pub satisfying_within : (f g : FormulaOf) (come out : Option Came) (ended : Bool) (bytes taken : List ℕ) (most : ℕ) → g ≡ f → taken ≡ bytes → out ≡ at_end come ended (length taken) → length taken ≤ most
+    → AreSatisfying g (values_said (sayings g.vars ended taken)) come → AreSatisfying f (stream_values f.vars ended bytes most) out
+satisfying_within f g come out ended bytes taken most same t e l h =
+    rw (← same, ← t, e, ← values_within g.vars ended taken most l) (satisfying_at_end g (values_said (sayings g.vars ended taken)) come ended (length taken) h)
 
-satisfying_past_most : (f : FormulaOf) (come : Option Came) (most : ℕ) → AreSatisfying f come → AreSatisfying f (Some (past_most come most))
-satisfying_past_most f None most h = tt
-satisfying_past_most f (Some came) most h = h
+satisfying_past_most : (f : FormulaOf) (x : Assignment) (come : Option Came) (most : ℕ) → AreSatisfying f x come → AreSatisfying f x (Some (past_most come most))
+satisfying_past_most f x None most h = tt
+satisfying_past_most f x (Some came) most h = h
 
-pub satisfying_past : (f g : FormulaOf) (come : Option Came) (out : Came) (most : ℕ) → g ≡ f → out ≡ past_most come most → AreSatisfying g come → AreSatisfying f (Some out)
-satisfying_past f g come out most same e h = subst (λ (z : FormulaOf). AreSatisfying z (Some out)) same (rw e (satisfying_past_most g come most h))
+pub satisfying_past : (f g : FormulaOf) (come : Option Came) (out : Came) (ended : Bool) (bytes taken : List ℕ) (most : ℕ) → g ≡ f → taken ≡ bytes → out ≡ past_most come most → most < length taken
+    → AreSatisfying g (values_said (sayings g.vars false (take most taken))) come → AreSatisfying f (stream_values f.vars ended bytes most) (Some out)
+satisfying_past f g come out ended bytes taken most same t e l h =
+    let at : AreSatisfying g (stream_values g.vars ended taken most) (Some (past_most come most)) =
+    subst (λ (x : Assignment). AreSatisfying g x (Some (past_most come most))) (values_past g.vars ended taken most l)
+    (satisfying_past_most g (values_said (sayings g.vars false (take most taken))) come most h) in
+    subst (λ (z : FormulaOf). AreSatisfying z (stream_values z.vars ended bytes most) (Some out)) same
+    (subst (λ (b : List ℕ). AreSatisfying g (stream_values g.vars ended b most) (Some out)) t
+    (subst (λ (o : Came). AreSatisfying g (stream_values g.vars ended taken most) (Some o)) (sym e) at))

@@ -1,10 +1,12 @@
 -- Why a finding is true.
-use Rattle.std.proofs.Common.{◌≡◌, ℕ, ◌+◌, ◌<◌, Bool, List, length, Some, None, refl, sym, subst}
+use Rattle.std.proofs.Common.{◌≡◌, ℕ, suc, ◌+◌, ◌<◌, Bool, false, List, length, Some, None, refl, sym, subst}
 use Rattle.std.specs.Prelude.{Option}
-use Rattle.cnf_form.specs.Cnf.{FormulaOf, IsUnsatisfiable, Satisfies}
-use Rattle.frame_cnf.specs.Encoding.{EncodedOf, IsDecoded, decoded, values_of}
+use Rattle.cnf_form.specs.Cnf.{Assignment, FormulaOf, IsUnsatisfiable, Satisfies}
+use Rattle.frame_cnf.specs.Encoding.{EncodedOf, IsDecoded, IsOpen, IsReadOtherwise, decoded, values_of}
 use Rattle.run_choices.specs.Choices.{AreChoicesFor, AreOpen, ChoicesOf, OpenOf, Plays}
 use Rattle.rtlil_design.specs.Claims.{Shows}
+use Rattle.rtlil_design.specs.Meaning.{Broken, bit_in}
+use Rattle.rtlil_design.specs.declared.shape.SigBit.{SigBit}
 use Rattle.rtlil_design.specs.Runs.{CycleOf, IsRunOf, valuations}
 use Rattle.frame_cnf.specs.Jobs.{Solvable}
 use Rattle.rtlil_design.specs.Shape.{DesignOf}
@@ -17,6 +19,7 @@ use Rattle.sby_terms.specs.declared.names.JobName.TheVariants.{Base, Step, Cover
 use Rattle.judge.specs.Problem.{AskedOf, IsEncodedOf, IsFormulaOf, IsProblem}
 use Rattle.judge.proofs.Problems.{one_encoded, only_base}
 use Rattle.judge.specs.Finding.{FindingOf, Claim, IsTrueFinding, RunShows}
+use Rattle.judge.specs.Played.{IsPlayed}
 
 never : (d : DesignOf) (job : JobName) (n : ℕ) → (Solvable d job n → ⊥) → Claim d n job Unsat None
 never d Base n unsolved = (λ m vs a le s. unsolved (m, vs, a, le, s), refl)
@@ -70,11 +73,13 @@ module _ (p : AskedOf) (job : JobName) (h : IsProblem p) (e : EncodedOf) (is : I
   choices_fit o opens = rw told ((h.encodes job e is).choices o (values_of bits) opens)
 
   module _ (sound : (k : EncodedOf) × IsEncodedOf p job k × (length bits ≡ k.formula.vars + 1) × Satisfies (values_of bits) k.formula.clauses) where
-    tells : IsDecoded p.design p.problem.depth c
-    tells =
+    holds : Satisfies (values_of bits) e.formula.clauses
+    holds =
         let same : sound.0 ≡ e = one_encoded p job sound.0 e sound.1 is in
-        let holds : Satisfies (values_of bits) e.formula.clauses = subst (λ (k : EncodedOf). Satisfies (values_of bits) k.formula.clauses) same sound.3 in
-        rw told ((h.encodes job e is).decodes (only_base p h job (is.0, is.1)) (values_of bits) holds)
+        subst (λ (k : EncodedOf). Satisfies (values_of bits) k.formula.clauses) same sound.3
+
+    tells : IsDecoded p.design p.problem.depth c
+    tells = rw told ((h.encodes job e is).decodes (only_base p h job (is.0, is.1)) (values_of bits) holds)
 
     pub some_choices : 0 < length c.inputs
     some_choices = tells.some
@@ -83,3 +88,26 @@ module _ (p : AskedOf) (job : JobName) (h : IsProblem p) (e : EncodedOf) (is : I
     run_shows run plays rows cycles =
         let s = tells.shows (valuations p.design run) plays in
         (rows, rw cycles tells.most, (s.0, subst (λ n. Shows p.design n (valuations p.design run) s.0) (sym cycles) s.1))
+
+    pub run_played : (run : List CycleOf) → Plays p.design c (valuations p.design run) → IsRunOf p.design run → length run ≡ length c.inputs → IsPlayed p.design e (values_of bits) run
+    run_played run plays rows cycles =
+        record {
+          satisfies = holds;
+          rows = rows;
+          cycles = subst (λ (z : ChoicesOf). length run ≡ length z.inputs) told cycles;
+          plays = subst (λ (z : ChoicesOf). Plays p.design z (valuations p.design run)) told plays;
+        }
+
+-- what a run that is played from values of Base is
+module _ (p : AskedOf) (e : EncodedOf) (x : Assignment) (run : List CycleOf) (h : IsProblem p) (is : IsEncodedOf p Base e) (played : IsPlayed p.design e x run) where
+  base_decoded : IsDecoded p.design p.problem.depth (decoded e x)
+  base_decoded = (h.encodes Base e is).decodes refl x played.satisfies
+
+  pub played_shows : (a : ℕ) × Shows p.design (length run) (valuations p.design run) a
+  played_shows = subst (λ n. (a : ℕ) × Shows p.design n (valuations p.design run) a) (sym played.cycles) (base_decoded.shows (valuations p.design run) played.plays)
+
+  pub played_first : (t a : ℕ) → suc t < length run → Broken p.design (valuations p.design run t) a → ⊥
+  played_first t a l = base_decoded.first (valuations p.design run) played.plays t a (subst (λ n. suc t < n) played.cycles l)
+
+  pub played_zeros : (t : ℕ) (b : SigBit) → t < length run → IsOpen p.design b → ¬ IsReadOtherwise p.design b → bit_in (valuations p.design run t) b ≡ false
+  played_zeros t b l = base_decoded.zeros (valuations p.design run) played.plays t b (subst (λ n. t < n) played.cycles l)

@@ -17,6 +17,11 @@ pub named_push : (x : Assignment) (ls : List LitOf) (l : LitOf) (v : ℕ) → na
 named_push x [] l v = refl
 named_push x (m ∷ ls) l v = named_push (λ v. cond (eqb v m.var) (not m.negated) (x v)) ls l v
 
+-- some literals, then others
+pub named_append : (x : Assignment) (a b : List LitOf) → named_from x (a ++ b) ≡ named_from (named_from x a) b
+named_append x [] b = refl
+named_append x (l ∷ a) b = named_append (λ v. cond (eqb v l.var) (not l.negated) (x v)) a b
+
 pub bit_set : (bits : List Bool) (k : ℕ) (b : Bool) (v : ℕ) → k < length bits → values_of (set bits k b) v ≡ cond (eqb v k) b (values_of bits v)
 bit_set bits k b v h =
     elim (cases_Bool (eqb v k)) [

@@ -1,11 +1,14 @@
 -- A judge, and what its answers tell.
 use Rattle.std.specs.Prelude.{◌≡◌, ℕ, ◌+◌, true, false, Bool, List, length, Option, Some, None, MatchOption, Result, Ok, Err}
-use Rattle.cnf_form.specs.Cnf.{FormulaOf, Satisfies}
+use Rattle.cnf_form.specs.Cnf.{Assignment, FormulaOf, Satisfies}
+use Rattle.rtlil_design.specs.Runs.{CycleOf}
 use Rattle.sby_terms.specs.declared.names.Answer.TheVariants.{Sat, Unsat}
 use Rattle.sby_terms.specs.declared.names.JobName.{JobName}
-use Rattle.judge.specs.Problem.{AskedOf, IsJobFile}
+use Rattle.judge.specs.Problem.{AskedOf, IsEncodedOf, IsJobFile}
 use Rattle.judge.specs.Finding.{FindingOf}
-use Rattle.frame_cnf.specs.Encoding.{values_of}
+use Rattle.judge.specs.Played.{IsPlayed}
+use Rattle.judge.specs.Values.{stream_values}
+use Rattle.frame_cnf.specs.Encoding.{EncodedOf, values_of}
 use Rattle.judge.specs.Fate.{Fate, Found, Unknown, Bad, FateSoFar, FateOf, IsFateSoFar, IsFate}
 use Rattle.judge.specs.declared.stream.BadCert.{BadCert}
 use Rattle.judge.specs.declared.stream.CertKind.TheVariants.{TooLong, EarlyEnd}
@@ -48,16 +51,30 @@ Finds j (Ok (Done f)) = IsFindingFor j f
 Finds j (Ok IsUnknown) = Unit {0}
 Finds j (Err b) = Unit {0}
 
+-- a finding that the job can be solved has the run that is played from the values that the bytes name
+abbrev pub HasPlayedRun : JudgeOf → Bool → List ℕ → FindingOf → Type 0
+HasPlayedRun j ended bytes f =
+    f.answer ≡ Sat → (e : EncodedOf) × (run : List CycleOf) × IsEncodedOf j.asked j.job e × (f.run ≡ Some run)
+    × IsPlayed j.asked.design e (stream_values e.formula.vars ended bytes j.most) run
+
+abbrev pub FindsRun : JudgeOf → Bool → List ℕ → Result Progress BadCert → Type 0
+FindsRun j ended bytes (Ok More) = Unit {0}
+FindsRun j ended bytes (Ok (Done f)) = HasPlayedRun j ended bytes f
+FindsRun j ended bytes (Ok IsUnknown) = Unit {0}
+FindsRun j ended bytes (Err b) = Unit {0}
+
 -- The judge took the bytes, and answers their fate so far for its job's file, whatever pieces they came in.
 pub record Feeds (old new : JudgeOf) (bytes : List ℕ) (r : Result Progress BadCert) : Type 0 where
   pub stands : new ≡ record old { taken = bytes; state = state_behind r }
   pub finds : Finds old r
+  pub run : FindsRun old false bytes r
   pub fate : (file : List ℕ) → IsJobFile old.asked old.job file → IsFateSoFar file bytes old.most (fate_told r)
 
 -- The judge answers the fate of the bytes taken, as the whole stream, for its job's file.
 pub record Ends (old new : JudgeOf) (r : Result Progress BadCert) : Type 0 where
   pub stands : new ≡ record old { state = state_behind r }
   pub finds : Finds old r
+  pub run : FindsRun old true old.taken r
   pub fate : (file : List ℕ) → IsJobFile old.asked old.job file → MatchOption (fate_told r) ⊥ (IsFate file old.taken old.most)
 
 -- what a stream was found to come to
@@ -68,13 +85,13 @@ fate_come (Some (Satisfied bits)) = Some (Found Sat)
 fate_come (Some CameUnknown) = Some Unknown
 fate_come (Some (CameBad b)) = Some (Bad b.kind b.at)
 
--- values that came, one for each variable, satisfy the formula
-abbrev pub AreSatisfying : FormulaOf → Option Came → Type 0
-AreSatisfying f None = Unit {0}
-AreSatisfying f (Some Refuted) = Unit {0}
-AreSatisfying f (Some (Satisfied bits)) = (length bits ≡ f.vars + 1) × Satisfies (values_of bits) f.clauses
-AreSatisfying f (Some CameUnknown) = Unit {0}
-AreSatisfying f (Some (CameBad b)) = Unit {0}
+-- values that came are x, one for each variable, and satisfy the formula
+abbrev pub AreSatisfying : FormulaOf → Assignment → Option Came → Type 0
+AreSatisfying f x None = Unit {0}
+AreSatisfying f x (Some Refuted) = Unit {0}
+AreSatisfying f x (Some (Satisfied bits)) = (length bits ≡ f.vars + 1) × Satisfies (values_of bits) f.clauses × (values_of bits ≡ x)
+AreSatisfying f x (Some CameUnknown) = Unit {0}
+AreSatisfying f x (Some (CameBad b)) = Unit {0}
 
 -- the fate of the bytes where the stream ended with them, or the fate so far
 abbrev pub FateWhere : Bool → FormulaOf → List ℕ → ℕ → Option Fate → Type 0

@@ -5,6 +5,7 @@ pub mod Finding
 pub mod Agree
 pub mod Values
 pub mod Fate
+pub mod Played
 pub mod Judging
 pub mod Numbers
 pub mod Cert

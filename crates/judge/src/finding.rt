@@ -4,7 +4,9 @@ ghost use Rattle.std.specs.Prelude.{◌≡◌, ◌↔◌, ◌+◌, ◌++◌, [],
 ghost use Rattle.cnf_form.specs.Cnf.{FormulaOf, IsUnsatisfiable, Satisfies};
 ghost use Rattle.frame_cnf.specs.Encoding.{EncodedOf, values_of};
 ghost use Rattle.judge.specs.Finding.{Claim, IsTrueFinding, RunShows};
+ghost use Rattle.judge.specs.Played.{IsPlayed};
 ghost use Rattle.judge.specs.Problem.{IsEncodedOf, IsFormulaOf, IsJob};
+ghost use Rattle.rtlil_design.specs.Runs.{CycleOf};
 ghost use Rattle.rtlil_design.specs.Shape.{DesignOf};
 ghost use Rattle.rtlil_reader.specs.Grammar.{Reads};
 
@@ -99,7 +101,9 @@ pub(crate) fn unsat(alloc: Global, problem: &Problem, job: JobName) -> Result<Fi
 fn shown(alloc: Global, problem: &Problem, job: JobName, values: &Values) -> Result<Run, AllocError>
     requires { (e : EncodedOf) × IsEncodedOf problem.now job e × (length values.now ≡ e.formula.vars + 1)
         × Satisfies (values_of values.now) e.formula.clauses }
-    ensures { IfOk result (λ run. RunShows problem.now.design problem.now.problem.depth (Some run)) }
+    ensures shows { IfOk result (λ run. RunShows problem.now.design problem.now.problem.depth (Some run)) }
+    ensures played { IfOk result (λ run. (e : EncodedOf) × IsEncodedOf problem.now job e
+        × IsPlayed problem.now.design e (values_of values.now) run) }
 {
     let flat = problem.flat();
     let choices = problem.encoded(job).decode(alloc, values.bits())?;
@@ -119,6 +123,8 @@ pub(crate) fn sat(
     ensures problem { IfOk result (λ f. f.problem ≡ problem.now.problem) }
     ensures job { IfOk result (λ f. f.job ≡ job) }
     ensures answer { IfOk result (λ f. f.answer ≡ Answer.Sat) }
+    ensures run { IfOk result (λ f. (e : EncodedOf) × (run : List CycleOf) × IsEncodedOf problem.now job e
+        × (f.run ≡ Some run) × IsPlayed problem.now.design e (values_of values.now) run) }
 {
     let run = shown(alloc, problem, job, values)?;
     let _flat = problem.flat();

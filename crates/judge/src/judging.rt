@@ -5,8 +5,9 @@ ghost use Rattle.cnf_form.specs.Cnf.{FormulaOf};
 ghost use Rattle.frame_cnf.specs.Encoding.{EncodedOf, values_of};
 ghost use Rattle.cert_wire.specs.Stream.{sayings};
 ghost use Rattle.judge.specs.Fate.{Bad, Comes, ValuesComeTo, cert_kind};
-ghost use Rattle.judge.specs.Judging.{AreSatisfying, Ends, FateWhere, Feeds, Finds, JudgeOf, at_end, fate_come, fate_told, past_most, state_behind};
+ghost use Rattle.judge.specs.Judging.{AreSatisfying, Ends, FateWhere, Feeds, Finds, FindsRun, JudgeOf, at_end, fate_come, fate_told, past_most, state_behind};
 ghost use Rattle.judge.specs.Problem.{IsEncodedOf, IsFormulaOf, IsJob};
+ghost use Rattle.judge.specs.Values.{stream_values, values_said};
 ghost use Rattle.judge.specs.declared.stream.BadCert.{BadCert};
 
 use crate::finding::{Finding, sat, unsat};
@@ -149,6 +150,7 @@ impl<'a> Judge<'a> {
     fn settle(&mut self, ended: bool) -> Result<Result<Progress, BadCert>, AllocError>
         ensures stands { IfOk result (λ r. self.new ≡ record self.old { state = state_behind r }) }
         ensures finds { IfOk result (λ r. Finds self.old r) }
+        ensures run { IfOk result (λ r. FindsRun self.old ended self.old.taken r) }
         ensures fate { IfOk result (λ r. (f : FormulaOf) × IsFormulaOf self.old.asked self.old.job f
             × FateWhere ended f self.old.taken self.old.most (fate_told r)) }
         ensures err { OnErr result (self.new.state ≡ State.Wanting) }
@@ -168,6 +170,7 @@ impl<'a> Judge<'a> {
     // The answer to the bytes taken: the fate of a stream that ends with them, or their fate so far.
     fn answer(&self, ended: bool) -> Result<Result<Progress, BadCert>, AllocError>
         ensures finds { IfOk result (λ r. Finds self.now r) }
+        ensures run { IfOk result (λ r. FindsRun self.now ended self.now.taken r) }
         ensures fate { IfOk result (λ r. (f : FormulaOf) × IsFormulaOf self.now.asked self.now.job f
             × FateWhere ended f self.now.taken self.now.most (fate_told r)) }
     {
@@ -190,7 +193,7 @@ impl<'a> Judge<'a> {
         ensures fate { IfOk result (λ came. (f : FormulaOf) × IsFormulaOf self.now.asked self.now.job f
             × FateWhere ended f self.now.taken self.now.most (fate_come came)) }
         ensures satisfying { IfOk result (λ came. (e : EncodedOf) × IsEncodedOf self.now.asked self.now.job e
-            × AreSatisfying e.formula came) }
+            × AreSatisfying e.formula (stream_values e.formula.vars ended self.now.taken self.now.most) came) }
     {
         let formula = self.problem.encoded(self.job).formula();
         let taken = self.taken.as_slice();
@@ -262,7 +265,7 @@ fn refused(kind: CertKind, at: u64) -> Option<Came>
 fn values_come_to(formula: &Formula, values: Values) -> Option<Came>
     requires { length values ≡ formula.now.vars + 1 }
     ensures come { ValuesComeTo formula.now.clauses (values_of values) (fate_come result) }
-    ensures satisfying { AreSatisfying formula.now result }
+    ensures satisfying { AreSatisfying formula.now (values_of values) result }
 {
     match values.first_unsatisfied(formula) {
         None => Some(Came::Satisfied(values)),
@@ -278,7 +281,7 @@ fn comes_to(
     ended: bool,
 ) -> Result<Option<Came>, AllocError>
     ensures comes { IfOk result (λ came. Comes formula.now (sayings formula.now.vars ended bytes.now) (fate_come came)) }
-    ensures satisfying { IfOk result (λ came. AreSatisfying formula.now came) }
+    ensures satisfying { IfOk result (λ came. AreSatisfying formula.now (values_said (sayings formula.now.vars ended bytes.now)) came) }
 {
     sayings_are_within();
     let mut checker = Checker::new(alloc, formula)?;

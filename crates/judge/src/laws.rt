@@ -1,15 +1,22 @@
 // Laws of fates, and of problems.
 
-ghost use Rattle.std.specs.Prelude.{◌≡◌, ◌⊎◌, ◌<◌, ◌≤◌, ◌∷◌, ◌++◌, ℕ, true, List, length, take, Option, Some};
+ghost use Rattle.std.specs.Prelude.{◌≡◌, ◌⊎◌, ◌<◌, ◌≤◌, ◌∷◌, ◌++◌, ℕ, suc, true, false, List, length, take, Option, Some};
 ghost use Rattle.cert_wire.specs.Text.{is_blank};
 ghost use Rattle.cnf_form.specs.Cnf.{Assignment, FormulaOf, IsUnsatisfiable, Satisfies};
 ghost use Rattle.cnf_form.specs.Dimacs.{IsDimacs};
+ghost use Rattle.frame_cnf.specs.Encoding.{EncodedOf, IsOpen, IsReadOtherwise};
+ghost use Rattle.rtlil_design.specs.Claims.{Shows};
+ghost use Rattle.rtlil_design.specs.Meaning.{Broken, bit_in};
+ghost use Rattle.rtlil_design.specs.Runs.{CycleOf, valuations};
+ghost use Rattle.rtlil_design.specs.declared.shape.SigBit.{SigBit};
 ghost use Rattle.sby_terms.specs.declared.names.Answer.{Answer};
 ghost use Rattle.sby_terms.specs.declared.names.Answer.TheVariants.{Sat, Unsat};
 ghost use Rattle.judge.specs.Cert.{IsCert};
 ghost use Rattle.sby_terms.specs.declared.names.JobName.{JobName};
+ghost use Rattle.sby_terms.specs.declared.names.JobName.TheVariants.{Base};
 ghost use Rattle.judge.specs.Fate.{Fate, Found, IsFate, IsFateSoFar};
-ghost use Rattle.judge.specs.Problem.{AskedOf, IsFormulaOf, IsJobFile};
+ghost use Rattle.judge.specs.Played.{IsPlayed};
+ghost use Rattle.judge.specs.Problem.{AskedOf, IsEncodedOf, IsFormulaOf, IsJobFile, IsProblem};
 
 /// A fate that stands in the first bytes stays, whatever bytes follow, and is the stream's: so it doesn't matter how a stream is
 /// cut into pieces.
@@ -84,4 +91,16 @@ pub fn certificate_is_found_before_more()
 pub fn one_file()
     ensures formula { (p : AskedOf) (job : JobName) (f g : FormulaOf) → IsFormulaOf p job f → IsFormulaOf p job g → f ≡ g }
     ensures file { (p : AskedOf) (job : JobName) (a b : List ℕ) → IsJobFile p job a → IsJobFile p job b → a ≡ b }
+{}
+
+/// A run that is played from values of Base ends with the first cycle that breaks an assertion, and is 0 at the open bits that
+/// nothing reads but clocks.
+pub fn played_run_ends_at_first_break()
+    ensures shows { (p : AskedOf) (e : EncodedOf) (x : Assignment) (run : List CycleOf) → IsProblem p → IsEncodedOf p Base e
+        → IsPlayed p.design e x run → (a : ℕ) × Shows p.design (length run) (valuations p.design run) a }
+    ensures first { (p : AskedOf) (e : EncodedOf) (x : Assignment) (run : List CycleOf) → IsProblem p → IsEncodedOf p Base e
+        → IsPlayed p.design e x run → (t a : ℕ) → suc t < length run → Broken p.design (valuations p.design run t) a → ⊥ }
+    ensures zeros { (p : AskedOf) (e : EncodedOf) (x : Assignment) (run : List CycleOf) → IsProblem p → IsEncodedOf p Base e
+        → IsPlayed p.design e x run → (t : ℕ) (b : SigBit) → t < length run → IsOpen p.design b → ¬ IsReadOtherwise p.design b
+        → bit_in (valuations p.design run t) b ≡ false }
 {}

@@ -1,8 +1,9 @@
-use Rattle.std.proofs.Common.{◌∙◌, ◌+◌, ap}
-use Rattle.cnf_form.specs.Cnf.{IsAdmitted}
+use Rattle.std.proofs.Common.{◌∙◌, ◌+◌, ap, subst}
+use Rattle.cnf_form.specs.Cnf.{Assignment, IsAdmitted}
 use Rattle.drup_check.specs.Checking.{CheckerOf}
 use Rattle.cert_wire.specs.Stream.{sayings}
-use Rattle.judge.proofs.Coming.{from_start, deleted, last_values, more_values, not_rup, within_rest}
+use Rattle.judge.specs.Judging.{AreSatisfying}
+use Rattle.judge.proofs.Coming.{from_start, from_unnamed, deleted, last_values, more_values, not_rup, values_end, values_on, within_rest}
 use Rattle.judge.proofs.judging.comes_to.Goals as goal
 
 pub sayings-init : goal.sayings-init
@@ -10,6 +11,7 @@ sayings-init c = record {
   vars = ap (λ (k : CheckerOf). k.vars) c.in_ok-checker.ensures;
   size = c.in_ok-values.ensures.size ∙ ap (λ n. n + 1) c.vars.ensures.vars;
   within = rw (c.new-reader.ensures, c.vars-2.ensures.vars) (c.sayings_are_within.ensures c.args.formula.now.vars c.args.ended c.args.bytes.now);
+  named = from_unnamed _ _ _ (c.new-reader.ensures ∙ ap (λ n. sayings n c.args.ended c.args.bytes.now) c.vars-2.ensures.vars) c.in_ok-values.ensures.unnamed;
   so_far = λ fate h. from_start c.args.formula.now _ _ _ _ fate (ap (λ (k : CheckerOf). k.clauses) c.in_ok-checker.ensures)
       (c.new-reader.ensures ∙ ap (λ n. sayings n c.args.ended c.args.bytes.now) c.vars-2.ensures.vars) c.in_ok-values.ensures.unnamed h;
 }
@@ -27,6 +29,7 @@ sayings-preserved-in-Delete c =
       vars = ap (λ (k : CheckerOf). k.vars) c.delete.ensures.rest ∙ c.sayings.invariant.vars;
       size = c.sayings.invariant.size;
       within = within_rest _ _ _ _ said c.sayings.invariant.within;
+      named = rw (said, c.in-Delete.is) at c.sayings.invariant.named;
       so_far = λ fate h. c.sayings.invariant.so_far fate (deleted _ _ _ _ _ _ _ _ _ fate said c.in-Delete.is c.lits-in-Delete.ensures c.delete.ensures.deleted h);
     }
 
@@ -37,6 +40,7 @@ sayings-preserved c =
       vars = c.sayings.invariant.vars;
       size = c.name_all.ensures.size ∙ c.sayings.invariant.size;
       within = within_rest _ _ _ _ said c.sayings.invariant.within;
+      named = values_on _ _ _ _ _ _ _ said c.in-Values.is c.lits-in-Values.ensures c.name_all.ensures.named ∙ c.sayings.invariant.named;
       so_far = λ fate h. c.sayings.invariant.so_far fate (more_values _ _ _ _ _ _ _ _ _ fate said c.in-Values.is c.lits-in-Values.ensures c.name_all.ensures.named h);
     }
 
@@ -45,3 +49,9 @@ returns-in-LastValues-clause-comes c =
     let said = rw c.in-Some.is at c.in_ok-saying.ensures.said in
     c.sayings.invariant.so_far _
     (last_values _ _ _ _ _ _ _ _ _ _ said c.in-LastValues.is c.lits-in-LastValues.ensures c.name_all-in-LastValues.ensures.named c.values_come_to.ensures.come)
+
+pub returns-in-LastValues-clause-satisfying : goal.returns-in-LastValues-clause-satisfying
+returns-in-LastValues-clause-satisfying c =
+    let said = rw c.in-Some.is at c.in_ok-saying.ensures.said in
+    let named = values_end _ _ _ _ _ _ _ said c.in-LastValues.is c.lits-in-LastValues.ensures c.name_all-in-LastValues.ensures.named ∙ c.sayings.invariant.named in
+    subst (λ (x : Assignment). AreSatisfying c.args.formula.now x c.values_come_to.result) named c.values_come_to.ensures.satisfying

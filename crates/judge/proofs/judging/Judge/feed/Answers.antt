@@ -9,4 +9,4 @@ returns-clause-taken c =
     let i = c.self.inside in
     let more = ap (λ (taken : List ℕ). judge_of i.problem.now i.job i.most i.state taken) c.in-Ok.ensures.items in
     λ _. subst (λ (j : JudgeOf). IfOk c.settle.result (λ r. Feeds j c.settle.new.self (j.taken ++ c.args.piece.now) r)) c.self.view_is
-    (feeds (judge_of i.problem.now i.job i.most i.state i.taken.items) _ _ _ _ more c.settle.ensures.stands c.settle.ensures.finds c.settle.ensures.fate)
+    (feeds (judge_of i.problem.now i.job i.most i.state i.taken.items) _ _ _ _ more c.settle.ensures.stands c.settle.ensures.finds c.settle.ensures.run c.settle.ensures.fate)

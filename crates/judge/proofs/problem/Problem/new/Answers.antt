@@ -17,7 +17,17 @@ returns-in-Err-3 c =
     let same = checked.0 in
     let reads = subst (λ (d : DesignOf). Reads c.args.text.items d) (sym same) read in
     let flat = subst (λ (d : DesignOf). IsFlat d) (sym same) checked.1 in
-    record { problem = (c.in-Ok-2.flat, reads, flat, (0, rw c.requires.mode refl), rw c.in-Err-3.is at c.in_ok-encoded.ensures.too_many) }
+    record {
+      problem = (
+        c.in-Ok-2.flat,
+        reads,
+        flat,
+        (0, rw c.requires.mode refl),
+        rw c.in-Err-3.is at c.in_ok-encoded.ensures.too_many,
+        rw c.in-Err-3.is at c.in_ok-encoded.ensures.past,
+        rw c.in-Err-3.is at c.in_ok-encoded.ensures.asserts,
+      );
+    }
 
 pub invariant_of-problem : goal.invariant_of-problem
 invariant_of-problem c =
