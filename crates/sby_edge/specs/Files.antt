@@ -1,6 +1,8 @@
 -- A store of files: what each path has.
-use Rattle.std.specs.Prelude.{◌≡◌, ℕ, ◌+◌, ◌<◌, ◌≤◌, List, length, take, Option, Some, None, if◌then◌else◌}
+use Rattle.std.specs.Prelude.{◌≡◌, ℕ, ◌+◌, ◌<◌, ◌≤◌, List, length, take, Option, Some, None, IfSome, Result, IsOk, IsErrOf, if◌then◌else◌}
 use Rattle.std.specs.Str.{bytes_eq}
+use Rattle.sby_edge.specs.declared.outside.Fail.{Fail}
+use Rattle.sby_edge.specs.declared.outside.Fail.TheVariants.{Failed as FailFailed, Memory as FailMemory}
 use Rattle.sby_edge.specs.declared.outside.Got.{Got}
 use Rattle.sby_edge.specs.declared.outside.Got.TheVariants.{All, Long}
 
@@ -31,3 +33,9 @@ GotFrom (Some store) path most got = GotAt (store path) most got
 abbrev pub GotFits : ℕ → Got → Type 0
 GotFits most (All got) = length got.items ≤ most
 GotFits most (Long got) = length got.items ≡ most + 1
+
+-- The path at which a call last failed, where it is told: this one, if this call failed; else the one before.
+pub record Blames {T : Type 0} (before now : Option (List ℕ)) (path : List ℕ) (result : Result T Fail) : Type 0 where
+  pub failed : IsErrOf result FailFailed → IfSome now (λ blamed. blamed ≡ path)
+  pub ok : IsOk result → now ≡ before
+  pub memory : IsErrOf result FailMemory → now ≡ before

@@ -1,10 +1,10 @@
 // Files and output in memory.
 
-ghost use Rattle.std.specs.Prelude.{◌≡◌, ◌+◌, ◌<◌, ◌≤◌, ◌⊎◌, ◌↔◌, ◌++◌, [], Some, IfOk, IsNone, IsErr, OnOk, OnErr, length, min, option_copied, take};
+ghost use Rattle.std.specs.Prelude.{◌≡◌, ◌+◌, ◌<◌, ◌≤◌, ◌⊎◌, ◌↔◌, ◌++◌, [], None, Some, IfOk, IfSome, IsNone, IsErr, OnOk, OnErr, length, min, option_copied, take};
 ghost use Rattle.std.specs.FinMap as map;
 ghost use Rattle.sby_edge.specs.Calls.{Called, NextFails, failed, served, uncalled};
-ghost use Rattle.sby_edge.specs.Cause.{HasCause, HasPlainCause};
-ghost use Rattle.sby_edge.specs.Files.{GotOf, GotFits, GotAt, put_at};
+ghost use Rattle.sby_edge.specs.Cause.{HasCause, HasPlainCause, greatest};
+ghost use Rattle.sby_edge.specs.Files.{Blames, GotAt, GotFits, GotOf, put_at};
 ghost use Rattle.sby_edge.specs.Memory.{IsFull, store_of};
 
 use crate::calls::Calls;
@@ -19,16 +19,18 @@ use std::marker::Model;
 pub struct MemFiles {
     contents: Contents,
     calls: Calls,
+    blamed: Option<String>,
 }
 
 impl Model for MemFiles {
+    ghost use Rattle.std.specs.Prelude.{option_map, string_bytes};
     ghost use Rattle.sby_edge.specs.Memory.{FilesOf, files_code};
 
     ghost Value = { FilesOf };
 
     ghost coded = { files_code };
 
-    ghost view = { λ m. record { contents = m.contents; calls = m.calls } };
+    ghost view = { λ m. record { contents = m.contents; calls = m.calls; blamed = option_map string_bytes m.blamed } };
 }
 
 impl MemFiles {
@@ -36,10 +38,12 @@ impl MemFiles {
     pub fn new(alloc: Global, failing: Vec<u64>) -> Self
         ensures empty { result.contents ≡ map.empty }
         ensures calls { result.calls ≡ uncalled failing.items }
+        ensures blamed { result.blamed ≡ None }
     {
         MemFiles {
             contents: Contents::new(alloc),
             calls: Calls::new(failing),
+            blamed: None,
         }
     }
 
@@ -48,6 +52,25 @@ impl MemFiles {
         ensures { option_copied result ≡ store_of self.now.contents path.now }
     {
         self.contents.get(path)
+    }
+
+    /// The path at which a call last failed; None where none did, or where memory was wanting for the path.
+    pub fn blamed(&self) -> Option<&str>
+        ensures { option_copied result ≡ self.now.blamed }
+    {
+        self.blamed.as_deref()
+    }
+
+    // One more call, at this path, failed.
+    fn fail(&mut self, alloc: Global, path: &str)
+        ensures contents { self.new.contents ≡ self.old.contents }
+        ensures calls { self.new.calls ≡ failed self.old.calls }
+        ensures blamed { IfSome self.new.blamed (λ blamed. blamed ≡ path.now) }
+        ensures later { self.old.calls.faults ≤ self.new.calls.faults }
+        ensures stays { self.old.calls.faults ≡ greatest → self.new.calls.faults ≡ self.old.calls.faults }
+    {
+        self.blamed = String::from_str(alloc, path).ok();
+        self.calls.fail();
     }
 }
 
@@ -69,6 +92,8 @@ impl Files for MemFiles {
 
     ghost faults = { λ m. m.calls.faults };
 
+    ghost blamed = { λ m. m.blamed };
+
     fn get(&mut self, alloc: Global, path: &str, most: u64) -> Result<Got, Fail>
         ensures content { IfOk result (λ got. GotAt (store_of self.old.contents path.now) most got) }
         ensures fits { IfOk result (λ got. GotFits most got) }
@@ -76,9 +101,10 @@ impl Files for MemFiles {
         ensures fails { (result ≡ Err Fail.Failed) ↔ (NextFails self.old.calls ⊎ IsNone (store_of self.old.contents path.now)) }
         ensures called { Called self.old.calls self.new.calls result }
         ensures cause { HasCause self.old.calls.faults self.new.calls.faults result }
+        ensures blames { Blames self.old.blamed self.new.blamed path.now result }
     {
         if self.calls.next_fails() {
-            self.calls.fail();
+            self.fail(alloc, path);
             return Err(Fail::Failed);
         }
         match self.contents.get(path) {
@@ -88,7 +114,7 @@ impl Files for MemFiles {
                 Ok(got)
             }
             None => {
-                self.calls.fail();
+                self.fail(alloc, path);
                 Err(Fail::Failed)
             }
         }
@@ -100,9 +126,10 @@ impl Files for MemFiles {
         ensures fails { (result ≡ Err Fail.Failed) ↔ NextFails self.old.calls }
         ensures called { Called self.old.calls self.new.calls result }
         ensures cause { HasCause self.old.calls.faults self.new.calls.faults result }
+        ensures blames { Blames self.old.blamed self.new.blamed path.now result }
     {
         if self.calls.next_fails() {
-            self.calls.fail();
+            self.fail(alloc, path);
             return Err(Fail::Failed);
         }
         self.contents.put(alloc, path, bytes)?;
@@ -118,6 +145,7 @@ pub struct MemSink {
     taken: Vec<u8>,
     room: usize,
     calls: Calls,
+    ended: Option<usize>,
 }
 
 impl Model for MemSink {
@@ -126,7 +154,7 @@ impl Model for MemSink {
 
     ghost Value = { SinkOf };
 
-    ghost view = { λ s. record { taken = s.taken.items; room = s.room; calls = s.calls } };
+    ghost view = { λ s. record { taken = s.taken.items; room = s.room; calls = s.calls; ended = s.ended } };
 
     ghost invariant = { λ s. vec_len s.taken + s.room ≤ vec_capacity s.taken };
 }
@@ -134,12 +162,13 @@ impl Model for MemSink {
 impl MemSink {
     /// A sink that has taken nothing. The listed calls of `write` fail, counted from 1.
     pub fn new(alloc: Global, room: usize, failing: Vec<u64>) -> Result<Self, AllocError>
-        ensures { IfOk result (λ sink. sink ≡ record { taken = []; room = room; calls = uncalled failing.items }) }
+        ensures { IfOk result (λ sink. sink ≡ record { taken = []; room = room; calls = uncalled failing.items; ended = None }) }
     {
         Ok(MemSink {
             taken: Vec::with_capacity(alloc, room)?,
             room,
             calls: Calls::new(failing),
+            ended: None,
         })
     }
 
@@ -156,17 +185,20 @@ impl Sink for MemSink {
 
     ghost faults = { λ s. s.calls.faults };
 
+    ghost ended = { λ s. s.ended };
+
     fn write(&mut self, piece: &[u8]) -> Result<usize, Failed>
         ensures taken { IfOk result (λ count. self.new.taken ≡ self.old.taken ++ take count piece.now) }
         ensures count { IfOk result (λ count. (count ≡ min (length piece.now) self.old.room)
-            × (self.new.room + count ≡ self.old.room) × (self.new.calls ≡ served self.old.calls)) }
-        ensures err { OnErr result (self.new ≡ record self.old { calls = failed self.old.calls }) }
+            × (self.new.room + count ≡ self.old.room) × (self.new.calls ≡ served self.old.calls) × (self.new.ended ≡ self.old.ended)) }
+        ensures err { OnErr result (self.new ≡ record self.old { calls = failed self.old.calls; ended = Some (length self.old.taken) }) }
         ensures fails { IsErr result ↔ (NextFails self.old.calls ⊎ IsFull self.old.room piece.now) }
         ensures cause { HasPlainCause self.old.calls.faults self.new.calls.faults result }
     {
         let count = piece.len().min(self.room);
         if self.calls.next_fails() || (count == 0 && piece.len() > 0) {
             self.calls.fail();
+            self.ended = Some(self.taken.len());
             return Err(Failed);
         }
         self.taken.extend_from_slice(&piece[..count]).unwrap();

@@ -3,8 +3,8 @@
 ghost use Rattle.std.specs.Prelude.{◌≡◌, ℕ, ◌<◌, ◌≤◌, ◌⊎◌, List, Option, IfOk, OnOk, OnErr, length, option_map};
 ghost use Rattle.sby_edge.specs.declared.outside.Fail.TheVariants.{Memory as FailMemory};
 ghost use Rattle.sby_edge.specs.Cause.{HasCause, HasPlainCause, Rose};
-ghost use Rattle.sby_edge.specs.Files.{Store, put_at, GotFrom, GotFits};
-ghost use Rattle.sby_edge.specs.Sink.{Takes};
+ghost use Rattle.sby_edge.specs.Files.{Blames, GotFits, GotFrom, Store, put_at};
+ghost use Rattle.sby_edge.specs.Sink.{Ends, Takes};
 
 use std::alloc::{AllocError, AllocFailed, Global};
 
@@ -78,18 +78,23 @@ pub trait Files {
     /// How often a call failed; it stays at the greatest u64.
     ghost faults: { Self → ℕ };
 
+    /// The path at which a call last failed, where it is told.
+    ghost blamed: { Self → Option (List ℕ) };
+
     /// All of the content, or its first `most + 1` bytes exactly where it is longer than `most`. A missing path is a fault.
     fn get(&mut self, alloc: Global, path: &str, most: u64) -> Result<Got, Fail>
         ensures content { IfOk result (λ got. GotFrom (told self.old) path.now most got) }
         ensures fits { IfOk result (λ got. GotFits most got) }
         ensures same { told self.new ≡ told self.old }
-        ensures cause { HasCause (faults self.old) (faults self.new) result };
+        ensures cause { HasCause (faults self.old) (faults self.new) result }
+        ensures blames { Blames (blamed self.old) (blamed self.new) path.now result };
 
     /// Replaces the content of one path.
     fn put(&mut self, alloc: Global, path: &str, bytes: &[u8]) -> Result<(), Fail>
         ensures ok { OnOk result (told self.new ≡ option_map (put_at path.now bytes.now) (told self.old)) }
         ensures err { OnErr result (told self.new ≡ told self.old) }
-        ensures cause { HasCause (faults self.old) (faults self.new) result };
+        ensures cause { HasCause (faults self.old) (faults self.new) result }
+        ensures blames { Blames (blamed self.old) (blamed self.new) path.now result };
 }
 
 /// Output.
@@ -100,11 +105,15 @@ pub trait Sink {
     /// How often a call failed, or took nothing of a piece that isn't empty; it stays at the greatest u64.
     ghost faults: { Self → ℕ };
 
+    /// How many bytes it had taken when a call last did so, where it is told.
+    ghost ended: { Self → Option ℕ };
+
     /// Takes a prefix of the piece, and answers its length.
     fn write(&mut self, piece: &[u8]) -> Result<usize, Failed>
         ensures taken { Takes (taken self.old) (taken self.new) piece.now result }
         ensures fits { IfOk result (λ count. count ≤ length piece.now) }
         ensures some { IfOk result (λ count. count ≡ 0 → 0 < length piece.now → Rose (faults self.old) (faults self.new)) }
         ensures stands { IfOk result (λ count. (0 < count) ⊎ (length piece.now ≡ 0) → faults self.new ≡ faults self.old) }
-        ensures cause { HasPlainCause (faults self.old) (faults self.new) result };
+        ensures cause { HasPlainCause (faults self.old) (faults self.new) result }
+        ensures ends { Ends (ended self.old) (ended self.new) (taken self.new) piece.now result };
 }

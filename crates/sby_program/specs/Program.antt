@@ -6,7 +6,7 @@ use Rattle.sby_top.specs.declared.outcome.Done.{Done}
 
 -- real files and standard output, which tell nothing but their counts of faults
 abbrev pub untold : ℕ → ℕ → World
-untold file_faults sink_faults = record { told = None; file_faults = file_faults; taken = None; sink_faults = sink_faults }
+untold file_faults sink_faults = record { told = None; file_faults = file_faults; blamed = None; taken = None; sink_faults = sink_faults; ended = None }
 
 -- this is the exit status of a call for these words, before which no call failed
 abbrev pub IsExit : List (List ℕ) → ℕ → Type 0

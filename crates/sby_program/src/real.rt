@@ -76,6 +76,8 @@ impl<'a, R: SystemFiles> Files for RealFiles<'a, R> {
 
     ghost faults = { λ f. f.faults };
 
+    ghost blamed = { λ _. None };
+
     fn get(&mut self, alloc: Global, path: &str, most: u64) -> Result<Got, Fail> {
         let answer = open_and_read(self.rt, alloc, path, most);
         if matches!(answer, Err(Fail::Failed)) {
@@ -113,6 +115,8 @@ impl<'a, R: Print> Sink for StdSink<'a, R> {
     ghost taken = { λ _. None };
 
     ghost faults = { λ s. s.faults };
+
+    ghost ended = { λ _. None };
 
     fn write(&mut self, piece: &[u8]) -> Result<usize, Failed> {
         match self.rt.write_some(piece) {

@@ -359,6 +359,8 @@ impl Sink for SlowSink {
 
     ghost faults = { λ s. s.faults };
 
+    ghost ended = { λ _. None };
+
     fn write(&mut self, piece: &[u8]) -> Result<usize, Failed> {
         let count = piece.len().min(7);
         match self.taken.extend_from_slice(&piece[..count]) {

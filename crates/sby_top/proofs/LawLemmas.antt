@@ -1,4 +1,4 @@
-use Rattle.std.proofs.Common.{◌≡◌, ℕ, ◌+◌, true, List, [], ◌∷◌, refl, ap, sym, ◌∙◌, subst, inl, inr, length, take, arith}
+use Rattle.std.proofs.Common.{◌≡◌, ◌≢◌, ℕ, ◌+◌, ◌≤◌, true, List, [], ◌∷◌, refl, ap, sym, ◌∙◌, subst, inl, inr, length, take, arith}
 use Rattle.std.specs.Prelude.{Option, Some, None, map}
 use Rattle.std.specs.Str.{bytes_eq}
 use Rattle.std.proofs.lemmas.Slice.Eq.{bytes_eq-Decides}
@@ -12,15 +12,18 @@ use Rattle.sby_terms.specs.declared.names.JobName.{JobName}
 use Rattle.sby_terms.specs.declared.names.JobName.TheVariants.{Base}
 use Rattle.sby_terms.specs.declared.names.Mode.TheVariants.{Bmc}
 use Rattle.sby_terms.specs.declared.names.Status.{Status}
-use Rattle.sby_top.specs.Headline.{AreFates, Exit, IsPlainStatus, IsSmooth, TaskRan, fate_answer, fate_event}
+use Rattle.sby_terms.specs.declared.names.Status.TheVariants.{Memory}
+use Rattle.sby_top.specs.Came.{Came}
+use Rattle.sby_top.specs.Headline.{AreFates, Exit, IsJudgedStatus, IsSmooth, TaskRan, fate_answer, fate_event}
 use Rattle.sby_top.specs.Served.{ArePut, IsGot, jobs_in, most_design, most_stream, problem_of}
-use Rattle.sby_top.specs.Status.{IsStatusOf, status_for}
+use Rattle.sby_top.specs.Status.{IsStatus, IsStatusOf, status_for}
 use Rattle.sby_top.specs.Texts.{job_path}
 use Rattle.sby_top.specs.Words.{Request}
 use Rattle.sby_top.specs.World.{World}
 use Rattle.sby_top.specs.declared.outcome.Early.{Early}
 use Rattle.sby_top.specs.declared.outcome.TaskEnd.{TaskEnd}
-use Rattle.sby_top.proofs.ServeLemmas.{one_job_in}
+use Rattle.sby_top.proofs.PlainLemmas.{done_judged}
+use Rattle.sby_top.proofs.ServeLemmas.{accepted_mode, one_job_in}
 use Rattle.sby_top.proofs.StatusLemmas.{answer_gives}
 
 -- the judge's laws
@@ -60,29 +63,46 @@ fate_is_found one_fate one_file p folder store now path stream file answer (Some
     let none : fates ≡ [] = fates_are.1 in
     ap (λ f. Some f ∷ fates) is ∙ ap (λ fs. Some (Found answer) ∷ fs) none
 
-plain_gives : OneFate → OneFile → (store now : Store) (request : Request) (early : Option Early) (status : Status) (text path stream file : List ℕ) (answer : Answer) → request.mode ≡ Bmc
-    → IsGot (Some store) request.design most_design text → ((fault : ProblemFault) → IsProblemFault (problem_of request text) fault → ⊥) → request.streams ≡ path ∷ [] → now path ≡ Some stream
-    → now (job_path request.folder Base) ≡ Some file → IsFate file stream most_stream (Found answer) → IsPlainStatus store now request early status → status ≡ status_for answer
-plain_gives one_fate one_file store now request early status text path stream file answer bmc got accepted streams has stands valid plain = elim plain [
+-- the streams' fates give the status of the one certificate
+judged_gives : OneFate → OneFile → (store now : Store) (request : Request) (early : Option Early) (status : Status) (path stream file : List ℕ) (answer : Answer) → request.mode ≡ Bmc
+    → request.streams ≡ path ∷ [] → now path ≡ Some stream → now (job_path request.folder Base) ≡ Some file → IsFate file stream most_stream (Found answer)
+    → IsJudgedStatus store now request early status → status ≡ status_for answer
+judged_gives one_fate one_file store now request early status path stream file answer bmc streams has stands valid judged =
+    let p = judged.0 in
+    let jobs : jobs_in p ≡ Base ∷ [] = one_job_in p (accepted_mode (Some store) request p bmc judged.2) in
+    let put : ArePut p request.folder (Base ∷ []) (Some store) (Some now) = subst (λ js. ArePut p request.folder js (Some store) (Some now)) jobs judged.4 in
+    let fates : AreFates p now (Base ∷ []) (path ∷ []) judged.1 = subst (λ js. AreFates p now js (path ∷ []) judged.1) jobs (subst (λ ps. AreFates p now (jobs_in p) ps judged.1) streams judged.5) in
+    let found : judged.1 ≡ Some (Found answer) ∷ [] = fate_is_found one_fate one_file p request.folder store now path stream file answer judged.1 put has stands valid fates in
+    let s : IsStatusOf Bmc (map fate_answer judged.1) (map fate_event judged.1) status = subst (λ m. IsStatusOf m (map fate_answer judged.1) (map fate_event judged.1) status) bmc judged.7 in
+    answer_gives answer status (subst (λ fs. IsStatusOf Bmc (map fate_answer fs) (map fate_event fs) status) found s)
+
+-- a task that came to its lane has the verdict of its one certificate
+pub gives : OneFate → OneFile → (before after : World) (request : Request) (end : TaskEnd) (exit : Exit) (store now : Store) (path stream file : List ℕ) (answer : Answer)
+    → TaskRan before after request end exit → before.told ≡ Some store → after.told ≡ Some now → request.mode ≡ Bmc → end.early ≡ None → end.status ≢ Memory
+    → request.streams ≡ path ∷ [] → now path ≡ Some stream → now (job_path request.folder Base) ≡ Some file → IsFate file stream most_stream (Found answer) → end.status ≡ status_for answer
+gives one_fate one_file before after request end exit store now path stream file answer ran told_before told_after bmc early apart streams has stands valid = elim ran.named.status [
+  | inl is ↦
+      let came : Came request (Some store) (Some now) before.file_faults after.file_faults after.blamed None end.text.items end.reports.items =
+      subst (λ e. Came request (Some store) (Some now) before.file_faults after.file_faults after.blamed e end.text.items end.reports.items) early
+      (subst (λ t. Came request (Some store) t before.file_faults after.file_faults after.blamed end.early end.text.items end.reports.items) told_after
+      (subst (λ t. Came request t after.told before.file_faults after.file_faults after.blamed end.early end.text.items end.reports.items) told_before ran.named.cause)) in
+      let status : IsStatus request.mode None (came.0 ∷ []) end.status =
+      subst (λ rs. IsStatus request.mode None rs end.status) came.1 (subst (λ e. IsStatus request.mode e end.reports.items end.status) early is) in
+      judged_gives one_fate one_file store now request None end.status path stream file answer bmc streams has stands valid
+      (done_judged request store now end.text.items came.0 end.status bmc apart status came.3)
+  | inr memory ↦ absurd (apart memory)
+]
+
+-- a design that isn't refused comes to its lane
+pub comes_to_lane : (before after : World) (request : Request) (end : TaskEnd) (exit : Exit) (store now : Store) (text : List ℕ)
+    → TaskRan before after request end exit → IsSmooth before after end → before.told ≡ Some store → after.told ≡ Some now → request.mode ≡ Bmc
+    → IsGot (Some store) request.design most_design text → ((fault : ProblemFault) → IsProblemFault (problem_of request text) fault → ⊥) → length request.streams ≤ 1 → end.early ≡ None
+comes_to_lane before after request end exit store now text ran smooth told_before told_after bmc got accepted few = elim (ran.complete store now told_before told_after smooth) [
   | inl refused ↦ absurd (accepted refused.0 (subst (λ t. IsProblemFault (problem_of request t) refused.0) (one_text store request.design most_design refused.1.0 text refused.1.1 got) refused.1.2))
   | inr others ↦ elim others [
     | inl many ↦
-        let jobs : jobs_in many.0 ≡ Base ∷ [] = one_job_in many.0 (ap (λ q. q.mode) many.1.asked ∙ bmc) in
-        let a : length (jobs_in many.0) ≡ 1 = ap length jobs in let b : length request.streams ≡ 1 = ap length streams in absurd (omega (arith, a, b, many.2))
-    | inr judged ↦
-        let p = judged.0 in
-        let jobs : jobs_in p ≡ Base ∷ [] = one_job_in p (ap (λ q. q.mode) judged.2.asked ∙ bmc) in
-        let put : ArePut p request.folder (Base ∷ []) (Some store) (Some now) = subst (λ js. ArePut p request.folder js (Some store) (Some now)) jobs judged.4 in
-        let fates : AreFates p now (Base ∷ []) (path ∷ []) judged.1 = subst (λ js. AreFates p now js (path ∷ []) judged.1) jobs (subst (λ ps. AreFates p now (jobs_in p) ps judged.1) streams judged.5) in
-        let found : judged.1 ≡ Some (Found answer) ∷ [] = fate_is_found one_fate one_file p request.folder store now path stream file answer judged.1 put has stands valid fates in
-        let s : IsStatusOf Bmc (map fate_answer judged.1) (map fate_event judged.1) status = subst (λ m. IsStatusOf m (map fate_answer judged.1) (map fate_event judged.1) status) bmc judged.7 in
-        answer_gives answer status (subst (λ fs. IsStatusOf Bmc (map fate_answer fs) (map fate_event fs) status) found s)
+        let jobs : jobs_in many.0 ≡ Base ∷ [] = one_job_in many.0 (accepted_mode (Some store) request many.0 bmc many.1) in
+        let a : length (jobs_in many.0) ≡ 1 = ap length jobs in absurd (omega (arith, a, few, many.2))
+    | inr judged ↦ judged.6
   ]
 ]
-
-pub gives : OneFate → OneFile → (before after : World) (request : Request) (end : TaskEnd) (exit : Exit) (store now : Store) (text path stream file : List ℕ) (answer : Answer)
-    → TaskRan before after request end exit → IsSmooth before after end → before.told ≡ Some store → after.told ≡ Some now → request.mode ≡ Bmc
-    → IsGot (Some store) request.design most_design text → ((fault : ProblemFault) → IsProblemFault (problem_of request text) fault → ⊥)
-    → request.streams ≡ path ∷ [] → now path ≡ Some stream → now (job_path request.folder Base) ≡ Some file → IsFate file stream most_stream (Found answer) → end.status ≡ status_for answer
-gives one_fate one_file before after request end exit store now text path stream file answer ran smooth told_before told_after bmc got accepted streams has stands valid =
-    plain_gives one_fate one_file store now request end.early end.status text path stream file answer bmc got accepted streams has stands valid (ran.complete store now told_before told_after smooth)

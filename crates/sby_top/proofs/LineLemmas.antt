@@ -110,10 +110,10 @@ pub memory_code : HasCode (Pass ∷ []) Memory 32
 memory_code = record { expected = λ apart. absurd (apart refl); unexpected = λ _. refl; memory = λ _. refl }
 
 -- lines that were told were printed, with the exit status and the status that go with how they were told
-pub printed_as : {T : Type 0} (before now : Option (List ℕ)) (f g : ℕ) (request : Request) (end : TaskEnd) (lines : List (List ℕ)) (told : Result T Stop) (decided : Status) (rc code : ℕ)
-    → Tells before now f g lines told → HasLines request.mode request.folder end.text.items end.early end.reports.items lines
+pub printed_as : {T : Type 0} {d : Option ℕ} (before now : Option (List ℕ)) (f g : ℕ) (request : Request) (end : TaskEnd) (lines : List (List ℕ)) (told : Result T Stop) (decided : Status) (rc code : ℕ)
+    → Tells before now f g d lines told → HasLines request.mode request.folder end.text.items end.early end.reports.items lines
     → IsStatus request.mode end.early end.reports.items decided → HasCode (Pass ∷ []) decided rc → (end.status, code) ≡ ended told decided rc
-    → IsPrintedAs before now f g request end code
+    → IsPrintedAs before now f g d request end code
 printed_as before now f g request end lines (Ok x) decided rc code tells has is coded ends =
     let s : end.status ≡ decided = ap (λ p. p.0) ends in let n : code ≡ rc = ap (λ p. p.1) ends in
     (Code rc, (tells.still, rw s coded, (lines, has, inl (rw s is, tells.whole))), n)
@@ -122,7 +122,7 @@ printed_as before now f g request end lines (Err MemoryStop) decided rc code tel
     (Code 32, (tells.still_memory refl, rw s memory_code, (lines, has, inr (s, tells.memory refl))), n)
 printed_as before now f g request end lines (Err Sink) decided rc code tells has is coded ends =
     let s : end.status ≡ decided = ap (λ p. p.0) ends in let n : code ≡ 16 = ap (λ p. p.1) ends in
-    (Cut, ((tells.fault refl).0, (lines, has, (rw s is, (tells.fault refl).1))), n)
+    (Cut, ((tells.fault refl).0, tells.last refl, (lines, has, (rw s is, (tells.fault refl).1))), n)
 
 pub status_or_memory : {T : Type 0} (mode : Mode) (early : Option Early) (reports : List (ReportOf FindingOf)) (status : Status) (told : Result T Stop) (decided : Status) (rc code : ℕ)
     → IsStatus mode early reports decided → (status, code) ≡ ended told decided rc → IsStatus mode early reports status ⊎ (status ≡ Memory)
@@ -192,9 +192,9 @@ one_of (y ∷ []) x one is = ap (λ z. z ∷ []) (sym is)
 one_of (y ∷ z ∷ xs) x one is = absurd (omega (arith, one))
 
 -- the lines of a task with a fault before the lanes were printed
-pub early_printed : {T : Type 0} (before now : Option (List ℕ)) (f g : ℕ) (request : Request) (end : TaskEnd) (early : Early) (name : List ℕ) (told : Result T Stop) (decided : Status) (rc code : ℕ) (expect : List Status)
-    → name ≡ request.folder → end.early ≡ Some early → Tells before now f g (line_if name (early_text early) ++ done_line name decided rc ∷ []) told
-    → IsStatus request.mode (Some early) end.reports.items decided → expect ≡ Pass ∷ [] → HasCode expect decided rc → (end.status, code) ≡ ended told decided rc → IsPrintedAs before now f g request end code
+pub early_printed : {T : Type 0} {d : Option ℕ} (before now : Option (List ℕ)) (f g : ℕ) (request : Request) (end : TaskEnd) (early : Early) (name : List ℕ) (told : Result T Stop) (decided : Status) (rc code : ℕ) (expect : List Status)
+    → name ≡ request.folder → end.early ≡ Some early → Tells before now f g d (line_if name (early_text early) ++ done_line name decided rc ∷ []) told
+    → IsStatus request.mode (Some early) end.reports.items decided → expect ≡ Pass ∷ [] → HasCode expect decided rc → (end.status, code) ≡ ended told decided rc → IsPrintedAs before now f g d request end code
 early_printed before now f g request end early name told decided rc code expect folder is tells status pass coded ends =
     let coded_pass : HasCode (Pass ∷ []) decided rc = subst (λ e. HasCode e decided rc) pass coded in
     let lines : List (List ℕ) = line_if name (early_text early) ++ done_line name decided rc ∷ [] in
@@ -208,11 +208,11 @@ abbrev pub served_lines : AskedOf → List ℕ → ℕ → JobEnd FindingOf → 
 served_lines p name lane end shown status rc = one_job_body name (counts_of p.design) lane end ++ (shown ++ done_line name status rc ∷ [])
 
 -- they were printed
-pub served_printed : {T : Type 0} (before now : Option (List ℕ)) (f g : ℕ) (request : Request) (end : TaskEnd) (p : AskedOf) (report : ReportOf FindingOf) (job : JobEnd FindingOf) (name : List ℕ) (lane : ℕ)
+pub served_printed : {T : Type 0} {d : Option ℕ} (before now : Option (List ℕ)) (f g : ℕ) (request : Request) (end : TaskEnd) (p : AskedOf) (report : ReportOf FindingOf) (job : JobEnd FindingOf) (name : List ℕ) (lane : ℕ)
     (told : Result T Stop) (decided : Status) (rc code : ℕ) (expect : List Status) (mode : Mode) → request.mode ≡ Bmc → mode ≡ request.mode → name ≡ request.folder → lane ≡ report.lane → end.early ≡ None → end.reports.items ≡ report ∷ [] → report.ends ≡ job ∷ []
     → end.text.items ≡ p.problem.text → IsProblem p → AreLined p report.ends
-    → ((shown : List (List ℕ)) → HasEndLines p.design name job shown → Tells before now f g (served_lines p name lane job shown decided rc) told)
-    → IsStatusOf mode (answer_of job ∷ []) (event_of job ∷ []) decided → expect ≡ Pass ∷ [] → HasCode expect decided rc → (end.status, code) ≡ ended told decided rc → IsPrintedAs before now f g request end code
+    → ((shown : List (List ℕ)) → HasEndLines p.design name job shown → Tells before now f g d (served_lines p name lane job shown decided rc) told)
+    → IsStatusOf mode (answer_of job ∷ []) (event_of job ∷ []) decided → expect ≡ Pass ∷ [] → HasCode expect decided rc → (end.status, code) ≡ ended told decided rc → IsPrintedAs before now f g d request end code
 served_printed before now f g request end p report job name lane told decided rc code expect mode bmc mode_is folder lane_is is reports ends_are text_is problem lined tells decides pass coded ends =
     let coded_pass : HasCode (Pass ∷ []) decided rc = subst (λ e. HasCode e decided rc) pass coded in
     let one_lined : IsLined p Base job = (subst (AreLined p) ends_are lined).0 in

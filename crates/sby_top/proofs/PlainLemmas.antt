@@ -16,7 +16,7 @@ use Rattle.sby_terms.specs.declared.names.Status.{Status}
 use Rattle.sby_terms.specs.declared.names.Status.TheVariants.{Memory}
 use Rattle.sby_top.specs.Askable.{IsAskable}
 use Rattle.sby_top.specs.Came.{Came, IsDone}
-use Rattle.sby_top.specs.Headline.{AreFates, IsComplete, IsPlainStatus, NamesEvent, fate_answer, fate_event}
+use Rattle.sby_top.specs.Headline.{AreFates, IsComplete, IsJudgedStatus, IsPlainStatus, NamesEvent, fate_answer, fate_event}
 use Rattle.sby_top.specs.Judged.{AreJudged, IsFateEnd}
 use Rattle.sby_top.specs.Served.{ArePut, jobs_in, most_stream}
 use Rattle.sby_top.specs.Status.{IsStatus, IsStatusOf, answer_of, event_of}
@@ -80,22 +80,21 @@ plain_status : (end : JobEnd FindingOf) (fate : Option Fate) (status : Status) �
 plain_status end fate status speaks s = rw (speaks.answer, speaks.event) s
 
 -- a task that was done has the status of its streams' fates
-done_plainly : (request : Request) (store now : Store) (text : List ℕ) (report : ReportOf FindingOf) (status : Status) → IsAskable request → status ≢ Memory → IsStatus request.mode None (report ∷ []) status
-    → IsDone request (Some store) (Some now) text report → IsPlainStatus store now request None status
-done_plainly request store now text report status askable apart is done =
+pub done_judged : (request : Request) (store now : Store) (text : List ℕ) (report : ReportOf FindingOf) (status : Status) → request.mode ≡ Bmc → status ≢ Memory → IsStatus request.mode None (report ∷ []) status
+    → IsDone request (Some store) (Some now) text report → IsJudgedStatus store now request None status
+done_judged request store now text report status mode apart is done =
     let p = done.0 in
-    let bmc : p.problem.mode ≡ Bmc = accepted_mode (Some store) request p askable done.1.0 in
+    let bmc : p.problem.mode ≡ Bmc = accepted_mode (Some store) request p mode done.1.0 in
     let jobs : jobs_in p ≡ Base ∷ [] = one_job_in p bmc in
     let few : length request.streams ≤ 1 = rw (← ap length jobs) done.1.1 in
     let judged : AreJudged p (Some now) (Base ∷ []) request.streams report.ends = subst (λ js. AreJudged p (Some now) js request.streams report.ends) jobs done.4.ends in
     let end = one_end p (Some now) request.streams report.ends few judged in
     let put : ArePut p request.folder (Base ∷ []) (Some store) (Some now) = subst (λ js. ArePut p request.folder js (Some store) (Some now)) jobs done.3 in
     let status_is : IsStatusOf Bmc (answer_of end.0 ∷ []) (event_of end.0 ∷ []) status =
-    subst (λ m. IsStatusOf m (answer_of end.0 ∷ []) (event_of end.0 ∷ []) status) askable.mode
+    subst (λ m. IsStatusOf m (answer_of end.0 ∷ []) (event_of end.0 ∷ []) status) mode
     (subst (λ es. IsStatusOf request.mode (map answer_of es) (map event_of es) status) end.1 is) in
     let fate = one_fate p now request.streams end.0 put.0 put.1 few (not_memory end.0 status apart status_is)
-    (subst (AreJudged p (Some now) (Base ∷ []) request.streams) end.1 judged) in
-    inr (inr (
+    (subst (AreJudged p (Some now) (Base ∷ []) request.streams) end.1 judged) in (
       p,
       fate.0 ∷ [],
       done.1.0,
@@ -103,25 +102,25 @@ done_plainly request store now text report status askable apart is done =
       done.3,
       subst (λ js. AreFates p now js request.streams (fate.0 ∷ [])) (sym jobs) fate.1,
       refl,
-      subst (λ m. IsStatusOf m (map fate_answer (fate.0 ∷ [])) (map fate_event (fate.0 ∷ [])) status) (sym askable.mode) (plain_status end.0 fate.0 status fate.2 status_is),
-    ))
+      subst (λ m. IsStatusOf m (map fate_answer (fate.0 ∷ [])) (map fate_event (fate.0 ∷ [])) status) (sym mode) (plain_status end.0 fate.0 status fate.2 status_is),
+    )
 
-plainly : (request : Request) (store now : Store) (f g : ℕ) (early : Option Early) (text : List ℕ) (reports : List (ReportOf FindingOf)) (status : Status) → IsAskable request
-    → (Rose f g → ⊥) → status ≢ Memory → IsStatus request.mode early reports status → Came request (Some store) (Some now) f g early text reports → IsPlainStatus store now request early status
-plainly request store now f g (Some (File path)) text reports status askable still apart is came = absurd (still came.2.0)
-plainly request store now f g (Some (Read x)) text reports status askable still apart is came = inl (ReadFault x, came.2.0, refl, is)
-plainly request store now f g (Some (Design x)) text reports status askable still apart is came = inl (DesignFault x, came.2.0, refl, is)
-plainly request store now f g (Some (TooMany job)) text reports status askable still apart is came = inl (TooManyFault job, came.2.0, refl, is)
-plainly request store now f g (Some Streams) text reports status askable still apart is came = let r = came.2.0 in inr (inl (r.0, r.1, r.2, refl, is))
-plainly request store now f g (Some MemoryEarly) text reports status askable still apart is came = absurd (apart is)
-plainly request store now f g None text reports status askable still apart is came =
-    done_plainly request store now text came.0 status askable apart (subst (λ rs. IsStatus request.mode None rs status) came.1 is) came.3
+plainly : (b : Option (List ℕ)) (request : Request) (store now : Store) (f g : ℕ) (early : Option Early) (text : List ℕ) (reports : List (ReportOf FindingOf)) (status : Status) → IsAskable request
+    → (Rose f g → ⊥) → status ≢ Memory → IsStatus request.mode early reports status → Came request (Some store) (Some now) f g b early text reports → IsPlainStatus store now request early status
+plainly b request store now f g (Some (File path)) text reports status askable still apart is came = absurd (still came.2.0)
+plainly b request store now f g (Some (Read x)) text reports status askable still apart is came = inl (ReadFault x, came.2.0, refl, is)
+plainly b request store now f g (Some (Design x)) text reports status askable still apart is came = inl (DesignFault x, came.2.0, refl, is)
+plainly b request store now f g (Some (TooMany job)) text reports status askable still apart is came = inl (TooManyFault job, came.2.0, refl, is)
+plainly b request store now f g (Some Streams) text reports status askable still apart is came = let r = came.2.0 in inr (inl (r.0, r.1, r.2, refl, is))
+plainly b request store now f g (Some MemoryEarly) text reports status askable still apart is came = absurd (apart is)
+plainly b request store now f g None text reports status askable still apart is came =
+    inr (inr (done_judged request store now text came.0 status askable.mode apart (subst (λ rs. IsStatus request.mode None rs status) came.1 is) came.3))
 
 -- completeness, where each status names its event
 pub is_complete : (before after : World) (request : Request) (end : TaskEnd) → IsAskable request → NamesEvent before after request end → IsComplete before after request end
 is_complete before after request end askable named = λ store now told_before told_after smooth. elim named.status [
-  | inl is ↦ plainly request store now before.file_faults after.file_faults end.early end.text.items end.reports.items end.status askable smooth.files smooth.memory is
-      (subst (λ t. Came request (Some store) t before.file_faults after.file_faults end.early end.text.items end.reports.items) told_after
-      (subst (λ t. Came request t after.told before.file_faults after.file_faults end.early end.text.items end.reports.items) told_before named.cause))
+  | inl is ↦ plainly _ request store now before.file_faults after.file_faults end.early end.text.items end.reports.items end.status askable smooth.files smooth.memory is
+      (subst (λ t. Came request (Some store) t before.file_faults after.file_faults after.blamed end.early end.text.items end.reports.items) told_after
+      (subst (λ t. Came request t after.told before.file_faults after.file_faults after.blamed end.early end.text.items end.reports.items) told_before named.cause))
   | inr memory ↦ absurd (smooth.memory memory)
 ]

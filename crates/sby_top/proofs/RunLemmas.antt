@@ -8,6 +8,7 @@ use Rattle.sby_top.specs.Came.{Came}
 use Rattle.sby_top.specs.End.{IsEnd, IsPrintedAs}
 use Rattle.sby_top.specs.Headline.{Code, Cut, Exit, NamesEvent, TaskRan}
 use Rattle.sby_edge.specs.Cause.{Rose}
+use Rattle.sby_edge.specs.Sink.{AreAll}
 use Rattle.sby_top.specs.Run.{Did, IsDoneAs, Ran, rc_of_exit}
 use Rattle.sby_top.specs.Telling.{GrownBySome, grown}
 use Rattle.sby_top.specs.Texts.{usage_line}
@@ -25,7 +26,7 @@ pub asked_is_askable : (words : List (List ℕ)) (r : Request) → IsAsked words
 asked_is_askable words r asks = record { mode = asks.judges.served; least = asks.judges.depth.least; most = asks.judges.depth.most }
 
 names : (before after : World) (request : Request) (end : TaskEnd) (early : Option Early) (text : List ℕ) (reports : List (ReportOf FindingOf)) → IsEnd request early text reports end
-    → Came request before.told after.told before.file_faults after.file_faults early text reports → NamesEvent before after request end
+    → Came request before.told after.told before.file_faults after.file_faults after.blamed early text reports → NamesEvent before after request end
 names before after request end early text reports made came = record {
   name = made.name;
   status = rw (made.early_is, made.reports_are) made.status;
@@ -36,7 +37,7 @@ names before after request end early text reports made came = record {
 
 -- a task that came to this, and whose lines were printed, was run
 pub task_ran : (before after : World) (request : Request) (end : TaskEnd) (rc : ℕ) (early : Option Early) (text : List ℕ) (reports : List (ReportOf FindingOf)) → IsAskable request → IsEnd request early text reports end
-    → Came request before.told after.told before.file_faults after.file_faults early text reports → IsPrintedAs before.taken after.taken before.sink_faults after.sink_faults request end rc
+    → Came request before.told after.told before.file_faults after.file_faults after.blamed early text reports → IsPrintedAs before.taken after.taken before.sink_faults after.sink_faults after.ended request end rc
     → IsStored request before.told after.told → before.file_faults ≤ after.file_faults → before.sink_faults ≤ after.sink_faults
     → (exit : Exit) × TaskRan before after request end exit × (rc ≡ rc_of_exit exit)
 task_ran before after request end rc early text reports askable made came printed stored files sink =
@@ -71,7 +72,7 @@ no_end before after request done same is ends = (Code 32, rw ends (same, refl), 
 
 -- refused words gave the usage line
 pub usage_alone : (before after : World) (words : List (List ℕ)) (done : Done) → IsAsked words None → done.rc ≡ 16 → done.ends.items ≡ [] → after.told ≡ before.told → after.file_faults ≡ before.file_faults
-    → before.sink_faults ≤ after.sink_faults → (((after.sink_faults ≡ before.sink_faults) × (after.taken ≡ grown before.taken usage_line)) ⊎ (Rose before.sink_faults after.sink_faults × GrownBySome before.taken after.taken usage_line)) → Did before after words done
+    → before.sink_faults ≤ after.sink_faults → (((after.sink_faults ≡ before.sink_faults) × (after.taken ≡ grown before.taken usage_line)) ⊎ (Rose before.sink_faults after.sink_faults × AreAll after.ended after.taken × GrownBySome before.taken after.taken usage_line)) → Did before after words done
 usage_alone before after words done refused rc ends files faults later line = inl (None, refused, record { rc = rc; ends = ends; files = files; file_faults = faults; sink = later; line = line })
 
 -- the words' task was run

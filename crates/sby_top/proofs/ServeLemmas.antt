@@ -1,7 +1,8 @@
 use Rattle.std.proofs.Common.{◌≡◌, ℕ, ◌+◌, ◌≤◌, List, [], ◌∷◌, refl, ap, sym, ◌∙◌, subst, inl, inr, take, arith, ◌++◌}
-use Rattle.std.specs.Prelude.{Option, Some, None, Contains, replicate}
+use Rattle.std.specs.Prelude.{Option, Some, None, IfSome, Contains, replicate}
 use Rattle.std.proofs.lemmas.List.{take_all}
-use Rattle.sby_edge.specs.Files.{Store, GotAt, GotFrom, GotOf}
+use Rattle.sby_edge.specs.Cause.{Rose}
+use Rattle.sby_edge.specs.Files.{Store, GotAt, GotFits, GotFrom, GotOf}
 use Rattle.sby_edge.specs.declared.outside.Got.{Got}
 use Rattle.sby_edge.specs.declared.outside.Got.TheVariants.{All as Whole, Long}
 use Rattle.judge.specs.Problem.{AskedOf, IsJob, IsJobFile, IsProblem, jobs_of}
@@ -31,9 +32,10 @@ got_at None most got h = absurd h
 got_at (Some content) most got h = (content, refl, got_of content most got h)
 
 -- what a call of `get` gave
-pub got_from : (told : Option Store) (path : List ℕ) (most : ℕ) (got : Got) → GotFrom told path most got → IsGot told path most (got_items got)
-got_from None path most got h = tt
-got_from (Some store) path most got h = got_at (store path) most got h
+pub got_from : (told : Option Store) (path : List ℕ) (most : ℕ) (got : Got) → GotFits most got → GotFrom told path most got → IsGot told path most (got_items got)
+got_from None path most (Whole v) fits h = omega (arith, fits)
+got_from None path most (Long v) fits h = omega (arith, fits)
+got_from (Some store) path most got fits h = got_at (store path) most got h
 
 -- the jobs of bmc
 pub one_job_in : (p : AskedOf) → p.problem.mode ≡ Bmc → jobs_in p ≡ Base ∷ []
@@ -42,8 +44,8 @@ one_job_in p is = ap (λ m. jobs_of m p.design) is
 pub has_base : (p : AskedOf) → p.problem.mode ≡ Bmc → IsJob p Base
 has_base p is = (0, rw (one_job_in p is) refl)
 
-pub accepted_mode : (told : Option Store) (request : Request) (p : AskedOf) → IsAskable request → IsAccepted told request p → p.problem.mode ≡ Bmc
-accepted_mode told request p askable a = ap (λ q. q.mode) a.asked ∙ askable.mode
+pub accepted_mode : (told : Option Store) (request : Request) (p : AskedOf) → request.mode ≡ Bmc → IsAccepted told request p → p.problem.mode ≡ Bmc
+accepted_mode told request p mode a = ap (λ q. q.mode) a.asked ∙ mode
 
 -- a problem of the text that was got is accepted
 pub is_accepted : (told : Option Store) (request : Request) (text : List ℕ) (p : AskedOf) → IsGot told request.design most_design text → p.problem ≡ problem_of request text → IsProblem p
@@ -54,35 +56,49 @@ is_accepted told request text p got is problem = let t : p.problem.text ≡ text
   problem = problem;
 }
 
+-- the path of a failed call, by the text that names it
+blamed_at : (b : Option (List ℕ)) (name path : List ℕ) → name ≡ path → IfSome b (λ at. at ≡ path) → IfSome b (λ at. at ≡ name)
+blamed_at None name path is h = tt
+blamed_at (Some at) name path is h = h ∙ sym is
+
+-- a call failed at this path
+pub call_failed : (b : Option (List ℕ)) (f g : ℕ) (path : List ℕ) (early : Early) → IsFailedCall 0 1 None path early → Rose f g → IfSome b (λ at. at ≡ path) → IsFailedCall f g b path early
+call_failed b f g path (File p) h rose at = (h.0, rose, at)
+call_failed b f g path Memory h rose at = tt
+call_failed b f g path (Read x) h rose at = absurd h
+call_failed b f g path (Design x) h rose at = absurd h
+call_failed b f g path (TooMany job) h rose at = absurd h
+call_failed b f g path Streams h rose at = absurd h
+
 -- the design couldn't be got
-pub design_not_got : (request : Request) (before after : Option Store) (f g : ℕ) (early : Early) → IsFailedCall f g request.design early → after ≡ before → HasReason request before after f g early
-design_not_got request before after f g (File p) h same = (h.1, inl (h.0, same))
-design_not_got request before after f g Memory h same = tt
-design_not_got request before after f g (Read x) h same = absurd h
-design_not_got request before after f g (Design x) h same = absurd h
-design_not_got request before after f g (TooMany job) h same = absurd h
-design_not_got request before after f g Streams h same = absurd h
+pub design_not_got : (b : Option (List ℕ)) (request : Request) (before after : Option Store) (f g : ℕ) (early : Early) → IsFailedCall f g b request.design early → after ≡ before → HasReason request before after f g b early
+design_not_got b request before after f g (File p) h same = (h.1, blamed_at _ _ _ h.0 h.2, inl (h.0, same))
+design_not_got b request before after f g Memory h same = tt
+design_not_got b request before after f g (Read x) h same = absurd h
+design_not_got b request before after f g (Design x) h same = absurd h
+design_not_got b request before after f g (TooMany job) h same = absurd h
+design_not_got b request before after f g Streams h same = absurd h
 
 -- the text that was got is refused
-pub text_refused : (request : Request) (before after : Option Store) (f g : ℕ) (early : Early) (text : List ℕ) → IsGot before request.design most_design text → IsRefusal (problem_of request text) early
-    → after ≡ before → g ≡ f → HasReason request before after f g early
-text_refused request before after f g (Read x) text got h same still = ((text, got, h), same, still)
-text_refused request before after f g (Design x) text got h same still = ((text, got, h), same, still)
-text_refused request before after f g (TooMany job) text got h same still = ((text, got, h), same, still)
-text_refused request before after f g Memory text got h same still = tt
-text_refused request before after f g (File p) text got h same still = absurd h
-text_refused request before after f g Streams text got h same still = absurd h
+pub text_refused : (b : Option (List ℕ)) (request : Request) (before after : Option Store) (f g : ℕ) (early : Early) (text : List ℕ) → IsGot before request.design most_design text → IsRefusal (problem_of request text) early
+    → after ≡ before → g ≡ f → HasReason request before after f g b early
+text_refused b request before after f g (Read x) text got h same still = ((text, got, h), same, still)
+text_refused b request before after f g (Design x) text got h same still = ((text, got, h), same, still)
+text_refused b request before after f g (TooMany job) text got h same still = ((text, got, h), same, still)
+text_refused b request before after f g Memory text got h same still = tt
+text_refused b request before after f g (File p) text got h same still = absurd h
+text_refused b request before after f g Streams text got h same still = absurd h
 
 -- the job's file couldn't be put
-pub file_not_put : (request : Request) (before after : Option Store) (f g : ℕ) (early : Early) (p : AskedOf) → IsAskable request → IsServed before request p
-    → IsFailedCall f g (job_path request.folder Base) early → after ≡ before → HasReason request before after f g early
-file_not_put request before after f g (File path) p askable served h same =
-    (h.1, inr (inl (p, 0, Base, served, rw (one_job_in p (accepted_mode before request p askable served.0)) refl, h.0, same)))
-file_not_put request before after f g Memory p askable served h same = tt
-file_not_put request before after f g (Read x) p askable served h same = absurd h
-file_not_put request before after f g (Design x) p askable served h same = absurd h
-file_not_put request before after f g (TooMany job) p askable served h same = absurd h
-file_not_put request before after f g Streams p askable served h same = absurd h
+pub file_not_put : (b : Option (List ℕ)) (request : Request) (before after : Option Store) (f g : ℕ) (early : Early) (p : AskedOf) → IsAskable request → IsServed before request p
+    → IsFailedCall f g b (job_path request.folder Base) early → after ≡ before → HasReason request before after f g b early
+file_not_put b request before after f g (File path) p askable served h same =
+    (h.1, blamed_at _ _ _ h.0 h.2, inr (inl (p, 0, Base, served, rw (one_job_in p (accepted_mode before request p askable.mode served.0)) refl, h.0, same)))
+file_not_put b request before after f g Memory p askable served h same = tt
+file_not_put b request before after f g (Read x) p askable served h same = absurd h
+file_not_put b request before after f g (Design x) p askable served h same = absurd h
+file_not_put b request before after f g (TooMany job) p askable served h same = absurd h
+file_not_put b request before after f g Streams p askable served h same = absurd h
 
 -- the file of the one job was put
 pub one_put : (request : Request) (before after : Option Store) (p : AskedOf) (file : List ℕ) → p.problem.mode ≡ Bmc → IsJobFile p Base file → after ≡ with_file request.folder Base file before
@@ -94,27 +110,27 @@ pub one_put_first : (request : Request) (before after : Option Store) (p : Asked
 one_put_first request before after p file bmc is put = rw (one_job_in p bmc) (file, is, put)
 
 -- a stream couldn't be got
-pub stream_not_got : (request : Request) (before after : Option Store) (f g : ℕ) (early : Early) (p : AskedOf) (path : List ℕ) → IsServed before request p
-    → Contains request.streams path → IsFailedCall f g path early → ArePut p request.folder (jobs_in p) before after → HasReason request before after f g early
-stream_not_got request before after f g (File q) p path served among h put = (h.1, inr (inr (p, served, subst (Contains request.streams) (sym h.0) among, put)))
-stream_not_got request before after f g Memory p path served among h put = tt
-stream_not_got request before after f g (Read x) p path served among h put = absurd h
-stream_not_got request before after f g (Design x) p path served among h put = absurd h
-stream_not_got request before after f g (TooMany job) p path served among h put = absurd h
-stream_not_got request before after f g Streams p path served among h put = absurd h
+pub stream_not_got : (b : Option (List ℕ)) (request : Request) (before after : Option Store) (f g : ℕ) (early : Early) (p : AskedOf) (path : List ℕ) → IsServed before request p
+    → Contains request.streams path → IsFailedCall f g b path early → ArePut p request.folder (jobs_in p) before after → HasReason request before after f g b early
+stream_not_got b request before after f g (File q) p path served among h put = (h.1, blamed_at _ _ _ h.0 h.2, inr (inr (p, served, subst (Contains request.streams) (sym h.0) among, put)))
+stream_not_got b request before after f g Memory p path served among h put = tt
+stream_not_got b request before after f g (Read x) p path served among h put = absurd h
+stream_not_got b request before after f g (Design x) p path served among h put = absurd h
+stream_not_got b request before after f g (TooMany job) p path served among h put = absurd h
+stream_not_got b request before after f g Streams p path served among h put = absurd h
 
 -- a call that failed still has its cause where the count rose before it or behind it
-pub failed_since : (f g h : ℕ) (path : List ℕ) (early : Early) → f ≤ g → IsFailedCall g h path early → IsFailedCall f h path early
-failed_since f g h path (File p) le failed = (failed.0, omega (arith, failed.1))
-failed_since f g h path Memory le failed = tt
-failed_since f g h path (Read x) le failed = absurd failed
-failed_since f g h path (Design x) le failed = absurd failed
-failed_since f g h path (TooMany job) le failed = absurd failed
-failed_since f g h path Streams le failed = absurd failed
+pub failed_since : (b : Option (List ℕ)) (f g h : ℕ) (path : List ℕ) (early : Early) → f ≤ g → IsFailedCall g h b path early → IsFailedCall f h b path early
+failed_since b f g h path (File p) le failed = (failed.0, omega (arith, failed.1), failed.2)
+failed_since b f g h path Memory le failed = tt
+failed_since b f g h path (Read x) le failed = absurd failed
+failed_since b f g h path (Design x) le failed = absurd failed
+failed_since b f g h path (TooMany job) le failed = absurd failed
+failed_since b f g h path Streams le failed = absurd failed
 
 -- a fact of the content of a path that was got
 pub has_from : (told : Option Store) (path bytes : List ℕ) (P : List ℕ → Type 0) → IsGot told path most_stream bytes → ((content : List ℕ) → bytes ≡ take (most_stream + 1) content → P content) → Has told path P
-has_from None path bytes P got each = tt
+has_from None path bytes P got each = (bytes, each bytes (sym (take_all (most_stream + 1) bytes got)))
 has_from (Some store) path bytes P got each = rw got.1 (each got.0 got.2)
 
 -- the one job's stream was judged
@@ -174,7 +190,7 @@ pub is_done : (request : Request) (before mid after : Option Store) (p : AskedOf
     → IsAskable request → IsServed before request p → text ≡ p.problem.text → folder ≡ request.folder → paths ≡ request.streams → OnePut p folder before mid → after ≡ mid
     → IsFirstGot mid paths stream → IsStreamJudged p Base stream end → old ≡ empty_report → report ≡ record old { ends = old.ends ++ end ∷ [] } → IsDone request before after text report
 is_done request before mid after p text folder paths stream end report old askable served is folder_is paths_are put same got judged empty is_report_of =
-    let bmc = accepted_mode before request p askable served.0 in (
+    let bmc = accepted_mode before request p askable.mode served.0 in (
       p,
       served,
       is,
@@ -187,22 +203,22 @@ is_done request before mid after p text folder paths stream end report old askab
 pub is_stored : (request : Request) (before mid after : Option Store) (p : AskedOf) (folder : List ℕ) → IsAskable request → IsServed before request p → folder ≡ request.folder → OnePut p folder before mid
     → after ≡ mid → IsStored request before after
 is_stored request before mid after p folder askable served folder_is put same =
-    inr (p, 1, served, one_put_first request before after p put.0 (accepted_mode before request p askable served.0) put.1 (same ∙ put.2 ∙ ap (λ f. with_file f Base put.0 before) folder_is))
+    inr (p, 1, served, one_put_first request before after p put.0 (accepted_mode before request p askable.mode served.0) put.1 (same ∙ put.2 ∙ ap (λ f. with_file f Base put.0 before) folder_is))
 
 -- the stream of a task couldn't be got
-pub no_stream : (request : Request) (before mid after : Option Store) (f g h : ℕ) (early : Early) (p : AskedOf) (folder : List ℕ) (paths : List (List ℕ)) → IsAskable request → IsServed before request p
+pub no_stream : (b : Option (List ℕ)) (request : Request) (before mid after : Option Store) (f g h : ℕ) (early : Early) (p : AskedOf) (folder : List ℕ) (paths : List (List ℕ)) → IsAskable request → IsServed before request p
     → folder ≡ request.folder → paths ≡ request.streams → OnePut p folder before mid → after ≡ mid → f ≤ g
-    → ((path : List ℕ) × Contains paths path × IsFailedCall g h path early) → HasReason request before after f h early
-no_stream request before mid after f g h early p folder paths askable served folder_is paths_are put same later failed =
-    stream_not_got request before after f h early p failed.0 served (subst (λ ps. Contains ps failed.0) paths_are failed.1) (failed_since f g h failed.0 early later failed.2)
-    (one_put request before after p put.0 (accepted_mode before request p askable served.0) put.1 (same ∙ put.2 ∙ ap (λ x. with_file x Base put.0 before) folder_is))
+    → ((path : List ℕ) × Contains paths path × IsFailedCall g h b path early) → HasReason request before after f h b early
+no_stream b request before mid after f g h early p folder paths askable served folder_is paths_are put same later failed =
+    stream_not_got _ request before after f h early p failed.0 served (subst (λ ps. Contains ps failed.0) paths_are failed.1) (failed_since _ f g h failed.0 early later failed.2)
+    (one_put request before after p put.0 (accepted_mode before request p askable.mode served.0) put.1 (same ∙ put.2 ∙ ap (λ x. with_file x Base put.0 before) folder_is))
 
 -- the job's file of a task couldn't be put
-pub no_file : (request : Request) (before after : Option Store) (f g : ℕ) (early : Early) (p : AskedOf) (folder : List ℕ) → IsAskable request → IsServed before request p
-    → folder ≡ request.folder → IsFailedCall f g (job_path folder Base) early → after ≡ before → HasReason request before after f g early
-no_file request before after f g early p folder askable served folder_is failed same =
-    file_not_put request before after f g early p askable served (subst (λ x. IsFailedCall f g (job_path x Base) early) folder_is failed) same
+pub no_file : (b : Option (List ℕ)) (request : Request) (before after : Option Store) (f g : ℕ) (early : Early) (p : AskedOf) (folder : List ℕ) → IsAskable request → IsServed before request p
+    → folder ≡ request.folder → IsFailedCall f g b (job_path folder Base) early → after ≡ before → HasReason request before after f g b early
+no_file b request before after f g early p folder askable served folder_is failed same =
+    file_not_put _ request before after f g early p askable served (subst (λ x. IsFailedCall f g b (job_path x Base) early) folder_is failed) same
 
 -- a reason since a later moment is one since an earlier one with the same count
-pub reason_since : (request : Request) (before after : Option Store) (f g h : ℕ) (early : Early) → g ≡ f → HasReason request before after g h early → HasReason request before after f h early
-reason_since request before after f g h early same reason = subst (λ x. HasReason request before after x h early) same reason
+pub reason_since : (b : Option (List ℕ)) (request : Request) (before after : Option Store) (f g h : ℕ) (early : Early) → g ≡ f → HasReason request before after g h b early → HasReason request before after f h b early
+reason_since b request before after f g h early same reason = subst (λ x. HasReason request before after x h b early) same reason

@@ -29,17 +29,18 @@ pub grown_part : (o m n : Option (List ℕ)) (at count : ℕ) (text rest line : 
 grown_part o m n at count text rest line is front within fits had got =
     let long : length line ≡ count = ap length front ∙ length-take-le count rest within in
     let whole : line ++ drop count rest ≡ rest = ap (λ l. l ++ drop count rest) front ∙ take-append-drop count rest in
-    let same : take got.0 line ≡ take got.0 rest = sym (take-append-le got.0 line (drop count rest) got.1) ∙ ap (take got.0) whole in (
+    let same : take got.0 line ≡ take got.0 rest = sym (take-append-le got.0 line (drop count rest) (omega (arith, got.1))) ∙ ap (take got.0) whole in (
       at + got.0,
       omega (arith, long, got.1),
       grown_more o m n at got.0 text rest is had (got.2 ∙ ap (grown m) same),
     )
 
 -- lines were told, and then more
-pub tells_then : {T U : Type 0} (b m n : Option (List ℕ)) (f g h : ℕ) (first more : List (List ℕ)) (x : T) (r : Result U Stop) → Tells {T = T} b m f g first (Ok x) → Tells {T = U} m n g h more r → Tells {T = U} b n f h (first ++ more) r
+pub tells_then : {T U : Type 0} {d e : Option ℕ} (b m n : Option (List ℕ)) (f g h : ℕ) (first more : List (List ℕ)) (x : T) (r : Result U Stop) → Tells {T = T} b m f g d first (Ok x) → Tells {T = U} m n g h e more r → Tells {T = U} b n f h e (first ++ more) r
 tells_then {T} {U} b m n f g h first more x r p q = record {
   later = omega (arith, p.later, q.later);
   whole = on_ok_weaker r (λ e. e ∙ ap (λ o. grown o (concat more)) p.whole ∙ grown-grown b (concat first) (concat more) ∙ ap (grown b) (sym (concat-append first more))) q.whole;
+  last = q.last;
   still = on_ok_weaker r (λ e. e ∙ p.still) q.still;
   still_memory = λ e. q.still_memory e ∙ p.still;
   memory = λ e. let k = q.memory e in (
@@ -60,7 +61,7 @@ tells_then {T} {U} b m n f g h first more x r p q = record {
 }
 
 -- memory was wanting before any line
-pub tells_nothing : {T : Type 0} (b : Option (List ℕ)) (f : ℕ) (lines : List (List ℕ)) → 0 < length lines → Tells {T = T} b b f f lines (Err Memory)
+pub tells_nothing : {T : Type 0} {d : Option ℕ} (b : Option (List ℕ)) (f : ℕ) (lines : List (List ℕ)) → 0 < length lines → Tells {T = T} b b f f d lines (Err Memory)
 tells_nothing {T} b f lines some = record {
   later = omega arith;
   whole = tt;
@@ -68,14 +69,16 @@ tells_nothing {T} b f lines some = record {
   still_memory = λ e. refl;
   memory = λ e. (0, some, sym (grown-nil b));
   fault = λ e. let no : ⊥ = cc in absurd no;
+  last = λ e. let no : ⊥ = cc in absurd no;
 }
 
 -- telling stopped at the first lines
-pub tells_stopped : {T U : Type 0} (b m : Option (List ℕ)) (f g : ℕ) (first more : List (List ℕ)) (e : Stop) → Tells {T = T} b m f g first (Err e) → Tells {T = U} b m f g (first ++ more) (Err e)
+pub tells_stopped : {T U : Type 0} {d : Option ℕ} (b m : Option (List ℕ)) (f g : ℕ) (first more : List (List ℕ)) (e : Stop) → Tells {T = T} b m f g d first (Err e) → Tells {T = U} b m f g d (first ++ more) (Err e)
 tells_stopped {T} {U} b m f g first more e p = record {
   later = p.later;
   whole = tt;
   still = tt;
+  last = λ w. let same : e ≡ Sink = cc in p.last (ap Err same);
   still_memory = λ w. let same : e ≡ Memory = cc in p.still_memory (ap Err same);
   memory = λ w. let same : e ≡ Memory = cc in let k = p.memory (ap Err same) in
       (k.0, simp length-append (omega (arith, k.1)), k.2 ∙ ap (λ ls. grown b (concat ls)) (sym (take-append-le k.0 first more (omega (arith, k.1)))));
@@ -84,7 +87,7 @@ tells_stopped {T} {U} b m f g first more e p = record {
     (
       k.1.0,
       rw concat-append (simp length-append (omega (arith, k.1.1))),
-      k.1.2 ∙ ap (grown b) (sym (take-append-le k.1.0 (concat first) (concat more) k.1.1) ∙ ap (take k.1.0) (sym (concat-append first more))),
+      k.1.2 ∙ ap (grown b) (sym (take-append-le k.1.0 (concat first) (concat more) (omega (arith, k.1.1))) ∙ ap (take k.1.0) (sym (concat-append first more))),
     ),
   );
 }

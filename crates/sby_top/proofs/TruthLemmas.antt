@@ -77,7 +77,7 @@ done_answered : (request : Request) (before after : Option Store) (text : List �
     → ((end : JobEnd FindingOf) → report.ends ≡ end ∷ [] → answer_of end ≡ Some answer) → IsAnswered request before text report answer
 done_answered request before after text report answer askable done answers =
     let p = done.0 in
-    let jobs : jobs_in p ≡ Base ∷ [] = one_job_in p (accepted_mode before request p askable done.1.0) in
+    let jobs : jobs_in p ≡ Base ∷ [] = one_job_in p (accepted_mode before request p askable.mode done.1.0) in
     let few : length request.streams ≤ 1 = rw (← ap length jobs) done.1.1 in
     let judged : AreJudged p after (Base ∷ []) request.streams report.ends = subst (λ js. AreJudged p after js request.streams report.ends) jobs done.4.ends in
     let end = one_end p after request.streams report.ends few judged in
@@ -171,27 +171,27 @@ one_job_answers request report status answer askable is by end ends =
     by (answer_of end) (event_of end ∷ []) (subst (λ m. IsStatusOf m (answer_of end ∷ []) (event_of end ∷ []) status) askable.mode
     (subst (λ es. IsStatusOf request.mode (map answer_of es) (map event_of es) status) ends is))
 
-passes_truly : (request : Request) (before after : Option Store) (f g : ℕ) (early : Option Early) (text : List ℕ) (reports : List (ReportOf FindingOf)) → IsAskable request
-    → IsStatus request.mode early reports Pass → Came request before after f g early text reports → IsTrueOf before request text (PassClaim request.mode)
-passes_truly request before after f g (Some (File path)) text reports askable is came = cc
-passes_truly request before after f g (Some (Read x)) text reports askable is came = cc
-passes_truly request before after f g (Some (Design x)) text reports askable is came = cc
-passes_truly request before after f g (Some (TooMany job)) text reports askable is came = cc
-passes_truly request before after f g (Some Streams) text reports askable is came = cc
-passes_truly request before after f g (Some MemoryEarly) text reports askable is came = cc
-passes_truly request before after f g None text reports askable is came =
+passes_truly : (b : Option (List ℕ)) (request : Request) (before after : Option Store) (f g : ℕ) (early : Option Early) (text : List ℕ) (reports : List (ReportOf FindingOf)) → IsAskable request
+    → IsStatus request.mode early reports Pass → Came request before after f g b early text reports → IsTrueOf before request text (PassClaim request.mode)
+passes_truly b request before after f g (Some (File path)) text reports askable is came = cc
+passes_truly b request before after f g (Some (Read x)) text reports askable is came = cc
+passes_truly b request before after f g (Some (Design x)) text reports askable is came = cc
+passes_truly b request before after f g (Some (TooMany job)) text reports askable is came = cc
+passes_truly b request before after f g (Some Streams) text reports askable is came = cc
+passes_truly b request before after f g (Some MemoryEarly) text reports askable is came = cc
+passes_truly b request before after f g None text reports askable is came =
     let s : IsStatus request.mode None (came.0 ∷ []) Pass = subst (λ rs. IsStatus request.mode None rs Pass) came.1 is in
     passes_by request before text came.0 askable.mode (done_answered request before after text came.0 Unsat askable came.3 (one_job_answers request came.0 Pass Unsat askable s pass_answer))
 
-fails_truly : (request : Request) (before after : Option Store) (f g : ℕ) (end : TaskEnd) (early : Option Early) → IsAskable request → end.early ≡ early
-    → IsStatus request.mode early end.reports.items Fail → Came request before after f g early end.text.items end.reports.items → IsTrueOf before request end.text.items (FailClaim request.mode request end)
-fails_truly request before after f g end (Some (File path)) askable early is came = cc
-fails_truly request before after f g end (Some (Read x)) askable early is came = cc
-fails_truly request before after f g end (Some (Design x)) askable early is came = cc
-fails_truly request before after f g end (Some (TooMany job)) askable early is came = cc
-fails_truly request before after f g end (Some Streams) askable early is came = cc
-fails_truly request before after f g end (Some MemoryEarly) askable early is came = cc
-fails_truly request before after f g end None askable early is came =
+fails_truly : (b : Option (List ℕ)) (request : Request) (before after : Option Store) (f g : ℕ) (end : TaskEnd) (early : Option Early) → IsAskable request → end.early ≡ early
+    → IsStatus request.mode early end.reports.items Fail → Came request before after f g b early end.text.items end.reports.items → IsTrueOf before request end.text.items (FailClaim request.mode request end)
+fails_truly b request before after f g end (Some (File path)) askable early is came = cc
+fails_truly b request before after f g end (Some (Read x)) askable early is came = cc
+fails_truly b request before after f g end (Some (Design x)) askable early is came = cc
+fails_truly b request before after f g end (Some (TooMany job)) askable early is came = cc
+fails_truly b request before after f g end (Some Streams) askable early is came = cc
+fails_truly b request before after f g end (Some MemoryEarly) askable early is came = cc
+fails_truly b request before after f g end None askable early is came =
     let s : IsStatus request.mode None (came.0 ∷ []) Fail = subst (λ rs. IsStatus request.mode None rs Fail) came.1 is in
     fails_by request before end came.0 askable.mode early came.1
     (done_answered request before after end.text.items came.0 Sat askable came.3 (one_job_answers request came.0 Fail Sat askable s fail_answer))
@@ -200,7 +200,7 @@ fails_truly request before after f g end None askable early is came =
 pub is_pass_true : (before after : World) (request : Request) (end : TaskEnd) → IsAskable request → NamesEvent before after request end → end.status ≡ Pass
     → IsTrueOf before.told request end.text.items (PassClaim request.mode)
 is_pass_true before after request end askable named passes = elim named.status [
-  | inl is ↦ passes_truly request before.told after.told before.file_faults after.file_faults end.early end.text.items end.reports.items askable
+  | inl is ↦ passes_truly _ request before.told after.told before.file_faults after.file_faults end.early end.text.items end.reports.items askable
       (subst (IsStatus request.mode end.early end.reports.items) passes is) named.cause
   | inr memory ↦ cc
 ]
@@ -208,7 +208,7 @@ is_pass_true before after request end askable named passes = elim named.status [
 pub is_fail_true : (before after : World) (request : Request) (end : TaskEnd) → IsAskable request → NamesEvent before after request end → end.status ≡ Fail
     → IsTrueOf before.told request end.text.items (FailClaim request.mode request end)
 is_fail_true before after request end askable named fails = elim named.status [
-  | inl is ↦ fails_truly request before.told after.told before.file_faults after.file_faults end end.early askable refl
+  | inl is ↦ fails_truly _ request before.told after.told before.file_faults after.file_faults end end.early askable refl
       (subst (IsStatus request.mode end.early end.reports.items) fails is) named.cause
   | inr memory ↦ cc
 ]

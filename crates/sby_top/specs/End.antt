@@ -39,6 +39,6 @@ pub record IsEnd (request : Request) (early : Option Early) (text : List ℕ) (r
   pub unput : end.unput.items ≡ []
 
 -- its lines were printed, with this exit status
-abbrev pub IsPrintedAs : Option (List ℕ) → Option (List ℕ) → ℕ → ℕ → Request → TaskEnd → ℕ → Type 0
-IsPrintedAs before now faults_before faults request end rc =
-    (exit : Exit) × IsPrinted before now faults_before faults request end exit × (rc ≡ rc_of_exit exit)
+abbrev pub IsPrintedAs : Option (List ℕ) → Option (List ℕ) → ℕ → ℕ → Option ℕ → Request → TaskEnd → ℕ → Type 0
+IsPrintedAs before now faults_before faults ended request end rc =
+    (exit : Exit) × IsPrinted before now faults_before faults ended request end exit × (rc ≡ rc_of_exit exit)

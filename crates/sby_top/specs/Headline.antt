@@ -2,6 +2,7 @@
 use Rattle.std.specs.Prelude.{◌≡◌, ◌≢◌, ◌⊎◌, ℕ, ◌<◌, ◌≤◌, List, [], ◌∷◌, ◌++◌, length, map, slice_get, string_bytes, Option, Some, None}
 use Rattle.std.specs.List.{concat}
 use Rattle.sby_edge.specs.Cause.{Rose}
+use Rattle.sby_edge.specs.Sink.{AreAll}
 use Rattle.sby_edge.specs.Files.{Store}
 use Rattle.frame_cnf.specs.Jobs.{Solvable}
 use Rattle.judge.specs.Fate.{Fate, IsFate, Found, Unknown, Bad}
@@ -89,7 +90,7 @@ IsTrueOf told request text claim =
 pub record NamesEvent (before after : World) (request : Request) (end : TaskEnd) : Type 0 where
   pub name : string_bytes end.name ≡ request.folder
   pub status : IsStatus request.mode end.early end.reports.items end.status ⊎ (end.status ≡ Memory)
-  pub cause : Came request before.told after.told before.file_faults after.file_faults end.early end.text.items end.reports.items
+  pub cause : Came request before.told after.told before.file_faults after.file_faults after.blamed end.early end.text.items end.reports.items
   pub start : end.start ≡ None
   pub unput : end.unput.items ≡ []
 
@@ -114,13 +115,14 @@ PrintedUpTo before now end lines = (end.status ≡ Memory) × GrownByFirst befor
 abbrev pub PrintedCut : Option (List ℕ) → Option (List ℕ) → Request → TaskEnd → List (List ℕ) → Type 0
 PrintedCut before now request end lines = HasOwnStatus request end × GrownBySome before now (concat lines)
 
--- The lines of a task were printed, whole or up to a line, where no call of the sink failed; they were cut short where one did.
-abbrev pub IsPrinted : Option (List ℕ) → Option (List ℕ) → ℕ → ℕ → Request → TaskEnd → Exit → Type 0
-IsPrinted before now faults_before faults request end (Code rc) =
+-- The lines of a task were printed, whole or up to a line, where no call of the sink failed; they were cut short where one did, and
+-- it took nothing behind that call.
+abbrev pub IsPrinted : Option (List ℕ) → Option (List ℕ) → ℕ → ℕ → Option ℕ → Request → TaskEnd → Exit → Type 0
+IsPrinted before now faults_before faults ended request end (Code rc) =
     (faults ≡ faults_before) × HasCode (Pass ∷ []) end.status rc
     × ((lines : List (List ℕ)) × AreLines request end lines × (PrintedWhole before now request end lines ⊎ PrintedUpTo before now end lines))
-IsPrinted before now faults_before faults request end Cut =
-    Rose faults_before faults × ((lines : List (List ℕ)) × AreLines request end lines × PrintedCut before now request end lines)
+IsPrinted before now faults_before faults ended request end Cut =
+    Rose faults_before faults × AreAll ended now × ((lines : List (List ℕ)) × AreLines request end lines × PrintedCut before now request end lines)
 
 -- the answer and the event of a job by its stream's fate; without a stream it has neither
 abbrev pub fate_answer : Option Fate → Option Answer
@@ -149,15 +151,20 @@ early_of (ReadFault f) = Read f
 early_of (DesignFault f) = Design f
 early_of (TooManyFault job) = TooMany job
 
+-- the status of the streams' fates, for the files that were put
+abbrev pub IsJudgedStatus : Store → Store → Request → Option Early → Status → Type 0
+IsJudgedStatus before after request early status =
+    (p : AskedOf) × (fates : List (Option Fate)) × IsAccepted (Some before) request p × (length request.streams ≤ length (jobs_in p))
+    × ArePut p request.folder (jobs_in p) (Some before) (Some after) × AreFates p after (jobs_in p) request.streams fates
+    × (early ≡ None) × IsStatusOf request.mode (map fate_answer fates) (map fate_event fates) status
+
 -- What the stores give, without any lane: the refusal of the design's text; that of too many streams; or the status of the
--- streams' fates, for the files that were put.
+-- streams' fates.
 abbrev pub IsPlainStatus : Store → Store → Request → Option Early → Status → Type 0
 IsPlainStatus before after request early status =
     ((fault : ProblemFault) × IsRefused (Some before) request fault × (early ≡ Some (early_of fault)) × (status ≡ Error))
     ⊎ ((p : AskedOf) × IsAccepted (Some before) request p × (length (jobs_in p) < length request.streams) × (early ≡ Some Streams) × (status ≡ Error))
-    ⊎ ((p : AskedOf) × (fates : List (Option Fate)) × IsAccepted (Some before) request p × (length request.streams ≤ length (jobs_in p))
-    × ArePut p request.folder (jobs_in p) (Some before) (Some after) × AreFates p after (jobs_in p) request.streams fates
-    × (early ≡ None) × IsStatusOf request.mode (map fate_answer fates) (map fate_event fates) status)
+    ⊎ IsJudgedStatus before after request early status
 
 -- no call failed, and memory was not wanting
 pub record IsSmooth (before after : World) (end : TaskEnd) : Type 0 where
@@ -180,7 +187,7 @@ pub record TaskRan (before after : World) (request : Request) (end : TaskEnd) (e
   pub pass : end.status ≡ Pass → IsTrueOf before.told request end.text.items (PassClaim request.mode)
   pub fail : end.status ≡ Fail → IsTrueOf before.told request end.text.items (FailClaim request.mode request end)
   pub named : NamesEvent before after request end
-  pub printed : IsPrinted before.taken after.taken before.sink_faults after.sink_faults request end exit
+  pub printed : IsPrinted before.taken after.taken before.sink_faults after.sink_faults after.ended request end exit
   pub stored : IsStored request before.told after.told
   pub complete : IsComplete before after request end
   pub later : IsLater before after

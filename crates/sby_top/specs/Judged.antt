@@ -12,9 +12,9 @@ use Rattle.race_core.specs.declared.end.JobEnd.TheVariants.{Found, Unknown, NotS
 use Rattle.sby_terms.specs.declared.names.JobName.{JobName}
 use Rattle.sby_top.specs.Served.{jobs_in, most_stream}
 
--- what a path has meets this, where the store tells; a path that has nothing doesn't
+-- what a path has meets this, where the store tells, and a path that has nothing doesn't; where it doesn't tell, some bytes do
 abbrev pub Has : Option Store → List ℕ → (List ℕ → Type 0) → Type 0
-Has None path P = Unit {0}
+Has None path P = (bytes : List ℕ) × P bytes
 Has (Some store) path P = MatchOption (store path) ⊥ P
 
 -- the end of a job is its stream's fate, as a certificate for the job's file; or memory was wanting

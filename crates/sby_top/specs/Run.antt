@@ -1,6 +1,7 @@
 -- What a call of the program does.
 use Rattle.std.specs.Prelude.{◌≡◌, ◌⊎◌, ℕ, List, ◌≤◌, [], ◌∷◌, bit_or, Option, Some, None}
 use Rattle.sby_edge.specs.Cause.{Rose}
+use Rattle.sby_edge.specs.Sink.{AreAll}
 use Rattle.sby_top.specs.Headline.{Exit, Code, Cut, TaskRan}
 use Rattle.sby_top.specs.Telling.{GrownBySome, grown}
 use Rattle.sby_top.specs.Texts.{usage_line}
@@ -38,7 +39,7 @@ pub record UsageAlone (before after : World) (done : Done) : Type 0 where
   pub file_faults : after.file_faults ≡ before.file_faults
   pub sink : before.sink_faults ≤ after.sink_faults
   pub line : ((after.sink_faults ≡ before.sink_faults) × (after.taken ≡ grown before.taken usage_line))
-      ⊎ (Rose before.sink_faults after.sink_faults × GrownBySome before.taken after.taken usage_line)
+      ⊎ (Rose before.sink_faults after.sink_faults × AreAll after.ended after.taken × GrownBySome before.taken after.taken usage_line)
 
 -- what words ask for was done: the usage line where they are refused, else the task
 abbrev pub IsDoneAs : World → World → Done → Option Request → Type 0

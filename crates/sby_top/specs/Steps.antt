@@ -1,5 +1,5 @@
 -- What the steps of a task answer, for the contracts of private functions.
-use Rattle.std.specs.Prelude.{◌≡◌, ℕ, ◌+◌, ◌<◌, List, [], ◌∷◌, ◌++◌, length, take, string_bytes, Option, Some, None, MatchOption, Result, Ok, Err}
+use Rattle.std.specs.Prelude.{◌≡◌, ℕ, ◌+◌, ◌<◌, List, [], ◌∷◌, ◌++◌, length, take, string_bytes, Option, Some, None, IfSome, MatchOption, Result, Ok, Err}
 use Rattle.sby_edge.specs.Cause.{Rose}
 use Rattle.sby_edge.specs.Files.{Store}
 use Rattle.sby_edge.specs.declared.outside.Got.{Got}
@@ -37,14 +37,14 @@ abbrev pub got_items : Got → List ℕ
 got_items (Whole v) = v.items
 got_items (Long v) = v.items
 
--- a call failed at this path, and the count of faults rose; or memory was wanting
-abbrev pub IsFailedCall : ℕ → ℕ → List ℕ → Early → Type 0
-IsFailedCall faults_before faults path (File p) = (string_bytes p ≡ path) × Rose faults_before faults
-IsFailedCall faults_before faults path Memory = Unit {0}
-IsFailedCall faults_before faults path (Read f) = ⊥
-IsFailedCall faults_before faults path (Design f) = ⊥
-IsFailedCall faults_before faults path (TooMany job) = ⊥
-IsFailedCall faults_before faults path Streams = ⊥
+-- a call failed at this path, the last that did so, and the count of faults rose; or memory was wanting
+abbrev pub IsFailedCall : ℕ → ℕ → Option (List ℕ) → List ℕ → Early → Type 0
+IsFailedCall faults_before faults blamed path (File p) = (string_bytes p ≡ path) × Rose faults_before faults × IfSome blamed (λ at. at ≡ path)
+IsFailedCall faults_before faults blamed path Memory = Unit {0}
+IsFailedCall faults_before faults blamed path (Read f) = ⊥
+IsFailedCall faults_before faults blamed path (Design f) = ⊥
+IsFailedCall faults_before faults blamed path (TooMany job) = ⊥
+IsFailedCall faults_before faults blamed path Streams = ⊥
 
 -- a problem is refused so; or memory was wanting
 abbrev pub IsRefusal : ProblemOf → Early → Type 0

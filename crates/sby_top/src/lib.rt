@@ -15,7 +15,10 @@ mod tell_task;
 mod text;
 mod words;
 
-pub use laws::{stored_certificate_gives_its_verdict, valid_certificate_gives_its_verdict};
+pub use laws::{
+    accepted_design_is_judged, stored_certificate_gives_its_verdict,
+    valid_certificate_gives_its_verdict,
+};
 pub use outcome::{Done, Early, TaskEnd};
 pub use run::run_sby;
 pub use words::{Asked, asked_of, plain_words_are_asked, words_have_one_request};

@@ -3,6 +3,7 @@
 ghost use Rattle.std.specs.Prelude.{◌≡◌, ◌⊎◌, ◌≤◌, [], ◌∷◌, IfOk, None, Some, length, map, string_bytes, vec_capacity};
 ghost use Rattle.judge.specs.Problem.{IsProblem};
 ghost use Rattle.sby_edge.specs.Cause.{Rose};
+ghost use Rattle.sby_edge.specs.Sink.{AreAll};
 ghost use Rattle.sby_terms.specs.declared.names.Mode.TheVariants.{Bmc};
 ghost use Rattle.sby_terms.specs.declared.names.Status.TheVariants.{Pass};
 ghost use Rattle.sby_top.specs.Askable.{IsAskable};
@@ -71,7 +72,7 @@ fn finish_early<S: Sink>(
     requires name { string_bytes name ≡ asked.now.folder }
     requires expect { expect.now ≡ Pass ∷ [] }
     ensures end { IsEnd asked.now (Some early) [] [] result.0 }
-    ensures printed { IsPrintedAs (S.taken out.old) (S.taken out.new) (S.faults out.old) (S.faults out.new) asked.now result.0 result.1 }
+    ensures printed { IsPrintedAs (S.taken out.old) (S.taken out.new) (S.faults out.old) (S.faults out.new) (S.ended out.new) asked.now result.0 result.1 }
     ensures later { S.faults out.old ≤ S.faults out.new }
 {
     let decided = early_status(&early);
@@ -109,7 +110,7 @@ fn finish_served<S: Sink>(
     requires none { reports.items ≡ [] }
     requires room { 1 ≤ vec_capacity reports }
     ensures end { IsEnd asked.now None served.problem.problem.text (served.report ∷ []) result.0 }
-    ensures printed { IsPrintedAs (S.taken out.old) (S.taken out.new) (S.faults out.old) (S.faults out.new) asked.now result.0 result.1 }
+    ensures printed { IsPrintedAs (S.taken out.old) (S.taken out.new) (S.faults out.old) (S.faults out.new) (S.ended out.new) asked.now result.0 result.1 }
     ensures later { S.faults out.old ≤ S.faults out.new }
 {
     let Served { problem, report } = served;
@@ -154,8 +155,8 @@ fn run_task<F: Files, S: Sink>(
     requires room { IsRoom asked.now.folder room }
     ensures { (exit : Exit)
         × TaskRan
-        (record { told = F.told files.old; file_faults = F.faults files.old; taken = S.taken out.old; sink_faults = S.faults out.old })
-        (record { told = F.told files.new; file_faults = F.faults files.new; taken = S.taken out.new; sink_faults = S.faults out.new })
+        (record { told = F.told files.old; file_faults = F.faults files.old; blamed = F.blamed files.old; taken = S.taken out.old; sink_faults = S.faults out.old; ended = S.ended out.old })
+        (record { told = F.told files.new; file_faults = F.faults files.new; blamed = F.blamed files.new; taken = S.taken out.new; sink_faults = S.faults out.new; ended = S.ended out.new })
         asked.now result.0 exit
         × (result.1 ≡ rc_of_exit exit) }
 {
@@ -185,8 +186,8 @@ fn out_of_memory(alloc: Global) -> Done
 fn run_asked<F: Files, S: Sink>(alloc: Global, files: &mut F, out: &mut S, asked: &Asked) -> Done
     requires askable { IsAskable asked.now }
     ensures { IsDoneAs
-        (record { told = F.told files.old; file_faults = F.faults files.old; taken = S.taken out.old; sink_faults = S.faults out.old })
-        (record { told = F.told files.new; file_faults = F.faults files.new; taken = S.taken out.new; sink_faults = S.faults out.new })
+        (record { told = F.told files.old; file_faults = F.faults files.old; blamed = F.blamed files.old; taken = S.taken out.old; sink_faults = S.faults out.old; ended = S.ended out.old })
+        (record { told = F.told files.new; file_faults = F.faults files.new; blamed = F.blamed files.new; taken = S.taken out.new; sink_faults = S.faults out.new; ended = S.ended out.new })
         result (Some asked.now) }
 {
     let mut ends = match Vec::with_capacity(alloc, 1) {
@@ -208,7 +209,7 @@ fn run_usage<S: Sink>(alloc: Global, out: &mut S) -> Done
     ensures ends { result.ends.items ≡ [] }
     ensures later { S.faults out.old ≤ S.faults out.new }
     ensures line { ((S.faults out.new ≡ S.faults out.old) × (S.taken out.new ≡ grown (S.taken out.old) usage_line))
-        ⊎ (Rose (S.faults out.old) (S.faults out.new) × GrownBySome (S.taken out.old) (S.taken out.new) usage_line) }
+        ⊎ (Rose (S.faults out.old) (S.faults out.new) × AreAll (S.ended out.new) (S.taken out.new) × GrownBySome (S.taken out.old) (S.taken out.new) usage_line) }
 {
     // A failed call has the exit status of the usage line.
     let _ = offer(out, text::usage_line().as_bytes());
@@ -234,8 +235,8 @@ pub fn run_sby<R, F: Files, S: Sink, Y: Yard, C: Clock>(
 ) -> Done
     // The headline.
     ensures did { Did
-        (record { told = F.told files.old; file_faults = F.faults files.old; taken = S.taken out.old; sink_faults = S.faults out.old })
-        (record { told = F.told files.new; file_faults = F.faults files.new; taken = S.taken out.new; sink_faults = S.faults out.new })
+        (record { told = F.told files.old; file_faults = F.faults files.old; blamed = F.blamed files.old; taken = S.taken out.old; sink_faults = S.faults out.old; ended = S.ended out.old })
+        (record { told = F.told files.new; file_faults = F.faults files.new; blamed = F.blamed files.new; taken = S.taken out.new; sink_faults = S.faults out.new; ended = S.ended out.new })
         (map string_bytes words.now) result }
     // No child is started.
     ensures yard { yard.new ≡ yard.old }

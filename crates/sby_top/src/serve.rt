@@ -1,6 +1,6 @@
 // A task's files are got and put, and its streams judged.
 
-ghost use Rattle.std.specs.Prelude.{◌≡◌, ◌⊎◌, ◌≤◌, [], ◌∷◌, ℕ, List, IfErr, IfOk, OnErr, OnOk, Contains, map, option_map, replicate, string_bytes};
+ghost use Rattle.std.specs.Prelude.{◌≡◌, ◌⊎◌, ◌≤◌, [], ◌∷◌, ℕ, List, None, IfErr, IfOk, OnErr, OnOk, Contains, map, option_map, replicate, string_bytes};
 ghost use Rattle.judge.specs.Problem.{IsJobFile, IsProblem};
 ghost use Rattle.race_core.specs.Report.{no_events};
 ghost use Rattle.sby_terms.specs.declared.names.Mode.TheVariants.{Bmc};
@@ -37,7 +37,7 @@ pub struct Served {
 }
 
 fn file_fault(alloc: Global, path: &str) -> Early
-    ensures { IsFailedCall 0 1 path.now result }
+    ensures { IsFailedCall 0 1 None path.now result }
 {
     match String::from_str(alloc, path) {
         Ok(path) => Early::File(path),
@@ -57,7 +57,7 @@ fn bytes_of(got: Got) -> Vec<u8>
 // Gets the content of a path, cut behind `most + 1` bytes.
 fn get<F: Files>(alloc: Global, files: &mut F, path: &str, most: u64) -> Result<Vec<u8>, Early>
     ensures got { IfOk result (λ bytes. IsGot (F.told files.old) path.now most bytes.items) }
-    ensures failed { IfErr result (λ early. IsFailedCall (F.faults files.old) (F.faults files.new) path.now early) }
+    ensures failed { IfErr result (λ early. IsFailedCall (F.faults files.old) (F.faults files.new) (F.blamed files.new) path.now early) }
     ensures same { F.told files.new ≡ F.told files.old }
     ensures still { OnOk result (F.faults files.new ≡ F.faults files.old) }
     ensures later { F.faults files.old ≤ F.faults files.new }
@@ -72,7 +72,7 @@ fn get<F: Files>(alloc: Global, files: &mut F, path: &str, most: u64) -> Result<
 fn put<F: Files>(alloc: Global, files: &mut F, path: &str, bytes: &[u8]) -> Result<(), Early>
     ensures ok { OnOk result (F.told files.new ≡ option_map (put_at path.now bytes.now) (F.told files.old)) }
     ensures err { OnErr result (F.told files.new ≡ F.told files.old) }
-    ensures failed { IfErr result (λ early. IsFailedCall (F.faults files.old) (F.faults files.new) path.now early) }
+    ensures failed { IfErr result (λ early. IsFailedCall (F.faults files.old) (F.faults files.new) (F.blamed files.new) path.now early) }
     ensures still { OnOk result (F.faults files.new ≡ F.faults files.old) }
     ensures later { F.faults files.old ≤ F.faults files.new }
 {
@@ -110,7 +110,7 @@ fn problem_of(alloc: Global, text: Vec<u8>, asked: &Asked) -> Result<Problem, Ea
 fn accept<F: Files>(alloc: Global, files: &mut F, asked: &Asked) -> Result<Problem, Early>
     requires { IsAskable asked.now }
     ensures ok { IfOk result (IsServed (F.told files.old) asked.now) }
-    ensures err { IfErr result (HasReason asked.now (F.told files.old) (F.told files.new) (F.faults files.old) (F.faults files.new)) }
+    ensures err { IfErr result (HasReason asked.now (F.told files.old) (F.told files.new) (F.faults files.old) (F.faults files.new) (F.blamed files.new)) }
     ensures same { F.told files.new ≡ F.told files.old }
     ensures still { OnOk result (F.faults files.new ≡ F.faults files.old) }
     ensures later { F.faults files.old ≤ F.faults files.new }
@@ -133,7 +133,7 @@ fn put_job<F: Files>(
     requires { problem.now.problem.mode ≡ Bmc }
     ensures ok { OnOk result ((file : List ℕ) × IsJobFile problem.now Base file × (F.told files.new ≡ with_file folder.now Base file (F.told files.old))) }
     ensures err { OnErr result (F.told files.new ≡ F.told files.old) }
-    ensures failed { IfErr result (IsFailedCall (F.faults files.old) (F.faults files.new) (job_path folder.now Base)) }
+    ensures failed { IfErr result (IsFailedCall (F.faults files.old) (F.faults files.new) (F.blamed files.new) (job_path folder.now Base)) }
     ensures still { OnOk result (F.faults files.new ≡ F.faults files.old) }
     ensures later { F.faults files.old ≤ F.faults files.new }
 {
@@ -156,7 +156,7 @@ fn get_stream<F: Files>(
     paths: &[String],
 ) -> Result<Option<Vec<u8>>, Early>
     ensures ok { IfOk result (λ stream. IsFirstGot (F.told files.old) (map string_bytes paths.now) (option_map (λ v. v.items) stream)) }
-    ensures err { IfErr result (λ early. (path : List ℕ) × Contains (map string_bytes paths.now) path × IsFailedCall (F.faults files.old) (F.faults files.new) path early) }
+    ensures err { IfErr result (λ early. (path : List ℕ) × Contains (map string_bytes paths.now) path × IsFailedCall (F.faults files.old) (F.faults files.new) (F.blamed files.new) path early) }
     ensures same { F.told files.new ≡ F.told files.old }
     ensures still { OnOk result (F.faults files.new ≡ F.faults files.old) }
     ensures later { F.faults files.old ≤ F.faults files.new }
@@ -180,7 +180,7 @@ fn judge_problem<F: Files>(
     requires served { IsServed (F.told files.old) asked.now problem }
     requires report { report ≡ record { lane = 0; jobs = 1; ends = []; events = replicate 1 no_events } }
     ensures ok { IfOk result (λ s. IsDone asked.now (F.told files.old) (F.told files.new) s.problem.problem.text s.report) }
-    ensures err { IfErr result (HasReason asked.now (F.told files.old) (F.told files.new) (F.faults files.old) (F.faults files.new)) }
+    ensures err { IfErr result (HasReason asked.now (F.told files.old) (F.told files.new) (F.faults files.old) (F.faults files.new) (F.blamed files.new)) }
     ensures problem { IfOk result (λ s. IsProblem s.problem) }
     ensures lined { IfOk result (λ s. AreLined s.problem s.report.ends) }
     ensures stored { IsStored asked.now (F.told files.old) (F.told files.new) }
@@ -205,7 +205,7 @@ pub fn serve<F: Files>(
     requires askable { IsAskable asked.now }
     requires report { report ≡ record { lane = 0; jobs = 1; ends = []; events = replicate 1 no_events } }
     ensures ok { IfOk result (λ s. IsDone asked.now (F.told files.old) (F.told files.new) s.problem.problem.text s.report) }
-    ensures err { IfErr result (HasReason asked.now (F.told files.old) (F.told files.new) (F.faults files.old) (F.faults files.new)) }
+    ensures err { IfErr result (HasReason asked.now (F.told files.old) (F.told files.new) (F.faults files.old) (F.faults files.new) (F.blamed files.new)) }
     ensures problem { IfOk result (λ s. IsProblem s.problem) }
     ensures lined { IfOk result (λ s. AreLined s.problem s.report.ends) }
     ensures stored { IsStored asked.now (F.told files.old) (F.told files.new) }

@@ -3,6 +3,7 @@
 ghost use Rattle.std.specs.Prelude.{◌≡◌, ◌≢◌, ◌+◌, ◌-◌, ◌<◌, ◌≤◌, [], ◌∷◌, ℕ, List, OnErr, OnOk, length, option_map, slice_index, string_bytes};
 ghost use Rattle.std.specs.List.{concat};
 ghost use Rattle.sby_edge.specs.Cause.{Rose};
+ghost use Rattle.sby_edge.specs.Sink.{AreAll};
 ghost use Rattle.sby_top.specs.Lines.{line_if};
 ghost use Rattle.sby_top.specs.Telling.{GrownBySome, Tells, grown};
 ghost use Rattle.sby_top.specs.Texts.{line_of};
@@ -26,6 +27,7 @@ pub fn offer<S: Sink>(out: &mut S, piece: &[u8]) -> Result<(), Failed>
     ensures later { S.faults out.old ≤ S.faults out.new }
     ensures still { OnOk result (S.faults out.new ≡ S.faults out.old) }
     ensures failed { OnErr result (Rose (S.faults out.old) (S.faults out.new)) }
+    ensures last { OnErr result (AreAll (S.ended out.new) (S.taken out.new)) }
 {
     let mut at = 0;
     while at < piece.len() {
@@ -59,6 +61,7 @@ fn offer_lines<S: Sink>(out: &mut S, text: &[u8]) -> Result<(), Failed>
     ensures later { S.faults out.old ≤ S.faults out.new }
     ensures still { OnOk result (S.faults out.new ≡ S.faults out.old) }
     ensures failed { OnErr result (Rose (S.faults out.old) (S.faults out.new)) }
+    ensures last { OnErr result (AreAll (S.ended out.new) (S.taken out.new)) }
 {
     let mut at = 0;
     while at < text.len() {
@@ -73,7 +76,7 @@ fn offer_lines<S: Sink>(out: &mut S, text: &[u8]) -> Result<(), Failed>
 /// Offers the lines of a text.
 pub fn tell_lines<S: Sink>(out: &mut S, text: &[u8]) -> Result<(), Stop>
     ensures { (lines : List (List ℕ)) → concat lines ≡ text.now
-        → Tells (S.taken out.old) (S.taken out.new) (S.faults out.old) (S.faults out.new) lines result }
+        → Tells (S.taken out.old) (S.taken out.new) (S.faults out.old) (S.faults out.new) (S.ended out.new) lines result }
 {
     match offer_lines(out, text) {
         Ok(()) => Ok(()),
@@ -83,7 +86,7 @@ pub fn tell_lines<S: Sink>(out: &mut S, text: &[u8]) -> Result<(), Stop>
 
 /// Offers the line of a text, made whole before it is offered.
 pub fn tell_line<S: Sink>(alloc: Global, out: &mut S, name: &str, text: &str) -> Result<(), Stop>
-    ensures { Tells (S.taken out.old) (S.taken out.new) (S.faults out.old) (S.faults out.new) (line_of name.now text.now ∷ []) result }
+    ensures { Tells (S.taken out.old) (S.taken out.new) (S.faults out.old) (S.faults out.new) (S.ended out.new) (line_of name.now text.now ∷ []) result }
 {
     match text::line_of(alloc, name, text) {
         Ok(line) => match offer(out, line.as_bytes()) {
@@ -101,7 +104,7 @@ pub fn tell_line_if<S: Sink>(
     name: &str,
     text: &Option<String>,
 ) -> Result<(), Stop>
-    ensures { Tells (S.taken out.old) (S.taken out.new) (S.faults out.old) (S.faults out.new) (line_if name.now (option_map string_bytes text.now)) result }
+    ensures { Tells (S.taken out.old) (S.taken out.new) (S.faults out.old) (S.faults out.new) (S.ended out.new) (line_if name.now (option_map string_bytes text.now)) result }
 {
     match text {
         Some(text) => tell_line(alloc, out, name, text.as_str()),

@@ -41,7 +41,7 @@ fn tell_assertion<S: Sink>(
 ) -> Result<(), Stop>
     requires { Breaks flat.now run.now }
     ensures { (cell : CellOf) → IsBrokenCell flat.now run.now cell
-        → Tells (S.taken out.old) (S.taken out.new) (S.faults out.old) (S.faults out.new) (broken_line name.now cell run.now ∷ []) result }
+        → Tells (S.taken out.old) (S.taken out.new) (S.faults out.old) (S.faults out.new) (S.ended out.new) (broken_line name.now cell run.now ∷ []) result }
 {
     match broken_text(alloc, flat, run) {
         Ok(text) => tell_line(alloc, out, name, text.as_str()),
@@ -53,7 +53,7 @@ fn tell_trace<S: Sink>(alloc: Global, out: &mut S, flat: &Flat, run: &Run) -> Re
     requires rows { IsRunOf flat.now run.now }
     requires some { 0 < length run.now }
     ensures { (lines : List (List ℕ)) → AreLinesOf (trace flat.now (shown_of run.now)) lines
-        → Tells (S.taken out.old) (S.taken out.new) (S.faults out.old) (S.faults out.new) lines result }
+        → Tells (S.taken out.old) (S.taken out.new) (S.faults out.old) (S.faults out.new) (S.ended out.new) lines result }
 {
     match trace_text::text(alloc, flat, run) {
         Ok(text) => tell_lines(out, text.as_slice()),
@@ -70,7 +70,7 @@ fn tell_broken<S: Sink>(
 ) -> Result<(), Stop>
     requires { Breaks flat.now run.now }
     ensures { (lines : List (List ℕ)) → HasBrokenLines flat.now name.now run.now lines
-        → Tells (S.taken out.old) (S.taken out.new) (S.faults out.old) (S.faults out.new) lines result }
+        → Tells (S.taken out.old) (S.taken out.new) (S.faults out.old) (S.faults out.new) (S.ended out.new) lines result }
 {
     tell_assertion(alloc, out, name, flat, run)?;
     tell_trace(alloc, out, flat, run)
@@ -86,7 +86,7 @@ pub fn tell_run<S: Sink>(
 ) -> Result<(), Stop>
     requires { IsLined problem.now Base end.now }
     ensures { (lines : List (List ℕ)) → HasEndLines problem.now.design name.now end.now lines
-        → Tells (S.taken out.old) (S.taken out.new) (S.faults out.old) (S.faults out.new) lines result }
+        → Tells (S.taken out.old) (S.taken out.new) (S.faults out.old) (S.faults out.new) (S.ended out.new) lines result }
 {
     match end {
         JobEnd::Found(finding) => match finding.run() {

@@ -28,7 +28,7 @@ fn tell_done<S: Sink>(
     status: Status,
     rc: u8,
 ) -> Result<(), Stop>
-    ensures { Tells (S.taken out.old) (S.taken out.new) (S.faults out.old) (S.faults out.new) (done_line name.now status rc ∷ []) result }
+    ensures { Tells (S.taken out.old) (S.taken out.new) (S.faults out.old) (S.faults out.new) (S.ended out.new) (done_line name.now status rc ∷ []) result }
 {
     match text::done_text(alloc, text::status_text(status), rc) {
         Ok(text) => tell_line(alloc, out, name, text.as_str()),
@@ -37,7 +37,7 @@ fn tell_done<S: Sink>(
 }
 
 fn tell_fault<S: Sink>(alloc: Global, out: &mut S, name: &str, early: &Early) -> Result<(), Stop>
-    ensures { Tells (S.taken out.old) (S.taken out.new) (S.faults out.old) (S.faults out.new) (line_if name.now (early_text early.now)) result }
+    ensures { Tells (S.taken out.old) (S.taken out.new) (S.faults out.old) (S.faults out.new) (S.ended out.new) (line_if name.now (early_text early.now)) result }
 {
     match ends::early_text(alloc, early) {
         Ok(text) => tell_line_if(alloc, out, name, &text),
@@ -54,7 +54,7 @@ pub fn tell_early<S: Sink>(
     status: Status,
     rc: u8,
 ) -> Result<(), Stop>
-    ensures { Tells (S.taken out.old) (S.taken out.new) (S.faults out.old) (S.faults out.new)
+    ensures { Tells (S.taken out.old) (S.taken out.new) (S.faults out.old) (S.faults out.new) (S.ended out.new)
         (line_if name.now (early_text early.now) ++ done_line name.now status rc ∷ []) result }
 {
     tell_fault(alloc, out, name, early)?;
@@ -62,7 +62,7 @@ pub fn tell_early<S: Sink>(
 }
 
 fn tell_design<S: Sink>(alloc: Global, out: &mut S, name: &str, counts: &Counts) -> Result<(), Stop>
-    ensures { Tells (S.taken out.old) (S.taken out.new) (S.faults out.old) (S.faults out.new) (line_of name.now (design_text counts.now) ∷ []) result }
+    ensures { Tells (S.taken out.old) (S.taken out.new) (S.faults out.old) (S.faults out.new) (S.ended out.new) (line_of name.now (design_text counts.now) ∷ []) result }
 {
     match text::design_text(alloc, counts) {
         Ok(text) => tell_line(alloc, out, name, text.as_str()),
@@ -84,7 +84,7 @@ fn tell_settled<S: Sink>(
     job: JobName,
     end: &JobEnd<Finding>,
 ) -> Result<(), Stop>
-    ensures { Tells (S.taken out.old) (S.taken out.new) (S.faults out.old) (S.faults out.new) (settled_line name.now job (answer_of end.now)) result }
+    ensures { Tells (S.taken out.old) (S.taken out.new) (S.faults out.old) (S.faults out.new) (S.ended out.new) (settled_line name.now job (answer_of end.now)) result }
 {
     match answer_of(end) {
         Some(answer) => match settled_text(alloc, job, answer) {
@@ -124,7 +124,7 @@ fn tell_lane<S: Sink>(
     job: JobName,
     end: &JobEnd<Finding>,
 ) -> Result<(), Stop>
-    ensures { Tells (S.taken out.old) (S.taken out.new) (S.faults out.old) (S.faults out.new) (lane_line name.now lane job (end_text end.now)) result }
+    ensures { Tells (S.taken out.old) (S.taken out.new) (S.faults out.old) (S.faults out.new) (S.ended out.new) (lane_line name.now lane job (end_text end.now)) result }
 {
     match lane_text(alloc, lane, job, end) {
         Ok(text) => tell_line_if(alloc, out, name, &text),
@@ -141,7 +141,7 @@ fn tell_end<S: Sink>(
     job: JobName,
     end: &JobEnd<Finding>,
 ) -> Result<(), Stop>
-    ensures { Tells (S.taken out.old) (S.taken out.new) (S.faults out.old) (S.faults out.new)
+    ensures { Tells (S.taken out.old) (S.taken out.new) (S.faults out.old) (S.faults out.new) (S.ended out.new)
         (settled_line name.now job (answer_of end.now) ++ lane_line name.now lane job (end_text end.now)) result }
 {
     tell_settled(alloc, out, name, job, end)?;
@@ -156,7 +156,7 @@ fn tell_body<S: Sink>(
     lane: u32,
     end: &JobEnd<Finding>,
 ) -> Result<(), Stop>
-    ensures { Tells (S.taken out.old) (S.taken out.new) (S.faults out.old) (S.faults out.new) (one_job_body name.now counts.now lane end.now) result }
+    ensures { Tells (S.taken out.old) (S.taken out.new) (S.faults out.old) (S.faults out.new) (S.ended out.new) (one_job_body name.now counts.now lane end.now) result }
 {
     tell_design(alloc, out, name, counts)?;
     tell_end(alloc, out, name, lane, JobName::Base, end)
@@ -174,7 +174,7 @@ fn tell_verdict<S: Sink>(
 ) -> Result<(), Stop>
     requires { IsLined problem.now Base end.now }
     ensures { (shown : List (List ℕ)) → HasEndLines problem.now.design name.now end.now shown
-        → Tells (S.taken out.old) (S.taken out.new) (S.faults out.old) (S.faults out.new) (shown ++ done_line name.now status rc ∷ []) result }
+        → Tells (S.taken out.old) (S.taken out.new) (S.faults out.old) (S.faults out.new) (S.ended out.new) (shown ++ done_line name.now status rc ∷ []) result }
 {
     tell_run(alloc, out, name, problem, end)?;
     tell_done(alloc, out, name, status, rc)
@@ -193,7 +193,7 @@ pub fn tell_served<S: Sink>(
 ) -> Result<(), Stop>
     requires { IsLined problem.now Base end.now }
     ensures { (shown : List (List ℕ)) → HasEndLines problem.now.design name.now end.now shown
-        → Tells (S.taken out.old) (S.taken out.new) (S.faults out.old) (S.faults out.new)
+        → Tells (S.taken out.old) (S.taken out.new) (S.faults out.old) (S.faults out.new) (S.ended out.new)
         (one_job_body name.now (counts_of problem.now.design) lane end.now ++ (shown ++ done_line name.now status rc ∷ [])) result }
 {
     let counts = counts_of(problem.flat().design());

@@ -7,12 +7,12 @@ use Rattle.sby_top.proofs.serve.judge_problem.Goals as goal
 
 pub returns-in_err-put_job-clause-err : goal.returns-in_err-put_job-clause-err
 returns-in_err-put_job-clause-err g c = let p = err_from_is_err_and c.from_residual.result c.from_residual.ensures.1 in
-    rw (p.1, p.2) (no_file c.args.asked.now _ _ _ _ _ c.args.problem c.as_str.result.now c.requires.askable c.requires.served
+    rw (p.1, p.2) (no_file _ c.args.asked.now _ _ _ _ _ c.args.problem c.as_str.result.now c.requires.askable c.requires.served
     (c.as_str.ensures.value ∙ ap (λ (a : Request). a.folder) c.asked.view_is) c.in_err-put_job.ensures.failed c.in_err-put_job.ensures.err)
 
 pub returns-in_err-stream-clause-err : goal.returns-in_err-stream-clause-err
 returns-in_err-stream-clause-err g c = let p = err_from_is_err_and c.from_residual-in_err-stream.result c.from_residual-in_err-stream.ensures.1 in
-    rw (p.1, p.2) (no_stream c.args.asked.now _ _ _ _ _ _ _ c.args.problem c.as_str.result.now (map string_bytes c.deref.result.now) c.requires.askable c.requires.served
+    rw (p.1, p.2) (no_stream _ c.args.asked.now _ _ _ _ _ _ _ c.args.problem c.as_str.result.now (map string_bytes c.deref.result.now) c.requires.askable c.requires.served
     (c.as_str.ensures.value ∙ ap (λ (a : Request). a.folder) c.asked.view_is) (ap (map string_bytes) c.deref.ensures.value ∙ ap (λ (a : Request). a.streams) c.asked.view_is)
     c.in_ok-put_job.ensures.ok c.in_err-stream.ensures.same c.in_ok-put_job.ensures.later c.in_err-stream.ensures.err)
 
