@@ -57,6 +57,7 @@ fn files_fail_at_listed_calls(rt: HostRuntime) -> Result<(), TestFail> {
     let mut files = MemFiles::new(rt.alloc(), vec![in rt.alloc(); 2]?);
     assert_eq!(rt; put(&mut files, rt.alloc(), "a", b"1"), Ok(()));
     assert_eq!(rt; put(&mut files, rt.alloc(), "a", b"2"), Err(Fail::Failed));
+    assert_eq!(rt; files.blamed(), Some("a"));
     assert_eq!(rt; files.content("a"), Some(b"1".as_slice()));
     assert_eq!(rt; files.content("b"), None);
     Ok(())
