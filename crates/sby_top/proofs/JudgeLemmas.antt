@@ -1,18 +1,21 @@
 use Rattle.std.proofs.Common.{◌≡◌, ℕ, ◌+◌, ◌<◌, List, [], ◌++◌, refl, ap, sym, ◌∙◌, subst, inl, inr, length, take, drop, arith}
-use Rattle.std.specs.Prelude.{◌≢◌, Bool, true, false, IsTrue, Some, None, MatchOption, Result, Ok, Err}
-use Rattle.std.proofs.lemmas.Bool.{cases_lt}
-use Rattle.std.proofs.lemmas.List.{length-take-le, take-append-drop, take_all}
+use Rattle.std.specs.Prelude.{◌≢◌, Bool, true, false, ◌&&◌, leb, IsTrue, Some, None, MatchOption, Result, Ok, Err}
+use Rattle.std.proofs.lemmas.Bool.{cases_lt, lt-leb}
+use Rattle.std.proofs.lemmas.List.{length-take-le, take-append-drop, take-append-le, take_all}
 use Rattle.judge.specs.Fate.{Fate, IsFate, IsFateSoFar, Found as FoundFate, Unknown as UnknownFate, Bad as BadFate}
 use Rattle.judge.specs.Finding.{FindingOf}
 use Rattle.race_core.specs.declared.end.JobEnd.{JobEnd}
-use Rattle.judge.specs.Judging.{Ends, Feeds, Finds, JudgeOf, fate_told}
+use Rattle.cert_wire.specs.Stream.{sayings}
+use Rattle.judge.specs.Judging.{Ends, Feeds, Finds, FindsRun, JudgeOf, fate_told}
+use Rattle.judge.specs.Played.{IsPlayed}
+use Rattle.judge.specs.Values.{stream_values, values_said}
 use Rattle.judge.specs.Problem.{AskedOf}
 use Rattle.judge.specs.declared.judging.Progress.{Progress}
 use Rattle.judge.specs.declared.judging.Progress.TheVariants.{More, Done, Unknown as UnknownProgress}
 use Rattle.judge.specs.declared.stream.BadCert.{BadCert}
 use Rattle.sby_terms.specs.declared.names.JobName.{JobName}
 use Rattle.judge.specs.declared.judging.State.TheVariants.{Reading}
-use Rattle.sby_top.specs.Judged.{IsEndOf, IsFateEnd}
+use Rattle.sby_top.specs.Judged.{EndsWithRun, IsEndOf, IsFateEnd}
 use Rattle.sby_top.specs.Steps.{end_of, IsBytesJudged, IsTrueEnd, WasFed}
 use Rattle.sby_top.specs.Served.{most_stream}
 
@@ -64,7 +67,15 @@ pub fed_at_once : Stay → (j new : JudgeOf) (bytes : List ℕ) (r : Result Prog
 fed_at_once stay j new bytes r apart fresh fed = record {
   finds = fed.finds;
   fate = λ file stream is cut. told_fate stay file bytes stream j.most r apart cut (subst (λ t. IsFateSoFar file (t ++ bytes) j.most (fate_told r)) fresh (fed.fate file is));
+  run = (false, subst (λ t. FindsRun j false (t ++ bytes) r) fresh fed.run);
 }
+
+-- what was taken before is nothing to the run that was found
+run_same : (j : JudgeOf) (bytes : List ℕ) (r : Result Progress BadCert) → FindsRun (record j { taken = bytes; state = Reading }) true bytes r → FindsRun j true bytes r
+run_same j bytes (Ok More) h = tt
+run_same j bytes (Ok (Done f)) h = h
+run_same j bytes (Ok UnknownProgress) h = tt
+run_same j bytes (Err bad) h = tt
 
 -- a judge answered at the end of the stream
 pub fed_to_end : (j mid new : JudgeOf) (bytes : List ℕ) (r : Result Progress BadCert) → j.taken ≡ [] → Feeds j mid (j.taken ++ bytes) (Ok More) → Ends mid new r → WasFed j bytes r
@@ -73,6 +84,7 @@ fed_to_end j mid new bytes r fresh fed ended =
     let last : Ends (record j { taken = bytes; state = Reading }) new r = subst (λ m. Ends m new r) stands ended in
     record {
       finds = last.finds;
+      run = (true, run_same j bytes r last.run);
       fate = λ file stream is cut.
           let more : IsFateSoFar file bytes j.most None = subst (λ t. IsFateSoFar file (t ++ bytes) j.most None) fresh (fed.fate file is) in
           subst (λ s. MatchOption (fate_told r) ⊥ (IsFate file s j.most)) (sym (stream_is_whole file bytes stream j.most cut more)) (last.fate file is);
@@ -104,6 +116,36 @@ end_kind p job (Ok (Done f)) finds holds = record { problem = finds.0; of_job = 
 end_kind p job (Ok UnknownProgress) finds holds = tt
 end_kind p job (Err bad) finds holds = tt
 
+-- what counts of a stream counts of the bytes that were got of it
+counted : (most : ℕ) (stream : List ℕ) → leb (length (take (most + 1) stream)) most ≡ leb (length stream) most
+counted most stream = elim (cases_lt most (length stream)) [
+  | inl long ↦ let n = length-take-le (most + 1) stream (omega (arith, long)) in
+      lt-leb (length (take (most + 1) stream)) most (omega (arith, n)) ∙ sym (lt-leb (length stream) most long)
+  | inr short ↦ ap (λ s. leb (length s) most) (take_all (most + 1) stream (omega (arith, short)))
+]
+
+fewer : (most : ℕ) (stream : List ℕ) → take most (take (most + 1) stream) ≡ take most stream
+fewer most stream = elim (cases_lt most (length stream)) [
+  | inl long ↦ let n = length-take-le (most + 1) stream (omega (arith, long)) in
+      sym (take-append-le most (take (most + 1) stream) (drop (most + 1) stream) (omega (arith, n))) ∙ ap (take most) (take-append-drop (most + 1) stream)
+  | inr short ↦ ap (take most) (take_all (most + 1) stream (omega (arith, short)))
+]
+
+same_values : (vars : ℕ) (ended : Bool) (bytes stream : List ℕ) (most : ℕ) → bytes ≡ take (most + 1) stream → stream_values vars ended bytes most ≡ stream_values vars ended stream most
+same_values vars ended bytes stream most is =
+    ap (λ b. stream_values vars ended b most) is
+    ∙ ap (λ n. values_said (sayings vars (ended && n) (take most (take (most + 1) stream)))) (counted most stream)
+    ∙ ap (λ s. values_said (sayings vars (ended && leb (length stream) most) s)) (fewer most stream)
+
+-- the run of an end is played from the values of the stream
+end_run : (p : AskedOf) (job : JobName) (bytes stream : List ℕ) (ended : Bool) (r : Result Progress BadCert) → bytes ≡ take (most_stream + 1) stream
+    → FindsRun (record { asked = p; job = job; most = most_stream; taken = []; state = Reading }) ended bytes r → EndsWithRun p job stream (end_of r)
+end_run p job bytes stream ended (Ok More) cut found = tt
+end_run p job bytes stream ended (Ok (Done f)) cut found = λ sat. let h = found sat in
+    (ended, h.0, h.1, h.2, h.3, subst (λ x. IsPlayed p.design h.0 x h.1) (same_values h.0.formula.vars ended bytes stream most_stream cut) h.4)
+end_run p job bytes stream ended (Ok UnknownProgress) cut found = tt
+end_run p job bytes stream ended (Err bad) cut found = tt
+
 -- a job whose judge was fed these bytes
 pub bytes_judged : (p : AskedOf) (job : JobName) (bytes : List ℕ) (j : JudgeOf) (r : Result Progress BadCert) (end : JobEnd FindingOf) → j ≡ record { asked = p; job = job; most = most_stream; taken = []; state = Reading }
     → end ≡ end_of r → IsTrueEnd end → WasFed j bytes r → IsBytesJudged p job bytes end
@@ -112,6 +154,7 @@ bytes_judged p job bytes j r end fresh is holds fed =
     rw is (record {
       of = end_kind p job r was.finds (subst IsTrueEnd is holds);
       fate = λ file stream at cut. end_by_fate file stream r (was.fate file stream at cut);
+      run = λ stream cut. end_run p job bytes stream was.run.0 r cut was.run.1;
     })
 
 pub never_both : (b : Bool) → b ≡ false → IsTrue b → ⊥

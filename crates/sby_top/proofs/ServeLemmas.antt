@@ -16,7 +16,7 @@ use Rattle.race_core.specs.declared.end.JobEnd.{JobEnd}
 use Rattle.race_core.specs.declared.end.JobEnd.TheVariants.{Found, Unknown, NotServed, Bad, ReadFailed, StartFailed, HoldFailed, Skipped, CalledOff, Stopped, Memory as MemoryEnd}
 use Rattle.sby_top.specs.Came.{HasReason, IsDone}
 use Rattle.sby_top.specs.Steps.{got_items, AreLined, IsFailedCall, IsFirstGot, IsLined, IsRefusal, IsStreamJudged}
-use Rattle.sby_top.specs.Judged.{AreJudged, Has, IsEndOf, IsFateEnd, IsReport}
+use Rattle.sby_top.specs.Judged.{AreJudged, EndsWithRun, Has, IsEndOf, IsFateEnd, IsReport}
 use Rattle.sby_top.specs.Served.{ArePut, IsAccepted, IsGot, IsServed, IsStored, jobs_in, most_design, most_stream, problem_of, with_file}
 use Rattle.sby_top.specs.Texts.{job_path}
 use Rattle.sby_top.specs.Words.{Request}
@@ -137,8 +137,14 @@ has_from (Some store) path bytes P got each = rw got.1 (each got.0 got.2)
 pub one_judged : (p : AskedOf) (told : Option Store) (paths : List (List ℕ)) (stream : Option (List ℕ)) (end : JobEnd FindingOf) → IsFirstGot told paths stream → IsStreamJudged p Base stream end
     → AreJudged p told (Base ∷ []) paths (end ∷ [])
 one_judged p told [] None end got judged = (judged, refl)
-one_judged p told (path ∷ paths) (Some bytes) end got judged =
-    (record { of = judged.of; fate = λ file is. has_from told path bytes (λ s. IsFateEnd file s end) got (λ content cut. judged.fate file content is cut) }, refl)
+one_judged p told (path ∷ paths) (Some bytes) end got judged = (
+  record {
+    of = judged.of;
+    fate = λ file is. has_from told path bytes (λ s. IsFateEnd file s end) got (λ content cut. judged.fate file content is cut);
+    run = has_from told path bytes (λ s. EndsWithRun p Base s end) got (λ content cut. judged.run content cut);
+  },
+  refl,
+)
 one_judged p told [] (Some bytes) end got judged = absurd got
 one_judged p told (path ∷ paths) None end got judged = absurd got
 

@@ -1,14 +1,19 @@
 -- How the jobs of a task end.
-use Rattle.std.specs.Prelude.{◌≡◌, ℕ, List, [], ◌∷◌, length, replicate, Option, Some, None, MatchOption}
+use Rattle.std.specs.Prelude.{◌≡◌, ℕ, Bool, List, [], ◌∷◌, length, replicate, Option, Some, None, MatchOption}
 use Rattle.sby_edge.specs.Files.{Store}
+use Rattle.frame_cnf.specs.Encoding.{EncodedOf}
 use Rattle.judge.specs.Fate.{IsFate, Found as FoundFate, Unknown as UnknownFate, Bad as BadFate}
 use Rattle.judge.specs.Finding.{FindingOf, IsTrueFinding}
 use Rattle.judge.specs.Numbers.{number_of}
-use Rattle.judge.specs.Problem.{AskedOf, IsJobFile}
+use Rattle.judge.specs.Played.{IsPlayed}
+use Rattle.judge.specs.Problem.{AskedOf, IsEncodedOf, IsJobFile}
+use Rattle.judge.specs.Values.{stream_values}
 use Rattle.judge.specs.declared.stream.CertKind.{CertKind}
 use Rattle.race_core.specs.Report.{ReportOf, no_events}
 use Rattle.race_core.specs.declared.end.JobEnd.{JobEnd}
 use Rattle.race_core.specs.declared.end.JobEnd.TheVariants.{Found, Unknown, NotServed, Bad, ReadFailed, StartFailed, HoldFailed, Skipped, CalledOff, Stopped, Memory}
+use Rattle.rtlil_design.specs.Runs.{CycleOf}
+use Rattle.sby_terms.specs.declared.names.Answer.TheVariants.{Sat}
 use Rattle.sby_terms.specs.declared.names.JobName.{JobName}
 use Rattle.sby_top.specs.Served.{jobs_in, most_stream}
 
@@ -50,10 +55,21 @@ IsEndOf p job (Skipped f) = ⊥
 IsEndOf p job (CalledOff f) = ⊥
 IsEndOf p job (Stopped reading) = ⊥
 
+-- a finding that the job can be solved has the run that is played from the values that the stream names
+abbrev pub HasStreamsRun : AskedOf → JobName → List ℕ → FindingOf → Type 0
+HasStreamsRun p job stream f =
+    f.answer ≡ Sat → (ended : Bool) × (e : EncodedOf) × (run : List CycleOf) × IsEncodedOf p job e × (f.run ≡ Some run)
+    × IsPlayed p.design e (stream_values e.formula.vars ended stream most_stream) run
+
+abbrev pub EndsWithRun : AskedOf → JobName → List ℕ → JobEnd FindingOf → Type 0
+EndsWithRun p job stream (Found f) = HasStreamsRun p job stream f
+EndsWithRun p job stream _ = Unit {0}
+
 -- the stream at this path was judged
 pub record IsJudged (p : AskedOf) (told : Option Store) (job : JobName) (path : List ℕ) (end : JobEnd FindingOf) : Type 0 where
   pub of : IsEndOf p job end
   pub fate : (file : List ℕ) → IsJobFile p job file → Has told path (λ stream. IsFateEnd file stream end)
+  pub run : Has told path (λ stream. EndsWithRun p job stream end)
 
 -- each job has an end, in the order of the jobs: its stream was judged, or it has none and isn't served
 abbrev pub AreJudged : AskedOf → Option Store → List JobName → List (List ℕ) → List (JobEnd FindingOf) → Type 0

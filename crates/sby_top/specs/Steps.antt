@@ -1,5 +1,5 @@
 -- What the steps of a task answer, for the contracts of private functions.
-use Rattle.std.specs.Prelude.{◌≡◌, ℕ, ◌+◌, ◌<◌, List, [], ◌∷◌, ◌++◌, length, take, string_bytes, Option, Some, None, IfSome, MatchOption, Result, Ok, Err}
+use Rattle.std.specs.Prelude.{◌≡◌, ℕ, ◌+◌, ◌<◌, Bool, List, [], ◌∷◌, ◌++◌, length, take, string_bytes, Option, Some, None, IfSome, MatchOption, Result, Ok, Err}
 use Rattle.sby_edge.specs.Cause.{Rose}
 use Rattle.sby_edge.specs.Files.{Store}
 use Rattle.sby_edge.specs.declared.outside.Got.{Got}
@@ -7,7 +7,7 @@ use Rattle.sby_edge.specs.declared.outside.Got.TheVariants.{All as Whole, Long}
 use Rattle.judge.specs.Fate.{IsFate}
 use Rattle.judge.specs.Fault.{IsProblemFault}
 use Rattle.judge.specs.Finding.{FindingOf, IsTrueFinding}
-use Rattle.judge.specs.Judging.{Finds, JudgeOf, fate_told}
+use Rattle.judge.specs.Judging.{Finds, FindsRun, JudgeOf, fate_told}
 use Rattle.judge.specs.Numbers.{number_of}
 use Rattle.judge.specs.Problem.{AskedOf, IsJobFile}
 use Rattle.judge.specs.declared.judging.Progress.{Progress}
@@ -23,7 +23,7 @@ use Rattle.sby_terms.specs.Problem.{ProblemOf}
 use Rattle.sby_terms.specs.declared.names.JobName.{JobName}
 use Rattle.sby_terms.specs.declared.names.JobName.TheVariants.{Base}
 use Rattle.sby_top.specs.Broken.{HasBrokenLines, last_of}
-use Rattle.sby_top.specs.Judged.{IsEndOf, IsFateEnd, IsFindingOf}
+use Rattle.sby_top.specs.Judged.{EndsWithRun, IsEndOf, IsFateEnd, IsFindingOf}
 use Rattle.sby_top.specs.Lines.{end_text, lane_line, settled_line}
 use Rattle.sby_top.specs.Served.{IsGot, most_stream}
 use Rattle.sby_top.specs.Status.{answer_of}
@@ -97,6 +97,7 @@ HasEndLines d name _ lines = lines ≡ []
 pub record WasFed (j : JudgeOf) (bytes : List ℕ) (r : Result Progress BadCert) : Type 0 where
   pub finds : Finds j r
   pub fate : (file stream : List ℕ) → IsJobFile j.asked j.job file → bytes ≡ take (j.most + 1) stream → MatchOption (fate_told r) ⊥ (IsFate file stream j.most)
+  pub run : (ended : Bool) × FindsRun j ended bytes r
 
 -- the end of a job whose stream came to this
 abbrev pub end_of : Result Progress BadCert → JobEnd FindingOf
@@ -109,6 +110,7 @@ end_of (Err bad) = Bad (number_of bad.kind) bad.at
 pub record IsBytesJudged (p : AskedOf) (job : JobName) (bytes : List ℕ) (end : JobEnd FindingOf) : Type 0 where
   pub of : IsEndOf p job end
   pub fate : (file stream : List ℕ) → IsJobFile p job file → bytes ≡ take (most_stream + 1) stream → IsFateEnd file stream end
+  pub run : (stream : List ℕ) → bytes ≡ take (most_stream + 1) stream → EndsWithRun p job stream end
 
 -- a job's stream was judged, or it has none
 abbrev pub IsStreamJudged : AskedOf → JobName → Option (List ℕ) → JobEnd FindingOf → Type 0
