@@ -225,7 +225,7 @@ module _ (d : DesignOf) (flat : IsFlat d) (design : IsDesign d) where
       omega (arith, o, a, b, c, e, here, rest)
 
   pub cost_bound : (order : List Driver) (outs news : List SigBit) (starts : List (Option Bool)) (reads : List Bool) (opens : List SigBit) (n : ℕ) → IsOrder d order → AreSources d outs news starts reads opens → 1 ≤ n →
-      MAX_VARS < 1 + length starts + n * (length opens + cycle_gates d order) → 2 ^ 27 < frames Base n * cost d
+      MAX_VARS < 1 + length starts + n * (length opens + cycle_gates d order) → 2 ^ 27 < frames (Base 0) n * cost d
   cost_bound order outs news starts reads opens zero iso is m more = absurd (omega arith)
   cost_bound order outs news starts reads opens (suc k) iso is m more =
       let few = (source_inputs d outs news starts reads opens is).few in

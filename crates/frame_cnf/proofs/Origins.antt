@@ -275,7 +275,7 @@ module _ (x : Assignment) (vs : ℕ → Valuation) (m : ℕ) (starts opens : Lis
       ]
 
 module _ (d : DesignOf) (flat : IsFlat d) (design : IsDesign d) (outs news : List SigBit) (starts : List (Option Bool)) (reads : List Bool) (opens : List SigBit) (is : AreSources d outs news starts reads opens) where
-  left_free : (k : ℕ) (b : SigBit) → slice_get (free_bits outs starts) k ≡ Some b → IsOrigin d Base 0 (Start b)
+  left_free : (k : ℕ) (b : SigBit) → slice_get (free_bits outs starts) k ≡ Some b → IsOrigin d (Base 0) 0 (Start b)
   left_free k b h =
       let f = free_from outs starts k b h in
       let i = is.starts.each f.0 b None f.1 f.2 in
@@ -286,17 +286,17 @@ module _ (d : DesignOf) (flat : IsFlat d) (design : IsDesign d) (outs news : Lis
 
   pub origins_gates : (order : List Driver) → IsOrder d order → (start_reads : List Bool) → AreStartReads d start_reads → (n : ℕ) (g : GatesOf) (lits : List LitOf) (frames : List FrameOf) → IsGates g → IsDistinct g.inputs → length g.inputs ≡ count_by is_free starts + n * length opens →
       AreNamed opens g lits frames → length lits ≡ length (free_bits outs starts) → length frames ≡ n → ((x : Assignment) → Satisfies x g.formula.clauses → (vs : ℕ → Valuation) × HasRun d outs opens starts n x vs lits frames) →
-      HasOrigins d Base n (record { formula = with_clause g.formula (all_bads frames); free_vars = g.inputs; decoding = record { starts = lits; start_reads = start_reads; reads = reads; frames = frames } })
+      HasOrigins d (Base 0) n (record { formula = with_clause g.formula (all_bads frames); free_vars = g.inputs; decoding = record { starts = lits; start_reads = start_reads; reads = reads; frames = frames } })
   origins_gates order iso start_reads are n g lits frames ig distinct count named many as_many runs = record {
     distinct = distinct;
     within = all_from (λ v. (0 < v) × (v ≤ g.formula.vars)) g.inputs (λ k v h. ig.inputs_within v (contained_at g.inputs v k h));
     origins = origins_of (free_bits outs starts) opens n;
     each = let l = length_origins (free_bits outs starts) opens n in let f = free_count outs starts is.starts.as_many in omega (arith, l, f, count);
     apart = distinct_origins (free_bits outs starts) opens n (distinct_free outs starts (outs_distinct d flat design outs news starts reads opens is)) inputs.distinct;
-    free = all_from (IsOrigin d Base n) (origins_of (free_bits outs starts) opens n)
-        (λ k o h. elim (origin_is (free_bits outs starts) opens n k o h) as (λ _. IsOrigin d Base n o) [
-          | inl u ↦ subst (IsOrigin d Base n) (sym u.3) (left_free u.0 u.1 u.2)
-          | inr u ↦ subst (IsOrigin d Base n) (sym u.5) (let open_bit = inputs.each u.1 u.2 u.4 in (u.3, open_bit.0, open_bit.1))
+    free = all_from (IsOrigin d (Base 0) n) (origins_of (free_bits outs starts) opens n)
+        (λ k o h. elim (origin_is (free_bits outs starts) opens n k o h) as (λ _. IsOrigin d (Base 0) n o) [
+          | inl u ↦ subst (IsOrigin d (Base 0) n) (sym u.3) (left_free u.0 u.1 u.2)
+          | inr u ↦ subst (IsOrigin d (Base 0) n) (sym u.5) (let open_bit = inputs.each u.1 u.2 u.4 in (u.3, open_bit.0, open_bit.1))
         ]);
     values = λ _ x s vs p k v o ev eo.
         named_values x vs (length (rows_until x reads frames)) (free_bits outs starts) opens lits frames named.starts named.inputs many
@@ -325,25 +325,25 @@ module _ (d : DesignOf) (flat : IsFlat d) (design : IsDesign d) (outs news : Lis
 pub empty_unsatisfied : CanBeSatisfied empty_job → ⊥
 empty_unsatisfied p = let s = p.1 [] (0, omega arith, refl) in absurd (let l = s.1.1 in omega arith)
 
-unsolvable : (d : DesignOf) (n : ℕ) → asserts d ≡ [] → Solvable d Base n → ⊥
+unsolvable : (d : DesignOf) (n : ℕ) → asserts d ≡ [] → Solvable d (Base 0) n → ⊥
 unsolvable d n none (zero, vs, a, le, shows) = let some = shows.run.window.some in absurd (omega arith)
 unsolvable d n none (suc m, vs, a, le, shows) = broken (shows.last m refl)
   where
     broken : Broken d (vs m) a → ⊥
     broken (c, e, on, off) = let z : slice_get (let xs : List _ = [] in xs) a ≡ Some c = subst (λ xs. slice_get xs a ≡ Some c) none e in let y : None ≡ Some c = z in cc
 
-pub empty_solvable : (d : DesignOf) (n : ℕ) → asserts d ≡ [] → CanBeSatisfied empty_job ↔ Solvable d Base n
+pub empty_solvable : (d : DesignOf) (n : ℕ) → asserts d ≡ [] → CanBeSatisfied empty_job ↔ Solvable d (Base 0) n
 empty_solvable d n none = ((λ p. absurd (empty_unsatisfied p)), (λ s. absurd (unsolvable d n none s)))
 
 -- over no assertion
-pub origins_empty : (d : DesignOf) (n : ℕ) (e : EncodedOf) → e.formula ≡ empty_job → e.free_vars ≡ [] → HasOrigins d Base n e
+pub origins_empty : (d : DesignOf) (n : ℕ) (e : EncodedOf) → e.formula ≡ empty_job → e.free_vars ≡ [] → HasOrigins d (Base 0) n e
 origins_empty d n e f v = record {
   distinct = λ i j x lt ei ej. none i x ei;
   within = all_from (λ u. (0 < u) × (u ≤ e.formula.vars)) e.free_vars (λ k u h. absurd (none k u h));
   origins = [];
   each = sym (ap length v);
   apart = λ i j x lt ei ej. nothing i x ei;
-  free = all_from (IsOrigin d Base n) [] (λ k o h. absurd (nothing k o h));
+  free = all_from (IsOrigin d (Base 0) n) [] (λ k o h. absurd (nothing k o h));
   values = λ _ x s vs p k u o eu eo. absurd (none k u eu);
   rest = λ _ x s vs p o open_bit out. absurd (empty_unsatisfied (x, rw f at s));
 }

@@ -333,14 +333,14 @@ module _ (d : DesignOf) (flat : IsFlat d) (design : IsDesign d) (order : List Dr
           (length before, record { inputs = ins; bads = bads }, push-new before (record { inputs = ins; bads = bads }), judges.complete r.x r.satisfies (both_true (lit_in r.x held) (list_any (is_broken (valued d table r.x)) d.cells) h b)),
         )
 
-    reaches : Solvable d Base (suc t) → (x : Assignment) × Satisfies x g.formula.clauses × SomeBad x (before ++ frame ∷ [])
+    reaches : Solvable d (Base 0) (suc t) → (x : Assignment) × Satisfies x g.formula.clauses × SomeBad x (before ++ frame ∷ [])
     unfolding frame
     reaches (m, vs, a, le, shows) = elim (below_or_last m (suc t) (omega arith)) as (λ _. (x : Assignment) × Satisfies x g.formula.clauses × SomeBad x (before ++ record { inputs = ins; bads = bads } ∷ [])) [
       | inl p ↦ earlier (m, vs, a, omega arith, shows)
       | inr e ↦ reach_last vs a (subst (λ (j : ℕ). Shows d j vs a) e shows)
     ]
       where
-        earlier : Solvable d Base t → (x : Assignment) × Satisfies x g.formula.clauses × SomeBad x (before ++ record { inputs = ins; bads = bads } ∷ [])
+        earlier : Solvable d (Base 0) t → (x : Assignment) × Satisfies x g.formula.clauses × SomeBad x (before ++ record { inputs = ins; bads = bads } ∷ [])
         earlier s =
             let o = un.reaches s in
             let b = cycle.grows.extends o.0 (λ k. false) o.1 in
@@ -456,8 +456,8 @@ whole_parts g frames x s = (
 
 pub whole_solvable : (d : DesignOf) (outs opens : List SigBit) (starts : List (Option Bool)) (t : ℕ) (g : GatesOf) (lits : List LitOf) (frames : List FrameOf) → length frames ≡ t →
     ((x : Assignment) → Satisfies x g.formula.clauses → (vs : ℕ → Valuation) × HasRun d outs opens starts t x vs lits frames) →
-    (Solvable d Base t → (x : Assignment) × Satisfies x g.formula.clauses × SomeBad x frames) →
-    CanBeSatisfied (with_clause g.formula (all_bads frames)) ↔ Solvable d Base t
+    (Solvable d (Base 0) t → (x : Assignment) × Satisfies x g.formula.clauses × SomeBad x frames) →
+    CanBeSatisfied (with_clause g.formula (all_bads frames)) ↔ Solvable d (Base 0) t
 whole_solvable d outs opens starts t g lits frames n runs reaches = (
   (λ p.
       let w = whole_parts g frames p.0 p.1 in

@@ -89,7 +89,7 @@ IsOpen d b = Contains (all_bits d) b × IsUndriven d b
 -- the job leaves the register's bit free in its first frame
 abbrev pub IsLeftFree : DesignOf → JobName → SigBit → Type 0
 IsLeftFree d Step b = IsHeld d b
-IsLeftFree d Base b = IsHeld d b × HasNoStart d b
+IsLeftFree d (Base j) b = IsHeld d b × HasNoStart d b
 IsLeftFree d (Cover k) b = IsHeld d b × HasNoStart d b
 
 -- what a free variable may stand for

@@ -16,12 +16,12 @@ pub record StepShows (d : DesignOf) (n : ℕ) (vs : ℕ → Valuation) (a : ℕ)
 -- Base: a run of at most n cycles breaks an assertion. Step: n + 1 cycles from any state do, in the last alone. Cover(k): a
 -- run of at most n cycles reaches cover statement k.
 abbrev pub Solvable : DesignOf → JobName → ℕ → Type 0
-Solvable d Base n = (m : ℕ) × (vs : ℕ → Valuation) × (a : ℕ) × (m ≤ n) × Shows d m vs a
+Solvable d (Base j) n = (m : ℕ) × (vs : ℕ → Valuation) × (a : ℕ) × (m ≤ n) × Shows d m vs a
 Solvable d Step n = (vs : ℕ → Valuation) × (a : ℕ) × StepShows d n vs a
 Solvable d (Cover k) n = (m : ℕ) × (vs : ℕ → Valuation) × (m ≤ n) × ReachRun d m vs k
 
 -- the frames of a job at depth n
 abbrev pub frames : JobName → ℕ → ℕ
-frames Base n = n
+frames (Base j) n = n
 frames Step n = n + 1
 frames (Cover k) n = n

@@ -135,7 +135,7 @@ pub record Unrolled (d : DesignOf) (outs news opens : List SigBit) (starts : Lis
   pub sound : (x : Assignment) → Satisfies x g.formula.clauses → (vs : ℕ → Valuation) × HasCycles d outs news opens starts t x vs first row held frames
   pub complete : (vs : ℕ → Valuation) (bits : ℕ → Bool) → Cycles d t vs → AreNext news starts t vs bits →
       (x : Assignment) × Satisfies x g.formula.clauses × AreBits x row bits × (AllAssumed d t vs → lit_in x held ≡ true)
-  pub reaches : Solvable d Base t → (x : Assignment) × Satisfies x g.formula.clauses × SomeBad x frames
+  pub reaches : Solvable d (Base 0) t → (x : Assignment) × Satisfies x g.formula.clauses × SomeBad x frames
 
 -- one more cycle
 abbrev pub Unrolls : DesignOf → List SigBit → List SigBit → List SigBit → List (Option Bool) → List LitOf → GatesOf → List LitOf → List LitOf → LitOf → List FrameOf → GatesOf → List LitOf → List LitOf → LitOf → List FrameOf → Type 0

@@ -153,7 +153,7 @@ pub fn encode(
     job: JobName,
     depth: u32,
 ) -> Result<Result<Encoded, TooMany>, AllocError>
-    requires job { job ≡ JobName.Base }
+    requires job { job ≡ (JobName.Base 0) }
     requires low { 1 ≤ depth }
     requires high { depth ≤ 1000 }
     ensures solvable { IfOk result (λ r. IfOk r (λ e. CanBeSatisfied e.formula ↔ Solvable flat.now job depth)) }

@@ -205,7 +205,7 @@ pub fn unroll(
     requires sources { AreSources design.now sources.now.outputs.items sources.now.nexts.items sources.now.starts.items sources.now.reads.items sources.now.inputs.items }
     ensures runs { IfOk result (λ r. (x : Assignment) → Satisfies x r.gates.formula.clauses →
         (vs : ℕ → Valuation) × HasRun design.now sources.now.outputs.items sources.now.inputs.items sources.now.starts.items depth x vs r.starts.items r.frames.items) }
-    ensures reaches { IfOk result (λ r. Solvable design.now Base depth → (x : Assignment) × Satisfies x r.gates.formula.clauses × SomeBad x r.frames.items) }
+    ensures reaches { IfOk result (λ r. Solvable design.now (Base 0) depth → (x : Assignment) × Satisfies x r.gates.formula.clauses × SomeBad x r.frames.items) }
     ensures frames { IfOk result (λ r. length r.frames.items ≡ depth) }
     ensures starts { IfOk result (λ r. length r.starts.items ≡ length (free_bits sources.now.outputs.items sources.now.starts.items)) }
     ensures bads { IfOk result (λ r. All (λ f. All (LitWithin r.gates.formula.vars) f.bads) r.frames.items) }

@@ -24,15 +24,15 @@ cover_place (suc n) a zero job e = let h : Cover a ≡ job = cc in sym h ∙ ap 
 cover_place (suc n) a (suc i) job e = cover_place n (a + 1) i job e ∙ ap Cover (omega arith)
 
 covers_place : (n i : ℕ) (job : JobName) → slice_get (map Cover (range_with_len 0 n)) i ≡ Some job → i ≡ place_of job
-covers_place n i Base e = let h = cover_place n 0 i Base e in cc
+covers_place n i (Base j) e = let h = cover_place n 0 i (Base j) e in cc
 covers_place n i Step e = let h = cover_place n 0 i Step e in cc
 covers_place n i (Cover k) e = let h : Cover k ≡ Cover (0 + i) = cover_place n 0 i (Cover k) e in let g : k ≡ 0 + i = cc in omega (arith, g)
 
 -- each job has its place
 place_found : (mode : Mode) (d : DesignOf) (i : ℕ) (job : JobName) → slice_get (jobs_of mode d) i ≡ Some job → i ≡ place_of job
-place_found Bmc d zero job e = let h : Base ≡ job = cc in ap place_of h
+place_found Bmc d zero job e = let h : (Base 0) ≡ job = cc in ap place_of h
 place_found Bmc d (suc i) job e = cc
-place_found Prove d zero job e = let h : Base ≡ job = cc in ap place_of h
+place_found Prove d zero job e = let h : (Base 0) ≡ job = cc in ap place_of h
 place_found Prove d (suc zero) job e = let h : Step ≡ job = cc in ap place_of h
 place_found Prove d (suc (suc i)) job e = cc
 place_found CoverMode d i job e = covers_place (length (covers d)) i job e
@@ -61,8 +61,8 @@ pub one_job_file : (p : AskedOf) (job : JobName) (a b : List ℕ) → IsJobFile 
 one_job_file p job a b v w = v.2 ∙ ap dimacs_text (one_formula p job v.0 w.0 v.1 w.1) ∙ sym w.2
 
 -- what holds of the one job holds of each
-one_place : (P : JobName → EncodedOf → Type 0) (e : EncodedOf) → P Base e → (i : ℕ) (job : JobName) (b : EncodedOf) → slice_get (Base ∷ []) i ≡ Some job → slice_get (e ∷ []) i ≡ Some b → P job b
-one_place P e h zero job b a c = let j : Base ≡ job = cc in let g : e ≡ b = cc in subst (λ z. P job z) g (subst (λ z. P z e) j h)
+one_place : (P : JobName → EncodedOf → Type 0) (e : EncodedOf) → P (Base 0) e → (i : ℕ) (job : JobName) (b : EncodedOf) → slice_get ((Base 0) ∷ []) i ≡ Some job → slice_get (e ∷ []) i ≡ Some b → P job b
+one_place P e h zero job b a c = let j : (Base 0) ≡ job = cc in let g : e ≡ b = cc in subst (λ z. P job z) g (subst (λ z. P z e) j h)
 one_place P e h (suc i) job b a c = cc
 
 abbrev asked : List ℕ → Mode → ℕ → DesignOf → List EncodedOf → AskedOf
@@ -70,7 +70,7 @@ asked text mode n d es = record { problem = record { text = text; mode = mode; d
 
 -- the problem of a design that is checked, whose one job is encoded
 pub made : (text : List ℕ) (mode : Mode) (n : ℕ) (d : DesignOf) (e : EncodedOf) (es : List EncodedOf) → mode ≡ Bmc → Reads text d → ((b : DesignOf) → Reads text b → b ≡ d) → IsFlat d
-    → IsEncodedJob d Base n e → es ≡ e ∷ [] → IsProblem (record { problem = record { text = text; mode = mode; depth = n }; design = d; encoded = es })
+    → IsEncodedJob d (Base 0) n e → es ≡ e ∷ [] → IsProblem (record { problem = record { text = text; mode = mode; depth = n }; design = d; encoded = es })
 made text mode n d e es m r o l s is =
     let one : IsProblem (asked text Bmc n d (e ∷ [])) = record {
       mode = refl;
@@ -83,9 +83,9 @@ made text mode n d e es m r o l s is =
     subst (λ (k : Mode). IsProblem (asked text k n d es)) (sym m) (subst (λ (ks : List EncodedOf). IsProblem (asked text Bmc n d ks)) (sym is) one)
 
 -- the one job of bmc
-pub only_base : (p : AskedOf) → IsProblem p → (job : JobName) → IsJob p job → job ≡ Base
+pub only_base : (p : AskedOf) → IsProblem p → (job : JobName) → IsJob p job → job ≡ (Base 0)
 only_base p h job (i, at) = one i (subst (λ m. slice_get (jobs_of m p.design) i ≡ Some job) h.mode at)
   where
-    one : (i : ℕ) → slice_get (Base ∷ []) i ≡ Some job → job ≡ Base
-    one zero e = let g : Base ≡ job = cc in sym g
+    one : (i : ℕ) → slice_get ((Base 0) ∷ []) i ≡ Some job → job ≡ (Base 0)
+    one zero e = let g : (Base 0) ≡ job = cc in sym g
     one (suc i) e = cc

@@ -22,7 +22,7 @@ use Rattle.judge.specs.Finding.{FindingOf, Claim, IsTrueFinding, RunShows}
 use Rattle.judge.specs.Played.{IsPlayed}
 
 never : (d : DesignOf) (job : JobName) (n : ℕ) → (Solvable d job n → ⊥) → Claim d n job Unsat None
-never d Base n unsolved = (λ m vs a le s. unsolved (m, vs, a, le, s), refl)
+never d (Base j) n unsolved = (λ m vs a le s. unsolved (m, vs, a, le, s), refl)
 never d Step n unsolved = (unsolved, refl)
 never d (Cover k) n unsolved = (λ m vs le r. unsolved (m, vs, le, r), refl)
 
@@ -62,7 +62,7 @@ unsat_found p job text mode n h w e f g = claimed p (unsat (problem text mode n)
         w.2 x.0 (subst (λ (z : FormulaOf). Satisfies x.0 z.clauses) (sym b.2) x.1)
 
 -- and of one that a run shows to be solved
-pub sat_found : (p : AskedOf) (job : JobName) (run : List CycleOf) (text : List ℕ) (mode : Mode) (n : ℕ) → IsProblem p → job ≡ Base → RunShows p.design p.problem.depth (Some run)
+pub sat_found : (p : AskedOf) (job : JobName) (run : List CycleOf) (text : List ℕ) (mode : Mode) (n : ℕ) → IsProblem p → job ≡ (Base 0) → RunShows p.design p.problem.depth (Some run)
     → text ≡ p.problem.text → mode ≡ p.problem.mode → n ≡ p.problem.depth → IsTrueFinding (sat (problem text mode n) job (Some run))
 sat_found p job run text mode n h base s e f g =
     claimed p (sat (problem text mode n) job (Some run)) h (same_problem p.problem text mode n e f g) (subst (λ j. Claim p.design p.problem.depth j Sat (Some run)) (sym base) s)
@@ -99,9 +99,9 @@ module _ (p : AskedOf) (job : JobName) (h : IsProblem p) (e : EncodedOf) (is : I
         }
 
 -- what a run that is played from values of Base is
-module _ (p : AskedOf) (e : EncodedOf) (x : Assignment) (run : List CycleOf) (h : IsProblem p) (is : IsEncodedOf p Base e) (played : IsPlayed p.design e x run) where
+module _ (p : AskedOf) (e : EncodedOf) (x : Assignment) (run : List CycleOf) (h : IsProblem p) (is : IsEncodedOf p (Base 0) e) (played : IsPlayed p.design e x run) where
   base_decoded : IsDecoded p.design p.problem.depth (decoded e x)
-  base_decoded = (h.encodes Base e is).decodes refl x played.satisfies
+  base_decoded = (h.encodes (Base 0) e is).decodes refl x played.satisfies
 
   pub played_shows : (a : ℕ) × Shows p.design (length run) (valuations p.design run) a
   played_shows = subst (λ n. (a : ℕ) × Shows p.design n (valuations p.design run) a) (sym played.cycles) (base_decoded.shows (valuations p.design run) played.plays)

@@ -12,8 +12,8 @@ use Rattle.rtlil_reader.specs.Grammar.{Reads}
 use Rattle.judge.specs.Finding.{FindingOf, Claim, IsTrueFinding}
 
 apart : (d : DesignOf) (n : ℕ) (job : JobName) (r s : Option (List CycleOf)) → Claim d n job Unsat r → Claim d n job Sat s → ⊥
-apart d n Base r None p q = q
-apart d n Base r (Some run) p q = p.0 _ _ q.2.0 q.1 q.2.1
+apart d n (Base j) r None p q = q
+apart d n (Base j) r (Some run) p q = p.0 _ _ q.2.0 q.1 q.2.1
 apart d n Step r s p q = p.0 q.0
 apart d n (Cover k) r None p q = q
 apart d n (Cover k) r (Some run) p q = p.0 _ _ q.1 q.2

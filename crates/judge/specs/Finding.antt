@@ -31,10 +31,10 @@ RunReaches d n k (Some run) = IsRunOf d run × (length run ≤ n) × ReachRun d 
 -- What an answer to a job says of the design at depth n. A run is shown where the answer is Sat on Base or Cover, and nowhere
 -- else.
 abbrev pub Claim : DesignOf → ℕ → JobName → Answer → Option (List CycleOf) → Type 0
-Claim d n Base Unsat run = NoBreak d n × (run ≡ None)
+Claim d n (Base j) Unsat run = NoBreak d n × (run ≡ None)
 Claim d n Step Unsat run = (Solvable d Step n → ⊥) × (run ≡ None)
 Claim d n (Cover k) Unsat run = NoReach d n k × (run ≡ None)
-Claim d n Base Sat run = RunShows d n run
+Claim d n (Base j) Sat run = RunShows d n run
 Claim d n Step Sat run = Solvable d Step n × (run ≡ None)
 Claim d n (Cover k) Sat run = RunReaches d n k run
 

@@ -18,8 +18,8 @@ use Rattle.sby_terms.specs.declared.names.JobName.TheVariants.{Base, Step, Cover
 
 -- the jobs of a mode, in order
 abbrev pub jobs_of : Mode → DesignOf → List JobName
-jobs_of Bmc d = Base ∷ []
-jobs_of Prove d = Base ∷ Step ∷ []
+jobs_of Bmc d = (Base 0) ∷ []
+jobs_of Prove d = (Base 0) ∷ Step ∷ []
 jobs_of CoverMode d = map Cover (range_with_len 0 (length (covers d)))
 
 -- what is asked, the design, and each job as it is encoded, in the order of the jobs
@@ -56,9 +56,9 @@ pub record IsEncodedJob (d : DesignOf) (job : JobName) (n : ℕ) (e : EncodedOf)
   pub speaks : CanBeSatisfied e.formula ↔ Solvable d job n
   pub propagates : Propagates e
   pub origins : HasOrigins d job n e
-  pub empty : job ≡ Base → asserts d ≡ [] → e.formula ≡ empty_job
+  pub empty : job ≡ (Base 0) → asserts d ≡ [] → e.formula ≡ empty_job
   pub choices : (o : OpenOf) (x : Assignment) → AreOpen d o → AreChoicesFor o (decoded e x)
-  pub decodes : job ≡ Base → (x : Assignment) → Satisfies x e.formula.clauses → IsDecoded d n (decoded e x)
+  pub decodes : job ≡ (Base 0) → (x : Assignment) → Satisfies x e.formula.clauses → IsDecoded d n (decoded e x)
 
 -- the text reads the design and no other, which is flat; and each job is encoded. The mode served so far is bmc.
 pub record IsProblem (p : AskedOf) : Type 0 where

@@ -96,11 +96,11 @@ pub fn one_file()
 /// A run that is played from values of Base ends with the first cycle that breaks an assertion, and is 0 at the open bits that
 /// nothing reads but clocks.
 pub fn played_run_ends_at_first_break()
-    ensures shows { (p : AskedOf) (e : EncodedOf) (x : Assignment) (run : List CycleOf) → IsProblem p → IsEncodedOf p Base e
+    ensures shows { (p : AskedOf) (e : EncodedOf) (x : Assignment) (run : List CycleOf) → IsProblem p → IsEncodedOf p (Base 0) e
         → IsPlayed p.design e x run → (a : ℕ) × Shows p.design (length run) (valuations p.design run) a }
-    ensures first { (p : AskedOf) (e : EncodedOf) (x : Assignment) (run : List CycleOf) → IsProblem p → IsEncodedOf p Base e
+    ensures first { (p : AskedOf) (e : EncodedOf) (x : Assignment) (run : List CycleOf) → IsProblem p → IsEncodedOf p (Base 0) e
         → IsPlayed p.design e x run → (t a : ℕ) → suc t < length run → Broken p.design (valuations p.design run t) a → ⊥ }
-    ensures zeros { (p : AskedOf) (e : EncodedOf) (x : Assignment) (run : List CycleOf) → IsProblem p → IsEncodedOf p Base e
+    ensures zeros { (p : AskedOf) (e : EncodedOf) (x : Assignment) (run : List CycleOf) → IsProblem p → IsEncodedOf p (Base 0) e
         → IsPlayed p.design e x run → (t : ℕ) (b : SigBit) → t < length run → IsOpen p.design b → ¬ IsReadOtherwise p.design b
         → bit_in (valuations p.design run t) b ≡ false }
 {}

@@ -113,9 +113,9 @@ impl Problem {
             Ok(flat) => flat,
             Err(fault) => return Ok(Err(ProblemFault::Design(fault))),
         };
-        let encoded = match encode(alloc, &flat, JobName::Base, depth)? {
+        let encoded = match encode(alloc, &flat, JobName::Base(0), depth)? {
             Ok(encoded) => encoded,
-            Err(TooMany) => return Ok(Err(ProblemFault::TooMany(JobName::Base))),
+            Err(TooMany) => return Ok(Err(ProblemFault::TooMany(JobName::Base(0)))),
         };
         let job = Job::new(alloc, encoded)?;
         let jobs = vec![in alloc; job]?;
@@ -195,7 +195,7 @@ fn place_of(job: JobName) -> usize
     ensures { result ≡ place_of job }
 {
     match job {
-        JobName::Base => 0,
+        JobName::Base(j) => j as usize,
         JobName::Step => 1,
         JobName::Cover(k) => k as usize,
     }

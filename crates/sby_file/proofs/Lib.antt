@@ -4,7 +4,6 @@ pub mod Prefixes
 pub mod NameLemmas
 pub mod Declarations
 pub mod Reading
-pub mod Numbers
 pub mod Pieces
 pub mod Statuses
 pub mod Scopes

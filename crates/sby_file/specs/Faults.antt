@@ -200,9 +200,13 @@ abbrev pub faults_from : Declared → Seen → List Placed → List SbyFault
 faults_from d seen [] = []
 faults_from d seen (p ∷ ps) = at_line p.number (line_faults d seen p.section p.line ps) ++ faults_from d (seen_after seen p.section p.line) ps
 
--- the faults of a file: those of its lines, and then that it has more than 2^24 bytes
+-- the faults of a text's lines
+abbrev pub lines_faults : List ℕ → List SbyFault
+lines_faults bytes = faults_from (declared (placed bytes)) nothing_seen (placed bytes)
+
+-- the faults of a text: that it has more than 2^24 bytes, whatever they are, or else those of its lines
 abbrev pub faults_of : List ℕ → List SbyFault
-faults_of bytes = faults_from (declared (placed bytes)) nothing_seen (placed bytes) ++ at_line 0 (when (ltb (2 ^ 24) (length bytes)) kind.Limit)
+faults_of bytes = cond (ltb (2 ^ 24) (length bytes)) (at_line 0 (kind.Limit ∷ [])) (lines_faults bytes)
 
 -- the first of a list
 abbrev pub first : {A : Type 0} → List A → Option A

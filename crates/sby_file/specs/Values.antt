@@ -2,7 +2,7 @@
 use Rattle.std.specs.Prelude.{ℕ, ◌+◌, Bool, true, false, cond, not, ◌&&◌, eqb, leb, List, [], ◌∷◌, ◌++◌, length, Option, Some, None, codes, bytes_eq}
 use Rattle.std.specs.List.{list_all, flat_map}
 use Rattle.std.specs.Str.{str_to_ascii_lowercase}
-use Rattle.std.specs.Str.Parse.{digits_value}
+use Rattle.sby_terms.specs.Number.{number_upto}
 use denote.Ref.{Bor}
 use Rattle.sby_file.specs.Text.{put_first, words_of}
 use Rattle.sby_terms.specs.declared.names.Mode.{Mode}
@@ -10,18 +10,7 @@ use Rattle.sby_terms.specs.declared.names.Mode.TheVariants.{Bmc, Prove, Cover}
 use Rattle.sby_terms.specs.declared.names.Status.{Status}
 use Rattle.sby_terms.specs.declared.names.Status.TheVariants.{Pass, Fail, Unknown, Error, Timeout}
 
-abbrev pub is_digit : ℕ → Bool
-is_digit b = leb 48 b && leb b 57
-
--- decimal digits without a leading 0
-abbrev pub is_number : List ℕ → Bool
-is_number [] = false
-is_number (b ∷ bs) = list_all is_digit (b ∷ bs) && not (eqb b 48)
-
--- the number that a word writes, from 1 to `most`
-abbrev pub number_upto : ℕ → List ℕ → Option ℕ
-number_upto most word = cond (is_number word && leb (digits_value 10 word) most) (Some (digits_value 10 word)) None
-
+-- the number that a value of one word writes, from 1 to `most`
 abbrev pub number_of : ℕ → List (List ℕ) → Option ℕ
 number_of most [] = None
 number_of most (word ∷ []) = number_upto most word

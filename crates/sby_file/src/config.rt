@@ -1,6 +1,6 @@
 // What a task file holds.
 
-ghost use Rattle.std.specs.Prelude.{◌≡◌, ◌∷◌, ◌++◌, List, ℕ, cond, map, string_bytes, IfOk};
+ghost use Rattle.std.specs.Prelude.{◌≡◌, [], ◌∷◌, ◌++◌, List, ℕ, cond, map, string_bytes, IfOk};
 ghost use Rattle.sby_file.specs.Config.{nothing, with_task, with_row, with_file, with_content, with_line, content_line, content_of};
 
 use crate::line::{Bytes, Line};
@@ -35,6 +35,13 @@ impl Name {
         ensures { result.now ≡ self.now }
     {
         self.text.as_str()
+    }
+
+    /// The text, as it was given.
+    pub fn into_string(self) -> String
+        ensures { string_bytes result ≡ self }
+    {
+        self.text
     }
 }
 
@@ -98,8 +105,6 @@ fn add_content(bytes: &mut Vec<u8>, line: Line) -> Result<bool, AllocError>
         Line::NotText | Line::Content(_) => Ok(false),
     }
 }
-
-ghost use Rattle.std.specs.Prelude.{[]};
 
 // The bytes of the file that begins here.
 fn content(alloc: Global, walk: Walk<'_>) -> Result<Bytes, AllocError>

@@ -7,10 +7,8 @@ use crate::config::Name;
 use crate::engines::{Engines, engine_of};
 use crate::task_fault::TaskKind;
 use crate::values::{mode_of, number_of, statuses_of, switch_of};
-use sby_terms::{Expect, Mode};
+use sby_terms::{Expect, MAX_DEPTH, Mode};
 use std::alloc::{AllocError, Global};
-
-const MAX_DEPTH: u32 = 1000;
 
 const MAX_TIMEOUT: u32 = 1_000_000;
 
@@ -66,7 +64,7 @@ impl Draft {
             expect: None,
             wait: None,
             multiclock: None,
-            engines: Engines::new(alloc),
+            engines: Engines::new(Vec::new(alloc)),
             script: None,
         }
     }

@@ -1,6 +1,6 @@
 // Engine lines.
 
-ghost use Rattle.std.specs.Prelude.{◌≡◌, List, map, string_bytes, IfOk};
+ghost use Rattle.std.specs.Prelude.{◌≡◌, List, map, string_bytes, IfOk, [], ◌∷◌, ◌++◌, length, ◌==◌};
 ghost use Rattle.sby_file.specs.Engines.{engine_name, sat_of, program_of, engine_of};
 
 use crate::config::copied_words;
@@ -87,15 +87,18 @@ impl Model for Engines {
     ghost view = { λ e. e.engines.items };
 }
 
-ghost use Rattle.std.specs.Prelude.{[], ◌∷◌, ◌++◌, length};
-
 impl Engines {
-    pub fn new(alloc: Global) -> Self
-        ensures { result ≡ [] }
+    pub fn new(engines: Vec<Engine>) -> Self
+        ensures { result ≡ engines.items }
     {
-        Engines {
-            engines: Vec::new(alloc),
-        }
+        Engines { engines }
+    }
+
+    /// The engines, as they were given.
+    pub fn into_engines(self) -> Vec<Engine>
+        ensures { result.items ≡ self }
+    {
+        self.engines
     }
 
     pub fn as_slice(&self) -> &[Engine]
@@ -123,5 +126,3 @@ impl Engines {
         Ok(())
     }
 }
-
-ghost use Rattle.std.specs.Prelude.{◌==◌};

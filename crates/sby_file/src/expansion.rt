@@ -1,10 +1,11 @@
 // Expanding a task.
 
-ghost use Rattle.std.specs.Prelude.{◌≡◌, ◌∷◌, List, None, Ok, map, string_bytes, IfOk, ℕ, MatchOption};
+ghost use Rattle.std.specs.Prelude.{◌≡◌, ◌∷◌, List, None, Ok, map, string_bytes, IfOk, ℕ, MatchOption, true};
 ghost use Rattle.std.specs.Option.{option_copied};
 ghost use Rattle.sby_file.specs.Names.{has};
 ghost use Rattle.sby_file.specs.Draft.{blank};
-ghost use Rattle.sby_file.specs.Expand.{drafted, finished, design_path, tags_of};
+ghost use Rattle.sby_file.specs.Expand.{drafted, finished, design_path, tags_of, expected, names_asked, asked_text, IsAsked, task_of, expansion};
+ghost use Rattle.sby_file.specs.Scope.{kept};
 
 use crate::config::{Config, Name, Row, StoredFile};
 use crate::draft::Draft;
@@ -88,8 +89,6 @@ fn expected(alloc: Global, expect: Option<Expect>) -> Result<Expect, AllocError>
     }
 }
 
-ghost use Rattle.sby_file.specs.Expand.{expected};
-
 // The task of a draft, where nothing is missing.
 fn finished(
     alloc: Global,
@@ -128,7 +127,10 @@ fn finished(
             kind: TaskKind::Script,
         }));
     };
-    let design_bytes = bytes_in(alloc, files, design.as_str())?;
+    let design_bytes = match bytes_in(files, design.as_str()) {
+        Some(bytes) => Some(bytes.copy()?),
+        None => None,
+    };
     let design_path = design_path(alloc, &design_bytes, rows, design)?;
     let expect = expected(alloc, expect)?;
     Ok(Ok(Task {
@@ -165,10 +167,6 @@ pub struct Asked {
     pub name: Name,
     pub names: Names,
 }
-
-ghost use Rattle.sby_file.specs.Expand.{names_asked, asked_text, IsAsked, task_of, expansion};
-ghost use Rattle.std.specs.Prelude.{true};
-ghost use Rattle.sby_file.specs.Scope.{kept};
 
 fn asked_task(
     alloc: Global,

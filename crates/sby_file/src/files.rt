@@ -1,7 +1,8 @@
 // Where a design stands.
 
 ghost use Rattle.std.specs.Prelude.{◌≡◌, List, None, map, string_bytes, IfOk};
-ghost use Rattle.sby_file.specs.Files.{part_of, is_path_named, path_after, path_in, bytes_in};
+ghost use Rattle.std.specs.Option.{option_copied};
+ghost use Rattle.sby_file.specs.Files.{part_of, is_path_named, path_after, path_in, path_of, bytes_in};
 
 use crate::config::{Name, Row, StoredFile};
 use crate::line::Bytes;
@@ -56,8 +57,6 @@ fn path_of(alloc: Global, row: &Row, name: &str) -> Result<Option<Name>, AllocEr
     }
 }
 
-ghost use Rattle.sby_file.specs.Files.{path_of};
-
 /// The path of this name, of the last line of `[files]` that has it.
 pub fn path_in(alloc: Global, rows: &[Row], name: &str) -> Result<Option<Name>, AllocError>
     ensures { IfOk result (λ path. path ≡ path_in None rows.now name.now) }
@@ -71,18 +70,14 @@ pub fn path_in(alloc: Global, rows: &[Row], name: &str) -> Result<Option<Name>, 
     Ok(found)
 }
 
-/// The bytes of the section `[file NAME]`.
-pub fn bytes_in(
-    alloc: Global,
-    files: &[StoredFile],
-    name: &str,
-) -> Result<Option<Bytes>, AllocError>
-    ensures { IfOk result (λ bytes. bytes ≡ bytes_in files.now name.now) }
+/// The bytes of the section `[file NAME]`, where there is one.
+pub fn bytes_in<'a>(files: &'a [StoredFile], name: &str) -> Option<&'a Bytes>
+    ensures { option_copied result ≡ bytes_in files.now name.now }
 {
     for file in files {
         if file.name.as_str() == name {
-            return Ok(Some(Bytes::new(file.bytes.as_slice().to_vec(alloc)?)));
+            return Some(&file.bytes);
         }
     }
-    Ok(None)
+    None
 }

@@ -35,6 +35,21 @@ impl Bytes {
     {
         &self.bytes
     }
+
+    /// The bytes, as they were given.
+    pub fn into_vec(self) -> Vec<u8>
+        ensures { result.items ≡ self }
+    {
+        self.bytes
+    }
+
+    /// Equal bytes, or want of memory.
+    pub fn copy(&self) -> Result<Self, AllocError>
+        ensures { IfOk result (λ copied. copied ≡ self.now) }
+    {
+        let bytes = self.bytes.clone()?;
+        Ok(Bytes { bytes })
+    }
 }
 
 /// What a line says.

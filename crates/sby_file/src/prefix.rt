@@ -3,7 +3,7 @@
 ghost use Rattle.std.specs.Prelude.{◌≡◌, ◌≤◌, Bool, List, length, map, string_bytes};
 ghost use Rattle.std.specs.List.{list_all, list_any};
 ghost use Rattle.sby_file.specs.Names.{has};
-ghost use Rattle.sby_file.specs.Prefix.{is_name_byte, is_name, is_negated, ends_prefix, mark_name, is_mark, is_last_mark, prefix_length, are_known, is_block_end, opens_block};
+ghost use Rattle.sby_file.specs.Prefix.{is_name_byte, is_name, is_negated, ends_prefix, mark_name, is_mark, is_last_mark, prefix_length, are_known, is_block_end, opens_block, without_tilde, without_colon};
 
 use crate::names::Names;
 
@@ -55,8 +55,6 @@ fn without_colon(word: &str) -> &str
         word
     }
 }
-
-ghost use Rattle.sby_file.specs.Prefix.{without_tilde, without_colon};
 
 /// The name that a word of a prefix speaks of.
 pub fn mark_name(word: &str) -> &str

@@ -1,7 +1,9 @@
 // Reading a task file.
 
-ghost use Rattle.std.specs.Prelude.{◌≡◌, Some, IfOk, IfErr};
-ghost use Rattle.sby_file.specs.Faults.{faults_of, first};
+ghost use Rattle.std.specs.Prelude.{◌≡◌, [], Some, IfOk, IfErr};
+ghost use Rattle.sby_file.specs.Config.{nothing, with_lines};
+ghost use Rattle.sby_file.specs.Faults.{faults_of, first, lines_faults};
+ghost use Rattle.sby_file.specs.Placed.{placed};
 ghost use Rattle.sby_file.specs.Sby.{SbyText};
 
 use crate::config::Config;
@@ -23,12 +25,10 @@ fn fault_at(placed: Placed, kind: SbyKind) -> SbyFault
     }
 }
 
-/// Reads a task file. The answer is what its lines say, or the first fault: of the first line at fault, the first in the order
-/// of `SbyKind`; and where no line is at fault, at line 0, that the text has more than 2^24 bytes. The outer `Err` is want of
-/// memory alone.
-pub fn read(alloc: Global, bytes: &[u8]) -> Result<Result<Config, SbyFault>, AllocError>
-    ensures text { IfOk result (λ answer. IfOk answer (SbyText bytes.now)) }
-    ensures fault { IfOk result (λ answer. IfErr answer (λ fault. first (faults_of bytes.now) ≡ Some fault)) }
+// Reads the lines of a task file.
+fn read_lines(alloc: Global, bytes: &[u8]) -> Result<Result<Config, SbyFault>, AllocError>
+    ensures text { IfOk result (λ answer. IfOk answer (λ config. (lines_faults bytes.now ≡ []) × (config ≡ with_lines nothing (placed bytes.now)))) }
+    ensures fault { IfOk result (λ answer. IfErr answer (λ fault. first (lines_faults bytes.now) ≡ Some fault)) }
 {
     let declared = declaration(alloc, Walk::new(bytes))?;
     let mut seen = Seen::new(alloc);
@@ -41,11 +41,21 @@ pub fn read(alloc: Global, bytes: &[u8]) -> Result<Result<Config, SbyFault>, All
         seen.note(alloc, &placed)?;
         config.add(alloc, placed, &walk)?;
     }
+    Ok(Ok(config))
+}
+
+/// Reads a task file. The answer is what its lines say, or the first fault: at line 0, that the text has more than 2^24 bytes,
+/// whatever they are; else of the first line at fault, the first in the order of `SbyKind`. The outer `Err` is want of memory
+/// alone.
+pub fn read(alloc: Global, bytes: &[u8]) -> Result<Result<Config, SbyFault>, AllocError>
+    ensures text { IfOk result (λ answer. IfOk answer (SbyText bytes.now)) }
+    ensures fault { IfOk result (λ answer. IfErr answer (λ fault. first (faults_of bytes.now) ≡ Some fault)) }
+{
     if bytes.len() > MAX_BYTES {
         return Ok(Err(SbyFault {
             line: 0,
             kind: SbyKind::Limit,
         }));
     }
-    Ok(Ok(config))
+    read_lines(alloc, bytes)
 }

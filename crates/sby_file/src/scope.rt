@@ -1,8 +1,8 @@
 // The lines that hold for a task.
 
-ghost use Rattle.std.specs.Prelude.{◌≡◌, List, map, string_bytes, IfOk};
+ghost use Rattle.std.specs.Prelude.{◌≡◌, List, map, string_bytes, IfOk, true};
 ghost use Rattle.sby_file.specs.Names.{has};
-ghost use Rattle.sby_file.specs.Scope.{word_holds, holds, kept, any_holds};
+ghost use Rattle.sby_file.specs.Scope.{word_holds, holds, kept, any_holds, rest_of};
 
 use crate::config::{Row, copied_words};
 use crate::names::Names;
@@ -47,8 +47,6 @@ fn rest_of(alloc: Global, row: &Row) -> Result<Row, AllocError>
     })
 }
 
-ghost use Rattle.sby_file.specs.Scope.{rest_of};
-
 /// The lines that hold for a task of these names.
 pub fn kept(alloc: Global, names: &Names, rows: &[Row]) -> Result<Vec<Row>, AllocError>
     ensures { IfOk result (λ lines. lines.items ≡ kept (has names.now) true rows.now) }
@@ -67,5 +65,3 @@ pub fn kept(alloc: Global, names: &Names, rows: &[Row]) -> Result<Vec<Row>, Allo
     }
     Ok(lines)
 }
-
-ghost use Rattle.std.specs.Prelude.{true};

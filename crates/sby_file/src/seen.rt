@@ -1,6 +1,6 @@
 // What the lines so far have, and what is wrong with the next one.
 
-ghost use Rattle.std.specs.Prelude.{◌≡◌, Bool, List, map, string_bytes, IfOk};
+ghost use Rattle.std.specs.Prelude.{◌≡◌, Bool, List, map, string_bytes, IfOk, unwrap_or};
 ghost use Rattle.sby_file.specs.Section.{name_of, section_named};
 ghost use Rattle.sby_file.specs.Names.{has};
 ghost use Rattle.sby_file.specs.Faults.{Seen, nothing_seen, first, had, with_header, header_faults, task_faults, prefix_faults, is_closed, scoped_faults, stray, content_faults, line_faults, seen_header, seen_task, seen_scoped, seen_content, seen_after, closes_before};
@@ -281,8 +281,6 @@ fn block_end(line: Line) -> Option<bool>
         _ => None,
     }
 }
-
-ghost use Rattle.std.specs.Prelude.{unwrap_or};
 
 // Whether a line `--` comes before the section's end.
 fn is_closed(alloc: Global, walk: Walk<'_>) -> Result<bool, AllocError>

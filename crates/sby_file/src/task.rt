@@ -20,7 +20,7 @@ fn is_found(
 ) -> Result<bool, AllocError>
     ensures { IfOk result (λ found. found ≡ is_found files.now rows.now name.now) }
 {
-    if bytes_in(alloc, files, name)?.is_some() {
+    if bytes_in(files, name).is_some() {
         return Ok(true);
     }
     Ok(path_in(alloc, rows, name)?.is_some())

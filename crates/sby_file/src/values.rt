@@ -1,35 +1,12 @@
 // The values of options.
 
 ghost use Rattle.std.specs.Prelude.{◌≡◌, ◌<◌, ◌≤◌, ◌+◌, ◌∷◌, Some, IfOk, IfSome, List, length, map, string_bytes};
-ghost use Rattle.sby_file.specs.Values.{number_upto, number_of, word_mode, mode_of, word_switch, switch_of, status_of, piece_status, pieces_of, statuses_from, statuses_of, words_text};
+ghost use Rattle.sby_file.specs.Values.{number_of, word_mode, mode_of, word_switch, switch_of, status_of, piece_status, pieces_of, statuses_from, statuses_of, words_text, later_pieces, pieces_left};
 
 use crate::text::words;
 use memchr::memchr;
-use sby_terms::{Expect, Mode, Status, Words};
+use sby_terms::{Expect, Mode, Status, Words, number_upto};
 use std::alloc::{AllocError, Global};
-
-/// The number that the digits write, without a leading 0, where it is at most `most`.
-fn number_upto(most: u32, digits: &[u8]) -> Option<u32>
-    ensures { result ≡ number_upto most digits.now }
-{
-    if digits.is_empty() {
-        return None;
-    }
-    if digits[0] == b'0' {
-        return None;
-    }
-    let mut value = 0u64;
-    for b in digits {
-        if !b.is_ascii_digit() {
-            return None;
-        }
-        value = value * 10 + u64::from(*b - b'0');
-        if value > u64::from(most) {
-            return None;
-        }
-    }
-    Some(value as u32)
-}
 
 /// A value of one word that is a number from 1 to `most`.
 pub fn number_of(most: u32, value: &[String]) -> Option<u32>
@@ -119,8 +96,6 @@ fn first_piece(text: &str) -> (&str, Option<&str>)
         None => (text, None),
     }
 }
-
-ghost use Rattle.sby_file.specs.Values.{later_pieces, pieces_left};
 
 // The words with a space behind each.
 fn words_text(alloc: Global, words: &[String]) -> Result<String, AllocError>

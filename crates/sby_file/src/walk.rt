@@ -2,6 +2,7 @@
 
 ghost use Rattle.std.specs.Prelude.{◌≡◌, ℕ, ◌<◌, [], ◌∷◌, length, IfOk, MatchOption};
 ghost use Rattle.sby_file.specs.Placed.{placed_from, placed, section_after};
+ghost use Rattle.sby_file.specs.Text.{lines_of};
 
 use crate::line::{Line, line_of};
 use crate::section::{Section, section_named};
@@ -61,8 +62,6 @@ impl<'a> Model for Walk<'a> {
 
     ghost invariant = { λ w. w.number + length w.rest.now < 2 ^ 64 };
 }
-
-ghost use Rattle.sby_file.specs.Text.{lines_of};
 
 impl<'a> Walk<'a> {
     pub fn new(bytes: &'a [u8]) -> Self

@@ -42,7 +42,7 @@ fn told_by(answer: &Result<Progress, BadCert>) -> Told {
 fn problem_of(alloc: Global, design: &[&str], depth: u32) -> Result<Problem, Fail>
     requires least { 1 ≤ depth }
     requires most { depth ≤ 1000 }
-    ensures { IfOk result (λ p. IsJob p JobName.Base) }
+    ensures { IfOk result (λ p. IsJob p (JobName.Base 0)) }
 {
     let text = joined(alloc, design)?;
     match Problem::new(alloc, text, Mode::Bmc, depth)? {
@@ -59,11 +59,11 @@ fn judged(
     first: &[u8],
     second: &[u8],
 ) -> Result<Told, AllocError>
-    requires job { IsJob problem.now JobName.Base }
+    requires job { IsJob problem.now (JobName.Base 0) }
     requires least { 1 ≤ most }
     requires limit { most ≤ 2 ^ 32 }
 {
-    let mut judge = Judge::new(alloc, problem, JobName::Base, StreamKind::Drup, most)?;
+    let mut judge = Judge::new(alloc, problem, JobName::Base(0), StreamKind::Drup, most)?;
     match judge.feed(first)? {
         Ok(Progress::More) => {}
         answer => return Ok(told_by(&answer)),
@@ -118,9 +118,9 @@ fn values_over_no_assertion(rt: HostRuntime) -> Result<(), Fail> {
 
 // The number of a job's variables, and of its clauses.
 fn counts_of(problem: &Problem) -> Option<(u32, u64)>
-    requires { IsJob problem.now JobName.Base }
+    requires { IsJob problem.now (JobName.Base 0) }
 {
-    let text = str::from_utf8(problem.job_bytes(JobName::Base)).ok()?;
+    let text = str::from_utf8(problem.job_bytes(JobName::Base(0))).ok()?;
     let header = text.lines().next()?;
     let mut words = header.split(' ').skip(2);
     let vars = words.next()?.parse::<u32>().ok()?;
@@ -192,7 +192,7 @@ fn counted(tried: Tried, answer: Told, clauses: u64) -> Tried {
 
 // Tries all values of at most ten variables.
 fn try_all(alloc: Global, problem: &Problem) -> Result<Tried, Fail>
-    requires { IsJob problem.now JobName.Base }
+    requires { IsJob problem.now (JobName.Base 0) }
 {
     let (vars, clauses) = counts_of(problem).ok_or("no header")?;
     let mut tried = Tried {

@@ -1,1 +1,3 @@
 mod Copies
+mod Decimals
+pub mod Numbers

@@ -2,3 +2,5 @@ pub mod Problem
 pub mod Decide
 pub mod Status
 pub mod Code
+pub mod Number
+pub mod Span

@@ -26,6 +26,13 @@ impl Words {
         Words { words }
     }
 
+    /// The words, as they were given.
+    pub fn into_words(self) -> Vec<String>
+        ensures { map string_bytes result.items ≡ self }
+    {
+        self.words
+    }
+
     pub fn as_slice(&self) -> &[String]
         ensures { map string_bytes result.now ≡ self.now }
     {

@@ -28,6 +28,13 @@ impl Expect {
         Expect { statuses }
     }
 
+    /// The statuses, as they were given.
+    pub fn into_statuses(self) -> Vec<Status>
+        ensures { result.items ≡ self }
+    {
+        self.statuses
+    }
+
     pub fn statuses(&self) -> &[Status]
         ensures { result.now ≡ self.now }
     {

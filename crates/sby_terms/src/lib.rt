@@ -4,13 +4,17 @@
 mod engine;
 mod expect;
 mod names;
+mod number;
 mod settled;
+mod span;
 mod tables;
 
 pub use engine::{Engine, Words};
 pub use expect::Expect;
 pub use names::{Answer, Event, JobName, Mode, Status, Verdict};
+pub use number::{number_upto, numbers_are_decimal};
 pub use settled::Settled;
+pub use span::{MAX_DEPTH, MAX_SLICES, MAX_STREAM, Span};
 pub use tables::{decide, one_status, one_verdict, rc_of, status_of};
 
 #[cfg(test)]

@@ -11,11 +11,11 @@ pub enum Mode {
     Cover,
 }
 
-/// A job of a task. Bmc has `Base`; prove has `Base` and `Step`; cover has `Cover(0)`, `Cover(1)`, .. in the order of the
-/// `$cover` cells in the file.
+/// A job of a task. Bmc has `Base(0)`, `Base(1)`, .., one for each slice of its cycles; prove has `Base(0)` and `Step`; cover has
+/// `Cover(0)`, `Cover(1)`, .. in the order of the `$cover` cells in the file.
 #[derive(Clone, Copy, Debug, PartialEq, Eq)]
 pub enum JobName {
-    Base,
+    Base(u32),
     Step,
     Cover(u32),
 }

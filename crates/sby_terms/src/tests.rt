@@ -1,4 +1,4 @@
-// The tables row by row, and each call once.
+// Each call once, and what a settled job's copy answers.
 
 ghost use Rattle.std.specs.Prelude.{◌≡◌, IfOk, refl};
 
@@ -7,122 +7,16 @@ use std::alloc::AllocError;
 use std::test::Fail;
 
 #[test]
-fn answers_decide(rt: HostRuntime) {
-    let sat = Some(Answer::Sat);
-    let unsat = Some(Answer::Unsat);
-    let pass = Some(Verdict::Pass);
-    let fail = Some(Verdict::Fail);
-    assert_eq!(rt; decide(Mode::Bmc, &[unsat]), pass);
-    assert_eq!(rt; decide(Mode::Bmc, &[sat]), fail);
-    assert_eq!(rt; decide(Mode::Bmc, &[None]), None);
-    for (base, step, verdict) in [
-        (sat, unsat, fail),
-        (sat, sat, fail),
-        (sat, None, fail),
-        (unsat, unsat, pass),
-        (unsat, sat, None),
-        (unsat, None, None),
-        (None, unsat, None),
-        (None, sat, None),
-        (None, None, None),
-    ] {
-        assert_eq!(rt;
-            decide(Mode::Prove, &[base, step]),
-            verdict,
-            "{base:?} {step:?}"
-        );
-    }
-    for (first, second, verdict) in [
-        (sat, sat, pass),
-        (sat, None, None),
-        (None, sat, None),
-        (unsat, None, fail),
-        (None, unsat, fail),
-        (sat, unsat, fail),
-    ] {
-        assert_eq!(rt;
-            decide(Mode::Cover, &[first, second]),
-            verdict,
-            "{first:?} {second:?}"
-        );
-    }
-    assert_eq!(rt; decide(Mode::Cover, &[]), pass);
-}
-
-#[test]
-fn events_give_the_status(rt: HostRuntime) {
-    for (decided, events, status) in [
-        (
-            Some(Verdict::Pass),
-            [Event::Memory, Event::Stopped, Event::Fault],
-            Status::Pass,
-        ),
-        (
-            Some(Verdict::Fail),
-            [Event::Memory, Event::Stopped, Event::Fault],
-            Status::Fail,
-        ),
-        (
-            None,
-            [Event::Fault, Event::Stopped, Event::Memory],
-            Status::Memory,
-        ),
-        (
-            None,
-            [Event::Memory, Event::Fault, Event::Quiet],
-            Status::Memory,
-        ),
-        (
-            None,
-            [Event::Fault, Event::Stopped, Event::Quiet],
-            Status::Timeout,
-        ),
-        (
-            None,
-            [Event::Stopped, Event::Quiet, Event::Quiet],
-            Status::Timeout,
-        ),
-        (
-            None,
-            [Event::Quiet, Event::Quiet, Event::Fault],
-            Status::Error,
-        ),
-        (
-            None,
-            [Event::Quiet, Event::Quiet, Event::Quiet],
-            Status::Unknown,
-        ),
-    ] {
-        assert_eq!(rt;
-            status_of(decided, &events),
-            status,
-            "{decided:?} {events:?}"
-        );
-    }
-    assert_eq!(rt; status_of(None, &[]), Status::Unknown);
-}
-
-#[test]
-fn statuses_give_the_number(rt: HostRuntime) -> Result<(), Fail> {
-    let all = [
-        (Status::Pass, 1),
-        (Status::Fail, 2),
-        (Status::Unknown, 4),
-        (Status::Timeout, 8),
-        (Status::Error, 16),
-        (Status::Memory, 32),
-    ];
-    let nothing = Expect::new(Vec::new(rt.alloc()));
-    for (status, code) in all {
-        assert_eq!(rt; rc_of(&nothing, status), code, "{status:?}");
-        let listed = Expect::new(vec![in rt.alloc(); status, Status::Memory]?);
-        assert_eq!(rt; listed.statuses().len(), 2);
-        let wanted = if status == Status::Memory { 32 } else { 0 };
-        assert_eq!(rt; rc_of(&listed.copy()?, status), wanted, "{status:?}");
-        if status != Status::Pass {
-            assert_eq!(rt; rc_of(&listed, Status::Pass), 1, "{status:?}");
-        }
-    }
+fn tables_answer(rt: HostRuntime) -> Result<(), Fail> {
+    let answers = [Some(Answer::Unsat), Some(Answer::Unsat)];
+    let verdict = decide(Mode::Prove, &answers);
+    assert_eq!(rt; verdict, Some(Verdict::Pass));
+    assert_eq!(rt; status_of(verdict, &[Event::Memory]), Status::Pass);
+    let expect = Expect::new(vec![in rt.alloc(); Status::Fail]?);
+    let copied = expect.copy()?;
+    assert_eq!(rt; copied.statuses().len(), 1);
+    assert_eq!(rt; rc_of(&copied, Status::Fail), 0);
+    assert_eq!(rt; expect.into_statuses().len(), 1);
     one_verdict();
     one_status();
     Ok(())
@@ -132,22 +26,41 @@ fn statuses_give_the_number(rt: HostRuntime) -> Result<(), Fail> {
 fn engines_are_copied(rt: HostRuntime) -> Result<(), Fail> {
     let word = String::from_str(rt.alloc(), "solver")?;
     let words = Words::new(vec![in rt.alloc(); word]?);
-    for engine in [
-        Engine::Sat(Some(3)),
-        Engine::Drup(words.copy()?),
-        Engine::Btor(words),
-    ] {
-        match engine.copy()? {
-            Engine::Sat(conflicts) => assert_eq!(rt; conflicts, Some(3)),
-            Engine::Drup(words) | Engine::Btor(words) => {
-                assert_eq!(rt; words.as_slice().len(), 1);
-                for word in words.as_slice() {
-                    assert_eq!(rt; word.as_str(), "solver");
-                }
+    match Engine::Drup(words).copy()? {
+        Engine::Sat(_) => assert!(rt; false),
+        Engine::Drup(words) | Engine::Btor(words) => {
+            assert_eq!(rt; words.as_slice().len(), 1);
+            for word in words.into_words().as_slice() {
+                assert_eq!(rt; word.as_str(), "solver");
             }
         }
     }
     Ok(())
+}
+
+#[test]
+fn numbers_and_spans(rt: HostRuntime) {
+    for (word, number) in [
+        (b"1000".as_slice(), Some(1000)),
+        (b"1001", None),
+        (b"0", None),
+        (b"01", None),
+        (b"+1", None),
+        (b"", None),
+    ] {
+        assert_eq!(rt; number_upto(MAX_DEPTH, word), number);
+    }
+    numbers_are_decimal();
+    let whole = Span::whole(5);
+    assert_eq!(rt; (whole.slices(), whole.first(0), whole.last(0)), (1, 0, 5));
+    let sliced = Span {
+        skip: 2,
+        depth: 5,
+        stride: Some(2),
+    };
+    assert_eq!(rt; sliced.slices(), 2);
+    assert_eq!(rt; (sliced.first(0), sliced.last(0)), (2, 4));
+    assert_eq!(rt; (sliced.first(1), sliced.last(1)), (4, 5));
 }
 
 // A job whose answer is always Unsat.

@@ -153,12 +153,12 @@ broken_lines d name run breaks =
     (broken_line name cell.0 run ∷ traced.0, record { cell = cell.0; traced = traced.0; is_broken = cell.1; is_trace = traced.1; all = refl })
 
 -- what a finding for the job Base says of the design
-pub finding_claims : (p : AskedOf) (f : FindingOf) (answer : Answer) → IsFindingOf p Base f → f.answer ≡ answer → (d : DesignOf) → Reads p.problem.text d → Claim d p.problem.depth Base answer f.run
+pub finding_claims : (p : AskedOf) (f : FindingOf) (answer : Answer) → IsFindingOf p (Base 0) f → f.answer ≡ answer → (d : DesignOf) → Reads p.problem.text d → Claim d p.problem.depth (Base 0) answer f.run
 finding_claims p f answer of is d reads =
     let claim : Claim d f.problem.depth f.job f.answer f.run = of.is_true.claims d (subst (λ (q : ProblemOf). Reads q.text d) (sym of.problem) reads) in
-    let job : Claim d f.problem.depth Base f.answer f.run = subst (λ j. Claim d f.problem.depth j f.answer f.run) of.of_job claim in
-    let depth : Claim d p.problem.depth Base f.answer f.run = subst (λ (q : ProblemOf). Claim d q.depth Base f.answer f.run) of.problem job in
-    subst (λ a. Claim d p.problem.depth Base a f.run) is depth
+    let job : Claim d f.problem.depth (Base 0) f.answer f.run = subst (λ j. Claim d f.problem.depth j f.answer f.run) of.of_job claim in
+    let depth : Claim d p.problem.depth (Base 0) f.answer f.run = subst (λ (q : ProblemOf). Claim d q.depth (Base 0) f.answer f.run) of.problem job in
+    subst (λ a. Claim d p.problem.depth (Base 0) a f.run) is depth
 
 -- a run that shows a broken assertion breaks it
 pub shown_breaks : (d : DesignOf) (n : ℕ) (run : List CycleOf) → RunShows d n (Some run) → Breaks d run
@@ -168,23 +168,23 @@ shown_breaks d n run shows = let at = shows.2.1 in record {
   broken = (shows.2.0, at.last (length run - 1) (omega (arith, at.run.window.some)));
 }
 
-run_claim : (p : AskedOf) (f : FindingOf) (run : List CycleOf) (answer : Answer) → IsProblem p → IsFindingOf p Base f → f.run ≡ Some run → f.answer ≡ answer → RunShows p.design p.problem.depth (Some run)
+run_claim : (p : AskedOf) (f : FindingOf) (run : List CycleOf) (answer : Answer) → IsProblem p → IsFindingOf p (Base 0) f → f.run ≡ Some run → f.answer ≡ answer → RunShows p.design p.problem.depth (Some run)
 run_claim p f run Sat problem of is answers = subst (RunShows p.design p.problem.depth) is (finding_claims p f Sat of answers p.design problem.reads)
 run_claim p f run Unsat problem of is answers = let none : f.run ≡ None = (finding_claims p f Unsat of answers p.design problem.reads).1 in cc
 
 -- the run of a finding for the job Base shows a broken assertion
-pub run_shows : (p : AskedOf) (f : FindingOf) (run : List CycleOf) → IsProblem p → IsFindingOf p Base f → f.run ≡ Some run → RunShows p.design p.problem.depth (Some run)
+pub run_shows : (p : AskedOf) (f : FindingOf) (run : List CycleOf) → IsProblem p → IsFindingOf p (Base 0) f → f.run ≡ Some run → RunShows p.design p.problem.depth (Some run)
 run_shows p f run problem of is = run_claim p f run f.answer problem of is refl
 
-pub finding_breaks : (p : AskedOf) (flat : DesignOf) (f : FindingOf) (run : List CycleOf) → flat ≡ p.design → IsProblem p → IsFindingOf p Base f → f.run ≡ Some run → Breaks flat run
+pub finding_breaks : (p : AskedOf) (flat : DesignOf) (f : FindingOf) (run : List CycleOf) → flat ≡ p.design → IsProblem p → IsFindingOf p (Base 0) f → f.run ≡ Some run → Breaks flat run
 finding_breaks p flat f run same problem of is = rw same (shown_breaks p.design p.problem.depth run (run_shows p f run problem of is))
 
-shown_lines : (p : AskedOf) (name : List ℕ) (f : FindingOf) (run : Option (List CycleOf)) → IsProblem p → IsFindingOf p Base f → f.run ≡ run → (lines : List (List ℕ)) × HasShownLines p.design name run lines
+shown_lines : (p : AskedOf) (name : List ℕ) (f : FindingOf) (run : Option (List CycleOf)) → IsProblem p → IsFindingOf p (Base 0) f → f.run ≡ run → (lines : List (List ℕ)) × HasShownLines p.design name run lines
 shown_lines p name f None problem of is = ([], refl)
 shown_lines p name f (Some run) problem of is = broken_lines p.design name run (shown_breaks p.design p.problem.depth run (run_shows p f run problem of is))
 
 -- the lines of the run that an end carries
-pub end_lines : (p : AskedOf) (name : List ℕ) (end : JobEnd FindingOf) → IsProblem p → IsLined p Base end → (lines : List (List ℕ)) × HasEndLines p.design name end lines
+pub end_lines : (p : AskedOf) (name : List ℕ) (end : JobEnd FindingOf) → IsProblem p → IsLined p (Base 0) end → (lines : List (List ℕ)) × HasEndLines p.design name end lines
 end_lines p name (Found f) problem lined = shown_lines p name f f.run problem lined refl
 end_lines p name Unknown problem lined = ([], refl)
 end_lines p name NotServed problem lined = ([], refl)

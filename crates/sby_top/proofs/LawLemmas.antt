@@ -44,20 +44,20 @@ one_text store path most a b p q = p.2 ∙ ap (take (most + 1)) (one_some (store
 put_stands : (path bytes : List ℕ) (store : Store) → put_at path bytes store path ≡ Some bytes
 put_stands path bytes store = let same : bytes_eq path path ≡ true = (bytes_eq-Decides path path).1 refl in rw same refl
 
-one_put_stands : (p : AskedOf) (folder : List ℕ) (store now : Store) (file : List ℕ) → ArePut p folder (Base ∷ []) (Some store) (Some now) → now (job_path folder Base) ≡ Some file → IsJobFile p Base file
+one_put_stands : (p : AskedOf) (folder : List ℕ) (store now : Store) (file : List ℕ) → ArePut p folder ((Base 0) ∷ []) (Some store) (Some now) → now (job_path folder (Base 0)) ≡ Some file → IsJobFile p (Base 0) file
 one_put_stands p folder store now file put stands =
-    let is : now ≡ put_at (job_path folder Base) put.0 store = cc in
-    let there : now (job_path folder Base) ≡ Some put.0 = ap (λ (s : Store). s (job_path folder Base)) is ∙ put_stands (job_path folder Base) put.0 store in
-    subst (IsJobFile p Base) (one_some (now (job_path folder Base)) put.0 file there stands) put.1
+    let is : now ≡ put_at (job_path folder (Base 0)) put.0 store = cc in
+    let there : now (job_path folder (Base 0)) ≡ Some put.0 = ap (λ (s : Store). s (job_path folder (Base 0))) is ∙ put_stands (job_path folder (Base 0)) put.0 store in
+    subst (IsJobFile p (Base 0)) (one_some (now (job_path folder (Base 0))) put.0 file there stands) put.1
 
-fate_is_found : OneFate → OneFile → (p : AskedOf) (folder : List ℕ) (store now : Store) (path stream file : List ℕ) (answer : Answer) (fates : List (Option Fate)) → ArePut p folder (Base ∷ []) (Some store) (Some now)
-    → now path ≡ Some stream → now (job_path folder Base) ≡ Some file → IsFate file stream most_stream (Found answer) → AreFates p now (Base ∷ []) (path ∷ []) fates → fates ≡ Some (Found answer) ∷ []
+fate_is_found : OneFate → OneFile → (p : AskedOf) (folder : List ℕ) (store now : Store) (path stream file : List ℕ) (answer : Answer) (fates : List (Option Fate)) → ArePut p folder ((Base 0) ∷ []) (Some store) (Some now)
+    → now path ≡ Some stream → now (job_path folder (Base 0)) ≡ Some file → IsFate file stream most_stream (Found answer) → AreFates p now ((Base 0) ∷ []) (path ∷ []) fates → fates ≡ Some (Found answer) ∷ []
 fate_is_found one_fate one_file p folder store now path stream file answer [] put has stands valid fates_are = absurd fates_are
 fate_is_found one_fate one_file p folder store now path stream file answer (None ∷ fates) put has stands valid fates_are = absurd fates_are
 fate_is_found one_fate one_file p folder store now path stream file answer (Some fate ∷ fates) put has stands valid fates_are =
     let told = fates_are.0 in
     let same_stream : told.0 ≡ stream = one_some (now path) told.0 stream told.2 has in
-    let same_file : told.1 ≡ file = one_file p Base told.1 file told.3 (one_put_stands p folder store now file put stands) in
+    let same_file : told.1 ≡ file = one_file p (Base 0) told.1 file told.3 (one_put_stands p folder store now file put stands) in
     let here : IsFate file stream most_stream fate = subst (λ s. IsFate file s most_stream fate) same_stream (subst (λ f. IsFate f told.0 most_stream fate) same_file told.4) in
     let is : fate ≡ Found answer = one_fate file stream most_stream fate (Found answer) here valid in
     let none : fates ≡ [] = fates_are.1 in
@@ -65,13 +65,13 @@ fate_is_found one_fate one_file p folder store now path stream file answer (Some
 
 -- the streams' fates give the status of the one certificate
 judged_gives : OneFate → OneFile → (store now : Store) (request : Request) (early : Option Early) (status : Status) (path stream file : List ℕ) (answer : Answer) → request.mode ≡ Bmc
-    → request.streams ≡ path ∷ [] → now path ≡ Some stream → now (job_path request.folder Base) ≡ Some file → IsFate file stream most_stream (Found answer)
+    → request.streams ≡ path ∷ [] → now path ≡ Some stream → now (job_path request.folder (Base 0)) ≡ Some file → IsFate file stream most_stream (Found answer)
     → IsJudgedStatus store now request early status → status ≡ status_for answer
 judged_gives one_fate one_file store now request early status path stream file answer bmc streams has stands valid judged =
     let p = judged.0 in
-    let jobs : jobs_in p ≡ Base ∷ [] = one_job_in p (accepted_mode (Some store) request p bmc judged.2) in
-    let put : ArePut p request.folder (Base ∷ []) (Some store) (Some now) = subst (λ js. ArePut p request.folder js (Some store) (Some now)) jobs judged.4 in
-    let fates : AreFates p now (Base ∷ []) (path ∷ []) judged.1 = subst (λ js. AreFates p now js (path ∷ []) judged.1) jobs (subst (λ ps. AreFates p now (jobs_in p) ps judged.1) streams judged.5) in
+    let jobs : jobs_in p ≡ (Base 0) ∷ [] = one_job_in p (accepted_mode (Some store) request p bmc judged.2) in
+    let put : ArePut p request.folder ((Base 0) ∷ []) (Some store) (Some now) = subst (λ js. ArePut p request.folder js (Some store) (Some now)) jobs judged.4 in
+    let fates : AreFates p now ((Base 0) ∷ []) (path ∷ []) judged.1 = subst (λ js. AreFates p now js (path ∷ []) judged.1) jobs (subst (λ ps. AreFates p now (jobs_in p) ps judged.1) streams judged.5) in
     let found : judged.1 ≡ Some (Found answer) ∷ [] = fate_is_found one_fate one_file p request.folder store now path stream file answer judged.1 put has stands valid fates in
     let s : IsStatusOf Bmc (map fate_answer judged.1) (map fate_event judged.1) status = subst (λ m. IsStatusOf m (map fate_answer judged.1) (map fate_event judged.1) status) bmc judged.7 in
     answer_gives answer status (subst (λ fs. IsStatusOf Bmc (map fate_answer fs) (map fate_event fs) status) found s)
@@ -79,7 +79,7 @@ judged_gives one_fate one_file store now request early status path stream file a
 -- a task that came to its lane has the verdict of its one certificate
 pub gives : OneFate → OneFile → (before after : World) (request : Request) (end : TaskEnd) (exit : Exit) (store now : Store) (path stream file : List ℕ) (answer : Answer)
     → TaskRan before after request end exit → before.told ≡ Some store → after.told ≡ Some now → request.mode ≡ Bmc → end.early ≡ None → end.status ≢ Memory
-    → request.streams ≡ path ∷ [] → now path ≡ Some stream → now (job_path request.folder Base) ≡ Some file → IsFate file stream most_stream (Found answer) → end.status ≡ status_for answer
+    → request.streams ≡ path ∷ [] → now path ≡ Some stream → now (job_path request.folder (Base 0)) ≡ Some file → IsFate file stream most_stream (Found answer) → end.status ≡ status_for answer
 gives one_fate one_file before after request end exit store now path stream file answer ran told_before told_after bmc early apart streams has stands valid = elim ran.named.status [
   | inl is ↦
       let came : Came request (Some store) (Some now) before.file_faults after.file_faults after.blamed None end.text.items end.reports.items =
@@ -101,7 +101,7 @@ comes_to_lane before after request end exit store now text ran smooth told_befor
   | inl refused ↦ absurd (accepted refused.0 (subst (λ t. IsProblemFault (problem_of request t) refused.0) (one_text store request.design most_design refused.1.0 text refused.1.1 got) refused.1.2))
   | inr others ↦ elim others [
     | inl many ↦
-        let jobs : jobs_in many.0 ≡ Base ∷ [] = one_job_in many.0 (accepted_mode (Some store) request many.0 bmc many.1) in
+        let jobs : jobs_in many.0 ≡ (Base 0) ∷ [] = one_job_in many.0 (accepted_mode (Some store) request many.0 bmc many.1) in
         let a : length (jobs_in many.0) ≡ 1 = ap length jobs in absurd (omega (arith, a, few, many.2))
     | inr judged ↦ judged.6
   ]

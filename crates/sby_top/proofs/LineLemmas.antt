@@ -36,15 +36,15 @@ use Rattle.sby_top.proofs.StatusLemmas.{one_answer_decides, timeout_event, verdi
 -- the lines of one job, and those of its run
 abbrev pub job_lines : List ℕ → ℕ → JobEnd FindingOf → List (List ℕ) → List (List ℕ)
 job_lines name lane end shown =
-    settled_lines name (Base ∷ []) (end ∷ []) ++ unless_decided (verdict_of (answer_of end)) (lane_lines name lane (Base ∷ []) (end ∷ [])) ++ shown
+    settled_lines name ((Base 0) ∷ []) (end ∷ []) ++ unless_decided (verdict_of (answer_of end)) (lane_lines name lane ((Base 0) ∷ []) (end ∷ [])) ++ shown
 
 found_lines : (name : List ℕ) (shown : List (List ℕ)) (f : FindingOf) (answer : Answer) → f.answer ≡ answer
-    → (settled_line name Base (Some f.answer) ++ []) ++ shown ≡ (settled_line name Base (Some f.answer) ++ []) ++ unless_decided (verdict_of (Some f.answer)) [] ++ shown
+    → (settled_line name (Base 0) (Some f.answer) ++ []) ++ shown ≡ (settled_line name (Base 0) (Some f.answer) ++ []) ++ unless_decided (verdict_of (Some f.answer)) [] ++ shown
 found_lines name shown f Sat is = rw is refl
 found_lines name shown f Unsat is = rw is refl
 
 one_job : (name : List ℕ) (lane : ℕ) (end : JobEnd FindingOf) (shown : List (List ℕ))
-    → (settled_line name Base (answer_of end) ++ lane_line name lane Base (end_text end)) ++ shown ≡ job_lines name lane end shown
+    → (settled_line name (Base 0) (answer_of end) ++ lane_line name lane (Base 0) (end_text end)) ++ shown ≡ job_lines name lane end shown
 one_job name lane (Found f) shown = found_lines name shown f f.answer refl
 one_job name lane Unknown shown = refl
 one_job name lane NotServed shown = refl
@@ -58,7 +58,7 @@ one_job name lane (Stopped reading) shown = refl
 one_job name lane MemoryEnd shown = refl
 
 -- a finding that is Sat carries a run, one that is Unsat doesn't
-found_verdict : (p : AskedOf) (name : List ℕ) (f : FindingOf) (run : Option (List CycleOf)) (answer : Answer) (shown : List (List ℕ)) → IsProblem p → IsFindingOf p Base f → f.run ≡ run → f.answer ≡ answer
+found_verdict : (p : AskedOf) (name : List ℕ) (f : FindingOf) (run : Option (List CycleOf)) (answer : Answer) (shown : List (List ℕ)) → IsProblem p → IsFindingOf p (Base 0) f → f.run ≡ run → f.answer ≡ answer
     → HasShownLines p.design name run shown → HasVerdictLines p.design name (Found f ∷ []) (verdict_of (Some answer)) shown
 found_verdict p name f (Some run) Sat shown problem of carries is has = (run, (0, f, refl, refl, carries), has)
 found_verdict p name f None Unsat shown problem of carries is has = has
@@ -67,7 +67,7 @@ found_verdict p name f None Sat shown problem of carries is has =
     absurd (subst (RunShows p.design p.problem.depth) carries shows)
 found_verdict p name f (Some run) Unsat shown problem of carries is has = let none : f.run ≡ None = (finding_claims p f Unsat of is p.design problem.reads).1 in cc
 
-end_verdict : (p : AskedOf) (name : List ℕ) (end : JobEnd FindingOf) (shown : List (List ℕ)) → IsProblem p → IsLined p Base end → HasEndLines p.design name end shown
+end_verdict : (p : AskedOf) (name : List ℕ) (end : JobEnd FindingOf) (shown : List (List ℕ)) → IsProblem p → IsLined p (Base 0) end → HasEndLines p.design name end shown
     → HasVerdictLines p.design name (end ∷ []) (verdict_of (answer_of end)) shown
 end_verdict p name (Found f) shown problem lined has = found_verdict p name f f.run f.answer shown problem lined refl refl has
 end_verdict p name Unknown shown problem lined has = has
@@ -81,7 +81,7 @@ end_verdict p name (CalledOff f) shown problem lined has = has
 end_verdict p name (Stopped reading) shown problem lined has = has
 end_verdict p name MemoryEnd shown problem lined has = has
 
-body_of_end : (p : AskedOf) (name : List ℕ) (lane : ℕ) (end : JobEnd FindingOf) (shown : List (List ℕ)) → IsProblem p → IsLined p Base end → HasEndLines p.design name end shown
+body_of_end : (p : AskedOf) (name : List ℕ) (lane : ℕ) (end : JobEnd FindingOf) (shown : List (List ℕ)) → IsProblem p → IsLined p (Base 0) end → HasEndLines p.design name end shown
     → HasBody Bmc name p.problem.text None (record { lane = lane; jobs = 1; ends = end ∷ []; events = [] } ∷ []) (one_job_body name (counts_of p.design) lane end ++ shown)
 body_of_end p name lane end shown problem lined has = (
   p.design,
@@ -95,7 +95,7 @@ body_of_end p name lane end shown problem lined has = (
 
 -- the lines before the last of a task with one job
 pub one_job_has_body : (mode : Mode) (p : AskedOf) (name : List ℕ) (report : ReportOf FindingOf) (end : JobEnd FindingOf) (shown : List (List ℕ)) → mode ≡ Bmc → report.ends ≡ end ∷ []
-    → IsProblem p → IsLined p Base end → HasEndLines p.design name end shown → HasBody mode name p.problem.text None (report ∷ []) (one_job_body name (counts_of p.design) report.lane end ++ shown)
+    → IsProblem p → IsLined p (Base 0) end → HasEndLines p.design name end shown → HasBody mode name p.problem.text None (report ∷ []) (one_job_body name (counts_of p.design) report.lane end ++ shown)
 one_job_has_body mode p name report end shown is ends problem lined has =
     let body : HasBody Bmc name p.problem.text None (record report { ends = end ∷ [] } ∷ []) (one_job_body name (counts_of p.design) report.lane end ++ shown) =
     body_of_end p name report.lane end shown problem lined has in
@@ -130,7 +130,7 @@ status_or_memory mode early reports status (Ok x) decided rc code is ends = let 
 status_or_memory mode early reports status (Err MemoryStop) decided rc code is ends = inr (ap (λ p. p.0) ends)
 status_or_memory mode early reports status (Err Sink) decided rc code is ends = let s : status ≡ decided = ap (λ p. p.0) ends in inl (rw s is)
 
-not_stopped : (p : AskedOf) (end : JobEnd FindingOf) → IsLined p Base end → event_of end ≡ StoppedEvent → ⊥
+not_stopped : (p : AskedOf) (end : JobEnd FindingOf) → IsLined p (Base 0) end → event_of end ≡ StoppedEvent → ⊥
 not_stopped p (Found f) lined is = cc
 not_stopped p Unknown lined is = cc
 not_stopped p NotServed lined is = cc
@@ -144,7 +144,7 @@ not_stopped p (Stopped reading) lined is = absurd lined
 not_stopped p MemoryEnd lined is = cc
 
 -- the status of such an end isn't TIMEOUT
-lined_status : (p : AskedOf) (end : JobEnd FindingOf) (status : Status) → IsLined p Base end → IsStatusOf Bmc (answer_of end ∷ []) (event_of end ∷ []) status → status ≢ Timeout
+lined_status : (p : AskedOf) (end : JobEnd FindingOf) (status : Status) → IsLined p (Base 0) end → IsStatusOf Bmc (answer_of end ∷ []) (event_of end ∷ []) status → status ≢ Timeout
 lined_status p end status lined s =
     λ e. not_stopped p end lined (timeout_event (answer_of end ∷ []) (event_of end) (subst (IsStatusOf Bmc (answer_of end ∷ []) (event_of end ∷ [])) e s))
 
@@ -172,7 +172,7 @@ early_has_lines mode name text early reports status rc is coded = record {
 
 -- the lines of a task with one job
 pub served_has_lines : (mode : Mode) (p : AskedOf) (name : List ℕ) (report : ReportOf FindingOf) (end : JobEnd FindingOf) (shown : List (List ℕ)) (status : Status) (rc : ℕ) → mode ≡ Bmc → report.ends ≡ end ∷ []
-    → IsProblem p → IsLined p Base end → HasEndLines p.design name end shown → IsStatusOf mode (answer_of end ∷ []) (event_of end ∷ []) status → HasCode (Pass ∷ []) status rc
+    → IsProblem p → IsLined p (Base 0) end → HasEndLines p.design name end shown → IsStatusOf mode (answer_of end ∷ []) (event_of end ∷ []) status → HasCode (Pass ∷ []) status rc
     → HasLines mode name p.problem.text None (report ∷ []) (one_job_body name (counts_of p.design) report.lane end ++ (shown ++ done_line name status rc ∷ []))
 served_has_lines mode p name report end shown status rc bmc ends problem lined has is coded = record {
   status = status;
@@ -215,7 +215,7 @@ pub served_printed : {T : Type 0} {d : Option ℕ} (before now : Option (List �
     → IsStatusOf mode (answer_of job ∷ []) (event_of job ∷ []) decided → expect ≡ Pass ∷ [] → HasCode expect decided rc → (end.status, code) ≡ ended told decided rc → IsPrintedAs before now f g d request end code
 served_printed before now f g request end p report job name lane told decided rc code expect mode bmc mode_is folder lane_is is reports ends_are text_is problem lined tells decides pass coded ends =
     let coded_pass : HasCode (Pass ∷ []) decided rc = subst (λ e. HasCode e decided rc) pass coded in
-    let one_lined : IsLined p Base job = (subst (AreLined p) ends_are lined).0 in
+    let one_lined : IsLined p (Base 0) job = (subst (AreLined p) ends_are lined).0 in
     let shown = end_lines p name job problem one_lined in
     let lines : List (List ℕ) = served_lines p name lane job shown.0 decided rc in
     let decides_here : IsStatusOf request.mode (answer_of job ∷ []) (event_of job ∷ []) decided = subst (λ m. IsStatusOf m (answer_of job ∷ []) (event_of job ∷ []) decided) mode_is decides in

@@ -52,10 +52,10 @@ has_some (Some x) P h = (x, refl, h)
 
 -- the fates of one job's streams
 abbrev OneFate : AskedOf → Store → List (List ℕ) → JobEnd FindingOf → Type 0
-OneFate p now paths end = (fate : Option Fate) × AreFates p now (Base ∷ []) paths (fate ∷ []) × SpeaksAs end fate
+OneFate p now paths end = (fate : Option Fate) × AreFates p now ((Base 0) ∷ []) paths (fate ∷ []) × SpeaksAs end fate
 
-one_fate : (p : AskedOf) (now : Store) (paths : List (List ℕ)) (end : JobEnd FindingOf) (file : List ℕ) → IsJobFile p Base file → length paths ≤ 1 → end ≢ MemoryEnd
-    → AreJudged p (Some now) (Base ∷ []) paths (end ∷ []) → OneFate p now paths end
+one_fate : (p : AskedOf) (now : Store) (paths : List (List ℕ)) (end : JobEnd FindingOf) (file : List ℕ) → IsJobFile p (Base 0) file → length paths ≤ 1 → end ≢ MemoryEnd
+    → AreJudged p (Some now) ((Base 0) ∷ []) paths (end ∷ []) → OneFate p now paths end
 one_fate p now [] end file is few apart judged = (None, refl, rw judged.0 (record { answer = refl; event = refl }))
 one_fate p now (path ∷ []) end file is few apart judged =
     let at = has_some (now path) (λ stream. IsFateEnd file stream end) (judged.0.fate file is) in
@@ -63,7 +63,7 @@ one_fate p now (path ∷ []) end file is few apart judged =
     (Some fate.0, ((at.0, file, at.1, is, fate.1), refl), fate.2)
 one_fate p now (path ∷ other ∷ paths) end file is few apart judged = absurd (omega (arith, few))
 
-pub one_end : (p : AskedOf) (now : Option Store) (paths : List (List ℕ)) (ends : List (JobEnd FindingOf)) → length paths ≤ 1 → AreJudged p now (Base ∷ []) paths ends → (end : JobEnd FindingOf) × (ends ≡ end ∷ [])
+pub one_end : (p : AskedOf) (now : Option Store) (paths : List (List ℕ)) (ends : List (JobEnd FindingOf)) → length paths ≤ 1 → AreJudged p now ((Base 0) ∷ []) paths ends → (end : JobEnd FindingOf) × (ends ≡ end ∷ [])
 one_end p now paths [] few judged = absurd judged
 one_end p now [] (end ∷ ends) few judged = (end, ap (λ es. end ∷ es) judged.1)
 one_end p now (path ∷ []) (end ∷ ends) few judged = (end, ap (λ es. end ∷ es) judged.1)
@@ -85,16 +85,16 @@ pub done_judged : (request : Request) (store now : Store) (text : List ℕ) (rep
 done_judged request store now text report status mode apart is done =
     let p = done.0 in
     let bmc : p.problem.mode ≡ Bmc = accepted_mode (Some store) request p mode done.1.0 in
-    let jobs : jobs_in p ≡ Base ∷ [] = one_job_in p bmc in
+    let jobs : jobs_in p ≡ (Base 0) ∷ [] = one_job_in p bmc in
     let few : length request.streams ≤ 1 = rw (← ap length jobs) done.1.1 in
-    let judged : AreJudged p (Some now) (Base ∷ []) request.streams report.ends = subst (λ js. AreJudged p (Some now) js request.streams report.ends) jobs done.4.ends in
+    let judged : AreJudged p (Some now) ((Base 0) ∷ []) request.streams report.ends = subst (λ js. AreJudged p (Some now) js request.streams report.ends) jobs done.4.ends in
     let end = one_end p (Some now) request.streams report.ends few judged in
-    let put : ArePut p request.folder (Base ∷ []) (Some store) (Some now) = subst (λ js. ArePut p request.folder js (Some store) (Some now)) jobs done.3 in
+    let put : ArePut p request.folder ((Base 0) ∷ []) (Some store) (Some now) = subst (λ js. ArePut p request.folder js (Some store) (Some now)) jobs done.3 in
     let status_is : IsStatusOf Bmc (answer_of end.0 ∷ []) (event_of end.0 ∷ []) status =
     subst (λ m. IsStatusOf m (answer_of end.0 ∷ []) (event_of end.0 ∷ []) status) mode
     (subst (λ es. IsStatusOf request.mode (map answer_of es) (map event_of es) status) end.1 is) in
     let fate = one_fate p now request.streams end.0 put.0 put.1 few (not_memory end.0 status apart status_is)
-    (subst (AreJudged p (Some now) (Base ∷ []) request.streams) end.1 judged) in (
+    (subst (AreJudged p (Some now) ((Base 0) ∷ []) request.streams) end.1 judged) in (
       p,
       fate.0 ∷ [],
       done.1.0,

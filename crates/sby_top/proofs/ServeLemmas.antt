@@ -38,10 +38,10 @@ got_from None path most (Long v) fits h = omega (arith, fits)
 got_from (Some store) path most got fits h = got_at (store path) most got h
 
 -- the jobs of bmc
-pub one_job_in : (p : AskedOf) → p.problem.mode ≡ Bmc → jobs_in p ≡ Base ∷ []
+pub one_job_in : (p : AskedOf) → p.problem.mode ≡ Bmc → jobs_in p ≡ (Base 0) ∷ []
 one_job_in p is = ap (λ m. jobs_of m p.design) is
 
-pub has_base : (p : AskedOf) → p.problem.mode ≡ Bmc → IsJob p Base
+pub has_base : (p : AskedOf) → p.problem.mode ≡ Bmc → IsJob p (Base 0)
 has_base p is = (0, rw (one_job_in p is) refl)
 
 pub accepted_mode : (told : Option Store) (request : Request) (p : AskedOf) → request.mode ≡ Bmc → IsAccepted told request p → p.problem.mode ≡ Bmc
@@ -91,9 +91,9 @@ text_refused b request before after f g Streams text got h same still = absurd h
 
 -- the job's file couldn't be put
 pub file_not_put : (b : Option (List ℕ)) (request : Request) (before after : Option Store) (f g : ℕ) (early : Early) (p : AskedOf) → IsAskable request → IsServed before request p
-    → IsFailedCall f g b (job_path request.folder Base) early → after ≡ before → HasReason request before after f g b early
+    → IsFailedCall f g b (job_path request.folder (Base 0)) early → after ≡ before → HasReason request before after f g b early
 file_not_put b request before after f g (File path) p askable served h same =
-    (h.1, blamed_at _ _ _ h.0 h.2, inr (inl (p, 0, Base, served, rw (one_job_in p (accepted_mode before request p askable.mode served.0)) refl, h.0, same)))
+    (h.1, blamed_at _ _ _ h.0 h.2, inr (inl (p, 0, (Base 0), served, rw (one_job_in p (accepted_mode before request p askable.mode served.0)) refl, h.0, same)))
 file_not_put b request before after f g Memory p askable served h same = tt
 file_not_put b request before after f g (Read x) p askable served h same = absurd h
 file_not_put b request before after f g (Design x) p askable served h same = absurd h
@@ -101,11 +101,11 @@ file_not_put b request before after f g (TooMany job) p askable served h same = 
 file_not_put b request before after f g Streams p askable served h same = absurd h
 
 -- the file of the one job was put
-pub one_put : (request : Request) (before after : Option Store) (p : AskedOf) (file : List ℕ) → p.problem.mode ≡ Bmc → IsJobFile p Base file → after ≡ with_file request.folder Base file before
+pub one_put : (request : Request) (before after : Option Store) (p : AskedOf) (file : List ℕ) → p.problem.mode ≡ Bmc → IsJobFile p (Base 0) file → after ≡ with_file request.folder (Base 0) file before
     → ArePut p request.folder (jobs_in p) before after
 one_put request before after p file bmc is put = rw (one_job_in p bmc) (file, is, put)
 
-pub one_put_first : (request : Request) (before after : Option Store) (p : AskedOf) (file : List ℕ) → p.problem.mode ≡ Bmc → IsJobFile p Base file → after ≡ with_file request.folder Base file before
+pub one_put_first : (request : Request) (before after : Option Store) (p : AskedOf) (file : List ℕ) → p.problem.mode ≡ Bmc → IsJobFile p (Base 0) file → after ≡ with_file request.folder (Base 0) file before
     → ArePut p request.folder (take 1 (jobs_in p)) before after
 one_put_first request before after p file bmc is put = rw (one_job_in p bmc) (file, is, put)
 
@@ -134,14 +134,14 @@ has_from None path bytes P got each = (bytes, each bytes (sym (take_all (most_st
 has_from (Some store) path bytes P got each = rw got.1 (each got.0 got.2)
 
 -- the one job's stream was judged
-pub one_judged : (p : AskedOf) (told : Option Store) (paths : List (List ℕ)) (stream : Option (List ℕ)) (end : JobEnd FindingOf) → IsFirstGot told paths stream → IsStreamJudged p Base stream end
-    → AreJudged p told (Base ∷ []) paths (end ∷ [])
+pub one_judged : (p : AskedOf) (told : Option Store) (paths : List (List ℕ)) (stream : Option (List ℕ)) (end : JobEnd FindingOf) → IsFirstGot told paths stream → IsStreamJudged p (Base 0) stream end
+    → AreJudged p told ((Base 0) ∷ []) paths (end ∷ [])
 one_judged p told [] None end got judged = (judged, refl)
 one_judged p told (path ∷ paths) (Some bytes) end got judged = (
   record {
     of = judged.of;
     fate = λ file is. has_from told path bytes (λ s. IsFateEnd file s end) got (λ content cut. judged.fate file content is cut);
-    run = has_from told path bytes (λ s. EndsWithRun p Base s end) got (λ content cut. judged.run content cut);
+    run = has_from told path bytes (λ s. EndsWithRun p (Base 0) s end) got (λ content cut. judged.run content cut);
   },
   refl,
 )
@@ -153,7 +153,7 @@ abbrev pub empty_report : ReportOf FindingOf
 empty_report = record { lane = 0; jobs = 1; ends = []; events = replicate 1 no_events }
 
 pub is_report : (p : AskedOf) (told : Option Store) (paths : List (List ℕ)) (report old : ReportOf FindingOf) (end : JobEnd FindingOf) → p.problem.mode ≡ Bmc → old ≡ empty_report
-    → report ≡ record old { ends = old.ends ++ end ∷ [] } → AreJudged p told (Base ∷ []) paths (end ∷ []) → IsReport p told paths report
+    → report ≡ record old { ends = old.ends ++ end ∷ [] } → AreJudged p told ((Base 0) ∷ []) paths (end ∷ []) → IsReport p told paths report
 is_report p told paths report old end bmc empty is judged =
     let one : report ≡ record empty_report { ends = end ∷ [] } = is ∙ ap {A = ReportOf FindingOf} (λ r. record r { ends = r.ends ++ end ∷ [] }) empty in
     rw one (record {
@@ -182,34 +182,34 @@ stream_lined p job (Some bytes) end judged = judged_lined p job end judged.of
 
 -- the one end has lines
 pub report_lined : (p : AskedOf) (stream : Option (List ℕ)) (report old : ReportOf FindingOf) (end : JobEnd FindingOf) → old ≡ empty_report → report ≡ record old { ends = old.ends ++ end ∷ [] }
-    → IsStreamJudged p Base stream end → AreLined p report.ends
+    → IsStreamJudged p (Base 0) stream end → AreLined p report.ends
 report_lined p stream report old end empty is judged =
     let one : report ≡ record empty_report { ends = end ∷ [] } = is ∙ ap {A = ReportOf FindingOf} (λ r. record r { ends = r.ends ++ end ∷ [] }) empty in
-    rw one (stream_lined p Base stream end judged, tt)
+    rw one (stream_lined p (Base 0) stream end judged, tt)
 
 -- a file was put
 abbrev pub OnePut : AskedOf → List ℕ → Option Store → Option Store → Type 0
-OnePut p folder before after = (file : List ℕ) × IsJobFile p Base file × (after ≡ with_file folder Base file before)
+OnePut p folder before after = (file : List ℕ) × IsJobFile p (Base 0) file × (after ≡ with_file folder (Base 0) file before)
 
 -- the job was done
 pub is_done : (request : Request) (before mid after : Option Store) (p : AskedOf) (text folder : List ℕ) (paths : List (List ℕ)) (stream : Option (List ℕ)) (end : JobEnd FindingOf) (report old : ReportOf FindingOf)
     → IsAskable request → IsServed before request p → text ≡ p.problem.text → folder ≡ request.folder → paths ≡ request.streams → OnePut p folder before mid → after ≡ mid
-    → IsFirstGot mid paths stream → IsStreamJudged p Base stream end → old ≡ empty_report → report ≡ record old { ends = old.ends ++ end ∷ [] } → IsDone request before after text report
+    → IsFirstGot mid paths stream → IsStreamJudged p (Base 0) stream end → old ≡ empty_report → report ≡ record old { ends = old.ends ++ end ∷ [] } → IsDone request before after text report
 is_done request before mid after p text folder paths stream end report old askable served is folder_is paths_are put same got judged empty is_report_of =
     let bmc = accepted_mode before request p askable.mode served.0 in (
       p,
       served,
       is,
-      one_put request before after p put.0 bmc put.1 (same ∙ put.2 ∙ ap (λ f. with_file f Base put.0 before) folder_is),
+      one_put request before after p put.0 bmc put.1 (same ∙ put.2 ∙ ap (λ f. with_file f (Base 0) put.0 before) folder_is),
       is_report p after request.streams report old end bmc empty is_report_of
-          (subst (λ t. AreJudged p t (Base ∷ []) request.streams (end ∷ [])) (sym same) (subst (λ ps. AreJudged p mid (Base ∷ []) ps (end ∷ [])) paths_are (one_judged p mid paths stream end got judged))),
+          (subst (λ t. AreJudged p t ((Base 0) ∷ []) request.streams (end ∷ [])) (sym same) (subst (λ ps. AreJudged p mid ((Base 0) ∷ []) ps (end ∷ [])) paths_are (one_judged p mid paths stream end got judged))),
     )
 
 -- what was put
 pub is_stored : (request : Request) (before mid after : Option Store) (p : AskedOf) (folder : List ℕ) → IsAskable request → IsServed before request p → folder ≡ request.folder → OnePut p folder before mid
     → after ≡ mid → IsStored request before after
 is_stored request before mid after p folder askable served folder_is put same =
-    inr (p, 1, served, one_put_first request before after p put.0 (accepted_mode before request p askable.mode served.0) put.1 (same ∙ put.2 ∙ ap (λ f. with_file f Base put.0 before) folder_is))
+    inr (p, 1, served, one_put_first request before after p put.0 (accepted_mode before request p askable.mode served.0) put.1 (same ∙ put.2 ∙ ap (λ f. with_file f (Base 0) put.0 before) folder_is))
 
 -- the stream of a task couldn't be got
 pub no_stream : (b : Option (List ℕ)) (request : Request) (before mid after : Option Store) (f g h : ℕ) (early : Early) (p : AskedOf) (folder : List ℕ) (paths : List (List ℕ)) → IsAskable request → IsServed before request p
@@ -217,13 +217,13 @@ pub no_stream : (b : Option (List ℕ)) (request : Request) (before mid after : 
     → ((path : List ℕ) × Contains paths path × IsFailedCall g h b path early) → HasReason request before after f h b early
 no_stream b request before mid after f g h early p folder paths askable served folder_is paths_are put same later failed =
     stream_not_got _ request before after f h early p failed.0 served (subst (λ ps. Contains ps failed.0) paths_are failed.1) (failed_since _ f g h failed.0 early later failed.2)
-    (one_put request before after p put.0 (accepted_mode before request p askable.mode served.0) put.1 (same ∙ put.2 ∙ ap (λ x. with_file x Base put.0 before) folder_is))
+    (one_put request before after p put.0 (accepted_mode before request p askable.mode served.0) put.1 (same ∙ put.2 ∙ ap (λ x. with_file x (Base 0) put.0 before) folder_is))
 
 -- the job's file of a task couldn't be put
 pub no_file : (b : Option (List ℕ)) (request : Request) (before after : Option Store) (f g : ℕ) (early : Early) (p : AskedOf) (folder : List ℕ) → IsAskable request → IsServed before request p
-    → folder ≡ request.folder → IsFailedCall f g b (job_path folder Base) early → after ≡ before → HasReason request before after f g b early
+    → folder ≡ request.folder → IsFailedCall f g b (job_path folder (Base 0)) early → after ≡ before → HasReason request before after f g b early
 no_file b request before after f g early p folder askable served folder_is failed same =
-    file_not_put _ request before after f g early p askable served (subst (λ x. IsFailedCall f g b (job_path x Base) early) folder_is failed) same
+    file_not_put _ request before after f g early p askable served (subst (λ x. IsFailedCall f g b (job_path x (Base 0)) early) folder_is failed) same
 
 -- a reason since a later moment is one since an earlier one with the same count
 pub reason_since : (b : Option (List ℕ)) (request : Request) (before after : Option Store) (f g h : ℕ) (early : Early) → g ≡ f → HasReason request before after g h b early → HasReason request before after f h b early

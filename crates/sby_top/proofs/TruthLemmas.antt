@@ -39,7 +39,7 @@ use Rattle.sby_top.proofs.ServeLemmas.{accepted_mode, one_job_in}
 use Rattle.sby_top.proofs.StatusLemmas.{fail_answer, pass_answer, sat_decides}
 
 -- an end with an answer is a finding
-found_of : (p : AskedOf) (end : JobEnd FindingOf) (answer : Answer) → IsEndOf p Base end → answer_of end ≡ Some answer → (f : FindingOf) × (end ≡ Found f) × IsFindingOf p Base f × (f.answer ≡ answer)
+found_of : (p : AskedOf) (end : JobEnd FindingOf) (answer : Answer) → IsEndOf p (Base 0) end → answer_of end ≡ Some answer → (f : FindingOf) × (end ≡ Found f) × IsFindingOf p (Base 0) f × (f.answer ≡ answer)
 found_of p (Found f) answer of is = let e : f.answer ≡ answer = cc in (f, refl, of, e)
 found_of p Unknown answer of is = cc
 found_of p NotServed answer of is = cc
@@ -53,7 +53,7 @@ found_of p (Stopped reading) answer of is = cc
 found_of p MemoryEnd answer of is = cc
 
 -- the one job's end, where it isn't that it has no stream
-one_is_of : (p : AskedOf) (told : Option Store) (paths : List (List ℕ)) (end : JobEnd FindingOf) (answer : Answer) → AreJudged p told (Base ∷ []) paths (end ∷ []) → answer_of end ≡ Some answer → IsEndOf p Base end
+one_is_of : (p : AskedOf) (told : Option Store) (paths : List (List ℕ)) (end : JobEnd FindingOf) (answer : Answer) → AreJudged p told ((Base 0) ∷ []) paths (end ∷ []) → answer_of end ≡ Some answer → IsEndOf p (Base 0) end
 one_is_of p told [] end answer judged is = let none : answer_of end ≡ None = ap answer_of judged.0 in cc
 one_is_of p told (path ∷ paths) end answer judged is = judged.0.of
 
@@ -64,11 +64,11 @@ record IsAnswered (request : Request) (told : Option Store) (text : List ℕ) (r
   text_is : text ≡ p.problem.text
   finding : FindingOf
   ends : report.ends ≡ Found finding ∷ []
-  of : IsFindingOf p Base finding
+  of : IsFindingOf p (Base 0) finding
   answers : finding.answer ≡ answer
 
 answered_by : (request : Request) (told : Option Store) (text : List ℕ) (report : ReportOf FindingOf) (answer : Answer) (p : AskedOf) (end : JobEnd FindingOf) → IsAccepted told request p → text ≡ p.problem.text
-    → report.ends ≡ end ∷ [] → IsEndOf p Base end → answer_of end ≡ Some answer → IsAnswered request told text report answer
+    → report.ends ≡ end ∷ [] → IsEndOf p (Base 0) end → answer_of end ≡ Some answer → IsAnswered request told text report answer
 answered_by request told text report answer p end accepted is ends of answered =
     let found = found_of p end answer of answered in
     record { p = p; accepted = accepted; text_is = is; finding = found.0; ends = subst (λ (e : JobEnd FindingOf). report.ends ≡ e ∷ []) found.1 ends; of = found.2; answers = found.3 }
@@ -77,12 +77,12 @@ done_answered : (request : Request) (before after : Option Store) (text : List �
     → ((end : JobEnd FindingOf) → report.ends ≡ end ∷ [] → answer_of end ≡ Some answer) → IsAnswered request before text report answer
 done_answered request before after text report answer askable done answers =
     let p = done.0 in
-    let jobs : jobs_in p ≡ Base ∷ [] = one_job_in p (accepted_mode before request p askable.mode done.1.0) in
+    let jobs : jobs_in p ≡ (Base 0) ∷ [] = one_job_in p (accepted_mode before request p askable.mode done.1.0) in
     let few : length request.streams ≤ 1 = rw (← ap length jobs) done.1.1 in
-    let judged : AreJudged p after (Base ∷ []) request.streams report.ends = subst (λ js. AreJudged p after js request.streams report.ends) jobs done.4.ends in
+    let judged : AreJudged p after ((Base 0) ∷ []) request.streams report.ends = subst (λ js. AreJudged p after js request.streams report.ends) jobs done.4.ends in
     let end = one_end p after request.streams report.ends few judged in
     let answered : answer_of end.0 ≡ Some answer = answers end.0 end.1 in
-    let of : IsEndOf p Base end.0 = one_is_of p after request.streams end.0 answer (subst (AreJudged p after (Base ∷ []) request.streams) end.1 judged) answered in
+    let of : IsEndOf p (Base 0) end.0 = one_is_of p after request.streams end.0 answer (subst (AreJudged p after ((Base 0) ∷ []) request.streams) end.1 judged) answered in
     answered_by request before text report answer p end.0 done.1.0 done.2 end.1 of answered
 
 -- what is said of the design of the problem
@@ -93,7 +93,7 @@ says_truly request told text p claim accepted is said =
 
 -- ---- the run of a task that fails
 
-one_run : (d : DesignOf) (f : FindingOf) (x y : List CycleOf) → f.run ≡ Some x → CarriesRun (Base ∷ []) (Found f ∷ []) y → y ≡ x
+one_run : (d : DesignOf) (f : FindingOf) (x y : List CycleOf) → f.run ≡ Some x → CarriesRun ((Base 0) ∷ []) (Found f ∷ []) y → y ≡ x
 one_run d f x y carries (zero, g, at, is, run) =
     let same : f ≡ g = cc in
     let e : Some y ≡ Some x = sym run ∙ ap (λ (h : FindingOf). h.run) (sym same) ∙ carries in cc
@@ -148,7 +148,7 @@ shows_run request end p report f run bmc early reports text problem ends sat car
     }
 
 -- a finding that is Sat carries a run
-carries_run : (p : AskedOf) (f : FindingOf) (run : Option (List CycleOf)) → IsProblem p → IsFindingOf p Base f → f.answer ≡ Sat → f.run ≡ run → (shown : List CycleOf) × (f.run ≡ Some shown)
+carries_run : (p : AskedOf) (f : FindingOf) (run : Option (List CycleOf)) → IsProblem p → IsFindingOf p (Base 0) f → f.answer ≡ Sat → f.run ≡ run → (shown : List CycleOf) × (f.run ≡ Some shown)
 carries_run p f (Some run) problem of sat is = (run, is)
 carries_run p f None problem of sat is =
     let shows : RunShows p.design p.problem.depth f.run = finding_claims p f Sat of sat p.design problem.reads in absurd (subst (RunShows p.design p.problem.depth) is shows)

@@ -34,7 +34,7 @@ IsBrokenCell d run cell = (a : ℕ) × IsFirstBroken d (last_of d run) a × (sli
 
 -- of these ends of jobs, that of Base is a finding which carries this run
 abbrev pub CarriesRun : List JobName → List (JobEnd FindingOf) → List CycleOf → Type 0
-CarriesRun jobs ends run = (i : ℕ) × (f : FindingOf) × (slice_get jobs i ≡ Some Base) × (slice_get ends i ≡ Some (Found f)) × (f.run ≡ Some run)
+CarriesRun jobs ends run = (i : ℕ) × (f : FindingOf) × (slice_get jobs i ≡ Some (Base 0)) × (slice_get ends i ≡ Some (Found f)) × (f.run ≡ Some run)
 
 -- the line that names an assertion and the number of a run's last cycle
 abbrev pub broken_line : List ℕ → CellOf → List CycleOf → List ℕ

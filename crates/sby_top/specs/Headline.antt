@@ -78,7 +78,7 @@ pub record IsShown (request : Request) (end : TaskEnd) (d : DesignOf) (n : ℕ) 
 -- what FAIL says at depth n: in bmc it shows a run that breaks an assertion, in prove there is one
 abbrev pub FailClaim : Mode → Request → TaskEnd → DesignOf → ℕ → Type 0
 FailClaim Bmc request end d n = IsShown request end d n
-FailClaim Prove request end d n = Solvable d Base n
+FailClaim Prove request end d n = Solvable d (Base 0) n
 FailClaim Cover request end d n = ⊥
 
 -- the text that the design's path gave reads a flat design of which the claim is true

@@ -76,7 +76,7 @@ IsLined p job _ = Unit {0}
 -- of the one job Base
 abbrev pub AreLined : AskedOf → List (JobEnd FindingOf) → Type 0
 AreLined p [] = Unit {0}
-AreLined p (end ∷ ends) = IsLined p Base end × AreLined p ends
+AreLined p (end ∷ ends) = IsLined p (Base 0) end × AreLined p ends
 
 -- a run of this design's lengths, whose last cycle breaks an assertion
 pub record Breaks (d : DesignOf) (run : List CycleOf) : Type 0 where
@@ -120,4 +120,4 @@ IsStreamJudged p job (Some bytes) end = IsBytesJudged p job bytes end
 -- the lines of a design and of its one job Base, which a lane ended so
 abbrev pub one_job_body : List ℕ → Counts → ℕ → JobEnd FindingOf → List (List ℕ)
 one_job_body name counts lane end =
-    line_of name (design_text counts) ∷ (settled_line name Base (answer_of end) ++ lane_line name lane Base (end_text end))
+    line_of name (design_text counts) ∷ (settled_line name (Base 0) (answer_of end) ++ lane_line name lane (Base 0) (end_text end))

@@ -24,7 +24,7 @@ unfoldable pub line_of : List ℕ → List ℕ → List ℕ
 line_of name text = codes "SBY [" ++ name ++ codes "] " ++ text ++ 10 ∷ []
 
 unfoldable pub job_text : JobName → List ℕ
-job_text Base = codes "base"
+job_text (Base j) = codes "base"
 job_text Step = codes "step"
 job_text (Cover k) = codes "cover" ++ decimal k
 

@@ -35,7 +35,7 @@ pub fn accepted_design_is_judged()
 pub fn valid_certificate_gives_its_verdict()
     ensures { (before after : World) (request : Request) (end : TaskEnd) (exit : Exit) (store now : Store) (path stream file : List ℕ) (answer : Answer)
         → TaskRan before after request end exit → before.told ≡ Some store → after.told ≡ Some now → request.mode ≡ Bmc → end.early ≡ None → end.status ≢ Memory
-        → request.streams ≡ path ∷ [] → now path ≡ Some stream → now (job_path request.folder Base) ≡ Some file
+        → request.streams ≡ path ∷ [] → now path ≡ Some stream → now (job_path request.folder (Base 0)) ≡ Some file
         → IsFate file stream most_stream (Found answer) → end.status ≡ status_for answer }
 {
     one_fate();
@@ -48,11 +48,11 @@ pub fn valid_certificate_gives_its_verdict()
 pub fn stored_certificate_gives_its_verdict()
     ensures alone { (before after : World) (request : Request) (end : TaskEnd) (exit : Exit) (store now : Store) (path cert file : List ℕ) (answer : Answer)
         → TaskRan before after request end exit → before.told ≡ Some store → after.told ≡ Some now → request.mode ≡ Bmc → end.early ≡ None → end.status ≢ Memory
-        → request.streams ≡ path ∷ [] → now path ≡ Some cert → now (job_path request.folder Base) ≡ Some file
+        → request.streams ≡ path ∷ [] → now path ≡ Some cert → now (job_path request.folder (Base 0)) ≡ Some file
         → IsCert file cert answer → length cert ≤ most_stream → end.status ≡ status_for answer }
     ensures followed { (before after : World) (request : Request) (end : TaskEnd) (exit : Exit) (store now : Store) (path cert rest file : List ℕ) (b : ℕ) (answer : Answer)
         → TaskRan before after request end exit → before.told ≡ Some store → after.told ≡ Some now → request.mode ≡ Bmc → end.early ≡ None → end.status ≢ Memory
-        → request.streams ≡ path ∷ [] → now path ≡ Some (cert ++ b ∷ rest) → now (job_path request.folder Base) ≡ Some file
+        → request.streams ≡ path ∷ [] → now path ≡ Some (cert ++ b ∷ rest) → now (job_path request.folder (Base 0)) ≡ Some file
         → IsCert file cert answer → (is_blank b ≡ true) ⊎ (b ≡ 10) → length cert < most_stream → end.status ≡ status_for answer }
 {
     one_fate();

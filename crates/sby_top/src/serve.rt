@@ -131,13 +131,13 @@ fn put_job<F: Files>(
     folder: &str,
 ) -> Result<(), Early>
     requires { problem.now.problem.mode ≡ Bmc }
-    ensures ok { OnOk result ((file : List ℕ) × IsJobFile problem.now Base file × (F.told files.new ≡ with_file folder.now Base file (F.told files.old))) }
+    ensures ok { OnOk result ((file : List ℕ) × IsJobFile problem.now (Base 0) file × (F.told files.new ≡ with_file folder.now (Base 0) file (F.told files.old))) }
     ensures err { OnErr result (F.told files.new ≡ F.told files.old) }
-    ensures failed { IfErr result (IsFailedCall (F.faults files.old) (F.faults files.new) (F.blamed files.new) (job_path folder.now Base)) }
+    ensures failed { IfErr result (IsFailedCall (F.faults files.old) (F.faults files.new) (F.blamed files.new) (job_path folder.now (Base 0))) }
     ensures still { OnOk result (F.faults files.new ≡ F.faults files.old) }
     ensures later { F.faults files.old ≤ F.faults files.new }
 {
-    let path = match text::job_path(alloc, folder, JobName::Base) {
+    let path = match text::job_path(alloc, folder, JobName::Base(0)) {
         Ok(path) => path,
         Err(_) => return Err(Early::Memory),
     };
@@ -145,7 +145,7 @@ fn put_job<F: Files>(
         alloc,
         files,
         path.as_str(),
-        problem.job_bytes(JobName::Base),
+        problem.job_bytes(JobName::Base(0)),
     )
 }
 
@@ -190,7 +190,7 @@ fn judge_problem<F: Files>(
     let mut report = report;
     put_job(alloc, files, &problem, asked.folder.as_str())?;
     let stream = get_stream(alloc, files, &asked.streams)?;
-    let end = judge_job(alloc, &problem, JobName::Base, &stream);
+    let end = judge_job(alloc, &problem, JobName::Base(0), &stream);
     report.push_end(end);
     Ok(Served { problem, report })
 }

@@ -84,7 +84,7 @@ pub fn tell_run<S: Sink>(
     problem: &Problem,
     end: &JobEnd<Finding>,
 ) -> Result<(), Stop>
-    requires { IsLined problem.now Base end.now }
+    requires { IsLined problem.now (Base 0) end.now }
     ensures { (lines : List (List ℕ)) → HasEndLines problem.now.design name.now end.now lines
         → Tells (S.taken out.old) (S.taken out.new) (S.faults out.old) (S.faults out.new) (S.ended out.new) lines result }
 {

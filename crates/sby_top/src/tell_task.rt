@@ -159,7 +159,7 @@ fn tell_body<S: Sink>(
     ensures { Tells (S.taken out.old) (S.taken out.new) (S.faults out.old) (S.faults out.new) (S.ended out.new) (one_job_body name.now counts.now lane end.now) result }
 {
     tell_design(alloc, out, name, counts)?;
-    tell_end(alloc, out, name, lane, JobName::Base, end)
+    tell_end(alloc, out, name, lane, JobName::Base(0), end)
 }
 
 // The last lines of a task with one job: those of its run, where there is one, and that of its status.
@@ -172,7 +172,7 @@ fn tell_verdict<S: Sink>(
     status: Status,
     rc: u8,
 ) -> Result<(), Stop>
-    requires { IsLined problem.now Base end.now }
+    requires { IsLined problem.now (Base 0) end.now }
     ensures { (shown : List (List ℕ)) → HasEndLines problem.now.design name.now end.now shown
         → Tells (S.taken out.old) (S.taken out.new) (S.faults out.old) (S.faults out.new) (S.ended out.new) (shown ++ done_line name.now status rc ∷ []) result }
 {
@@ -191,7 +191,7 @@ pub fn tell_served<S: Sink>(
     status: Status,
     rc: u8,
 ) -> Result<(), Stop>
-    requires { IsLined problem.now Base end.now }
+    requires { IsLined problem.now (Base 0) end.now }
     ensures { (shown : List (List ℕ)) → HasEndLines problem.now.design name.now end.now shown
         → Tells (S.taken out.old) (S.taken out.new) (S.faults out.old) (S.faults out.new) (S.ended out.new)
         (one_job_body name.now (counts_of problem.now.design) lane end.now ++ (shown ++ done_line name.now status rc ∷ [])) result }

@@ -31,7 +31,7 @@ pub fn job_text(alloc: Global, job: JobName) -> Result<String, AllocError>
     ensures { IfOk result (λ t. string_bytes t ≡ job_text job) }
 {
     match job {
-        JobName::Base => String::from_str(alloc, "base"),
+        JobName::Base(_) => String::from_str(alloc, "base"),
         JobName::Step => String::from_str(alloc, "step"),
         JobName::Cover(k) => format!(in alloc; "cover{k}"),
     }

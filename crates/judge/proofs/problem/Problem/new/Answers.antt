@@ -37,7 +37,7 @@ invariant_of-problem c =
     let same = checked.0 in
     let reads = subst (λ (d : DesignOf). Reads c.args.text.items d) (sym same) read in
     let flat = subst (λ (d : DesignOf). IsFlat d) (sym same) checked.1 in
-    let job : IsEncodedJob c.in-Ok-2.flat Base c.args.depth c.in-Ok-3.encoded =
+    let job : IsEncodedJob c.in-Ok-2.flat (Base 0) c.args.depth c.in-Ok-3.encoded =
     record {
       speaks = rw c.in-Ok-3.is at c.in_ok-encoded.ensures.solvable;
       propagates = rw c.in-Ok-3.is at c.in_ok-encoded.ensures.propagates;

@@ -1,6 +1,6 @@
 use Rattle.std.proofs.Common.{arith, sym, ◌∙◌, ap, ◌*◌, ◌+◌}
-use Rattle.sby_file.proofs.Numbers.{value_more, digits_more, none_large}
-use Rattle.sby_file.proofs.values.number_upto.Goals as goal
+use Rattle.sby_terms.proofs.Numbers.{value_more, digits_more, none_large}
+use Rattle.sby_terms.proofs.number.number_upto.Goals as goal
 
 pub returns-then-value-from : goal.returns-then-value-from
 returns-then-value-from c =

@@ -1,8 +1,8 @@
 use Rattle.std.proofs.Common.{◌≡◌, ◌≤◌, take, true}
 use Rattle.std.specs.List.{list_all}
 use Rattle.std.specs.Str.Parse.{digits_value}
-use Rattle.sby_file.specs.Values.{is_digit}
-use Rattle.sby_file.proofs.values.number_upto.Given as goal
+use Rattle.sby_terms.specs.Number.{is_digit}
+use Rattle.sby_terms.proofs.number.number_upto.Given as goal
 
 abbrev pub invariant-loop-b : goal.invariant-loop-b
 invariant-loop-b l = record {

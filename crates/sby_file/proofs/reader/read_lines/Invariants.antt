@@ -3,7 +3,7 @@ use Rattle.sby_file.specs.Placed.{placed}
 use Rattle.sby_file.specs.Meant.{meant}
 use Rattle.sby_file.specs.Faults.{faults_from, nothing_seen}
 use Rattle.sby_file.specs.Config.{with_lines, nothing}
-use Rattle.sby_file.proofs.reader.read.Given as goal
+use Rattle.sby_file.proofs.reader.read_lines.Given as goal
 
 abbrev pub invariant-lines : goal.invariant-lines
 invariant-lines l = record {
