@@ -1,18 +1,18 @@
 //! The program `sby`.
 #![tactic(auto)]
 
-ghost use Rattle.std.specs.Prelude.{map, string_bytes};
-ghost use Rattle.std.specs.Process.{exit_status};
-ghost use Rattle.sby_program.specs.Program.{IsExit, IsProgramExit};
+ghost use Rattle.std.specs.Prelude.{◌≡◌, map, string_bytes};
+ghost use Rattle.sby_top.specs.Run.{Did};
+ghost use Rattle.sby_top.specs.declared.outcome.Done.{Done};
 
 mod real;
 
-use crate::real::{RealFiles, StdSink};
-use sby_edge::{NoYard, StillClock};
+use crate::real::{OutputSink, RealFiles};
+use sby_edge::{Clock, Files, NoYard, Sink, StillClock, Yard};
 use sby_top::run_sby;
 use std::alloc::{AllocError, Global};
 use std::env;
-use std::io::ErrorKind;
+use std::io::{self, ErrorKind};
 use std::process::ExitCode;
 
 const OUT_OF_MEMORY: u8 = 32;
@@ -33,29 +33,37 @@ fn words(rt: &HostRuntime, alloc: Global) -> Result<Vec<String>, AllocError> {
     Ok(words)
 }
 
-// Does what the words ask over real files and standard output, and answers the exit status.
-fn run(rt: &HostRuntime, alloc: Global, words: &[String]) -> u8
-    ensures { IsExit (map string_bytes words.now) result }
+/// Does all that the program does, and answers its exit status: what a call of `run_sby` for these words does over this outside.
+fn run_program<R, F: Files, S: Sink, Y: Yard, C: Clock>(
+    rt: &R,
+    alloc: Global,
+    words: &[String],
+    files: &mut F,
+    out: &mut S,
+    yard: &mut Y,
+    clock: &C,
+) -> u8
+    ensures did { (done : Done)
+        × Did
+        (record { told = F.told files.old; file_faults = F.faults files.old; blamed = F.blamed files.old; taken = S.taken out.old; sink_faults = S.faults out.old; ended = S.ended out.old })
+        (record { told = F.told files.new; file_faults = F.faults files.new; blamed = F.blamed files.new; taken = S.taken out.new; sink_faults = S.faults out.new; ended = S.ended out.new })
+        (map string_bytes words.now) done
+        × (result ≡ done.rc) }
+    ensures yard { yard.new ≡ yard.old }
 {
-    let mut files = RealFiles::new(rt);
-    let mut out = StdSink::new(rt);
-    let mut yard = NoYard::new();
-    let clock = StillClock(0);
-    let done = run_sby(rt, alloc, words, &mut files, &mut out, &mut yard, &clock);
+    let done = run_sby(rt, alloc, words, files, out, yard, clock);
     done.rc
 }
 
-// Does all that the program does.
-fn run_program(rt: &HostRuntime) -> ExitCode
-    ensures { IsProgramExit (exit_status result) }
-{
-    let alloc = rt.alloc();
-    match words(rt, alloc) {
-        Ok(words) => ExitCode::from(run(rt, alloc, &words)),
-        Err(AllocError) => ExitCode::from(OUT_OF_MEMORY),
-    }
-}
-
+// Makes the real outside, and runs the program over it.
 fn main(rt: HostRuntime) -> ExitCode {
-    run_program(&rt)
+    let alloc = rt.alloc();
+    let Ok(words) = words(&rt, alloc) else {
+        return ExitCode::from(OUT_OF_MEMORY);
+    };
+    let mut files = RealFiles::new(&rt);
+    let mut out = OutputSink::new(io::writer(&rt));
+    let mut yard = NoYard::new();
+    let clock = StillClock(0);
+    ExitCode::from(run_program(&rt, alloc, &words, &mut files, &mut out, &mut yard, &clock))
 }

@@ -1,24 +1,44 @@
-// Real files and standard output. They tell no content, and count each error.
-ghost use Rattle.std.specs.Prelude.{◌≡◌, ◌+◌, ◌≤◌, None, IfOk, length};
+// Real files and output. They tell no content; they count each error, and files tell the path of the last.
+
+ghost use Rattle.std.specs.Prelude.{◌≡◌, ◌+◌, ◌≤◌, None, IfOk, IfSome, length, option_map, string_bytes};
+ghost use Rattle.sby_edge.specs.Cause.{Rose, greatest};
 ghost use Rattle.sby_edge.specs.Files.{GotFits};
 
 use sby_edge::{Fail, Failed, Files, Got, Sink};
 use std::alloc::Global;
 use std::fs;
-use std::io::{Print, Read};
+use std::io::{Read, Write};
 use std::rt::Files as SystemFiles;
 
+/// The files of the system.
 #[derive(Drop)]
 pub struct RealFiles<'a, R: SystemFiles> {
     rt: &'a R,
     faults: u64,
+    blamed: Option<String>,
 }
 
 impl<'a, R: SystemFiles> RealFiles<'a, R> {
     pub fn new(rt: &'a R) -> Self
-        ensures { result.faults ≡ 0 }
+        ensures faults { result.faults ≡ 0 }
+        ensures blamed { result.blamed ≡ None }
     {
-        RealFiles { rt, faults: 0 }
+        RealFiles {
+            rt,
+            faults: 0,
+            blamed: None,
+        }
+    }
+
+    // A call at this path failed.
+    fn fail(&mut self, alloc: Global, path: &str)
+        ensures rose { Rose self.old.faults self.new.faults }
+        ensures later { self.old.faults ≤ self.new.faults }
+        ensures stays { self.old.faults ≡ greatest → self.new.faults ≡ self.old.faults }
+        ensures blamed { IfSome (option_map string_bytes self.new.blamed) (λ blamed. blamed ≡ path.now) }
+    {
+        self.blamed = String::from_str(alloc, path).ok();
+        self.faults = self.faults.saturating_add(1);
     }
 }
 
@@ -76,42 +96,43 @@ impl<'a, R: SystemFiles> Files for RealFiles<'a, R> {
 
     ghost faults = { λ f. f.faults };
 
-    ghost blamed = { λ _. None };
+    ghost blamed = { λ f. option_map string_bytes f.blamed };
 
     fn get(&mut self, alloc: Global, path: &str, most: u64) -> Result<Got, Fail> {
         let answer = open_and_read(self.rt, alloc, path, most);
         if matches!(answer, Err(Fail::Failed)) {
-            self.faults = self.faults.saturating_add(1);
+            self.fail(alloc, path);
         }
         answer
     }
 
-    fn put(&mut self, _alloc: Global, path: &str, bytes: &[u8]) -> Result<(), Fail> {
+    fn put(&mut self, alloc: Global, path: &str, bytes: &[u8]) -> Result<(), Fail> {
         match make_and_write(self.rt, path, bytes) {
             Ok(()) => Ok(()),
             Err(Failed) => {
-                self.faults = self.faults.saturating_add(1);
+                self.fail(alloc, path);
                 Err(Fail::Failed)
             }
         }
     }
 }
 
+/// A writer as the output, as standard output is.
 #[derive(Drop)]
-pub struct StdSink<'a, R: Print> {
-    rt: &'a R,
+pub struct OutputSink<W: Write + Drop> {
+    writer: W,
     faults: u64,
 }
 
-impl<'a, R: Print> StdSink<'a, R> {
-    pub fn new(rt: &'a R) -> Self
+impl<W: Write + Drop> OutputSink<W> {
+    pub fn new(writer: W) -> Self
         ensures { result.faults ≡ 0 }
     {
-        StdSink { rt, faults: 0 }
+        OutputSink { writer, faults: 0 }
     }
 }
 
-impl<'a, R: Print> Sink for StdSink<'a, R> {
+impl<W: Write + Drop> Sink for OutputSink<W> {
     ghost taken = { λ _. None };
 
     ghost faults = { λ s. s.faults };
@@ -119,7 +140,7 @@ impl<'a, R: Print> Sink for StdSink<'a, R> {
     ghost ended = { λ _. None };
 
     fn write(&mut self, piece: &[u8]) -> Result<usize, Failed> {
-        match self.rt.write_some(piece) {
+        match self.writer.write(piece) {
             Ok(count) if count > 0 || piece.is_empty() => Ok(count),
             _ => {
                 self.faults = self.faults.saturating_add(1);
@@ -128,3 +149,6 @@ impl<'a, R: Print> Sink for StdSink<'a, R> {
         }
     }
 }
+
+#[cfg(test)]
+mod tests;

@@ -12,3 +12,4 @@ pub mod PlainLemmas
 pub mod TruthLemmas
 pub mod RunLemmas
 pub mod LawLemmas
+pub mod ClaimLemmas

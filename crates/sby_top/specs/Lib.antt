@@ -12,5 +12,6 @@ pub mod Judged
 pub mod Came
 pub mod Headline
 pub mod Run
+pub mod Claims
 pub mod End
 pub mod Steps

@@ -1,6 +1,7 @@
 //! The top call: all that the program `sby` does.
 #![tactic(auto)]
 
+mod claims;
 mod counts;
 mod ends;
 mod judge_stream;
@@ -15,6 +16,11 @@ mod tell_task;
 mod text;
 mod words;
 
+pub use claims::{
+    each_end_is_of_a_task, each_status_names_its_event, fail_of_bmc_shows_its_run,
+    files_change_by_job_files, pass_of_bmc_is_true, refused_words_give_the_usage_line,
+    sink_grows_by_lines,
+};
 pub use laws::{
     accepted_design_is_judged, stored_certificate_gives_its_verdict,
     valid_certificate_gives_its_verdict,
