@@ -2,7 +2,7 @@
 
 /// What a read of the child's pipe was judged as.
 #[derive(Drop)]
-pub enum Progress<T> {
+pub enum Judged<T> {
     /// Nothing yet. Neighbouring reads that are judged so share one entry.
     More,
     /// A certificate.
@@ -15,11 +15,9 @@ pub enum Progress<T> {
     Failed,
 }
 
-/// What a poll of the child found.
+/// What a poll of the child found, where it doesn't just run on.
 #[derive(Clone, Copy, Debug, PartialEq, Eq)]
 pub enum Polled {
-    /// It runs. Neighbouring turns of the keeper that found nothing new share one entry.
-    Running,
     /// It ended by itself.
     Exited,
     /// The poll failed.
@@ -31,13 +29,15 @@ pub enum Polled {
 #[derive(Drop)]
 pub enum LaneEvent<T> {
     /// Reads of this many bytes together, and what they were judged as. A read of 0 bytes is the stream's end.
-    Read { bytes: u64, progress: Progress<T> },
+    Read { bytes: u64, judged: Judged<T> },
     /// A set-once exchange on the job's cell: whether it was won, and what the cell then holds.
     Settle { won: bool, value: T },
     /// Memory was wanting to the reader.
     ReaderMemory,
-    /// A poll of the child, in this many turns of the keeper.
-    Poll { turns: u64, polled: Polled },
+    /// So many turns of the keeper that found the child running, and nothing new. Neighbours share one entry.
+    Turns(u64),
+    /// A poll that found something else.
+    Poll(Polled),
     /// A reading of the clock, in milliseconds.
     Clock(u64),
     /// A look at a job's cell, and what it holds.

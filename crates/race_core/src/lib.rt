@@ -6,7 +6,7 @@ mod event;
 mod report;
 
 pub use end::JobEnd;
-pub use event::{LaneEvent, Polled, Progress};
+pub use event::{Judged, LaneEvent, Polled};
 pub use report::{JobEvents, Report};
 
 #[cfg(test)]

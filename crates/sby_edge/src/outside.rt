@@ -4,7 +4,7 @@ ghost use Rattle.std.specs.Prelude.{◌≡◌, ℕ, ◌<◌, ◌≤◌, ◌⊎�
 ghost use Rattle.sby_edge.specs.declared.outside.Fail.TheVariants.{Memory as FailMemory};
 ghost use Rattle.sby_edge.specs.Cause.{HasCause, HasPlainCause, Rose};
 ghost use Rattle.sby_edge.specs.Files.{Blames, GotFits, GotFrom, Store, put_at};
-ghost use Rattle.sby_edge.specs.Sink.{Ends, Takes};
+ghost use Rattle.sby_edge.specs.Sink.{EndsAt, Takes};
 
 use std::alloc::{AllocError, AllocFailed, Global};
 
@@ -115,5 +115,5 @@ pub trait Sink {
         ensures some { IfOk result (λ count. count ≡ 0 → 0 < length piece.now → Rose (faults self.old) (faults self.new)) }
         ensures stands { IfOk result (λ count. (0 < count) ⊎ (length piece.now ≡ 0) → faults self.new ≡ faults self.old) }
         ensures cause { HasPlainCause (faults self.old) (faults self.new) result }
-        ensures ends { Ends (ended self.old) (ended self.new) (taken self.new) piece.now result };
+        ensures ends { EndsAt (ended self.old) (ended self.new) (taken self.new) piece.now result };
 }

@@ -11,7 +11,7 @@ use Rattle.sby_file.specs.declared.config.Row.{Row}
 use Rattle.sby_file.specs.declared.config.StoredFile.{StoredFile}
 use Rattle.sby_file.specs.declared.draft.Draft.{Draft}
 use Rattle.sby_file.specs.declared.expansion.Task.{Task}
-use Rattle.sby_file.specs.declared.expansion.Asked.{Asked}
+use Rattle.sby_file.specs.declared.expansion.AskedTask.{AskedTask}
 use Rattle.sby_file.specs.declared.task_fault.TaskFault.{TaskFault}
 use Rattle.sby_file.specs.declared.task_fault.TaskKind.{TaskKind}
 
@@ -40,7 +40,7 @@ tags_more f tasks tags name i d h k n =
     a ∙ b ∙ ap (λ t. cond t (Some (get_or tags i [])) (tags_of (map f (drop (i + 1) tasks)) (drop (i + 1) tags) name)) n
 
 -- names that are looked up alike give one task
-pub asked_alike : (c : ConfigOf) (asked : Option (List ℕ)) (a : Asked) (names : Option (List (List ℕ))) (task : Result Task TaskFault) → names_asked c asked ≡ names → IsAsked a (asked_text asked) names
+pub asked_alike : (c : ConfigOf) (asked : Option (List ℕ)) (a : AskedTask) (names : Option (List (List ℕ))) (task : Result Task TaskFault) → names_asked c asked ≡ names → IsAsked a (asked_text asked) names
     → task ≡ task_of c.files (kept (has a.names) true c.rows) a.name → task ≡ expansion c asked
 asked_alike c asked a None task e h t = absurd h
 asked_alike c asked a (Some names) task e h t =

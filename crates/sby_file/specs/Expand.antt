@@ -13,7 +13,7 @@ use Rattle.sby_file.specs.declared.config.Row.{Row}
 use Rattle.sby_file.specs.declared.config.StoredFile.{StoredFile}
 use Rattle.sby_file.specs.declared.draft.Draft.{Draft}
 use Rattle.sby_file.specs.declared.expansion.Task.{Task}
-use Rattle.sby_file.specs.declared.expansion.Asked.{Asked}
+use Rattle.sby_file.specs.declared.expansion.AskedTask.{AskedTask}
 use Rattle.sby_file.specs.declared.task_fault.TaskFault.{TaskFault}
 use Rattle.sby_file.specs.declared.task_fault.TaskKind.{TaskKind}
 use Rattle.sby_file.specs.declared.task_fault.TaskKind.TheVariants as kind
@@ -89,7 +89,7 @@ names_asked c None = cond (eqb (length c.tasks) 0) (Some []) None
 names_asked c (Some name) = named name (tags_of c.tasks c.tags name)
 
 -- what the code keeps of it
-abbrev pub IsAsked : Asked → List ℕ → Option (List (List ℕ)) → Type 0
+abbrev pub IsAsked : AskedTask → List ℕ → Option (List (List ℕ)) → Type 0
 IsAsked a name None = ⊥
 IsAsked a name (Some names) = (a.name ≡ name) × ((other : List ℕ) → has a.names other ≡ has names other)
 

@@ -163,7 +163,7 @@ fn tags_of<'a>(tasks: &[String], tags: &'a [Words], name: &str) -> Option<&'a Wo
 
 /// The task that is asked for: its name, and its name and tags.
 #[derive(Drop)]
-pub struct Asked {
+pub struct AskedTask {
     pub name: Name,
     pub names: Names,
 }
@@ -172,7 +172,7 @@ fn asked_task(
     alloc: Global,
     config: &Config,
     asked: Option<&str>,
-) -> Result<Option<Asked>, AllocError>
+) -> Result<Option<AskedTask>, AllocError>
     ensures { IfOk result (λ found. MatchOption found (names_asked config.now (option_copied asked.entry) ≡ None)
         (λ a. IsAsked a (asked_text (option_copied asked.entry)) (names_asked config.now (option_copied asked.entry)))) }
 {
@@ -182,7 +182,7 @@ fn asked_task(
                 return Ok(None);
             }
             let name = Name::new(String::new(alloc));
-            Ok(Some(Asked {
+            Ok(Some(AskedTask {
                 name,
                 names: Names::new(alloc),
             }))
@@ -194,7 +194,7 @@ fn asked_task(
                 names.insert(String::from_str(alloc, text)?)?;
                 names.insert_all(tags.as_slice())?;
                 let name = Name::new(String::from_str(alloc, text)?);
-                Ok(Some(Asked { name, names }))
+                Ok(Some(AskedTask { name, names }))
             }
         },
     }
@@ -203,11 +203,11 @@ fn asked_task(
 fn expand_asked(
     alloc: Global,
     config: &Config,
-    asked: Asked,
+    asked: AskedTask,
 ) -> Result<Result<Task, TaskFault>, AllocError>
     ensures { IfOk result (λ task. task ≡ task_of config.now.files (kept (has asked.names) true config.now.rows) asked.name) }
 {
-    let Asked { name, names } = asked;
+    let AskedTask { name, names } = asked;
     let rows = kept(alloc, &names, config.rows())?;
     match read_rows(alloc, config.files(), rows.as_slice())? {
         Err(fault) => Ok(Err(fault)),

@@ -1,12 +1,12 @@
 // Words that are asked, and words that are refused.
 
 use sby_terms::Mode;
-use sby_top::{Asked, asked_of};
+use sby_top::{TaskRequest, asked_of};
 use std::alloc::{AllocError, Global};
 use std::process::Abort;
 use std::test::Fail;
 
-fn ask(alloc: Global, words: &[&str]) -> Result<Option<Asked>, AllocError> {
+fn ask(alloc: Global, words: &[&str]) -> Result<Option<TaskRequest>, AllocError> {
     let mut list = Vec::new(alloc);
     for word in words {
         list.push(String::from_str(alloc, word)?)?;
@@ -80,7 +80,7 @@ const ASKED: [(&[&str], &str, &str, u32, &[&str]); 6] = [
     ),
 ];
 
-fn is_same(asked: &Asked, folder: &str, design: &str, depth: u32, streams: &[&str]) -> bool {
+fn is_same(asked: &TaskRequest, folder: &str, design: &str, depth: u32, streams: &[&str]) -> bool {
     asked.folder.as_str() == folder
         && asked.design.as_str() == design
         && asked.mode == Mode::Bmc

@@ -21,7 +21,7 @@ use Rattle.sby_terms.specs.declared.names.Mode.TheVariants.{Bmc}
 use Rattle.sby_terms.specs.declared.names.Status.{Status}
 use Rattle.sby_terms.specs.declared.names.Status.TheVariants.{Pass, Fail, Unknown, Error, Timeout, Memory}
 use Rattle.sby_terms.specs.declared.names.Verdict.{Verdict}
-use Rattle.sby_top.specs.Came.{Came}
+use Rattle.sby_top.specs.Causes.{IsOutcome}
 use Rattle.sby_top.specs.Claims.{IsTaskOf, IsDesignOf, IsShownBreak, HasPrinted, IsEvent, IsQuietEnd, IsFaultyEnd, WasJudged}
 use Rattle.sby_top.specs.Headline.{AreLines, Exit, Code, Cut, FailClaim, IsPrinted, IsTrueOf, PassClaim, TaskRan}
 use Rattle.sby_top.specs.Judged.{AreJudged, IsEndOf}
@@ -240,7 +240,7 @@ early_status mode Streams reports status is = inr is
 early_status mode MemoryEarly reports status is = inl is
 
 early_event : (start finish : World) (request : Request) (end : TaskEnd) (early : Early) (reports : List (ReportOf FindingOf)) (status : Status) → end.early ≡ Some early
-    → Came request start.told finish.told start.file_faults finish.file_faults finish.blamed (Some early) end.text.items reports → IsStatus request.mode (Some early) reports status
+    → IsOutcome request start.told finish.told start.file_faults finish.file_faults finish.blamed (Some early) end.text.items reports → IsStatus request.mode (Some early) reports status
     → IsEvent start finish request end status
 early_event start finish request end early reports status is came st = elim (early_status request.mode early reports status st) [
   | inl memory ↦ subst (IsEvent start finish request end) (sym memory) tt
@@ -248,7 +248,7 @@ early_event start finish request end early reports status is came st = elim (ear
 ]
 
 event_by : (start finish : World) (request : Request) (end : TaskEnd) (early : Option Early) → end.early ≡ early
-    → Came request start.told finish.told start.file_faults finish.file_faults finish.blamed early end.text.items end.reports.items
+    → IsOutcome request start.told finish.told start.file_faults finish.file_faults finish.blamed early end.text.items end.reports.items
     → IsStatus request.mode early end.reports.items end.status → IsEvent start finish request end end.status
 event_by start finish request end (Some early) is came st = early_event start finish request end early end.reports.items end.status is came st
 event_by start finish request end None is came st =

@@ -13,7 +13,7 @@ use Rattle.sby_terms.specs.declared.names.JobName.TheVariants.{Base}
 use Rattle.sby_terms.specs.declared.names.Mode.TheVariants.{Bmc}
 use Rattle.sby_terms.specs.declared.names.Status.{Status}
 use Rattle.sby_terms.specs.declared.names.Status.TheVariants.{Memory}
-use Rattle.sby_top.specs.Came.{Came}
+use Rattle.sby_top.specs.Causes.{IsOutcome}
 use Rattle.sby_top.specs.Headline.{AreFates, Exit, IsJudgedStatus, IsSmooth, TaskRan, fate_answer, fate_event}
 use Rattle.sby_top.specs.Served.{ArePut, IsGot, jobs_in, most_design, most_stream, problem_of}
 use Rattle.sby_top.specs.Status.{IsStatus, IsStatusOf, status_for}
@@ -82,10 +82,10 @@ pub gives : OneFate → OneFile → (before after : World) (request : Request) (
     → request.streams ≡ path ∷ [] → now path ≡ Some stream → now (job_path request.folder (Base 0)) ≡ Some file → IsFate file stream most_stream (Found answer) → end.status ≡ status_for answer
 gives one_fate one_file before after request end exit store now path stream file answer ran told_before told_after bmc early apart streams has stands valid = elim ran.named.status [
   | inl is ↦
-      let came : Came request (Some store) (Some now) before.file_faults after.file_faults after.blamed None end.text.items end.reports.items =
-      subst (λ e. Came request (Some store) (Some now) before.file_faults after.file_faults after.blamed e end.text.items end.reports.items) early
-      (subst (λ t. Came request (Some store) t before.file_faults after.file_faults after.blamed end.early end.text.items end.reports.items) told_after
-      (subst (λ t. Came request t after.told before.file_faults after.file_faults after.blamed end.early end.text.items end.reports.items) told_before ran.named.cause)) in
+      let came : IsOutcome request (Some store) (Some now) before.file_faults after.file_faults after.blamed None end.text.items end.reports.items =
+      subst (λ e. IsOutcome request (Some store) (Some now) before.file_faults after.file_faults after.blamed e end.text.items end.reports.items) early
+      (subst (λ t. IsOutcome request (Some store) t before.file_faults after.file_faults after.blamed end.early end.text.items end.reports.items) told_after
+      (subst (λ t. IsOutcome request t after.told before.file_faults after.file_faults after.blamed end.early end.text.items end.reports.items) told_before ran.named.cause)) in
       let status : IsStatus request.mode None (came.0 ∷ []) end.status =
       subst (λ rs. IsStatus request.mode None rs end.status) came.1 (subst (λ e. IsStatus request.mode e end.reports.items end.status) early is) in
       judged_gives one_fate one_file store now request None end.status path stream file answer bmc streams has stands valid

@@ -15,7 +15,7 @@ use Rattle.sby_terms.specs.declared.names.Mode.TheVariants.{Bmc}
 use Rattle.sby_terms.specs.declared.names.Status.{Status}
 use Rattle.sby_terms.specs.declared.names.Status.TheVariants.{Memory}
 use Rattle.sby_top.specs.Askable.{IsAskable}
-use Rattle.sby_top.specs.Came.{Came, IsDone}
+use Rattle.sby_top.specs.Causes.{IsOutcome, IsDone}
 use Rattle.sby_top.specs.Headline.{AreFates, IsComplete, IsJudgedStatus, IsPlainStatus, NamesEvent, fate_answer, fate_event}
 use Rattle.sby_top.specs.Judged.{AreJudged, IsFateEnd}
 use Rattle.sby_top.specs.Served.{ArePut, jobs_in, most_stream}
@@ -106,7 +106,7 @@ done_judged request store now text report status mode apart is done =
     )
 
 plainly : (b : Option (List ℕ)) (request : Request) (store now : Store) (f g : ℕ) (early : Option Early) (text : List ℕ) (reports : List (ReportOf FindingOf)) (status : Status) → IsAskable request
-    → (Rose f g → ⊥) → status ≢ Memory → IsStatus request.mode early reports status → Came request (Some store) (Some now) f g b early text reports → IsPlainStatus store now request early status
+    → (Rose f g → ⊥) → status ≢ Memory → IsStatus request.mode early reports status → IsOutcome request (Some store) (Some now) f g b early text reports → IsPlainStatus store now request early status
 plainly b request store now f g (Some (File path)) text reports status askable still apart is came = absurd (still came.2.0)
 plainly b request store now f g (Some (Read x)) text reports status askable still apart is came = inl (ReadFault x, came.2.0, refl, is)
 plainly b request store now f g (Some (Design x)) text reports status askable still apart is came = inl (DesignFault x, came.2.0, refl, is)
@@ -120,7 +120,7 @@ plainly b request store now f g None text reports status askable still apart is 
 pub is_complete : (before after : World) (request : Request) (end : TaskEnd) → IsAskable request → NamesEvent before after request end → IsComplete before after request end
 is_complete before after request end askable named = λ store now told_before told_after smooth. elim named.status [
   | inl is ↦ plainly _ request store now before.file_faults after.file_faults end.early end.text.items end.reports.items end.status askable smooth.files smooth.memory is
-      (subst (λ t. Came request (Some store) t before.file_faults after.file_faults after.blamed end.early end.text.items end.reports.items) told_after
-      (subst (λ t. Came request t after.told before.file_faults after.file_faults after.blamed end.early end.text.items end.reports.items) told_before named.cause))
+      (subst (λ t. IsOutcome request (Some store) t before.file_faults after.file_faults after.blamed end.early end.text.items end.reports.items) told_after
+      (subst (λ t. IsOutcome request t after.told before.file_faults after.file_faults after.blamed end.early end.text.items end.reports.items) told_before named.cause))
   | inr memory ↦ absurd (smooth.memory memory)
 ]

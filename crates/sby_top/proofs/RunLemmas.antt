@@ -4,7 +4,7 @@ use Rattle.std.specs.Int.Bits.{or_zero_r}
 use Rattle.judge.specs.Finding.{FindingOf}
 use Rattle.race_core.specs.Report.{ReportOf}
 use Rattle.sby_top.specs.Askable.{IsAskable}
-use Rattle.sby_top.specs.Came.{Came}
+use Rattle.sby_top.specs.Causes.{IsOutcome}
 use Rattle.sby_top.specs.End.{IsEnd, IsPrintedAs}
 use Rattle.sby_top.specs.Headline.{Code, Cut, Exit, NamesEvent, TaskRan}
 use Rattle.sby_edge.specs.Cause.{Rose}
@@ -26,7 +26,7 @@ pub asked_is_askable : (words : List (List ℕ)) (r : Request) → IsAsked words
 asked_is_askable words r asks = record { mode = asks.judges.served; least = asks.judges.depth.least; most = asks.judges.depth.most }
 
 names : (before after : World) (request : Request) (end : TaskEnd) (early : Option Early) (text : List ℕ) (reports : List (ReportOf FindingOf)) → IsEnd request early text reports end
-    → Came request before.told after.told before.file_faults after.file_faults after.blamed early text reports → NamesEvent before after request end
+    → IsOutcome request before.told after.told before.file_faults after.file_faults after.blamed early text reports → NamesEvent before after request end
 names before after request end early text reports made came = record {
   name = made.name;
   status = rw (made.early_is, made.reports_are) made.status;
@@ -37,7 +37,7 @@ names before after request end early text reports made came = record {
 
 -- a task that came to this, and whose lines were printed, was run
 pub task_ran : (before after : World) (request : Request) (end : TaskEnd) (rc : ℕ) (early : Option Early) (text : List ℕ) (reports : List (ReportOf FindingOf)) → IsAskable request → IsEnd request early text reports end
-    → Came request before.told after.told before.file_faults after.file_faults after.blamed early text reports → IsPrintedAs before.taken after.taken before.sink_faults after.sink_faults after.ended request end rc
+    → IsOutcome request before.told after.told before.file_faults after.file_faults after.blamed early text reports → IsPrintedAs before.taken after.taken before.sink_faults after.sink_faults after.ended request end rc
     → IsStored request before.told after.told → before.file_faults ≤ after.file_faults → before.sink_faults ≤ after.sink_faults
     → (exit : Exit) × TaskRan before after request end exit × (rc ≡ rc_of_exit exit)
 task_ran before after request end rc early text reports askable made came printed stored files sink =

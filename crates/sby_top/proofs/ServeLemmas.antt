@@ -14,7 +14,7 @@ use Rattle.judge.specs.Finding.{FindingOf}
 use Rattle.race_core.specs.Report.{ReportOf, no_events}
 use Rattle.race_core.specs.declared.end.JobEnd.{JobEnd}
 use Rattle.race_core.specs.declared.end.JobEnd.TheVariants.{Found, Unknown, NotServed, Bad, ReadFailed, StartFailed, HoldFailed, Skipped, CalledOff, Stopped, Memory as MemoryEnd}
-use Rattle.sby_top.specs.Came.{HasReason, IsDone}
+use Rattle.sby_top.specs.Causes.{HasReason, IsDone}
 use Rattle.sby_top.specs.Steps.{got_items, AreLined, IsFailedCall, IsFirstGot, IsLined, IsRefusal, IsStreamJudged}
 use Rattle.sby_top.specs.Judged.{AreJudged, EndsWithRun, Has, IsEndOf, IsFateEnd, IsReport}
 use Rattle.sby_top.specs.Served.{ArePut, IsAccepted, IsGot, IsServed, IsStored, jobs_in, most_design, most_stream, problem_of, with_file}

@@ -20,7 +20,7 @@ use Rattle.sby_terms.specs.declared.names.Verdict.{Verdict}
 use Rattle.sby_terms.specs.declared.names.Verdict.TheVariants.{Fail as FailVerdict}
 use Rattle.sby_top.specs.Askable.{IsAskable}
 use Rattle.sby_top.specs.Broken.{CarriesRun, HasBrokenLines, IsBrokenCell, broken_line, last_of}
-use Rattle.sby_top.specs.Came.{Came, IsDone}
+use Rattle.sby_top.specs.Causes.{IsOutcome, IsDone}
 use Rattle.sby_top.specs.Headline.{ArePrintedOf, FailClaim, IsShown, IsTrueOf, NamesEvent, PassClaim}
 use Rattle.sby_top.specs.Judged.{AreJudged, IsEndOf, IsFindingOf}
 use Rattle.sby_top.specs.Lines.{HasLines, HasVerdictLines, done_line, lane_lines, settled_lines, unless_decided}
@@ -172,7 +172,7 @@ one_job_answers request report status answer askable is by end ends =
     (subst (λ es. IsStatusOf request.mode (map answer_of es) (map event_of es) status) ends is))
 
 passes_truly : (b : Option (List ℕ)) (request : Request) (before after : Option Store) (f g : ℕ) (early : Option Early) (text : List ℕ) (reports : List (ReportOf FindingOf)) → IsAskable request
-    → IsStatus request.mode early reports Pass → Came request before after f g b early text reports → IsTrueOf before request text (PassClaim request.mode)
+    → IsStatus request.mode early reports Pass → IsOutcome request before after f g b early text reports → IsTrueOf before request text (PassClaim request.mode)
 passes_truly b request before after f g (Some (File path)) text reports askable is came = cc
 passes_truly b request before after f g (Some (Read x)) text reports askable is came = cc
 passes_truly b request before after f g (Some (Design x)) text reports askable is came = cc
@@ -184,7 +184,7 @@ passes_truly b request before after f g None text reports askable is came =
     passes_by request before text came.0 askable.mode (done_answered request before after text came.0 Unsat askable came.3 (one_job_answers request came.0 Pass Unsat askable s pass_answer))
 
 fails_truly : (b : Option (List ℕ)) (request : Request) (before after : Option Store) (f g : ℕ) (end : TaskEnd) (early : Option Early) → IsAskable request → end.early ≡ early
-    → IsStatus request.mode early end.reports.items Fail → Came request before after f g b early end.text.items end.reports.items → IsTrueOf before request end.text.items (FailClaim request.mode request end)
+    → IsStatus request.mode early end.reports.items Fail → IsOutcome request before after f g b early end.text.items end.reports.items → IsTrueOf before request end.text.items (FailClaim request.mode request end)
 fails_truly b request before after f g end (Some (File path)) askable early is came = cc
 fails_truly b request before after f g end (Some (Read x)) askable early is came = cc
 fails_truly b request before after f g end (Some (Design x)) askable early is came = cc

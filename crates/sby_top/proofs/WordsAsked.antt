@@ -1,12 +1,11 @@
 -- Depths, stems and lists of the words.
-use Rattle.std.proofs.Common.{◌≡◌, ◌≢◌, ◌∙◌, ◌<◌, ◌≤◌, ◌^◌, ◌==◌, ℕ, Bool, true, false, cond, List, [], ◌∷◌, ◌++◌, Option, Some, None, length, get_or, slice_index, take, drop, refl, sym, ap, subst, arith, eqb-true}
+use Rattle.std.proofs.Common.{◌≡◌, ◌≢◌, ◌∙◌, ◌<◌, ◌≤◌, ◌^◌, ◌==◌, ℕ, Bool, true, false, cond, List, [], ◌∷◌, ◌++◌, Option, Some, None, length, get_or, slice_index, take, drop, refl, sym, ap, subst, arith, eqb-true, lit≤}
 use Rattle.std.proofs.lemmas.List.{append_assoc, append_cancel_right, get_or_past, length-append, length-map, take_all}
 use Rattle.std.specs.Fmt.{decimal}
-use Rattle.std.specs.Str.Parse.{AllDigits, IsNumeral, digits_value, without_leading_plus}
 use Rattle.std.proofs.lemmas.Bool.{ne_eqb}
-use Rattle.std.proofs.lemmas.Fmt.{decimal-digits_value, decimal_is_IsNumeral, first_decimal}
-use Rattle.std.proofs.lemmas.Str.Parse.{IsNumeralModel}
-use Rattle.std.specs.Prelude.{◌↔◌, All, IsTrue, bytes_eq, codes, option_map, slice_index_or, unwrap_or}
+use Rattle.std.proofs.lemmas.Fmt.{first_decimal}
+use Rattle.sby_terms.specs.Number.{number_upto}
+use Rattle.std.specs.Prelude.{MatchOption, ◌↔◌, All, IsTrue, bytes_eq, codes, option_map, slice_index_or, unwrap_or}
 use Rattle.std.specs.Borrow.{Bor}
 use Rattle.std.proofs.Common.{inl, inr, true≢false, ◌+◌, zero, suc}
 use Rattle.std.proofs.lemmas.Grind.{common_steps}
@@ -18,51 +17,18 @@ use Rattle.sby_top.specs.Words.{IsDepth, IsFolder, IsStem}
 
 -- ---- depths
 
-digits_model : IsNumeralModel (AllDigits 10) (digits_value 10)
-digits_model = record { to = λ ds h. h; from = λ ds h. h; same = λ ds h. refl }
-
-no_plus : (word : List ℕ) → slice_index word 0 ≢ 43 → without_leading_plus word ≡ word
-no_plus word first = ap (λ b. drop (cond b 1 0) word) (ne_eqb (slice_index word 0) 43 first)
-
 -- a depth begins with a digit above 0
 pub depth_begins : (word : List ℕ) (depth : ℕ) → IsDepth word depth → 48 < slice_index word 0
 depth_begins word depth is =
     subst (λ (w : List ℕ). 48 < slice_index w 0) (sym is.digits) (first_decimal depth (omega (arith, is.least)) (omega (arith, is.most)))
 
--- what `parse` asks of a word, and what it answers
-abbrev pub IsParsed : List ℕ → ℕ → Type 0
-IsParsed word n = (IsNumeral 10 (without_leading_plus word) × (digits_value 10 (without_leading_plus word) < 2 ^ 32)) × (n ≡ digits_value 10 (without_leading_plus word))
+-- what the reader of numbers answers of a word
+abbrev pub Decimal : Type 0
+Decimal = (most n : ℕ) (word : List ℕ) → most ≤ 18446744073709551615 → (number_upto most word ≡ Some n) ↔ ((word ≡ decimal n) × (1 ≤ n) × (n ≤ most))
 
-pub depth_parses : (word : List ℕ) (depth : ℕ) → IsDepth word depth → IsParsed word depth
-depth_parses word depth is =
-    let first = depth_begins word depth is in
-    let small : depth < 2 ^ 64 = omega (arith, is.most) in
-    let numeral = decimal_is_IsNumeral depth small in
-    let same : without_leading_plus word ≡ decimal depth = no_plus word (λ e. omega (arith, first, e)) ∙ is.digits in
-    let value : digits_value 10 (without_leading_plus word) ≡ depth = ap (digits_value 10) same ∙ numeral.1 in
-    ((subst (IsNumeral 10) (sym same) numeral.0, omega (arith, value, is.most)), sym value)
-
-pub depth_of_parsed : (word : List ℕ) (n : ℕ) → slice_index word 0 ≢ 48 → slice_index word 0 ≢ 43 → IsParsed word n → 1 ≤ n → n ≤ 1000 → IsDepth word n
-depth_of_parsed word n zero_first plus_first parsed least most =
-    let same = no_plus word plus_first in
-    let numeral : IsNumeral 10 word = subst (IsNumeral 10) same parsed.0.0 in
-    let value : n ≡ digits_value 10 word = parsed.1 ∙ ap (digits_value 10) same in
-    let small : digits_value 10 word < 2 ^ 64 = omega (arith, value, most) in
-    record {
-      digits = sym (ap decimal value ∙ decimal-digits_value digits_model word numeral.1 numeral.0 (λ e. absurd (zero_first e)) small);
-      least = least;
-      most = most;
-    }
-
--- a word that is empty, or begins with `0` or `+`, is no depth
-pub empty_is_no_depth : (word bytes : List ℕ) (depth : ℕ) → bytes ≡ word → (length bytes == 0) ≡ true → IsDepth word depth → ⊥
-empty_is_no_depth word bytes depth same empty is =
-    let none : length bytes ≡ 0 = eqb-true (length bytes) 0 empty in
-    let first : get_or bytes 0 0 ≡ 0 = get_or_past bytes 0 0 (omega (arith, none)) in
-    omega (arith, depth_begins word depth is, first, ap (λ (w : List ℕ). slice_index w 0) same)
-
-pub other_is_no_depth : (word bytes : List ℕ) (depth k : ℕ) → bytes ≡ word → get_or bytes 0 0 ≡ k → k ≤ 48 → IsDepth word depth → ⊥
-other_is_no_depth word bytes depth k same first low is = omega (arith, depth_begins word depth is, first, ap (λ (w : List ℕ). slice_index w 0) same)
+pub depth_is : (word : List ℕ) (r : Option ℕ) → Decimal → r ≡ number_upto 1000 word → MatchOption r ((depth : ℕ) → IsDepth word depth → ⊥) (IsDepth word)
+depth_is word None law e = λ depth is. let some = (law 1000 depth word (lit≤ tt)).1 (is.digits, is.least, is.most) in let f : None ≡ Some depth = e ∙ some in cc
+depth_is word (Some n) law e = let parts = (law 1000 n word (lit≤ tt)).0 (sym e) in record { digits = parts.0; least = parts.1; most = parts.2 }
 
 -- ---- texts
 

@@ -15,7 +15,7 @@ use Rattle.rtlil_reader.specs.Grammar.{Reads}
 use Rattle.sby_terms.specs.declared.names.Status.{Status}
 use Rattle.sby_terms.specs.declared.names.Status.TheVariants.{Pass, Fail, Unknown, Error, Timeout, Memory}
 use Rattle.sby_top.specs.Broken.{IsFirstBroken, last_of}
-use Rattle.sby_top.specs.Came.{HasReason, IsDone}
+use Rattle.sby_top.specs.Causes.{HasReason, IsDone}
 use Rattle.sby_top.specs.Headline.{AreLines, ArePrintedOf, Exit, IsCarried, TaskRan}
 use Rattle.sby_top.specs.Run.{rc_of_exit}
 use Rattle.sby_top.specs.Served.{IsGot, most_design}

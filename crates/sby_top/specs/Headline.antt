@@ -28,7 +28,7 @@ use Rattle.sby_terms.specs.declared.names.Mode.TheVariants.{Bmc, Prove, Cover}
 use Rattle.sby_terms.specs.declared.names.Status.{Status}
 use Rattle.sby_terms.specs.declared.names.Status.TheVariants.{Pass, Fail, Error, Memory}
 use Rattle.sby_top.specs.Broken.{AreLinesOf, CarriesRun, IsFirstBroken, broken_line, last_of}
-use Rattle.sby_top.specs.Came.{Came}
+use Rattle.sby_top.specs.Causes.{IsOutcome}
 use Rattle.sby_top.specs.Lines.{HasLines}
 use Rattle.sby_top.specs.Served.{ArePut, IsAccepted, IsGot, IsRefused, IsStored, jobs_in, most_design, most_stream}
 use Rattle.sby_top.specs.Status.{IsStatus, IsStatusOf}
@@ -90,7 +90,7 @@ IsTrueOf told request text claim =
 pub record NamesEvent (before after : World) (request : Request) (end : TaskEnd) : Type 0 where
   pub name : string_bytes end.name ≡ request.folder
   pub status : IsStatus request.mode end.early end.reports.items end.status ⊎ (end.status ≡ Memory)
-  pub cause : Came request before.told after.told before.file_faults after.file_faults after.blamed end.early end.text.items end.reports.items
+  pub cause : IsOutcome request before.told after.told before.file_faults after.file_faults after.blamed end.early end.text.items end.reports.items
   pub start : end.start ≡ None
   pub unput : end.unput.items ≡ []
 

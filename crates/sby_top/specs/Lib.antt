@@ -9,7 +9,7 @@ pub mod Telling
 pub mod Status
 pub mod Served
 pub mod Judged
-pub mod Came
+pub mod Causes
 pub mod Headline
 pub mod Run
 pub mod Claims

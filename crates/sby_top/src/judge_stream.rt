@@ -7,10 +7,8 @@ ghost use Rattle.sby_top.specs.Steps.{end_of, IsBytesJudged, IsStreamJudged, IsT
 
 use judge::{BadCert, Finding, Judge, Problem, Progress, State, StreamKind, fates_stay};
 use race_core::JobEnd;
-use sby_terms::JobName;
+use sby_terms::{JobName, MAX_STREAM};
 use std::alloc::{AllocError, Global};
-
-const MOST_STREAM: u64 = 1 << 32;
 
 fn is_more(answer: &Result<Progress, BadCert>) -> bool
     ensures { IsTrue result ↔ (fate_told answer.now ≡ None) }
@@ -61,7 +59,7 @@ fn judge_bytes(
     requires { IsJob problem.now job }
     ensures { IfOk result (λ end. IsBytesJudged problem.now job bytes.now end) }
 {
-    let mut judge = Judge::new(alloc, problem, job, StreamKind::Drup, MOST_STREAM)?;
+    let mut judge = Judge::new(alloc, problem, job, StreamKind::Drup, MAX_STREAM)?;
     let answer = feed_all(&mut judge, bytes)?;
     Ok(end_of(answer))
 }

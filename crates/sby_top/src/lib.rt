@@ -27,4 +27,4 @@ pub use laws::{
 };
 pub use outcome::{Done, Early, TaskEnd};
 pub use run::run_sby;
-pub use words::{Asked, asked_of, plain_words_are_asked, words_have_one_request};
+pub use words::{TaskRequest, asked_of, plain_words_are_asked, words_have_one_request};

@@ -20,7 +20,7 @@ use crate::status::{early_status, end_status};
 use crate::tell::{Stop, offer};
 use crate::tell_task::{tell_early, tell_served};
 use crate::text;
-use crate::words::{Asked, asked_of};
+use crate::words::{TaskRequest, asked_of};
 use judge::Finding;
 use race_core::Report;
 use sby_edge::{Clock, Files, Sink, Yard};
@@ -64,7 +64,7 @@ fn ended(told: Result<(), Stop>, decided: Status, rc: u8) -> (Status, u8)
 fn finish_early<S: Sink>(
     alloc: Global,
     out: &mut S,
-    asked: &Asked,
+    asked: &TaskRequest,
     name: String,
     expect: &Expect,
     early: Early,
@@ -95,7 +95,7 @@ fn finish_early<S: Sink>(
 fn finish_served<S: Sink>(
     alloc: Global,
     out: &mut S,
-    asked: &Asked,
+    asked: &TaskRequest,
     name: String,
     expect: &Expect,
     served: Served,
@@ -148,7 +148,7 @@ fn run_task<F: Files, S: Sink>(
     alloc: Global,
     files: &mut F,
     out: &mut S,
-    asked: &Asked,
+    asked: &TaskRequest,
     room: Room,
 ) -> (TaskEnd, u8)
     requires askable { IsAskable asked.now }
@@ -183,7 +183,12 @@ fn out_of_memory(alloc: Global) -> Done
     }
 }
 
-fn run_asked<F: Files, S: Sink>(alloc: Global, files: &mut F, out: &mut S, asked: &Asked) -> Done
+fn run_asked<F: Files, S: Sink>(
+    alloc: Global,
+    files: &mut F,
+    out: &mut S,
+    asked: &TaskRequest,
+) -> Done
     requires askable { IsAskable asked.now }
     ensures { IsDoneAs
         (record { told = F.told files.old; file_faults = F.faults files.old; blamed = F.blamed files.old; taken = S.taken out.old; sink_faults = S.faults out.old; ended = S.ended out.old })

@@ -5,7 +5,7 @@ ghost use Rattle.judge.specs.Problem.{IsJobFile, IsProblem};
 ghost use Rattle.race_core.specs.Report.{no_events};
 ghost use Rattle.sby_terms.specs.declared.names.Mode.TheVariants.{Bmc};
 ghost use Rattle.sby_terms.specs.declared.names.JobName.TheVariants.{Base};
-ghost use Rattle.sby_top.specs.Came.{HasReason, IsDone};
+ghost use Rattle.sby_top.specs.Causes.{HasReason, IsDone};
 ghost use Rattle.sby_top.specs.Steps.{got_items, AreLined, IsFailedCall, IsFirstGot, IsRefusal};
 ghost use Rattle.sby_top.specs.Served.{IsGot, IsServed, IsStored, problem_of, with_file};
 ghost use Rattle.sby_edge.specs.Files.{put_at};
@@ -18,16 +18,14 @@ ghost use Rattle.sby_top.specs.Askable.{IsAskable};
 use crate::judge_stream::judge_job;
 use crate::outcome::Early;
 use crate::text;
-use crate::words::Asked;
+use crate::words::TaskRequest;
 use judge::{Finding, Problem, ProblemFault};
 use race_core::Report;
 use sby_edge::{Fail, Files, Got};
-use sby_terms::JobName;
+use sby_terms::{JobName, MAX_STREAM};
 use std::alloc::Global;
 
 const MOST_DESIGN: u64 = 1 << 26;
-
-const MOST_STREAM: u64 = 1 << 32;
 
 /// A task whose design was accepted and whose streams were judged.
 #[derive(Drop)]
@@ -94,7 +92,7 @@ fn refusal(fault: ProblemFault) -> Early
     }
 }
 
-fn problem_of(alloc: Global, text: Vec<u8>, asked: &Asked) -> Result<Problem, Early>
+fn problem_of(alloc: Global, text: Vec<u8>, asked: &TaskRequest) -> Result<Problem, Early>
     requires { IsAskable asked.now }
     ensures ok { IfOk result (λ p. (p.problem ≡ problem_of asked.now text.items) × IsProblem p) }
     ensures err { IfErr result (IsRefusal (problem_of asked.now text.items)) }
@@ -107,7 +105,7 @@ fn problem_of(alloc: Global, text: Vec<u8>, asked: &Asked) -> Result<Problem, Ea
 }
 
 // Gets the design. It is accepted, and there is a job for each stream, or nothing was put.
-fn accept<F: Files>(alloc: Global, files: &mut F, asked: &Asked) -> Result<Problem, Early>
+fn accept<F: Files>(alloc: Global, files: &mut F, asked: &TaskRequest) -> Result<Problem, Early>
     requires { IsAskable asked.now }
     ensures ok { IfOk result (IsServed (F.told files.old) asked.now) }
     ensures err { IfErr result (HasReason asked.now (F.told files.old) (F.told files.new) (F.faults files.old) (F.faults files.new) (F.blamed files.new)) }
@@ -164,7 +162,7 @@ fn get_stream<F: Files>(
     if paths.is_empty() {
         return Ok(None);
     }
-    let bytes = get(alloc, files, paths[0].as_str(), MOST_STREAM)?;
+    let bytes = get(alloc, files, paths[0].as_str(), MAX_STREAM)?;
     Ok(Some(bytes))
 }
 
@@ -173,7 +171,7 @@ fn judge_problem<F: Files>(
     alloc: Global,
     files: &mut F,
     problem: Problem,
-    asked: &Asked,
+    asked: &TaskRequest,
     report: Report<Finding>,
 ) -> Result<Served, Early>
     requires askable { IsAskable asked.now }
@@ -199,7 +197,7 @@ fn judge_problem<F: Files>(
 pub fn serve<F: Files>(
     alloc: Global,
     files: &mut F,
-    asked: &Asked,
+    asked: &TaskRequest,
     report: Report<Finding>,
 ) -> Result<Served, Early>
     requires askable { IsAskable asked.now }

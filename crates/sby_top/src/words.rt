@@ -14,7 +14,7 @@ use std::marker::Model;
 
 /// What the words ask: `[-d DIR] --judge DESIGN bmc DEPTH [STREAM ..]`.
 #[derive(Drop)]
-pub struct Asked {
+pub struct TaskRequest {
     pub folder: String,
     pub design: String,
     pub mode: Mode,
@@ -22,7 +22,7 @@ pub struct Asked {
     pub streams: Vec<String>,
 }
 
-impl Model for Asked {
+impl Model for TaskRequest {
     ghost use Rattle.std.specs.Prelude.{map, string_bytes};
     ghost use Rattle.sby_top.specs.Words.{Request};
 
@@ -39,7 +39,7 @@ impl Model for Asked {
 
 /// What the words after the program's name ask, and `None` where they are refused: `clap` doesn't take them, or they
 /// are no `[-d DIR] --judge DESIGN bmc DEPTH [STREAM ..]`. `-f` changes nothing.
-pub fn asked_of(alloc: Global, words: &[String]) -> Result<Option<Asked>, AllocError>
+pub fn asked_of(alloc: Global, words: &[String]) -> Result<Option<TaskRequest>, AllocError>
     ensures { IfOk result (IsAsked (map string_bytes words.now)) }
 {
     match command::command(alloc)?.try_get_matches_from(words) {

@@ -6,12 +6,10 @@ ghost use Rattle.clap.specs.Walk.{rows_of, first_of, texts};
 ghost use Rattle.sby_terms.specs.declared.names.Mode.TheVariants.{Bmc};
 ghost use Rattle.sby_top.specs.Words.{Request, EndsIn, IsDepth, IsFolder, IsGiven, IsStem, Judges};
 
-use super::Asked;
+use super::TaskRequest;
 use clap::ArgMatches;
-use sby_terms::Mode;
+use sby_terms::{MAX_DEPTH, Mode, number_upto, numbers_are_decimal};
 use std::alloc::{AllocError, Global};
-
-const MAX_DEPTH: u32 = 1000;
 
 /// The parts of a request, where they stand in the words.
 #[derive(Clone, Copy)]
@@ -34,14 +32,8 @@ fn is_given(matches: &ArgMatches<'_>, id: &str) -> bool
 fn depth_of(word: &str) -> Option<u32>
     ensures { MatchOption result ((depth : ℕ) → IsDepth word.now depth → ⊥) (IsDepth word.now) }
 {
-    let bytes = word.as_bytes();
-    if bytes.is_empty() || bytes[0] == b'0' || bytes[0] == b'+' {
-        return None;
-    }
-    match word.parse::<u32>() {
-        Ok(depth) if depth >= 1 && depth <= MAX_DEPTH => Some(depth),
-        _ => None,
-    }
+    numbers_are_decimal();
+    number_upto(MAX_DEPTH, word.as_bytes())
 }
 
 fn stem_of(design: &str) -> &str
@@ -135,14 +127,14 @@ fn owned(alloc: Global, list: &[&str]) -> Result<Vec<String>, AllocError>
 }
 
 /// What the matches ask.
-pub fn asked_by(alloc: Global, matches: &ArgMatches<'_>) -> Result<Option<Asked>, AllocError>
+pub fn asked_by(alloc: Global, matches: &ArgMatches<'_>) -> Result<Option<TaskRequest>, AllocError>
     ensures { IfOk result (λ asked. MatchOption asked
         ((r : Request) → Judges (rows_of (found_of matches.now)) r → ⊥)
         (Judges (rows_of (found_of matches.now)))) }
 {
     match parts_of(matches) {
         None => Ok(None),
-        Some(parts) => Ok(Some(Asked {
+        Some(parts) => Ok(Some(TaskRequest {
             folder: String::from_str(alloc, parts.folder)?,
             design: String::from_str(alloc, parts.design)?,
             mode: Mode::Bmc,

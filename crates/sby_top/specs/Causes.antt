@@ -42,8 +42,8 @@ IsDone request before after text report =
     (p : AskedOf) × IsServed before request p × (text ≡ p.problem.text) × ArePut p request.folder (jobs_in p) before after × IsReport p after request.streams report
 
 -- a task ended before its lanes, for a reason; or it was done, with one report, and no file call failed
-abbrev pub Came : Request → Option Store → Option Store → ℕ → ℕ → Option (List ℕ) → Option Early → List ℕ → List (ReportOf FindingOf) → Type 0
-Came request before after faults_before faults blamed (Some early) text reports =
+abbrev pub IsOutcome : Request → Option Store → Option Store → ℕ → ℕ → Option (List ℕ) → Option Early → List ℕ → List (ReportOf FindingOf) → Type 0
+IsOutcome request before after faults_before faults blamed (Some early) text reports =
     (text ≡ []) × (reports ≡ []) × HasReason request before after faults_before faults blamed early
-Came request before after faults_before faults blamed None text reports =
+IsOutcome request before after faults_before faults blamed None text reports =
     (report : ReportOf FindingOf) × (reports ≡ report ∷ []) × (faults ≡ faults_before) × IsDone request before after text report
