@@ -14,3 +14,7 @@ pub mod Blocks
 pub mod RowsSaid
 pub mod Designs
 pub mod Said
+pub mod SeenLines
+pub mod BlockLines
+pub mod FaultLines
+pub mod FaultOrder

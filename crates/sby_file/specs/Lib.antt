@@ -19,3 +19,5 @@ pub mod Comments
 pub mod Paths
 pub mod Blocks
 pub mod Said
+pub mod Lines
+pub mod Faulty

@@ -1,12 +1,17 @@
 //! What the definitions mean in the format's terms: each function's contract is a law, and its body is empty.
 
-ghost use Rattle.std.specs.Prelude.{◌≡◌, ◌↔◌, ◌⊎◌, ◌++◌, ◌∷◌, [], ℕ, Bool, true, false, List, Option, Some, None, Ok, codes, map, unwrap_or};
+ghost use Rattle.std.specs.Prelude.{◌≡◌, ◌↔◌, ◌<◌, ◌≤◌, ◌^◌, ◌⊎◌, ◌++◌, Contains, length, ◌∷◌, [], ℕ, Bool, true, false, List, Option, Some, None, Ok, codes, map, unwrap_or};
 ghost use Rattle.sby_terms.specs.declared.names.Status.{Status};
 ghost use Rattle.sby_file.specs.Blocks.{IsKept};
 ghost use Rattle.sby_file.specs.Comments.{HasComment, MayComment};
 ghost use Rattle.sby_file.specs.Config.{ConfigOf};
 ghost use Rattle.sby_file.specs.Engines.{engine_of};
 ghost use Rattle.sby_file.specs.Expand.{Expand};
+ghost use Rattle.sby_file.specs.Faults.{faults_of, first};
+ghost use Rattle.sby_file.specs.Faulty.{HasFault, IsNoLater};
+ghost use Rattle.sby_file.specs.Placed.{placed};
+ghost use Rattle.sby_file.specs.declared.fault.SbyFault.{SbyFault};
+ghost use Rattle.sby_file.specs.declared.fault.SbyKind.{SbyKind};
 ghost use Rattle.sby_file.specs.Files.{part_of};
 ghost use Rattle.sby_file.specs.Paths.{IsLastPart};
 ghost use Rattle.sby_file.specs.Said.{AreKept, HasDesign, IsSet, IsUnset, engine_lines, script_lines};
@@ -64,4 +69,17 @@ pub fn kept_lines_say_the_task()
 pub fn script_names_the_design()
     ensures { (c : ConfigOf) (asked : Option (List ℕ)) (t : Task) (rows : List Row) → Expand c asked t → AreKept c asked rows
         → (name : List ℕ) × (script_lines rows ≡ (codes "read_rtlil" ∷ name ∷ []) ∷ []) × HasDesign c.files rows name t }
+{}
+
+/// The faults of a text of at most 2^24 bytes are those of its lines: each kind, line by line, by what stands before it and behind it.
+/// A longer text has the one fault Limit, at line 0.
+pub fn faults_are_of_lines()
+    ensures lines { (bytes : List ℕ) (line : ℕ) (kind : SbyKind) → length bytes ≤ 2 ^ 24
+        → Contains (faults_of bytes) (record { line = line; kind = kind }) ↔ HasFault (placed bytes) line kind }
+    ensures size { (bytes : List ℕ) → 2 ^ 24 < length bytes → faults_of bytes ≡ record { line = 0; kind = SbyKind.Limit } ∷ [] }
+{}
+
+/// The fault that is answered is the first: no other is of an earlier line, or of the same line and of an earlier kind.
+pub fn first_fault_is_answered()
+    ensures { (bytes : List ℕ) (f g : SbyFault) → first (faults_of bytes) ≡ Some f → Contains (faults_of bytes) g → IsNoLater f g }
 {}
