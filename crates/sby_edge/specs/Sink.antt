@@ -12,7 +12,7 @@ AreAll count taken = IfSome count (λ n. IfSome taken (λ bytes. n ≡ length by
 
 -- How many bytes had been taken when a call last failed, or took nothing of a piece that isn't empty, where it is told: all so far,
 -- if this call did; else as many as before.
-pub record Ends {E : Type 0} (before now : Option ℕ) (taken : Option (List ℕ)) (piece : List ℕ) (result : Result ℕ E) : Type 0 where
+pub record EndsAt {E : Type 0} (before now : Option ℕ) (taken : Option (List ℕ)) (piece : List ℕ) (result : Result ℕ E) : Type 0 where
   pub failed : OnErr result (AreAll now taken)
   pub nothing : IfOk result (λ count. count ≡ 0 → 0 < length piece → AreAll now taken)
   pub ok : IfOk result (λ count. (0 < count) ⊎ (length piece ≡ 0) → now ≡ before)
