@@ -1,0 +1,9 @@
+pub mod Trails
+pub mod Stores
+pub mod Rows
+pub mod Falsified
+pub mod Watched
+pub mod Slots
+pub mod Visits
+pub mod Arms
+pub mod Walks

@@ -1,0 +1,5 @@
+pub mod Propagation
+pub mod Propagator
+pub mod Marks
+pub mod Watch
+pub mod Visit
