@@ -1,22 +1,22 @@
 -- What each outcome of a visit of one clause leaves of the loop over the list.
-use Rattle.std.proofs.Common.{◌≡◌, ◌≢◌, ◌⊎◌, ℕ, ◌+◌, ◌<◌, ◌≤◌, true, false, List, [], ◌∷◌, ◌++◌, length, get_or, set, refl, sym, ◌∙◌, ap, subst, inl, inr, arith}
-use Rattle.std.specs.Prelude.{Contains, All, Option, Some, None, is_some}
+use Rattle.std.proofs.Common.{◌≡◌, ◌≢◌, ◌⊎◌, ℕ, ◌+◌, ◌<◌, ◌≤◌, true, false, List, [], ◌∷◌, ◌++◌, length, get_or, set, refl, sym, ◌∙◌, ap, subst, inl, inr}
+use Rattle.std.specs.Prelude.{Contains, Option, Some, None, is_some}
 use Rattle.std.proofs.lemmas.Bool.{false≢true}
 use Rattle.std.proofs.lemmas.List.{get_or_default}
 use Rattle.std.proofs.lemmas.List.Elements.{All-get_or, Contains-append_left, Contains-push}
-use Rattle.cnf_form.specs.Cnf.{LitOf, negate, index_of}
+use Rattle.cnf_form.specs.Cnf.{LitOf, negate}
 use Rattle.cnf_form.proofs.Literals.{lit_cases}
 use Rattle.unit_propagation.specs.declared.watch.Head.{Head}
 use Rattle.unit_propagation.specs.declared.watch.Watch.{Watch}
 use Rattle.unit_propagation.specs.declared.visit.Stop.{Stop}
 use Rattle.unit_propagation.specs.declared.visit.Stop.TheVariants.{Conflict, Memory}
-use Rattle.unit_propagation.specs.Propagation.{IsOpen, IsSatisfied, IsFalsified, IsFalsifiedBut, Propagates}
+use Rattle.unit_propagation.specs.Propagation.{IsOpen, IsFalsifiedBut, Propagates}
 use Rattle.unit_propagation.specs.Propagator.{slot_at, clauses_of}
-use Rattle.unit_propagation.specs.Watch.{row, Watches, IsStale}
+use Rattle.unit_propagation.specs.Watch.{Watches, IsStale}
 use Rattle.unit_propagation.specs.Visit.{State, IsKept, EntryFits, MovesWatch, Assigns, IsVisited, IsPending, StopFits}
 use Rattle.unit_propagation.proofs.Slots.{clauses_of-contains}
 use Rattle.unit_propagation.proofs.Falsified.{falsified_by_all}
-use Rattle.unit_propagation.proofs.Watched.{kept_grown, kept_satisfied, kept_stale, other_in}
+use Rattle.unit_propagation.proofs.Watched.{kept_satisfied, kept_stale, other_in}
 use Rattle.unit_propagation.proofs.Visits.{propagates_none, propagates_unit, state_of, visited_kept, pending_kept, visited_left, pending_left, visited_moved, pending_moved, kept_before}
 
 pub slot_cases : (o : Option (List LitOf)) → ((c : List LitOf) × (o ≡ Some c)) ⊎ (o ≡ None)
@@ -99,9 +99,9 @@ module _ (slots : List (Option (List LitOf))) (start s : State) (f : LitOf) (p :
     arm_satisfied s' on e = subst (λ z. Goes z (set list kept (record { clause = j₀; blocker = other })) (kept + 1) None) (sym e)
         (kept_visit s.trail (propagates_none (clauses_of slots) s.trail), kept_pending s.trail (λ l h. h) on)
 
-    pub arm_assigned : (s' : State) → IsFalsifiedBut s.trail c other → Assigns s s' other → Goes s' (set list kept (record { clause = j₀; blocker = other })) (kept + 1) None
-    arm_assigned s' unit w = subst (λ z. Goes z (set list kept (record { clause = j₀; blocker = other })) (kept + 1) None) (sym (state_of s' _ _ _ w.heads w.rows w.trail)) (
-      kept_visit (s.trail ++ other ∷ []) (propagates_unit (clauses_of slots) s.trail c other (clauses_of-contains slots j₀ c is) other_facts.0 unit),
+    pub arm_assigned : (s' : State) → IsFalsifiedBut s.trail c other → IsOpen s.trail other → Assigns s s' other → Goes s' (set list kept (record { clause = j₀; blocker = other })) (kept + 1) None
+    arm_assigned s' unit o w = subst (λ z. Goes z (set list kept (record { clause = j₀; blocker = other })) (kept + 1) None) (sym (state_of s' _ _ _ w.heads w.rows w.trail)) (
+      kept_visit (s.trail ++ other ∷ []) (propagates_unit (clauses_of slots) s.trail c other (clauses_of-contains slots j₀ c is) other_facts.0 unit o),
       kept_pending (s.trail ++ other ∷ []) (λ l h. Contains-append_left s.trail (other ∷ []) l h) (Contains-push s.trail other),
     )
 

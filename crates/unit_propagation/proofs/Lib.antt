@@ -7,3 +7,9 @@ pub mod Slots
 pub mod Visits
 pub mod Arms
 pub mod Walks
+pub mod Entries
+pub mod Scanning
+pub mod Filing
+pub mod States
+pub mod Assumptions
+pub mod Levels

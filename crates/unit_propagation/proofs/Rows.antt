@@ -1,14 +1,16 @@
 -- Watch lists by literal.
-use Rattle.std.proofs.Common.{◌≡◌, ◌≢◌, ℕ, ◌<◌, ◌≤◌, ◌+◌, ◌*◌, List, [], ◌∷◌, ◌++◌, length, map, get_or, set, replicate, refl, sym, ◌∙◌, ap, subst, inl, inr, arith}
+use Rattle.std.proofs.Common.{◌≡◌, ◌≢◌, ℕ, ◌<◌, ◌≤◌, ◌+◌, ◌*◌, List, [], ◌∷◌, length, get_or, set, sym, ◌∙◌, ap, subst, inl, inr, arith, zero, suc}
 use Rattle.std.proofs.lemmas.List.{get_or-set_same, get_or-set_other, get_or-map, map-set, length-map, set-get_or, get_or_past}
 use Rattle.std.proofs.lemmas.Bool.{cases_lt}
-use Rattle.std.specs.Prelude.{All}
+use Rattle.std.specs.Prelude.{All, Contains}
+use Rattle.std.proofs.lemmas.List.Elements.{All-contains, All-head, All-tail}
+use Rattle.cnf_form.proofs.Members.{Contains-empty}
 use Rattle.std.specs.declared.vec.Vec.{Vec}
 use Rattle.std.specs.declared.alloc.Global.{Global}
 use Rattle.cnf_form.specs.Cnf.{LitOf, index_of}
 use Rattle.cnf_form.proofs.Literals.{index_of-injective}
 use Rattle.unit_propagation.specs.declared.watch.Watch.{Watch}
-use Rattle.unit_propagation.specs.Watch.{rows_of, row}
+use Rattle.unit_propagation.specs.Watch.{rows_of, row, AreWatches, WatchFits}
 use Rattle.unit_propagation.proofs.Trails.{index_room}
 
 pub row_set_same : (rows : List (List Watch)) (l : LitOf) (xs : List Watch) → index_of l < length rows → row (set rows (index_of l) xs) l ≡ xs
@@ -51,3 +53,9 @@ rows_empty lists l a =
 -- the list of a literal within bounds
 pub row_room : (lists : List (Vec Watch Global)) (vars : ℕ) (l : LitOf) → length lists ≡ 2 * vars + 2 → l.var ≤ vars → index_of l < length (rows_of lists)
 row_room lists vars l e h = omega (arith, index_room l vars h, length-rows lists, e)
+
+-- an entry of a list of lists that fit
+pub row_fits : (vars count : ℕ) (lists : List (Vec Watch Global)) (i : ℕ) (w : Watch) → All (AreWatches vars count) lists → Contains (get_or (rows_of lists) i []) w → WatchFits vars count w
+row_fits vars count [] i w a h = absurd (Contains-empty w h)
+row_fits vars count (v ∷ vs) zero w a h = All-contains (WatchFits vars count) v.items w (All-head (AreWatches vars count) v vs a) h
+row_fits vars count (v ∷ vs) (suc i) w a h = row_fits vars count vs i w (All-tail (AreWatches vars count) v vs a) h

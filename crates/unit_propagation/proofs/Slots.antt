@@ -1,5 +1,5 @@
 -- The clauses that stand in slots.
-use Rattle.std.proofs.Common.{◌≡◌, ℕ, ◌<◌, ◌+◌, List, [], ◌∷◌, ◌++◌, length, get_or, set, refl, sym, ◌∙◌, ap, subst, inl, inr, ◌⊎◌, arith, zero, suc}
+use Rattle.std.proofs.Common.{◌≡◌, ℕ, ◌<◌, List, [], ◌∷◌, length, ap, subst, inl, inr, arith, zero, suc}
 use Rattle.std.specs.Prelude.{Contains, Option, Some, None}
 use Rattle.cnf_form.specs.Cnf.{LitOf}
 use Rattle.cnf_form.proofs.Members.{Contains-empty, Contains-head, Contains-tail, Contains-cases}

@@ -1,10 +1,11 @@
 -- What the slots are when heads and literals change.
-use Rattle.std.proofs.Common.{◌≡◌, ◌≢◌, ℕ, ◌<◌, ◌≤◌, ◌+◌, ◌==◌, true, false, List, [], ◌∷◌, ◌++◌, length, map, get_or, set, drop, take, refl, sym, ◌∙◌, ap, subst, inl, inr, arith, length-append}
-use Rattle.std.specs.Prelude.{All, slice_range, Some, None, Option, Contains}
-use Rattle.std.proofs.lemmas.Bool.{cases_eq, eq-eqb, eqb-true, cases_Bool}
+use Rattle.std.proofs.Common.{◌≡◌, ◌≢◌, ℕ, ◌<◌, ◌≤◌, ◌-◌, ◌==◌, List, [], ◌∷◌, ◌++◌, length, get_or, set, drop, refl, sym, ◌∙◌, ap, inl, inr, arith}
+use Rattle.std.specs.Prelude.{All, slice_range, Some, None}
+use Rattle.std.proofs.lemmas.Bool.{eq-eqb, eqb-true, cases_Bool, both_ways}
 use Rattle.std.proofs.lemmas.Slice.{between_is, between_to_end}
 use Rattle.std.proofs.lemmas.List.{take-append-le, drop_at, map-append, get_or-map, map-set, set-get_or, length-map}
 use Rattle.std.proofs.lemmas.List.Elements.{All-head, All-tail}
+use Rattle.std.proofs.lemmas.List.Edits.{length-between}
 use Rattle.cnf_form.specs.Cnf.{LitOf}
 use Rattle.unit_propagation.specs.declared.watch.Head.{Head}
 use Rattle.unit_propagation.specs.declared.watch.TheConstants.{GONE}
@@ -51,3 +52,17 @@ slots_of-gone lits heads k h e = map-set (slot_of lits) heads k h ∙ ap (set (s
 
 pub length-slots : (lits : List LitOf) (heads : List Head) → length (slots_of lits heads) ≡ length heads
 length-slots lits heads = length-map heads (slot_of lits)
+
+-- the clause at a head, and its length
+pub slot_lits : (lits : List LitOf) (h : Head) (c : List LitOf) → slot_of lits h ≡ Some c → slice_range lits h.start h.end ≡ c
+slot_lits lits h c e =
+    elim (cases_Bool (h.from == GONE)) [
+      | inl g ↦ absurd (let f : None ≡ Some c = sym (slot_gone lits h (eqb-true h.from GONE g)) ∙ e in cc)
+      | inr g ↦ let f : Some (slice_range lits h.start h.end) ≡ Some c = sym (slot_there lits h (λ q. both_ways _ g (eq-eqb h.from GONE q))) ∙ e in cc
+    ]
+
+pub slot_length : (vars : ℕ) (lits : List LitOf) (heads : List Head) (k : ℕ) (h : Head) (c : List LitOf) → k < length heads → h ≡ get_or heads k h → HeadFits vars (length lits) h
+    → slot_at (slots_of lits heads) k ≡ Some c → length c ≡ h.end - h.start
+slot_length vars lits heads k h c room read fits e =
+    let slot : slot_of lits h ≡ Some c = ap (slot_of lits) read ∙ sym (slot_at-read lits heads k h room) ∙ e in
+    ap length (sym (slot_lits lits h c slot)) ∙ length-between lits h.start h.end fits.end

@@ -1,15 +1,14 @@
 -- A trail that grows by one literal, or loses its last one.
-use Rattle.std.proofs.Common.{◌≡◌, ◌≢◌, ℕ, ◌+◌, ◌-◌, ◌*◌, ◌<◌, ◌≤◌, Bool, true, false, not, cond, List, [], ◌∷◌, ◌++◌, length, get_or, set, take, refl, sym, ◌∙◌, ap, subst, inl, inr, ◌⊎◌, arith}
-use Rattle.std.specs.Prelude.{Contains, All}
-use Rattle.std.specs.List.{count_by}
+use Rattle.std.proofs.Common.{◌≡◌, ℕ, ◌+◌, ◌-◌, ◌*◌, ◌<◌, ◌≤◌, Bool, true, false, not, cond, List, [], ◌∷◌, ◌++◌, length, get_or, set, take, refl, sym, ◌∙◌, ap, subst, inl, inr, arith}
+use Rattle.std.specs.Prelude.{Contains}
 use Rattle.std.proofs.lemmas.Bool.{both_ways, cases_eq, cases_lt, cases_Bool}
 use Rattle.std.proofs.lemmas.List.{get_or-set_same, get_or-set_other, take-append-le, take_at, take_all, get_or_append_left, get_or_push, length_push, length-set}
 use Rattle.std.proofs.lemmas.List.Sums.{sum_by-set}
-use Rattle.std.proofs.lemmas.List.Elements.{All-push, Contains-append_left, Contains-push, Contains-push_cases, Contains-get_or}
+use Rattle.std.proofs.lemmas.List.Elements.{All-push, Contains-append_left, Contains-push, Contains-push_cases}
 use Rattle.cnf_form.specs.Cnf.{LitOf, negate, index_of}
 use Rattle.cnf_form.proofs.Literals.{index_of-injective, lit_cases, negate-negate}
 use Rattle.cnf_form.proofs.Members.{take_one_more}
-use Rattle.unit_propagation.specs.Marks.{is_marked, IsBelow, Shows, IsDistinct, IsTrail, TrailOf}
+use Rattle.unit_propagation.specs.Marks.{is_marked, IsBelow, IsTrail, TrailOf}
 use Rattle.unit_propagation.specs.Propagation.{IsConsistent, IsOpen}
 
 sign_room : (v n : ℕ) (a : Bool) → v ≤ n → 2 * v + cond a 1 0 < 2 * n + 2
@@ -33,6 +32,20 @@ opposite l m e = sym (negate-negate l) ∙ ap negate e
 abbrev weight : Bool → ℕ
 weight b = cond b 1 0
 
+pub consistent_push : (t : List LitOf) (l : LitOf) → IsConsistent t → IsOpen t l → IsConsistent (t ++ l ∷ [])
+consistent_push t l ok o = record {
+  apart = λ m h k. elim (Contains-push_cases t l m h) [
+    | inl h' ↦ elim (Contains-push_cases t l (negate m) k) [
+      | inl k' ↦ ok.apart m h' k'
+      | inr e ↦ o.not_false (subst (Contains t) (opposite m l (sym e)) h')
+    ]
+    | inr e ↦ elim (Contains-push_cases t l (negate m) k) [
+      | inl k' ↦ o.not_false (subst (λ z. Contains t (negate z)) (sym e) k')
+      | inr f ↦ negate-differs m (sym f ∙ e)
+    ]
+  ];
+}
+
 module _ (vars : ℕ) (marks : List Bool) (t : List LitOf) (l : LitOf) where
   pub trail_push : IsTrail vars marks t → l.var ≤ vars → IsOpen t l → IsTrail vars (set marks (index_of l) true) (t ++ l ∷ [])
   trail_push w below o = record {
@@ -41,7 +54,7 @@ module _ (vars : ℕ) (marks : List Bool) (t : List LitOf) (l : LitOf) where
     shows = record { on = shown; off = hidden };
     below = All-push (IsBelow vars) t l w.below below;
     counted = omega (arith, length_push t l, sum_by-set weight marks (index_of l) true false room, ap weight was, w.counted);
-    consistent = record { apart = apart };
+    consistent = consistent_push t l w.consistent o;
     distinct = record { once = once };
   }
     where
@@ -66,19 +79,6 @@ module _ (vars : ℕ) (marks : List Bool) (t : List LitOf) (l : LitOf) where
             | inl e ↦ subst (Contains (t ++ l ∷ [])) (sym e) (Contains-push t l)
             | inr d ↦ let s = w.shows in
                 Contains-append_left t (l ∷ []) m (s.off m (sym (get_or-set_other marks (index_of l) (index_of m) true false (λ e. d (index_of-injective m l e))) ∙ h))
-          ]
-
-      apart : (m : LitOf) → Contains (t ++ l ∷ []) m → Contains (t ++ l ∷ []) (negate m) → ⊥
-      apart m h k =
-          elim (Contains-push_cases t l m h) [
-            | inl h' ↦ elim (Contains-push_cases t l (negate m) k) [
-              | inl k' ↦ let s = w.consistent in s.apart m h' k'
-              | inr e ↦ o.not_false (subst (Contains t) (opposite m l (sym e)) h')
-            ]
-            | inr e ↦ elim (Contains-push_cases t l (negate m) k) [
-              | inl k' ↦ o.not_false (subst (λ z. Contains t (negate z)) (sym e) k')
-              | inr f ↦ negate-differs m (sym f ∙ e)
-            ]
           ]
 
       once : (i : ℕ) (d : LitOf) → i < length (t ++ l ∷ []) → Contains (take i (t ++ l ∷ [])) (get_or (t ++ l ∷ []) i d) → ⊥

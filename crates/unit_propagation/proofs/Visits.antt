@@ -1,6 +1,6 @@
 -- One turn of the loop over the list of a false literal.
 use Rattle.std.proofs.Common.{◌≡◌, ◌≢◌, ◌⊎◌, ℕ, ◌+◌, ◌<◌, ◌≤◌, true, List, [], ◌∷◌, ◌++◌, length, get_or, set, refl, sym, ◌∙◌, ap, subst, inl, inr, arith, append_assoc}
-use Rattle.std.specs.Prelude.{Contains, All, Option, Some, None}
+use Rattle.std.specs.Prelude.{Contains, Option, Some}
 use Rattle.std.proofs.lemmas.Bool.{cases_eq, cases_lt}
 use Rattle.std.proofs.lemmas.List.{get_or-set_same, get_or-set_other, length-set, append-nil, set_past}
 use Rattle.std.proofs.lemmas.List.Elements.{All-set, All-get_or, Contains-append_left, Contains-push, Contains-push_cases}
@@ -8,13 +8,13 @@ use Rattle.cnf_form.specs.Cnf.{LitOf, negate, index_of, Closure, propagated}
 use Rattle.cnf_form.proofs.Literals.{lit_cases}
 use Rattle.unit_propagation.specs.declared.watch.Head.{Head}
 use Rattle.unit_propagation.specs.declared.watch.Watch.{Watch}
-use Rattle.unit_propagation.specs.Propagation.{IsOpen, IsSatisfied, IsFalsifiedBut, IsDerived, ContainsAll, Propagates}
+use Rattle.unit_propagation.specs.Propagation.{IsOpen, IsFalsifiedBut, Propagates}
 use Rattle.unit_propagation.specs.Propagator.{slot_at, clauses_of}
 use Rattle.unit_propagation.specs.Watch.{row, Watches, IsStale}
-use Rattle.unit_propagation.specs.Visit.{State, IsKept, IsWatched, EntryFits, IsListed, StandsIn, IsFiledAt, MovesWatch, Assigns, IsVisited, StandsFrom, IsPending}
+use Rattle.unit_propagation.specs.Visit.{State, IsKept, EntryFits, IsListed, StandsIn, IsFiledAt, IsVisited, StandsFrom, IsPending}
 use Rattle.unit_propagation.proofs.Rows.{row_set_same, row_set_other}
-use Rattle.unit_propagation.proofs.Slots.{clauses_of-contains}
-use Rattle.unit_propagation.proofs.Watched.{kept_grown, kept_less, kept_satisfied, kept_stale, kept_moved, other_in}
+use Rattle.unit_propagation.proofs.Trails.{consistent_push}
+use Rattle.unit_propagation.proofs.Watched.{kept_grown, kept_less, kept_moved, other_in}
 
 -- entries that stand, where the one at k is written at kept, or is left
 module _ (list : List Watch) (kept k j₀ : ℕ) (low : kept ≤ k) (within : k < length list) (here : (e : Watch) → (get_or list k e).clause ≡ j₀) where
@@ -65,18 +65,20 @@ module _ (list : List Watch) (kept k j₀ : ℕ) (low : kept ≤ k) (within : k 
   rest_kept w i e h = get_or-set_other list kept i w e (λ g. omega (arith, h, g))
 
 pub propagates_none : (F : List (List LitOf)) (t : List LitOf) → Propagates F t t
-propagates_none F t = record { added = []; grown = sym (append-nil t); derived = λ G inc d. d }
+propagates_none F t = record { added = []; grown = sym (append-nil t); derived = λ G inc d. d; consistent = λ ok. ok }
 
 pub propagates_trans : (F : List (List LitOf)) (s t u : List LitOf) → Propagates F s t → Propagates F t u → Propagates F s u
 propagates_trans F s t u p q = record {
   added = p.added ++ q.added;
   grown = q.grown ∙ ap (λ z. z ++ q.added) p.grown ∙ append_assoc s p.added q.added;
   derived = λ G inc d. q.derived G inc (p.derived G inc d);
+  consistent = λ ok. q.consistent (p.consistent ok);
 }
 
 -- a literal that a clause makes unit becomes true
-pub propagates_unit : (F : List (List LitOf)) (t c : List LitOf) (l : LitOf) → Contains F c → Contains c l → IsFalsifiedBut t c l → Propagates F t (t ++ l ∷ [])
-propagates_unit F t c l h k unit = record {
+pub propagates_unit : (F : List (List LitOf)) (t c : List LitOf) (l : LitOf) → Contains F c → Contains c l → IsFalsifiedBut t c l → IsOpen t l → Propagates F t (t ++ l ∷ [])
+propagates_unit F t c l h k unit o = record {
+  consistent = λ ok. consistent_push t l ok o;
   added = l ∷ [];
   grown = refl;
   derived = λ G inc d. record {

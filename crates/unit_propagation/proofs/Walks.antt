@@ -1,10 +1,10 @@
 -- Dealing with one literal: the pairs first, then its list.
 use Rattle.std.proofs.Common.{◌≡◌, ◌≢◌, ◌⊎◌, ℕ, ◌+◌, ◌<◌, ◌≤◌, true, false, List, [], ◌∷◌, ◌++◌, length, get_or, set, take, refl, sym, ◌∙◌, ap, subst, inl, inr, arith}
-use Rattle.std.specs.Prelude.{Contains, All, Option, Some, None, is_some, slice_get}
+use Rattle.std.specs.Prelude.{Contains, Option, Some, None, is_some, slice_get}
 use Rattle.std.proofs.lemmas.Bool.{cases_eq, cases_lt, false≢true}
-use Rattle.std.proofs.lemmas.List.{get_or-set_same, get_or-set_other, length-set, get_or-take, length-take-le, get_or_default, set_past, take_at, take_more, take-append-le, length-take}
+use Rattle.std.proofs.lemmas.List.{length-set, get_or-take, length-take-le, get_or_default, set_past, take_at, take_more, take-append-le, length-take}
 use Rattle.std.proofs.lemmas.Option.{slice_get-get_or}
-use Rattle.std.proofs.lemmas.List.Elements.{All-take, All-contains, Contains-append_left, Contains-push, Contains-push_cases, Contains-get_or}
+use Rattle.std.proofs.lemmas.List.Elements.{All-take, All-contains, Contains-append_left, Contains-push_cases, Contains-get_or}
 use Rattle.cnf_form.specs.Cnf.{LitOf, negate, index_of}
 use Rattle.cnf_form.proofs.Literals.{lit_cases, negate-negate}
 use Rattle.cnf_form.proofs.Members.{Contains-empty}
@@ -12,15 +12,14 @@ use Rattle.unit_propagation.specs.declared.watch.Head.{Head}
 use Rattle.unit_propagation.specs.declared.watch.Watch.{Watch}
 use Rattle.unit_propagation.specs.declared.visit.Stop.{Stop}
 use Rattle.unit_propagation.specs.declared.visit.Stop.TheVariants.{Conflict, Memory}
-use Rattle.unit_propagation.specs.Propagation.{IsSatisfied, IsFalsified, IsFalsifiedBut, Propagates}
+use Rattle.unit_propagation.specs.Propagation.{IsOpen, IsFalsified, Propagates}
 use Rattle.unit_propagation.specs.Propagator.{slot_at, clauses_of}
-use Rattle.unit_propagation.specs.Watch.{row, Watches, IsStale}
+use Rattle.unit_propagation.specs.Watch.{row, Watches}
 use Rattle.unit_propagation.specs.Visit.{State, IsKept, AllKept, EntryFits, IsListed, StandsIn, StandsFrom, IsFiledAt, IsVisited, IsPending, StopFits, PairFits, IsFiled, Walks, EndFits, PairsFit, ImpliedFits}
 use Rattle.unit_propagation.proofs.Rows.{row_set_same, row_set_other}
 use Rattle.unit_propagation.proofs.Slots.{clauses_of-contains}
 use Rattle.unit_propagation.proofs.Watched.{kept_grown, kept_satisfied, kept_stale}
 use Rattle.unit_propagation.proofs.Visits.{propagates_none, propagates_trans, propagates_unit, propagates_grows}
-use Rattle.unit_propagation.proofs.Arms.{slot_cases}
 
 -- an entry at some place is an entry from 0 on, in each of two ways
 listed_place : (list : List Watch) (j : ℕ) → IsListed list j → (p : ℕ) × (p < length list) × ((e : Watch) → (get_or list p e).clause ≡ j)
@@ -50,12 +49,12 @@ listed_end list kept k j room past s =
 
 module _ (slots : List (Option (List LitOf))) (pairs : List (List Watch)) (p : List LitOf) (f : LitOf) where
   -- one entry of the pairs
-  pub implied : (heads : List Head) (s t : List LitOf) (w : Watch) → PairFits slots heads f w → Contains s (negate f) → (t ≡ s) ⊎ (t ≡ s ++ w.blocker ∷ []) → Propagates (clauses_of slots) s t
+  pub implied : (heads : List Head) (s t : List LitOf) (w : Watch) → PairFits slots heads f w → Contains s (negate f) → (t ≡ s) ⊎ (IsOpen s w.blocker × (t ≡ s ++ w.blocker ∷ [])) → Propagates (clauses_of slots) s t
   implied heads s t w fit off grown =
       elim grown [
         | inl e ↦ subst (Propagates (clauses_of slots) s) (sym e) (propagates_none (clauses_of slots) s)
-        | inr e ↦ subst (Propagates (clauses_of slots) s) (sym e) (propagates_unit (clauses_of slots) s fit.lits w.blocker (clauses_of-contains slots w.clause fit.lits fit.is) fit.blocker
-            (record { each = λ m h d. elim (fit.two m h) [ inl g ↦ subst (λ z. Contains s (negate z)) (sym g) off | inr g ↦ absurd (d g) ] }))
+        | inr e ↦ subst (Propagates (clauses_of slots) s) (sym e.1) (propagates_unit (clauses_of slots) s fit.lits w.blocker (clauses_of-contains slots w.clause fit.lits fit.is) fit.blocker
+            (record { each = λ m h d. elim (fit.two m h) [ inl g ↦ subst (λ z. Contains s (negate z)) (sym g) off | inr g ↦ absurd (d g) ] }) e.0)
       ]
 
   pub pair_falsified : (heads : List Head) (t : List LitOf) (w : Watch) → PairFits slots heads f w → Contains t (negate f) → Contains t (negate w.blocker) → (c : List LitOf) × (slot_at slots w.clause ≡ Some c) × IsFalsified t c
@@ -146,6 +145,7 @@ module _ (slots : List (Option (List LitOf))) (pairs : List (List Watch)) (p : L
           blocker = x.blocker;
           two = x.two;
           watches = λ d. subst (λ (z : Head). Watches z u w.blocker) (sym (v.short w.clause d x.lits x.is x.short)) (x.watches d);
+          apart = λ d. subst (λ (z : Head). z.left ≢ z.right) (sym (v.short w.clause d x.lits x.is x.short)) (x.apart d);
         };
         wide = λ j c l e h. omega (arith, v.wide j c l e h, length-set new.rows (index_of f) (take n list));
         long = λ j d c h e long a. let x = v.filed j d c h e long a in (at_end j _ x.0, at_end j _ x.1);
@@ -182,15 +182,15 @@ module _ (slots : List (Option (List LitOf))) (heads : List Head) (f : LitOf) (l
   off_still : Contains t (negate f)
   off_still = propagates_grows (clauses_of slots) s t before (negate f) off
 
-  pub pair_grown : (t' ≡ t) ⊎ (t' ≡ t ++ (get_or list k x).blocker ∷ []) → Propagates (clauses_of slots) s t'
+  pub pair_grown : (t' ≡ t) ⊎ (IsOpen t (get_or list k x).blocker × (t' ≡ t ++ (get_or list k x).blocker ∷ [])) → Propagates (clauses_of slots) s t'
   pair_grown g = propagates_trans (clauses_of slots) s t t' before (implied slots [] [] f heads t t' (get_or list k x) (fit (get_or list k x) (Contains-get_or list k x within)) off_still g)
 
-  pub pair_more : ((i : ℕ) (d : Watch) → i < k → Contains t (get_or list i d).blocker) → (t' ≡ t) ⊎ (t' ≡ t ++ (get_or list k x).blocker ∷ []) → Contains t' (get_or list k x).blocker
+  pub pair_more : ((i : ℕ) (d : Watch) → i < k → Contains t (get_or list i d).blocker) → (t' ≡ t) ⊎ (IsOpen t (get_or list k x).blocker × (t' ≡ t ++ (get_or list k x).blocker ∷ [])) → Contains t' (get_or list k x).blocker
       → (i : ℕ) (d : Watch) → i < k + 1 → Contains t' (get_or list i d).blocker
   pair_more all g now i d h =
       elim (cases_eq i k) [
         | inl e ↦ subst (λ (z : Watch). Contains t' z.blocker) (get_or_default list k x d within ∙ ap (λ z. get_or list z d) (sym e)) now
-        | inr ne ↦ let y = all i d (omega (arith, h, ne)) in elim g [ inl e ↦ subst (λ z. Contains z (get_or list i d).blocker) (sym e) y | inr e ↦ subst (λ z. Contains z (get_or list i d).blocker) (sym e) (Contains-append_left t _ _ y) ]
+        | inr ne ↦ let y = all i d (omega (arith, h, ne)) in elim g [ inl e ↦ subst (λ z. Contains z (get_or list i d).blocker) (sym e) y | inr e ↦ subst (λ z. Contains z (get_or list i d).blocker) (sym e.1) (Contains-append_left t _ _ y) ]
       ]
 
   pub pair_ends : (o : Option Stop) → is_some o ≡ true → ImpliedFits t t' (get_or list k r).clause (get_or list k x).blocker o → PairsFit slots list t' o

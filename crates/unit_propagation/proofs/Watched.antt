@@ -1,12 +1,12 @@
 -- Two watched literals with blockers: each step of propagation keeps a clause watched.
-use Rattle.std.proofs.Common.{◌≡◌, ◌≢◌, Bool, true, false, List, [], ◌∷◌, ◌++◌, sym, ◌∙◌, ap, subst, inl, inr, ◌⊎◌}
-use Rattle.std.specs.Prelude.{Contains, Option, Some, None}
-use Rattle.std.proofs.lemmas.List.Elements.{Contains-push_cases, Contains-append_left}
+use Rattle.std.proofs.Common.{◌≡◌, ◌≢◌, List, [], ◌∷◌, ◌++◌, sym, ◌∙◌, ap, subst, inl, inr, ◌⊎◌}
+use Rattle.std.specs.Prelude.{Contains, Option, Some}
+use Rattle.std.proofs.lemmas.List.Elements.{Contains-push_cases}
 use Rattle.cnf_form.specs.Cnf.{LitOf, negate}
 use Rattle.cnf_form.proofs.Literals.{lit_cases, negate-negate}
 use Rattle.cnf_form.proofs.Members.{Contains-empty, Contains-head, Contains-tail, Contains-cases}
 use Rattle.unit_propagation.specs.declared.watch.Head.{Head}
-use Rattle.unit_propagation.specs.Propagation.{IsConsistent, IsSettled, IsSatisfied, IsFalsified, IsFalsifiedBut}
+use Rattle.unit_propagation.specs.Propagation.{IsConsistent, IsSettled, IsSatisfied}
 use Rattle.unit_propagation.specs.Visit.{IsWatched, IsKept}
 use Rattle.unit_propagation.specs.Watch.{Watches, IsStale}
 

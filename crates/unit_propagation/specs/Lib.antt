@@ -3,3 +3,6 @@ pub mod Propagator
 pub mod Marks
 pub mod Watch
 pub mod Visit
+pub mod Scanned
+pub mod Inside
+pub mod Assumption

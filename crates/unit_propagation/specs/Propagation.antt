@@ -46,8 +46,10 @@ pub record IsDerived (F : List (List LitOf)) (t : List LitOf) : Type 0 where
 pub record ContainsAll (F G : List (List LitOf)) : Type 0 where
   pub each : (c : List LitOf) → Contains F c → Contains G c
 
--- The trail grows by unit propagation alone: from whatever clauses have those of F, and derive what was true, the rest follows.
+-- The trail grows by unit propagation alone: from whatever clauses have those of F, and derive what was true, the rest follows. It stays
+-- consistent.
 pub record Propagates (F : List (List LitOf)) (s t : List LitOf) : Type 0 where
   pub added : List LitOf
   pub grown : t ≡ s ++ added
   pub derived : (G : List (List LitOf)) → ContainsAll F G → IsDerived G s → IsDerived G t
+  pub consistent : IsConsistent s → IsConsistent t

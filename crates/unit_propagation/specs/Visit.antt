@@ -1,5 +1,6 @@
 -- The clauses that watch a literal which became false.
-use Rattle.std.specs.Prelude.{⊤, ◌≡◌, ◌≢◌, ◌⊎◌, ℕ, ◌+◌, ◌<◌, ◌≤◌, Bool, true, List, [], ◌∷◌, ◌++◌, length, Option, Some, None, Contains, All, slice_index_or, slice_set}
+use Rattle.std.specs.Prelude.{⊤, ◌≡◌, ◌≢◌, ◌⊎◌, ℕ, ◌<◌, ◌≤◌, List, [], ◌∷◌, ◌++◌, length, Option, Some, None, Result, Ok, Err, Contains, All, slice_index_or, slice_set}
+use Rattle.std.specs.declared.alloc.AllocError.{AllocError}
 use Rattle.cnf_form.specs.Cnf.{LitOf, negate, index_of}
 use Rattle.unit_propagation.specs.declared.watch.Head.{Head}
 use Rattle.unit_propagation.specs.declared.watch.Watch.{Watch}
@@ -139,6 +140,7 @@ pub record PairFits (slots : List (Option (List LitOf))) (heads : List Head) (u 
   pub blocker : Contains lits w.blocker
   pub two : (m : LitOf) → Contains lits m → (m ≡ u) ⊎ (m ≡ w.blocker)
   pub watches : (d : Head) → Watches (slice_index_or heads w.clause d) u w.blocker
+  pub apart : (d : Head) → (slice_index_or heads w.clause d).left ≢ (slice_index_or heads w.clause d).right
 
 -- the entries fit, and each clause that watches two literals has its entries: those of two literals in lists of their own
 pub record IsFiled (slots : List (Option (List LitOf))) (s : State) (pairs : List (List Watch)) : Type 0 where
@@ -178,3 +180,25 @@ abbrev pub PairsFit : List (Option (List LitOf)) → List Watch → List LitOf �
 PairsFit slots list t None = (w : Watch) → Contains list w → Contains t w.blocker
 PairsFit slots list t (Some (Conflict j)) = (c : List LitOf) × (slot_at slots j ≡ Some c) × IsFalsified t c
 PairsFit slots list t (Some Memory) = ⊤
+
+-- the same, but nothing is said of the entries of the clause n
+pub record IsFiledBut (n : ℕ) (slots : List (Option (List LitOf))) (s : State) (pairs : List (List Watch)) : Type 0 where
+  pub entries : (u : LitOf) (w : Watch) → Contains (row s.rows u) w → EntryFits slots w
+  pub pair_entries : (u : LitOf) (w : Watch) → Contains (row pairs u) w → PairFits slots s.heads u w
+  pub wide : (j : ℕ) (c : List LitOf) (l : LitOf) → slot_at slots j ≡ Some c → Contains c l → index_of l < length s.rows
+  pub long : (j : ℕ) (d : Head) (c : List LitOf) → j < length s.heads → j ≢ n → slot_at slots j ≡ Some c → length c ≢ 2
+      → (slice_index_or s.heads j d).left ≢ (slice_index_or s.heads j d).right
+      → IsListed (row s.rows (slice_index_or s.heads j d).left) j × IsListed (row s.rows (slice_index_or s.heads j d).right) j
+  pub short : (j : ℕ) (d : Head) (c : List LitOf) → j < length s.heads → j ≢ n → slot_at slots j ≡ Some c → length c ≡ 2
+      → (slice_index_or s.heads j d).left ≢ (slice_index_or s.heads j d).right
+      → Contains (row pairs (slice_index_or s.heads j d).left) (record { clause = j; blocker = (slice_index_or s.heads j d).right })
+      × Contains (row pairs (slice_index_or s.heads j d).right) (record { clause = j; blocker = (slice_index_or s.heads j d).left })
+
+-- How propagation from a trail that grew past base ended: with nothing left, at a falsified clause, or, for want of memory, with
+-- the trail cut to base.
+abbrev pub SettleFits : List (Option (List LitOf)) → List (List Watch) → State → State → List LitOf → Result (Option ℕ) AllocError → Type 0
+SettleFits slots pairs old new base (Ok None) = Walks slots pairs old new × AllKept new.trail new.trail slots new.heads
+SettleFits slots pairs old new base (Ok (Some k)) = Walks slots pairs old new × (c : List LitOf) × (slot_at slots k ≡ Some c) × IsFalsified new.trail c
+SettleFits slots pairs old new base (Err e) = IsFiled slots new pairs × (new.trail ≡ base)
+    × ((j : ℕ) (d : Head) → j < length new.heads → (b : List LitOf) → ((l : LitOf) → Contains b l → Contains base l)
+    → IsKept b b (slot_at slots j) (slice_index_or old.heads j d) → IsKept b b (slot_at slots j) (slice_index_or new.heads j d))

@@ -1,8 +1,8 @@
 -- Watched literals: where clauses lie, and the lists of watches.
-use Rattle.std.specs.Prelude.{◌≡◌, ◌≢◌, ◌⊎◌, ◌==◌, ℕ, ◌<◌, ◌≤◌, if◌then◌else◌, List, [], map, length, Option, Some, None, Contains, All, slice_range, slice_index_or}
+use Rattle.std.specs.Prelude.{◌≡◌, ◌≢◌, ◌⊎◌, ◌==◌, ℕ, ◌<◌, ◌≤◌, if◌then◌else◌, List, [], map, Option, Some, None, Contains, All, slice_range, slice_index_or}
 use Rattle.std.specs.declared.vec.Vec.{Vec}
 use Rattle.std.specs.declared.alloc.Global.{Global}
-use Rattle.cnf_form.specs.Cnf.{LitOf, negate, index_of}
+use Rattle.cnf_form.specs.Cnf.{LitOf, index_of}
 use Rattle.unit_propagation.specs.declared.watch.Head.{Head}
 use Rattle.unit_propagation.specs.declared.watch.Watch.{Watch}
 use Rattle.unit_propagation.specs.declared.watch.TheConstants.{GONE}
@@ -50,3 +50,18 @@ Watches h l other = ((h.left ≡ l) × (h.right ≡ other)) ⊎ ((h.right ≡ l)
 -- the clause doesn't watch the literal
 abbrev pub IsStale : Head → LitOf → Type 0
 IsStale h l = (h.left ≡ h.right) ⊎ ((h.left ≢ l) × (h.right ≢ l))
+
+-- the entry is one of the two of a clause k that watches left and right
+abbrev pub IsEntryOf : ℕ → LitOf → LitOf → LitOf → Watch → Type 0
+IsEntryOf k left right u w = (w.clause ≡ k) × (((u ≡ left) × (w.blocker ≡ right)) ⊎ ((u ≡ right) × (w.blocker ≡ left)))
+
+-- no entry went, and only entries of the clause k came
+pub record Enters (rows rows' : List (List Watch)) (k : ℕ) (left right : LitOf) : Type 0 where
+  pub keeps : (u : LitOf) (w : Watch) → Contains (row rows u) w → Contains (row rows' u) w
+  pub only : (u : LitOf) (w : Watch) → Contains (row rows' u) w → Contains (row rows u) w ⊎ IsEntryOf k left right u w
+
+-- no entry came, and only entries of the clause k went: those in the lists of left and right
+pub record Leaves (rows rows' : List (List Watch)) (k : ℕ) (left right : LitOf) : Type 0 where
+  pub keeps : (u : LitOf) (w : Watch) → Contains (row rows u) w → w.clause ≢ k → Contains (row rows' u) w
+  pub only : (u : LitOf) (w : Watch) → Contains (row rows' u) w → Contains (row rows u) w
+  pub gone : (u : LitOf) (w : Watch) → Contains (row rows' u) w → (u ≡ left) ⊎ (u ≡ right) → w.clause ≢ k

@@ -1,8 +1,8 @@
 // Watch lists.
 
-ghost use Rattle.std.specs.Prelude.{◌≡◌, ◌≢◌, ◌==◌, ◌+◌, ◌*◌, ◌<◌, ◌≤◌, ◌^◌, ◌++◌, ◌∷◌, [], not, length, All, IfOk, OnOk, OnErr, slice_set, filter};
+ghost use Rattle.std.specs.Prelude.{◌≡◌, ◌≢◌, ◌==◌, ◌+◌, ◌*◌, ◌<◌, ◌≤◌, ◌^◌, ◌++◌, ◌∷◌, [], not, length, All, IfOk, OnOk, OnErr, slice_set, filter, Contains};
 ghost use Rattle.cnf_form.specs.Cnf.{LitOf, index_of};
-ghost use Rattle.unit_propagation.specs.Watch.{AreWatches, WatchFits, rows_of, row};
+ghost use Rattle.unit_propagation.specs.Watch.{AreWatches, WatchFits, Enters, Leaves, rows_of, row};
 ghost use Rattle.unit_propagation.specs.declared.watch.Watch.{Watch};
 
 use crate::watch::Watch;
@@ -115,5 +115,33 @@ impl WatchLists {
         ensures rows { rows_of self.new.lists.items ≡ slice_set (rows_of self.old.lists.items) (index_of l) list.items }
     {
         self.lists[l.index()] = list;
+    }
+
+    // Enters a clause in the lists of the two literals that it watches.
+    pub fn enter(&mut self, clause: u32, left: Lit, right: Lit) -> Result<(), AllocError>
+        requires clause { clause < self.old.clauses }
+        requires left { left.var ≤ self.old.vars }
+        requires right { right.var ≤ self.old.vars }
+        ensures vars { self.new.vars ≡ self.old.vars }
+        ensures clauses { self.new.clauses ≡ self.old.clauses }
+        ensures enters { Enters (rows_of self.old.lists.items) (rows_of self.new.lists.items) clause left right }
+        ensures entered { OnOk result (Contains (row (rows_of self.new.lists.items) left) (record { clause = clause; blocker = right })
+            × Contains (row (rows_of self.new.lists.items) right) (record { clause = clause; blocker = left })) }
+    {
+        self.push(left, clause, right)?;
+        self.push(right, clause, left)?;
+        Ok(())
+    }
+
+    // Takes a clause out of the lists of two literals.
+    pub fn leave(&mut self, clause: u32, left: Lit, right: Lit)
+        requires left { left.var ≤ self.old.vars }
+        requires right { right.var ≤ self.old.vars }
+        ensures vars { self.new.vars ≡ self.old.vars }
+        ensures clauses { self.new.clauses ≡ self.old.clauses }
+        ensures leaves { Leaves (rows_of self.old.lists.items) (rows_of self.new.lists.items) clause left right }
+    {
+        self.remove(left, clause);
+        self.remove(right, clause);
     }
 }

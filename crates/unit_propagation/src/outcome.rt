@@ -1,5 +1,8 @@
 // How propagation ends.
 
+ghost use Rattle.std.specs.Prelude.{◌≡◌};
+ghost use Rattle.unit_propagation.specs.Propagator.{is_conflict};
+
 /// How propagation from assumptions ends.
 #[derive(Clone, Copy, Debug, PartialEq, Eq)]
 pub enum Outcome {
@@ -9,4 +12,17 @@ pub enum Outcome {
     Falsified(u32),
     /// An assumption is false.
     Opposed,
+}
+
+impl Outcome {
+    /// Whether a clause or an assumption is falsified.
+    pub fn is_conflict(self) -> bool
+        ensures { result ≡ is_conflict self }
+    {
+        match self {
+            Outcome::Complete => false,
+            Outcome::Falsified(_) => true,
+            Outcome::Opposed => true,
+        }
+    }
 }

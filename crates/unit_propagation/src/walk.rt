@@ -3,8 +3,8 @@
 ghost use Rattle.std.specs.Prelude.{ℕ, ◌≡◌, ◌≢◌, ◌⊎◌, ◌+◌, ◌*◌, ◌<◌, ◌≤◌, ◌++◌, ◌∷◌, [], List, Option, length, take, Contains, All, IfOk, IfSome, IfNone, Some, None, slice_index_or};
 ghost use Rattle.cnf_form.specs.Cnf.{LitOf, negate};
 ghost use Rattle.unit_propagation.specs.Watch.{WatchFits, slots_of, rows_of, row};
-ghost use Rattle.unit_propagation.specs.Visit.{State, AllKept, IsVisited, IsPending, StopFits, PairFits, IsFiled, Walks, EndFits, ImpliedFits, PairsFit};
-ghost use Rattle.unit_propagation.specs.Propagation.{Propagates};
+ghost use Rattle.unit_propagation.specs.Visit.{State, AllKept, IsVisited, IsPending, StopFits, PairFits, IsFiled, Walks, EndFits, ImpliedFits, PairsFit, SettleFits};
+ghost use Rattle.unit_propagation.specs.Propagation.{IsOpen, Propagates};
 ghost use Rattle.unit_propagation.specs.Propagator.{clauses_of};
 ghost use Rattle.unit_propagation.specs.declared.watch.Head.{Head};
 ghost use Rattle.unit_propagation.specs.declared.watch.Watch.{Watch};
@@ -15,7 +15,7 @@ use crate::trail::Trail;
 use crate::visit::{Stop, Visits, visit_entry};
 use crate::watch::Watch;
 use cnf_form::Lit;
-use std::alloc::Global;
+use std::alloc::{AllocError, Global};
 
 // Keeps the entries from a place on. How many are kept then.
 fn keep_rest(lists: &WatchLists, list: &mut [Watch], kept: usize, from: usize) -> usize
@@ -85,7 +85,7 @@ fn visit_list(
 fn imply(trail: &mut Trail, clause: u32, blocker: Lit) -> Option<Stop>
     requires { blocker.var ≤ trail.old.vars }
     ensures vars { trail.new.vars ≡ trail.old.vars }
-    ensures grown { (trail.new.lits ≡ trail.old.lits) ⊎ (trail.new.lits ≡ trail.old.lits ++ blocker ∷ []) }
+    ensures grown { (trail.new.lits ≡ trail.old.lits) ⊎ (IsOpen trail.old.lits blocker × (trail.new.lits ≡ trail.old.lits ++ blocker ∷ [])) }
     ensures ends { ImpliedFits trail.old.lits trail.new.lits clause blocker result }
 {
     if trail.is_true(blocker) {
@@ -225,4 +225,73 @@ pub(crate) fn propagate(
         head += 1;
     }
     None
+}
+
+// Propagates from a place of the trail on. For want of memory the trail is cut to that place. The falsified clause, if there
+// is one.
+pub(crate) fn settle(
+    alloc: Global,
+    store: &mut ClauseStore,
+    lists: &mut WatchLists,
+    pairs: &WatchLists,
+    trail: &mut Trail,
+    base: usize,
+) -> Result<Option<u32>, AllocError>
+    requires trail { trail.old.vars ≡ store.old.vars }
+    requires lists { lists.old.vars ≡ store.old.vars }
+    requires pairs { pairs.now.vars ≡ store.old.vars }
+    requires clauses { lists.old.clauses ≡ length store.old.heads.items }
+    ensures trail { trail.new.vars ≡ trail.old.vars }
+    ensures store_vars { store.new.vars ≡ store.old.vars }
+    ensures slots { slots_of store.new.lits.items store.new.heads.items ≡ slots_of store.old.lits.items store.old.heads.items }
+    ensures store_count { length store.new.heads.items ≡ length store.old.heads.items }
+    ensures lists_vars { lists.new.vars ≡ lists.old.vars }
+    ensures lists_clauses { lists.new.clauses ≡ lists.old.clauses }
+    ensures step { let slots = slots_of store.old.lits.items store.old.heads.items in
+        let old : State = record { heads = store.old.heads.items; rows = rows_of lists.old.lists.items; trail = trail.old.lits } in
+        let new : State = record { heads = store.new.heads.items; rows = rows_of lists.new.lists.items; trail = trail.new.lits } in
+        base ≤ length old.trail → IsFiled slots old (rows_of pairs.now.lists.items)
+        → AllKept (take base old.trail) old.trail slots old.heads
+        → SettleFits slots (rows_of pairs.now.lists.items) old new (take base old.trail) result }
+{
+    match propagate(alloc, store, lists, pairs, trail, base) {
+        None => Ok(None),
+        Some(Stop::Conflict(k)) => Ok(Some(k)),
+        Some(Stop::Memory) => {
+            trail.cut(base);
+            Err(AllocError)
+        }
+    }
+}
+
+// Makes an open literal true, and propagates. For want of memory the trail is as it was.
+pub(crate) fn settle_unit(
+    alloc: Global,
+    store: &mut ClauseStore,
+    lists: &mut WatchLists,
+    pairs: &WatchLists,
+    trail: &mut Trail,
+    l: Lit,
+) -> Result<Option<u32>, AllocError>
+    requires trail { trail.old.vars ≡ store.old.vars }
+    requires lists { lists.old.vars ≡ store.old.vars }
+    requires pairs { pairs.now.vars ≡ store.old.vars }
+    requires clauses { lists.old.clauses ≡ length store.old.heads.items }
+    requires below { l.var ≤ store.old.vars }
+    requires opened { IsOpen trail.old.lits l }
+    ensures trail { trail.new.vars ≡ trail.old.vars }
+    ensures store_vars { store.new.vars ≡ store.old.vars }
+    ensures slots { slots_of store.new.lits.items store.new.heads.items ≡ slots_of store.old.lits.items store.old.heads.items }
+    ensures store_count { length store.new.heads.items ≡ length store.old.heads.items }
+    ensures lists_vars { lists.new.vars ≡ lists.old.vars }
+    ensures lists_clauses { lists.new.clauses ≡ lists.old.clauses }
+    ensures step { let slots = slots_of store.old.lits.items store.old.heads.items in
+        let old : State = record { heads = store.old.heads.items; rows = rows_of lists.old.lists.items; trail = trail.old.lits } in
+        let new : State = record { heads = store.new.heads.items; rows = rows_of lists.new.lists.items; trail = trail.new.lits } in
+        IsFiled slots old (rows_of pairs.now.lists.items) → AllKept old.trail (old.trail ++ l ∷ []) slots old.heads
+        → SettleFits slots (rows_of pairs.now.lists.items) (record old { trail = old.trail ++ l ∷ [] }) new old.trail result }
+{
+    let base = trail.len();
+    trail.assign(l)?;
+    settle(alloc, store, lists, pairs, trail, base)
 }

@@ -1,4 +1,4 @@
-use Rattle.std.proofs.Common.{◌≡◌, ◌≢◌, ◌+◌, get_or, subst, rules}
+use Rattle.std.proofs.Common.{◌≢◌, subst, rules}
 use Rattle.std.specs.Prelude.{Contains}
 use Rattle.std.proofs.lemmas.List.{places}
 use Rattle.cnf_form.specs.Cnf.{LitOf, negate}

@@ -1,5 +1,5 @@
-use Rattle.std.proofs.Common.{◌≡◌, ◌≢◌, ◌<◌, ◌≤◌, ◌+◌, ◌-◌, length, drop, length-take, get_or, subst, sym, rules, arith}
-use Rattle.std.specs.Prelude.{Contains, slice_range}
+use Rattle.std.proofs.Common.{◌≢◌, ◌-◌, drop, length-take, subst, sym, arith}
+use Rattle.std.specs.Prelude.{Contains}
 use Rattle.cnf_form.specs.Cnf.{LitOf, negate}
 use Rattle.cnf_form.proofs.Members.{Contains-read}
 use Rattle.unit_propagation.proofs.visit.look_at.Goals as goal

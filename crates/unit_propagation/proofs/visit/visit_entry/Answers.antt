@@ -1,6 +1,5 @@
-use Rattle.std.proofs.Common.{◌≡◌, ◌≢◌, ◌<◌, List, length, get_or, refl, sym, subst, rules, arith, inl, inr}
-use Rattle.std.specs.Prelude.{Some, None, Contains}
-use Rattle.cnf_form.specs.Cnf.{LitOf}
+use Rattle.std.proofs.Common.{get_or, refl, rules, inl, inr}
+use Rattle.std.specs.Prelude.{Contains}
 use Rattle.unit_propagation.specs.declared.watch.Head.{Head}
 use Rattle.unit_propagation.specs.Propagator.{slot_at}
 use Rattle.unit_propagation.specs.Watch.{slots_of}
@@ -56,7 +55,7 @@ returns-in-Assigned-clause-step c = λ p start v q.
           let facts = λ (d : Head). e.visited w.0 d w.1 in
           let f = facts (record { start = 0; end = 0; from = 0; left = c.in-Assigned.other; right = c.in-Assigned.other }) in
           let r = c.keep-in-Assigned.ensures in
-          rw r.list (arm_assigned _ start _ _ p _ _ _ (get_or c.args.list.now c.args.k c.index-list-k.result).clause c.requires.kept c.requires.place here (search rules) v q w.0 c.in-Assigned.other w.1 (λ d. (facts d).0) (λ d. (facts d).1) _ f.2 f.4)
+          rw r.list (arm_assigned _ start _ _ p _ _ _ (get_or c.args.list.now c.args.k c.index-list-k.result).clause c.requires.kept c.requires.place here (search rules) v q w.0 c.in-Assigned.other w.1 (λ d. (facts d).0) (λ d. (facts d).1) _ f.2 f.3 f.4)
     ]
 
 pub returns-in-Falsified-clause-step : goal.returns-in-Falsified-clause-step

@@ -1,4 +1,4 @@
-use Rattle.std.proofs.Common.{◌≡◌, ◌≤◌, ◌<◌, length, arith, rules, subst, sym}
+use Rattle.std.proofs.Common.{arith, rules, subst}
 use Rattle.unit_propagation.specs.Visit.{IsVisited}
 use Rattle.unit_propagation.proofs.Arms.{visited_rest}
 use Rattle.unit_propagation.proofs.walk.keep_rest.Goals as goal

@@ -1,4 +1,4 @@
-use Rattle.std.proofs.Common.{◌≤◌, List, length, ◌≡◌}
+use Rattle.std.proofs.Common.{◌≤◌, List}
 use Rattle.std.specs.Prelude.{All, Option}
 use Rattle.cnf_form.specs.Cnf.{LitOf}
 use Rattle.unit_propagation.specs.Watch.{WatchFits}

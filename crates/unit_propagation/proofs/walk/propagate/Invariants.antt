@@ -1,5 +1,4 @@
-use Rattle.std.proofs.Common.{◌+◌, ◌*◌, ◌-◌, ◌≤◌, List, length, take, ◌≡◌}
-use Rattle.std.specs.Prelude.{Option}
+use Rattle.std.proofs.Common.{◌+◌, ◌*◌, ◌-◌, length, take, ◌≡◌}
 use Rattle.unit_propagation.specs.Watch.{slots_of, rows_of}
 use Rattle.unit_propagation.specs.Visit.{State, AllKept, IsFiled, Walks}
 use Rattle.unit_propagation.proofs.walk.propagate.Given as goal

@@ -1,6 +1,4 @@
-use Rattle.std.proofs.Common.{◌≡◌, ◌+◌, ◌<◌, List, length, arith, rules, subst, sym, ◌∙◌}
-use Rattle.std.specs.Prelude.{Option, is_some}
-use Rattle.cnf_form.specs.Cnf.{LitOf}
+use Rattle.std.proofs.Common.{◌+◌, rules, subst, ◌∙◌}
 use Rattle.unit_propagation.specs.Watch.{slots_of, rows_of}
 use Rattle.unit_propagation.specs.Visit.{State, IsVisited, IsPending, StopFits}
 use Rattle.unit_propagation.proofs.Arms.{stop_some, stop_none}

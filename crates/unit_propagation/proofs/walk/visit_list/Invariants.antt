@@ -1,5 +1,5 @@
 use Rattle.std.proofs.Common.{◌≤◌, List, length, ◌≡◌}
-use Rattle.std.specs.Prelude.{All, Option}
+use Rattle.std.specs.Prelude.{All}
 use Rattle.cnf_form.specs.Cnf.{LitOf}
 use Rattle.unit_propagation.specs.Watch.{WatchFits, slots_of, rows_of}
 use Rattle.unit_propagation.specs.Visit.{State, IsVisited, IsPending}

@@ -1,7 +1,6 @@
-use Rattle.std.proofs.Common.{◌≡◌, ◌++◌, ◌∷◌, [], List, length, rules, subst, sym}
-use Rattle.std.specs.Prelude.{Contains}
+use Rattle.std.proofs.Common.{rules}
 use Rattle.std.proofs.lemmas.List.Elements.{Contains-push}
-use Rattle.cnf_form.specs.Cnf.{LitOf, negate}
+use Rattle.cnf_form.specs.Cnf.{negate}
 use Rattle.unit_propagation.specs.Watch.{slots_of, rows_of, row}
 use Rattle.unit_propagation.specs.Propagator.{clauses_of}
 use Rattle.unit_propagation.specs.Visit.{State}

@@ -1,9 +1,8 @@
-use Rattle.std.proofs.Common.{◌≡◌, ◌++◌, ◌∷◌, [], ◌<◌, ◌≤◌, List, length, take, set, arith, rules, refl, subst, sym, ap, ◌∙◌}
-use Rattle.std.specs.Prelude.{Option}
-use Rattle.cnf_form.specs.Cnf.{LitOf, negate, index_of}
+use Rattle.std.proofs.Common.{◌≡◌, [], ◌<◌, ◌≤◌, List, length, take, set, arith, rules, subst, sym, ap, ◌∙◌}
+use Rattle.cnf_form.specs.Cnf.{index_of}
 use Rattle.unit_propagation.specs.declared.watch.Watch.{Watch}
 use Rattle.unit_propagation.specs.Watch.{slots_of, rows_of, row}
-use Rattle.unit_propagation.specs.Visit.{State, IsVisited, IsPending, StopFits, Walks, EndFits}
+use Rattle.unit_propagation.specs.Visit.{State, IsVisited, IsPending, Walks}
 use Rattle.unit_propagation.proofs.Walks.{visited_start, pending_start, walks_end, end_from_stop, take_front}
 use Rattle.unit_propagation.proofs.Rows.{row_room}
 use Rattle.unit_propagation.proofs.walk.visit_long.Goals as goal

@@ -1,4 +1,4 @@
-use Rattle.std.proofs.Common.{ℕ, ◌≤◌, ◌<◌, List, length, get_or, ◌≡◌}
+use Rattle.std.proofs.Common.{ℕ, ◌<◌, List, get_or, ◌≡◌}
 use Rattle.std.specs.Prelude.{Contains, Option}
 use Rattle.cnf_form.specs.Cnf.{LitOf, negate}
 use Rattle.unit_propagation.specs.declared.watch.Head.{Head}

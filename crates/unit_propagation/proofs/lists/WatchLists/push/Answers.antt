@@ -1,4 +1,4 @@
-use Rattle.std.proofs.Common.{◌≡◌, ◌<◌, ◌++◌, ◌∷◌, [], length, arith, ap, sym, ◌∙◌, rules}
+use Rattle.std.proofs.Common.{◌<◌, ◌++◌, ◌∷◌, [], length, ap, sym, ◌∙◌, rules}
 use Rattle.std.proofs.lemmas.Result.{err_from_is_err_and}
 use Rattle.unit_propagation.specs.declared.watch.Watch.{Watch}
 use Rattle.unit_propagation.proofs.Rows.{row_written, row_was, row_kept}

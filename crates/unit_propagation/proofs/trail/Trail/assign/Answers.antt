@@ -1,4 +1,4 @@
-use Rattle.std.proofs.Common.{◌≡◌, ◌++◌, ◌∷◌, [], sym, subst, true, set, rules}
+use Rattle.std.proofs.Common.{sym, subst, true, set, rules}
 use Rattle.unit_propagation.specs.Marks.{IsTrail}
 use Rattle.unit_propagation.proofs.Trails.{trail_push}
 use Rattle.unit_propagation.proofs.trail.Trail.assign.Goals as goal

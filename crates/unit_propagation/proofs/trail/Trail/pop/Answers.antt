@@ -1,4 +1,4 @@
-use Rattle.std.proofs.Common.{◌-◌, arith, sym, rules}
+use Rattle.std.proofs.Common.{◌-◌, rules}
 use Rattle.unit_propagation.proofs.Trails.{trail_cut}
 use Rattle.unit_propagation.proofs.trail.Trail.pop.Goals as goal
 
