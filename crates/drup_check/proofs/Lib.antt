@@ -1,3 +1,1 @@
-pub mod Scan
-pub mod Fixpoint
-pub mod Asking
+pub mod Sounds

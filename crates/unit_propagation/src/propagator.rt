@@ -94,7 +94,8 @@ impl Propagator {
 
     /// The number of clauses that were put, those that were taken out among them.
     pub fn len(&self) -> usize
-        ensures { result ≡ length self.now.slots }
+        ensures count { result ≡ length self.now.slots }
+        ensures few { length self.now.slots < u32.MAX }
     {
         self.store.len()
     }

@@ -18,6 +18,7 @@ pub struct ClauseStore {
     lits: Vec<Lit>,
     heads: Vec<Head>,
     ghost counted: { length lits.items < GONE },
+    ghost few: { length heads.items < GONE },
     ghost below: { All (IsBelow vars) lits.items },
     ghost fit: { All (HeadFits vars (length lits.items)) heads.items },
 }
@@ -36,7 +37,8 @@ impl ClauseStore {
     }
 
     pub fn len(&self) -> usize
-        ensures { result ≡ length self.now.heads.items }
+        ensures count { result ≡ length self.now.heads.items }
+        ensures few { length self.now.heads.items < GONE }
     {
         self.heads.len()
     }

@@ -1,0 +1,11 @@
+use Rattle.std.proofs.Common.{◌≡◌, take}
+use Rattle.unit_propagation.specs.Propagator.{clauses_of}
+use Rattle.drup_check.specs.Sound.{IsSound}
+use Rattle.drup_check.proofs.Checker.new.Given as goal
+
+abbrev pub invariant-loop-place : goal.invariant-loop-place
+invariant-loop-place l = record {
+  sound : IsSound l.propagator;
+  vars : l.propagator.vars ≡ l.fn.formula.vars;
+  clauses : clauses_of l.propagator.slots ≡ take l.place l.fn.formula.clauses;
+}
