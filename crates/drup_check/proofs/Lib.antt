@@ -1,1 +1,4 @@
 pub mod Sounds
+pub mod Hashes
+pub mod Chaining
+pub mod Covering

@@ -1,8 +1,8 @@
 // Which clause a deletion names.
 
-ghost use Rattle.std.specs.Prelude.{◌≡◌, ◌↔◌, ◌<◌, ◌^◌, ℕ, List, length, All, IsTrue, IfSome, IfNone, Contains, Some};
+ghost use Rattle.std.specs.Prelude.{◌≡◌, ◌↔◌, ◌<◌, List, length, All, IsTrue, Contains, Some};
 ghost use Rattle.cnf_form.specs.Cnf.{LitOf, SameClause};
-ghost use Rattle.unit_propagation.specs.Propagator.{clauses_of, slot_at};
+ghost use Rattle.unit_propagation.specs.Propagator.{slot_at};
 
 use cnf_form::Lit;
 use unit_propagation::Propagator;
@@ -37,27 +37,15 @@ fn is_same(a: &[Lit], b: &[Lit]) -> bool
 }
 
 // Whether the clause with a number is this one.
-fn is_at(propagator: &Propagator, k: u32, clause: &[Lit]) -> bool
-    requires { k < length propagator.now.slots }
-    ensures { IsTrue result ↔ (c : List LitOf) × (slot_at propagator.now.slots k ≡ Some c) × SameClause clause.now c }
+pub(crate) fn is_at(propagator: &Propagator, k: u32, clause: &[Lit]) -> bool
+    ensures within { IsTrue result → k < length propagator.now.slots }
+    ensures same { IsTrue result ↔ (c : List LitOf) × (slot_at propagator.now.slots k ≡ Some c) × SameClause clause.now c }
 {
+    if k as usize >= propagator.len() {
+        return false;
+    }
     match propagator.clause(k) {
         Some(c) => is_same(clause, c),
         None => false,
     }
-}
-
-// The number of a copy of the clause.
-pub(crate) fn number_of(propagator: &Propagator, clause: &[Lit]) -> Option<u32>
-    ensures within { IfSome result (λ k. k < length propagator.now.slots) }
-    ensures found { IfSome result (λ k. (c : List LitOf) × (slot_at propagator.now.slots k ≡ Some c) × SameClause clause.now c) }
-    ensures none { IfNone result ((k : ℕ) (c : List LitOf) → k < length propagator.now.slots → slot_at propagator.now.slots k ≡ Some c
-        → SameClause clause.now c → ⊥) }
-{
-    for k in 0..propagator.len() {
-        if is_at(propagator, k as u32, clause) {
-            return Some(k as u32);
-        }
-    }
-    None
 }

@@ -6,14 +6,22 @@ ghost use Rattle.cnf_form.specs.Cnf.{ClauseWithin, IsAdmitted, Deletes};
 ghost use Rattle.drup_check.specs.Checking.{CheckerOf, start, with_clause};
 
 mod find;
+mod hash;
 mod refute;
+mod store;
+mod table;
 
-use crate::find::number_of;
-use crate::refute::{is_reason, refutes, store};
+use crate::hash::hash;
+use crate::refute::{is_reason, refutes};
+use crate::store::store_clause;
+use crate::table::Table;
 use cnf_form::{Formula, Lit};
 use std::alloc::{AllocError, Global};
 use std::marker::Model;
 use unit_propagation::Propagator;
+
+// A table has at least so many chains.
+const CHAINS: usize = 1 << 16;
 
 /// What a checker answers to a clause.
 #[derive(Clone, Copy, Debug, PartialEq, Eq)]
@@ -26,6 +34,9 @@ pub enum Added {
 #[derive(Drop)]
 pub struct Checker {
     propagator: Propagator,
+    table: Table,
+    // Set nowhere between the calls.
+    marks: Vec<bool>,
     line: Vec<Lit>,
     refuted: bool,
     out_of_memory: bool,
@@ -34,13 +45,16 @@ pub struct Checker {
 impl Model for Checker {
     ghost use Rattle.unit_propagation.specs.Propagator.{clauses_of};
     ghost use Rattle.drup_check.specs.Checking.{CheckerOf};
+    ghost use Rattle.std.specs.Prelude.{◌≡◌, false, length};
     ghost use Rattle.drup_check.specs.Sound.{IsSound};
+    ghost use Rattle.drup_check.specs.Chains.{IsIndexed};
 
     ghost Value = { CheckerOf };
 
     ghost view = { λ k. record { vars = k.propagator.vars; clauses = clauses_of k.propagator.slots; refuted = k.refuted; out_of_memory = k.out_of_memory } };
 
-    ghost invariant = { λ k. IsSound k.propagator };
+    ghost invariant = { λ k. IsSound k.propagator × IsIndexed k.propagator k.table.heads.items k.table.links.items k.marks.items
+        × (k.out_of_memory ≡ false → length k.table.links.items ≡ length k.propagator.slots) };
 }
 
 impl Checker {
@@ -48,13 +62,18 @@ impl Checker {
     pub fn new(alloc: Global, formula: &Formula) -> Result<Self, AllocError>
         ensures { IfOk result (λ k. k ≡ start formula.now) }
     {
-        let mut propagator = Propagator::new(alloc, formula.vars())?;
+        let vars = formula.vars();
         let clauses = formula.clauses();
+        let mut propagator = Propagator::new(alloc, vars)?;
+        let mut table = Table::new(alloc, clauses.len().max(CHAINS))?;
+        let mut marks = vec![in alloc; false; 2 * vars as usize + 2]?;
         for place in 0..clauses.len() {
-            store(&mut propagator, clauses.get(place))?;
+            store_clause(&mut propagator, &mut table, &mut marks, clauses.get(place))?;
         }
         Ok(Checker {
             propagator,
+            table,
+            marks,
             line: Vec::new(alloc),
             refuted: false,
             out_of_memory: false,
@@ -75,11 +94,21 @@ impl Checker {
 
     // Puts a clause after the others.
     fn push(&mut self, clause: &[Lit]) -> Result<(), AllocError>
-        requires { ClauseWithin self.old.vars clause.now }
+        requires within { ClauseWithin self.old.vars clause.now }
+        requires memory { self.old.out_of_memory ≡ false }
         ensures ok { OnOk result (self.new ≡ record self.old { clauses = self.old.clauses ++ clause.now ∷ [] }) }
-        ensures err { OnErr result (self.new ≡ self.old) }
+        ensures err { OnErr result (self.new ≡ record self.old { out_of_memory = true }) }
     {
-        store(&mut self.propagator, clause)
+        let stored = store_clause(
+            &mut self.propagator,
+            &mut self.table,
+            &mut self.marks,
+            clause,
+        );
+        if stored.is_err() {
+            self.out_of_memory = true;
+        }
+        stored
     }
 
     /// Adds a clause over the formula's variables, if it is RUP: if unit propagation from the clauses and its negated
@@ -106,10 +135,7 @@ impl Checker {
                 return Err(e);
             }
         }
-        if self.push(clause).is_err() {
-            self.out_of_memory = true;
-            return Err(AllocError);
-        }
+        self.push(clause)?;
         if clause.is_empty() {
             self.refuted = true;
         }
@@ -129,7 +155,8 @@ impl Checker {
         if is_reason(&self.propagator, clause) {
             return;
         }
-        let Some(k) = number_of(&self.propagator, clause) else {
+        let hash = hash(&mut self.marks, clause, self.propagator.vars());
+        let Some(k) = self.table.find(hash, &self.propagator, clause) else {
             return;
         };
         self.propagator.take_out(k);

@@ -1,9 +1,9 @@
 // Questions to the propagator.
 
-ghost use Rattle.std.specs.Prelude.{◌≡◌, ◌≢◌, ◌↔◌, ◌++◌, ◌∷◌, [], false, List, length, map, Contains, IfOk, OnOk, OnErr, IsTrue};
+ghost use Rattle.std.specs.Prelude.{◌≡◌, ◌≢◌, ◌↔◌, ◌++◌, ◌∷◌, [], false, List, length, map, Contains, IfOk, OnOk, OnErr, IsTrue, Some};
 ghost use Rattle.cnf_form.specs.Cnf.{LitOf, negate, ClauseWithin, IsAdmitted};
 ghost use Rattle.unit_propagation.specs.Propagation.{IsConsistent, IsFalsifiedBut};
-ghost use Rattle.unit_propagation.specs.Propagator.{PropagatorOf, clauses_of};
+ghost use Rattle.unit_propagation.specs.Propagator.{PropagatorOf, clauses_of, Same};
 ghost use Rattle.drup_check.specs.Sound.{IsSound};
 
 use cnf_form::Lit;
@@ -17,6 +17,8 @@ pub(crate) fn store(propagator: &mut Propagator, clause: &[Lit]) -> Result<(), A
     ensures vars { propagator.new.vars ≡ propagator.old.vars }
     ensures sound { IsSound propagator.new }
     ensures ok { OnOk result (clauses_of propagator.new.slots ≡ clauses_of propagator.old.slots ++ clause.now ∷ []) }
+    ensures slots { OnOk result (propagator.new.slots ≡ propagator.old.slots ++ Some clause.now ∷ []) }
+    ensures wanting { OnErr result (Same propagator.old.slots propagator.new.slots) }
     ensures err { OnErr result (clauses_of propagator.new.slots ≡ clauses_of propagator.old.slots) }
 {
     propagator.put(clause)?;

@@ -8,7 +8,8 @@ use Rattle.drup_check.proofs.Checker.admits.Goals as goal
 
 pub returns-then-conflict-clause-exact : goal.returns-then-conflict-clause-exact
 returns-then-conflict-clause-exact c =
-    let s = c.self.invariant in
+    let i = c.self.invariant in
+    let s = i.0 in
     let e = c.conflict.ensures in
     subst (λ (k : CheckerOf). IsTrue true ↔ IsAdmitted k.clauses c.args.clause.now) c.self.view_is
     (refuted_cases true _ (λ _. admitted_at_conflict _ c.args.clause.now (s.conflict (sym e.conflict ∙ c.if-conflict.true))) (λ g. absurd (false≢true (sym g))))
