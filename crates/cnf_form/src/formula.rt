@@ -1,6 +1,6 @@
 // A formula, whose literals all lie in one list.
 
-ghost use Rattle.std.specs.Prelude.{◌≡◌, ◌↔◌, ℕ, ◌+◌, ◌<◌, ◌≤◌, List, [], ◌∷◌, ◌++◌, length, remove, IsTrue, OnOk, OnErr, IfOk, slice_get, Some, Contains};
+ghost use Rattle.std.specs.Prelude.{◌≡◌, ◌↔◌, ℕ, ◌+◌, ◌<◌, ◌≤◌, List, [], ◌∷◌, ◌++◌, length, remove, IsTrue, OnOk, OnErr, IfOk, IfSome, slice_get, Some, Contains};
 ghost use Rattle.cnf_form.specs.Cnf.{LitOf, FormulaOf, ClauseWithin, Within};
 ghost use Rattle.cnf_form.specs.declared.literal.TheConstants.{MAX_VARS};
 
@@ -8,11 +8,21 @@ use crate::literal::{Lit, MAX_VARS};
 use std::alloc::{AllocError, Global};
 use std::marker::Model;
 
-// Where the literals of a clause lie.
+// Where the literals of a clause lie. More literals than a place can count are answered as want of memory.
 #[derive(Clone, Copy)]
 struct Span {
-    start: usize,
-    end: usize,
+    start: u32,
+    end: u32,
+}
+
+// The place of a clause that is put behind the others, if its end can be counted.
+fn span_after(lits: &[Lit], clause: &[Lit]) -> Option<Span>
+    ensures { IfSome result (λ s. (s.start ≡ length lits.now) × (s.end ≡ length lits.now + length clause.now)) }
+{
+    let start = u32::try_from(lits.len()).ok()?;
+    let count = u32::try_from(clause.len()).ok()?;
+    let end = start.checked_add(count)?;
+    Some(Span { start, end })
 }
 
 /// A formula in conjunctive normal form: clauses over the variables from 1 to `vars`, each a set of literals, perhaps
@@ -115,10 +125,11 @@ impl Formula {
         ensures ok { OnOk result (self.new ≡ record self.old { clauses = self.old.clauses ++ clause.now ∷ [] }) }
         ensures err { OnErr result (self.new ≡ self.old) }
     {
-        let start = self.lits.len();
+        let Some(span) = span_after(&self.lits, clause) else {
+            return Err(AllocError);
+        };
         self.lits.extend_from_slice(clause)?;
-        let end = self.lits.len();
-        self.spans.push(Span { start, end })?;
+        self.spans.push(span)?;
         Ok(())
     }
 
@@ -154,6 +165,6 @@ impl<'a> Clauses<'a> {
     {
         let spans = self.spans;
         let span = spans[place];
-        &self.lits[span.start..span.end]
+        &self.lits[span.start as usize..span.end as usize]
     }
 }

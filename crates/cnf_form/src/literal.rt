@@ -9,7 +9,7 @@ use std::marker::Model;
 pub const MAX_VARS: u32 = 1 << 27;
 
 /// A literal: a variable, or its negation.
-#[derive(Clone, Copy, Debug, PartialEq, Eq)]
+#[derive(Clone, Copy, Debug, PartialEq, Eq, Hash)]
 pub struct Lit {
     // Twice the variable, and one more where it is negated.
     code: u32,

@@ -1,3 +1,4 @@
-pub mod Scan
-pub mod Fixpoint
-pub mod Asking
+pub mod Sounds
+pub mod Hashes
+pub mod Chaining
+pub mod Covering

@@ -1,2 +1,3 @@
-pub mod Marks
 pub mod Checking
+pub mod Sound
+pub mod Chains

@@ -1,0 +1,15 @@
+pub mod Trails
+pub mod Stores
+pub mod Rows
+pub mod Falsified
+pub mod Watched
+pub mod Slots
+pub mod Visits
+pub mod Arms
+pub mod Walks
+pub mod Entries
+pub mod Scanning
+pub mod Filing
+pub mod States
+pub mod Assumptions
+pub mod Levels

@@ -1,0 +1,161 @@
+-- A trail that grows by one literal, or loses its last one.
+use Rattle.std.proofs.Common.{◌≡◌, ℕ, ◌+◌, ◌-◌, ◌*◌, ◌<◌, ◌≤◌, Bool, true, false, not, cond, List, [], ◌∷◌, ◌++◌, length, get_or, set, take, refl, sym, ◌∙◌, ap, subst, inl, inr, arith}
+use Rattle.std.specs.Prelude.{Contains}
+use Rattle.std.proofs.lemmas.Bool.{both_ways, cases_eq, cases_lt, cases_Bool}
+use Rattle.std.proofs.lemmas.List.{get_or-set_same, get_or-set_other, take-append-le, take_at, take_all, get_or_append_left, get_or_push, length_push, length-set}
+use Rattle.std.proofs.lemmas.List.Sums.{sum_by-set}
+use Rattle.std.proofs.lemmas.List.Elements.{All-push, Contains-append_left, Contains-push, Contains-push_cases}
+use Rattle.cnf_form.specs.Cnf.{LitOf, negate, index_of}
+use Rattle.cnf_form.proofs.Literals.{index_of-injective, lit_cases, negate-negate}
+use Rattle.cnf_form.proofs.Members.{take_one_more}
+use Rattle.unit_propagation.specs.Marks.{is_marked, IsBelow, IsTrail, TrailOf}
+use Rattle.unit_propagation.specs.Propagation.{IsConsistent, IsOpen}
+
+sign_room : (v n : ℕ) (a : Bool) → v ≤ n → 2 * v + cond a 1 0 < 2 * n + 2
+sign_room v n true h = omega arith
+sign_room v n false h = omega arith
+
+pub index_room : (l : LitOf) (vars : ℕ) → l.var ≤ vars → index_of l < 2 * vars + 2
+index_room l vars h = sign_room l.var vars l.negated h
+
+not_same : (b : Bool) → not b ≡ b → ⊥
+not_same true h = cc
+not_same false h = cc
+
+pub negate-differs : (l : LitOf) → negate l ≡ l → ⊥
+negate-differs l h = not_same l.negated (ap (λ (m : LitOf). m.negated) h)
+
+pub opposite : (l m : LitOf) → negate l ≡ m → l ≡ negate m
+opposite l m e = sym (negate-negate l) ∙ ap negate e
+
+-- what a mark counts
+abbrev weight : Bool → ℕ
+weight b = cond b 1 0
+
+pub consistent_push : (t : List LitOf) (l : LitOf) → IsConsistent t → IsOpen t l → IsConsistent (t ++ l ∷ [])
+consistent_push t l ok o = record {
+  apart = λ m h k. elim (Contains-push_cases t l m h) [
+    | inl h' ↦ elim (Contains-push_cases t l (negate m) k) [
+      | inl k' ↦ ok.apart m h' k'
+      | inr e ↦ o.not_false (subst (Contains t) (opposite m l (sym e)) h')
+    ]
+    | inr e ↦ elim (Contains-push_cases t l (negate m) k) [
+      | inl k' ↦ o.not_false (subst (λ z. Contains t (negate z)) (sym e) k')
+      | inr f ↦ negate-differs m (sym f ∙ e)
+    ]
+  ];
+}
+
+module _ (vars : ℕ) (marks : List Bool) (t : List LitOf) (l : LitOf) where
+  pub trail_push : IsTrail vars marks t → l.var ≤ vars → IsOpen t l → IsTrail vars (set marks (index_of l) true) (t ++ l ∷ [])
+  trail_push w below o = record {
+    limit = w.limit;
+    sized = length-set marks (index_of l) true ∙ w.sized;
+    shows = record { on = shown; off = hidden };
+    below = All-push (IsBelow vars) t l w.below below;
+    counted = omega (arith, length_push t l, sum_by-set weight marks (index_of l) true false room, ap weight was, w.counted);
+    consistent = consistent_push t l w.consistent o;
+    distinct = record { once = once };
+  }
+    where
+      room : index_of l < length marks
+      room = omega (arith, index_room l vars below, w.sized)
+
+      was : get_or marks (index_of l) false ≡ false
+      was = elim (cases_Bool (is_marked marks l)) [ inl h ↦ let s = w.shows in absurd (o.not_true (s.off l h)) | inr h ↦ h ]
+
+      shown : (m : LitOf) → Contains (t ++ l ∷ []) m → is_marked (set marks (index_of l) true) m ≡ true
+      shown m h =
+          elim (lit_cases m l) [
+            | inl e ↦ subst (λ z. is_marked (set marks (index_of l) true) z ≡ true) (sym e) (get_or-set_same marks (index_of l) true false room)
+            | inr d ↦ let s = w.shows in
+                get_or-set_other marks (index_of l) (index_of m) true false (λ e. d (index_of-injective m l e))
+                ∙ elim (Contains-push_cases t l m h) [ inl k ↦ s.on m k | inr e ↦ absurd (d (sym e)) ]
+          ]
+
+      hidden : (m : LitOf) → is_marked (set marks (index_of l) true) m ≡ true → Contains (t ++ l ∷ []) m
+      hidden m h =
+          elim (lit_cases m l) [
+            | inl e ↦ subst (Contains (t ++ l ∷ [])) (sym e) (Contains-push t l)
+            | inr d ↦ let s = w.shows in
+                Contains-append_left t (l ∷ []) m (s.off m (sym (get_or-set_other marks (index_of l) (index_of m) true false (λ e. d (index_of-injective m l e))) ∙ h))
+          ]
+
+      once : (i : ℕ) (d : LitOf) → i < length (t ++ l ∷ []) → Contains (take i (t ++ l ∷ [])) (get_or (t ++ l ∷ []) i d) → ⊥
+      once i d h k =
+          elim (cases_eq i (length t)) [
+            | inl e ↦ o.not_true (subst (λ z. Contains z l) (take_at t (l ∷ []) i (sym e)) (subst (Contains (take i (t ++ l ∷ []))) (get_or_push t l d i (sym e)) k))
+            | inr ne ↦ let inside : i < length t = omega (arith, length_push t l, h, ne) in
+                let s = w.distinct in
+                s.once i d inside (subst (λ z. Contains z (get_or t i d)) (take-append-le i t (l ∷ []) (omega (arith, inside)))
+                (subst (Contains (take i (t ++ l ∷ []))) (get_or_append_left t (l ∷ []) d i inside) k))
+          ]
+
+  pub trail_pop : IsTrail vars marks (t ++ l ∷ []) → IsTrail vars (set marks (index_of l) false) t
+  trail_pop w = record {
+    limit = w.limit;
+    sized = length-set marks (index_of l) false ∙ w.sized;
+    shows = record { on = shown; off = hidden };
+    below = λ i d h. subst (IsBelow vars) (get_or_append_left t (l ∷ []) d i h) (w.below i d (omega (arith, length_push t l, h)));
+    counted = omega (arith, length_push t l, sum_by-set weight marks (index_of l) false false room, ap weight was, w.counted);
+    consistent = record { apart = λ m h k. let s = w.consistent in s.apart m (Contains-append_left t (l ∷ []) m h) (Contains-append_left t (l ∷ []) (negate m) k) };
+    distinct = record {
+      once = λ i d h k. let s = w.distinct in
+          s.once i d (omega (arith, length_push t l, h))
+          (subst (λ z. Contains z (get_or (t ++ l ∷ []) i d)) (sym (take-append-le i t (l ∷ []) (omega (arith, h))))
+          (subst (Contains (take i t)) (sym (get_or_append_left t (l ∷ []) d i h)) k));
+    };
+  }
+    where
+      last_below : l.var ≤ vars
+      last_below = subst (IsBelow vars) (get_or_push t l l (length t) refl) (w.below (length t) l (omega (arith, length_push t l)))
+
+      room : index_of l < length marks
+      room = omega (arith, index_room l vars last_below, w.sized)
+
+      was : get_or marks (index_of l) false ≡ true
+      was = let s = w.shows in s.on l (Contains-push t l)
+
+      -- the last literal doesn't stand before
+      first_time : Contains t l → ⊥
+      first_time h = let s = w.distinct in
+          s.once (length t) l (omega (arith, length_push t l))
+          (subst (Contains (take (length t) (t ++ l ∷ []))) (sym (get_or_push t l l (length t) refl)) (subst (λ z. Contains z l) (sym (take_at t (l ∷ []) (length t) refl)) h))
+
+      shown : (m : LitOf) → Contains t m → is_marked (set marks (index_of l) false) m ≡ true
+      shown m h =
+          elim (lit_cases m l) [
+            | inl e ↦ absurd (first_time (subst (Contains t) e h))
+            | inr d ↦ let s = w.shows in
+                get_or-set_other marks (index_of l) (index_of m) false false (λ e. d (index_of-injective m l e)) ∙ s.on m (Contains-append_left t (l ∷ []) m h)
+          ]
+
+      hidden : (m : LitOf) → is_marked (set marks (index_of l) false) m ≡ true → Contains t m
+      hidden m h =
+          elim (lit_cases m l) [
+            | inl e ↦ absurd (both_ways _ (get_or-set_same marks (index_of l) false false room) (subst (λ z. is_marked (set marks (index_of l) false) z ≡ true) e h))
+            | inr d ↦ let s = w.shows in
+                elim (Contains-push_cases t l m (s.off m (sym (get_or-set_other marks (index_of l) (index_of m) false false (λ e. d (index_of-injective m l e))) ∙ h))) [
+                  | inl k ↦ k
+                  | inr e ↦ absurd (d (sym e))
+                ]
+          ]
+
+-- the same of a trail that is cut by one
+pub trail_cut : (vars : ℕ) (marks : List Bool) (t t' : List LitOf) (n i : ℕ) (l : LitOf) → IsTrail vars marks t → n + 1 ≡ length t → l ≡ get_or t n l → t' ≡ take n t → i ≡ index_of l → IsTrail vars (set marks i false) t'
+trail_cut vars marks t t' n i l w size read e at =
+    let whole : t ≡ take n t ++ l ∷ [] = sym (take_all (n + 1) t (omega (arith, size))) ∙ take_one_more t n l (omega (arith, size)) read in
+    rw (at, e) (trail_pop vars marks (take n t) l (subst (IsTrail vars marks) whole w))
+
+pub trail_of : (t : TrailOf) (v : ℕ) (ls : List LitOf) → t.vars ≡ v → t.lits ≡ ls → t ≡ record { vars = v; lits = ls }
+trail_of t v ls e f =
+    let mk : ℕ → List LitOf → TrailOf = λ a b. record { vars = a; lits = b } in
+    ap (λ a. mk a t.lits) e ∙ ap (mk v) f
+
+-- where a cut ends: the place is the length, or nothing was cut
+pub cut_ends : (t ls : List LitOf) (place n : ℕ) → length ls + n ≡ length t + place → ls ≡ take (length t + place - n) t → length t ≤ n → (place ≤ length t → n ≤ length t) → (length t < place → n ≡ place) → ls ≡ take place t
+cut_ends t ls place n room e past short idle =
+    elim (cases_lt (length t) place) [
+      | inr h ↦ e ∙ ap (λ k. take k t) (let m : n ≤ length t = short h in omega (arith, m, past, room))
+      | inl h ↦ e ∙ take_all _ t (let m : n ≡ place = idle h in omega (arith, m)) ∙ sym (take_all place t (omega (arith, h)))
+    ]

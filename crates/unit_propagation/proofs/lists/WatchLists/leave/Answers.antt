@@ -1,0 +1,11 @@
+use Rattle.unit_propagation.specs.Watch.{rows_of}
+use Rattle.unit_propagation.proofs.Rows.{row_room}
+use Rattle.unit_propagation.proofs.Entries.{leaves_both}
+use Rattle.unit_propagation.proofs.lists.WatchLists.leave.Goals as goal
+
+pub returns-clause-leaves : goal.returns-clause-leaves
+returns-clause-leaves c =
+    let s = c.args.self.now in
+    let p = c.remove.ensures in
+    let q = c.remove-2.ensures in
+    leaves_both (rows_of s.lists.items) _ _ c.args.clause c.args.left c.args.right (row_room s.lists.items s.vars c.args.left s.sized c.requires.left) (row_room s.lists.items s.vars c.args.right s.sized c.requires.right) p.rows q.rows

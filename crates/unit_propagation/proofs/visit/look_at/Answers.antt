@@ -1,0 +1,22 @@
+use Rattle.std.proofs.Common.{◌≢◌, ◌-◌, drop, length-take, subst, sym, arith}
+use Rattle.std.specs.Prelude.{Contains}
+use Rattle.cnf_form.specs.Cnf.{LitOf, negate}
+use Rattle.cnf_form.proofs.Members.{Contains-read}
+use Rattle.unit_propagation.proofs.visit.look_at.Goals as goal
+
+pub returns-in-Some-find_open : goal.returns-in-Some-find_open
+returns-in-Some-find_open c =
+    let o = c.in-Some.ensures in
+    let s = o.some in
+    let size = length-take (c.args.head.end - c.args.head.start) (drop c.args.head.start c.args.lits.now) in
+    let w = c.in-Some-find_open.ensures in
+    let m = c.marks-marks.ensures in
+    let found = w.found c.args.trail.now.lits m.shows c.index-clause-k.result in (
+      s.0,
+      s.1,
+      Contains-read _ _ _ w.within c.index-clause-k.is,
+      subst (λ (z : LitOf). z ≢ c.in-Some.other) (sym c.index-clause-k.is) found.0,
+      subst (λ (z : LitOf). Contains c.args.trail.now.lits (negate z) → ⊥) (sym c.index-clause-k.is) found.1,
+      omega arith,
+      omega (arith, w.within, size),
+    )

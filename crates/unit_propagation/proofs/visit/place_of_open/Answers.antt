@@ -1,0 +1,15 @@
+use Rattle.std.proofs.Common.{arith, sym, subst, get_or, ◌≡◌, true, false}
+use Rattle.cnf_form.specs.Cnf.{negate}
+use Rattle.cnf_form.proofs.Literals.{same_by_ne}
+use Rattle.unit_propagation.specs.Marks.{is_marked}
+use Rattle.unit_propagation.proofs.Falsified.{falsified_more}
+use Rattle.unit_propagation.proofs.visit.place_of_open.Goals as goal
+use Rattle.unit_propagation.proofs.visit.place_of_open.Goals.{then-ne+else-not-marks-index, else-ne}
+
+pub loop-k-preserved : goal.loop-k-preserved
+loop-k-preserved c = λ t s.
+    falsified_more t c.args.clause.now c.args.other c.loop-k.k c.index-clause-k.result (omega arith) c.index-clause-k.is (c.loop-k.invariant t s)
+    (λ d. elim c.if-ne.branch [
+      | then-ne+else-not-marks-index w ↦ s.off (negate c.index-clause-k.result) (subst (λ z. is_marked c.args.marks.now z ≡ true) w.negate.ensures (subst (λ i. get_or c.args.marks.now i false ≡ true) w.index.ensures w.if-not-marks-index.false))
+      | else-ne w ↦ absurd (d (same_by_ne _ _ (sym w.if-ne.ensures)))
+    ])

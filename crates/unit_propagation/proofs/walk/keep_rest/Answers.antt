@@ -1,0 +1,19 @@
+use Rattle.std.proofs.Common.{arith, rules, subst}
+use Rattle.unit_propagation.specs.Visit.{IsVisited}
+use Rattle.unit_propagation.proofs.Arms.{visited_rest}
+use Rattle.unit_propagation.proofs.walk.keep_rest.Goals as goal
+
+pub loop-k-preserved : goal.loop-k-preserved
+loop-k-preserved c =
+    let i = c.loop-k.invariant in
+    let r = c.keep.ensures in
+    record {
+      kept = omega arith;
+      list = r.fit;
+      step = λ slots start s f v. rw r.list (visited_rest slots start s f c.loop-k.list c.loop-k.kept c.loop-k.k c.index-list-k.result c.index-list-k-in-loop-k.result i.kept (search rules) (i.step slots start s f v));
+    }
+
+pub returns-clause-step : goal.returns-clause-step
+returns-clause-step c = λ slots start s f v.
+    let i = c.loop-k.invariant in
+    subst (IsVisited slots start s f c.loop-k.list c.loop-k.kept) (search rules) (i.step slots start s f v)

@@ -1,0 +1,67 @@
+-- Watched literals: where clauses lie, and the lists of watches.
+use Rattle.std.specs.Prelude.{◌≡◌, ◌≢◌, ◌⊎◌, ◌==◌, ℕ, ◌<◌, ◌≤◌, if◌then◌else◌, List, [], map, Option, Some, None, Contains, All, slice_range, slice_index_or}
+use Rattle.std.specs.declared.vec.Vec.{Vec}
+use Rattle.std.specs.declared.alloc.Global.{Global}
+use Rattle.cnf_form.specs.Cnf.{LitOf, index_of}
+use Rattle.unit_propagation.specs.declared.watch.Head.{Head}
+use Rattle.unit_propagation.specs.declared.watch.Watch.{Watch}
+use Rattle.unit_propagation.specs.declared.watch.TheConstants.{GONE}
+
+-- the clause of a head, if it wasn't taken out
+abbrev pub slot_of : List LitOf → Head → Option (List LitOf)
+slot_of lits h = if h.from == GONE then None else Some (slice_range lits h.start h.end)
+
+abbrev pub slots_of : List LitOf → List Head → List (Option (List LitOf))
+slots_of lits heads = map (slot_of lits) heads
+
+-- the watches and the place of the search lie within bounds
+pub record WatchesFit (vars : ℕ) (h : Head) : Type 0 where
+  pub from : h.from ≤ h.end
+  pub left : h.left.var ≤ vars
+  pub right : h.right.var ≤ vars
+
+-- where a clause lies, and what it watches, if anything
+pub record HeadFits (vars size : ℕ) (h : Head) : Type 0 where
+  pub start : h.start ≤ h.end
+  pub end : h.end ≤ size
+  pub from : h.start ≤ h.from
+  pub watches : h.left ≢ h.right → WatchesFit vars h
+
+pub record WatchFits (vars count : ℕ) (w : Watch) : Type 0 where
+  pub clause : w.clause < count
+  pub blocker : w.blocker.var ≤ vars
+
+-- the entries fit
+abbrev pub AreWatches : ℕ → ℕ → Vec Watch Global → Type 0
+AreWatches vars count v = All (WatchFits vars count) v.items
+
+-- the lists by the place of their literal
+abbrev pub rows_of : List (Vec Watch Global) → List (List Watch)
+rows_of lists = map (λ (v : Vec Watch Global). v.items) lists
+
+-- the list of a literal
+abbrev pub row : List (List Watch) → LitOf → List Watch
+row rows l = slice_index_or rows (index_of l) []
+
+-- the clause watches the one and the other
+abbrev pub Watches : Head → LitOf → LitOf → Type 0
+Watches h l other = ((h.left ≡ l) × (h.right ≡ other)) ⊎ ((h.right ≡ l) × (h.left ≡ other))
+
+-- the clause doesn't watch the literal
+abbrev pub IsStale : Head → LitOf → Type 0
+IsStale h l = (h.left ≡ h.right) ⊎ ((h.left ≢ l) × (h.right ≢ l))
+
+-- the entry is one of the two of a clause k that watches left and right
+abbrev pub IsEntryOf : ℕ → LitOf → LitOf → LitOf → Watch → Type 0
+IsEntryOf k left right u w = (w.clause ≡ k) × (((u ≡ left) × (w.blocker ≡ right)) ⊎ ((u ≡ right) × (w.blocker ≡ left)))
+
+-- no entry went, and only entries of the clause k came
+pub record Enters (rows rows' : List (List Watch)) (k : ℕ) (left right : LitOf) : Type 0 where
+  pub keeps : (u : LitOf) (w : Watch) → Contains (row rows u) w → Contains (row rows' u) w
+  pub only : (u : LitOf) (w : Watch) → Contains (row rows' u) w → Contains (row rows u) w ⊎ IsEntryOf k left right u w
+
+-- no entry came, and only entries of the clause k went: those in the lists of left and right
+pub record Leaves (rows rows' : List (List Watch)) (k : ℕ) (left right : LitOf) : Type 0 where
+  pub keeps : (u : LitOf) (w : Watch) → Contains (row rows u) w → w.clause ≢ k → Contains (row rows' u) w
+  pub only : (u : LitOf) (w : Watch) → Contains (row rows' u) w → Contains (row rows u) w
+  pub gone : (u : LitOf) (w : Watch) → Contains (row rows' u) w → (u ≡ left) ⊎ (u ≡ right) → w.clause ≢ k

@@ -1,0 +1,147 @@
+// Watch lists.
+
+ghost use Rattle.std.specs.Prelude.{◌≡◌, ◌≢◌, ◌==◌, ◌+◌, ◌*◌, ◌<◌, ◌≤◌, ◌^◌, ◌++◌, ◌∷◌, [], not, length, All, IfOk, OnOk, OnErr, slice_set, filter, Contains};
+ghost use Rattle.cnf_form.specs.Cnf.{LitOf, index_of};
+ghost use Rattle.unit_propagation.specs.Watch.{AreWatches, WatchFits, Enters, Leaves, rows_of, row};
+ghost use Rattle.unit_propagation.specs.declared.watch.Watch.{Watch};
+
+use crate::watch::Watch;
+use cnf_form::Lit;
+use std::alloc::{AllocError, Global};
+use std::mem;
+
+#[derive(Drop)]
+pub struct WatchLists {
+    vars: u32,
+    clauses: u32,
+    lists: Vec<Vec<Watch>>,
+    ghost sized: { length lists.items ≡ 2 * vars + 2 },
+    ghost fit: { All (AreWatches vars clauses) lists.items },
+}
+
+impl WatchLists {
+    pub fn new(alloc: Global, vars: u32) -> Result<Self, AllocError>
+        requires { vars ≤ 2 ^ 27 }
+        ensures vars { IfOk result (λ w. (w.vars ≡ vars) × (w.clauses ≡ 0)) }
+        ensures rows { IfOk result (λ w. (l : LitOf) → row (rows_of w.lists.items) l ≡ []) }
+    {
+        let mut lists = Vec::new(alloc);
+        for _ in 0..2 * vars + 2 {
+            lists.push(Vec::new(alloc))?;
+        }
+        Ok(WatchLists {
+            vars,
+            clauses: 0,
+            lists,
+        })
+    }
+
+    // Entries may name one more clause.
+    pub fn raise(&mut self)
+        requires { self.old.clauses + 1 < 2 ^ 32 }
+        ensures vars { self.new.vars ≡ self.old.vars }
+        ensures clauses { self.new.clauses ≡ self.old.clauses + 1 }
+        ensures rows { self.new.lists ≡ self.old.lists }
+    {
+        self.clauses += 1;
+    }
+
+    // The entries of a literal's list.
+    #[inline(always)]
+    pub fn entries(&self, l: Lit) -> &[Watch]
+        requires lit { l.var ≤ self.now.vars }
+        ensures fit { All (WatchFits self.now.vars self.now.clauses) result.now }
+        ensures row { result.now ≡ row (rows_of self.now.lists.items) l }
+    {
+        self.lists[l.index()].as_slice()
+    }
+
+    #[inline(always)]
+    pub fn push(&mut self, l: Lit, clause: u32, blocker: Lit) -> Result<(), AllocError>
+        requires lit { l.var ≤ self.old.vars }
+        requires clause { clause < self.old.clauses }
+        requires blocker { blocker.var ≤ self.old.vars }
+        ensures vars { self.new.vars ≡ self.old.vars }
+        ensures clauses { self.new.clauses ≡ self.old.clauses }
+        ensures ok { OnOk result (rows_of self.new.lists.items ≡ slice_set (rows_of self.old.lists.items) (index_of l)
+            (row (rows_of self.old.lists.items) l ++ (record { clause = clause; blocker = blocker }) ∷ [])) }
+        ensures err { OnErr result (rows_of self.new.lists.items ≡ rows_of self.old.lists.items) }
+    {
+        self.lists[l.index()].push(Watch { clause, blocker })?;
+        Ok(())
+    }
+
+    // Writes an entry of a list that was taken.
+    #[inline(always)]
+    pub fn keep(&self, list: &mut [Watch], place: usize, clause: u32, blocker: Lit)
+        requires place { place < length list.old }
+        requires list { All (WatchFits self.now.vars self.now.clauses) list.old }
+        requires clause { clause < self.now.clauses }
+        requires blocker { blocker.var ≤ self.now.vars }
+        ensures fit { All (WatchFits self.now.vars self.now.clauses) list.new }
+        ensures list { list.new ≡ slice_set list.old place (record { clause = clause; blocker = blocker }) }
+    {
+        list[place] = Watch { clause, blocker };
+    }
+
+    // Takes the entries of a clause out of the list of a literal.
+    pub fn remove(&mut self, l: Lit, clause: u32)
+        requires lit { l.var ≤ self.old.vars }
+        ensures vars { self.new.vars ≡ self.old.vars }
+        ensures clauses { self.new.clauses ≡ self.old.clauses }
+        ensures rows { rows_of self.new.lists.items ≡ slice_set (rows_of self.old.lists.items) (index_of l)
+            (filter (λ w. not (w.clause == clause)) (row (rows_of self.old.lists.items) l)) }
+    {
+        self.lists[l.index()].retain(move |w| w.clause != clause);
+    }
+
+    // The list of a literal, which is empty until it is put back.
+    pub fn take(&mut self, alloc: Global, l: Lit) -> Vec<Watch>
+        requires lit { l.var ≤ self.old.vars }
+        ensures fit { AreWatches self.old.vars self.old.clauses result }
+        ensures vars { self.new.vars ≡ self.old.vars }
+        ensures clauses { self.new.clauses ≡ self.old.clauses }
+        ensures list { result.items ≡ row (rows_of self.old.lists.items) l }
+        ensures rows { rows_of self.new.lists.items ≡ slice_set (rows_of self.old.lists.items) (index_of l) [] }
+    {
+        mem::replace(&mut self.lists[l.index()], Vec::new(alloc))
+    }
+
+    pub fn put(&mut self, l: Lit, list: Vec<Watch>)
+        requires lit { l.var ≤ self.old.vars }
+        requires fit { AreWatches self.old.vars self.old.clauses list }
+        ensures vars { self.new.vars ≡ self.old.vars }
+        ensures clauses { self.new.clauses ≡ self.old.clauses }
+        ensures rows { rows_of self.new.lists.items ≡ slice_set (rows_of self.old.lists.items) (index_of l) list.items }
+    {
+        self.lists[l.index()] = list;
+    }
+
+    // Enters a clause in the lists of the two literals that it watches.
+    pub fn enter(&mut self, clause: u32, left: Lit, right: Lit) -> Result<(), AllocError>
+        requires clause { clause < self.old.clauses }
+        requires left { left.var ≤ self.old.vars }
+        requires right { right.var ≤ self.old.vars }
+        ensures vars { self.new.vars ≡ self.old.vars }
+        ensures clauses { self.new.clauses ≡ self.old.clauses }
+        ensures enters { Enters (rows_of self.old.lists.items) (rows_of self.new.lists.items) clause left right }
+        ensures entered { OnOk result (Contains (row (rows_of self.new.lists.items) left) (record { clause = clause; blocker = right })
+            × Contains (row (rows_of self.new.lists.items) right) (record { clause = clause; blocker = left })) }
+    {
+        self.push(left, clause, right)?;
+        self.push(right, clause, left)?;
+        Ok(())
+    }
+
+    // Takes a clause out of the lists of two literals.
+    pub fn leave(&mut self, clause: u32, left: Lit, right: Lit)
+        requires left { left.var ≤ self.old.vars }
+        requires right { right.var ≤ self.old.vars }
+        ensures vars { self.new.vars ≡ self.old.vars }
+        ensures clauses { self.new.clauses ≡ self.old.clauses }
+        ensures leaves { Leaves (rows_of self.old.lists.items) (rows_of self.new.lists.items) clause left right }
+    {
+        self.remove(left, clause);
+        self.remove(right, clause);
+    }
+}

@@ -1,0 +1,316 @@
+// Clauses, watch lists and trail together.
+
+ghost use Rattle.std.specs.Prelude.{ℕ, ◌≡◌, ◌≢◌, ◌↔◌, ◌⊎◌, ◌+◌, ◌*◌, ◌<◌, ◌≤◌, ◌^◌, ◌++◌, ◌∷◌, [], true, false, List, Option, length, take, Contains, All, IfOk, IfSome, IfNone, OnOk, OnErr, IsTrue, Some, None, slice_index_or, slice_set};
+ghost use Rattle.cnf_form.specs.Cnf.{LitOf, negate, ClauseWithin};
+ghost use Rattle.cnf_form.specs.declared.literal.TheConstants.{MAX_VARS};
+ghost use Rattle.unit_propagation.specs.Propagation.{IsConsistent, IsOpen, IsSatisfied, IsFalsified, IsFalsifiedBut, IsFixpoint, Propagates};
+ghost use Rattle.unit_propagation.specs.Propagator.{clauses_of, slot_at, IsPut, IsWanting, IsAssumed, EndsAssumed, is_conflict};
+
+use crate::assume::assume;
+use crate::file::{file_clause, take_out};
+use crate::lists::WatchLists;
+use crate::outcome::Outcome;
+use crate::scan::{Standing, scan_clause};
+use crate::store::ClauseStore;
+use crate::trail::Trail;
+use crate::walk::settle_unit;
+use cnf_form::{Lit, MAX_VARS};
+use std::alloc::{AllocError, Global};
+use std::marker::Model;
+
+/// Clauses with numbers from 0, and the literals that are true, on levels: level 0 has what follows from the clauses alone.
+#[derive(Drop)]
+pub struct Propagator {
+    alloc: Global,
+    vars: u32,
+    store: ClauseStore,
+    lists: WatchLists,
+    pairs: WatchLists,
+    trail: Trail,
+    limits: Vec<usize>,
+    conflict: bool,
+}
+
+impl Model for Propagator {
+    ghost use Rattle.std.specs.Prelude.{length};
+    ghost use Rattle.unit_propagation.specs.Propagator.{PropagatorOf};
+
+    ghost Value = { PropagatorOf };
+
+    ghost use Rattle.unit_propagation.specs.Watch.{slots_of, rows_of};
+    ghost use Rattle.unit_propagation.specs.Inside.{Agree, IsPropagator};
+
+    ghost view = { λ p. record {
+      vars = p.vars;
+      slots = slots_of p.store.lits.items p.store.heads.items;
+      trail = p.trail.lits;
+      limits = p.limits.items;
+      conflict = p.conflict;
+    } };
+
+    ghost invariant = { λ p. Agree p.vars p.store.vars p.lists.vars p.pairs.vars p.trail.vars p.lists.clauses p.pairs.clauses
+        (length p.store.heads.items)
+        × IsPropagator p.vars (slots_of p.store.lits.items p.store.heads.items)
+        (record { heads = p.store.heads.items; rows = rows_of p.lists.lists.items; trail = p.trail.lits })
+        (rows_of p.pairs.lists.items) p.limits.items p.conflict };
+}
+
+// What a clause that watches nothing names.
+fn some_literal(clause: &[Lit]) -> Lit {
+    match clause.first() {
+        Some(l) => *l,
+        None => Lit::new(1, false),
+    }
+}
+
+impl Propagator {
+    /// Without clauses, over the variables from 1 to `vars`, at most `MAX_VARS`.
+    pub fn new(alloc: Global, vars: u32) -> Result<Self, AllocError>
+        requires { vars ≤ MAX_VARS }
+        ensures { IfOk result (λ p. p ≡ record { vars = vars; slots = []; trail = []; limits = []; conflict = false }) }
+    {
+        let lists = WatchLists::new(alloc, vars)?;
+        let pairs = WatchLists::new(alloc, vars)?;
+        let trail = Trail::new(alloc, vars)?;
+        Ok(Propagator {
+            alloc,
+            vars,
+            store: ClauseStore::new(alloc, vars),
+            lists,
+            pairs,
+            trail,
+            limits: Vec::new(alloc),
+            conflict: false,
+        })
+    }
+
+    /// The number of variables.
+    pub fn vars(&self) -> u32
+        ensures vars { result ≡ self.now.vars }
+        ensures limit { self.now.vars ≤ MAX_VARS }
+    {
+        self.vars
+    }
+
+    /// The number of clauses that were put, those that were taken out among them.
+    pub fn len(&self) -> usize
+        ensures count { result ≡ length self.now.slots }
+        ensures few { length self.now.slots < u32.MAX }
+    {
+        self.store.len()
+    }
+
+    /// Whether there is none.
+    pub fn is_empty(&self) -> bool
+        ensures { IsTrue result ↔ (self.now.slots ≡ []) }
+    {
+        self.store.len() == 0
+    }
+
+    /// Whether a clause or an assumption is falsified, so that nothing is propagated before that level is taken back.
+    pub fn conflict(&self) -> bool
+        ensures conflict { result ≡ self.now.conflict }
+        ensures consistent { IsConsistent self.now.trail }
+        ensures fixpoint { self.now.conflict ≡ false → IsFixpoint self.now.trail (clauses_of self.now.slots) }
+    {
+        self.conflict
+    }
+
+    /// Whether a literal is true.
+    #[inline(always)]
+    pub fn is_true(&self, l: Lit) -> bool
+        requires { l.var ≤ self.now.vars }
+        ensures { IsTrue result ↔ Contains self.now.trail l }
+    {
+        self.trail.is_true(l)
+    }
+
+    /// The clause with a number, if it wasn't taken out.
+    pub fn clause(&self, k: u32) -> Option<&[Lit]>
+        requires { k < length self.now.slots }
+        ensures there { IfSome result (λ c. slot_at self.now.slots k ≡ Some c.now) }
+        ensures within { IfSome result (λ c. ClauseWithin self.now.vars c.now) }
+        ensures gone { IfNone result (slot_at self.now.slots k ≡ None) }
+    {
+        self.store.clause(k)
+    }
+
+    /// Takes the levels above this one back.
+    pub fn undo(&mut self, level: usize)
+        requires { level < length self.old.limits }
+        ensures { self.new ≡ record self.old {
+          trail = take (slice_index_or self.old.limits level 0) self.old.trail;
+          limits = take level self.old.limits;
+          conflict = false;
+        } }
+    {
+        let limit = self.limits[level];
+        self.trail.cut(limit);
+        self.limits.truncate(level);
+        self.conflict = false;
+    }
+
+    /// Takes a clause out, at level 0.
+    pub fn take_out(&mut self, k: u32)
+        requires clause { k < length self.old.slots }
+        requires level { self.old.limits ≡ [] }
+        ensures { self.new ≡ record self.old { slots = slice_set self.old.slots k None } }
+    {
+        take_out(&mut self.store, &mut self.pairs, k);
+    }
+
+    // Puts a clause that watches nothing, since it is satisfied or nothing is propagated any more.
+    fn put_loose(&mut self, clause: &[Lit]) -> Result<(), AllocError>
+        requires level { self.old.limits ≡ [] }
+        requires within { ClauseWithin self.old.vars clause.now }
+        requires satisfied { self.old.conflict ≡ false → IsSatisfied self.old.trail clause.now }
+        ensures ok { OnOk result (self.new ≡ record self.old { slots = self.old.slots ++ Some clause.now ∷ [] }) }
+        ensures err { OnErr result (IsWanting self.old self.new) }
+    {
+        let any = some_literal(clause);
+        file_clause(
+            &mut self.store,
+            &mut self.lists,
+            &mut self.pairs,
+            clause,
+            any,
+            any,
+        )?;
+        Ok(())
+    }
+
+    // Puts a clause that watches two open literals.
+    fn attach(&mut self, clause: &[Lit], left: Lit, right: Lit) -> Result<(), AllocError>
+        requires level { self.old.limits ≡ [] }
+        requires within { ClauseWithin self.old.vars clause.now }
+        requires left { Contains clause.now left }
+        requires right { Contains clause.now right }
+        requires two { left ≢ right }
+        requires left_open { IsOpen self.old.trail left }
+        requires right_open { IsOpen self.old.trail right }
+        ensures ok { OnOk result (self.new ≡ record self.old { slots = self.old.slots ++ Some clause.now ∷ [] }) }
+        ensures err { OnErr result (IsWanting self.old self.new) }
+    {
+        file_clause(
+            &mut self.store,
+            &mut self.lists,
+            &mut self.pairs,
+            clause,
+            left,
+            right,
+        )?;
+        Ok(())
+    }
+
+    // Puts a falsified clause.
+    fn put_falsified(&mut self, clause: &[Lit]) -> Result<(), AllocError>
+        requires level { self.old.limits ≡ [] }
+        requires within { ClauseWithin self.old.vars clause.now }
+        requires conflict { self.old.conflict ≡ false }
+        ensures ok { OnOk result (self.new
+            ≡ record self.old { slots = self.old.slots ++ Some clause.now ∷ []; conflict = true }) }
+        ensures err { OnErr result (IsWanting self.old self.new) }
+    {
+        let any = some_literal(clause);
+        file_clause(
+            &mut self.store,
+            &mut self.lists,
+            &mut self.pairs,
+            clause,
+            any,
+            any,
+        )?;
+        self.conflict = true;
+        Ok(())
+    }
+
+    // Puts a clause whose only open literal is this one, and propagates.
+    fn put_unit(&mut self, clause: &[Lit], l: Lit) -> Result<(), AllocError>
+        requires level { self.old.limits ≡ [] }
+        requires within { ClauseWithin self.old.vars clause.now }
+        requires conflict { self.old.conflict ≡ false }
+        requires lit { Contains clause.now l }
+        requires opened { IsOpen self.old.trail l }
+        requires unit { IsFalsifiedBut self.old.trail clause.now l }
+        ensures ok { OnOk result (IsPut self.old clause.now self.new) }
+        ensures err { OnErr result (IsWanting self.old self.new) }
+    {
+        file_clause(
+            &mut self.store,
+            &mut self.lists,
+            &mut self.pairs,
+            clause,
+            l,
+            l,
+        )?;
+        let k = (self.store.len() - 1) as u32;
+        match settle_unit(
+            self.alloc,
+            &mut self.store,
+            &mut self.lists,
+            &self.pairs,
+            &mut self.trail,
+            l,
+        ) {
+            Ok(stop) => {
+                self.conflict = stop.is_some();
+                Ok(())
+            }
+            Err(e) => {
+                take_out(&mut self.store, &mut self.pairs, k);
+                Err(e)
+            }
+        }
+    }
+
+    /// Puts a clause over the variables at level 0, and makes what follows from it true. After a conflict it is only kept.
+    /// If memory runs out, no clause is put; a number may be used up.
+    pub fn put(&mut self, clause: &[Lit]) -> Result<(), AllocError>
+        requires level { self.old.limits ≡ [] }
+        requires within { ClauseWithin self.old.vars clause.now }
+        ensures ok { OnOk result (IsPut self.old clause.now self.new) }
+        ensures err { OnErr result (IsWanting self.old self.new) }
+    {
+        if self.conflict {
+            return self.put_loose(clause);
+        }
+        match scan_clause(clause, &self.trail) {
+            Standing::Satisfied => self.put_loose(clause),
+            Standing::Falsified => self.put_falsified(clause),
+            Standing::One(l) => self.put_unit(clause, l),
+            Standing::Two(l, m) => self.attach(clause, l, m),
+        }
+    }
+
+    /// Opens a level, makes the literals true one after another, and then what follows from them. If memory runs out, nothing
+    /// changes.
+    pub fn assume(&mut self, lits: &[Lit]) -> Result<Outcome, AllocError>
+        requires conflict { self.old.conflict ≡ false }
+        requires within { ClauseWithin self.old.vars lits.now }
+        ensures assumed { OnOk result (IsAssumed self.old lits.now self.new) }
+        ensures conflict { IfOk result (λ o. self.new.conflict ≡ is_conflict o) }
+        ensures ends { IfOk result (λ o. EndsAssumed self.new lits.now o) }
+        ensures err { OnErr result (self.new ≡ self.old) }
+    {
+        let level = self.limits.len();
+        let base = self.trail.len();
+        self.limits.push(base)?;
+        match assume(
+            self.alloc,
+            &mut self.store,
+            &mut self.lists,
+            &self.pairs,
+            &mut self.trail,
+            lits,
+        ) {
+            Ok(outcome) => {
+                self.conflict = outcome.is_conflict();
+                Ok(outcome)
+            }
+            Err(e) => {
+                self.limits.truncate(level);
+                Err(e)
+            }
+        }
+    }
+}

@@ -1,0 +1,24 @@
+// Watched literals.
+
+use cnf_form::Lit;
+
+// In `from`: the clause was taken out.
+pub const GONE: u32 = 0xffff_ffff;
+
+// Where a clause's literals lie, where the search for another watch begins, and the two literals that it watches. It
+// watches nothing where they are the same.
+#[derive(Clone, Copy)]
+pub struct Head {
+    pub start: u32,
+    pub end: u32,
+    pub from: u32,
+    pub left: Lit,
+    pub right: Lit,
+}
+
+// An entry of a literal's watch list: a clause, and another literal of it.
+#[derive(Clone, Copy)]
+pub struct Watch {
+    pub clause: u32,
+    pub blocker: Lit,
+}
