@@ -1,1 +1,10 @@
 pub mod Report
+pub mod Parts
+pub mod Ends
+pub mod Carrying
+pub mod Told
+pub mod Lowest
+pub mod Asking
+pub mod Collect
+pub mod Consistent
+pub mod Stepped

@@ -1,6 +1,6 @@
 // The events of a lane's job.
 
-/// What a read of the child's pipe was judged as.
+/// What a read of the child's pipe, or the proof file, was judged as.
 #[derive(Drop)]
 pub enum Judged<T> {
     /// Nothing yet. Neighbouring reads that are judged so share one entry.
@@ -13,6 +13,8 @@ pub enum Judged<T> {
     Bad { no: u8, at: u64 },
     /// The read failed.
     Failed,
+    /// Memory was wanting for the judging, or for a copy of what was found. The want follows as an entry of its own.
+    Unjudged,
 }
 
 /// What a poll of the child found, where it doesn't just run on.
@@ -24,14 +26,16 @@ pub enum Polled {
     Failed,
 }
 
-/// An event of a lane's job: one entry of the reader's list (`Read`, `Settle`, `ReaderMemory`), or of the keeper's (`Poll`,
-/// `Clock`, `Look`, `Kill`, `KeeperMemory`).
+/// An event of a lane's job: one entry of the reader's list (`Read`, `File`, `Settle`, `ReaderMemory`), or of the keeper's (the
+/// others).
 #[derive(Drop)]
 pub enum LaneEvent<T> {
     /// Reads of this many bytes together, and what they were judged as. A read of 0 bytes is the stream's end.
-    Read { bytes: u64, judged: Judged<T> },
-    /// A set-once exchange on the job's cell: whether it was won, and what the cell then holds.
-    Settle { won: bool, value: T },
+    Read { bytes: u64, progress: Judged<T> },
+    /// The proof file after the stream's end, and what it was judged as.
+    File { bytes: u64, progress: Judged<T> },
+    /// A set-once exchange of the reader's finding on the job's cell, and whether it was won.
+    Settle { won: bool },
     /// Memory was wanting to the reader.
     ReaderMemory,
     /// So many turns of the keeper that found the child running, and nothing new. Neighbours share one entry.
@@ -40,10 +44,18 @@ pub enum LaneEvent<T> {
     Poll(Polled),
     /// A reading of the clock, in milliseconds.
     Clock(u64),
-    /// A look at a job's cell, and what it holds.
-    Look(Option<T>),
+    /// A look at the cell at this place, and what the lane then knows of it.
+    Look { cell: u32, known: Option<T> },
     /// The keeper's kill of the child.
     Kill,
     /// Memory was wanting to the keeper.
     KeeperMemory,
+    /// A place under the allowance was taken.
+    Took,
+    /// The child was started.
+    Start,
+    /// The child was reaped and finished.
+    Finish,
+    /// The place was given back.
+    Gave,
 }

@@ -1,0 +1,4 @@
+mod Statuses
+mod Telling
+mod Lowest
+mod Collecting

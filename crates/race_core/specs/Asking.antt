@@ -1,0 +1,40 @@
+-- Which findings make a job needless.
+use Rattle.std.specs.Prelude.{ℕ, zero, suc, Bool, true, false, ◌==◌}
+use Rattle.std.proofs.Common.{not, ◌&&◌}
+use Rattle.race_core.specs.Parts.{Terms}
+use Rattle.race_core.specs.declared.step.JobTerms.{JobTerms}
+use Rattle.sby_terms.specs.declared.names.Mode.{Mode}
+use Rattle.sby_terms.specs.declared.names.Mode.TheVariants as mode
+use Rattle.sby_terms.specs.declared.names.JobName.{JobName}
+use Rattle.sby_terms.specs.declared.names.JobName.TheVariants as name
+use Rattle.sby_terms.specs.declared.names.JobName.TheVariants.{Base, Step, Cover}
+use Rattle.sby_terms.specs.declared.names.Answer.{Answer}
+use Rattle.sby_terms.specs.declared.names.Answer.TheVariants.{Sat, Unsat}
+
+-- a finding for this job with this answer makes that job needless: one for the job itself, and for Step one that Base is Sat
+abbrev pub needless_by : JobName → Answer → JobName → Bool
+needless_by (Base m) a (Base n) = m == n
+needless_by (Base m) Sat Step = m == 0
+needless_by (Base m) Unsat Step = false
+needless_by (Base m) a (Cover n) = false
+needless_by Step a (Base n) = false
+needless_by Step a Step = true
+needless_by Step a (Cover n) = false
+needless_by (Cover m) a (Base n) = false
+needless_by (Cover m) a Step = false
+needless_by (Cover m) a (Cover n) = m == n
+
+abbrev pub is_needless : {T : Type 0} → (T → JobName) → (T → Answer) → JobTerms → T → Bool
+is_needless job answer a f = not a.wait && needless_by (job f) (answer f) a.job
+
+-- what a job's first state keeps, as the steps see it
+abbrev pub terms_of : {T : Type 0} → (T → JobName) → (T → Answer) → JobTerms → Terms T
+terms_of job answer a = record { cell = a.cell; needless = is_needless job answer a; start = a.start; limit = a.limit }
+
+-- the job at a place; past a task's jobs the names stand for nothing
+abbrev pub name_at : Mode → ℕ → JobName
+name_at mode.Bmc k = name.Base k
+name_at mode.Prove zero = name.Base 0
+name_at mode.Prove (suc zero) = name.Step
+name_at mode.Prove (suc (suc k)) = name.Cover k
+name_at mode.Cover k = name.Cover k

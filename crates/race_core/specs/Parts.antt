@@ -1,0 +1,169 @@
+-- What the reader and the keeper of a job come to by their events. Each event changes one part alone, so how the two lists are
+-- merged doesn't matter. An event that can't come there makes its part Wrong, which stays.
+use Rattle.std.specs.Prelude.{ℕ, zero, suc, ◌-◌, ◌==◌, Bool, true, false, cond, List, [], ◌∷◌, Option, Some, None}
+use Rattle.std.proofs.Common.{leb, ◌&&◌}
+use Rattle.race_core.specs.Report.{EventsOf}
+use Rattle.race_core.specs.declared.event.Judged.{Judged}
+use Rattle.race_core.specs.declared.event.Judged.TheVariants as progress
+use Rattle.race_core.specs.declared.event.Polled.TheVariants as polled
+use Rattle.race_core.specs.declared.event.LaneEvent.{LaneEvent}
+use Rattle.race_core.specs.declared.event.LaneEvent.TheVariants as event
+use Rattle.race_core.specs.declared.part.By.{By}
+use Rattle.race_core.specs.declared.part.By.TheVariants as by
+use Rattle.race_core.specs.declared.part.Reader.{Reader}
+use Rattle.race_core.specs.declared.part.Reader.TheVariants as reader
+use Rattle.race_core.specs.declared.part.Keeper.{Keeper}
+use Rattle.race_core.specs.declared.part.Keeper.TheVariants as keeper
+use Rattle.race_core.specs.declared.part.Reason.{Reason}
+use Rattle.race_core.specs.declared.part.Reason.TheVariants as reason
+use Rattle.race_core.specs.declared.part.Place.{Place}
+use Rattle.race_core.specs.declared.part.Place.TheVariants as place
+
+-- What a job's first state keeps: the place of its cell, which findings make it needless (none with `wait on`), and the limit.
+pub record Terms (T : Type 0) : Type 0 where
+  pub cell : ℕ
+  pub needless : T → Bool
+  pub start : ℕ
+  pub limit : Option ℕ
+
+-- a read of 0 bytes is the stream's end
+abbrev pub by_of : ℕ → By
+by_of zero = by.Close
+by_of (suc n) = by.Bytes
+
+-- what a reader that goes on comes to, by what it was judged as
+abbrev pub judged : {T : Type 0} → By → Judged T → Reader T
+judged by.Bytes progress.More = reader.Reading
+judged by.Close progress.More = reader.Asking
+judged by.File progress.More = reader.Wrong
+judged b (progress.Found f) = reader.Holding f b
+judged b progress.Unknown = reader.Unknown b
+judged b (progress.Bad number at) = reader.Bad number at b
+judged b progress.Failed = reader.Failed
+judged b progress.Unjudged = reader.Unjudged
+
+-- a read
+abbrev pub after_read : {T : Type 0} → ℕ → Judged T → Reader T → Reader T
+after_read n p reader.Fresh = judged (by_of n) p
+after_read n p reader.Reading = judged (by_of n) p
+after_read n p r = reader.Wrong
+
+-- the proof file, after an output that ended without an answer
+abbrev pub after_file : {T : Type 0} → Judged T → Reader T → Reader T
+after_file p reader.Asking = judged by.File p
+after_file p r = reader.Wrong
+
+-- the reader settles what it holds
+abbrev pub after_settle : {T : Type 0} → Bool → Reader T → Reader T
+after_settle won (reader.Holding f b) = reader.Found f b won
+after_settle won r = reader.Wrong
+
+-- want of memory drops what the reader holds
+abbrev pub after_want : {T : Type 0} → Reader T → Reader T
+after_want reader.Fresh = reader.Short
+after_want reader.Reading = reader.Short
+after_want reader.Asking = reader.Short
+after_want reader.Unjudged = reader.Short
+after_want (reader.Holding f b) = reader.Short
+after_want r = reader.Wrong
+
+-- the reader after one of its events
+abbrev pub reader_after : {T : Type 0} → LaneEvent T → Reader T → Reader T
+reader_after (event.Read n p) r = after_read n p r
+reader_after (event.File n p) r = after_file p r
+reader_after (event.Settle won) r = after_settle won r
+reader_after event.ReaderMemory r = after_want r
+reader_after e r = reader.Wrong
+
+-- a keeper that has no reason yet gets one
+abbrev pub comes_due : {T : Type 0} → Reason T → Keeper T → Keeper T
+comes_due why keeper.Fresh = keeper.Due why
+comes_due why keeper.Looked = keeper.Due why
+comes_due why keeper.Turning = keeper.Due why
+comes_due why k = keeper.Wrong
+
+-- a keeper that found no reason goes on
+abbrev pub turns : {T : Type 0} → Keeper T → Keeper T
+turns keeper.Fresh = keeper.Turning
+turns keeper.Looked = keeper.Turning
+turns keeper.Turning = keeper.Turning
+turns k = keeper.Wrong
+
+-- A look. The first at the job's own cell, with those at other cells behind it, comes before the start; a later one is a turn's.
+abbrev pub after_look : {T : Type 0} → Bool → Option T → Bool → Keeper T → Keeper T
+after_look own (Some f) true keeper.Fresh = keeper.Due (reason.Skip f)
+after_look own known tells keeper.Fresh = keeper.Looked
+after_look true (Some f) true keeper.Looked = keeper.Due (reason.Needless f)
+after_look false (Some f) true keeper.Looked = keeper.Due (reason.Skip f)
+after_look true known tells keeper.Looked = keeper.Turning
+after_look false known tells keeper.Looked = keeper.Looked
+after_look own (Some f) true keeper.Turning = keeper.Due (reason.Needless f)
+after_look own known tells keeper.Turning = keeper.Turning
+after_look own known tells k = keeper.Wrong
+
+-- whether what is known makes the job needless
+abbrev pub tells_needless : {T : Type 0} → (T → Bool) → Option T → Bool
+tells_needless needless None = false
+tells_needless needless (Some f) = needless f
+
+-- whether a reading shows the limit
+abbrev pub shows_limit : ℕ → Option ℕ → ℕ → Bool
+shows_limit start None r = false
+shows_limit start (Some limit) r = leb start r && leb limit (r - start)
+
+-- the kill, for a reason that it has
+abbrev pub after_kill : {T : Type 0} → Keeper T → Keeper T
+after_kill (keeper.Due why) = keeper.Killed why
+after_kill k = keeper.Wrong
+
+-- the keeper after one of its events; those of the allowance leave it
+abbrev pub keeper_after : {T : Type 0} → Terms T → LaneEvent T → Keeper T → Keeper T
+keeper_after a (event.Poll polled.Failed) k = comes_due reason.Fault k
+keeper_after a (event.Poll polled.Exited) k = turns k
+keeper_after a (event.Turns n) k = turns k
+keeper_after a (event.Clock r) k = cond (shows_limit a.start a.limit r) (comes_due (reason.Limit r) k) (turns k)
+keeper_after a (event.Look c known) k = after_look (c == a.cell) known (tells_needless a.needless known) k
+keeper_after a event.Kill k = after_kill k
+keeper_after a event.KeeperMemory k = comes_due reason.Memory k
+keeper_after a event.Took k = k
+keeper_after a event.Start k = k
+keeper_after a event.Finish k = k
+keeper_after a event.Gave k = k
+keeper_after a e k = keeper.Wrong
+
+-- what is held of the allowance, after one of the keeper's events
+abbrev pub place_after : {T : Type 0} → LaneEvent T → Place → Place
+place_after event.Took place.Away = place.Held
+place_after event.Start place.Held = place.Used
+place_after event.Finish place.Used = place.Back
+place_after event.Gave place.Held = place.Away
+place_after event.Gave place.Back = place.Away
+place_after event.Took p = place.Wrong
+place_after event.Start p = place.Wrong
+place_after event.Finish p = place.Wrong
+place_after event.Gave p = place.Wrong
+place_after e p = p
+
+-- the parts after a list of events
+abbrev pub reader_from : {T : Type 0} → Reader T → List (LaneEvent T) → Reader T
+reader_from r [] = r
+reader_from r (e ∷ es) = reader_from (reader_after e r) es
+
+abbrev pub keeper_from : {T : Type 0} → Terms T → Keeper T → List (LaneEvent T) → Keeper T
+keeper_from a k [] = k
+keeper_from a k (e ∷ es) = keeper_from a (keeper_after a e k) es
+
+abbrev pub reader_of : {T : Type 0} → EventsOf T → Reader T
+reader_of events = reader_from reader.Fresh events.reader
+
+abbrev pub keeper_of : {T : Type 0} → Terms T → EventsOf T → Keeper T
+keeper_of a events = keeper_from a keeper.Fresh events.keeper
+
+-- no event came that can't come there
+abbrev pub RightReader : {T : Type 0} → Reader T → Type 0
+RightReader reader.Wrong = ⊥
+RightReader r = Unit
+
+abbrev pub RightKeeper : {T : Type 0} → Keeper T → Type 0
+RightKeeper keeper.Wrong = ⊥
+RightKeeper k = Unit

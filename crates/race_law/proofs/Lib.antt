@@ -1,0 +1,14 @@
+mod Lists
+mod Seats
+mod Bridging
+mod Counter
+mod Permuting
+mod Reports
+mod Tasks
+mod Whole
+mod Deciding
+mod Claims
+mod Ending
+mod Running
+mod Stepping
+mod Keeping

@@ -1,0 +1,5 @@
+pub mod World
+pub mod Invariant
+pub mod Ended
+pub mod Status
+pub mod Theorem
