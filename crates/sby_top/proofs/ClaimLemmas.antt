@@ -4,8 +4,8 @@ use Rattle.std.specs.Prelude.{bit_or, Option, Some, None, Contains, map}
 use Rattle.std.specs.Int.Bits.{or_zero_r}
 use Rattle.std.proofs.lemmas.List.Elements.{Contains-append_right}
 use Rattle.cnf_form.proofs.Members.{Contains-map, Contains-map_from}
-use Rattle.design_core.specs.Claims.{NoBreak}
-use Rattle.design_core.specs.Shape.{DesignOf}
+use Rattle.rtlil_design.specs.Claims.{NoBreak}
+use Rattle.rtlil_design.specs.Shape.{DesignOf}
 use Rattle.judge.specs.Finding.{FindingOf}
 use Rattle.judge.specs.Problem.{AskedOf}
 use Rattle.race_core.specs.Report.{ReportOf}

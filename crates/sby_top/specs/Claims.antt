@@ -2,10 +2,10 @@
 use Rattle.std.specs.Prelude.{◌≡◌, ◌⊎◌, ℕ, ◌≤◌, List, [], ◌∷◌, length, slice_get, Option, Some, None, Contains}
 use Rattle.std.specs.List.{concat}
 use Rattle.sby_edge.specs.Cause.{Rose}
-use Rattle.design_core.specs.Claims.{NoBreak, Shows}
-use Rattle.design_core.specs.Meaning.{asserts}
-use Rattle.design_core.specs.Runs.{CycleOf, IsRunOf, valuations}
-use Rattle.design_core.specs.Shape.{CellOf, DesignOf}
+use Rattle.rtlil_design.specs.Claims.{NoBreak, Shows}
+use Rattle.rtlil_design.specs.Meaning.{asserts}
+use Rattle.rtlil_design.specs.Runs.{CycleOf, IsRunOf, valuations}
+use Rattle.rtlil_design.specs.Shape.{CellOf, DesignOf}
 use Rattle.judge.specs.Finding.{FindingOf}
 use Rattle.race_core.specs.Report.{ReportOf}
 use Rattle.race_core.specs.declared.end.JobEnd.{JobEnd}

@@ -1,8 +1,8 @@
 // What is claimed of a call of the program, one claim each. Each law stands on what `run_sby` ensures, and its body is empty.
 
 ghost use Rattle.std.specs.Prelude.{◌≡◌, ◌⊎◌, ℕ, List, Contains};
-ghost use Rattle.design_core.specs.Claims.{NoBreak};
-ghost use Rattle.design_core.specs.Shape.{DesignOf};
+ghost use Rattle.rtlil_design.specs.Claims.{NoBreak};
+ghost use Rattle.rtlil_design.specs.Shape.{DesignOf};
 ghost use Rattle.sby_terms.specs.declared.names.Mode.TheVariants.{Bmc};
 ghost use Rattle.sby_terms.specs.declared.names.Status.TheVariants.{Pass, Fail};
 ghost use Rattle.sby_top.specs.Claims.{IsDesignOf, IsEvent, IsShownBreak, IsTaskOf};
