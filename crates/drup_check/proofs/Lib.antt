@@ -1,4 +1,3 @@
-pub mod Sounds
-pub mod Hashes
-pub mod Chaining
-pub mod Covering
+pub mod Scan
+pub mod Fixpoint
+pub mod Asking

@@ -1,3 +1,2 @@
+pub mod Marks
 pub mod Checking
-pub mod Sound
-pub mod Chains
