@@ -17,7 +17,7 @@ fn files_are_put_and_got(rt: HostRuntime) -> Result<(), Failure> {
         }
     }
     match files.get(alloc, path, 3) {
-        Ok(Got::Long(bytes)) => assert_eq!(rt; bytes.as_slice(), b"p cn"),
+        Ok(Got::Long(bytes)) => assert_eq!(rt; bytes.as_slice(), b"p cn".as_slice()),
         _ => assert!(rt; false),
     }
     assert_eq!(rt; files.faults, 0);
