@@ -11,12 +11,14 @@ fn files_are_put_and_got(rt: HostRuntime) -> Result<(), Failure> {
     let path = "one/two/model.cnf";
     for content in [b"p cnf 1 1\n0\n".as_slice(), b"p cnf\n"] {
         assert!(rt; files.put(alloc, path, content).is_ok());
-        match files.get(alloc, path, 100) {
+        let got = files.get(alloc, path, 100);
+        match &got {
             Ok(Got::All(bytes)) => assert_eq!(rt; bytes.as_slice(), content),
             _ => assert!(rt; false),
         }
     }
-    match files.get(alloc, path, 3) {
+    let got = files.get(alloc, path, 3);
+    match &got {
         Ok(Got::Long(bytes)) => assert_eq!(rt; bytes.as_slice(), b"p cn".as_slice()),
         _ => assert!(rt; false),
     }
