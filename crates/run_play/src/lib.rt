@@ -8,8 +8,6 @@ mod player;
 mod registers;
 mod statements;
 mod table;
-#[cfg(test)]
-mod tests;
 mod turn;
 mod whole;
 

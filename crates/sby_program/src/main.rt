@@ -2,6 +2,8 @@
 #![tactic(auto)]
 
 ghost use Rattle.std.specs.Prelude.{◌≡◌, map, string_bytes};
+ghost use Rattle.std.specs.Process.{exit_status};
+ghost use Rattle.sby_program.specs.Program.{IsExit, IsProgramExit};
 ghost use Rattle.sby_top.specs.Run.{Did};
 ghost use Rattle.sby_top.specs.declared.outcome.Done.{Done};
 
@@ -55,15 +57,28 @@ fn run_program<R, F: Files, S: Sink, Y: Yard, C: Clock>(
     done.rc
 }
 
-// Makes the real outside, and runs the program over it.
-fn main(rt: HostRuntime) -> ExitCode {
-    let alloc = rt.alloc();
-    let Ok(words) = words(&rt, alloc) else {
-        return ExitCode::from(OUT_OF_MEMORY);
-    };
-    let mut files = RealFiles::new(&rt);
-    let mut out = OutputSink::new(io::writer(&rt));
+// Runs the program over the real files, a real output and a clock that stands.
+fn run_real(rt: &HostRuntime, alloc: Global, words: &[String]) -> u8
+    ensures { IsExit (map string_bytes words.now) result }
+{
+    let mut files = RealFiles::new(rt);
+    let mut out = OutputSink::new(io::writer(rt));
     let mut yard = NoYard::new();
     let clock = StillClock(0);
-    ExitCode::from(run_program(&rt, alloc, &words, &mut files, &mut out, &mut yard, &clock))
+    run_program(rt, alloc, words, &mut files, &mut out, &mut yard, &clock)
+}
+
+// Runs the program for the words that it was given.
+fn run(rt: &HostRuntime) -> ExitCode
+    ensures { IsProgramExit (exit_status result) }
+{
+    let alloc = rt.alloc();
+    match words(rt, alloc) {
+        Ok(words) => ExitCode::from(run_real(rt, alloc, &words)),
+        Err(AllocError) => ExitCode::from(OUT_OF_MEMORY),
+    }
+}
+
+fn main(rt: HostRuntime) -> ExitCode {
+    run(&rt)
 }

@@ -1,7 +1,7 @@
 use Rattle.std.proofs.Common.{subst}
 use Rattle.run_choices.specs.Choices.{AreChoicesFor, OpenOf}
 use Rattle.run_choices.proofs.Opening.{open_one}
-use Rattle.run_play.proofs.tests.whole_run_is_played.Goals as goal
+use Rattle.design_texts.proofs.tests.plays.whole_run_is_played.Goals as goal
 
 pub play-requires-clause-fits : goal.play-requires-clause-fits
 play-requires-clause-fits g c = λ o are.

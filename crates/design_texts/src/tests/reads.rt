@@ -1,6 +1,6 @@
-mod designs;
+// What is read of texts.
 
-use designs::{BITS, FORMAL, SHIFTER, SUB};
+use crate::tests::designs::{BITS, FORMAL, SHIFTER, SUB};
 use rtlil_design::design::Design;
 use rtlil_design::shape::SigBit;
 use rtlil_reader::read;

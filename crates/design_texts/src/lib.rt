@@ -1,0 +1,5 @@
+//! Tests of reader, check and player over whole texts.
+#![tactic(auto)]
+
+#[cfg(test)]
+mod tests;
