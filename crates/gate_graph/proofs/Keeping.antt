@@ -6,15 +6,16 @@ use Rattle.std.proofs.lemmas.List.{append-nil}
 use Rattle.std.proofs.Math.Nat.{eq-or-lt_of_le}
 use Rattle.cnf_form.specs.Cnf.{LitOf, FormulaOf, Assignment, Satisfies, LitWithin, ClauseWithin, Within}
 use Rattle.cnf_form.specs.declared.literal.TheConstants.{MAX_VARS}
-use Rattle.gate_graph.specs.Circuit.{GatesOf, AgreeOn, AgreeTo, IsPartOf, IsFixed, IsGates, Means, MakesGate, MakesInput}
+use Rattle.gate_graph.specs.Circuit.{GatesOf, AgreeOn, AgreeTo, IsPartOf, IsFixed, IsGates}
 use Rattle.gate_graph.specs.Laws.{Satisfies-front, put, put-same, put-other}
-use Rattle.gate_graph.specs.Kept.{Row, IsTable, IsKept, Define, clause_of, lit_of, gates_of, with_gate}
-use Rattle.gate_graph.proofs.Tables.{Satisfies-agrees, bit_agrees, table_holds, table_says, table_fixes, table_within}
+use Rattle.gate_graph.specs.Kept.{IsKept, lit_of, circuit_of}
+use Rattle.gate_graph.proofs.Rows.{Row, IsTable, clause_of}
+use Rattle.gate_graph.proofs.Tables.{contains_none, Satisfies-agrees, bit_agrees, table_holds, table_says, table_fixes, table_within}
 
 Satisfies-append : (x : Assignment) (F G : List (List LitOf)) → Satisfies x F → Satisfies x G → Satisfies x (F ++ G)
 Satisfies-append x F G s t c h = elim (Contains-append_cases F G c h) [ inl a ↦ s c a | inr b ↦ t c b ]
 
-Satisfies-back : (x : Assignment) (F G : List (List LitOf)) → Satisfies x (F ++ G) → Satisfies x G
+pub Satisfies-back : (x : Assignment) (F G : List (List LitOf)) → Satisfies x (F ++ G) → Satisfies x G
 Satisfies-back x F G s c h = s c (Contains-append_right F G c h)
 
 part_front : (F G H : List (List LitOf)) → IsPartOf (F ++ G) H → IsPartOf F H
@@ -32,7 +33,7 @@ put_agrees n x b v h k = put-other x (n + 1) b v (omega arith)
 up_to : (n v : ℕ) → v ≤ n + 1 → (v ≤ n) ⊎ (n + 1 ≡ v)
 up_to n v h = elim (eq-or-lt_of_le h) [ inl e ↦ inr (sym e) | inr k ↦ inl (omega arith) ]
 
-module _ (n : ℕ) (F : List (List LitOf)) (is : List ℕ) (g : IsGates (gates_of n F is)) (room : n < MAX_VARS) where
+module _ (n : ℕ) (F : List (List LitOf)) (is : List ℕ) (g : IsGates (circuit_of n F is)) (room : n < MAX_VARS) where
   -- a variable with a table
   module _ (bit : Assignment → Bool) (rs : List Row) (t : IsTable n bit rs) where
     abbrev G : List (List LitOf)
@@ -67,7 +68,7 @@ module _ (n : ℕ) (F : List (List LitOf)) (is : List ℕ) (g : IsGates (gates_o
           | inr e ↦ subst (IsFixed H) e (table_fixes n (n + 1) bit rs H t (part_back F G H p) before)
         ]
 
-    pub IsGates-gate : IsGates (gates_of (n + 1) (F ++ map (clause_of (n + 1)) rs) is)
+    pub IsGates-gate : IsGates (circuit_of (n + 1) (F ++ map (clause_of (n + 1)) rs) is)
     IsGates-gate = record {
       limit = omega arith;
       within = All-append (ClauseWithin (n + 1)) F G (Within-more n F g.within) (table_within n bit rs t.sound);
@@ -109,7 +110,7 @@ module _ (n : ℕ) (F : List (List LitOf)) (is : List ℕ) (g : IsGates (gates_o
     | inr e ↦ (omega arith, omega arith)
   ]
 
-  pub IsGates-input : IsGates (gates_of (n + 1) F (is ++ (n + 1) ∷ []))
+  pub IsGates-input : IsGates (circuit_of (n + 1) F (is ++ (n + 1) ∷ []))
   IsGates-input = record {
     limit = omega arith;
     within = Within-more n F g.within;
@@ -118,56 +119,6 @@ module _ (n : ℕ) (F : List (List LitOf)) (is : List ℕ) (g : IsGates (gates_o
     unique = input_unique;
     fixed = input_fixed;
   }
-
-Means-front : (n m : ℕ) (F G : List (List LitOf)) (is js : List ℕ) (l : LitOf) (value : Assignment → Bool) → Means (gates_of n F is) l value → Means (gates_of m (F ++ G) js) l value
-Means-front n m F G is js l value h x s = h x (Satisfies-front x F G s)
-
--- the clauses of a table are of variables that are there
-pub Define-within : (n m : ℕ) (F : List (List LitOf)) → n < m → Define n F → Within m F
-Define-within n m F h (bit, rs, t, e) = rw e (All-weaker (ClauseWithin (n + 1)) (ClauseWithin m)
-    (λ c. All-weaker (LitWithin (n + 1)) (LitWithin m) (λ l (a, b). (a, omega arith)) c) (map (clause_of (n + 1)) rs) (table_within n bit rs t.sound))
-
--- the fields after a gate
-pub IsKept-gate : (n : ℕ) (f g : FormulaOf) (is : List ℕ) (G : List (List LitOf)) → IsKept n f is → n < MAX_VARS → Define n G →
-    g ≡ record f { clauses = f.clauses ++ G } → IsKept (n + 1) g is
-IsKept-gate n f g is G k room (bit, rs, t, e) h = rw (h, e) (record {
-  gates = IsGates-gate n f.clauses is k.gates room bit rs t;
-  truth = Means-front n (n + 1) f.clauses (map (clause_of (n + 1)) rs) is is (lit_of 1 true) (λ _. true) k.truth;
-  some = omega arith;
-  room = k.room;
-})
-
--- the fields after an input
-pub IsKept-input : (n : ℕ) (f : FormulaOf) (is : List ℕ) → IsKept n f is → n < MAX_VARS → IsKept (n + 1) f (is ++ (n + 1) ∷ [])
-IsKept-input n f is k room = record {
-  gates = IsGates-input n f.clauses is k.gates room;
-  truth = k.truth;
-  some = omega arith;
-  room = k.room;
-}
-
--- the clauses of a table make its gate
-pub MakesGate-table : (g : GatesOf) (G : List (List LitOf)) (bit : Assignment → Bool) (rs : List Row) → IsTable g.formula.vars bit rs → G ≡ map (clause_of (g.formula.vars + 1)) rs →
-    MakesGate g (with_gate g G) bit (lit_of (g.formula.vars + 1) true)
-MakesGate-table g G bit rs t e = record {
-  continues = record { vars = omega arith; clauses = (G, refl); inputs = ([], sym (append-nil g.inputs)) };
-  inputs = refl;
-  most = omega arith;
-  within = (omega arith, omega arith);
-  means = λ x s. table_says g.formula.vars (g.formula.vars + 1) bit x rs t.sound (t.covers x)
-      (subst (Satisfies x) e (Satisfies-back x g.formula.clauses G s));
-}
-
--- an input that was made
-pub MakesInput-push : (g : GatesOf) → MakesInput g (gates_of (g.formula.vars + 1) g.formula.clauses (g.inputs ++ (g.formula.vars + 1) ∷ [])) (lit_of (g.formula.vars + 1) true)
-MakesInput-push g = record {
-  continues = record { vars = omega arith; clauses = ([], sym (append-nil g.formula.clauses)); inputs = ((g.formula.vars + 1) ∷ [], refl) };
-  inputs = refl;
-  most = omega arith;
-  within = (omega arith, omega arith);
-  fresh = omega arith;
-  plain = refl;
-}
 
 -- a literal seen through its parts
 pub lit_from : (l : LitOf) (v : ℕ) → l.var ≡ v → l.negated ≡ false → l ≡ lit_of v true
@@ -178,7 +129,7 @@ lit_from l v e f = same l.var v l.negated false e f
 
 -- the gates at first: no variable but the one that is true
 module _ where
-  none : IsGates (gates_of 0 [] [])
+  none : IsGates (circuit_of 0 [] [])
   none = record {
     limit = omega arith;
     within = λ k d h. absurd (omega arith);
@@ -195,11 +146,15 @@ module _ where
   unfolding truth_rows
   truth_table = record { sound = (tt, λ x f. refl, tt); covers = λ x. inl tt }
 
-  pub IsKept-start : IsKept 1 (record { vars = MAX_VARS; clauses = (lit_of 1 true ∷ []) ∷ [] }) []
+  pub IsKept-start : (most : ℕ) → 1 ≤ most → most ≤ MAX_VARS → IsKept 1 most (record { vars = MAX_VARS; clauses = (lit_of 1 true ∷ []) ∷ [] }) [] []
   unfolding truth_rows
-  IsKept-start = record {
+  IsKept-start most low high = record {
     gates = IsGates-gate 0 [] [] none (omega arith) (λ _. true) truth_rows truth_table;
     truth = λ x s. table_says 0 1 (λ _. true) x truth_rows truth_table.sound (truth_table.covers x) s;
     some = omega arith;
+    below = low;
+    limit = high;
     room = refl;
+    all = λ k l h. absurd (contains_none (k, l) h);
+    one = λ k l m h i. absurd (contains_none (k, l) h);
   }

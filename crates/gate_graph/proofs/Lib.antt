@@ -1,4 +1,10 @@
-pub mod Tables
-pub mod Keeping
-pub mod Operations
+pub mod Rows
 pub mod Pushing
+pub mod Tables
+pub mod OneTable
+pub mod Keeping
+pub mod Leaves
+pub mod Meanings
+pub mod Making
+pub mod Equal
+pub mod Reaching

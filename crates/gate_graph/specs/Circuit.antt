@@ -1,12 +1,20 @@
 -- Gates: a formula in which each variable is an input or a function of the inputs.
 use Rattle.std.specs.Prelude.{◌≡◌, ℕ, ◌<◌, ◌≤◌, ◌+◌, Bool, false, not, if◌then◌else◌, List, [], ◌∷◌, ◌++◌, Contains}
 use Rattle.cnf_form.specs.Cnf.{LitOf, FormulaOf, Assignment, Satisfies, Closure, LitWithin, Within, lit_in}
+use Rattle.gate_graph.specs.declared.gate.Gate.{Gate}
 use Rattle.cnf_form.specs.declared.literal.TheConstants.{MAX_VARS}
+pub use Rattle.gate_graph.specs.Folding.{xor}
 
 -- what has been built: a formula, and those of its variables that are inputs, in the order in which they were made
 pub record GatesOf : Type 0 where
   pub formula : FormulaOf
   pub inputs : List ℕ
+  -- how many variables there may be
+  pub most : ℕ
+  -- the gates that were made, each with its literal, in the order in which they were made
+  pub kept : List (Gate × LitOf)
+  -- memory ran out, and no gate is made any more
+  pub spent : Bool
 
 -- the assignments have the same bits for these variables
 abbrev pub AgreeOn : List ℕ → Assignment → Assignment → Type 0
@@ -36,10 +44,6 @@ pub record IsGates (g : GatesOf) : Type 0 where
   -- whatever clauses are added, unit propagation that fixes each input fixes every variable
   pub fixed : (F : List (List LitOf)) → IsPartOf g.formula.clauses F → ((v : ℕ) → Contains g.inputs v → IsFixed F v) → (v : ℕ) → 0 < v → v ≤ g.formula.vars → IsFixed F v
 
--- one of the two bits is true, and not both
-abbrev pub xor : Bool → Bool → Bool
-xor a b = if a then not b else b
-
 -- the literal has this value in every assignment that satisfies the clauses
 abbrev pub Means : GatesOf → LitOf → (Assignment → Bool) → Type 0
 Means g l value = (x : Assignment) → Satisfies x g.formula.clauses → lit_in x l ≡ value x
@@ -49,6 +53,8 @@ pub record Continues (old new : GatesOf) : Type 0 where
   pub vars : old.formula.vars ≤ new.formula.vars
   pub clauses : (more : List (List LitOf)) × (new.formula.clauses ≡ old.formula.clauses ++ more)
   pub inputs : (more : List ℕ) × (new.inputs ≡ old.inputs ++ more)
+  pub kept : (more : List (Gate × LitOf)) × (new.kept ≡ old.kept ++ more)
+  pub limit : new.most ≡ old.most
 
 -- a gate of this value, at the literal; it makes one variable at most
 pub record MakesGate (old new : GatesOf) (value : Assignment → Bool) (l : LitOf) : Type 0 where
@@ -66,6 +72,7 @@ pub record MakesInput (old new : GatesOf) (l : LitOf) : Type 0 where
   pub within : LitWithin new.formula.vars l
   pub fresh : old.formula.vars < l.var
   pub plain : l.negated ≡ false
+  pub kept : new.kept ≡ old.kept
 
 -- Each assignment that satisfies the old gates extends to one that satisfies the new ones, with the same bits for the old variables,
 -- and each that satisfies the new ones satisfies the old.

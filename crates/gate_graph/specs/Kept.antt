@@ -1,60 +1,88 @@
--- How the gates are kept: a variable that is true, then the others in the order in which they were made.
-use Rattle.std.specs.Prelude.{◌≡◌, ℕ, ◌≤◌, ◌+◌, Bool, true, false, not, ◌⊎◌, List, [], ◌∷◌, ◌++◌, map}
-use Rattle.cnf_form.specs.Cnf.{LitOf, FormulaOf, Assignment, LitWithin, lit_in}
+-- Which gates are kept, and what a call for one does.
+use Rattle.std.specs.Prelude.{◌≡◌, ℕ, ◌≤◌, ◌+◌, Bool, true, false, not, if◌then◌else◌, ◌⊎◌, List, [], ◌∷◌, ◌++◌, Contains}
+use Rattle.cnf_form.specs.Cnf.{LitOf, FormulaOf, Assignment, LitWithin, Satisfies, lit_in, negate}
 use Rattle.cnf_form.specs.declared.literal.TheConstants.{MAX_VARS}
-use Rattle.gate_graph.specs.Circuit.{GatesOf, IsGates, Means}
+use Rattle.gate_graph.specs.declared.gate.Gate.{Gate}
+use Rattle.gate_graph.specs.declared.gate.Asked.{Asked}
+use Rattle.gate_graph.specs.declared.gate.Asked.TheVariants.{Is, Make}
+use Rattle.gate_graph.specs.Folding.{bit, operands, clauses_of}
+use Rattle.gate_graph.specs.Circuit.{GatesOf, IsGates}
 
-abbrev pub gates_of : ℕ → List (List LitOf) → List ℕ → GatesOf
-gates_of vars clauses inputs = record { formula = record { vars = vars; clauses = clauses }; inputs = inputs }
+abbrev pub gates_of : ℕ → ℕ → List (List LitOf) → List ℕ → List (Gate × LitOf) → Bool → GatesOf
+gates_of vars most clauses inputs kept spent = record { formula = record { vars = vars; clauses = clauses }; inputs = inputs; most = most; kept = kept; spent = spent }
+
+-- the formula and the inputs alone
+abbrev pub circuit_of : ℕ → List (List LitOf) → List ℕ → GatesOf
+circuit_of vars clauses inputs = gates_of vars 0 clauses inputs [] false
 
 -- the literal of a variable with this value
 abbrev pub lit_of : ℕ → Bool → LitOf
 lit_of v value = record { var = v; negated = not value }
 
--- what holds of the fields: the clauses are in a formula that has room for every variable
-pub record IsKept (vars : ℕ) (formula : FormulaOf) (inputs : List ℕ) : Type 0 where
-  pub gates : IsGates (gates_of vars formula.clauses inputs)
-  pub truth : Means (gates_of vars formula.clauses inputs) (lit_of 1 true) (λ _. true)
-  pub some : 1 ≤ vars
-  pub room : formula.vars ≡ MAX_VARS
-
--- A row of a gate's table: the gate has the value where none of the literals is true.
-pub record Row : Type 0 where
-  pub value : Bool
-  pub others : List LitOf
-
--- the clause that says so of the variable
-abbrev pub clause_of : ℕ → Row → List LitOf
-clause_of v r = lit_of v r.value ∷ r.others
-
--- none of the literals is true
-abbrev pub AllFalse : Assignment → List LitOf → Type 0
-AllFalse x [] = Unit {0}
-AllFalse x (l ∷ ls) = (lit_in x l ≡ false) × AllFalse x ls
-
+-- each literal is of a variable from 1 to n
 abbrev pub OthersWithin : ℕ → List LitOf → Type 0
 OthersWithin n [] = Unit {0}
 OthersWithin n (l ∷ ls) = LitWithin n l × OthersWithin n ls
 
--- each row is of the variables from 1 to n, and right of the bit
-abbrev pub AreRows : ℕ → (Assignment → Bool) → List Row → Type 0
-AreRows n bit [] = Unit {0}
-AreRows n bit (r ∷ rs) = OthersWithin n r.others × ((x : Assignment) → AllFalse x r.others → bit x ≡ r.value) × AreRows n bit rs
+-- the literal has the gate's value in every assignment that satisfies the clauses
+pub record IsOf (n : ℕ) (F : List (List LitOf)) (k : Gate) (l : LitOf) : Type 0 where
+  pub operands : OthersWithin n (operands k)
+  pub within : LitWithin n l
+  pub means : (x : Assignment) → Satisfies x F → lit_in x l ≡ bit k x
 
--- some row speaks
-abbrev pub Covers : Assignment → List Row → Type 0
-Covers x [] = ⊥
-Covers x (r ∷ rs) = AllFalse x r.others ⊎ Covers x rs
+-- each kept gate has a literal of its value, and no other
+pub record AreKept (g : GatesOf) : Type 0 where
+  pub all : (k : Gate) (l : LitOf) → Contains g.kept (k, l) → IsOf g.formula.vars g.formula.clauses k l
+  pub one : (k : Gate) (l m : LitOf) → Contains g.kept (k, l) → Contains g.kept (k, m) → l ≡ m
 
--- the rows are a table of the bit
-pub record IsTable (n : ℕ) (bit : Assignment → Bool) (rows : List Row) : Type 0 where
-  pub sound : AreRows n bit rows
-  pub covers : (x : Assignment) → Covers x rows
+-- variable 1 is true, and there are no more variables than there may be
+pub record HasRoom (g : GatesOf) : Type 0 where
+  pub some : 1 ≤ g.formula.vars
+  pub below : g.formula.vars ≤ g.most
+  pub limit : g.most ≤ MAX_VARS
 
--- the clauses are those of some table, for the variable after n
-abbrev pub Define : ℕ → List (List LitOf) → Type 0
-Define n F = (bit : Assignment → Bool) × (rows : List Row) × IsTable n bit rows × (F ≡ map (clause_of (n + 1)) rows)
+-- what holds of the fields: the clauses are in a formula that has room for every variable
+pub record IsKept (vars most : ℕ) (formula : FormulaOf) (inputs : List ℕ) (kept : List (Gate × LitOf)) : Type 0 where
+  pub gates : IsGates (circuit_of vars formula.clauses inputs)
+  pub truth : (x : Assignment) → Satisfies x formula.clauses → x 1 ≡ true
+  pub some : 1 ≤ vars
+  pub below : vars ≤ most
+  pub limit : most ≤ MAX_VARS
+  pub room : formula.vars ≡ MAX_VARS
+  pub all : (k : Gate) (l : LitOf) → Contains kept (k, l) → IsOf vars formula.clauses k l
+  pub one : (k : Gate) (l m : LitOf) → Contains kept (k, l) → Contains kept (k, m) → l ≡ m
 
--- one more variable, and the clauses behind
-abbrev pub with_gate : GatesOf → List (List LitOf) → GatesOf
-with_gate g F = gates_of (g.formula.vars + 1) (g.formula.clauses ++ F) g.inputs
+-- no literal has been made for the gate
+abbrev pub IsNew : GatesOf → Gate → Type 0
+IsNew g k = (l : LitOf) → Contains g.kept (k, l) → ⊥
+
+-- one more gate, at the next variable
+abbrev pub with_gate : GatesOf → Gate → GatesOf
+with_gate g k = let l = lit_of (g.formula.vars + 1) true in
+    gates_of (g.formula.vars + 1) g.most (g.formula.clauses ++ clauses_of l k) g.inputs (g.kept ++ (k, l) ∷ []) g.spent
+
+-- one more input, at the next variable
+abbrev pub with_input : GatesOf → GatesOf
+with_input g = gates_of (g.formula.vars + 1) g.most g.formula.clauses (g.inputs ++ (g.formula.vars + 1) ∷ []) g.kept g.spent
+
+-- the same gates after memory ran out
+abbrev pub out_of_memory : GatesOf → GatesOf
+out_of_memory g = record g { spent = true }
+
+-- all variables are taken
+pub record IsFull (g : GatesOf) : Type 0 where
+  pub live : g.spent ≡ false
+  pub full : g.formula.vars ≡ g.most
+
+abbrev pub signed : Bool → LitOf → LitOf
+signed s l = if s then negate l else l
+
+-- what is asked for has this literal, and a gate is made only where it is new
+abbrev pub Settles : GatesOf → Asked → GatesOf → LitOf → Type 0
+Settles old (Is m) new l = (new ≡ old) × (l ≡ m)
+Settles old (Make k s) new l = (m : LitOf) × (l ≡ signed s m) × ((Contains old.kept (k, m) × (new ≡ old)) ⊎ (IsNew old k × (m ≡ lit_of (old.formula.vars + 1) true) × (new ≡ with_gate old k)))
+
+-- it is a gate that is neither folded nor kept, and would be one variable too many
+abbrev pub IsRefused : GatesOf → Asked → Type 0
+IsRefused old (Is m) = ⊥
+IsRefused old (Make k s) = IsFull old × IsNew old k

@@ -1,20 +1,25 @@
 // A formula that grows by inputs and gates.
 
-ghost use Rattle.std.specs.Prelude.{◌≡◌, ◌≢◌, ◌↔◌, ◌<◌, ◌≤◌, ◌+◌, ℕ, Bool, ◌&&◌, not, if◌then◌else◌, true, false, [], ◌∷◌, ◌++◌, map, IfOk, IfErr, OnOk, OnErr};
-ghost use Rattle.cnf_form.specs.Cnf.{Assignment, LitOf, LitWithin, Within, lit_in, negate};
-ghost use Rattle.gate_graph.specs.Circuit.{GatesOf, IsGates, MakesGate, MakesInput, Means, xor};
-ghost use Rattle.gate_graph.specs.Kept.{Define, lit_of, with_gate};
+ghost use Rattle.std.specs.Prelude.{◌≡◌, ◌↔◌, ◌<◌, ◌≤◌, ◌+◌, Bool, ◌&&◌, not, if◌then◌else◌, true, false, [], IfOk, IfErr, IfSome, IfNone, OnOk, Contains};
+ghost use Rattle.cnf_form.specs.Cnf.{Assignment, LitOf, LitWithin, lit_in, negate};
+ghost use Rattle.cnf_form.specs.declared.literal.TheConstants.{MAX_VARS};
+ghost use Rattle.gate_graph.specs.Circuit.{GatesOf, IsGates, MakesGate, MakesInput, Means};
+ghost use Rattle.gate_graph.specs.Folding.{asked, bit, constant, majority, operands, xor};
+ghost use Rattle.gate_graph.specs.Kept.{AreKept, HasRoom, IsFull, IsNew, IsRefused, OthersWithin, Settles, lit_of, out_of_memory, with_gate, with_input};
 
+use crate::clauses::push_clauses;
+use crate::gate::{Asked, Gate, fold};
 use cnf_form::{Clauses, Formula, Lit, MAX_VARS};
+use indexmap::IndexMap;
 use std::alloc::{AllocError, Global};
 use std::marker::Model;
 
 /// Why a call made no gate.
 #[derive(Clone, Copy, Debug, PartialEq, Eq)]
 pub enum GateFault {
-    /// The next gate would be variable `MAX_VARS + 1`.
+    /// The next gate would be one variable more than there may be.
     TooMany,
-    /// Memory ran out.
+    /// Memory ran out, in this call or before.
     Memory,
 }
 
@@ -29,14 +34,22 @@ impl From<AllocError> for GateFault {
     }
 }
 
-/// Inputs and gates over them, and the clauses that say what each gate is.
+/// Inputs and gates over them, and the clauses that say what each gate is. A gate that is asked for again has the literal that it had,
+/// and what an operand decides alone (a constant, an equal or an opposite one) is no gate.
+///
+/// Once a call wanted memory, each later call for an input or a gate answers `Memory`; nothing that was there is lost.
 #[derive(Drop)]
 pub struct Gates {
-    // The variables so far, of which variable 1 is true.
+    // The variables so far, of which variable 1 is true, and how many there may be.
     vars: u32,
+    most: u32,
     // The clauses so far, in a formula that has room for every variable.
     formula: Formula,
     inputs: Vec<u32>,
+    // The gates that were made, each with its literal.
+    kept: IndexMap<Gate, Lit>,
+    // Whether memory ran out.
+    spent: bool,
 }
 
 impl Model for Gates {
@@ -45,23 +58,42 @@ impl Model for Gates {
 
     ghost Value = { GatesOf };
 
-    ghost view = { λ g. gates_of g.vars g.formula.clauses g.inputs.items };
+    ghost view = { λ g. gates_of g.vars g.most g.formula.clauses g.inputs.items g.kept.entries g.spent };
 
-    ghost invariant = { λ g. IsKept g.vars g.formula g.inputs.items };
+    ghost invariant = { λ g. IsKept g.vars g.most g.formula g.inputs.items g.kept.entries };
 }
 
 impl Gates {
-    /// No input and no gate, but the literals of the constants.
+    /// No input and no gate, but the literals of the constants, and room for `MAX_VARS` variables.
     pub fn new(alloc: Global) -> Result<Self, AllocError>
-        ensures most { IfOk result (λ g. g.formula.vars ≤ 1) }
+        ensures vars { IfOk result (λ g. g.formula.vars ≡ 1) }
+        ensures most { IfOk result (λ g. g.most ≡ MAX_VARS) }
         ensures inputs { IfOk result (λ g. g.inputs ≡ []) }
+        ensures kept { IfOk result (λ g. g.kept ≡ []) }
+        ensures live { IfOk result (λ g. g.spent ≡ false) }
+    {
+        Gates::within(alloc, MAX_VARS)
+    }
+
+    /// No input and no gate, but the literals of the constants, which take one variable. There may be `most` variables, from 1 to `MAX_VARS`.
+    pub fn within(alloc: Global, most: u32) -> Result<Self, AllocError>
+        requires some { 1 ≤ most }
+        requires limit { most ≤ MAX_VARS }
+        ensures vars { IfOk result (λ g. g.formula.vars ≡ 1) }
+        ensures most { IfOk result (λ g. g.most ≡ most) }
+        ensures inputs { IfOk result (λ g. g.inputs ≡ []) }
+        ensures kept { IfOk result (λ g. g.kept ≡ []) }
+        ensures live { IfOk result (λ g. g.spent ≡ false) }
     {
         let mut formula = Formula::new(alloc, MAX_VARS);
         formula.push(&[Lit::new(1, false)])?;
         Ok(Gates {
             vars: 1,
+            most,
             formula,
             inputs: Vec::new(alloc),
+            kept: IndexMap::new(alloc),
+            spent: false,
         })
     }
 
@@ -88,13 +120,16 @@ impl Gates {
 
     /// What holds of all gates.
     pub fn promise(&self)
-        ensures { IsGates self.now }
+        ensures gates { IsGates self.now }
+        ensures kept { AreKept self.now }
+        ensures room { HasRoom self.now }
     {
         let _ = &self.vars;
     }
 
     /// The literal that has this value.
     pub fn constant(&self, value: bool) -> Lit
+        ensures literal { result ≡ constant value }
         ensures means { Means self.now result (λ _. value) }
         ensures within { LitWithin self.now.formula.vars result }
     {
@@ -110,76 +145,118 @@ impl Gates {
         l.negate()
     }
 
-    /// A literal that may have either value: a variable, and not its negation. After an `Err` the gates are as they were.
+    /// A literal that may have either value: a variable, and not its negation. After `TooMany` the gates are as they were.
     pub fn input(&mut self) -> Result<Lit, GateFault>
         ensures input { IfOk result (MakesInput self.old self.new) }
-        ensures too_many { (result ≡ Err GateFault.TooMany) ↔ (self.old.formula.vars ≡ MAX_VARS) }
-        ensures err { OnErr result (self.new ≡ self.old) }
+        ensures new { OnOk result (self.new ≡ with_input self.old) }
+        ensures too_many { (result ≡ Err GateFault.TooMany) ↔ IsFull self.old }
+        ensures refused { result ≡ Err GateFault.TooMany → self.new ≡ self.old }
+        ensures memory { result ≡ Err GateFault.Memory → self.new ≡ out_of_memory self.old }
+        ensures for_good { self.old.spent ≡ true → result ≡ Err GateFault.Memory }
     {
-        let input = self.next()?;
-        match self.inputs.push(input.var()) {
-            Ok(()) => {
-                self.vars += 1;
-                Ok(input)
-            }
-            Err(_) => Err(GateFault::Memory),
+        if self.spent {
+            return Err(GateFault::Memory);
         }
+        if self.vars == self.most {
+            return Err(GateFault::TooMany);
+        }
+        // Until all of it is there.
+        self.spent = true;
+        let input = Lit::new(self.vars + 1, false);
+        match self.inputs.push(input.var()) {
+            Ok(()) => {}
+            Err(_) => return Err(GateFault::Memory),
+        }
+        self.vars += 1;
+        self.spent = false;
+        Ok(input)
     }
 
-    /// The literal that is true where both are. After an `Err` the gates are as they were.
+    /// The literal that is true where both are. After `TooMany` the gates are as they were.
     pub fn and(&mut self, a: Lit, b: Lit) -> Result<Lit, GateFault>
         requires a { LitWithin self.old.formula.vars a }
         requires b { LitWithin self.old.formula.vars b }
+        ensures settles { IfOk result (Settles self.old (asked (Gate.And a b)) self.new) }
         ensures gate { IfOk result (MakesGate self.old self.new (λ x. lit_in x a && lit_in x b)) }
-        ensures too_many { (result ≡ Err GateFault.TooMany) ↔ (self.old.formula.vars ≡ MAX_VARS) }
-        ensures err { OnErr result (self.new ≡ self.old) }
+        ensures too_many { (result ≡ Err GateFault.TooMany) ↔ IsRefused self.old (asked (Gate.And a b)) }
+        ensures full { result ≡ Err GateFault.TooMany → IsFull self.old }
+        ensures refused { result ≡ Err GateFault.TooMany → self.new ≡ self.old }
+        ensures memory { result ≡ Err GateFault.Memory → self.new ≡ out_of_memory self.old }
+        ensures for_good { self.old.spent ≡ true → result ≡ Err GateFault.Memory }
     {
-        let gate = self.next()?;
-        let off = gate.negate();
-        let a_off = [off, a];
-        let b_off = [off, b];
-        let both_on = [gate, a.negate(), b.negate()];
-        self.define(&[&a_off, &b_off, &both_on])?;
-        Ok(gate)
+        self.gate(Gate::And(a, b))
     }
 
-    /// The literal that is true where one of the two is, and not both. After an `Err` the gates are as they were.
+    /// The literal that is true where one of the two is, and not both. After `TooMany` the gates are as they were.
     pub fn xor(&mut self, a: Lit, b: Lit) -> Result<Lit, GateFault>
         requires a { LitWithin self.old.formula.vars a }
         requires b { LitWithin self.old.formula.vars b }
+        ensures settles { IfOk result (Settles self.old (asked (Gate.Xor a b)) self.new) }
         ensures gate { IfOk result (MakesGate self.old self.new (λ x. xor (lit_in x a) (lit_in x b))) }
-        ensures too_many { (result ≡ Err GateFault.TooMany) ↔ (self.old.formula.vars ≡ MAX_VARS) }
-        ensures err { OnErr result (self.new ≡ self.old) }
+        ensures too_many { (result ≡ Err GateFault.TooMany) ↔ IsRefused self.old (asked (Gate.Xor a b)) }
+        ensures full { result ≡ Err GateFault.TooMany → IsFull self.old }
+        ensures refused { result ≡ Err GateFault.TooMany → self.new ≡ self.old }
+        ensures memory { result ≡ Err GateFault.Memory → self.new ≡ out_of_memory self.old }
+        ensures for_good { self.old.spent ≡ true → result ≡ Err GateFault.Memory }
     {
-        let gate = self.next()?;
-        let off = gate.negate();
-        let both_off = [off, a, b];
-        let both_on = [off, a.negate(), b.negate()];
-        let only_b = [gate, a, b.negate()];
-        let only_a = [gate, a.negate(), b];
-        self.define(&[&both_off, &both_on, &only_b, &only_a])?;
-        Ok(gate)
+        self.gate(Gate::Xor(a, b))
     }
 
-    /// The literal that is `b` where `s` is true, and else `a`. After an `Err` the gates are as they were.
+    /// The literal that is `b` where `s` is true, and else `a`. After `TooMany` the gates are as they were.
     pub fn mux(&mut self, s: Lit, a: Lit, b: Lit) -> Result<Lit, GateFault>
         requires s { LitWithin self.old.formula.vars s }
         requires a { LitWithin self.old.formula.vars a }
         requires b { LitWithin self.old.formula.vars b }
+        ensures settles { IfOk result (Settles self.old (asked (Gate.Mux s a b)) self.new) }
         ensures gate { let chosen = λ (x : Assignment). if lit_in x s then lit_in x b else lit_in x a in
             IfOk result (MakesGate self.old self.new chosen) }
-        ensures too_many { (result ≡ Err GateFault.TooMany) ↔ (self.old.formula.vars ≡ MAX_VARS) }
-        ensures err { OnErr result (self.new ≡ self.old) }
+        ensures too_many { (result ≡ Err GateFault.TooMany) ↔ IsRefused self.old (asked (Gate.Mux s a b)) }
+        ensures full { result ≡ Err GateFault.TooMany → IsFull self.old }
+        ensures refused { result ≡ Err GateFault.TooMany → self.new ≡ self.old }
+        ensures memory { result ≡ Err GateFault.Memory → self.new ≡ out_of_memory self.old }
+        ensures for_good { self.old.spent ≡ true → result ≡ Err GateFault.Memory }
     {
-        let gate = self.next()?;
-        let off = gate.negate();
-        let b_side = s.negate();
-        let a_off = [off, s, a];
-        let a_on = [gate, s, a.negate()];
-        let b_off = [off, b_side, b];
-        let b_on = [gate, b_side, b.negate()];
-        self.define(&[&a_off, &a_on, &b_off, &b_on])?;
-        Ok(gate)
+        self.gate(Gate::Mux(s, a, b))
+    }
+
+    /// The literal that is true where two of the three are. After `TooMany` the gates are as they were.
+    pub fn maj(&mut self, a: Lit, b: Lit, c: Lit) -> Result<Lit, GateFault>
+        requires a { LitWithin self.old.formula.vars a }
+        requires b { LitWithin self.old.formula.vars b }
+        requires c { LitWithin self.old.formula.vars c }
+        ensures settles { IfOk result (Settles self.old (asked (Gate.Maj a b c)) self.new) }
+        ensures gate { IfOk result (MakesGate self.old self.new (λ x. majority (lit_in x a) (lit_in x b) (lit_in x c))) }
+        ensures too_many { (result ≡ Err GateFault.TooMany) ↔ IsRefused self.old (asked (Gate.Maj a b c)) }
+        ensures full { result ≡ Err GateFault.TooMany → IsFull self.old }
+        ensures refused { result ≡ Err GateFault.TooMany → self.new ≡ self.old }
+        ensures memory { result ≡ Err GateFault.Memory → self.new ≡ out_of_memory self.old }
+        ensures for_good { self.old.spent ≡ true → result ≡ Err GateFault.Memory }
+    {
+        self.gate(Gate::Maj(a, b, c))
+    }
+
+    /// The literal of a gate: one that is there where it is folded or was made before, else a new variable's. Refused only where it
+    /// is neither, and would be one variable too many; the gates are then as they were.
+    pub fn gate(&mut self, gate: Gate) -> Result<Lit, GateFault>
+        requires within { OthersWithin self.old.formula.vars (operands gate) }
+        ensures settles { IfOk result (Settles self.old (asked gate) self.new) }
+        ensures gate { IfOk result (MakesGate self.old self.new (bit gate)) }
+        ensures too_many { (result ≡ Err GateFault.TooMany) ↔ IsRefused self.old (asked gate) }
+        ensures full { result ≡ Err GateFault.TooMany → IsFull self.old }
+        ensures refused { result ≡ Err GateFault.TooMany → self.new ≡ self.old }
+        ensures memory { result ≡ Err GateFault.Memory → self.new ≡ out_of_memory self.old }
+        ensures for_good { self.old.spent ≡ true → result ≡ Err GateFault.Memory }
+    {
+        if self.spent {
+            return Err(GateFault::Memory);
+        }
+        match fold(gate) {
+            Asked::Is(l) => Ok(l),
+            Asked::Make(key, negated) => {
+                let l = self.find_or_make(key)?;
+                Ok(if negated { l.negate() } else { l })
+            }
+        }
     }
 
     /// The formula of what has been built. A clause that is pushed behind says what is to hold of the gates.
@@ -190,47 +267,51 @@ impl Gates {
         formula.with_vars(vars)
     }
 
-    // The literal of the next variable.
-    fn next(&self) -> Result<Lit, GateFault>
-        ensures next { IfOk result (λ l. l ≡ lit_of (self.now.formula.vars + 1) true) }
-        ensures room { OnOk result (self.now.formula.vars < MAX_VARS) }
-        ensures fault { IfErr result (λ e. (e ≡ GateFault.TooMany) × (self.now.formula.vars ≡ MAX_VARS)) }
+    // The literal of a gate that is not folded.
+    fn find_or_make(&mut self, key: Gate) -> Result<Lit, GateFault>
+        requires live { self.old.spent ≡ false }
+        requires within { OthersWithin self.old.formula.vars (operands key) }
+        ensures found { IfOk result (λ l. Settles self.old (Asked.Make key false) self.new l) }
+        ensures too_many { (result ≡ Err GateFault.TooMany) ↔ IsRefused self.old (Asked.Make key false) }
+        ensures refused { result ≡ Err GateFault.TooMany → self.new ≡ self.old }
+        ensures memory { result ≡ Err GateFault.Memory → self.new ≡ out_of_memory self.old }
     {
-        if self.vars == MAX_VARS {
+        if let Some(l) = self.find(&key) {
+            return Ok(l);
+        }
+        if self.vars == self.most {
             return Err(GateFault::TooMany);
         }
-        Ok(Lit::new(self.vars + 1, false))
+        self.make(key)
     }
 
-    // One more variable, and the clauses that say what it is.
-    fn define(&mut self, clauses: &[&[Lit]]) -> Result<(), GateFault>
-        requires room { self.old.formula.vars < MAX_VARS }
-        requires table { Define self.old.formula.vars (map (λ c. c.now) clauses.now) }
-        ensures ok { OnOk result (self.new ≡ with_gate self.old (map (λ c. c.now) clauses.now)) }
-        ensures err { IfErr result (λ e. (e ≡ GateFault.Memory) × (self.new ≡ self.old)) }
+    // The literal that was made for a gate.
+    fn find(&self, key: &Gate) -> Option<Lit>
+        ensures found { IfSome result (λ l. Contains self.now.kept (key.now, l)) }
+        ensures missing { IfNone result (IsNew self.now key.now) }
     {
-        push_all(&mut self.formula, clauses)?;
-        self.vars += 1;
-        Ok(())
+        self.kept.get(key).copied()
     }
-}
 
-// Puts the clauses after the others. If memory runs out, the formula is as it was.
-fn push_all(formula: &mut Formula, clauses: &[&[Lit]]) -> Result<(), AllocError>
-    requires { Within formula.old.vars (map (λ c. c.now) clauses.now) }
-    ensures ok { let all = formula.old.clauses ++ map (λ c. c.now) clauses.now in
-        OnOk result (formula.new ≡ record formula.old { clauses = all }) }
-    ensures err { OnErr result (formula.new ≡ formula.old) }
-{
-    let [first, rest @ ..] = clauses else {
-        return Ok(());
-    };
-    formula.push(first)?;
-    match push_all(formula, rest) {
-        Ok(()) => Ok(()),
-        Err(e) => {
-            formula.remove(formula.clauses().len() - 1);
-            Err(e)
-        }
+    // One more variable, with the clauses that say what it is.
+    fn make(&mut self, key: Gate) -> Result<Lit, GateFault>
+        requires live { self.old.spent ≡ false }
+        requires room { self.old.formula.vars < self.old.most }
+        requires within { OthersWithin self.old.formula.vars (operands key) }
+        requires new { IsNew self.old key }
+        ensures made { IfOk result (λ l. (l ≡ lit_of (self.old.formula.vars + 1) true) × (self.new ≡ with_gate self.old key)) }
+        ensures memory { IfErr result (λ e. (e ≡ GateFault.Memory) × (self.new ≡ out_of_memory self.old)) }
+    {
+        // Until all of it is there; room in the table comes first, so that no clause has to be taken back.
+        self.spent = true;
+        let l = Lit::new(self.vars + 1, false);
+        self.kept.reserve(1)?;
+        push_clauses(&mut self.formula, &key, l)?;
+        let Ok(_) = self.kept.insert(key, l) else {
+            unreachable!()
+        };
+        self.vars += 1;
+        self.spent = false;
+        Ok(l)
     }
 }

@@ -1,11 +1,17 @@
-//! Gates over literals, kept as the clauses that define them.
+//! Gates over literals, shared and folded, kept as the clauses that define them.
 #![tactic(auto)]
 
+mod clauses;
+mod gate;
 mod gates;
 mod laws;
 
+pub use gate::{Asked, Gate};
 pub use gates::{GateFault, Gates};
-pub use laws::{gates_grow, growth_goes_on, inputs_are_free, meanings_stay};
+pub use laws::{
+    asked_twice, gates_grow, growth_goes_on, inputs_are_free, meanings_stay, operands_decide,
+    order_is_free,
+};
 
 #[cfg(test)]
 mod tests {

@@ -2,7 +2,7 @@ use Rattle.std.proofs.Common.{rules, ◌≡◌, ◌∷◌, map, subst, sym, ap, 
 use Rattle.std.proofs.lemmas.List.Elements.{All-head, All-tail}
 use Rattle.cnf_form.specs.Cnf.{FormulaOf, ClauseWithin, Within}
 use Rattle.gate_graph.proofs.Pushing.{first_and_rest, length-rest, rest_of}
-use Rattle.gate_graph.proofs.gates.+push_all.Goals as goal
+use Rattle.gate_graph.proofs.clauses.+push_all.Goals as goal
 
 pub push-requires : goal.push-requires
 push-requires t c =

@@ -1,5 +1,5 @@
 use Rattle.std.proofs.Common.{length}
-use Rattle.gate_graph.proofs.gates.+push_all.Given as goal
+use Rattle.gate_graph.proofs.clauses.+push_all.Given as goal
 
 abbrev pub decreases-push_all : goal.decreases-push_all
 decreases-push_all l = length l.clauses.now
