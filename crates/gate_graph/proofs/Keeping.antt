@@ -8,7 +8,9 @@ use Rattle.cnf_form.specs.Cnf.{LitOf, FormulaOf, Assignment, Satisfies, LitWithi
 use Rattle.cnf_form.specs.declared.literal.TheConstants.{MAX_VARS}
 use Rattle.gate_graph.specs.Circuit.{GatesOf, AgreeOn, AgreeTo, IsPartOf, IsFixed, IsGates}
 use Rattle.gate_graph.specs.Laws.{Satisfies-front, put, put-same, put-other}
-use Rattle.gate_graph.specs.Kept.{IsKept, lit_of, circuit_of}
+use Rattle.gate_graph.specs.declared.gate.Gate.{Gate}
+use Rattle.gate_graph.specs.Folding.{operands}
+use Rattle.gate_graph.specs.Kept.{IsKept, IsOf, OthersWithin, lit_of, circuit_of}
 use Rattle.gate_graph.proofs.Rows.{Row, IsTable, clause_of}
 use Rattle.gate_graph.proofs.Tables.{contains_none, Satisfies-agrees, bit_agrees, table_holds, table_says, table_fixes, table_within}
 
@@ -26,6 +28,18 @@ part_back F G H p c h = p c (Contains-append_right F G c h)
 
 Within-more : (n : ℕ) (F : List (List LitOf)) → Within n F → Within (n + 1) F
 Within-more n F w = All-weaker (ClauseWithin n) (ClauseWithin (n + 1)) (λ c. All-weaker (LitWithin n) (LitWithin (n + 1)) (λ l (a, b). (a, omega arith)) c) F w
+
+pub others_more : (n : ℕ) (ls : List LitOf) → OthersWithin n ls → OthersWithin (n + 1) ls
+others_more n [] w = tt
+others_more n (l ∷ ls) w = let (a, b) = w.0 in ((a, omega arith), others_more n ls w.1)
+
+-- a kept gate stays one as variables are added
+pub IsOf-more : (n : ℕ) (F : List (List LitOf)) (k : Gate) (l : LitOf) → IsOf n F k l → IsOf (n + 1) F k l
+IsOf-more n F k l o = record {
+  operands = others_more n (operands k) o.operands;
+  within = let (a, b) = o.within in (a, omega arith);
+  means = o.means;
+}
 
 put_agrees : (n : ℕ) (x : Assignment) (b : Bool) → AgreeTo n x (put x (n + 1) b)
 put_agrees n x b v h k = put-other x (n + 1) b v (omega arith)
@@ -119,6 +133,18 @@ module _ (n : ℕ) (F : List (List LitOf)) (is : List ℕ) (g : IsGates (circuit
     unique = input_unique;
     fixed = input_fixed;
   }
+
+pub IsKept-input : (n most : ℕ) (f : FormulaOf) (is : List ℕ) (es : List (Gate × LitOf)) → IsKept n most f is es → n < most → IsKept (n + 1) most f (is ++ (n + 1) ∷ []) es
+IsKept-input n most f is es p room = record {
+  gates = let m = p.limit in IsGates-input n f.clauses is p.gates (omega arith);
+  truth = p.truth;
+  some = omega arith;
+  below = omega arith;
+  limit = p.limit;
+  room = p.room;
+  all = λ k l h. IsOf-more n f.clauses k l (p.all k l h);
+  one = p.one;
+}
 
 -- a literal seen through its parts
 pub lit_from : (l : LitOf) (v : ℕ) → l.var ≡ v → l.negated ≡ false → l ≡ lit_of v true

@@ -6,5 +6,6 @@ pub mod Keeping
 pub mod Leaves
 pub mod Meanings
 pub mod Making
+pub mod Ordering
 pub mod Equal
 pub mod Reaching

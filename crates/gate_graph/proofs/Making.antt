@@ -11,15 +11,11 @@ use Rattle.gate_graph.specs.declared.gate.Asked.TheVariants.{Is, Make}
 use Rattle.gate_graph.specs.Circuit.{GatesOf, IsGates, Continues, MakesGate}
 use Rattle.gate_graph.specs.Folding.{bit, operands, clauses_of, asked, asked_bit, xor}
 use Rattle.gate_graph.specs.Laws.{Satisfies-front, Continues-refl}
-use Rattle.gate_graph.specs.Kept.{IsKept, IsOf, IsNew, OthersWithin, Settles, circuit_of, gates_of, lit_of, signed, with_gate}
+use Rattle.gate_graph.specs.Kept.{AreKept, HasRoom, IsKept, IsOf, IsNew, OthersWithin, Settles, circuit_of, gates_of, lit_of, signed, with_gate}
 use Rattle.gate_graph.proofs.Rows.{clause_of}
 use Rattle.gate_graph.proofs.Tables.{table_says}
 use Rattle.gate_graph.proofs.OneTable.{lit_negated, gate_clauses, gate_table, lines, rows_of}
-use Rattle.gate_graph.proofs.Keeping.{IsGates-gate, Satisfies-back}
-
-others_more : (n : ℕ) (ls : List LitOf) → OthersWithin n ls → OthersWithin (n + 1) ls
-others_more n [] w = tt
-others_more n (l ∷ ls) w = let (a, b) = w.0 in ((a, omega arith), others_more n ls w.1)
+use Rattle.gate_graph.proofs.Keeping.{IsGates-gate, Satisfies-back, others_more}
 
 module _ (n : ℕ) (F : List (List LitOf)) (k : Gate) (w : OthersWithin n (operands k)) where
   -- the new variable has the gate's value
@@ -134,18 +130,26 @@ IsGates-kept n most f is es spent p = record {
   fixed = p.gates.fixed;
 }
 
+pub AreKept-kept : (n most : ℕ) (f : FormulaOf) (is : List ℕ) (es : List (Gate × LitOf)) (spent : Bool) → IsKept n most f is es → AreKept (gates_of n most f.clauses is es spent)
+AreKept-kept n most f is es spent p = record { all = p.all; one = p.one }
+
+pub HasRoom-kept : (n most : ℕ) (f : FormulaOf) (is : List ℕ) (es : List (Gate × LitOf)) (spent : Bool) → IsKept n most f is es → HasRoom (gates_of n most f.clauses is es spent)
+HasRoom-kept n most f is es spent p = record { some = p.some; below = p.below; limit = p.limit }
+
 -- a gate that was settled is kept
 kept_then : (a b : GatesOf) (k : Gate) (m : LitOf) → (Contains a.kept (k, m) × (b ≡ a)) ⊎ (IsNew a k × (m ≡ lit_of (a.formula.vars + 1) true) × (b ≡ with_gate a k)) → Contains b.kept (k, m)
 kept_then a b k m (inl (c, e)) = subst (λ (g : GatesOf). Contains g.kept (k, m)) (sym e) c
 kept_then a b k m (inr (_, h, e)) = rw (e, h) (Contains-push a.kept (k, lit_of (a.formula.vars + 1) true))
 
 -- asked twice it has one literal, and nothing is made
-pub asked_twice : (a b c d : GatesOf) (k : Asked) (l m : LitOf) → ((j : Gate) (x y : LitOf) → Contains c.kept (j, x) → Contains c.kept (j, y) → x ≡ y) →
-    Settles a k b l → Continues b c → Settles c k d m → (m ≡ l) × (d ≡ c)
-asked_twice a b c d (Is n) l m one (e, h) t (f, i) = (i ∙ sym h, f)
-asked_twice a b c d (Make k s) l m one (n, h, u) t (o, i, v) =
+twice : (a b c d : GatesOf) (k : Asked) (l m : LitOf) → AreKept c → Settles a k b l → Continues b c → Settles c k d m → (m ≡ l) × (d ≡ c)
+twice a b c d (Is n) l m kept (e, h) t (f, i) = (i ∙ sym h, f)
+twice a b c d (Make k s) l m kept (n, h, u) t (o, i, v) =
     let there : Contains c.kept (k, n) = let (more, e) = t.kept in subst (λ es. Contains es (k, n)) (sym e) (Contains-append_left b.kept more (k, n) (kept_then a b k n u)) in
     elim v [
-      | inl (p, e) ↦ (i ∙ ap (signed s) (one k o n p there) ∙ sym h, e)
+      | inl (p, e) ↦ (i ∙ ap (signed s) (kept.one k o n p there) ∙ sym h, e)
       | inr (new, _, _) ↦ absurd (new n there)
     ]
+
+pub asked_twice : (a b c d : GatesOf) (g h : Gate) (l m : LitOf) → asked g ≡ asked h → AreKept c → Settles a (asked g) b l → Continues b c → Settles c (asked h) d m → (m ≡ l) × (d ≡ c)
+asked_twice a b c d g h l m e kept s t u = twice a b c d (asked h) l m kept (subst (λ (k : Asked). Settles a k b l) e s) t u

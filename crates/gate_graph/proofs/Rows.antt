@@ -1,5 +1,5 @@
 -- The table of a gate, row by row.
-use Rattle.std.specs.Prelude.{◌≡◌, ℕ, Bool, ◌⊎◌, List, [], ◌∷◌}
+use Rattle.std.specs.Prelude.{◌≡◌, ℕ, Bool, false, ◌⊎◌, List, [], ◌∷◌}
 use Rattle.cnf_form.specs.Cnf.{LitOf, Assignment, lit_in}
 use Rattle.gate_graph.specs.Kept.{OthersWithin, lit_of}
 
