@@ -2,11 +2,10 @@
 use Rattle.std.proofs.Common.{◌≡◌, ◌⊎◌, ℕ, ◌+◌, ◌<◌, ◌≤◌, Bool, true, false, List, [], ◌∷◌, ◌++◌, map, refl, sym, ◌∙◌, subst, inl, inr, arith}
 use Rattle.std.specs.Prelude.{Contains}
 use Rattle.std.proofs.lemmas.List.Elements.{All-append, All-weaker, Contains-append_left, Contains-append_right, Contains-append_cases, Contains-push, Contains-push_cases}
-use Rattle.std.proofs.lemmas.List.{append-nil}
 use Rattle.std.proofs.Math.Nat.{eq-or-lt_of_le}
 use Rattle.cnf_form.specs.Cnf.{LitOf, FormulaOf, Assignment, Satisfies, LitWithin, ClauseWithin, Within}
 use Rattle.cnf_form.specs.declared.literal.TheConstants.{MAX_VARS}
-use Rattle.gate_graph.specs.Circuit.{GatesOf, AgreeOn, AgreeTo, IsPartOf, IsFixed, IsGates}
+use Rattle.gate_graph.specs.Circuit.{AgreeOn, AgreeTo, IsPartOf, IsFixed, IsGates}
 use Rattle.gate_graph.specs.Laws.{Satisfies-front, put, put-same, put-other}
 use Rattle.gate_graph.specs.declared.gate.Gate.{Gate}
 use Rattle.gate_graph.specs.Folding.{operands}

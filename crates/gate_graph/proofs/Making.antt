@@ -1,18 +1,16 @@
 -- One more gate.
-use Rattle.std.proofs.Common.{◌≡◌, ◌⊎◌, ℕ, ◌+◌, ◌<◌, ◌≤◌, Bool, true, false, cond, not, List, [], ◌∷◌, ◌++◌, map, refl, sym, ◌∙◌, subst, ap, inl, inr, arith}
+use Rattle.std.proofs.Common.{◌≡◌, ◌⊎◌, ℕ, ◌+◌, ◌<◌, Bool, true, false, List, [], ◌∷◌, ◌++◌, refl, sym, ◌∙◌, subst, ap, inl, inr, arith}
 use Rattle.std.specs.Prelude.{Contains}
 use Rattle.std.proofs.lemmas.List.Elements.{Contains-append_left, Contains-push, Contains-push_cases}
 use Rattle.std.proofs.lemmas.List.{append-nil}
-use Rattle.cnf_form.specs.Cnf.{LitOf, FormulaOf, Assignment, Satisfies, LitWithin, lit_in, negate}
-use Rattle.cnf_form.specs.declared.literal.TheConstants.{MAX_VARS}
+use Rattle.cnf_form.specs.Cnf.{LitOf, FormulaOf, Assignment, Satisfies, LitWithin, lit_in}
 use Rattle.gate_graph.specs.declared.gate.Gate.{Gate}
 use Rattle.gate_graph.specs.declared.gate.Asked.{Asked}
 use Rattle.gate_graph.specs.declared.gate.Asked.TheVariants.{Is, Make}
 use Rattle.gate_graph.specs.Circuit.{GatesOf, IsGates, Continues, MakesGate}
 use Rattle.gate_graph.specs.Folding.{bit, operands, clauses_of, asked, asked_bit, xor}
 use Rattle.gate_graph.specs.Laws.{Satisfies-front, Continues-refl}
-use Rattle.gate_graph.specs.Kept.{AreKept, HasRoom, IsKept, IsOf, IsNew, OthersWithin, Settles, circuit_of, gates_of, lit_of, signed, with_gate}
-use Rattle.gate_graph.proofs.Rows.{clause_of}
+use Rattle.gate_graph.specs.Kept.{AreKept, HasRoom, IsKept, IsOf, IsNew, OthersWithin, Settles, gates_of, lit_of, signed, with_gate}
 use Rattle.gate_graph.proofs.Tables.{table_says}
 use Rattle.gate_graph.proofs.OneTable.{lit_negated, gate_clauses, gate_table, lines, rows_of}
 use Rattle.gate_graph.proofs.Keeping.{IsGates-gate, Satisfies-back, others_more}

@@ -1,13 +1,12 @@
 -- What a call for a gate comes to has the gate's value.
-use Rattle.std.proofs.Common.{◌≡◌, ℕ, Bool, true, false, cond, not, ◌&&◌, eqb, refl, sym, ◌∙◌, ap, subst}
-use Rattle.std.proofs.lemmas.Bool.{cases_Bool, eqb-true}
-use Rattle.cnf_form.specs.Cnf.{LitOf, Assignment, lit_in, negate, index_of}
+use Rattle.std.proofs.Common.{◌≡◌, Bool, true, false, cond, not, ◌&&◌, refl, sym, ◌∙◌, ap, subst}
+use Rattle.cnf_form.specs.Cnf.{LitOf, Assignment, lit_in, negate}
 use Rattle.cnf_form.proofs.Literals.{same_by_eq}
 use Rattle.gate_graph.specs.declared.gate.Gate.{Gate}
 use Rattle.gate_graph.specs.declared.gate.Gate.TheVariants.{And, Xor, Mux, Maj}
 use Rattle.gate_graph.specs.declared.gate.Asked.{Asked}
 use Rattle.gate_graph.specs.declared.gate.Asked.TheVariants.{Is, Make}
-use Rattle.gate_graph.specs.Folding.{xor, majority, bit, same, opposite, is_true, is_false, below, constant, plain, turned, ordered_and, ordered_xor, fold_and, fold_xor, key_maj, sort_maj, fold_maj, key_mux, fold_mux, asked, asked_bit}
+use Rattle.gate_graph.specs.Folding.{xor, majority, bit, same, opposite, is_true, is_false, below, constant, turned, ordered_and, ordered_xor, fold_and, fold_xor, key_maj, sort_maj, fold_maj, key_mux, fold_mux, asked, asked_bit}
 use Rattle.gate_graph.proofs.OneTable.{lit_negated}
 use Rattle.gate_graph.proofs.Leaves.{and_1, and_2, and_5, and_6, and_8, xor_1, xor_2, xor_5, xor_6, xor_7, xor_8, maj_1, maj_2, maj_3, maj_4, maj_5, maj_6, maj_7, maj_8, maj_9, maj_10, maj_11, maj_12, maj_acb, maj_cab, maj_bac, maj_bca, maj_cba, maj_not, mux_1, mux_2, mux_3, mux_4, mux_5, mux_6, mux_7, mux_8, mux_9, mux_10, mux_11, mux_12, mux_13, mux_not}
 

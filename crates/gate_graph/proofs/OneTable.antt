@@ -1,12 +1,10 @@
 -- One lemma for every kind of gate: a table of lines that a count over all rows of bits finds right.
-use Rattle.std.specs.Prelude.{Contains}
 use Rattle.gate_graph.specs.declared.gate.Gate.{Gate}
 use Rattle.gate_graph.specs.declared.gate.Gate.TheVariants.{And, Xor, Mux, Maj}
 use Rattle.gate_graph.specs.Folding.{bit, majority, operands, clauses_of, xor}
 use Rattle.gate_graph.specs.Kept.{OthersWithin, lit_of}
-use Rattle.std.proofs.Common.{◌≡◌, ◌⊎◌, ℕ, zero, suc, ◌+◌, Bool, true, false, cond, not, ◌&&◌, ◌||◌, subst, List, [], ◌∷◌, map, length, refl, sym, ◌∙◌, ap, inl, inr}
-use Rattle.std.proofs.lemmas.Bool.{cases_Bool}
-use Rattle.cnf_form.specs.Cnf.{LitOf, Assignment, LitWithin, lit_in, negate}
+use Rattle.std.proofs.Common.{◌≡◌, ◌⊎◌, ℕ, zero, suc, Bool, true, false, cond, not, ◌&&◌, ◌||◌, List, [], ◌∷◌, map, length, refl, ◌∙◌, ap, inl, inr}
+use Rattle.cnf_form.specs.Cnf.{LitOf, Assignment, lit_in, negate}
 use Rattle.gate_graph.proofs.Rows.{Row, AllFalse, AreRows, Covers, IsTable, clause_of}
 
 -- what a line asks of an operand

@@ -1,10 +1,9 @@
 -- The order of the operands of and and xor is free, and simple operands make no gate.
-use Rattle.std.proofs.Common.{◌≡◌, ◌⊎◌, ℕ, ◌+◌, ◌*◌, ◌<◌, ◌≤◌, Bool, true, false, cond, not, nat_lt, refl, sym, ◌∙◌, subst, ap, inl, inr, arith}
-use Rattle.cnf_form.specs.Cnf.{LitOf, LitWithin, negate, index_of}
-use Rattle.cnf_form.proofs.Literals.{same_by_eq, index_of-injective}
+use Rattle.std.proofs.Common.{◌≡◌, ◌⊎◌, ℕ, ◌+◌, ◌*◌, ◌<◌, Bool, true, false, cond, nat_lt, refl, sym, inl, inr, arith}
+use Rattle.cnf_form.specs.Cnf.{LitOf, LitWithin, index_of}
+use Rattle.cnf_form.proofs.Literals.{index_of-injective}
 use Rattle.gate_graph.specs.declared.gate.Asked.{Asked}
-use Rattle.gate_graph.specs.declared.gate.Asked.TheVariants.{Is, Make}
-use Rattle.gate_graph.specs.Folding.{AreSimple, IsThere, below, constant, fold_and, fold_xor, is_false, is_true, opposite, ordered_and, ordered_xor, same}
+use Rattle.gate_graph.specs.Folding.{AreSimple, IsThere, below, fold_and, fold_xor, is_false, is_true, opposite, ordered_and, ordered_xor, same}
 
 -- a test of order comes out one way, and the numbers are so
 order_cases : (m n : ℕ) → ((m < n) × (nat_lt m n ≡ true) × (nat_lt n m ≡ false)) ⊎ ((n < m) × (nat_lt m n ≡ false) × (nat_lt n m ≡ true)) ⊎ ((m ≡ n) × (nat_lt m n ≡ false))

@@ -1,5 +1,5 @@
 -- Gates: a formula in which each variable is an input or a function of the inputs.
-use Rattle.std.specs.Prelude.{◌≡◌, ℕ, ◌<◌, ◌≤◌, ◌+◌, Bool, false, not, if◌then◌else◌, List, [], ◌∷◌, ◌++◌, Contains}
+use Rattle.std.specs.Prelude.{◌≡◌, ℕ, ◌<◌, ◌≤◌, ◌+◌, Bool, false, List, [], ◌∷◌, ◌++◌, Contains}
 use Rattle.cnf_form.specs.Cnf.{LitOf, FormulaOf, Assignment, Satisfies, Closure, LitWithin, Within, lit_in}
 use Rattle.gate_graph.specs.declared.gate.Gate.{Gate}
 use Rattle.cnf_form.specs.declared.literal.TheConstants.{MAX_VARS}

@@ -1,6 +1,6 @@
 -- What each gate says, its clauses, and which calls make one.
-use Rattle.std.specs.Prelude.{◌≡◌, ℕ, ◌==◌, ◌+◌, nat_lt, Bool, true, false, not, ◌&&◌, ◌||◌, if◌then◌else◌, ◌⊎◌, List, [], ◌∷◌}
-use Rattle.cnf_form.specs.Cnf.{LitOf, Assignment, LitWithin, lit_in, negate, index_of}
+use Rattle.std.specs.Prelude.{◌≡◌, ◌==◌, nat_lt, Bool, true, false, not, ◌&&◌, ◌||◌, if◌then◌else◌, ◌⊎◌, List, [], ◌∷◌}
+use Rattle.cnf_form.specs.Cnf.{LitOf, Assignment, lit_in, negate, index_of}
 use Rattle.gate_graph.specs.declared.gate.Gate.{Gate}
 use Rattle.gate_graph.specs.declared.gate.Gate.TheVariants.{And, Xor, Mux, Maj}
 use Rattle.gate_graph.specs.declared.gate.Asked.{Asked}

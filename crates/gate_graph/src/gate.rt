@@ -114,14 +114,15 @@ fn and(a: Lit, b: Lit) -> Asked
 fn ordered_xor(a: Lit, b: Lit) -> Asked
     ensures { result ≡ xor_in_order a b }
 {
+    let zero = Lit::new(1, true);
     if is_false(a) {
         Asked::Is(b)
     } else if is_true(a) {
         Asked::Is(b.negate())
     } else if same(a, b) {
-        Asked::Is(Lit::new(1, true))
+        Asked::Is(zero)
     } else if opposite(a, b) {
-        Asked::Is(Lit::new(1, false))
+        Asked::Is(zero.negate())
     } else {
         Asked::Make(
             Gate::Xor(plain_lit(a), plain_lit(b)),

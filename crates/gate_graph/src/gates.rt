@@ -1,6 +1,6 @@
 // A formula that grows by inputs and gates.
 
-ghost use Rattle.std.specs.Prelude.{◌≡◌, ◌↔◌, ◌<◌, ◌≤◌, ◌+◌, Bool, ◌&&◌, not, if◌then◌else◌, true, false, [], IfOk, IfErr, IfSome, IfNone, OnOk, Contains};
+ghost use Rattle.std.specs.Prelude.{◌≡◌, ◌↔◌, ◌<◌, ◌≤◌, ◌+◌, Bool, ◌&&◌, not, if◌then◌else◌, true, false, [], IfOk, IfErr, IfSome, IfNone, IsFalse, IsTrue, OnOk, Contains};
 ghost use Rattle.cnf_form.specs.Cnf.{Assignment, LitOf, LitWithin, lit_in, negate};
 ghost use Rattle.cnf_form.specs.declared.literal.TheConstants.{MAX_VARS};
 ghost use Rattle.gate_graph.specs.Circuit.{GatesOf, IsGates, MakesGate, MakesInput, Means};
@@ -104,6 +104,14 @@ impl Gates {
         self.vars
     }
 
+    /// Whether all variables are taken: then an input, and each gate that is neither folded nor kept, is refused.
+    pub fn is_full(&self) -> bool
+        ensures full { IsTrue result ↔ (self.now.formula.vars ≡ self.now.most) }
+        ensures room { IsFalse result ↔ (self.now.formula.vars < self.now.most) }
+    {
+        self.vars == self.most
+    }
+
     /// The variables of the inputs, in the order in which they were made.
     pub fn inputs(&self) -> &[u32]
         ensures { result.now ≡ self.now.inputs }
@@ -157,7 +165,7 @@ impl Gates {
         if self.spent {
             return Err(GateFault::Memory);
         }
-        if self.vars == self.most {
+        if self.is_full() {
             return Err(GateFault::TooMany);
         }
         // Until all of it is there.
@@ -279,7 +287,7 @@ impl Gates {
         if let Some(l) = self.find(&key) {
             return Ok(l);
         }
-        if self.vars == self.most {
+        if self.is_full() {
             return Err(GateFault::TooMany);
         }
         self.make(key)

@@ -39,25 +39,27 @@ mod tests {
     #[derive(Drop)]
     struct Circuit {
         inputs: [Lit; 3],
-        gates: [Lit; 3],
+        gates: [Lit; 4],
     }
 
-    // Whether the gates are `and`, `xor` and `mux` of the inputs where the variables have these bits.
+    // Whether the gates are `and`, `xor`, `mux` and `maj` of the inputs where the variables have these bits.
     fn is_right(bits: u32, circuit: &Circuit) -> bool {
         let [s, a, b] = circuit.inputs;
-        let [both, differ, chosen] = circuit.gates;
+        let [both, differ, chosen, most] = circuit.gates;
+        let r = is_true(bits, s);
         let p = is_true(bits, a);
         let q = is_true(bits, b);
-        let picked = if is_true(bits, s) { q } else { p };
+        let picked = if r { q } else { p };
         is_true(bits, both) == (p && q)
             && is_true(bits, differ) == (p != q)
             && is_true(bits, chosen) == picked
+            && is_true(bits, most) == ((p && q) || (p && r) || (q && r))
     }
 
-    // The number of rows of bits for variables 1 to 7 that satisfy the clauses, where the gates are right in each.
+    // The number of rows of bits for variables 1 to 8 that satisfy the clauses, where the gates are right in each.
     fn rows(clauses: &Clauses, circuit: &Circuit) -> Option<u32> {
         let mut count: u32 = 0;
-        for half in 0..128 {
+        for half in 0..256 {
             if satisfies(2 * half, clauses) {
                 if !is_right(2 * half, circuit) {
                     return None;
@@ -77,16 +79,75 @@ mod tests {
         let both = gates.and(a, b)?;
         let differ = gates.xor(a, b)?;
         let chosen = gates.mux(s, a, b)?;
-        assert_eq!(rt; gates.vars(), 7);
+        let most = gates.maj(s, a, b)?;
+        assert_eq!(rt; gates.vars(), 8);
         assert_eq!(rt; gates.inputs().len(), 3);
-        assert_eq!(rt; gates.clauses().len(), 12);
+        assert_eq!(rt; gates.clauses().len(), 18);
         assert_eq!(rt; gates.constant(false), gates.not(gates.constant(true)));
         let circuit = Circuit {
             inputs: [s, a, b],
-            gates: [both, differ, chosen],
+            gates: [both, differ, chosen, most],
         };
         let formula = gates.finish();
         assert_eq!(rt; rows(&formula.clauses(), &circuit), Some(8));
+        Ok(())
+    }
+
+    #[test]
+    fn what_is_there_makes_no_variable(rt: HostRuntime) -> Result<(), Fail> {
+        let mut gates = Gates::new(rt.alloc())?;
+        let s = gates.input()?;
+        let a = gates.input()?;
+        let b = gates.input()?;
+        let both = gates.and(a, b)?;
+        let differ = gates.xor(a, b)?;
+        let other = gates.xor(s, a)?;
+        let most = gates.maj(s, a, b)?;
+        let (zero, one) = (gates.constant(false), gates.constant(true));
+        let (off, vars) = (gates.not(a), gates.vars());
+        let cases = [
+            (Gate::And(b, a), both),
+            (Gate::And(a, one), a),
+            (Gate::And(zero, a), zero),
+            (Gate::And(a, a), a),
+            (Gate::And(off, a), zero),
+            (Gate::Xor(b, a), differ),
+            (Gate::Xor(off, b), gates.not(differ)),
+            (Gate::Xor(a, zero), a),
+            (Gate::Xor(one, a), off),
+            (Gate::Xor(a, a), zero),
+            (Gate::Xor(a, off), one),
+            (Gate::Mux(one, a, b), b),
+            (Gate::Mux(zero, a, b), a),
+            (Gate::Mux(s, b, b), b),
+            (Gate::Mux(s, a, off), other),
+            (Gate::Mux(a, zero, b), both),
+            (Gate::Maj(b, s, a), most),
+            (Gate::Maj(a, zero, b), both),
+            (Gate::Maj(a, b, off), b),
+        ];
+        for (gate, lit) in cases {
+            assert_eq!(rt; gates.gate(gate)?, lit);
+        }
+        assert_eq!(rt; gates.vars(), vars);
+        Ok(())
+    }
+
+    #[test]
+    fn a_limit_refuses_what_is_new(rt: HostRuntime) -> Result<(), Fail> {
+        let mut gates = Gates::within(rt.alloc(), 2)?;
+        let a = gates.input()?;
+        assert_eq!(rt; gates.input(), Err(GateFault::TooMany));
+        assert_eq!(rt; gates.clauses().len(), 1);
+        assert_eq!(rt; gates.not(gates.not(a)), a);
+        let mut gates = Gates::within(rt.alloc(), 4)?;
+        let a = gates.input()?;
+        let b = gates.input()?;
+        let both = gates.and(a, b)?;
+        assert_eq!(rt; gates.xor(a, b), Err(GateFault::TooMany));
+        assert_eq!(rt; gates.and(b, a), Ok(both));
+        assert_eq!(rt; gates.xor(a, a), Ok(gates.constant(false)));
+        assert_eq!(rt; gates.clauses().len(), 4);
         Ok(())
     }
 }

@@ -1,4 +1,4 @@
-use Rattle.std.proofs.Common.{◌≡◌, ◌∙◌, ap}
+use Rattle.std.proofs.Common.{◌∙◌, ap}
 use Rattle.gate_graph.specs.Circuit.{GatesOf}
 use Rattle.gate_graph.proofs.gates.Gates.finish.Goals as goal
 
