@@ -1,5 +1,5 @@
 -- A word is built bit by bit.
-use Rattle.std.proofs.Common.{◌≡◌, ◌↔◌, ◌⊎◌, ℕ, ◌+◌, ◌-◌, ◌*◌, ◌<◌, ◌≤◌, Bool, true, false, not, ◌&&◌, List, [], ◌∷◌, ◌++◌, length, length-append, get_or, refl, sym, ◌∙◌, ap, subst, inl, inr, arith}
+use Rattle.std.proofs.Common.{◌≡◌, ◌↔◌, ◌⊎◌, ℕ, ◌+◌, ◌-◌, ◌*◌, ◌<◌, ◌≤◌, Bool, true, false, not, ◌&&◌, List, [], ◌∷◌, ◌++◌, Result, Err, length, length-append, get_or, refl, sym, ◌∙◌, ap, subst, inl, inr, arith}
 use Rattle.std.specs.Prelude.{All}
 use Rattle.std.proofs.lemmas.Bool.{cases_lt}
 use Rattle.std.proofs.lemmas.List.{ext_get_or, get_or-map, get_or_past}
@@ -7,10 +7,12 @@ use Rattle.std.proofs.lemmas.List.Elements.{All-nil, All-push, All-weaker}
 use Rattle.std.proofs.lemmas.List.{length-map, get_or_append_left}
 use Rattle.std.proofs.Math.ListN.{get_or-map as mapped}
 use Rattle.cnf_form.specs.Cnf.{LitOf, Assignment, Satisfies, LitWithin, lit_in, negate}
-use Rattle.cnf_form.specs.declared.literal.TheConstants.{MAX_VARS}
 use Rattle.gate_graph.specs.Circuit.{GatesOf, MakesGate, Means, Continues, xor}
+use Rattle.gate_graph.specs.Kept.{out_of_memory}
+use Rattle.gate_graph.specs.declared.gates.GateFault.{GateFault}
+use Rattle.gate_graph.specs.declared.gates.GateFault.TheVariants.{TooMany, Memory}
 use Rattle.gate_graph.specs.Laws.{keeps, Continues-refl, Continues-trans}
-use Rattle.gate_graph.proofs.Operations.{lit_negated}
+use Rattle.gate_graph.proofs.OneTable.{lit_negated}
 use Rattle.sby_bits.specs.Rows.{Row, top_bit, value}
 use Rattle.sby_bits.proofs.Numbers.{bit_of, value-at, top_bit-at}
 use Rattle.gate_words.specs.Words.{row_of, MeansRow, Builds, IsFull}
@@ -36,8 +38,18 @@ Builds-gate g h value l m = record { continues = m.continues; inputs = m.inputs;
 pub Builds-same : (f g h : GatesOf) (m n : ℕ) → Builds f g m → h ≡ g → m ≤ n → Builds f h n
 Builds-same f g h m n p e l = rw e (Builds-more f g m n p l)
 
-pub IsFull-built : (f g h : GatesOf) (m n : ℕ) → Builds f g m → h ≡ g → g.formula.vars ≡ MAX_VARS → m < n → IsFull f h n
-IsFull-built f g h m n p e v l = rw e (record { full = v; past = let a = p.most in omega arith })
+pub IsFull-built : (f g h : GatesOf) (m n : ℕ) → Builds f g m → h ≡ g → g.formula.vars ≡ g.most → m < n → IsFull f h n
+IsFull-built f g h m n p e v l = rw e (record { full = v; past = let a = p.most in let b = p.continues.limit in omega arith })
+
+-- a call that is refused, or that wants memory, makes no gate
+pub Builds-refused : (f g h : GatesOf) (m n : ℕ) (r : Result LitOf GateFault) (e : GateFault) → r ≡ Err e → (r ≡ Err TooMany → h ≡ g) → (r ≡ Err Memory → h ≡ out_of_memory g) →
+    Builds f g m → m ≤ n → Builds f h n
+Builds-refused f g h m n r TooMany i p q b l = Builds-same f g h m n b (p i) l
+Builds-refused f g h m n r Memory i p q b l = rw (q i) (record {
+  continues = let k = b.continues in record { vars = k.vars; clauses = k.clauses; inputs = k.inputs; kept = k.kept; limit = k.limit };
+  inputs = b.inputs;
+  most = let a = b.most in omega arith;
+})
 
 -- a literal of a word, with what fills it up
 pub within_or : (n : ℕ) (word : List LitOf) (j : ℕ) (fill : LitOf) → All (LitWithin n) word → LitWithin n fill → LitWithin n (get_or word j fill)

@@ -1,7 +1,6 @@
 -- Words of literals: what row of bits they have, and what a circuit adds.
 use Rattle.std.specs.Prelude.{◌≡◌, ℕ, ◌<◌, ◌≤◌, ◌+◌, Bool, List, length, map, All}
 use Rattle.cnf_form.specs.Cnf.{LitOf, Assignment, Satisfies, LitWithin, lit_in}
-use Rattle.cnf_form.specs.declared.literal.TheConstants.{MAX_VARS}
 use Rattle.gate_graph.specs.Circuit.{GatesOf, Continues, Means}
 use Rattle.sby_bits.specs.Rows.{Row}
 
@@ -28,5 +27,5 @@ pub record Builds (old new : GatesOf) (n : ℕ) : Type 0 where
 
 -- all variables are taken where one more gate is asked for, by fewer than n gates
 pub record IsFull (old new : GatesOf) (n : ℕ) : Type 0 where
-  pub full : new.formula.vars ≡ MAX_VARS
-  pub past : MAX_VARS < old.formula.vars + n
+  pub full : new.formula.vars ≡ new.most
+  pub past : old.most < old.formula.vars + n

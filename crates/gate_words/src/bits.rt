@@ -1,9 +1,9 @@
 // Bits of words.
 
-ghost use Rattle.std.specs.Prelude.{◌≡◌, ◌+◌, ◌<◌, ◌≤◌, ◌&&◌, ◌++◌, [], ◌∷◌, All, not, true, false, IfOk, OnOk, OnErr, slice_index_or};
+ghost use Rattle.std.specs.Prelude.{◌≡◌, ◌+◌, ◌<◌, ◌≤◌, ◌&&◌, ◌++◌, [], ◌∷◌, All, not, true, false, IfOk, OnOk, slice_index_or};
 ghost use Rattle.cnf_form.specs.Cnf.{Assignment, LitWithin, Satisfies, lit_in};
-ghost use Rattle.cnf_form.specs.declared.literal.TheConstants.{MAX_VARS};
 ghost use Rattle.gate_graph.specs.Circuit.{MakesGate, Means};
+ghost use Rattle.gate_graph.specs.Kept.{IsFull, out_of_memory};
 ghost use Rattle.sby_bits.specs.Rows.{top_bit};
 ghost use Rattle.gate_words.specs.Bits.{IsBitwise, IsServed, bit_fn, unary_bit_fn};
 ghost use Rattle.gate_words.specs.Words.{row_of};
@@ -55,8 +55,9 @@ pub(crate) fn bit(gates: &mut Gates, kind: Binary, a: Lit, b: Lit) -> Result<Lit
     requires a { LitWithin gates.old.formula.vars a }
     requires b { LitWithin gates.old.formula.vars b }
     ensures gate { IfOk result (MakesGate gates.old gates.new (λ x. bit_fn kind (lit_in x a) (lit_in x b))) }
-    ensures too_many { result ≡ Err GateFault.TooMany → gates.old.formula.vars ≡ MAX_VARS }
-    ensures err { OnErr result (gates.new ≡ gates.old) }
+    ensures full { result ≡ Err GateFault.TooMany → IsFull gates.old }
+    ensures refused { result ≡ Err GateFault.TooMany → gates.new ≡ gates.old }
+    ensures memory { result ≡ Err GateFault.Memory → gates.new ≡ out_of_memory gates.old }
 {
     match kind {
         Binary::And => gates.and(a, b),

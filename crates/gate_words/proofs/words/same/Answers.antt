@@ -1,4 +1,4 @@
-use Rattle.std.proofs.Common.{◌≡◌, ◌∙◌, ◌<◌, ℕ, length, sym, arith}
+use Rattle.std.proofs.Common.{◌≡◌, ◌∙◌, ◌+◌, ◌*◌, ◌<◌, ℕ, length, sym, arith}
 use Rattle.std.specs.Prelude.{max}
 use Rattle.sby_bits.specs.Rows.{value}
 use Rattle.rtlil_design.specs.declared.kind.Compare.TheVariants.{Eq}
@@ -6,7 +6,7 @@ use Rattle.rtlil_design.specs.Cells.{is_compared}
 use Rattle.gate_words.specs.Words.{row_of}
 use Rattle.gate_words.specs.Bits.{bit_at}
 use Rattle.cnf_form.specs.Cnf.{lit_in}
-use Rattle.gate_words.proofs.Building.{Same-push, bit_at-of, or_means}
+use Rattle.gate_words.proofs.Building.{Builds-gate, Builds-refused, Builds-trans, Same-push, bit_at-of, or_means}
 use Rattle.gate_words.proofs.Functions.{compared, same_test}
 use Rattle.gate_words.proofs.words.same.Goals as goal
 
@@ -36,3 +36,12 @@ returns-clause-bit c =
             (λ h. eq.1 (λ j l. sym (bit_at-of x c.args.a.now c.args.signed j) ∙ h j l ∙ bit_at-of x c.args.b.now c.args.signed j)),
           );
     }
+
+pub returns-in_err-same-clause-builds : goal.returns-in_err-same-clause-builds
+returns-in_err-same-clause-builds c =
+    let h = c.loop-place-test.true in
+    let m = c.max-place-end.ensures in
+    let p = c.loop-place.place in
+    Builds-refused c.args.gates.now c.xor.new.self c.and.new.self (2 * c.loop-place.place + 1) _ c.and.result _ c.in_err-same.was c.and.ensures.refused c.and.ensures.memory
+    (Builds-trans c.args.gates.now c.loop-place.gates c.xor.new.self (2 * c.loop-place.place) 1 (2 * c.loop-place.place + 1) c.loop-place.invariant.builds
+    (Builds-gate c.loop-place.gates c.xor.new.self _ c.in_ok-differ.differ c.in_ok-differ.ensures.gate) (omega arith)) (omega arith)
