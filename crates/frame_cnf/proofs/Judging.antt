@@ -1,5 +1,5 @@
 -- The literals of statements.
-use Rattle.std.proofs.Common.{◌≡◌, ◌⊎◌, ℕ, ◌+◌, ◌<◌, ◌≤◌, Bool, true, false, not, ◌&&◌, ◌||◌, List, [], ◌∷◌, ◌++◌, refl, sym, ap, ◌∙◌, subst, inl, inr, arith, length, codes, take, get_or}
+use Rattle.std.proofs.Common.{◌≡◌, ◌⊎◌, ℕ, ◌+◌, ◌<◌, ◌≤◌, Bool, true, false, cond, not, ◌&&◌, ◌||◌, List, [], ◌∷◌, ◌++◌, refl, sym, ap, ◌∙◌, subst, inl, inr, arith, length, codes, take, get_or}
 use Rattle.std.specs.Prelude.{All}
 use Rattle.std.specs.List.{list_all, list_any, sum_by}
 use Rattle.std.proofs.lemmas.Bool.{true≢false}
@@ -10,7 +10,8 @@ use Rattle.std.proofs.lemmas.List.Sums.{sum_by_more, sum_by_more_le}
 use Rattle.cnf_form.specs.Cnf.{LitOf, Assignment, Satisfies, SatisfiesClause, LitWithin, lit_in}
 use Rattle.gate_graph.specs.Circuit.{GatesOf, Continues, MakesGate}
 use Rattle.gate_graph.specs.Laws.{keeps}
-use Rattle.gate_words.specs.Words.{MeansBit}
+use Rattle.gate_words.specs.Words.{Builds, MeansBit}
+use Rattle.gate_words.proofs.Building.{Builds-gate, Builds-trans}
 use Rattle.rtlil_design.specs.declared.shape.SigBit.{SigBit}
 use Rattle.rtlil_design.specs.declared.shape.SigBit.TheVariants.{Wire}
 use Rattle.rtlil_design.specs.Shape.{CellOf, DesignOf, IsDeclared}
@@ -204,3 +205,7 @@ gates_more f cells i c lt at = sum_by_more f cells i c lt ∙ ap (λ z. sum_by f
 
 pub gates_all : {A : Type 0} (f : A → ℕ) (cells all : List A) (i : ℕ) → cells ≡ all → length cells ≤ i → sum_by f (take i cells) ≡ sum_by f all
 gates_all f cells all i same h = ap (sum_by f) (take_all i cells h ∙ same)
+
+-- a gate behind a gate
+pub two_gates : (f g h : GatesOf) (value : Assignment → Bool) (l : LitOf) (k : Bool) → k ≡ true → Builds f g 1 → MakesGate g h value l → Builds f h (cond k 2 0)
+two_gates f g h value l k e b m = rw e (Builds-trans f g h 1 1 2 b (Builds-gate g h value l m) (omega arith))

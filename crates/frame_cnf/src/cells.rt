@@ -2,7 +2,6 @@
 
 ghost use Rattle.std.specs.Prelude.{◌≡◌, ◌+◌, ◌*◌, ◌<◌, All, IfOk, codes, length, true, []};
 ghost use Rattle.cnf_form.specs.Cnf.{Assignment, LitWithin};
-ghost use Rattle.cnf_form.specs.declared.literal.TheConstants.{MAX_VARS};
 ghost use Rattle.rtlil_design.specs.Asked.{digits_at, flag, is_number, signal_at};
 ghost use Rattle.gate_words.specs.Words.{Builds, MeansRow, row_of};
 ghost use Rattle.frame_cnf.specs.Costs.{cell_gates};
@@ -72,7 +71,7 @@ fn binary_word(
         IfOk result (λ word. MeansRow gates.new row word.items) }
     ensures width { IfOk result (λ word. length word.items ≡ length (signal_at cell.now.ports (codes "Y"))) }
     ensures builds { IfOk result (λ _. Builds gates.old gates.new (16 * port_bits cell.now)) }
-    ensures too_many { result ≡ Err GateFault.TooMany → MAX_VARS < gates.old.formula.vars + 16 * port_bits cell.now }
+    ensures too_many { result ≡ Err GateFault.TooMany → gates.old.most < gates.old.formula.vars + 16 * port_bits cell.now }
 {
     binary(
         alloc,
@@ -104,7 +103,7 @@ fn compare_word(
         IfOk result (λ word. MeansRow gates.new row word.items) }
     ensures width { IfOk result (λ word. length word.items ≡ length (signal_at cell.now.ports (codes "Y"))) }
     ensures builds { IfOk result (λ _. Builds gates.old gates.new (16 * port_bits cell.now)) }
-    ensures too_many { result ≡ Err GateFault.TooMany → MAX_VARS < gates.old.formula.vars + 16 * port_bits cell.now }
+    ensures too_many { result ≡ Err GateFault.TooMany → gates.old.most < gates.old.formula.vars + 16 * port_bits cell.now }
 {
     compare(
         alloc,
@@ -138,7 +137,7 @@ fn mux_word(
         IfOk result (λ word. MeansRow gates.new row word.items) }
     ensures width { IfOk result (λ word. length word.items ≡ length (signal_at cell.now.ports (codes "Y"))) }
     ensures builds { IfOk result (λ _. Builds gates.old gates.new (16 * port_bits cell.now)) }
-    ensures too_many { result ≡ Err GateFault.TooMany → MAX_VARS < gates.old.formula.vars + 16 * port_bits cell.now }
+    ensures too_many { result ≡ Err GateFault.TooMany → gates.old.most < gates.old.formula.vars + 16 * port_bits cell.now }
 {
     mux(alloc, gates, a, b, s[0])
 }
@@ -163,7 +162,7 @@ pub fn cell_word(
         IfOk result (λ word. MeansRow gates.new row word.items) }
     ensures width { IfOk result (λ word. length word.items ≡ length (signal_at cell.now.ports (codes "Y"))) }
     ensures builds { IfOk result (λ _. Builds gates.old gates.new (cell_gates cell.now)) }
-    ensures too_many { result ≡ Err GateFault.TooMany → MAX_VARS < gates.old.formula.vars + cell_gates cell.now }
+    ensures too_many { result ≡ Err GateFault.TooMany → gates.old.most < gates.old.formula.vars + cell_gates cell.now }
 {
     match cell.kind() {
         Kind::Unary(kind) => Ok(unary_word(alloc, gates, cell, kind, a)?),

@@ -2,7 +2,6 @@
 
 ghost use Rattle.std.specs.Prelude.{◌≡◌, ◌+◌, ◌<◌, IfOk, OnOk, length, slice_get, Some};
 ghost use Rattle.cnf_form.specs.Cnf.{Assignment, Satisfies};
-ghost use Rattle.cnf_form.specs.declared.literal.TheConstants.{MAX_VARS};
 ghost use Rattle.gate_graph.specs.Circuit.{GatesOf};
 ghost use Rattle.gate_words.specs.Words.{Builds};
 ghost use Rattle.rtlil_design.specs.Faults.{IsFlat};
@@ -38,7 +37,7 @@ fn drive_cell(
     requires table { IsTable design.now gates.old table.old }
     ensures drives { OnOk result (IsDriven design.now (Driver.Cell place) gates.new table.old table.new) }
     ensures builds { OnOk result (Builds gates.old gates.new (driver_gates design.now (Driver.Cell place))) }
-    ensures too_many { result ≡ Err GateFault.TooMany → MAX_VARS < gates.old.formula.vars + driver_gates design.now (Driver.Cell place) }
+    ensures too_many { result ≡ Err GateFault.TooMany → gates.old.most < gates.old.formula.vars + driver_gates design.now (Driver.Cell place) }
 {
     gates.promise();
     let cell = &design.cells()[place];
@@ -100,7 +99,7 @@ fn drive(
     requires table { IsTable design.now gates.old table.old }
     ensures drives { OnOk result (IsDriven design.now driver gates.new table.old table.new) }
     ensures builds { OnOk result (Builds gates.old gates.new (driver_gates design.now driver)) }
-    ensures too_many { result ≡ Err GateFault.TooMany → MAX_VARS < gates.old.formula.vars + driver_gates design.now driver }
+    ensures too_many { result ≡ Err GateFault.TooMany → gates.old.most < gates.old.formula.vars + driver_gates design.now driver }
 {
     match driver {
         Driver::Cell(place) => drive_cell(alloc, gates, design, place, table),
@@ -125,7 +124,7 @@ pub fn drive_all(
     requires table { IsTable design.now gates.old table.old }
     ensures drives { OnOk result (AreDriven design.now order.now (length order.now) gates.new table.old table.new) }
     ensures builds { OnOk result (Builds gates.old gates.new (order_gates design.now order.now)) }
-    ensures too_many { result ≡ Err GateFault.TooMany → MAX_VARS < gates.old.formula.vars + order_gates design.now order.now }
+    ensures too_many { result ≡ Err GateFault.TooMany → gates.old.most < gates.old.formula.vars + order_gates design.now order.now }
 {
     for driver in order {
         drive(alloc, gates, design, *driver, table)?;

@@ -3,7 +3,6 @@
 ghost use Rattle.std.specs.Prelude.{◌≡◌, ◌+◌, ◌<◌, ◌≤◌, ◌&&◌, All, IfOk, OnOk, not, true};
 ghost use Rattle.std.specs.List.{list_all, list_any, sum_by};
 ghost use Rattle.cnf_form.specs.Cnf.{Assignment, LitWithin, lit_in};
-ghost use Rattle.cnf_form.specs.declared.literal.TheConstants.{MAX_VARS};
 ghost use Rattle.gate_words.specs.Words.{Builds, MeansBit};
 ghost use Rattle.rtlil_design.specs.Faults.{IsFlat};
 ghost use Rattle.rtlil_design.specs.Meaning.{is_assert, is_assume, is_enabled, says};
@@ -25,7 +24,7 @@ fn fails(gates: &mut Gates, design: &Design, table: &[Lit], cell: &Cell) -> Resu
     requires table { IsTable design.now gates.old table.now }
     ensures fails { IfOk result (MeansBit gates.new (λ x. is_enabled (valued design.now table.now x) cell.now && not (says (valued design.now table.now x) cell.now))) }
     ensures builds { IfOk result (λ _. Builds gates.old gates.new 1) }
-    ensures too_many { result ≡ Err GateFault.TooMany → gates.old.formula.vars ≡ MAX_VARS }
+    ensures too_many { result ≡ Err GateFault.TooMany → gates.old.formula.vars ≡ gates.old.most }
 {
     let enable = table[design.place(cell.signal("EN")[0])];
     let holds = table[design.place(cell.signal("A")[0])];
@@ -60,7 +59,7 @@ fn assume(
     requires held { LitWithin gates.old.formula.vars held }
     ensures assumes { IfOk result (MeansBit gates.new (λ x. lit_in x held && is_assumed (valued design.now table.now x) cell.now)) }
     ensures builds { IfOk result (λ _. Builds gates.old gates.new (assume_gates cell.now)) }
-    ensures too_many { result ≡ Err GateFault.TooMany → MAX_VARS < gates.old.formula.vars + assume_gates cell.now }
+    ensures too_many { result ≡ Err GateFault.TooMany → gates.old.most < gates.old.formula.vars + assume_gates cell.now }
 {
     if !is_assumption(cell) {
         return Ok(held);
@@ -82,7 +81,7 @@ pub fn assume_all(
     requires held { LitWithin gates.old.formula.vars held }
     ensures assumes { IfOk result (MeansBit gates.new (λ x. lit_in x held && list_all (is_assumed (valued design.now table.now x)) design.now.cells)) }
     ensures builds { IfOk result (λ _. Builds gates.old gates.new (sum_by assume_gates design.now.cells)) }
-    ensures too_many { result ≡ Err GateFault.TooMany → MAX_VARS < gates.old.formula.vars + sum_by assume_gates design.now.cells }
+    ensures too_many { result ≡ Err GateFault.TooMany → gates.old.most < gates.old.formula.vars + sum_by assume_gates design.now.cells }
 {
     let mut all = held;
     let cells = design.cells();
@@ -107,7 +106,7 @@ fn assert(
     requires bads { All (LitWithin gates.old.formula.vars) bads.old.items }
     ensures judges { OnOk result (Judges (λ x. lit_in x held && is_broken (valued design.now table.now x) cell.now) gates.new bads.old.items bads.new.items) }
     ensures builds { OnOk result (Builds gates.old gates.new (assert_gates cell.now)) }
-    ensures too_many { result ≡ Err GateFault.TooMany → MAX_VARS < gates.old.formula.vars + assert_gates cell.now }
+    ensures too_many { result ≡ Err GateFault.TooMany → gates.old.most < gates.old.formula.vars + assert_gates cell.now }
 {
     if !is_assertion(cell) {
         return Ok(());
@@ -132,7 +131,7 @@ pub fn assert_all(
     requires bads { All (LitWithin gates.old.formula.vars) bads.old.items }
     ensures judges { OnOk result (Judges (λ x. lit_in x held && list_any (is_broken (valued design.now table.now x)) design.now.cells) gates.new bads.old.items bads.new.items) }
     ensures builds { OnOk result (Builds gates.old gates.new (sum_by assert_gates design.now.cells)) }
-    ensures too_many { result ≡ Err GateFault.TooMany → MAX_VARS < gates.old.formula.vars + sum_by assert_gates design.now.cells }
+    ensures too_many { result ≡ Err GateFault.TooMany → gates.old.most < gates.old.formula.vars + sum_by assert_gates design.now.cells }
 {
     let cells = design.cells();
     for cell in cells {

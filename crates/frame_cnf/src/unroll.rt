@@ -54,7 +54,7 @@ fn start(gates: &mut Gates, start: Option<bool>) -> Result<Lit, GateFault>
     ensures inputs { IfOk result (λ _. AddsInputs gates.old gates.new (cond (is_free start) 1 0)) }
     ensures makes { IfOk result (λ lit. MakesInputs gates.old gates.new (cond (is_free start) (lit ∷ []) [])) }
     ensures most { IfOk result (λ _. gates.new.formula.vars ≤ gates.old.formula.vars + 1) }
-    ensures too_many { result ≡ Err GateFault.TooMany → gates.old.formula.vars ≡ MAX_VARS }
+    ensures too_many { result ≡ Err GateFault.TooMany → gates.old.formula.vars ≡ gates.old.most }
 {
     gates.promise();
     if let Some(value) = start {
@@ -76,7 +76,8 @@ fn start_row(
     ensures inputs { IfOk result (λ _. AddsInputs gates.old gates.new (count_by is_free starts.now)) }
     ensures makes { IfOk result (λ row. MakesInputs gates.old gates.new (free_bits row.items starts.now)) }
     ensures most { IfOk result (λ _. gates.new.formula.vars ≤ gates.old.formula.vars + length starts.now) }
-    ensures too_many { result ≡ Err GateFault.TooMany → MAX_VARS < gates.old.formula.vars + length starts.now }
+    ensures limit { IfOk result (λ _. gates.new.most ≡ gates.old.most) }
+    ensures too_many { result ≡ Err GateFault.TooMany → gates.old.most < gates.old.formula.vars + length starts.now }
 {
     let mut row = Vec::new(alloc);
     gates.promise();
@@ -114,7 +115,7 @@ fn open_inputs(alloc: Global, gates: &mut Gates, count: usize) -> Result<Vec<Lit
     ensures inputs { IfOk result (λ _. AddsInputs gates.old gates.new count) }
     ensures makes { IfOk result (λ lits. MakesInputs gates.old gates.new lits.items) }
     ensures most { IfOk result (λ _. gates.new.formula.vars ≤ gates.old.formula.vars + count) }
-    ensures too_many { result ≡ Err GateFault.TooMany → MAX_VARS < gates.old.formula.vars + count }
+    ensures too_many { result ≡ Err GateFault.TooMany → gates.old.most < gates.old.formula.vars + count }
 {
     let mut lits = Vec::new(alloc);
     for _ in 0..count {
@@ -167,7 +168,8 @@ fn unroll_cycle(
     ensures named { OnOk result ((starts : List LitOf) → AreNamed sources.now.inputs.items gates.old starts cycles.old.frames.items
         → AreNamed sources.now.inputs.items gates.new starts cycles.new.frames.items) }
     ensures most { OnOk result (gates.new.formula.vars ≤ gates.old.formula.vars + length sources.now.inputs.items + cycle_gates design.now order.now) }
-    ensures too_many { result ≡ Err GateFault.TooMany → MAX_VARS < gates.old.formula.vars + length sources.now.inputs.items + cycle_gates design.now order.now }
+    ensures limit { OnOk result (gates.new.most ≡ gates.old.most) }
+    ensures too_many { result ≡ Err GateFault.TooMany → gates.old.most < gates.old.formula.vars + length sources.now.inputs.items + cycle_gates design.now order.now }
 {
     let inputs = open_inputs(alloc, gates, sources.inputs.len())?;
     gates.promise();

@@ -13,10 +13,10 @@ loop-init c = record {
 pub loop-preserved : goal.loop-preserved
 loop-preserved c = record {
   opens = rw c.in_ok-push.ensures
-      (Opens-push c.args.gates.now c.loop.gates c.input.new.self c.loop.counter c.loop.lits.items c.in_ok-lit.lit c.promise.ensures c.promise-in-loop.ensures
+      (Opens-push c.args.gates.now c.loop.gates c.input.new.self c.loop.counter c.loop.lits.items c.in_ok-lit.lit c.promise.ensures.gates c.promise-in-loop.ensures.gates
       c.loop.invariant.opens c.in_ok-lit.ensures.input);
   inputs = AddsInputs-trans c.args.gates.now c.loop.gates c.input.new.self c.loop.counter 1 c.loop.invariant.inputs
-      (AddsInputs-input c.loop.gates c.input.new.self c.in_ok-lit.lit c.promise.ensures c.in_ok-lit.ensures.input);
+      (AddsInputs-input c.loop.gates c.input.new.self c.in_ok-lit.lit c.promise.ensures.gates c.in_ok-lit.ensures.input);
   makes = rw c.in_ok-push.ensures
       (MakesInputs-trans c.args.gates.now c.loop.gates c.input.new.self c.loop.lits.items _ c.loop.invariant.makes
       (MakesInputs-one c.loop.gates c.input.new.self c.in_ok-lit.lit c.in_ok-lit.ensures.input));

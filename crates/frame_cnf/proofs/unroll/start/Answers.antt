@@ -9,12 +9,12 @@ returns-in-Some-clause-starts c = rw c.in-Some.is (StartsOne-constant c.in-Some.
 pub returns-clause-starts : goal.returns-clause-starts
 returns-clause-starts c =
     subst (λ (s : Option Bool). StartsOne s c.args.gates.now c.input.new.self c.in_ok-lit.lit) (sym (no_digit c.args.start c.in_default.not-Some))
-    (StartsOne-input c.args.gates.now c.input.new.self c.in_ok-lit.lit c.promise.ensures c.promise-2.ensures c.in_ok-lit.ensures.input)
+    (StartsOne-input c.args.gates.now c.input.new.self c.in_ok-lit.lit c.promise.ensures.gates c.promise-2.ensures.gates c.in_ok-lit.ensures.input)
 
 pub returns-clause-inputs : goal.returns-clause-inputs
 returns-clause-inputs c =
     subst (λ (s : Option Bool). AddsInputs c.args.gates.now c.input.new.self (cond (is_free s) 1 0)) (sym (no_digit c.args.start c.in_default.not-Some))
-    (AddsInputs-input c.args.gates.now c.input.new.self c.in_ok-lit.lit c.promise.ensures c.in_ok-lit.ensures.input)
+    (AddsInputs-input c.args.gates.now c.input.new.self c.in_ok-lit.lit c.promise.ensures.gates c.in_ok-lit.ensures.input)
 
 pub returns-in-Some-clause-makes : goal.returns-in-Some-clause-makes
 returns-in-Some-clause-makes c = rw c.in-Some.is (MakesInputs-none c.args.gates.now)

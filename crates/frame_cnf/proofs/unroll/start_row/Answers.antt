@@ -1,4 +1,4 @@
-use Rattle.std.proofs.Common.{None, arith, get_or, sym, take, ◌∙◌}
+use Rattle.std.proofs.Common.{None, arith, get_or, refl, sym, take, ◌∙◌}
 use Rattle.std.proofs.lemmas.List.{take_all, take_more}
 use Rattle.frame_cnf.proofs.Lists.{length-take_within}
 use Rattle.std.proofs.lemmas.Option.{slice_get-get_or}
@@ -7,9 +7,10 @@ use Rattle.frame_cnf.proofs.unroll.start_row.Goals as goal
 
 pub loop-digit-init : goal.loop-digit-init
 loop-digit-init c = record {
-  starts = rw c.new-row.ensures.items (Starts-none c.args.starts.now c.args.gates.now c.promise.ensures);
+  starts = rw c.new-row.ensures.items (Starts-none c.args.starts.now c.args.gates.now c.promise.ensures.gates);
   inputs = AddsInputs-none c.args.gates.now;
   makes = rw c.new-row.ensures.items (MakesInputs-none c.args.gates.now);
+  limit = refl;
   most = omega arith;
 }
 
@@ -28,6 +29,7 @@ loop-digit-preserved c =
           (AddsInputs-trans c.args.gates.now c.loop-digit.gates c.start.new.gates _ _ c.loop-digit.invariant.inputs c.in_ok-lit.ensures.inputs);
       makes = rw (c.in_ok-push.ensures, more, free_append c.loop-digit.row.items (take c.loop-digit.digit-index c.args.starts.now) c.in_ok-lit.lit (get_or c.args.starts.now c.loop-digit.digit-index None) (rows ∙ sym count))
           (MakesInputs-trans c.args.gates.now c.loop-digit.gates c.start.new.gates _ _ c.loop-digit.invariant.makes c.in_ok-lit.ensures.makes);
+      limit = c.in_ok-lit.ensures.starts.continues.limit ∙ c.loop-digit.invariant.limit;
       most = let a = c.loop-digit.invariant.most in let b = c.in_ok-lit.ensures.most in omega (arith, a, b);
     }
 

@@ -1,4 +1,6 @@
-use Rattle.std.proofs.Common.{◌≡◌, ◌∙◌, add-one, arith}
+use Rattle.std.proofs.Common.{rules, ◌≡◌, ◌∙◌, ◌+◌, ◌≤◌, add-one, arith, length}
+use Rattle.std.proofs.Math.Nat.{mul-le-mul_right}
+use Rattle.frame_cnf.specs.Costs.{cycle_gates}
 use Rattle.frame_cnf.proofs.Gating.{AreNamed-none}
 use Rattle.frame_cnf.proofs.Unrolling.{Unrolled-none, Unrolled-run, free_length}
 use Rattle.frame_cnf.proofs.Lists.{IsDistinct-none}
@@ -10,7 +12,7 @@ loop-init c =
     let inputs = rw c.as_slice.ensures.value at c.in_ok-row.ensures.inputs in
     let most = rw c.as_slice.ensures.value at c.in_ok-row.ensures.most in
     let none = c.in_ok-gates.ensures.inputs in
-    let one = c.in_ok-gates.ensures.most in
+    let one = c.in_ok-gates.ensures.vars in
     record {
       unrolled = rw c.new-2.ensures.items
           (Unrolled-none c.args.design.now c.args.sources.now.outputs.items c.args.sources.now.nexts.items c.args.sources.now.inputs.items c.args.sources.now.starts.items c.start_row.new.gates c.in_ok-new_table.field-0.items c.in_ok-row.row.items
@@ -18,6 +20,7 @@ loop-init c =
       named = rw c.new-2.ensures.items (AreNamed-none c.args.sources.now.inputs.items c.in_ok-gates.gates c.start_row.new.gates _ none (rw c.as_slice.ensures.value at c.in_ok-row.ensures.makes));
       distinct = inputs.distinct (IsDistinct-none c.in_ok-gates.gates.inputs none);
       count = let e = inputs.count in let z = rw none at e in omega (arith, z);
+      limit = c.in_ok-row.ensures.limit ∙ c.in_ok-gates.ensures.most;
       most = omega (arith, most, one);
     }
 
@@ -33,6 +36,7 @@ loop-preserved c =
       named = c.in_ok-unroll_cycle.ensures.named _ c.loop.invariant.named;
       distinct = inputs.distinct c.loop.invariant.distinct;
       count = omega (arith, count, old_count);
+      limit = c.in_ok-unroll_cycle.ensures.limit ∙ c.loop.invariant.limit;
       most = omega (arith, most, old_most);
     }
 
@@ -83,3 +87,11 @@ unroll_cycle-requires-clause-held c = c.loop.invariant.unrolled.held_within
 
 pub returns-clause-named : goal.returns-clause-named
 returns-clause-named c = rw (c.in_ok-starts.ensures, c.as_slice-2.ensures.value, c.as_slice-3.ensures.value) c.loop.invariant.named
+
+pub returns-in_err-unroll_cycle-clause-too_many : goal.returns-in_err-unroll_cycle-clause-too_many
+returns-in_err-unroll_cycle-clause-too_many c =
+    let more : c.loop.counter + 1 ≤ c.args.depth = let t = c.loop-test.true in omega arith in
+    let times = mul-le-mul_right (length c.args.sources.now.inputs.items + cycle_gates c.args.design.now c.args.order.now) more in
+    let most = c.loop.invariant.most in
+    let limit = c.loop.invariant.limit in
+    search rules

@@ -42,7 +42,7 @@ returns-clause-unrolls c = λ first t un.
     rw (back, c.in_ok-push_frame.ensures, c.new.ensures)
     (one_more c.args.design.now c.requires.flat c.requires.shape c.args.sources.now.outputs.items c.args.sources.now.nexts.items c.args.sources.now.starts.items c.args.sources.now.reads.items c.args.sources.now.inputs.items c.requires.sources
     c.args.order.now c.requires.order c.args.gates.now c.open_inputs.new.gates c.drive_all.new.gates c.assume_all.new.gates c.assert_all.new.gates c.args.cycles.now.row.items c.in_ok-inputs.inputs.items c.args.cycles.now.table.items c.set_sources.new.table
-    c.drive_all.new.table c.in_ok-row.row.items c.assert_all.new.bads.items c.args.cycles.now.frames.items c.args.cycles.now.held c.in_ok-held.held c.promise.ensures c.promise-2.ensures made
+    c.drive_all.new.table c.in_ok-row.row.items c.assert_all.new.bads.items c.args.cycles.now.frames.items c.args.cycles.now.held c.in_ok-held.held c.promise.ensures.gates c.promise-2.ensures.gates made
     c.in_ok-drive_all.ensures.builds.continues c.in_ok-held.ensures.builds.continues c.in_ok-assert_all.ensures.builds.continues sr si others c.in_ok-drive_all.ensures.drives c.in_ok-held.ensures.assumes
     judges read first t un)
 
