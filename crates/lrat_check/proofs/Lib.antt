@@ -1,0 +1,5 @@
+pub mod Scan
+pub mod Trail
+pub mod Following
+pub mod Admitting
+pub mod Table
