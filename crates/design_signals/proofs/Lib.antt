@@ -1,0 +1,4 @@
+pub mod Cutting
+pub mod RowLemmas
+pub mod Widening
+pub mod Walking
