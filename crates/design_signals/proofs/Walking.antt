@@ -1,5 +1,5 @@
 -- Bits of chunks, one after the other.
-use Rattle.std.proofs.Common.{◌≡◌, ℕ, suc, ◌+◌, ◌<◌, List, [], ◌∷◌, length, drop, refl, sym, ap, subst, ◌∙◌, All, arith}
+use Rattle.std.proofs.Common.{◌≡◌, ℕ, suc, ◌+◌, ◌<◌, List, [], ◌∷◌, drop, refl, sym, ap, subst, ◌∙◌, All, arith}
 use Rattle.design_signals.specs.Chunks.{above, bits_of, IsChunk, IsPlaceIn}
 use Rattle.design_signals.specs.declared.sig_bit.SigBit.{SigBit}
 use Rattle.design_signals.specs.declared.chunk.Chunk.{Chunk}

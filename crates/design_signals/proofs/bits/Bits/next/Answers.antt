@@ -1,4 +1,4 @@
-use Rattle.std.proofs.Common.{◌≡◌, ◌+◌, ◌<◌, arith}
+use Rattle.std.proofs.Common.{arith}
 use Rattle.design_signals.proofs.Walking.{start_place, rest_chunks, place_in, next_place, step_bit, step_chunk}
 use Rattle.design_signals.proofs.bits.Bits.next.Goals as goal
 

@@ -1,0 +1,11 @@
+pub mod Names
+pub mod Table
+pub mod Digits
+pub mod Constants
+pub mod Ports
+pub mod Shape
+pub mod Cell
+pub mod Asked
+pub mod Cells
+pub mod Places
+pub mod Design

@@ -1,0 +1,151 @@
+// The constants of parameters.
+
+ghost use Rattle.std.specs.Prelude.{◌≡◌, ◌≤◌, ◌<◌, ◌^◌, ◌⊎◌, length, slice_get, Some, IfOk, IfSome, IfNone, true, false};
+ghost use Rattle.design_core.specs.Digits.{digit_number, digits_number, is_binary, is_number, number_digits};
+
+use std::alloc::{AllocError, Global};
+use std::marker::Model;
+
+/// A digit of a parameter: 0 or 1; an x, z or -, which is a free bit; or an m, which has no value.
+#[derive(Clone, Copy, Debug, PartialEq, Eq)]
+pub enum Digit {
+    Const(bool),
+    Free(u32),
+    Marker,
+}
+
+/// How a constant is kept: a number below two to its width, or its digits.
+#[derive(Drop)]
+pub enum ConstantParts {
+    Number(u64, u32),
+    Digits(Box<Vec<Digit>>),
+}
+
+/// A constant: its digits, lowest first.
+#[derive(Drop)]
+pub struct Constant {
+    parts: ConstantParts,
+}
+
+impl Model for Constant {
+    ghost use Rattle.std.specs.Prelude.{List};
+    ghost use Rattle.design_core.specs.declared.digit.Digit.{Digit};
+    ghost use Rattle.design_core.specs.Constants.{IsConstant, digits_in};
+
+    ghost Value = { List Digit };
+
+    ghost view = { λ a. digits_in a.parts };
+
+    ghost invariant = { λ a. IsConstant a.parts };
+}
+
+impl Constant {
+    /// A number of so many digits.
+    pub fn number_of(value: u64, width: u32) -> Constant
+        requires short { width ≤ 64 }
+        requires fits { value < 2 ^ width }
+        ensures { result ≡ number_digits width value }
+    {
+        Constant {
+            parts: ConstantParts::Number(value, width),
+        }
+    }
+
+    /// A constant of these digits, lowest first.
+    pub fn new(alloc: Global, digits: Vec<Digit>) -> Result<Constant, AllocError>
+        ensures { IfOk result (λ constant. constant ≡ digits.items) }
+    {
+        Ok(Constant {
+            parts: ConstantParts::Digits(Box::new(alloc, digits)?),
+        })
+    }
+
+    /// How many digits it has.
+    pub fn len(&self) -> usize
+        ensures { result ≡ length self.now }
+    {
+        match &self.parts {
+            ConstantParts::Number(_, width) => *width as usize,
+            ConstantParts::Digits(digits) => digits.len(),
+        }
+    }
+
+    /// The digit at a place, the lowest at 0.
+    pub fn digit(&self, place: usize) -> Digit
+        requires { place < length self.now }
+        ensures { slice_get self.now place ≡ Some result }
+    {
+        match &self.parts {
+            ConstantParts::Number(value, _) => Digit::Const((*value >> place) % 2 == 1),
+            ConstantParts::Digits(digits) => digit_at(digits.as_slice(), place),
+        }
+    }
+
+    /// The constant as a number, where it has no digit but 0 and 1, and 64 bits hold it.
+    pub fn number(&self) -> Option<u64>
+        ensures some { IfSome result (λ n. (is_number self.now ≡ true) × (n ≡ digits_number self.now)) }
+        ensures none { IfNone result ((is_number self.now ≡ false) ⊎ (2 ^ 64 ≤ digits_number self.now)) }
+    {
+        match &self.parts {
+            ConstantParts::Number(value, _) => Some(*value),
+            ConstantParts::Digits(digits) => number_in(digits.as_slice()),
+        }
+    }
+}
+
+fn digit_at(digits: &[Digit], place: usize) -> Digit
+    requires { place < length digits.now }
+    ensures { slice_get digits.now place ≡ Some result }
+{
+    digits[place]
+}
+
+// Digits as a number, where each is 0 or 1, and 64 bits hold it.
+fn number_in(digits: &[Digit]) -> Option<u64>
+    ensures some { IfSome result (λ n. (is_number digits.now ≡ true) × (n ≡ digits_number digits.now)) }
+    ensures none { IfNone result ((is_number digits.now ≡ false) ⊎ (2 ^ 64 ≤ digits_number digits.now)) }
+{
+    if are_binary(digits) {
+        binary_number(digits)
+    } else {
+        None
+    }
+}
+
+// The number of digits, if 64 bits hold it; a digit that isn't 1 counts as 0.
+fn binary_number(digits: &[Digit]) -> Option<u64>
+    ensures some { IfSome result (λ n. n ≡ digits_number digits.now) }
+    ensures none { IfNone result (2 ^ 64 ≤ digits_number digits.now) }
+{
+    let mut number = 0u64;
+    for place in (0..digits.len()).rev() {
+        let digit = digit_number(digits[place]);
+        if number > (u64::MAX - digit) / 2 {
+            return None;
+        }
+        number = 2 * number + digit;
+    }
+    Some(number)
+}
+
+fn digit_number(digit: Digit) -> u64
+    ensures value { result ≡ digit_number digit }
+    ensures bit { result ≤ 1 }
+{
+    match digit {
+        Digit::Const(true) => 1,
+        Digit::Const(false) | Digit::Free(_) | Digit::Marker => 0,
+    }
+}
+
+fn are_binary(digits: &[Digit]) -> bool
+    ensures { result ≡ is_number digits.now }
+{
+    digits.iter().all(|digit| is_binary(*digit))
+}
+
+fn is_binary(digit: Digit) -> bool
+    ensures { result ≡ is_binary digit }
+{
+    matches!(digit, Digit::Const(_))
+}
