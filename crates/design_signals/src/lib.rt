@@ -8,3 +8,5 @@ pub mod segments;
 pub mod sig_bit;
 pub mod signal;
 pub mod stored;
+#[cfg(test)]
+mod tests;
