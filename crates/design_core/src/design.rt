@@ -2,11 +2,15 @@
 
 ghost use Rattle.std.specs.Prelude.{◌≡◌, ◌↔◌, IsTrue, All, ◌+◌, ◌<◌, ◌≤◌, ◌^◌, [], ◌∷◌, ◌++◌, string_bytes, length, slice_get, Some, OnOk, OnErr};
 ghost use Rattle.design_core.specs.Places.{offset, place_of, places};
-ghost use Rattle.design_core.specs.Shape.{IsCellOf, IsDeclared, IsDesign, IsWire, WireOf, wire_bits};
+ghost use Rattle.design_core.specs.Shape.{IsCellOf, IsDeclared, IsDesign, IsNumbered, IsWire, WireOf, wire_bits};
+ghost use Rattle.design_signals.specs.Chunks.{IsChunk, bits_of, chunk_bits};
 
 use crate::cell::Cell;
 use crate::connect::Connect;
+use crate::digit::{Constant, Digit};
+use crate::parts::{Parameter, Port};
 use crate::wire::Wire;
+use design_signals::chunk::{Chunk, above};
 use design_signals::sig_bit::SigBit;
 use design_signals::stored::StoredSignal;
 use std::alloc::{AllocError, Global};
@@ -145,6 +149,81 @@ impl Design {
             SigBit::Const(_) => true,
             SigBit::Free(number) => number < self.free,
         }
+    }
+
+    /// Whether each bit of a chunk is declared.
+    pub fn declares_chunk(&self, chunk: Chunk) -> bool
+        requires { IsChunk chunk }
+        ensures { IsTrue result ↔ All (IsDeclared self.now.wires self.now.free) (chunk_bits chunk) }
+    {
+        match chunk.first {
+            SigBit::Wire(_, _) => self.declares(above(chunk.first, chunk.width - 1)),
+            SigBit::Const(_) => true,
+            SigBit::Free(_) => self.declares(chunk.first),
+        }
+    }
+
+    /// Whether each bit of these chunks is declared.
+    pub fn declares_all(&self, chunks: &[Chunk]) -> bool
+        requires { All IsChunk chunks.now }
+        ensures { IsTrue result ↔ All (IsDeclared self.now.wires self.now.free) (bits_of chunks.now) }
+    {
+        for chunk in chunks {
+            if !self.declares_chunk(*chunk) {
+                return false;
+            }
+        }
+        true
+    }
+
+    /// Whether each free bit among a constant's digits is numbered.
+    pub fn numbers_all(&self, constant: &Constant) -> bool
+        ensures { IsTrue result ↔ All (IsNumbered self.now.free) constant.now }
+    {
+        for place in 0..constant.len() {
+            if !self.numbers(constant.digit(place)) {
+                return false;
+            }
+        }
+        true
+    }
+
+    fn numbers(&self, digit: Digit) -> bool
+        ensures { IsTrue result ↔ IsNumbered self.now.free digit }
+    {
+        match digit {
+            Digit::Free(number) => number < self.free,
+            Digit::Const(_) | Digit::Marker => true,
+        }
+    }
+
+    /// Whether each bit of a cell's signals is declared, and each free bit among its parameters' digits numbered.
+    pub fn declares_cell(&self, cell: &Cell) -> bool
+        ensures { IsTrue result ↔ IsCellOf self.now.wires self.now.free cell.now }
+    {
+        self.declares_ports(cell.ports()) && self.numbers_parameters(cell.parameters())
+    }
+
+    fn declares_ports(&self, ports: &[Port]) -> bool
+        ensures { IsTrue result ↔ All (λ p. All (IsDeclared self.now.wires self.now.free) p.signal) ports.now }
+    {
+        for port in ports {
+            if !self.declares_all(port.signal.chunks()) {
+                return false;
+            }
+        }
+        true
+    }
+
+    fn numbers_parameters(&self, parameters: &[Parameter]) -> bool
+        ensures { IsTrue result ↔ All (λ p. All (IsNumbered self.now.free) p.digits) parameters.now }
+    {
+        for parameter in parameters {
+            if !self.numbers_all(&parameter.digits) {
+                return false;
+            }
+        }
+        true
     }
 
     /// Adds a wire behind the others. An error leaves the design as it was.

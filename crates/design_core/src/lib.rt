@@ -9,4 +9,6 @@ pub mod names;
 pub mod next;
 pub mod parts;
 pub mod table;
+#[cfg(test)]
+mod tests;
 pub mod wire;

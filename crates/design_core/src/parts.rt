@@ -24,6 +24,10 @@ pub struct Parameter {
     pub digits: Constant,
 }
 
+const _: () = prove!(size_of::<Port>() <= 32);
+
+const _: () = prove!(size_of::<Parameter>() <= 32);
+
 fn port_number(name: PortName) -> u8
     ensures { result ≡ port_number name }
 {

@@ -1,0 +1,5 @@
+pub mod Meaning
+pub mod Rests
+pub mod States
+pub mod Claims
+pub mod Runs
