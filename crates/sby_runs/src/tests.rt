@@ -335,15 +335,20 @@ fn failed_files_are_told(rt: HostRuntime) -> Result<(), Fail> {
     Ok(())
 }
 
+// Whether so many lines are printed, and with this exit status, where the sink fails at this call.
+fn is_cut(rt: &HostRuntime, call: u64, rc: u8, lines: &[&str]) -> Result<bool, Fail> {
+    let mut files = store(rt.alloc(), T, b"0\n", Vec::new(rt.alloc()))?;
+    let words = ["--judge", "t.il", "bmc", "1", "s0"];
+    let printed = run(rt, &mut files, &words, vec![in rt.alloc(); call]?)?;
+    Ok(prints(&printed, rc, lines))
+}
+
 #[test]
 fn a_failed_sink_ends_the_run(rt: HostRuntime) -> Result<(), Fail> {
-    let words = ["--judge", "t.il", "bmc", "1", "s0"];
-    let lines = [DESIGN, UNSAT, PASS];
-    for (call, rc, count) in [(1, 16, 0), (2, 16, 1), (3, 16, 2), (4, 0, 3)] {
-        let mut files = store(rt.alloc(), T, b"0\n", Vec::new(rt.alloc()))?;
-        let printed = run(&rt, &mut files, &words, vec![in rt.alloc(); call]?)?;
-        assert!(rt; prints(&printed, rc, &lines[..count]), "{call}");
-    }
+    assert!(rt; is_cut(&rt, 1, 16, &[])?);
+    assert!(rt; is_cut(&rt, 2, 16, &[DESIGN])?);
+    assert!(rt; is_cut(&rt, 3, 16, &[DESIGN, UNSAT])?);
+    assert!(rt; is_cut(&rt, 4, 0, &[DESIGN, UNSAT, PASS])?);
     Ok(())
 }
 
@@ -497,33 +502,40 @@ fn design_faults_are_told(rt: HostRuntime) -> Result<(), Fail> {
     Ok(())
 }
 
-// Forty inverters behind a register that starts at 1.
-fn chain(alloc: Global) -> Result<String, AllocError> {
-    let mut text = String::from_str(
-        alloc,
-        "module \\t\n wire input 1 \\clk\n attribute \\init 1'1\n wire \\w0\n",
-    )?;
-    for i in 1..41 {
-        text.push_str(format!(in alloc; " wire \\w{i}\n")?.as_str())?;
+const NAMES: [&str; 26] = [
+    "a", "b", "c", "d", "e", "f", "g", "h", "i", "j", "k", "l", "m", "n", "o", "p", "q", "r", "s",
+    "t", "u", "v", "w", "x", "y", "z",
+];
+
+const CHAIN_HEAD: &str = "module \\t\n wire input 1 \\clk\n attribute \\init 1'1\n wire \\w\n";
+
+const CHAIN_NOT: &str =
+    "\n parameter \\A_SIGNED 0\n parameter \\A_WIDTH 1\n parameter \\Y_WIDTH 1\n connect \\A \\w";
+
+const CHAIN_END: &str =
+    " cell $dff $r\n parameter \\CLK_POLARITY 1'1\n parameter \\WIDTH 1\n connect \\CLK \\clk\n connect \\D \\wz\n connect \\Q \\w\n end\n cell $assert \\a0\n connect \\A \\wz\n connect \\EN 1'1\n end\nend\n";
+
+// As many inverters as there are letters, one behind the other, behind a register that starts at 1.
+fn chain(alloc: Global) -> Result<Vec<&'static str>, AllocError> {
+    let mut parts = Vec::new(alloc);
+    parts.push(CHAIN_HEAD)?;
+    for name in NAMES {
+        parts.extend_from_slice(&[" wire \\w", name, "\n"])?;
     }
-    let mut before = 0;
-    for i in 1..41 {
-        text.push_str(format!(in alloc;
-            " cell $not $n{i}\n parameter \\A_SIGNED 0\n parameter \\A_WIDTH 1\n parameter \\Y_WIDTH 1\n connect \\A \\w{before}\n connect \\Y \\w{i}\n end\n"
-        )?.as_str())?;
-        before = i;
+    let mut before = "";
+    for name in NAMES {
+        parts.extend_from_slice(&[" cell $not $n", name, CHAIN_NOT, before])?;
+        parts.extend_from_slice(&["\n connect \\Y \\w", name, "\n end\n"])?;
+        before = name;
     }
-    text.push_str(
-        " cell $dff $r\n parameter \\CLK_POLARITY 1'1\n parameter \\WIDTH 1\n connect \\CLK \\clk\n connect \\D \\w40\n connect \\Q \\w0\n end\n",
-    )?;
-    text.push_str(" cell $assert \\a0\n connect \\A \\w40\n connect \\EN 1'1\n end\nend\n")?;
-    Ok(text)
+    parts.push(CHAIN_END)?;
+    Ok(parts)
 }
 
 #[test]
 fn a_chain_is_followed(rt: HostRuntime) -> Result<(), Fail> {
-    let text = chain(rt.alloc())?;
-    let printed = judged(&rt, &[text.as_str()], "1", b"0\n")?;
+    let parts = chain(rt.alloc())?;
+    let printed = judged(&rt, parts.as_slice(), "1", b"0\n")?;
     assert!(rt; prints(&printed, 0, &[DESIGN, UNSAT, PASS]));
     Ok(())
 }
