@@ -17,7 +17,7 @@ const SHOWN: &[&str] = &[
 
 #[test]
 fn values_show_a_run(rt: HostRuntime) -> Result<(), Fail> {
-    for stream in ["v 1 -2 -3 4 5 0\n", "v 1 -2\nv -3 4\nv 5 0\n"] {
+    for stream in ["v 1 0\n", "v\nv 1\nv 0\n"] {
         let printed = judged(&rt, T, "2", stream.as_bytes())?;
         assert!(rt; prints(&printed, 2, SHOWN), "{stream}");
     }
