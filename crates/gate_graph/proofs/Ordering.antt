@@ -1,9 +1,11 @@
 -- The order of the operands of and and xor is free, and simple operands make no gate.
-use Rattle.std.proofs.Common.{◌≡◌, ◌⊎◌, ℕ, ◌+◌, ◌*◌, ◌<◌, Bool, true, false, cond, nat_lt, refl, sym, inl, inr, arith}
-use Rattle.cnf_form.specs.Cnf.{LitOf, LitWithin, index_of}
+use Rattle.std.proofs.Common.{◌≡◌, ◌⊎◌, ℕ, ◌+◌, ◌*◌, ◌<◌, Bool, true, false, cond, nat_lt, ◌==◌, refl, sym, inl, inr, arith}
+use Rattle.cnf_form.specs.Cnf.{LitOf, LitWithin, index_of, negate}
 use Rattle.cnf_form.proofs.Literals.{index_of-injective}
+use Rattle.gate_graph.specs.declared.gate.Gate.TheVariants.{And, Xor, Mux, Maj}
 use Rattle.gate_graph.specs.declared.gate.Asked.{Asked}
-use Rattle.gate_graph.specs.Folding.{AreSimple, IsThere, below, fold_and, fold_xor, is_false, is_true, opposite, ordered_and, ordered_xor, same}
+use Rattle.gate_graph.specs.declared.gate.Asked.TheVariants.{Is, Make}
+use Rattle.gate_graph.specs.Folding.{AreSimple, IsSmall, IsThere, below, fold_and, fold_maj, fold_mux, fold_xor, is_false, is_true, opposite, ordered_and, ordered_xor, same, turned}
 
 -- a test of order comes out one way, and the numbers are so
 order_cases : (m n : ℕ) → ((m < n) × (nat_lt m n ≡ true) × (nat_lt n m ≡ false)) ⊎ ((n < m) × (nat_lt m n ≡ false) × (nat_lt n m ≡ true)) ⊎ ((m ≡ n) × (nat_lt m n ≡ false))
@@ -92,3 +94,104 @@ module _ (n : ℕ) where
 
   pub simple_there : (a b : LitOf) → LitWithin n a → LitWithin n b → AreSimple a b → IsThere (fold_and a b) × IsThere (fold_xor a b)
   simple_there a b p q s = (by_order ordered_and and_there a b p q s, by_order ordered_xor xor_there a b p q s)
+
+-- what stands first, or what stands behind where the test fails
+there_or : (p : Bool) (l : LitOf) (k : Asked) → (p ≡ false → IsThere k) → IsThere (cond p (Is l) k)
+there_or true l k f = (l, refl)
+there_or false l k f = f refl
+
+small_or : (p : Bool) (u k : Asked) → IsSmall u → (p ≡ false → IsSmall k) → IsSmall (cond p u k)
+small_or true u k a f = a
+small_or false u k a f = f refl
+
+both_ways : (p : Bool) → p ≡ true → p ≡ false → ⊥
+both_ways p t f = cc
+
+constant_is : (a : LitOf) → a.var ≡ 1 → (is_false a ≡ true) ⊎ (is_true a ≡ true)
+constant_is a h = by a.var a.negated h
+  where
+    by : (v : ℕ) (n : Bool) → v ≡ 1 → (let l : LitOf = record { var = v; negated = n } in (is_false l ≡ true) ⊎ (is_true l ≡ true))
+    by v true h = rw h (inl refl)
+    by v false h = rw h (inr refl)
+
+no_constant : (a : LitOf) → a.var ≡ 1 → is_false a ≡ false → is_true a ≡ false → ⊥
+no_constant a h f t = elim (constant_is a h) [ inl e ↦ both_ways (is_false a) e f | inr e ↦ both_ways (is_true a) e t ]
+
+related : (a b : LitOf) → a.var ≡ b.var → (same a b ≡ true) ⊎ (opposite a b ≡ true)
+related a b h = by a.var b.var a.negated b.negated h
+  where
+    by : (v w : ℕ) (m n : Bool) → v ≡ w → (let k : LitOf = record { var = v; negated = m } in let l : LitOf = record { var = w; negated = n } in (same k l ≡ true) ⊎ (opposite k l ≡ true))
+    by v w true true h = rw h (inl (grind arith))
+    by v w true false h = rw h (inr (grind arith))
+    by v w false true h = rw h (inr (grind arith))
+    by v w false false h = rw h (inl (grind arith))
+
+unrelated : (a b : LitOf) → a.var ≡ b.var → same a b ≡ false → opposite a b ≡ false → ⊥
+unrelated a b h s o = elim (related a b h) [ inl e ↦ both_ways (same a b) e s | inr e ↦ both_ways (opposite a b) e o ]
+
+same-refl : (a b : LitOf) → a ≡ b → same a b ≡ true
+same-refl a b e = rw e (by (index_of b))
+  where
+    by : (n : ℕ) → (n == n) ≡ true
+    by n = grind arith
+
+pub mux_there : (s a b : LitOf) → (s.var ≡ 1) ⊎ (a ≡ b) → IsThere (fold_mux s a b)
+mux_there s a b h = there_or (is_true s) b _ (λ t. there_or (is_false s) a _ (λ f. there_or (same a b) a _ (λ e. absurd (elim h [
+  | inl i ↦ no_constant s i f t
+  | inr i ↦ both_ways (same a b) (same-refl a b i) e
+]))))
+
+pub maj_there : (a b c : LitOf) → (a.var ≡ b.var) ⊎ (a.var ≡ c.var) ⊎ (b.var ≡ c.var) → IsThere (fold_maj a b c)
+maj_there a b c h =
+    there_or (same a b) a _ (λ p. there_or (same a c) a _ (λ q. there_or (same b c) b _ (λ r.
+    there_or (opposite a b) c _ (λ u. there_or (opposite a c) b _ (λ v. there_or (opposite b c) a _ (λ w. absurd (elim h [
+      | inl i ↦ unrelated a b i p u
+      | inr (inl i) ↦ unrelated a c i q v
+      | inr (inr i) ↦ unrelated b c i r w
+    ])))))))
+
+small_and : (a b : LitOf) → IsSmall (fold_and a b)
+small_and a b = small_or (below b a) _ _ (ordered b a) (λ _. ordered a b)
+  where
+    ordered : (a b : LitOf) → IsSmall (ordered_and a b)
+    ordered a b = small_or (is_false a) _ _ tt (λ _. small_or (is_true a) _ _ tt (λ _. small_or (same a b) _ _ tt (λ _. small_or (opposite a b) _ _ tt (λ _. tt))))
+
+small_xor : (a b : LitOf) → IsSmall (fold_xor a b)
+small_xor a b = small_or (below b a) _ _ (ordered b a) (λ _. ordered a b)
+  where
+    ordered : (a b : LitOf) → IsSmall (ordered_xor a b)
+    ordered a b = small_or (is_false a) _ _ tt (λ _. small_or (is_true a) _ _ tt (λ _. small_or (same a b) _ _ tt (λ _. small_or (opposite a b) _ _ tt (λ _. tt))))
+
+small_turned : (k : Asked) → IsSmall k → IsSmall (turned k)
+small_turned (Is l) h = tt
+small_turned (Make (And a b) s) h = tt
+small_turned (Make (Xor a b) s) h = tt
+small_turned (Make (Mux c a b) s) h = h
+small_turned (Make (Maj a b c) s) h = h
+
+small_nand : (a b : LitOf) → IsSmall (turned (fold_and a b))
+small_nand a b = small_turned (fold_and a b) (small_and a b)
+
+pub mux_small : (s a b : LitOf) → AreSimple a b → IsSmall (fold_mux s a b)
+mux_small s a b h =
+    small_or (is_true s) _ _ tt (λ _. small_or (is_false s) _ _ tt (λ _. small_or (same a b) _ _ tt (λ p. small_or (opposite a b) _ _ (small_xor s a) (λ o.
+    small_or (is_false a) _ _ (small_and s b) (λ f. small_or (same a s) _ _ (small_and s b) (λ _.
+    small_or (is_true a) _ _ (small_nand s (negate b)) (λ t. small_or (opposite a s) _ _ (small_nand s (negate b)) (λ _.
+    small_or (is_false b) _ _ (small_and (negate s) a) (λ g. small_or (opposite b s) _ _ (small_and (negate s) a) (λ _.
+    small_or (is_true b) _ _ (small_nand (negate s) (negate a)) (λ u. absurd (elim h [
+      | inl i ↦ no_constant a i f t
+      | inr (inl i) ↦ no_constant b i g u
+      | inr (inr i) ↦ unrelated a b i p o
+    ]))))))))))))
+
+pub maj_small : (a b c : LitOf) → (a.var ≡ 1) ⊎ (b.var ≡ 1) ⊎ (c.var ≡ 1) → IsSmall (fold_maj a b c)
+maj_small a b c h =
+    small_or (same a b) _ _ tt (λ _. small_or (same a c) _ _ tt (λ _. small_or (same b c) _ _ tt (λ _.
+    small_or (opposite a b) _ _ tt (λ _. small_or (opposite a c) _ _ tt (λ _. small_or (opposite b c) _ _ tt (λ _.
+    small_or (is_false a) _ _ (small_and b c) (λ f. small_or (is_true a) _ _ (small_nand (negate b) (negate c)) (λ t.
+    small_or (is_false b) _ _ (small_and a c) (λ g. small_or (is_true b) _ _ (small_nand (negate a) (negate c)) (λ u.
+    small_or (is_false c) _ _ (small_and a b) (λ i. small_or (is_true c) _ _ (small_nand (negate a) (negate b)) (λ v. absurd (elim h [
+      | inl e ↦ no_constant a e f t
+      | inr (inl e) ↦ no_constant b e g u
+      | inr (inr e) ↦ no_constant c e i v
+    ])))))))))))))

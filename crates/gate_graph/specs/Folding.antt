@@ -154,6 +154,14 @@ asked_bit (Make g s) x = xor s (bit g x)
 abbrev pub IsThere : Asked → Type 0
 IsThere k = (l : LitOf) × (k ≡ Is l)
 
+-- no gate of three operands is made
+abbrev pub IsSmall : Asked → Type 0
+IsSmall (Is l) = Unit {0}
+IsSmall (Make (And a b) s) = Unit {0}
+IsSmall (Make (Xor a b) s) = Unit {0}
+IsSmall (Make (Mux c a b) s) = ⊥
+IsSmall (Make (Maj a b c) s) = ⊥
+
 -- one of the operands is a constant, or they are of one variable
 abbrev pub AreSimple : LitOf → LitOf → Type 0
 AreSimple a b = (a.var ≡ 1) ⊎ (b.var ≡ 1) ⊎ (a.var ≡ b.var)
