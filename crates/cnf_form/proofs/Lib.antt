@@ -7,3 +7,6 @@ pub mod SameSets
 pub mod Words
 pub mod Reading
 pub mod Writing
+pub mod Numerals
+pub mod Scanning
+pub mod Bodies

@@ -8,10 +8,10 @@ use Rattle.cnf_form.specs.Cnf.{LitOf, FormulaOf}
 use Rattle.cnf_form.specs.Dimacs.{IsSpace, NextWord, IsNumber, IsLiteral, IsClause, ended, literal, IsBody, no_clause, clause, IsDimacs}
 use Rattle.cnf_form.proofs.Words.{NextWord-one, NextWord-nil, NextWord-after_space, NextWord-at_c, IsTarget, end_is_target, word_is_target, meet}
 
-number_one : (w v : List ℕ) (m n : ℕ) → IsNumber w m → IsNumber v n → w ≡ v → m ≡ n
+pub number_one : (w v : List ℕ) (m n : ℕ) → IsNumber w m → IsNumber v n → w ≡ v → m ≡ n
 number_one w v m n a b e = sym a.value ∙ ap (digits_value 10) e ∙ b.value
 
-minus_no_digits : (d e : List ℕ) (n : ℕ) → IsNumber d n → d ≡ 45 ∷ e → ⊥
+pub minus_no_digits : (d e : List ℕ) (n : ℕ) → IsNumber d n → d ≡ 45 ∷ e → ⊥
 minus_no_digits d e n a h =
     let k = subst (IsNumeral 10) h a.digits in
     let k1 = k.1 in

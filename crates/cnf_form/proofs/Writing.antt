@@ -35,7 +35,7 @@ signed_word : (negated : Bool) (n : ℕ) → n < 2 ^ 64 → IsWord (cond negated
 signed_word false n h = decimal_word n h
 signed_word true n h = let w = decimal_word n h in record { some = omega arith; visible = All-cons IsWordByte 45 (decimal n) (above_space 45 (lit< tt)) w.visible }
 
-decimal_is_IsNumber : (n : ℕ) → n < 2 ^ 64 → IsNumber (decimal n) n
+pub decimal_is_IsNumber : (n : ℕ) → n < 2 ^ 64 → IsNumber (decimal n) n
 decimal_is_IsNumber n h =
     let d = decimal_is_IsNumeral n h in
     record {

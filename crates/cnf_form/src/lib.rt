@@ -5,6 +5,8 @@ mod dimacs;
 mod formula;
 mod laws;
 mod literal;
+mod reader;
+mod scan;
 
 pub use dimacs::{dimacs_is_unambiguous, write_dimacs};
 pub use formula::{Clauses, Formula};
@@ -13,6 +15,7 @@ pub use laws::{
     proof_is_sound, proof_keeps_models,
 };
 pub use literal::{Lit, MAX_VARS, places_differ};
+pub use reader::{DimacsFault, DimacsFaultKind, read_dimacs};
 
 #[cfg(test)]
 mod tests {
@@ -61,6 +64,71 @@ mod tests {
         ] {
             let bytes = write_dimacs(alloc, formula)?;
             assert_eq!(rt; bytes.as_slice(), text);
+        }
+        Ok(())
+    }
+
+    use DimacsFaultKind::{Count, Header, Literal};
+
+    #[test]
+    fn reads_dimacs(rt: HostRuntime) -> Result<(), Fail> {
+        let alloc = rt.alloc();
+        for text in [
+            "p cnf 0 0\n",
+            "p cnf 1 1\n0\n",
+            "p cnf 134217728 2\n10 -134217728 0\n-1 0\n",
+            "p cnf 3 4\n1 1 -1 0\n0\n3 0\n-2 -3 0\n",
+        ] {
+            let Ok(formula) = read_dimacs(alloc, text.as_bytes())? else {
+                return Err(Fail::from("no formula"));
+            };
+            let bytes = write_dimacs(alloc, &formula)?;
+            assert_eq!(rt; bytes.as_slice(), text.as_bytes());
+        }
+        Ok(())
+    }
+
+    #[test]
+    fn reads_any_layout(rt: HostRuntime) -> Result<(), Fail> {
+        let alloc = rt.alloc();
+        let text = "c a\n \tc b\r\np\ncnf\t2\n2\nc c\n1\n-2\n0 2 0\nc d";
+        let Ok(formula) = read_dimacs(alloc, text.as_bytes())? else {
+            return Err(Fail::from("no formula"));
+        };
+        let bytes = write_dimacs(alloc, &formula)?;
+        assert_eq!(rt; bytes.as_slice(), b"p cnf 2 2\n1 -2 0\n2 0\n".as_slice());
+        Ok(())
+    }
+
+    #[test]
+    fn tells_faults(rt: HostRuntime) -> Result<(), Fail> {
+        for (text, byte, kind) in [
+            ("", 0, Header),
+            ("c a\n ", 5, Header),
+            ("x", 0, Header),
+            ("p\nc a\ncnf 1 1\n", 2, Header),
+            ("p cnf", 5, Header),
+            ("p cnf 134217729 1\n", 6, Header),
+            ("p cnf 01 1\n", 6, Header),
+            ("p cnf 1 -1\n", 8, Header),
+            ("p cnf 1 1\n2 0\n", 10, Literal),
+            ("p cnf 1 1 c\n1 0\n", 10, Literal),
+            ("p cnf 2 9\n1\nc a\n2 0\n", 12, Literal),
+            ("p cnf 2 1\n-0 0\n", 10, Literal),
+            ("p cnf 2 1\n1 0 c\n", 14, Literal),
+            ("p cnf 2 1\n1 2", 13, Count),
+            ("p cnf 2 1\n", 10, Count),
+            ("p cnf 2 1\n1 0 2 0\n", 18, Count),
+            ("p cnf 2 99999999999999999999\n1 0\n", 33, Count),
+        ] {
+            match read_dimacs(rt.alloc(), text.as_bytes())? {
+                Ok(_) => {
+                    return Err(Fail::from("a formula"));
+                }
+                Err(fault) => {
+                    assert_eq!(rt; fault, DimacsFault { byte, kind }, "{text}");
+                }
+            }
         }
         Ok(())
     }
