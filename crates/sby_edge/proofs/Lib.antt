@@ -1,1 +1,2 @@
 mod ContentsLemmas
+pub mod ScriptLemmas

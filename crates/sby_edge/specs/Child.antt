@@ -1,9 +1,11 @@
 -- What the parts of a child tell.
-use Rattle.std.specs.Prelude.{◌≡◌, ℕ, zero, suc, ◌+◌, List, [], ◌∷◌, ◌++◌, length, take, drop, Option, None, Some, option_map, Result, Ok, Err, IfSome, ◌⊎◌}
+use Rattle.std.specs.Prelude.{◌≡◌, ℕ, zero, suc, ◌+◌, List, [], ◌∷◌, ◌++◌, length, take, drop, Option, None, Some, option_map, Result, Ok, Err, IfSome, IsSomeAnd, ◌⊎◌}
 use Rattle.sby_edge.specs.declared.outside.Fail.{Fail}
 use Rattle.sby_edge.specs.declared.outside.Fail.TheVariants.{Failed as FailFailed, Memory as FailMemory}
 use Rattle.sby_edge.specs.declared.script.Exit.{Exit}
 use Rattle.sby_edge.specs.Script.{ScriptOf}
+use Rattle.sby_edge.specs.Files.{GotOf}
+use Rattle.sby_edge.specs.declared.outside.Got.{Got}
 use Rattle.sby_terms.specs.declared.names.JobName.{JobName}
 
 -- a yard tells the script of each task, lane and job
@@ -51,7 +53,7 @@ pub record Gives (bytes piece : List ℕ) (before now : PipeOf) : Type 0 where
 
 -- a read of a pipe that tells
 abbrev pub GivesSome : PipeOf → List ℕ → PipeOf → Type 0
-GivesSome before piece now = Gives before.bytes piece before now ⊎ IfSome before.instead (λ bytes. Gives bytes piece before now)
+GivesSome before piece now = Gives before.bytes piece before now ⊎ IsSomeAnd before.instead (λ bytes. Gives bytes piece before now)
 
 -- what a read tells; `buffer` is the buffer after it
 abbrev pub Reads : {E : Type 0} → Option PipeOf → Option PipeOf → List ℕ → Result ℕ E → Type 0
@@ -66,11 +68,20 @@ started (Ok _) job words bay = record bay { starts = bay.starts ++ record { job 
 started (Err FailFailed) job words bay = record bay { starts = bay.starts ++ record { job = job; words = words; given = None } ∷ [] }
 started (Err FailMemory) job words bay = bay
 
+-- a start whose pipe gave so many bytes
+abbrev pub gave : ℕ → StartOf → StartOf
+gave given start = record start { given = Some given }
+
 -- the starts, with so many bytes given at the one at this place
 abbrev pub with_given : ℕ → ℕ → List StartOf → List StartOf
 with_given place given [] = []
-with_given zero given (start ∷ starts) = record start { given = Some given } ∷ starts
+with_given zero given (start ∷ starts) = gave given start ∷ starts
 with_given (suc place) given (start ∷ starts) = start ∷ with_given place given starts
+
+-- what is got of the proof file of a job's child, where the bay tells
+abbrev pub ProofFrom : Option BayOf → JobName → ℕ → Got → Type 0
+ProofFrom None job most got = Unit {0}
+ProofFrom (Some bay) job most got = GotOf (bay.scripts job).proof most got
 
 -- the bay after the child of this pipe is finished
 abbrev pub finished : Option PipeOf → BayOf → BayOf

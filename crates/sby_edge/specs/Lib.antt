@@ -6,3 +6,4 @@ pub mod Child
 pub mod Calls
 pub mod Memory
 pub mod NoChild
+pub mod Scripts

@@ -2,10 +2,11 @@
 
 ghost use Rattle.std.specs.Prelude.{◌≡◌, ℕ, ◌<◌, ◌≤◌, [], Option, Some, Bool, true, false, IfOk, OnOk, OnErr, length, map, option_map, string_bytes};
 ghost use Rattle.sby_edge.specs.Cause.{HasCause, HasPlainCause, RisesBy};
-ghost use Rattle.sby_edge.specs.Child.{BayOf, PipeOf, YardOf, Learns, Reads, finished, pipe_of, started};
+ghost use Rattle.sby_edge.specs.Child.{BayOf, PipeOf, YardOf, Learns, ProofFrom, Reads, finished, pipe_of, started};
+ghost use Rattle.sby_edge.specs.Files.{GotFits};
 ghost use Rattle.sby_edge.specs.declared.script.Exit.{Exit};
 
-use crate::{Exit, Fail, Failed, Memory};
+use crate::{Exit, Fail, Failed, Got, Memory};
 use sby_terms::JobName;
 use std::alloc::Global;
 
@@ -75,18 +76,20 @@ pub trait Launch {
     /// How often a start failed. This count and the next two stay at the greatest u64.
     ghost start_faults: { Self → ℕ };
 
-    /// How many finished children had a pipe with a fault.
+    /// How many finished children had a pipe with a fault, and how many proof files weren't got.
     ghost read_faults: { Self → ℕ };
 
     /// How many finished children had a hold with a fault.
     ghost hold_faults: { Self → ℕ };
 
-    /// Starts the job's child with these words.
+    /// Starts the job's child with these words. `bytes` is the job's file; a child takes no notice of it, since its path stands among
+    /// the words.
     fn start(
         &mut self,
         alloc: Global,
         job: JobName,
         words: &[String],
+        bytes: &[u8],
     ) -> Result<(Self::Pipe, Self::Hold), Fail>
         ensures told { told self.new ≡ option_map (started result job (map string_bytes words.now)) (told self.old) }
         ensures pipe { IfOk result (λ child. Self.Pipe.told child.0
@@ -96,6 +99,16 @@ pub trait Launch {
             × (Self.Pipe.faults child.0 ≡ 0) × (Self.Hold.faults child.1 ≡ 0)) }
         ensures starts { HasCause (start_faults self.old) (start_faults self.new) result }
         ensures reads { read_faults self.new ≡ read_faults self.old }
+        ensures holds { hold_faults self.new ≡ hold_faults self.old };
+
+    /// The proof file that the job's child left at this path: all of it, or its first `most + 1` bytes exactly where it is longer than
+    /// `most`.
+    fn proof(&mut self, alloc: Global, job: JobName, path: &str, most: u64) -> Result<Got, Fail>
+        ensures content { IfOk result (λ got. ProofFrom (told self.old) job most got) }
+        ensures fits { IfOk result (λ got. GotFits most got) }
+        ensures told { told self.new ≡ told self.old }
+        ensures starts { start_faults self.new ≡ start_faults self.old }
+        ensures reads { HasCause (read_faults self.old) (read_faults self.new) result }
         ensures holds { hold_faults self.new ≡ hold_faults self.old };
 
     /// The end of a child that was reaped.

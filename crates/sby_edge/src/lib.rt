@@ -4,16 +4,28 @@
 mod calls;
 mod child;
 mod contents;
+mod list_clock;
 mod memory;
 mod none;
 mod outside;
 mod script;
+mod script_child;
+mod script_yard;
+mod scripted;
+mod stage;
 
 pub use child::{Clock, Hold, Launch, Pipe, Yard};
+pub use list_clock::ListClock;
 pub use memory::{MemFiles, MemSink};
 pub use none::{NoBay, NoHold, NoPipe, NoYard, StillClock};
 pub use outside::{Fail, Failed, Files, Got, Memory, Sink};
 pub use script::{Call, CallFault, Exit, Gate, Script};
+pub use script_child::{ScriptHold, ScriptPipe};
+pub use script_yard::{ScriptBay, ScriptYard, Started};
+pub use scripted::Scripted;
+pub use stage::Stage;
 
+#[cfg(test)]
+mod script_tests;
 #[cfg(test)]
 mod tests;

@@ -74,8 +74,8 @@ impl MemFiles {
     }
 }
 
-// What `get` answers of a content.
-fn cut(alloc: Global, bytes: &[u8], most: u64) -> Result<Got, AllocError>
+// What is got of a content.
+pub(crate) fn cut(alloc: Global, bytes: &[u8], most: u64) -> Result<Got, AllocError>
     ensures got { IfOk result (λ got. GotOf bytes.now most got) }
     ensures fits { IfOk result (λ got. GotFits most got) }
 {

@@ -3,7 +3,7 @@
 ghost use Rattle.std.specs.Prelude.{◌≡◌, ℕ, ◌<◌, None, true, IsErr};
 ghost use Rattle.sby_edge.specs.Cause.{HasCause, HasPlainCause, RisesBy, counted};
 
-use crate::{Clock, Exit, Fail, Failed, Hold, Launch, Memory, Pipe, Yard};
+use crate::{Clock, Exit, Fail, Failed, Got, Hold, Launch, Memory, Pipe, Yard};
 use sby_terms::JobName;
 use std::alloc::Global;
 use std::marker::Model;
@@ -122,12 +122,22 @@ impl Launch for NoBay {
         _alloc: Global,
         _job: JobName,
         _words: &[String],
+        _bytes: &[u8],
     ) -> Result<(NoPipe, NoHold), Fail>
         ensures fails { result ≡ Err Fail.Failed }
         ensures counts { self.new ≡ record self.old { starts = counted self.old.starts } }
         ensures starts { HasCause self.old.starts self.new.starts result }
     {
         self.starts = self.starts.saturating_add(1);
+        Err(Fail::Failed)
+    }
+
+    fn proof(&mut self, _alloc: Global, _job: JobName, _path: &str, _most: u64) -> Result<Got, Fail>
+        ensures fails { result ≡ Err Fail.Failed }
+        ensures counts { self.new ≡ record self.old { reads = counted self.old.reads } }
+        ensures reads { HasCause self.old.reads self.new.reads result }
+    {
+        self.reads = self.reads.saturating_add(1);
         Err(Fail::Failed)
     }
 
@@ -144,7 +154,7 @@ impl Launch for NoBay {
 }
 
 // The count after a part with so many faults is spent.
-fn risen(count: u64, part: u64) -> u64
+pub(crate) fn risen(count: u64, part: u64) -> u64
     ensures { RisesBy part count result }
 {
     if part > 0 {

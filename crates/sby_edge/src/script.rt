@@ -26,10 +26,11 @@ pub struct CallFault {
     pub nth: u32,
 }
 
-/// A second child, that of `lane` for the same job. The first read waits until both children have been live at one moment, for at
+/// A second child, that of `lane` of `task` (the own task where none is named) for the same job. The first read waits until both children have been live at one moment, for at
 /// most `turns` turns; if that moment doesn't come, the stream is `instead`.
 #[derive(Drop, Debug)]
 pub struct Gate {
+    pub task: Option<u32>,
     pub lane: u32,
     pub turns: u64,
     pub instead: Vec<u8>,
@@ -40,11 +41,11 @@ impl Model for Gate {
 
     ghost Value = { GateOf };
 
-    ghost view = { λ g. record { lane = g.lane; turns = g.turns; instead = g.instead.items } };
+    ghost view = { λ g. record { task = g.task; lane = g.lane; turns = g.turns; instead = g.instead.items } };
 }
 
-/// What a child does: its stream, after how many bytes of it the child stalls until it is killed, its gate, its exit, and the
-/// calls that fail.
+/// What a child does: its stream, after how many bytes of it the child stalls until it is killed, its gate, its exit, the calls that
+/// fail, the byte at which a read that begins before it ends, and the proof file that it leaves.
 #[derive(Drop, Debug)]
 pub struct Script {
     pub bytes: Vec<u8>,
@@ -52,6 +53,8 @@ pub struct Script {
     pub gate: Option<Gate>,
     pub exit: Exit,
     pub faults: Vec<CallFault>,
+    pub cut: Option<u64>,
+    pub proof: Vec<u8>,
 }
 
 impl Model for Script {
@@ -65,5 +68,7 @@ impl Model for Script {
       gate = s.gate;
       exit = s.exit;
       faults = s.faults.items;
+      cut = s.cut;
+      proof = s.proof.items;
     } };
 }

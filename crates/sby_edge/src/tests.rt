@@ -92,7 +92,7 @@ fn one_child<Y: Yard>(yard: &mut Y, alloc: Global, words: &[String]) -> Result<E
 }
 
 fn in_bay<L: Launch>(bay: &mut L, alloc: Global, words: &[String]) -> Result<Exit, Fail> {
-    let (pipe, mut hold) = bay.start(alloc, JobName::Base(0), words)?;
+    let (pipe, mut hold) = bay.start(alloc, JobName::Base(0), words, b"")?;
     let killed = hold.kill();
     let reaped = hold.reap();
     bay.finish(pipe, hold);

@@ -1,0 +1,199 @@
+// Children of scripts at work, each through the bound of its trait.
+
+ghost use Rattle.std.specs.Prelude.{◌≡◌, ◌<◌, true, length};
+
+use super::*;
+use sby_terms::JobName;
+use std::alloc::{AllocError, Global};
+use std::test::Fail as TestFail;
+
+fn script_of(alloc: Global, bytes: &[u8]) -> Result<Script, AllocError> {
+    Ok(Script {
+        bytes: Vec::from_slice(alloc, bytes)?,
+        stalls: None,
+        gate: None,
+        exit: Exit::Code(20),
+        faults: Vec::new(alloc),
+        cut: None,
+        proof: Vec::from_slice(alloc, b"1 0")?,
+    })
+}
+
+// What two reads gave, and the exit; a failed call ends the child.
+fn play<L: Launch>(bay: &mut L, alloc: Global) -> Result<(usize, usize, Exit), Fail> {
+    let words = Vec::<String>::new(alloc);
+    let (mut pipe, mut hold) = bay.start(alloc, JobName::Base(0), &words, b"")?;
+    let mut buffer = [0u8; 8];
+    let _polled = hold.poll();
+    let killed = hold.kill();
+    let one = pipe.read(&mut buffer);
+    let two = pipe.read(&mut buffer);
+    let exit = hold.reap();
+    bay.finish(pipe, hold);
+    match (killed, one, two, exit) {
+        (Ok(()), Ok(one), Ok(two), Ok(exit)) => Ok((one, two, exit)),
+        _ => Err(Fail::Failed),
+    }
+}
+
+fn played<Y: Yard>(yard: &mut Y, alloc: Global, lane: u32) -> Result<(usize, usize, Exit), Fail> {
+    let mut bay = yard.bay(alloc, 0, lane)?;
+    let answer = play(&mut bay, alloc);
+    yard.back(bay);
+    answer
+}
+
+#[test]
+fn children_play_their_scripts(rt: HostRuntime) -> Result<(), TestFail> {
+    let alloc = rt.alloc();
+    let stage = Stage::new(alloc);
+    let other = script_of(alloc, b"c ab\n0\n")?;
+    let mut cut = script_of(alloc, b"c ab\n0\n")?;
+    cut.cut = Some(5);
+    let mut stalled = script_of(alloc, b"c ab\n0\n")?;
+    stalled.stalls = Some(4);
+    stalled.exit = Exit::Signal;
+    let mut scripts = Vec::new(alloc);
+    for (lane, script) in [(1, cut), (2, stalled)] {
+        scripts.push(Scripted {
+            task: 0,
+            lane,
+            job: JobName::Base(0),
+            script,
+        })?;
+    }
+    let mut yard = ScriptYard::new(&rt, &stage, &scripts, &other);
+    assert_eq!(rt; played(&mut yard, alloc, 0), Ok((7, 0, Exit::Code(20))));
+    assert_eq!(rt; played(&mut yard, alloc, 1), Ok((5, 2, Exit::Code(20))));
+    assert_eq!(rt; played(&mut yard, alloc, 2), Ok((4, 0, Exit::Signal)));
+    Ok(())
+}
+
+#[test]
+fn listed_calls_fail(rt: HostRuntime) -> Result<(), TestFail> {
+    let alloc = rt.alloc();
+    for call in [Call::Start, Call::Read, Call::Kill, Call::Reap] {
+        let stage = Stage::new(alloc);
+        let mut other = script_of(alloc, b"0\n")?;
+        other.faults.push(CallFault { call, nth: 1 })?;
+        let scripts = Vec::<Scripted>::new(alloc);
+        let mut yard = ScriptYard::new(&rt, &stage, &scripts, &other);
+        assert_eq!(rt; played(&mut yard, alloc, 0), Err(Fail::Failed), "{call:?}");
+    }
+    Ok(())
+}
+
+// The first bytes of two children: both started before either is read, or one after the other.
+fn first_bytes<L: Launch>(
+    alloc: Global,
+    one: &mut L,
+    two: &mut L,
+    beside: bool,
+) -> Result<[usize; 2], Fail> {
+    let words = Vec::<String>::new(alloc);
+    let (mut pipe, mut hold) = one.start(alloc, JobName::Step, &words, b"")?;
+    let mut buffer = [0u8; 8];
+    let mut counts = [0, 0];
+    if !beside {
+        counts[0] = pipe.read(&mut buffer).unwrap_or(0);
+        let _reaped = hold.reap();
+    }
+    let started = two.start(alloc, JobName::Step, &words, b"");
+    if beside {
+        counts[0] = pipe.read(&mut buffer).unwrap_or(0);
+    }
+    let _reaped = hold.reap();
+    one.finish(pipe, hold);
+    let (mut pipe, mut hold) = started?;
+    counts[1] = pipe.read(&mut buffer).unwrap_or(0);
+    let _reaped = hold.reap();
+    two.finish(pipe, hold);
+    Ok(counts)
+}
+
+fn in_two_bays<Y: Yard>(yard: &mut Y, alloc: Global, beside: bool) -> Result<[usize; 2], Fail> {
+    let mut one = yard.bay(alloc, 3, 0)?;
+    let counts = match yard.bay(alloc, 3, 1) {
+        Ok(mut two) => {
+            let counts = first_bytes(alloc, &mut one, &mut two, beside);
+            yard.back(two);
+            counts
+        }
+        Err(Memory) => Err(Fail::Memory),
+    };
+    yard.back(one);
+    counts
+}
+
+#[test]
+fn gates_see_who_is_live(rt: HostRuntime) -> Result<(), TestFail> {
+    let alloc = rt.alloc();
+    for (beside, wanted) in [(true, [3, 3]), (false, [5, 5])] {
+        let stage = Stage::new(alloc);
+        let other = script_of(alloc, b"0\n")?;
+        let mut scripts = Vec::new(alloc);
+        for lane in 0..2u32 {
+            let mut script = script_of(alloc, b"abc")?;
+            script.gate = Some(Gate {
+                task: None,
+                lane: 1 - lane,
+                turns: 1,
+                instead: Vec::from_slice(alloc, b"abcde")?,
+            });
+            scripts.push(Scripted {
+                task: 3,
+                lane,
+                job: JobName::Step,
+                script,
+            })?;
+        }
+        let mut yard = ScriptYard::new(&rt, &stage, &scripts, &other);
+        let counts = in_two_bays(&mut yard, alloc, beside);
+        assert_eq!(rt; counts, Ok(wanted), "{beside}");
+    }
+    Ok(())
+}
+
+// All of a proof file, or not; and how many bytes were got.
+fn proof_of<L: Launch>(bay: &mut L, alloc: Global, most: u64) -> Result<(bool, usize), Fail> {
+    match bay.proof(alloc, JobName::Step, "step.proof", most)? {
+        Got::All(bytes) => Ok((true, bytes.len())),
+        Got::Long(bytes) => Ok((false, bytes.len())),
+    }
+}
+
+#[test]
+fn bays_keep_starts_and_get_proofs(rt: HostRuntime) -> Result<(), TestFail> {
+    let alloc = rt.alloc();
+    let stage = Stage::new(alloc);
+    let other = script_of(alloc, b"0\n")?;
+    let scripts = Vec::<Scripted>::new(alloc);
+    let mut yard = ScriptYard::new(&rt, &stage, &scripts, &other);
+    if let Ok(mut bay) = yard.bay(alloc, 0, 0) {
+        let played = play(&mut bay, alloc);
+        let given = bay.started().first().map(|start| start.given);
+        let proofs = [proof_of(&mut bay, alloc, 3), proof_of(&mut bay, alloc, 1)];
+        yard.back(bay);
+        assert_eq!(rt; played, Ok((2, 0, Exit::Code(20))));
+        assert_eq!(rt; given, Some(Some(2)));
+        assert_eq!(rt; proofs, [Ok((true, 3)), Ok((false, 2))]);
+        return Ok(());
+    }
+    panic!(rt; "no bay")
+}
+
+fn reading<C: Clock>(clock: &C) -> u64 {
+    clock.pause();
+    clock.now()
+}
+
+#[test]
+fn list_clocks_end_with_their_last(rt: HostRuntime) -> Result<(), TestFail> {
+    let mut readings = vec![in rt.alloc(); 0]?;
+    readings.push(400)?;
+    let clock = ListClock::new(readings);
+    for wanted in [0, 400, 400] {
+        assert_eq!(rt; reading(&clock), wanted);
+    }
+    Ok(())
+}
