@@ -7,9 +7,7 @@ ghost use Rattle.sby_program.specs.Program.{IsExit, IsProgramExit};
 ghost use Rattle.sby_top.specs.Run.{Did};
 ghost use Rattle.sby_top.specs.declared.outcome.Done.{Done};
 
-mod real;
-
-use crate::real::{OutputSink, RealFiles};
+use child_edge::{RealFiles, StdSink};
 use sby_edge::{Clock, Files, NoYard, Sink, StillClock, Yard};
 use sby_top::run_sby;
 use std::alloc::{AllocError, Global};
@@ -62,7 +60,7 @@ fn run_real(rt: &HostRuntime, alloc: Global, words: &[String]) -> u8
     ensures { IsExit (map string_bytes words.now) result }
 {
     let mut files = RealFiles::new(rt);
-    let mut out = OutputSink::new(io::writer(rt));
+    let mut out = StdSink::new(io::writer(rt));
     let mut yard = NoYard::new();
     let clock = StillClock(0);
     run_program(rt, alloc, words, &mut files, &mut out, &mut yard, &clock)

@@ -1,0 +1,148 @@
+// The real outside: what stands in files, an output that nobody reads, and children.
+
+use super::*;
+use sby_edge::{Clock, Exit, Fail, Failed, Files, Got, Hold, Launch, Pipe, Sink, Yard};
+use sby_terms::JobName;
+use std::alloc::{AllocError, Global};
+use std::io;
+use std::test::Fail as Failure;
+
+#[test]
+fn files_are_put_and_got(rt: HostRuntime) -> Result<(), Failure> {
+    let alloc = rt.alloc();
+    let mut files = RealFiles::new(&rt);
+    let path = "one/two/model.cnf";
+    for content in [b"p cnf 1 1\n0\n".as_slice(), b"p cnf\n"] {
+        assert!(rt; files.put(alloc, path, content).is_ok());
+        let got = files.get(alloc, path, 100);
+        match &got {
+            Ok(Got::All(bytes)) => assert_eq!(rt; bytes.as_slice(), content),
+            _ => assert!(rt; false),
+        }
+    }
+    let got = files.get(alloc, path, 3);
+    match &got {
+        Ok(Got::Long(bytes)) => assert_eq!(rt; bytes.as_slice(), b"p cn".as_slice()),
+        _ => assert!(rt; false),
+    }
+    assert_eq!(rt; files.faults, 0);
+    assert!(rt; matches!(files.get(alloc, "three", 100), Err(Fail::Failed)));
+    assert_eq!(rt; files.faults, 1);
+    assert!(rt; matches!(files.put(alloc, "one/two", b"x"), Err(Fail::Failed)));
+    assert_eq!(rt; files.faults, 2);
+    match &files.blamed {
+        Some(path) => assert_eq!(rt; path.as_str(), "one/two"),
+        None => assert!(rt; false),
+    }
+    Ok(())
+}
+
+#[test]
+fn a_closed_output_fails(rt: HostRuntime) -> Result<(), Failure> {
+    let Ok((reader, writer)) = io::pipe(&rt) else {
+        assert!(rt; false);
+        return Ok(());
+    };
+    let mut out = StdSink::new(writer);
+    assert_eq!(rt; out.write(b"line\n"), Ok(5));
+    assert_eq!(rt; out.faults, 0);
+    drop(reader);
+    assert_eq!(rt; out.write(b"line\n"), Err(Failed));
+    assert_eq!(rt; out.faults, 1);
+    Ok(())
+}
+
+// The words of a shell command.
+fn shell(alloc: Global, line: &str) -> Result<Vec<String>, AllocError> {
+    let mut words = Vec::new(alloc);
+    for word in ["sh", "-c", line] {
+        words.push(String::from_str(alloc, word)?)?;
+    }
+    Ok(words)
+}
+
+// All that a child writes up to its end, how it ended, and whether it lived when its output ended. It is killed where that is asked
+// for, once its output has ended or so many bytes were read.
+fn watched<L: Launch>(
+    bay: &mut L,
+    alloc: Global,
+    words: &[String],
+    most: usize,
+    kills: bool,
+) -> Result<(usize, bool, Exit), Fail> {
+    let (mut pipe, mut hold) = bay.start(alloc, JobName::Step, words, b"")?;
+    let mut buffer = [0u8; 64];
+    let mut taken = 0usize;
+    for _ in 0..1000 {
+        match pipe.read(&mut buffer) {
+            Ok(0) | Err(_) => break,
+            Ok(count) => taken = taken.saturating_add(count),
+        }
+        if taken >= most {
+            break;
+        }
+    }
+    let lives = matches!(hold.poll(), Ok(None));
+    if kills {
+        let _killed = hold.kill();
+    }
+    let exit = hold.reap();
+    bay.finish(pipe, hold);
+    match exit {
+        Ok(exit) => Ok((taken, lives, exit)),
+        Err(_) => Err(Fail::Failed),
+    }
+}
+
+fn in_yard<Y: Yard>(
+    yard: &mut Y,
+    alloc: Global,
+    words: &[String],
+    most: usize,
+    kills: bool,
+) -> Result<(usize, bool, Exit), Fail> {
+    let mut bay = yard.bay(alloc, 0, 0)?;
+    let answer = watched(&mut bay, alloc, words, most, kills);
+    yard.back(bay);
+    answer
+}
+
+#[test]
+fn children_are_read_killed_and_reaped(rt: HostRuntime) -> Result<(), Failure> {
+    let alloc = rt.alloc();
+    let mut yard = RealYard::new(&rt);
+    let ended = shell(alloc, "echo 0; echo lost >&2; exit 20")?;
+    let answer = in_yard(&mut yard, alloc, &ended, 100, false).map(|seen| (seen.0, seen.2));
+    assert_eq!(rt; answer, Ok((2, Exit::Code(20))));
+    // It writes on and on, and is killed.
+    let endless = shell(alloc, "while :; do echo c; done")?;
+    let answer = in_yard(&mut yard, alloc, &endless, 10, true);
+    assert!(rt; matches!(answer, Ok((10.., true, Exit::Signal))));
+    // It closes its output and goes on.
+    let silent = shell(alloc, "exec >&-; exec sleep 1000")?;
+    let answer = in_yard(&mut yard, alloc, &silent, 100, true);
+    assert_eq!(rt; answer, Ok((0, true, Exit::Signal)));
+    // It reads no input.
+    let reading = shell(alloc, "cat; exit 3")?;
+    let answer = in_yard(&mut yard, alloc, &reading, 100, false).map(|seen| (seen.0, seen.2));
+    assert_eq!(rt; answer, Ok((0, Exit::Code(3))));
+    assert_eq!(rt; yard.start_faults, 0);
+    let none = Vec::<String>::new(alloc);
+    assert_eq!(rt;
+        in_yard(&mut yard, alloc, &none, 1, true),
+        Err(Fail::Failed)
+    );
+    assert_eq!(rt; yard.start_faults, 1);
+    Ok(())
+}
+
+fn passes<C: Clock>(clock: &C) -> bool {
+    let before = clock.now();
+    clock.pause();
+    before < clock.now()
+}
+
+#[test]
+fn clocks_go_on(rt: HostRuntime) {
+    assert!(rt; passes(&RealClock::new(&rt)));
+}
