@@ -1,7 +1,7 @@
 -- The first tokens of a text.
 use Rattle.std.proofs.Common.{◌≡◌, ◌⊎◌, ℕ, ◌+◌, List, [], ◌∷◌, ◌++◌, length, refl, sym, ap, ◌∙◌, subst, inl, inr, arith}
 use Rattle.std.proofs.lemmas.List.{length-append, length-drop}
-use Rattle.rtlil_lex.specs.Tokens.{Gap, IsToken, TokenOf, Lexes, LexerOf, left, Left, IsNext, Front, IsStart}
+use Rattle.rtlil_lex.specs.Tokens.{Gap, IsToken, TokenOf, Lexes, LexerOf, left, IsNext, Front, IsStart}
 use Rattle.rtlil_lex.specs.Tokens.Lexes.{last_gap, token as lexes_token}
 use Rattle.rtlil_lex.specs.Tokens.Front.{none_yet, token}
 use Rattle.rtlil_lex.proofs.Runs.{token_again}

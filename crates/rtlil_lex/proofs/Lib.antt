@@ -2,3 +2,4 @@ pub mod Runs
 pub mod Lexing
 pub mod Stepping
 pub mod Fronts
+pub mod Feeds

@@ -1,11 +1,10 @@
 -- What each step of the lexer leaves of the bytes.
 use Rattle.std.specs.Prelude.{ℕ, Bool, true, false, cond, IsFalse, List, [], ◌∷◌, Option, Some, None}
-use Rattle.rtlil_lex.specs.Tokens.{is_space, is_feed, is_break, begins_name, is_quote, is_backslash, ends_at}
+use Rattle.rtlil_lex.specs.Tokens.{is_space, is_break, begins_name, is_quote, is_backslash, ends_at}
 use Rattle.rtlil_lex.specs.declared.scan.UpTo.{UpTo}
-use Rattle.rtlil_lex.specs.declared.scan.UpTo.TheVariants.{Feed, Space, Break}
+use Rattle.rtlil_lex.specs.declared.scan.UpTo.TheVariants.{Space, Break}
 
 abbrev pub run_ends : UpTo → ℕ → Bool
-run_ends Feed = is_feed
 run_ends Space = is_space
 run_ends Break = is_break
 

@@ -1,13 +1,14 @@
 // Steps over the bytes: each answers what is left of them.
 
 ghost use Rattle.std.specs.Prelude.{◌≡◌, option_map};
-ghost use Rattle.rtlil_lex.specs.Tokens.{is_space, is_break, ends_at, Gap};
+ghost use Rattle.rtlil_lex.specs.Tokens.{is_space, is_feed, is_break, ends_at, Gap};
 ghost use Rattle.rtlil_lex.specs.Steps.{run_ends, after_run_of, after_quote_of, after_token_of, Stops};
+
+use memchr::memchr;
 
 /// What a run of bytes goes up to.
 #[derive(Clone, Copy)]
 pub enum UpTo {
-    Feed,
     Space,
     Break,
 }
@@ -22,7 +23,6 @@ fn ends_run(up_to: UpTo, b: u8) -> bool
     ensures { result ≡ run_ends up_to b }
 {
     match up_to {
-        UpTo::Feed => b == b'\n',
         UpTo::Space => is_space_byte(b),
         UpTo::Break => is_space_byte(b) || b == b'#',
     }
@@ -42,6 +42,16 @@ pub fn after_run(bytes: &[u8], up_to: UpTo) -> &[u8]
     rest
 }
 
+/// From the line feed on that ends a comment.
+fn after_comment(bytes: &[u8]) -> &[u8]
+    ensures { result.now ≡ after_run_of is_feed bytes.now }
+{
+    match memchr(b'\n', bytes) {
+        Some(place) => &bytes[place..],
+        None => &[],
+    }
+}
+
 /// Behind white space and comments.
 pub fn after_gap(bytes: &[u8]) -> &[u8]
     ensures gap { Gap result.now bytes.now }
@@ -52,7 +62,7 @@ pub fn after_gap(bytes: &[u8]) -> &[u8]
         if is_space_byte(*b) {
             rest = after;
         } else if *b == b'#' {
-            rest = after_run(after, UpTo::Feed);
+            rest = after_comment(after);
         } else {
             break;
         }

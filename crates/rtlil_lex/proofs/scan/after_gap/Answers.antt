@@ -10,11 +10,11 @@ gap-preserved-then-is_space_byte c = λ behind g. c.gap.invariant behind (gap_sp
 
 pub gap-smaller : goal.gap-smaller
 gap-smaller c =
-    let same = rw take_rest at c.after_run-rest.ensures in
+    let same = rw take_rest at c.after_comment-rest.ensures in
     omega (arith, ap length same, after_run_shorter is_feed (drop 1 c.gap.rest.now), length-drop 1 c.gap.rest.now, c.in-len1-up.len_at_least)
 
 pub gap-preserved : goal.gap-preserved
-gap-preserved c = λ behind g. c.gap.invariant behind (gap_comment behind c.gap.rest.now c.in-len1-up.len_at_least c.if-b-eq35.true (subst (λ x. Gap behind x) (rw take_rest at c.after_run-rest.ensures) g))
+gap-preserved c = λ behind g. c.gap.invariant behind (gap_comment behind c.gap.rest.now c.in-len1-up.len_at_least c.if-b-eq35.true (subst (λ x. Gap behind x) (rw take_rest at c.after_comment-rest.ensures) g))
 
 pub returns-in_default-clause-gap : goal.returns-in_default-clause-gap
 returns-in_default-clause-gap c = c.gap.invariant c.gap.rest.now no_more
