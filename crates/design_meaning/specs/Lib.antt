@@ -3,3 +3,4 @@ pub mod Rests
 pub mod States
 pub mod Claims
 pub mod Runs
+pub mod Worked
