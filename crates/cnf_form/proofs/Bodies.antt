@@ -167,10 +167,10 @@ gap_spaces k f (blank fresh b bytes rest h g) = more_space b bytes rest (inr h) 
 gap_spaces k f (feed fresh b bytes rest h g) = more_space b bytes rest (inl h) (gap_spaces k k g)
 gap_spaces k f (comment bytes text after rest e clean ends g) = cc
 
-next_after : {bytes front word rest : List ℕ} → Spaces bytes front → BeginsWith front word rest → NextWord bytes word rest
+pub next_after : {bytes front word rest : List ℕ} → Spaces bytes front → BeginsWith front word rest → NextWord bytes word rest
 next_after {front = front} {word = word} {rest = rest} s b = record { gap = s.0; split = s.1 ∙ ap (λ z. s.0 ++ z) b.split; blank = s.2; some = b.some; visible = b.plain; ends = b.ends }
 
-no_space : (front : List ℕ) → Spaces front front
+pub no_space : (front : List ℕ) → Spaces front front
 no_space front = ([], refl, All-nil IsSpace)
 
 finds_next : {bytes word rest : List ℕ} → Finds false bytes word rest → NextWord bytes word rest

@@ -10,3 +10,4 @@ pub mod Writing
 pub mod Numerals
 pub mod Scanning
 pub mod Bodies
+pub mod Determined

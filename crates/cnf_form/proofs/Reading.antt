@@ -23,12 +23,12 @@ literal_cases w v d e false false m n a b f g h = (number_one d e m n a b (cc), 
 literal_cases w v d e true false m n a b f g h = absurd (minus_no_digits e d n b (cc))
 literal_cases w v d e false true m n a b f g h = absurd (minus_no_digits d e m a (cc))
 
-literal_one : (w v : List ℕ) (l m : LitOf) → IsLiteral w l → IsLiteral v m → w ≡ v → l ≡ m
+pub literal_one : (w v : List ℕ) (l m : LitOf) → IsLiteral w l → IsLiteral v m → w ≡ v → l ≡ m
 literal_one w v l m a b e =
     let p = literal_cases w v a.0 b.0 l.negated m.negated l.var m.var a.1 b.1 e a.3 b.3 in
     ap (λ (x : ℕ). let k : LitOf = record { var = x; negated = l.negated } in k) p.0 ∙ ap (λ (x : Bool). let k : LitOf = record { var = m.var; negated = x } in k) p.1
 
-zero_no_literal : (d : List ℕ) (s : Bool) (n : ℕ) → IsNumber d n → 0 < n → 48 ∷ [] ≡ cond s (45 ∷ d) d → ⊥
+pub zero_no_literal : (d : List ℕ) (s : Bool) (n : ℕ) → IsNumber d n → 0 < n → 48 ∷ [] ≡ cond s (45 ∷ d) d → ⊥
 zero_no_literal d true n a p e = omega (arith, ap (λ (xs : List ℕ). get_or xs 0 0) e)
 zero_no_literal d false n a p e =
     let v : digits_value 10 (48 ∷ []) ≡ n = ap (digits_value 10) e ∙ a.value in
@@ -42,7 +42,7 @@ first_digit [] h = λ e. omega arith
 first_digit (c ∷ cs) h = digit_no_c c h.0
 
 -- a literal does not begin with c
-literal_no_c : (d w : List ℕ) (s : Bool) → AllDigits 10 d → w ≡ cond s (45 ∷ d) d → get_or w 0 0 ≢ 99
+pub literal_no_c : (d w : List ℕ) (s : Bool) → AllDigits 10 d → w ≡ cond s (45 ∷ d) d → get_or w 0 0 ≢ 99
 literal_no_c d w true h e = λ f. omega (arith, ap (λ (xs : List ℕ). get_or xs 0 0) e)
 literal_no_c d w false h e = subst (λ xs. get_or xs 0 0 ≢ 99) (sym e) (first_digit d h)
 

@@ -5,7 +5,7 @@ use Rattle.std.proofs.lemmas.List.Elements.{All-head, All-tail}
 use Rattle.cnf_form.specs.Dimacs.{IsFeed, IsBlank, IsSpace, IsWordByte, EndsWord, EndsLine, NextWord, Skips, stay, blank, feed, comment}
 
 -- a run of such bytes ends here
-abbrev Stops : (ℕ → Type 0) → List ℕ → Type 0
+abbrev pub Stops : (ℕ → Type 0) → List ℕ → Type 0
 Stops P [] = Unit {0}
 Stops P (b ∷ bs) = P b → ⊥
 
@@ -13,7 +13,7 @@ stops_here : (P : ℕ → Type 0) (r : List ℕ) (b : ℕ) (bs : List ℕ) → r
 stops_here P r b bs e s p = let t : P b → ⊥ = subst (Stops P) e s in t p
 
 -- the longest run at the front is one
-run_one : (P : ℕ → Type 0) (xs ys r s : List ℕ) → xs ++ r ≡ ys ++ s → All P xs → All P ys → Stops P r → Stops P s → (xs ≡ ys) × (r ≡ s)
+pub run_one : (P : ℕ → Type 0) (xs ys r s : List ℕ) → xs ++ r ≡ ys ++ s → All P xs → All P ys → Stops P r → Stops P s → (xs ≡ ys) × (r ≡ s)
 run_one P [] [] r s e p q x y = (refl, e)
 run_one P [] (b ∷ ys) r s e p q x y = absurd (stops_here P r b (ys ++ s) e x (All-head P b ys q))
 run_one P (a ∷ xs) [] r s e p q x y = absurd (stops_here P s a (xs ++ r) (sym e) y (All-head P a xs p))
@@ -31,7 +31,7 @@ ends_stops : (r : List ℕ) → EndsWord r → Stops IsWordByte r
 ends_stops [] h = tt
 ends_stops (b ∷ r) h = λ n. n h
 
-line_stops : (r : List ℕ) → EndsLine r → Stops (λ b. b ≢ 10) r
+pub line_stops : (r : List ℕ) → EndsLine r → Stops (λ b. b ≢ 10) r
 line_stops [] h = tt
 line_stops (b ∷ r) h = λ n. n h
 
@@ -57,7 +57,7 @@ NextWord-after_space {b} {bytes} {w} {r} h n =
     shorter [] e v = absurd (stops_here IsSpace (w ++ r) b bytes (sym e) (word_stops w r n.some n.visible) h)
     shorter (x ∷ g) e v = (g, (cc), All-tail IsSpace x g v)
 
-c_no_space : IsSpace 99 → ⊥
+pub c_no_space : IsSpace 99 → ⊥
 c_no_space (inl e) = omega arith
 c_no_space (inr (inl e)) = omega arith
 c_no_space (inr (inr (inl e))) = omega arith

@@ -15,7 +15,7 @@ pub use laws::{
     proof_is_sound, proof_keeps_models,
 };
 pub use literal::{Lit, MAX_VARS, places_differ};
-pub use reader::{DimacsFault, DimacsFaultKind, read_dimacs};
+pub use reader::{DimacsFault, DimacsFaultKind, dimacs_faults_are_decided, read_dimacs};
 
 #[cfg(test)]
 mod tests {

@@ -1,6 +1,8 @@
 // DIMACS text is read.
 
-ghost use Rattle.std.specs.Prelude.{◌≡◌, ◌↔◌, ℕ, ◌≤◌, true, [], length, IfOk, IfErr, IsTrue};
+ghost use Rattle.std.specs.Prelude.{◌≡◌, ◌↔◌, ℕ, ◌≤◌, true, List, [], length, IfOk, IfErr, IsTrue};
+ghost use Rattle.cnf_form.specs.Cnf.{FormulaOf};
+ghost use Rattle.cnf_form.specs.declared.reader.DimacsFaultKind.{DimacsFaultKind};
 ghost use Rattle.cnf_form.specs.Dimacs.{IsDimacs, IsNumber};
 ghost use Rattle.cnf_form.specs.Reading.{HasHeader, HeaderFails, header_words, BodyEnds, EndsWithin, IsFault};
 ghost use Rattle.cnf_form.specs.declared.literal.TheConstants.{MAX_VARS};
@@ -167,3 +169,11 @@ pub fn read_dimacs(alloc: Global, bytes: &[u8]) -> Result<Result<Formula, Dimacs
     }
     Ok(Ok(formula))
 }
+
+/// A text that is a formula has no fault, and another has at most one: what `read_dimacs` answers is decided.
+pub fn dimacs_faults_are_decided()
+    ensures formula { (bytes : List ℕ) (f : FormulaOf) (kind : DimacsFaultKind) (byte : ℕ) → IsDimacs bytes f
+        → IsFault bytes kind byte → ⊥ }
+    ensures one { (bytes : List ℕ) (k l : DimacsFaultKind) (m n : ℕ) → IsFault bytes k m
+        → IsFault bytes l n → (k ≡ l) × (m ≡ n) }
+{}
