@@ -2,3 +2,5 @@ mod Statuses
 mod Telling
 mod Lowest
 mod Collecting
+mod AddedEvents
+mod SharedParts

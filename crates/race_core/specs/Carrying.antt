@@ -1,5 +1,5 @@
 -- Which findings a lane knows by its events, and which an end carries.
-use Rattle.std.specs.Prelude.{◌≡◌, ◌⊎◌, ℕ, ◌<◌, List, [], ◌∷◌, Option, Some}
+use Rattle.std.specs.Prelude.{◌≡◌, ◌⊎◌, ℕ, ◌<◌, List, [], ◌∷◌, Some}
 use Rattle.race_core.specs.Report.{EventsOf}
 use Rattle.race_core.specs.Parts.{reader_of}
 use Rattle.race_core.specs.Ends.{HasEnd}

@@ -8,3 +8,5 @@ pub mod Asking
 pub mod Collect
 pub mod Consistent
 pub mod Stepped
+pub mod Sharing
+pub mod Listed

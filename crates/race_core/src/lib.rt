@@ -4,6 +4,8 @@
 mod answering;
 mod end;
 mod event;
+mod event_list;
+mod laws;
 mod part;
 mod printing;
 mod report;
@@ -13,6 +15,8 @@ mod step;
 pub use answering::{answer_among, answers, job_at};
 pub use end::JobEnd;
 pub use event::{Judged, LaneEvent, Polled};
+pub use event_list::EventList;
+pub use laws::sharing;
 pub use part::{By, Keeper, Place, Reader, Reason};
 pub use printing::printing_lane;
 pub use report::{JobEvents, Report};

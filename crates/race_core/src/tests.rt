@@ -94,3 +94,34 @@ fn events_change_their_part(rt: HostRuntime) {
     state = lane_step(state, LaneEvent::Clock(15));
     assert!(rt; matches!(state.keeper, Keeper::Due(Reason::Limit(15))));
 }
+
+// A read that was judged More.
+fn more(bytes: u64) -> LaneEvent<Refuted> {
+    LaneEvent::Read {
+        bytes,
+        progress: Judged::More,
+    }
+}
+
+#[test]
+fn neighbours_share_an_entry(rt: HostRuntime) -> Result<(), Fail> {
+    let mut list = EventList::new(rt.alloc(), 1)?;
+    list.take_room(6)?;
+    list.push(more(3));
+    list.push(more(4));
+    list.push(more(0));
+    list.push(LaneEvent::Turns(u64::MAX - 1));
+    list.push(LaneEvent::Turns(1));
+    list.push(LaneEvent::Turns(1));
+    let mut numbers = [0u64; 4];
+    assert_eq!(rt; list.events().len(), 4);
+    for (number, event) in numbers.iter_mut().zip(list.events()) {
+        *number = match event {
+            LaneEvent::Read { bytes, .. } => *bytes,
+            LaneEvent::Turns(turns) => *turns,
+            _ => 99,
+        };
+    }
+    assert_eq!(rt; numbers, [7, 0, u64::MAX, 1]);
+    Ok(())
+}
