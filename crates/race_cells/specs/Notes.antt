@@ -1,5 +1,5 @@
 -- What notes know of cells that are set once.
-use Rattle.std.specs.Prelude.{◌≡◌, ℕ, zero, suc, List, [], ◌∷◌, Option, Some, None, IfSome, map, slice_get}
+use Rattle.std.specs.Prelude.{◌≡◌, ℕ, zero, suc, List, [], ◌∷◌, Option, Some, None, IfSome, map}
 
 -- what is known of one cell: its name, and its value, once that was seen
 pub record NoteOf (T : Type 0) : Type 0 where

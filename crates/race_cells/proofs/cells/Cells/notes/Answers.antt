@@ -1,4 +1,4 @@
-use Rattle.std.proofs.Common.{◌≡◌, map, ap, ◌∙◌}
+use Rattle.std.proofs.Common.{map, ap, ◌∙◌}
 use Rattle.once_cell.specs.Once.{cell_name}
 use Rattle.race_cells.proofs.Lists.{fresh_result}
 use Rattle.race_cells.proofs.cells.Cells.notes.Goals as goal
