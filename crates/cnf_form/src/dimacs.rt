@@ -6,6 +6,7 @@ ghost use Rattle.cnf_form.specs.Dimacs.{IsDimacs, literal_text, clause_text, dim
 
 use crate::formula::Formula;
 use crate::literal::Lit;
+use itoa::Buffer;
 use std::alloc::{AllocError, Global};
 use std::fmt::Write;
 
@@ -15,8 +16,9 @@ fn push_literal(text: &mut String, l: Lit) -> Result<(), AllocError>
     if l.is_negated() {
         text.push('-')?;
     }
-    let var = l.var();
-    write!(text, "{var} ")
+    let mut digits = Buffer::new();
+    text.push_str(digits.format(l.var()))?;
+    text.push(' ')
 }
 
 fn push_clause(text: &mut String, clause: &[Lit]) -> Result<(), AllocError>
