@@ -1,3 +1,5 @@
-pub mod Scan
-pub mod Fixpoint
-pub mod Asking
+mod Weights
+mod Rows
+mod Decisions
+mod Reasons
+mod Present

@@ -1,2 +1,4 @@
 pub mod Marks
+pub mod Copies
+pub mod Inside
 pub mod Checking

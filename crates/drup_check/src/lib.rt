@@ -1,18 +1,24 @@
-//! A checker of DRUP proofs: unit propagation by passes over all clauses.
+//! A checker of DRUP proofs, on unit propagation with two watched literals.
 #![tactic(auto)]
 
-ghost use Rattle.std.specs.Prelude.{◌≡◌, ◌↔◌, true, false, IfOk, OnErr, IsErr, IsTrue, Ok};
+ghost use Rattle.std.specs.Prelude.{◌≡◌, ◌↔◌, ◌≤◌, ◌++◌, ◌∷◌, [], true, false, IfOk, OnOk, OnErr, IsErr, IsTrue, Ok};
 ghost use Rattle.cnf_form.specs.Cnf.{ClauseWithin, IsAdmitted, Deletes};
+ghost use Rattle.cnf_form.specs.declared.literal.TheConstants.{MAX_VARS};
 ghost use Rattle.drup_check.specs.Checking.{CheckerOf, start, with_clause};
 
-mod deletion;
-mod propagation;
+mod admission;
+mod buckets;
+mod lookup;
+mod marks;
 
-use cnf_form::{Formula, Lit};
-use deletion::{is_kept, position_of};
-use propagation::reaches_conflict;
+use admission::{is_reason, reaches_conflict};
+use buckets::Copies;
+use cnf_form::{Formula, Lit, MAX_VARS};
+use lookup::find_clause;
+use marks::weigh;
 use std::alloc::{AllocError, Global};
 use std::marker::Model;
+use unit_propagation::Propagator;
 
 /// What a checker answers to a clause.
 #[derive(Clone, Copy, Debug, PartialEq, Eq)]
@@ -24,37 +30,99 @@ pub enum Added {
 /// A checker of DRUP proofs, which holds the clauses that are present.
 #[derive(Drop)]
 pub struct Checker {
-    formula: Formula,
+    core: Propagator,
+    copies: Copies,
     marks: Vec<bool>,
+    others: Vec<bool>,
+    negated: Vec<Lit>,
     refuted: bool,
     out_of_memory: bool,
 }
 
 impl Model for Checker {
-    ghost use Rattle.std.specs.Prelude.{◌≡◌, ◌+◌, ◌*◌, length};
-    ghost use Rattle.cnf_form.specs.Cnf.{Within};
+    ghost use Rattle.unit_propagation.specs.Propagator.{clauses_of};
     ghost use Rattle.drup_check.specs.Checking.{CheckerOf};
 
     ghost Value = { CheckerOf };
 
-    ghost view = { λ k. record { vars = k.formula.vars; clauses = k.formula.clauses; refuted = k.refuted; out_of_memory = k.out_of_memory } };
+    ghost use Rattle.drup_check.specs.Copies.{rows_of};
+    ghost use Rattle.drup_check.specs.Inside.{IsRoot, IsFree, IsFiled};
 
-    ghost invariant = { λ k. length k.marks.items ≡ 2 * k.formula.vars + 2 };
+    ghost view = { λ k. record { vars = k.core.vars; clauses = clauses_of k.core.slots; refuted = k.refuted; out_of_memory = k.out_of_memory } };
+
+    ghost invariant = { λ k. IsRoot k.core × IsFree k.core.vars k.marks.items × IsFree k.core.vars k.others.items
+        × IsFiled k.core (rows_of k.copies.buckets.buckets.items) };
 }
 
 impl Checker {
+    // A checker without clauses.
+    fn empty(alloc: Global, vars: u32) -> Result<Self, AllocError>
+        requires { vars ≤ MAX_VARS }
+        ensures { IfOk result (λ k. k ≡ record { vars = vars; clauses = []; refuted = false; out_of_memory = false }) }
+    {
+        let core = Propagator::new(alloc, vars)?;
+        let marks = vec![in alloc; false; 2 * vars as usize + 2]?;
+        let others = vec![in alloc; false; 2 * vars as usize + 2]?;
+        Ok(Checker {
+            core,
+            copies: Copies::new(alloc)?,
+            marks,
+            others,
+            negated: Vec::new(alloc),
+            refuted: false,
+            out_of_memory: false,
+        })
+    }
+
     /// A checker that has the clauses of the formula.
     pub fn new(alloc: Global, formula: &Formula) -> Result<Self, AllocError>
         ensures { IfOk result (λ k. k ≡ start formula.now) }
     {
-        let formula = formula.copy(alloc)?;
-        let marks = vec![in alloc; false; 2 * formula.vars() as usize + 2]?;
-        Ok(Checker {
-            formula,
-            marks,
-            refuted: false,
-            out_of_memory: false,
-        })
+        let mut checker = Checker::empty(alloc, formula.vars())?;
+        let clauses = formula.clauses();
+        for place in 0..clauses.len() {
+            checker.keep(clauses.get(place))?;
+        }
+        Ok(checker)
+    }
+
+    // Keeps a clause, and what follows from it.
+    fn keep(&mut self, clause: &[Lit]) -> Result<(), AllocError>
+        requires { ClauseWithin self.old.vars clause.now }
+        ensures ok { OnOk result (self.new ≡ record self.old { clauses = self.old.clauses ++ clause.now ∷ [] }) }
+        ensures err { OnErr result (self.new ≡ self.old) }
+    {
+        let weight = weigh(clause, &mut self.marks);
+        self.copies.put(weight, self.core.len() as u32)?;
+        self.core.put(clause)?;
+        Ok(())
+    }
+
+    // Whether the present clauses admit a clause.
+    fn admits(&mut self, clause: &[Lit]) -> Result<bool, AllocError>
+        requires { ClauseWithin self.old.vars clause.now }
+        ensures same { self.new ≡ self.old }
+        ensures exact { IfOk result (λ b. IsTrue b ↔ IsAdmitted self.old.clauses clause.now) }
+    {
+        if self.core.conflict() {
+            return Ok(true);
+        }
+        reaches_conflict(&mut self.core, clause, &mut self.negated)
+    }
+
+    // The clause, if it is admitted, is kept.
+    fn judge(&mut self, clause: &[Lit]) -> Result<Added, AllocError>
+        requires { ClauseWithin self.old.vars clause.now }
+        ensures exact { IfOk result (λ v. (v ≡ Added.Admitted) ↔ IsAdmitted self.old.clauses clause.now) }
+        ensures admitted { result ≡ Ok Added.Admitted → self.new ≡ record self.old { clauses = self.old.clauses ++ clause.now ∷ [] } }
+        ensures not_rup { result ≡ Ok Added.NotRup → self.new ≡ self.old }
+        ensures err { OnErr result (self.new ≡ self.old) }
+    {
+        if !self.admits(clause)? {
+            return Ok(Added::NotRup);
+        }
+        self.keep(clause)?;
+        Ok(Added::Admitted)
     }
 
     /// Adds a clause over the formula's variables, if it is RUP: if unit propagation from the clauses and its negated
@@ -71,17 +139,14 @@ impl Checker {
         if self.out_of_memory {
             return Err(AllocError);
         }
-        if !reaches_conflict(&self.formula, clause, &mut self.marks) {
-            return Ok(Added::NotRup);
-        }
-        if self.formula.push(clause).is_err() {
+        let Ok(added) = self.judge(clause) else {
             self.out_of_memory = true;
             return Err(AllocError);
-        }
-        if clause.is_empty() {
+        };
+        if added == Added::Admitted && clause.is_empty() {
             self.refuted = true;
         }
-        Ok(Added::Admitted)
+        Ok(added)
     }
 
     /// Deletes one copy of a clause over the formula's variables. Does nothing where there is none, where unit propagation
@@ -91,13 +156,23 @@ impl Checker {
         ensures deleted { Deletes self.old.clauses clause.now self.new.clauses }
         ensures rest { self.new ≡ record self.old { clauses = self.new.clauses } }
     {
-        let Some(place) = position_of(&self.formula, clause) else {
-            return;
-        };
-        if is_kept(&self.formula, clause, &mut self.marks) {
+        if self.core.conflict() {
             return;
         }
-        self.formula.remove(place);
+        let Some(found) = find_clause(
+            &self.core,
+            &self.copies,
+            clause,
+            &mut self.marks,
+            &mut self.others,
+        ) else {
+            return;
+        };
+        if is_reason(&self.core, clause) {
+            return;
+        }
+        self.copies.take(found.weight, found.clause);
+        self.core.take_out(found.clause);
     }
 
     /// Whether an empty clause was admitted.

@@ -1,24 +1,68 @@
-use Rattle.std.proofs.Common.{◌≡◌, List, [], ap, subst, refl, inl, inr}
-use Rattle.std.specs.Prelude.{remove}
+use Rattle.std.proofs.Common.{◌≡◌, true, false, length, refl, sym, ap, ◌∙◌, subst, inl, inr, rules}
+use Rattle.cnf_form.specs.Cnf.{Conflict, IsReason, Deletes}
+use Rattle.unit_propagation.specs.Propagator.{PropagatorOf, clauses_of}
 use Rattle.std.proofs.lemmas.Bool.{both_ways}
-use Rattle.cnf_form.specs.Cnf.{LitOf, FormulaOf, Deletes}
 use Rattle.drup_check.specs.Checking.{CheckerOf}
-use Rattle.drup_check.proofs.Asking.{Removes-at}
+use Rattle.drup_check.proofs.Weights.{freed_back}
+use Rattle.drup_check.proofs.Decisions.{conflict_from, no_conflict}
+use Rattle.drup_check.proofs.Present.{root_without, filed_without, deletes_without}
 use Rattle.drup_check.proofs.Checker.delete.Goals as goal
 
-pub returns-then-is_kept-clause-deleted : goal.returns-then-is_kept-clause-deleted
-returns-then-is_kept-clause-deleted c =
-    let F : List (List LitOf) = c.self.inside.formula.clauses in
-    subst (λ G. Deletes G c.args.clause.now F) (ap (λ (k : CheckerOf). k.clauses) c.self.view_is) (inr (refl, inr (c.is_kept.ensures.0 c.if-is_kept.true)))
+pub returns-then-conflict-clause-deleted : goal.returns-then-conflict-clause-deleted
+returns-then-conflict-clause-deleted c =
+    let i = c.self.invariant in
+    let r = i.0 in
+    let p = c.self.inside.core in
+    let f = c.conflict.ensures in
+    let e : p.conflict ≡ true = sym f.conflict ∙ c.if-conflict.true in
+    subst (λ (k : CheckerOf). Deletes k.clauses c.args.clause.now k.clauses) c.self.view_is (inr (refl, inr (inl (conflict_from (clauses_of p.slots) p.trail r.derived (r.falsified e)))))
+
+pub returns-in_default-clause-deleted : goal.returns-in_default-clause-deleted
+returns-in_default-clause-deleted c =
+    let i = c.self.invariant in
+    let p = c.self.inside.core in
+    let n = c.in_default.ensures in
+    subst (λ (k : CheckerOf). Deletes k.clauses c.args.clause.now (clauses_of p.slots)) c.self.view_is (inr (refl, inl (n.none i.3)))
+
+pub returns-then-is_reason-clause-deleted : goal.returns-then-is_reason-clause-deleted
+returns-then-is_reason-clause-deleted c =
+    let p = c.self.inside.core in
+    subst (λ (k : CheckerOf). Deletes k.clauses c.args.clause.now (clauses_of p.slots)) c.self.view_is (inr (refl, inr (inr (c.is_reason.ensures.0 c.if-is_reason.true))))
+
+pub invariant_of-self-2 : goal.invariant_of-self-2
+invariant_of-self-2 c =
+    let i = c.self.invariant in
+    let p = c.self.inside.core in
+    let f = c.conflict.ensures in
+    let e : p.conflict ≡ false = sym f.conflict ∙ c.if-conflict.false in
+    let kept : IsReason (clauses_of p.slots) c.args.clause.now → ⊥ = λ w. both_ways _ c.if-is_reason.false (c.is_reason.ensures.1 w) in
+    let s = c.in-Some.ensures in
+    let found = s.found in
+    let d = found.1 in
+    let marks = c.self.inside.marks in
+    let others = c.self.inside.others in
+    let a : marks.len ≡ length marks.items = search rules in
+    let b : length c.find_clause.new.marks ≡ length marks.items = search rules in
+    let a' : others.len ≡ length others.items = search rules in
+    let b' : length c.find_clause.new.others ≡ length others.items = search rules in
+    rw c.take_out.ensures (
+      root_without p c.in-Some.found.clause c.args.clause.now d.0 d.1 d.2 i.0 e kept,
+      freed_back p.vars marks.items c.find_clause.new.marks marks.len a b s.free,
+      freed_back p.vars others.items c.find_clause.new.others others.len a' b' s.others_free,
+      filed_without p c.in-Some.found.clause c.args.clause.now d.0 d.1 d.2 _ _ c.take.ensures i.3,
+    )
 
 pub returns-clause-deleted : goal.returns-clause-deleted
 returns-clause-deleted c =
-    let F : List (List LitOf) = c.self.inside.formula.clauses in
-    let found = c.in-Some.ensures.found in
-    let e : c.remove.new.self.clauses ≡ remove F c.in-Some.place = ap (λ (f : FormulaOf). f.clauses) c.remove.ensures in
-    subst (λ G. Deletes G c.args.clause.now c.remove.new.self.clauses) (ap (λ (k : CheckerOf). k.clauses) c.self.view_is)
-    (rw e (inl (
-      Removes-at c.args.clause.now F c.in-Some.place [] found.0 (found.1 []),
-      λ k. both_ways _ c.if-is_kept.false (c.is_kept.ensures.1 (inl k)),
-      λ k. both_ways _ c.if-is_kept.false (c.is_kept.ensures.1 (inr k)),
-    )))
+    let i = c.self.invariant in
+    let p = c.self.inside.core in
+    let f = c.conflict.ensures in
+    let e : p.conflict ≡ false = sym f.conflict ∙ c.if-conflict.false in
+    let kept : IsReason (clauses_of p.slots) c.args.clause.now → ⊥ = λ w. both_ways _ c.if-is_reason.false (c.is_reason.ensures.1 w) in
+    let calm : Conflict (clauses_of p.slots) → ⊥ = no_conflict (clauses_of p.slots) p.trail (f.fixpoint e) in
+    let s = c.in-Some.ensures in
+    let found = s.found in
+    let d = found.1 in
+    let slots = ap (λ (q : PropagatorOf). clauses_of q.slots) c.take_out.ensures in
+    subst (λ (k : CheckerOf). Deletes k.clauses c.args.clause.now (clauses_of c.take_out.new.self.slots)) c.self.view_is
+    (subst (Deletes (clauses_of p.slots) c.args.clause.now) (sym slots) (deletes_without p c.in-Some.found.clause c.args.clause.now d.0 d.1 d.2 i.0 e calm kept))

@@ -1,0 +1,182 @@
+-- The clauses that are present, after one came or went.
+use Rattle.std.proofs.Common.{◌≡◌, ◌≢◌, ℕ, ◌+◌, ◌*◌, ◌<◌, Bool, true, false, List, [], ◌∷◌, ◌++◌, length, set, refl, sym, ◌∙◌, ap, subst, inl, inr, arith, zero, suc}
+use Rattle.std.specs.Prelude.{Contains, Option, Some, None}
+use Rattle.std.proofs.lemmas.Bool.{cases_Bool, cases_eq, cases_lt}
+use Rattle.std.proofs.lemmas.List.{get_or-set_same, get_or-set_other, get_or_past, get_or_append_left, get_or_push, length_push}
+use Rattle.std.proofs.lemmas.List.Elements.{Contains-append_left}
+use Rattle.cnf_form.specs.Cnf.{LitOf, SameClause, Conflict, IsReason, Removes, first, later, Deletes}
+use Rattle.cnf_form.proofs.Removal.{Closure-monotone, Closure-without, Removes-cases}
+use Rattle.unit_propagation.specs.Propagation.{HasFalsified, IsDerived}
+use Rattle.unit_propagation.specs.Propagator.{PropagatorOf, clauses_of, slot_at, IsPut, IsWanting}
+use Rattle.drup_check.specs.declared.buckets.Entry.{Entry}
+use Rattle.drup_check.specs.Marks.{Weighs, weight}
+use Rattle.drup_check.specs.Copies.{Holds, bucket}
+use Rattle.drup_check.specs.Inside.{IsRoot, IsFree, IsFiled}
+use Rattle.drup_check.specs.Checking.{CheckerOf}
+use Rattle.unit_propagation.specs.Marks.{Shows}
+use Rattle.unit_propagation.proofs.Slots.{clauses_of-slot}
+use Rattle.drup_check.proofs.Weights.{weighs_same}
+
+pub clauses_push : (slots : List (Option (List LitOf))) (c : List LitOf) → clauses_of (slots ++ Some c ∷ []) ≡ clauses_of slots ++ c ∷ []
+clauses_push [] c = refl
+clauses_push (Some d ∷ ss) c = ap (λ z. d ∷ z) (clauses_push ss c)
+clauses_push (None ∷ ss) c = clauses_push ss c
+
+clauses_none : (slots : List (Option (List LitOf))) → clauses_of (slots ++ None ∷ []) ≡ clauses_of slots
+clauses_none [] = refl
+clauses_none (Some d ∷ ss) = ap (λ z. d ∷ z) (clauses_none ss)
+clauses_none (None ∷ ss) = clauses_none ss
+
+pub removes_at : (slots : List (Option (List LitOf))) (k : ℕ) (c d : List LitOf) → slot_at slots k ≡ Some d → SameClause c d → Removes c (clauses_of slots) (clauses_of (set slots k None))
+removes_at [] k c d e s = absurd (let f : None ≡ Some d = e in cc)
+removes_at (Some x ∷ ss) zero c d e s = let f : x ≡ d = cc in first x (clauses_of ss) (subst (SameClause c) (sym f) s)
+removes_at (None ∷ ss) zero c d e s = absurd (let f : None ≡ Some d = e in cc)
+removes_at (Some x ∷ ss) (suc k) c d e s = later x (clauses_of ss) (clauses_of (set ss k None)) (removes_at ss k c d e s)
+removes_at (None ∷ ss) (suc k) c d e s = removes_at ss k c d e s
+
+pub slot_room : (slots : List (Option (List LitOf))) (k : ℕ) (d : List LitOf) → slot_at slots k ≡ Some d → k < length slots
+slot_room slots k d e =
+    elim (cases_lt k (length slots)) [
+      | inl h ↦ h
+      | inr h ↦ absurd (let f : slot_at slots k ≡ None = get_or_past slots k None (omega (arith, h)) in let g : None ≡ Some d = sym f ∙ e in cc)
+    ]
+
+module _ (F G : List (List LitOf)) (more : (c : List LitOf) → Contains F c → Contains G c) (t : List LitOf) where
+  derived_more : IsDerived F t → IsDerived G t
+  derived_more d = record { each = λ l h. Closure-monotone more (d.each l h) }
+
+  falsified_more : HasFalsified t F → HasFalsified t G
+  falsified_more w = (w.0, more w.0 w.1, w.2)
+
+module _ (p q : PropagatorOf) (c : List LitOf) (r : IsRoot p) (w : IsPut p c q) where
+  more : (d : List LitOf) → Contains (clauses_of p.slots) d → Contains (clauses_of q.slots) d
+  more d h = subst (λ z. Contains z d) (sym (ap clauses_of w.slots ∙ clauses_push p.slots c)) (Contains-append_left (clauses_of p.slots) (c ∷ []) d h)
+
+  pub root_put : IsRoot q
+  root_put = record { level = w.limits ∙ r.level; derived = derived; falsified = falsified }
+    where
+      derived : IsDerived (clauses_of q.slots) q.trail
+      derived = elim (cases_Bool p.conflict) [
+        | inl y ↦ let a = w.after y in subst (IsDerived (clauses_of q.slots)) (sym a.0) (derived_more _ _ more p.trail r.derived)
+        | inr n ↦ let g = w.propagated n in g.derived (clauses_of q.slots) (record { each = λ d h. h }) (derived_more _ _ more p.trail r.derived)
+      ]
+
+      falsified : q.conflict ≡ true → HasFalsified q.trail (clauses_of q.slots)
+      falsified e = elim (cases_Bool p.conflict) [
+        | inl y ↦ let a = w.after y in subst (λ z. HasFalsified z (clauses_of q.slots)) (sym a.0) (falsified_more _ _ more p.trail (r.falsified y))
+        | inr n ↦ w.falsified n e
+      ]
+
+  pub filed_put : (rows rows' : List (List Entry)) (h n : ℕ) → IsFiled p rows → ((a k : ℕ) → Holds rows a k → Holds rows' a k) → n ≡ length p.slots
+      → Weighs p.vars c h → Holds rows' h n → IsFiled q rows'
+  filed_put rows rows' h n f keeps size weighs held = record { each = each }
+    where
+      each : (k : ℕ) (d : List LitOf) → slot_at q.slots k ≡ Some d → (a : ℕ) × Weighs q.vars d a × Holds rows' a k
+      each k d e =
+          let e' : slot_at (p.slots ++ Some c ∷ []) k ≡ Some d = subst (λ z. slot_at z k ≡ Some d) w.slots e in
+          elim (cases_eq k (length p.slots)) [
+            | inl s ↦ let g : Some c ≡ Some d = sym (get_or_push p.slots (Some c) None k (sym s)) ∙ e' in
+                let same : c ≡ d = cc in
+                (h, subst (λ v. Weighs v d h) (sym w.vars) (subst (λ z. Weighs p.vars z h) same weighs), subst (Holds rows' h) (size ∙ sym s) held)
+            | inr ne ↦ let inside : k < length p.slots = omega (arith, slot_room (p.slots ++ Some c ∷ []) k d e', length_push p.slots (Some c), ne) in
+                let v = f.each k d (sym (get_or_append_left p.slots (Some c ∷ []) None k inside) ∙ e') in
+                (v.0, subst (λ u. Weighs u d v.0) (sym w.vars) v.1, keeps v.0 k v.2)
+          ]
+
+module _ (p q : PropagatorOf) (w : IsWanting p q) where
+  pub clauses_wanting : clauses_of q.slots ≡ clauses_of p.slots
+  clauses_wanting = elim w.0 [ inl e ↦ ap clauses_of e | inr e ↦ ap clauses_of e ∙ clauses_none p.slots ]
+
+  slots_of_wanting : (r : PropagatorOf) → r ≡ record p { slots = q.slots } → (r.vars ≡ p.vars) × (r.limits ≡ p.limits) × (r.trail ≡ p.trail) × (r.conflict ≡ p.conflict)
+  slots_of_wanting r e = (ap (λ (z : PropagatorOf). z.vars) e, ap (λ (z : PropagatorOf). z.limits) e, ap (λ (z : PropagatorOf). z.trail) e, ap (λ (z : PropagatorOf). z.conflict) e)
+
+  pub root_wanting : IsRoot p → IsRoot q
+  root_wanting r =
+      let s = slots_of_wanting q w.1 in
+      record {
+        level = s.1 ∙ r.level;
+        derived = subst (λ z. IsDerived z q.trail) (sym clauses_wanting) (subst (IsDerived (clauses_of p.slots)) (sym s.2) r.derived);
+        falsified = λ e. subst (HasFalsified q.trail) (sym clauses_wanting) (subst (λ z. HasFalsified z (clauses_of p.slots)) (sym s.2) (r.falsified (sym s.3 ∙ e)));
+      }
+
+  pub filed_wanting : (rows rows' : List (List Entry)) → ((a k : ℕ) → Holds rows a k → Holds rows' a k) → IsFiled p rows → IsFiled q rows'
+  filed_wanting rows rows' keeps f = record { each = each }
+    where
+      back : (k : ℕ) (d : List LitOf) → slot_at q.slots k ≡ Some d → slot_at p.slots k ≡ Some d
+      back k d e = elim w.0 [
+        | inl s ↦ subst (λ z. slot_at z k ≡ Some d) s e
+        | inr s ↦ let e' : slot_at (p.slots ++ None ∷ []) k ≡ Some d = subst (λ z. slot_at z k ≡ Some d) s e in
+            elim (cases_eq k (length p.slots)) [
+              | inl a ↦ absurd (let g : None ≡ Some d = sym (get_or_push p.slots None None k (sym a)) ∙ e' in cc)
+              | inr ne ↦ let inside : k < length p.slots = omega (arith, slot_room (p.slots ++ None ∷ []) k d e', length_push p.slots (let x : Option (List LitOf) = None in x), ne) in
+                  sym (get_or_append_left p.slots (None ∷ []) None k inside) ∙ e'
+            ]
+      ]
+
+      each : (k : ℕ) (d : List LitOf) → slot_at q.slots k ≡ Some d → (a : ℕ) × Weighs q.vars d a × Holds rows' a k
+      each k d e =
+          let s = slots_of_wanting q w.1 in
+          let v = f.each k d (back k d e) in
+          (v.0, subst (λ u. Weighs u d v.0) (sym s.0) v.1, keeps v.0 k v.2)
+
+-- a clause is taken out that is no reason
+module _ (p : PropagatorOf) (k : ℕ) (c d : List LitOf) (at : slot_at p.slots k ≡ Some d) (same : SameClause c d) where
+  abbrev without : PropagatorOf
+  without = record p { slots = set p.slots k None }
+
+  pub root_without : IsRoot p → p.conflict ≡ false → (IsReason (clauses_of p.slots) c → ⊥) → IsRoot without
+  root_without r free kept = record {
+    level = r.level;
+    derived = record {
+      each = λ l h. let g = r.derived in
+          Closure-without (clauses_of p.slots) (clauses_of (set p.slots k None)) c (λ e q. Removes-cases (removes_at p.slots k c d at same) e q) kept (g.each l h);
+    };
+    falsified = λ e. absurd (let f : true ≡ false = sym e ∙ free in cc);
+  }
+
+  pub filed_without : (rows rows' : List (List Entry)) → ((a j : ℕ) → Holds rows a j → j ≢ k → Holds rows' a j) → IsFiled p rows → IsFiled without rows'
+  filed_without rows rows' keeps f = record { each = each }
+    where
+      each : (j : ℕ) (x : List LitOf) → slot_at (set p.slots k None) j ≡ Some x → (a : ℕ) × Weighs p.vars x a × Holds rows' a j
+      each j x e =
+          elim (cases_eq j k) [
+            | inl s ↦ absurd (let g : None ≡ Some x = sym (get_or-set_same p.slots k None None (slot_room p.slots k d at)) ∙ subst (λ n. slot_at (set p.slots k None) n ≡ Some x) s e in cc)
+            | inr ne ↦ let v = f.each j x (sym (get_or-set_other p.slots k j None None ne) ∙ e) in (v.0, v.1, keeps v.0 j v.2 ne)
+          ]
+
+  pub deletes_without : IsRoot p → p.conflict ≡ false → (Conflict (clauses_of p.slots) → ⊥) → (IsReason (clauses_of p.slots) c → ⊥) → Deletes (clauses_of p.slots) c (clauses_of (set p.slots k None))
+  deletes_without r free calm kept = inl (removes_at p.slots k c d at same, calm, kept)
+
+pub filed_more : (p : PropagatorOf) (rows rows' : List (List Entry)) → ((a k : ℕ) → Holds rows a k → Holds rows' a k) → IsFiled p rows → IsFiled p rows'
+filed_more p rows rows' keeps f = record { each = λ k d e. let v = f.each k d e in (v.0, v.1, keeps v.0 k v.2) }
+
+pub checker_wanting : (p q : PropagatorOf) (rows rows' : List (List Entry)) (marks others : List Bool) → IsWanting p q → ((a k : ℕ) → Holds rows a k → Holds rows' a k)
+    → IsRoot p → IsFree p.vars marks → IsFree p.vars others → IsFiled p rows → IsRoot q × IsFree q.vars marks × IsFree q.vars others × IsFiled q rows'
+checker_wanting p q rows rows' marks others w keeps r m o f =
+    let e : q.vars ≡ p.vars = ap (λ (z : PropagatorOf). z.vars) w.1 in
+    (root_wanting p q w r, subst (λ v. IsFree v marks) (sym e) m, subst (λ v. IsFree v others) (sym e) o, filed_wanting p q w rows rows' keeps f)
+
+pub checker_put : (p q : PropagatorOf) (c : List LitOf) (rows rows' : List (List Entry)) (marks others : List Bool) (h n : ℕ) → IsPut p c q → ((a k : ℕ) → Holds rows a k → Holds rows' a k)
+    → n ≡ length p.slots → Weighs p.vars c h → Holds rows' h n → IsRoot p → IsFree p.vars marks → IsFree p.vars others → IsFiled p rows → IsRoot q × IsFree q.vars marks × IsFree q.vars others × IsFiled q rows'
+checker_put p q c rows rows' marks others h n w keeps size weighs held r m o f = (
+  root_put p q c r w,
+  subst (λ v. IsFree v marks) (sym w.vars) m,
+  subst (λ v. IsFree v others) (sym w.vars) o,
+  filed_put p q c r w rows rows' h n f keeps size weighs held,
+)
+
+pub checker_of : (v v' : ℕ) (F G : List (List LitOf)) (r o : Bool) → v ≡ v' → F ≡ G → (let k : CheckerOf = record { vars = v; clauses = F; refuted = r; out_of_memory = o } in k) ≡ record { vars = v'; clauses = G; refuted = r; out_of_memory = o }
+checker_of v v' F G r o e f =
+    let mk : ℕ → List (List LitOf) → CheckerOf = λ a b. record { vars = a; clauses = b; refuted = r; out_of_memory = o } in
+    ap (λ a. mk a F) e ∙ ap (mk v') f
+
+-- no copy is found where the table has none
+pub not_present : (p : PropagatorOf) (rows : List (List Entry)) (entries : List Entry) (marks : List Bool) (c : List LitOf) (w : ℕ) → entries ≡ bucket rows w → w ≡ weight marks → length marks ≡ 2 * p.vars + 2 → Shows marks c
+    → ((k : ℕ) (d : List LitOf) → Contains entries (record { weight = w; clause = k }) → slot_at p.slots k ≡ Some d → SameClause c d → ⊥) → IsFiled p rows → (d : List LitOf) → Contains (clauses_of p.slots) d → SameClause c d → ⊥
+not_present p rows entries marks c w is e size shows none f d h s =
+    let k = clauses_of-slot p.slots d h in
+    let v = f.each k.0 d k.2 in
+    let same : w ≡ v.0 = e ∙ weighs_same p.vars v.0 marks c d v.1 size shows s in
+    let held = v.2 in
+    none k.0 d (subst (λ z. Contains z (let x : Entry = record { weight = w; clause = k.0 } in x)) (sym is)
+    (subst (λ a. Contains (bucket rows a) (let x : Entry = record { weight = a; clause = k.0 } in x)) (sym same) held.entry)) k.2 s

@@ -1,7 +1,0 @@
-use Rattle.std.proofs.Common.{take}
-use Rattle.drup_check.specs.Marks.{is_marked}
-use Rattle.drup_check.proofs.Scan.{Scanned}
-use Rattle.drup_check.proofs.propagation.clause_status.Given as goal
-
-abbrev pub invariant-loop-l : goal.invariant-loop-l
-invariant-loop-l l = Scanned (is_marked l.marks) (take l.l-index l.clause) l.open

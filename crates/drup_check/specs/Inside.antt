@@ -1,0 +1,24 @@
+-- What holds of a checker's fields.
+use Rattle.std.specs.Prelude.{◌≡◌, ℕ, ◌+◌, ◌*◌, Bool, true, List, [], length, Some}
+use Rattle.cnf_form.specs.Cnf.{LitOf}
+use Rattle.unit_propagation.specs.Marks.{Shows}
+use Rattle.unit_propagation.specs.Propagation.{HasFalsified, IsDerived}
+use Rattle.unit_propagation.specs.Propagator.{PropagatorOf, clauses_of, slot_at}
+use Rattle.drup_check.specs.declared.buckets.Entry.{Entry}
+use Rattle.drup_check.specs.Marks.{Weighs}
+use Rattle.drup_check.specs.Copies.{Holds}
+
+-- no level is open, what is true is in the closure, and a conflict is one of the clauses
+pub record IsRoot (p : PropagatorOf) : Type 0 where
+  pub level : p.limits ≡ []
+  pub derived : IsDerived (clauses_of p.slots) p.trail
+  pub falsified : p.conflict ≡ true → HasFalsified p.trail (clauses_of p.slots)
+
+-- nothing is marked, for each literal of the variables
+pub record IsFree (vars : ℕ) (marks : List Bool) : Type 0 where
+  pub sized : length marks ≡ 2 * vars + 2
+  pub clear : Shows marks []
+
+-- the table has each clause that is present
+pub record IsFiled (p : PropagatorOf) (rows : List (List Entry)) : Type 0 where
+  pub each : (k : ℕ) (c : List LitOf) → slot_at p.slots k ≡ Some c → (h : ℕ) × Weighs p.vars c h × Holds rows h k
