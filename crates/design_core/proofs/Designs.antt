@@ -43,6 +43,7 @@ module _ (ws us : List WireOf) (free more : ℕ) (bits : (b : SigBit) → IsDecl
         (λ p. All-weaker (IsNumbered free) (IsNumbered more) numbers p.digits) c.parameters h.parameters;
     one_port = h.one_port;
     one_parameter = h.one_parameter;
+    named = h.named;
   }
 
   pub IsConnectOf-more : (j : ConnectOf) → IsConnectOf ws free j → IsConnectOf us more j

@@ -1,6 +1,6 @@
 -- What a walk over a list finds, and lists whose items have numbers of their own.
 use Rattle.std.proofs.Common.{◌≡◌, ℕ, ◌+◌, ◌<◌, ◌≤◌, Bool, true, false, cond, not, ◌&&◌, ◌||◌, eqb, List, [], ◌∷◌, ◌++◌, length, drop, get_or, Some, None, refl, ap, sym, ◌∙◌}
-use Rattle.std.specs.List.{find, list_any}
+use Rattle.std.specs.List.{find, list_any, list_all}
 use Rattle.std.proofs.lemmas.List.{drop_all, drop_more}
 use Rattle.std.proofs.lemmas.List.Folds.{list_any-append}
 use Rattle.design_core.specs.Ports.{are_distinct}
@@ -31,6 +31,13 @@ neither : (a b : Bool) → (a || b) ≡ false → (a ≡ false) × (b ≡ false)
 neither false false h = (refl, refl)
 neither false true h = absurd cc
 neither true b h = absurd cc
+
+-- one more item that passes
+pub all-push : {X : Type 0} (test : X → Bool) (y : X) (xs : List X) → list_all test xs ≡ true → test y ≡ true → list_all test (xs ++ y ∷ []) ≡ true
+all-push test y [] h t = ap (λ (b : Bool). b && true) t
+all-push test y (x ∷ xs) h t =
+    let parts = both (test x) (list_all test xs) h in
+    ap (λ (b : Bool). b && list_all test (xs ++ y ∷ [])) parts.0 ∙ all-push test y xs parts.1 t
 
 -- one more item, whose number no other has
 module _ {X : Type 0} (number : X → ℕ) (y : X) (k : ℕ) (e : number y ≡ k) where

@@ -1,7 +1,9 @@
 -- The ports and the parameters of a cell, by their names.
 use Rattle.std.specs.Prelude.{ℕ, Bool, true, not, eqb, ◌&&◌, List, [], ◌∷◌, Option, Some, None}
 use Rattle.std.specs.List.{list_any, find}
+use Rattle.cell_table.specs.declared.kind.Kind.{Kind}
 use Rattle.design_signals.specs.declared.sig_bit.SigBit.{SigBit}
+use Rattle.design_core.specs.Table.{parameters_of}
 use Rattle.design_core.specs.declared.digit.Digit.{Digit}
 use Rattle.design_core.specs.declared.names.PortName.{PortName}
 use Rattle.design_core.specs.declared.names.PortName.TheVariants.{A, B, S, En, Y, Clk, D, Q, Srst, Arst}
@@ -45,6 +47,10 @@ is_port p q = eqb (port_number p) (port_number q)
 
 abbrev pub is_parameter : ParameterName → ParameterName → Bool
 is_parameter p q = eqb (parameter_number p) (parameter_number q)
+
+-- the table names the parameter for the type
+abbrev pub names_parameter : Kind → ParameterName → Bool
+names_parameter k name = list_any (λ p. is_parameter p name) (parameters_of k)
 
 -- no item has the number of a later one
 abbrev pub are_distinct : {X : Type 0} → (X → ℕ) → List X → Bool

@@ -1,10 +1,10 @@
 -- The parts of a design as contracts see them: lists, numbers and bits.
 use Rattle.std.specs.Prelude.{◌≡◌, ℕ, ◌+◌, ◌<◌, ◌≤◌, ◌^◌, Bool, IsTrue, List, Option, Some, length, slice_get, All}
-use Rattle.std.specs.List.{sum_by}
+use Rattle.std.specs.List.{sum_by, list_all}
 use Rattle.cell_table.specs.declared.kind.Kind.{Kind}
 use Rattle.design_signals.specs.declared.sig_bit.SigBit.{SigBit}
 use Rattle.design_signals.specs.declared.sig_bit.SigBit.TheVariants.{Wire, Const, Free}
-use Rattle.design_core.specs.Ports.{are_distinct, port_number, parameter_number}
+use Rattle.design_core.specs.Ports.{are_distinct, names_parameter, port_number, parameter_number}
 use Rattle.design_core.specs.declared.parts.Port.{Port}
 use Rattle.design_core.specs.declared.parts.Parameter.{Parameter}
 use Rattle.design_core.specs.declared.digit.Digit.{Digit}
@@ -59,12 +59,14 @@ IsNumbered free Marker = Unit {0}
 abbrev pub IsWire : WireOf → Type 0
 IsWire w = (0 < w.width) × All (λ digits. length digits ≤ w.width) w.inits
 
--- each signal's bits are declared, each digit's number too, and no port or parameter stands twice
+-- Each signal's bits are declared, each digit's number too, no port or parameter stands twice, and the table names each parameter
+-- for the type.
 pub record IsCellOf (wires : List WireOf) (free : ℕ) (c : CellOf) : Type 0 where
   pub ports : All (λ p. All (IsDeclared wires free) p.signal) c.ports
   pub parameters : All (λ p. All (IsNumbered free) p.digits) c.parameters
   pub one_port : IsTrue (are_distinct (λ p. port_number p.name) c.ports)
   pub one_parameter : IsTrue (are_distinct (λ p. parameter_number p.name) c.parameters)
+  pub named : IsTrue (list_all (λ p. names_parameter c.kind p.name) c.parameters)
 
 abbrev pub IsConnectOf : List WireOf → ℕ → ConnectOf → Type 0
 IsConnectOf wires free j = All (IsDeclared wires free) j.left × All (IsDeclared wires free) j.right

@@ -1,10 +1,10 @@
 // The cells of a design.
 
 ghost use Rattle.std.specs.Prelude.{◌≡◌, All, [], ◌∷◌, ◌++◌, map, string_bytes, false, IsTrue, OnOk, OnErr, IfSome, IfNone, ◌⊎◌, ◌≤◌, ◌^◌, true, None, length};
-ghost use Rattle.std.specs.List.{list_any};
+ghost use Rattle.std.specs.List.{list_all, list_any};
 ghost use Rattle.std.specs.Option.{option_copied};
 ghost use Rattle.design_core.specs.Asked.{has_number, number_at, output_of};
-ghost use Rattle.design_core.specs.Ports.{are_distinct, digits_at, is_parameter, is_port, parameter_number, port_number, signal_at};
+ghost use Rattle.design_core.specs.Ports.{are_distinct, digits_at, is_parameter, is_port, names_parameter, parameter_number, port_number, signal_at};
 ghost use Rattle.design_signals.specs.Chunks.{IsChunk, bits_of};
 
 use crate::digit::Constant;
@@ -72,6 +72,7 @@ impl Cell {
     pub fn parameters(&self) -> &[Parameter]
         ensures parameters { result.now ≡ self.now.parameters }
         ensures once { IsTrue (are_distinct (λ p. parameter_number p.name) self.now.parameters) }
+        ensures named { IsTrue (list_all (λ p. names_parameter self.now.kind p.name) self.now.parameters) }
     {
         self.parameters.as_slice()
     }
@@ -124,7 +125,8 @@ impl Cell {
         name: ParameterName,
         digits: Constant,
     ) -> Result<(), AllocError>
-        requires { list_any (λ p. is_parameter p.name name) self.old.parameters ≡ false }
+        requires named { IsTrue (names_parameter self.old.kind name) }
+        requires once { list_any (λ p. is_parameter p.name name) self.old.parameters ≡ false }
         ensures ok { OnOk result (self.new ≡ record self.old { parameters = self.old.parameters ++ record { name = name; digits = digits } ∷ [] }) }
         ensures err { OnErr result (self.new ≡ self.old) }
     {

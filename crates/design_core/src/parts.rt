@@ -2,11 +2,13 @@
 
 ghost use Rattle.std.specs.Prelude.{◌≡◌, ◌↔◌, IsTrue, None, IfSome, All};
 ghost use Rattle.std.specs.Option.{option_copied};
-ghost use Rattle.design_core.specs.Ports.{digits_at, is_parameter, is_port, parameter_number, port_number, signal_at};
+ghost use Rattle.design_core.specs.Ports.{digits_at, is_parameter, is_port, names_parameter, parameter_number, port_number, signal_at};
 ghost use Rattle.design_signals.specs.Chunks.{IsChunk, bits_of};
 
 use crate::digit::Constant;
 use crate::names::{ParameterName, PortName};
+use crate::table::parameters;
+use cell_table::kind::Kind;
 use design_signals::chunk::Chunk;
 use design_signals::stored::StoredSignal;
 
@@ -78,6 +80,15 @@ pub fn is_parameter(name: ParameterName, other: ParameterName) -> bool
     ensures { result ≡ is_parameter name other }
 {
     parameter_number(name) == parameter_number(other)
+}
+
+/// Whether the table names the parameter for a type.
+pub fn names_parameter(kind: Kind, name: ParameterName) -> bool
+    ensures { result ≡ names_parameter kind name }
+{
+    parameters(kind)
+        .iter()
+        .any(|other| is_parameter(*other, name))
 }
 
 /// The signal of the port of this name, or no bits.

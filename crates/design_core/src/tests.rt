@@ -5,6 +5,7 @@ use crate::design::Design;
 use crate::digit::{Constant, Digit};
 use crate::names::{ParameterName, PortName, known_parameter, known_port};
 use crate::next::{NextState, next_state};
+use crate::parts::names_parameter;
 use crate::table::{Role, ports, role_of};
 use crate::wire::{StartDigits, Wire};
 use cell_table::kind::{Kind, Unary};
@@ -52,7 +53,7 @@ fn add_parameter(cell: &mut Cell, name: &str, constant: Constant) -> Result<(), 
     let Some(name) = known_parameter(name) else {
         return Err(Fail::from("an unknown parameter"));
     };
-    if cell.has_parameter(name) {
+    if !names_parameter(cell.kind(), name) || cell.has_parameter(name) {
         return Err(Fail::from("not built"));
     }
     cell.push_parameter(name, constant)?;

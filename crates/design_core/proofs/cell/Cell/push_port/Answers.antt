@@ -10,4 +10,5 @@ invariant_of-self-2 c =
     record {
       ports = rw c.in_ok-push.ensures.items (distinct-push (λ (p : Port). port_number p.name) _ (port_number c.args.name) refl c.self.inside.ports.items c.self.invariant.ports absent);
       parameters = c.self.invariant.parameters;
+      named = c.self.invariant.named;
     }
