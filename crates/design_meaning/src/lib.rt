@@ -3,4 +3,6 @@
 
 pub mod laws;
 pub mod run;
+#[cfg(test)]
+mod tests;
 pub mod worked;
