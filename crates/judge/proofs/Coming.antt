@@ -1,15 +1,15 @@
 -- What sayings come to, and what that is worth.
-use Rattle.std.proofs.Common.{◌≡◌, ℕ, ◌+◌, ◌<◌, ◌≤◌, Bool, true, false, leb, List, [], ◌∷◌, ◌++◌, length, take, Some, None, refl, sym, ap, subst, inl, inr, arith, ◌⊎◌}
+use Rattle.std.proofs.Common.{◌≡◌, ℕ, ◌+◌, ◌<◌, ◌≤◌, Bool, true, false, leb, List, [], ◌∷◌, ◌++◌, length, get_or, take, Some, None, refl, sym, ◌∙◌, ap, subst, inl, inr, arith, ◌⊎◌}
 use Rattle.std.specs.Prelude.{Option, Contains}
 use Rattle.std.proofs.lemmas.Bool.{cases_Bool, le-leb, lt-leb, leb-true, leb-false}
 use Rattle.std.proofs.lemmas.List.{take_all}
 use Rattle.std.proofs.Math.Bool.{and-true, and-false}
-use Rattle.cnf_form.specs.Cnf.{LitOf, FormulaOf, Assignment, IsUnsatisfiable, IsAdmitted, Deletes, Satisfies}
+use Rattle.cnf_form.specs.Cnf.{LitOf, FormulaOf, ClauseWithin, Assignment, IsUnsatisfiable, IsAdmitted, Deletes, Satisfies}
 use Rattle.cnf_form.proofs.Rup.{Admitted-true, Satisfies-push}
 use Rattle.cnf_form.proofs.Members.{Contains-empty}
 use Rattle.cnf_form.proofs.Removal.{Deletes-within}
 use Rattle.cert_wire.specs.Line.{LiteralLineOf}
-use Rattle.cert_wire.specs.Stream.{AreWithin, sayings}
+use Rattle.cert_wire.specs.Stream.{AreWithin, lits_of, sayings}
 use Rattle.cert_wire.specs.declared.saying.Saying.{Saying}
 use Rattle.cert_wire.specs.declared.saying.Saying.TheVariants.{Clause, Delete, Values, LastValues, Unknown as IsUnknown, Fault}
 use Rattle.sby_terms.specs.declared.names.Answer.TheVariants.{Sat, Unsat}
@@ -220,3 +220,16 @@ satisfying_past f g come out ended bytes taken most same t e l h =
     subst (λ (z : FormulaOf). AreSatisfying z (stream_values z.vars ended bytes most) (Some out)) same
     (subst (λ (b : List ℕ). AreSatisfying g (stream_values g.vars ended b most) (Some out)) t
     (subst (λ (o : Came). AreSatisfying g (stream_values g.vars ended taken most) (Some o)) (sym e) at))
+
+-- the literals of a line are over the formula's variables
+pub lits_within : (vars : ℕ) (ss rest : List Saying) (saying other : Saying) (lits : List LitOf) → ss ≡ saying ∷ rest → saying ≡ other → lits ≡ lits_of other → AreWithin vars ss → ClauseWithin vars lits
+lits_within vars ss rest saying other lits e f g h = let w = rw e at h in rw (g, ← f) w.0
+
+-- at the empty clause, where it is admitted
+pub admitted_empty : (C F : List (List LitOf)) (x : Assignment) (ss rest : List Saying) (saying : Saying) (line : LiteralLineOf) (lits : List LitOf) → ss ≡ saying ∷ rest → saying ≡ Clause line
+    → lits ≡ line.lits → IsAdmitted F lits → lits ≡ [] → ComesTo C F x ss (Some (Found Unsat))
+admitted_empty C F x ss rest saying line lits e f g a n = rw (e, f) (inl (subst (IsAdmitted F) g a, sym g ∙ n, refl))
+
+-- the table of values has a place for each literal
+pub values_room : (vars n : ℕ) (lits : List LitOf) → ClauseWithin vars lits → n ≡ vars + 1 → (k : ℕ) (d : LitOf) → k < length lits → (get_or lits k d).var < n
+values_room vars n lits w e k d h = let v = w k d h in omega (arith, v.1, e)

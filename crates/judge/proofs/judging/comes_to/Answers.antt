@@ -1,9 +1,9 @@
-use Rattle.std.proofs.Common.{◌∙◌, ◌+◌, ap, subst}
-use Rattle.cnf_form.specs.Cnf.{Assignment, IsAdmitted}
+use Rattle.std.proofs.Common.{◌≡◌, ◌∙◌, ◌+◌, List, [], length, ap, sym, subst, rules}
+use Rattle.cnf_form.specs.Cnf.{LitOf, Assignment, ClauseWithin, IsAdmitted}
 use Rattle.drup_check.specs.Checking.{CheckerOf}
 use Rattle.cert_wire.specs.Stream.{sayings}
 use Rattle.judge.specs.Judging.{AreSatisfying}
-use Rattle.judge.proofs.Coming.{from_start, from_unnamed, deleted, last_values, more_values, not_rup, values_end, values_on, within_rest}
+use Rattle.judge.proofs.Coming.{from_start, from_unnamed, deleted, last_values, more_values, not_rup, values_end, values_on, within_rest, lits_within, admitted_empty, values_room}
 use Rattle.judge.proofs.judging.comes_to.Goals as goal
 
 pub sayings-init : goal.sayings-init
@@ -55,3 +55,33 @@ returns-in-LastValues-clause-satisfying c =
     let said = rw c.in-Some.is at c.in_ok-saying.ensures.said in
     let named = values_end _ _ _ _ _ _ _ said c.in-LastValues.is c.lits-in-LastValues.ensures c.name_all-in-LastValues.ensures.named ∙ c.sayings.invariant.named in
     subst (λ (x : Assignment). AreSatisfying c.args.formula.now x c.values_come_to.result) named c.values_come_to.ensures.satisfying
+
+pub add-requires : goal.add-requires
+add-requires c =
+    let said = rw c.in-Some.is at c.in_ok-saying.ensures.said in
+    subst (λ v. ClauseWithin v c.lits.result.now) (sym c.sayings.invariant.vars) (lits_within c.args.formula.now.vars _ _ _ _ c.lits.result.now said c.in-Clause.is c.lits.ensures c.sayings.invariant.within)
+
+pub delete-requires : goal.delete-requires
+delete-requires c =
+    let said = rw c.in-Some.is at c.in_ok-saying.ensures.said in
+    subst (λ v. ClauseWithin v c.lits-in-Delete.result.now) (sym c.sayings.invariant.vars)
+    (lits_within c.args.formula.now.vars _ _ _ _ c.lits-in-Delete.result.now said c.in-Delete.is c.lits-in-Delete.ensures c.sayings.invariant.within)
+
+pub name_all-requires : goal.name_all-requires
+name_all-requires c =
+    let said = rw c.in-Some.is at c.in_ok-saying.ensures.said in
+    values_room c.args.formula.now.vars (length c.sayings.values) c.lits-in-Values.result.now
+    (lits_within c.args.formula.now.vars _ _ _ _ c.lits-in-Values.result.now said c.in-Values.is c.lits-in-Values.ensures c.sayings.invariant.within) c.sayings.invariant.size
+
+pub name_all-requires-in-LastValues : goal.name_all-requires-in-LastValues
+name_all-requires-in-LastValues c =
+    let said = rw c.in-Some.is at c.in_ok-saying.ensures.said in
+    values_room c.args.formula.now.vars (length c.sayings.values) c.lits-in-LastValues.result.now
+    (lits_within c.args.formula.now.vars _ _ _ _ c.lits-in-LastValues.result.now said c.in-LastValues.is c.lits-in-LastValues.ensures c.sayings.invariant.within) c.sayings.invariant.size
+
+pub returns-in-Admitted-clause-comes : goal.returns-in-Admitted-clause-comes
+returns-in-Admitted-clause-comes c =
+    let said = rw c.in-Some.is at c.in_ok-saying.ensures.said in
+    let a = c.in_ok-add-in-Clause.ensures.exact.0 c.in-Admitted.is in
+    let n : c.lits.result.now ≡ [] = search rules in
+    c.sayings.invariant.so_far _ (admitted_empty _ _ _ _ _ _ _ _ said c.in-Clause.is c.lits.ensures a n)
