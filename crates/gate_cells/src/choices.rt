@@ -1,0 +1,61 @@
+// Choices between words, and parts of words.
+
+ghost use Rattle.std.specs.Prelude.{◌≡◌, ◌+◌, ◌≤◌, ◌++◌, All, length, take, drop, IfOk};
+ghost use Rattle.cnf_form.specs.Cnf.{Assignment, LitWithin, lit_in};
+ghost use Rattle.cell_table.specs.Cells.{mux_fn, slice_fn};
+ghost use Rattle.gate_cells.specs.Words.{Builds, IsFull, MeansRow, row_of};
+
+use cnf_form::Lit;
+use gate_graph::{GateFault, Gates};
+use gate_rows::{BitOp, each};
+use std::alloc::{AllocError, Global};
+
+/// `$mux`: `b` where `select` is true, else `a`, which is as wide.
+pub fn mux(
+    alloc: Global,
+    gates: &mut Gates,
+    a: &[Lit],
+    b: &[Lit],
+    select: Lit,
+) -> Result<Vec<Lit>, GateFault>
+    requires a { All (LitWithin gates.old.formula.vars) a.now }
+    requires b { All (LitWithin gates.old.formula.vars) b.now }
+    requires select { LitWithin gates.old.formula.vars select }
+    requires width { length a.now ≡ length b.now }
+    ensures row { let row = λ (x : Assignment). mux_fn (row_of x a.now) (row_of x b.now) (lit_in x select) in
+        IfOk result (λ word. MeansRow gates.new row word.items) }
+    ensures builds { Builds gates.old gates.new (length a.now) }
+    ensures too_many { result ≡ Err GateFault.TooMany → IsFull gates.old gates.new (length a.now) }
+{
+    let word = each(alloc, gates, &BitOp::Mux(select), a, b)?;
+    Ok(word)
+}
+
+// The same literals.
+fn copied(alloc: Global, a: &[Lit]) -> Result<Vec<Lit>, AllocError>
+    ensures { IfOk result (λ word. word.items ≡ a.now) }
+{
+    let mut word = Vec::new(alloc);
+    word.extend_from_slice(a)?;
+    Ok(word)
+}
+
+/// `$slice`: the `y` literals of `a` from the place `offset` on.
+pub fn slice(alloc: Global, a: &[Lit], offset: u32, y: u32) -> Result<Vec<Lit>, AllocError>
+    requires { offset + y ≤ length a.now }
+    ensures literals { IfOk result (λ word. word.items ≡ take y (drop offset a.now)) }
+    ensures row { IfOk result (λ word. (x : Assignment) → row_of x word.items ≡ slice_fn y offset (row_of x a.now)) }
+{
+    let word = copied(alloc, &a[offset as usize..offset as usize + y as usize])?;
+    Ok(word)
+}
+
+/// `$concat`: `b` above `a`.
+pub fn concat(alloc: Global, a: &[Lit], b: &[Lit]) -> Result<Vec<Lit>, AllocError>
+    ensures literals { IfOk result (λ word. word.items ≡ a.now ++ b.now) }
+    ensures row { IfOk result (λ word. (x : Assignment) → row_of x word.items ≡ row_of x a.now ++ row_of x b.now) }
+{
+    let mut word = copied(alloc, a)?;
+    word.extend_from_slice(b)?;
+    Ok(word)
+}
