@@ -1,5 +1,5 @@
-use Rattle.std.proofs.Common.{◌≡◌, ◌∙◌, ◌+◌, List, [], length, ap, sym, subst, rules}
-use Rattle.cnf_form.specs.Cnf.{LitOf, Assignment, ClauseWithin, IsAdmitted}
+use Rattle.std.proofs.Common.{◌≡◌, ◌∙◌, ◌+◌, [], length, ap, sym, subst, rules}
+use Rattle.cnf_form.specs.Cnf.{Assignment, ClauseWithin, IsAdmitted}
 use Rattle.drup_check.specs.Checking.{CheckerOf}
 use Rattle.cert_wire.specs.Stream.{sayings}
 use Rattle.judge.specs.Judging.{AreSatisfying}
