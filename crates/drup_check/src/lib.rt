@@ -260,6 +260,52 @@ mod tests {
         Ok(())
     }
 
+    // {1, 2}, {-1, 2}, {-2, 3}
+    fn three(alloc: Global) -> Result<Formula, AllocError>
+        ensures { IfOk result (λ f. f.vars ≡ 3) }
+    {
+        let a = Lit::new(1, false);
+        let b = Lit::new(2, false);
+        let d = Lit::new(3, false);
+        let mut f = Formula::new(alloc, 3);
+        f.push(&[a, b])?;
+        f.push(&[a.negate(), b])?;
+        f.push(&[b.negate(), d])?;
+        Ok(f)
+    }
+
+    #[test]
+    fn needs_each_clause(rt: HostRuntime) -> Result<(), Fail> {
+        let a = Lit::new(1, false);
+        let b = Lit::new(2, false);
+        let d = Lit::new(3, false);
+        let mut whole = Checker::new(rt.alloc(), &three(rt.alloc())?)?;
+        assert_eq!(rt; whole.add(&[d])?, Added::Admitted);
+        let mut less = Checker::new(rt.alloc(), &three(rt.alloc())?)?;
+        less.delete(&[b, a.negate(), b]);
+        assert_eq!(rt; less.add(&[d])?, Added::NotRup);
+        assert_eq!(rt; less.add(&[a, d])?, Added::Admitted);
+        Ok(())
+    }
+
+    #[test]
+    fn reads_sets(rt: HostRuntime) -> Result<(), Fail> {
+        let a = Lit::new(1, false);
+        let b = Lit::new(2, false);
+        let mut f = Formula::new(rt.alloc(), 2);
+        f.push(&[a, b, a])?;
+        f.push(&[b, a])?;
+        f.push(&[a, a.negate()])?;
+        f.push(&[b.negate(), b.negate(), a])?;
+        let mut checker = Checker::new(rt.alloc(), &f)?;
+        assert_eq!(rt; checker.add(&[b, b.negate()])?, Added::Admitted);
+        checker.delete(&[a, b]);
+        assert_eq!(rt; checker.add(&[a])?, Added::Admitted);
+        checker.delete(&[a]);
+        assert_eq!(rt; checker.add(&[a, a])?, Added::Admitted);
+        Ok(())
+    }
+
     const LINKS: u32 = 1000;
 
     // 1, and each variable implies the next
