@@ -11,9 +11,9 @@ returns c =
     let after : World = untold c.run_program.new.files.faults (option_map string_bytes c.run_program.new.files.blamed) c.run_program.new.out.faults in
     let blamed : Option (List ℕ) = option_map string_bytes c.new-files.result.blamed in
     let zero : Did (untold 0 blamed c.new-out.result.faults) after words d.0 =
-        subst (λ n. Did (untold n blamed c.new-out.result.faults) after words d.0) c.new-files.ensures.faults d.1 in
+    subst (λ n. Did (untold n blamed c.new-out.result.faults) after words d.0) c.new-files.ensures.faults d.1 in
     let none : Did (untold 0 None c.new-out.result.faults) after words d.0 =
-        subst (λ b. Did (untold 0 (option_map (string_bytes {Z = Global}) b) c.new-out.result.faults) after words d.0) c.new-files.ensures.blamed zero in (
+    subst (λ b. Did (untold 0 (option_map (string_bytes {Z = Global}) b) c.new-out.result.faults) after words d.0) c.new-files.ensures.blamed zero in (
       c.run_program.new.files.faults,
       option_map string_bytes c.run_program.new.files.blamed,
       c.run_program.new.out.faults,
