@@ -195,120 +195,180 @@ mod tests {
     use super::*;
     use std::test::Fail;
 
-    // all four clauses on two variables
-    fn four(alloc: Global) -> Result<Formula, AllocError>
-        ensures { IfOk result (λ f. f.vars ≡ 2) }
+    // A checker of a formula that is lent, so that the tests have one value to let go.
+    fn checked(alloc: Global, f: &Formula) -> Result<Checker, Fail>
+        ensures { IfOk result (λ k. k.vars ≡ f.now.vars) }
+    {
+        Ok(Checker::new(alloc, f)?)
+    }
+
+    // All four clauses on two variables.
+    fn four(f: &mut Formula) -> Result<(), AllocError>
+        requires { f.old.vars ≡ 3 }
+        ensures { f.new.vars ≡ 3 }
     {
         let a = Lit::new(1, false);
         let b = Lit::new(2, false);
-        let mut f = Formula::new(alloc, 2);
         f.push(&[a, b])?;
         f.push(&[a.negate(), b])?;
         f.push(&[a, b.negate()])?;
-        f.push(&[a.negate(), b.negate()])?;
-        Ok(f)
-    }
-
-    #[test]
-    fn refutes_four(rt: HostRuntime) -> Result<(), Fail> {
-        let b = Lit::new(2, false);
-        let mut checker = Checker::new(rt.alloc(), &four(rt.alloc())?)?;
-        assert_eq!(rt; checker.add(&[])?, Added::NotRup);
-        assert!(rt; !checker.refuted());
-        assert_eq!(rt; checker.add(&[b])?, Added::Admitted);
-        assert!(rt; !checker.refuted());
-        assert_eq!(rt; checker.add(&[])?, Added::Admitted);
-        assert!(rt; checker.refuted());
-        assert!(rt; !checker.out_of_memory());
-        Ok(())
-    }
-
-    #[test]
-    fn deletes(rt: HostRuntime) -> Result<(), Fail> {
-        let a = Lit::new(1, false);
-        let b = Lit::new(2, false);
-        let mut checker = Checker::new(rt.alloc(), &four(rt.alloc())?)?;
-        checker.delete(&[b, a]);
-        assert_eq!(rt; checker.add(&[b])?, Added::NotRup);
-        assert_eq!(rt; checker.add(&[b.negate()])?, Added::Admitted);
-        Ok(())
-    }
-
-    #[test]
-    fn keeps_a_reason(rt: HostRuntime) -> Result<(), Fail> {
-        let a = Lit::new(1, false);
-        let b = Lit::new(2, false);
-        let mut f = Formula::new(rt.alloc(), 2);
-        f.push(&[a])?;
-        f.push(&[a.negate(), b])?;
-        let mut checker = Checker::new(rt.alloc(), &f)?;
-        checker.delete(&[a.negate(), b]);
-        assert_eq!(rt; checker.add(&[b])?, Added::Admitted);
-        Ok(())
-    }
-
-    #[test]
-    fn admits_all_at_an_empty_clause(rt: HostRuntime) -> Result<(), Fail> {
-        let mut f = Formula::new(rt.alloc(), 1);
-        f.push(&[])?;
-        let mut checker = Checker::new(rt.alloc(), &f)?;
-        assert_eq!(rt; checker.add(&[Lit::new(1, false)])?, Added::Admitted);
-        assert!(rt; !checker.refuted());
-        checker.delete(&[]);
-        assert_eq!(rt; checker.add(&[])?, Added::Admitted);
-        assert!(rt; checker.refuted());
-        Ok(())
+        f.push(&[a.negate(), b.negate()])
     }
 
     // {1, 2}, {-1, 2}, {-2, 3}
-    fn three(alloc: Global) -> Result<Formula, AllocError>
-        ensures { IfOk result (λ f. f.vars ≡ 3) }
+    fn three(f: &mut Formula) -> Result<(), AllocError>
+        requires { f.old.vars ≡ 3 }
+        ensures { f.new.vars ≡ 3 }
     {
         let a = Lit::new(1, false);
         let b = Lit::new(2, false);
         let d = Lit::new(3, false);
-        let mut f = Formula::new(alloc, 3);
         f.push(&[a, b])?;
         f.push(&[a.negate(), b])?;
-        f.push(&[b.negate(), d])?;
-        Ok(f)
+        f.push(&[b.negate(), d])
     }
 
-    #[test]
-    fn needs_each_clause(rt: HostRuntime) -> Result<(), Fail> {
+    // A unit that gives another literal, and its clause.
+    fn unit(f: &mut Formula) -> Result<(), AllocError>
+        requires { f.old.vars ≡ 3 }
+        ensures { f.new.vars ≡ 3 }
+    {
         let a = Lit::new(1, false);
-        let b = Lit::new(2, false);
-        let d = Lit::new(3, false);
-        let mut whole = Checker::new(rt.alloc(), &three(rt.alloc())?)?;
-        assert_eq!(rt; whole.add(&[d])?, Added::Admitted);
-        let mut less = Checker::new(rt.alloc(), &three(rt.alloc())?)?;
-        less.delete(&[b, a.negate(), b]);
-        assert_eq!(rt; less.add(&[d])?, Added::NotRup);
-        assert_eq!(rt; less.add(&[a, d])?, Added::Admitted);
-        Ok(())
+        f.push(&[a])?;
+        f.push(&[a.negate(), Lit::new(2, false)])
     }
 
-    #[test]
-    fn reads_sets(rt: HostRuntime) -> Result<(), Fail> {
+    // Doubled literals, and a tautology.
+    fn doubled(f: &mut Formula) -> Result<(), AllocError>
+        requires { f.old.vars ≡ 3 }
+        ensures { f.new.vars ≡ 3 }
+    {
         let a = Lit::new(1, false);
         let b = Lit::new(2, false);
-        let mut f = Formula::new(rt.alloc(), 2);
         f.push(&[a, b, a])?;
         f.push(&[b, a])?;
         f.push(&[a, a.negate()])?;
-        f.push(&[b.negate(), b.negate(), a])?;
-        let mut checker = Checker::new(rt.alloc(), &f)?;
-        assert_eq!(rt; checker.add(&[b, b.negate()])?, Added::Admitted);
+        f.push(&[b.negate(), b.negate(), a])
+    }
+
+    fn refuted_by_two(checker: &mut Checker) -> Result<bool, AllocError>
+        requires { checker.old.vars ≡ 3 }
+    {
+        let b = Lit::new(2, false);
+        let early = checker.add(&[])?;
+        let first = checker.add(&[b])?;
+        let open = !checker.refuted();
+        let last = checker.add(&[])?;
+        Ok(
+            early == Added::NotRup
+                && first == Added::Admitted
+                && open
+                && last == Added::Admitted
+                && checker.refuted()
+                && !checker.out_of_memory(),
+        )
+    }
+
+    fn deleted_is_missing(checker: &mut Checker) -> Result<bool, AllocError>
+        requires { checker.old.vars ≡ 3 }
+    {
+        let b = Lit::new(2, false);
+        checker.delete(&[b, Lit::new(1, false)]);
+        Ok(checker.add(&[b])? == Added::NotRup && checker.add(&[b.negate()])? == Added::Admitted)
+    }
+
+    #[test]
+    fn all_four(rt: HostRuntime) -> Result<(), Fail> {
+        let mut f = Formula::new(rt.alloc(), 3);
+        four(&mut f)?;
+        assert!(rt; refuted_by_two(&mut checked(rt.alloc(), &f)?)?);
+        assert!(rt; deleted_is_missing(&mut checked(rt.alloc(), &f)?)?);
+        Ok(())
+    }
+
+    fn reason_is_kept(checker: &mut Checker) -> Result<bool, AllocError>
+        requires { checker.old.vars ≡ 3 }
+    {
+        let b = Lit::new(2, false);
+        checker.delete(&[Lit::new(1, true), b]);
+        Ok(checker.add(&[b])? == Added::Admitted)
+    }
+
+    fn all_is_admitted(checker: &mut Checker) -> Result<bool, AllocError>
+        requires { checker.old.vars ≡ 3 }
+    {
+        let first = checker.add(&[Lit::new(1, false)])?;
+        let open = !checker.refuted();
+        checker.delete(&[]);
+        let last = checker.add(&[])?;
+        Ok(first == Added::Admitted && open && last == Added::Admitted && checker.refuted())
+    }
+
+    fn with_empty(f: &mut Formula) -> Result<(), AllocError>
+        ensures { f.new.vars ≡ f.old.vars }
+    {
+        f.push(&[])
+    }
+
+    #[test]
+    fn units(rt: HostRuntime) -> Result<(), Fail> {
+        let mut f = Formula::new(rt.alloc(), 3);
+        unit(&mut f)?;
+        assert!(rt; reason_is_kept(&mut checked(rt.alloc(), &f)?)?);
+        with_empty(&mut f)?;
+        assert!(rt; all_is_admitted(&mut checked(rt.alloc(), &f)?)?);
+        Ok(())
+    }
+
+    fn follows(checker: &mut Checker) -> Result<bool, AllocError>
+        requires { checker.old.vars ≡ 3 }
+    {
+        Ok(checker.add(&[Lit::new(3, false)])? == Added::Admitted)
+    }
+
+    fn needs_each(checker: &mut Checker) -> Result<bool, AllocError>
+        requires { checker.old.vars ≡ 3 }
+    {
+        let a = Lit::new(1, false);
+        let b = Lit::new(2, false);
+        let d = Lit::new(3, false);
+        checker.delete(&[b, a.negate(), b]);
+        Ok(checker.add(&[d])? == Added::NotRup && checker.add(&[a, d])? == Added::Admitted)
+    }
+
+    #[test]
+    fn chained(rt: HostRuntime) -> Result<(), Fail> {
+        let mut f = Formula::new(rt.alloc(), 3);
+        three(&mut f)?;
+        assert!(rt; follows(&mut checked(rt.alloc(), &f)?)?);
+        assert!(rt; needs_each(&mut checked(rt.alloc(), &f)?)?);
+        Ok(())
+    }
+
+    fn reads_sets(checker: &mut Checker) -> Result<bool, AllocError>
+        requires { checker.old.vars ≡ 3 }
+    {
+        let a = Lit::new(1, false);
+        let b = Lit::new(2, false);
+        let both = checker.add(&[b, b.negate()])?;
         checker.delete(&[a, b]);
-        assert_eq!(rt; checker.add(&[a])?, Added::Admitted);
+        let once = checker.add(&[a])?;
         checker.delete(&[a]);
-        assert_eq!(rt; checker.add(&[a, a])?, Added::Admitted);
+        let twice = checker.add(&[a, a])?;
+        Ok(both == Added::Admitted && once == Added::Admitted && twice == Added::Admitted)
+    }
+
+    #[test]
+    fn sets(rt: HostRuntime) -> Result<(), Fail> {
+        let mut f = Formula::new(rt.alloc(), 3);
+        doubled(&mut f)?;
+        assert!(rt; reads_sets(&mut checked(rt.alloc(), &f)?)?);
         Ok(())
     }
 
     const LINKS: u32 = 1000;
 
-    // 1, and each variable implies the next
+    // 1, and each variable implies the next.
     fn chain(alloc: Global) -> Result<Formula, AllocError>
         ensures { IfOk result (λ f. f.vars ≡ LINKS) }
     {
@@ -320,12 +380,20 @@ mod tests {
         Ok(f)
     }
 
+    fn is_followed(checker: &mut Checker) -> Result<bool, AllocError>
+        requires { checker.old.vars ≡ LINKS }
+    {
+        let last = Lit::new(LINKS, false);
+        Ok(
+            checker.add(&[last.negate()])? == Added::NotRup
+                && checker.add(&[last])? == Added::Admitted,
+        )
+    }
+
     #[test]
     fn follows_a_chain(rt: HostRuntime) -> Result<(), Fail> {
-        let last = Lit::new(LINKS, false);
-        let mut checker = Checker::new(rt.alloc(), &chain(rt.alloc())?)?;
-        assert_eq!(rt; checker.add(&[last.negate()])?, Added::NotRup);
-        assert_eq!(rt; checker.add(&[last])?, Added::Admitted);
+        let f = chain(rt.alloc())?;
+        assert!(rt; is_followed(&mut checked(rt.alloc(), &f)?)?);
         Ok(())
     }
 }

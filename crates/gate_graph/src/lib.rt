@@ -27,13 +27,12 @@ mod tests {
         ((bits >> l.var()) % 2 == 1) != l.is_negated()
     }
 
+    fn holds(bits: u32, clause: &[Lit]) -> bool {
+        clause.iter().any(|l| is_true(bits, *l))
+    }
+
     fn satisfies(bits: u32, clauses: &Clauses) -> bool {
-        for place in 0..clauses.len() {
-            if !clauses.get(place).iter().any(|l| is_true(bits, *l)) {
-                return false;
-            }
-        }
-        true
+        (0..clauses.len()).all(|place| holds(bits, clauses.get(place)))
     }
 
     #[derive(Drop)]
@@ -70,48 +69,60 @@ mod tests {
         Some(count)
     }
 
-    #[test]
-    fn gates_have_their_values(rt: HostRuntime) -> Result<(), Fail> {
-        let mut gates = Gates::new(rt.alloc())?;
+    fn circuit_in(gates: &mut Gates) -> Result<Circuit, GateFault> {
         let s = gates.input()?;
         let a = gates.input()?;
         let b = gates.input()?;
-        let both = gates.and(a, b)?;
-        let differ = gates.xor(a, b)?;
-        let chosen = gates.mux(s, a, b)?;
-        let most = gates.maj(s, a, b)?;
-        assert_eq!(rt; gates.vars(), 8);
-        assert_eq!(rt; gates.inputs().len(), 3);
-        assert_eq!(rt; gates.clauses().len(), 18);
-        assert_eq!(rt; gates.constant(false), gates.not(gates.constant(true)));
-        let circuit = Circuit {
+        Ok(Circuit {
             inputs: [s, a, b],
-            gates: [both, differ, chosen, most],
-        };
-        let formula = gates.finish();
-        assert_eq!(rt; rows(&formula.clauses(), &circuit), Some(8));
+            gates: [
+                gates.and(a, b)?,
+                gates.xor(a, b)?,
+                gates.mux(s, a, b)?,
+                gates.maj(s, a, b)?,
+            ],
+        })
+    }
+
+    #[test]
+    fn gates_have_their_values(rt: HostRuntime) -> Result<(), Fail> {
+        let mut gates = Gates::new(rt.alloc())?;
+        let circuit = circuit_in(&mut gates)?;
+        assert_eq!(rt;
+            (gates.vars(), gates.inputs().len(), gates.clauses().len()),
+            (8, 3, 18)
+        );
+        assert_eq!(rt; rows(&gates.finish().clauses(), &circuit), Some(8));
         Ok(())
+    }
+
+    // Whether a gate asked again, and one of equal operands, is there already.
+    fn is_there(gates: &mut Gates) -> Result<bool, GateFault> {
+        let a = gates.input()?;
+        let b = gates.input()?;
+        let both = gates.and(a, b)?;
+        Ok(gates.and(b, a)? == both && gates.xor(a, a)? == gates.constant(false))
     }
 
     #[test]
     fn what_is_there_makes_no_variable(rt: HostRuntime) -> Result<(), Fail> {
         let mut gates = Gates::new(rt.alloc())?;
-        let a = gates.input()?;
-        let b = gates.input()?;
-        let both = gates.and(a, b)?;
-        assert_eq!(rt; gates.and(b, a)?, both);
-        assert_eq!(rt; gates.xor(a, a)?, gates.constant(false));
+        assert!(rt; is_there(&mut gates)?);
         assert_eq!(rt; gates.vars(), 4);
         Ok(())
+    }
+
+    // Whether one input is all that fits, and its negation still answers.
+    fn is_full_behind_one(gates: &mut Gates) -> Result<bool, GateFault> {
+        let a = gates.input()?;
+        Ok(gates.input() == Err(GateFault::TooMany) && gates.not(gates.not(a)) == a)
     }
 
     #[test]
     fn a_limit_refuses_what_is_new(rt: HostRuntime) -> Result<(), Fail> {
         let mut gates = Gates::within(rt.alloc(), 2)?;
-        let a = gates.input()?;
-        assert_eq!(rt; gates.input(), Err(GateFault::TooMany));
+        assert!(rt; is_full_behind_one(&mut gates)?);
         assert_eq!(rt; gates.clauses().len(), 1);
-        assert_eq!(rt; gates.not(gates.not(a)), a);
         Ok(())
     }
 }

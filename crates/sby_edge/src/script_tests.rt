@@ -5,7 +5,9 @@ ghost use Rattle.std.specs.Prelude.{◌≡◌, ◌<◌, true, length};
 use super::*;
 use sby_terms::JobName;
 use std::alloc::{AllocError, Global};
+use std::sync::Wait;
 use std::test::Fail as TestFail;
+use std::time::Clock as SystemClock;
 
 fn script_of(alloc: Global, bytes: &[u8]) -> Result<Script, AllocError> {
     Ok(Script {
@@ -43,44 +45,86 @@ fn played<Y: Yard>(yard: &mut Y, alloc: Global, lane: u32) -> Result<(usize, usi
     answer
 }
 
+// The scripts of lanes 1 and 2: one that is cut into two pieces, and one that stalls and dies by a signal.
+fn push_two(alloc: Global, scripts: &mut Vec<Scripted>) -> Result<(), AllocError> {
+    let whole = script_of(alloc, b"c ab\n0\n")?;
+    push_script(
+        scripts,
+        1,
+        Script {
+            cut: Some(5),
+            ..whole
+        },
+    )?;
+    let whole = script_of(alloc, b"c ab\n0\n")?;
+    push_script(
+        scripts,
+        2,
+        Script {
+            stalls: Some(4),
+            exit: Exit::Signal,
+            ..whole
+        },
+    )
+}
+
+fn push_script(scripts: &mut Vec<Scripted>, lane: u32, script: Script) -> Result<(), AllocError> {
+    scripts.push(Scripted {
+        task: 0,
+        lane,
+        job: JobName::Base(0),
+        script,
+    })?;
+    Ok(())
+}
+
 #[test]
 fn children_play_their_scripts(rt: HostRuntime) -> Result<(), TestFail> {
     let alloc = rt.alloc();
     let stage = Stage::new(alloc);
     let other = script_of(alloc, b"c ab\n0\n")?;
-    let mut cut = script_of(alloc, b"c ab\n0\n")?;
-    cut.cut = Some(5);
-    let mut stalled = script_of(alloc, b"c ab\n0\n")?;
-    stalled.stalls = Some(4);
-    stalled.exit = Exit::Signal;
     let mut scripts = Vec::new(alloc);
-    for (lane, script) in [(1, cut), (2, stalled)] {
-        scripts.push(Scripted {
-            task: 0,
-            lane,
-            job: JobName::Base(0),
-            script,
-        })?;
-    }
+    push_two(alloc, &mut scripts)?;
     let mut yard = ScriptYard::new(&rt, &stage, &scripts, &other);
-    assert_eq!(rt; played(&mut yard, alloc, 0), Ok((7, 0, Exit::Code(20))));
-    assert_eq!(rt; played(&mut yard, alloc, 1), Ok((5, 2, Exit::Code(20))));
-    assert_eq!(rt; played(&mut yard, alloc, 2), Ok((4, 0, Exit::Signal)));
+    let answers = [
+        played(&mut yard, alloc, 0),
+        played(&mut yard, alloc, 1),
+        played(&mut yard, alloc, 2),
+    ];
+    assert_eq!(rt;
+        answers,
+        [
+            Ok((7, 0, Exit::Code(20))),
+            Ok((5, 2, Exit::Code(20))),
+            Ok((4, 0, Exit::Signal)),
+        ]
+    );
     Ok(())
 }
 
+// What a child comes to whose first such call fails.
+fn failing(
+    alloc: Global,
+    rt: &(impl Wait + SystemClock + Sync),
+    call: Call,
+) -> Result<(usize, usize, Exit), Fail> {
+    let stage = Stage::new(alloc);
+    let mut other = script_of(alloc, b"0\n")?;
+    other.faults.push(CallFault { call, nth: 1 })?;
+    let scripts = Vec::<Scripted>::new(alloc);
+    let mut yard = ScriptYard::new(rt, &stage, &scripts, &other);
+    played(&mut yard, alloc, 0)
+}
+
 #[test]
-fn listed_calls_fail(rt: HostRuntime) -> Result<(), TestFail> {
-    let alloc = rt.alloc();
+fn listed_calls_fail(rt: HostRuntime) {
     for call in [Call::Start, Call::Read, Call::Kill, Call::Reap] {
-        let stage = Stage::new(alloc);
-        let mut other = script_of(alloc, b"0\n")?;
-        other.faults.push(CallFault { call, nth: 1 })?;
-        let scripts = Vec::<Scripted>::new(alloc);
-        let mut yard = ScriptYard::new(&rt, &stage, &scripts, &other);
-        assert_eq!(rt; played(&mut yard, alloc, 0), Err(Fail::Failed), "{call:?}");
+        assert_eq!(rt;
+            failing(rt.alloc(), &rt, call),
+            Err(Fail::Failed),
+            "{call:?}"
+        );
     }
-    Ok(())
 }
 
 // The first bytes of two children: both started before either is read, or one after the other.
@@ -125,33 +169,47 @@ fn in_two_bays<Y: Yard>(yard: &mut Y, alloc: Global, beside: bool) -> Result<[us
     counts
 }
 
-#[test]
-fn gates_see_who_is_live(rt: HostRuntime) -> Result<(), TestFail> {
-    let alloc = rt.alloc();
-    for (beside, wanted) in [(true, [3, 3]), (false, [5, 5])] {
-        let stage = Stage::new(alloc);
-        let other = script_of(alloc, b"0\n")?;
-        let mut scripts = Vec::new(alloc);
-        for lane in 0..2u32 {
-            let mut script = script_of(alloc, b"abc")?;
-            script.gate = Some(Gate {
-                task: None,
-                lane: 1 - lane,
-                turns: 1,
-                instead: Vec::from_slice(alloc, b"abcde")?,
-            });
-            scripts.push(Scripted {
-                task: 3,
-                lane,
-                job: JobName::Step,
-                script,
-            })?;
-        }
-        let mut yard = ScriptYard::new(&rt, &stage, &scripts, &other);
-        let counts = in_two_bays(&mut yard, alloc, beside);
-        assert_eq!(rt; counts, Ok(wanted), "{beside}");
-    }
+// A script that waits for the other of two lanes.
+fn push_gated(alloc: Global, scripts: &mut Vec<Scripted>, lane: u32) -> Result<(), AllocError>
+    requires { lane < 2 }
+{
+    let whole = script_of(alloc, b"abc")?;
+    let gate = Gate {
+        task: None,
+        lane: 1 - lane,
+        turns: 1,
+        instead: Vec::from_slice(alloc, b"abcde")?,
+    };
+    scripts.push(Scripted {
+        task: 3,
+        lane,
+        job: JobName::Step,
+        script: Script {
+            gate: Some(gate),
+            ..whole
+        },
+    })?;
     Ok(())
+}
+
+fn gated(
+    alloc: Global,
+    rt: &(impl Wait + SystemClock + Sync),
+    beside: bool,
+) -> Result<[usize; 2], Fail> {
+    let stage = Stage::new(alloc);
+    let other = script_of(alloc, b"0\n")?;
+    let mut scripts = Vec::new(alloc);
+    push_gated(alloc, &mut scripts, 0)?;
+    push_gated(alloc, &mut scripts, 1)?;
+    let mut yard = ScriptYard::new(rt, &stage, &scripts, &other);
+    in_two_bays(&mut yard, alloc, beside)
+}
+
+#[test]
+fn gates_see_who_is_live(rt: HostRuntime) {
+    assert_eq!(rt; gated(rt.alloc(), &rt, true), Ok([3, 3]));
+    assert_eq!(rt; gated(rt.alloc(), &rt, false), Ok([5, 5]));
 }
 
 // All of a proof file, or not; and how many bytes were got.

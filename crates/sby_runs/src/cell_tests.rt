@@ -1,7 +1,7 @@
 // Designs over each cell that is served. No bit of them is free, so that unit propagation refutes a job, and the stream `0` is a
 // certificate, exactly where no assertion breaks within the depth.
 
-use crate::tests::{ERROR, PASS, Printed, UNSAT, judged, prints};
+use crate::tests::{ERROR, PASS, UNSAT, is_judged};
 use std::test::Fail;
 
 const BROKEN: &str = "SBY [t] engine_0 base: certificate NotRup at byte 0";
@@ -25,54 +25,43 @@ const COMPARED: &str = " parameter \\Y_WIDTH 1\n connect \\A \\y\n connect \\B "
 const ASSERTED: &str =
     "\n connect \\Y \\e\n end\n cell $assert \\p\n connect \\A \\e\n connect \\EN 1'1\n end\nend\n";
 
-// What is printed where the cell's output is said to be this value.
-fn compared(rt: &HostRuntime, cell: &[&str], width: &str, value: &str) -> Result<Printed, Fail> {
+// Whether these lines are printed where the cell's output is said to be this value.
+fn compared(
+    rt: &HostRuntime,
+    cell: &[&str],
+    value: Word,
+    rc: u8,
+    lines: [&str; 2],
+) -> Result<bool, Fail> {
     let alloc = rt.alloc();
     let mut parts: Vec<&str> = Vec::new(alloc);
-    parts.extend_from_slice(&["module \\t\n wire width ", width, " \\y\n wire \\e\n"])?;
+    parts.extend_from_slice(&["module \\t\n wire width ", value.1, " \\y\n wire \\e\n"])?;
     parts.extend_from_slice(cell)?;
     parts.extend_from_slice(&[
         " connect \\Y \\y\n end\n cell $eq \\k\n parameter \\A_SIGNED 0\n parameter \\B_SIGNED 0\n parameter \\A_WIDTH ",
-        width,
+        value.1,
         "\n parameter \\B_WIDTH ",
-        width,
+        value.1,
         "\n",
         COMPARED,
-        value,
+        value.0,
         ASSERTED,
     ])?;
-    judged(rt, parts.as_slice(), "1", b"0\n")
-}
-
-fn is_kept(printed: &Printed) -> bool {
-    prints(
-        printed,
-        0,
-        &[
-            "SBY [t] design: 0 register bits, 1 assert, 0 assume, 0 cover",
-            UNSAT,
-            PASS,
-        ],
-    )
-}
-
-fn is_broken(printed: &Printed) -> bool {
-    prints(
-        printed,
-        16,
-        &[
-            "SBY [t] design: 0 register bits, 1 assert, 0 assume, 0 cover",
-            BROKEN,
-            ERROR,
-        ],
+    let design = "SBY [t] design: 0 register bits, 1 assert, 0 assume, 0 cover";
+    is_judged(
+        rt,
+        parts.as_slice(),
+        "1",
+        b"0\n",
+        rc,
+        &[design, lines[0], lines[1]],
     )
 }
 
 // Whether the cell gives the row's value, and not the other.
 fn gives(rt: &HostRuntime, cell: &[&str], row: Row) -> Result<bool, Fail> {
-    let kept = compared(rt, cell, row.y.1, row.y.0)?;
-    let broken = compared(rt, cell, row.y.1, row.other)?;
-    Ok(is_kept(&kept) && is_broken(&broken))
+    let kept = compared(rt, cell, row.y, 0, [UNSAT, PASS])?;
+    Ok(kept && compared(rt, cell, (row.other, row.y.1), 16, [BROKEN, ERROR])?)
 }
 
 fn one_operand(rt: &HostRuntime, row: Row) -> Result<bool, Fail> {
@@ -214,6 +203,22 @@ const ALIASED: &str =
 
 const OPEN: &str = "module \\t\n wire input 1 \\clk\n wire width 2 \\q\n wire width 2 \\alias\n";
 
+// Whether the design's run says that the assertion breaks within the depth, or that it doesn't.
+fn is_answered(
+    rt: &HostRuntime,
+    parts: &[&str],
+    depth: &str,
+    design: &str,
+    breaks: bool,
+) -> Result<bool, Fail> {
+    let (rc, line, last) = if breaks {
+        (16, BROKEN, ERROR)
+    } else {
+        (0, UNSAT, PASS)
+    };
+    is_judged(rt, parts, depth, b"0\n", rc, &[design, line, last])
+}
+
 // A counter of two bits that must not come to 3: its first wires, the assertion's EN, and whether it breaks within the depth.
 #[test]
 fn a_counter_breaks_in_its_cycle(rt: HostRuntime) -> Result<(), Fail> {
@@ -227,19 +232,9 @@ fn a_counter_breaks_in_its_cycle(rt: HostRuntime) -> Result<(), Fail> {
         (PLAIN, "\\q [0]", "4", true),
         (PLAIN, "\\d [0]", "8", false),
     ] {
-        let printed = judged(
-            &rt,
-            &[wires, COUNTER, enable, "\n end\nend\n"],
-            depth,
-            b"0\n",
-        )?;
-        let (rc, line, last) = if breaks {
-            (16, BROKEN, ERROR)
-        } else {
-            (0, UNSAT, PASS)
-        };
+        let parts = [wires, COUNTER, enable, "\n end\nend\n"];
         assert!(rt;
-            prints(&printed, rc, &[design, line, last]),
+            is_answered(&rt, &parts, depth, design, breaks)?,
             "{enable} {depth}"
         );
     }
@@ -256,27 +251,17 @@ fn assumptions_hold_up_to_the_last_cycle(rt: HostRuntime) -> Result<(), Fail> {
         ("\\d [0]", "\\three", "4", false),
         ("\\q [0]", "\\three", "4", true),
     ] {
-        let printed = judged(
-            &rt,
-            &[
-                PLAIN,
-                COUNTER,
-                "1'1\n end\n cell $assume \\s\n connect \\A ",
-                says,
-                "\n connect \\EN ",
-                enable,
-                "\n end\nend\n",
-            ],
-            depth,
-            b"0\n",
-        )?;
-        let (rc, line, last) = if breaks {
-            (16, BROKEN, ERROR)
-        } else {
-            (0, UNSAT, PASS)
-        };
+        let parts = [
+            PLAIN,
+            COUNTER,
+            "1'1\n end\n cell $assume \\s\n connect \\A ",
+            says,
+            "\n connect \\EN ",
+            enable,
+            "\n end\nend\n",
+        ];
         assert!(rt;
-            prints(&printed, rc, &[design, line, last]),
+            is_answered(&rt, &parts, depth, design, breaks)?,
             "{says} {enable}"
         );
     }

@@ -1,6 +1,6 @@
 // Streams whose values satisfy a job's formula, and the runs that they show.
 
-use crate::tests::{DESIGN, END, ERROR, HEAD, NOT, REGISTER, T, judged, prints};
+use crate::tests::{DESIGN, END, ERROR, HEAD, NOT, REGISTER, T, is_judged};
 use std::test::Fail;
 
 const SAT: &str = "SBY [t] base: SAT";
@@ -18,26 +18,22 @@ const SHOWN: &[&str] = &[
 #[test]
 fn values_show_a_run(rt: HostRuntime) -> Result<(), Fail> {
     for stream in ["v 1 0\n", "v\nv 1\nv 0\n"] {
-        let printed = judged(&rt, T, "2", stream.as_bytes())?;
-        assert!(rt; prints(&printed, 2, SHOWN), "{stream}");
+        assert!(rt;
+            is_judged(&rt, T, "2", stream.as_bytes(), 2, SHOWN)?,
+            "{stream}"
+        );
     }
     Ok(())
 }
 
 #[test]
 fn no_assertion_has_no_run(rt: HostRuntime) -> Result<(), Fail> {
-    let printed = judged(&rt, &[HEAD, NOT, REGISTER, END], "5", b"v 0\n")?;
-    assert!(rt;
-        prints(
-            &printed,
-            16,
-            &[
-                "SBY [t] design: 1 register bits, 0 assert, 0 assume, 0 cover",
-                "SBY [t] engine_0 base: certificate NotSatisfying clause 1",
-                ERROR,
-            ],
-        ),
-        "no assertion"
-    );
+    let lines = [
+        "SBY [t] design: 1 register bits, 0 assert, 0 assume, 0 cover",
+        "SBY [t] engine_0 base: certificate NotSatisfying clause 1",
+        ERROR,
+    ];
+    let design = [HEAD, NOT, REGISTER, END];
+    assert!(rt; is_judged(&rt, &design, "5", b"v 0\n", 16, &lines)?);
     Ok(())
 }

@@ -139,6 +139,18 @@ pub(crate) fn prints(printed: &Printed, rc: u8, lines: &[&str]) -> bool {
     printed.rc == rc && are_lines(printed.bytes.as_slice(), lines)
 }
 
+// Whether the run of a stored stream for a design prints these lines, and ends with this status.
+pub(crate) fn is_judged(
+    rt: &HostRuntime,
+    design: &[&str],
+    depth: &str,
+    stream: &[u8],
+    rc: u8,
+    lines: &[&str],
+) -> Result<bool, Fail> {
+    Ok(prints(&judged(rt, design, depth, stream)?, rc, lines))
+}
+
 #[test]
 fn streams_are_judged(rt: HostRuntime) -> Result<(), Fail> {
     for (depth, stream, rc, last) in [
@@ -186,11 +198,9 @@ fn streams_are_judged(rt: HostRuntime) -> Result<(), Fail> {
             ["SBY [t] engine_0 base: certificate NotRup at byte 0", ERROR],
         ),
     ] {
-        let printed = judged(&rt, T, depth, stream.as_bytes())?;
-        assert!(rt;
-            prints(&printed, rc, &[DESIGN, last[0], last[1]]),
-            "{depth} {stream}"
-        );
+        let lines = [DESIGN, last[0], last[1]];
+        let is = is_judged(&rt, T, depth, stream.as_bytes(), rc, &lines)?;
+        assert!(rt; is, "{depth} {stream}");
     }
     Ok(())
 }
@@ -242,11 +252,9 @@ fn lines_of_streams_are_told(rt: HostRuntime) -> Result<(), Fail> {
         ),
         ("d 1 0\n0\n", 0, [UNSAT, PASS]),
     ] {
-        let printed = judged(&rt, T, "1", stream.as_bytes())?;
-        assert!(rt;
-            prints(&printed, rc, &[DESIGN, last[0], last[1]]),
-            "{stream}"
-        );
+        let lines = [DESIGN, last[0], last[1]];
+        let is = is_judged(&rt, T, "1", stream.as_bytes(), rc, &lines)?;
+        assert!(rt; is, "{stream}");
     }
     Ok(())
 }
@@ -255,22 +263,33 @@ fn lines_of_streams_are_told(rt: HostRuntime) -> Result<(), Fail> {
 fn each_prefix_ends_early(rt: HostRuntime) -> Result<(), Fail> {
     let stream = b"c hello\n-1 0\n0\n";
     for length in 0..14 {
-        let printed = judged(&rt, T, "1", &stream[..length])?;
-        let line = format!(in rt.alloc();
-            "SBY [t] engine_0 base: certificate EarlyEnd at byte {length}"
-        )?;
-        assert!(rt;
-            prints(&printed, 16, &[DESIGN, line.as_str(), ERROR]),
-            "{length}"
-        );
+        assert!(rt; ends_early(&rt, &stream[..length])?, "{length}");
     }
     Ok(())
+}
+
+fn ends_early(rt: &HostRuntime, stream: &[u8]) -> Result<bool, Fail> {
+    let length = stream.len();
+    let line = format!(in rt.alloc();
+        "SBY [t] engine_0 base: certificate EarlyEnd at byte {length}"
+    )?;
+    is_judged(rt, T, "1", stream, 16, &[DESIGN, line.as_str(), ERROR])
 }
 
 // What a run over a store prints, and the content of the job's file.
 fn run_over(rt: &HostRuntime, words: &[&str], failing: Vec<u64>) -> Result<Printed, Fail> {
     let mut files = store(rt.alloc(), T, b"0\n", failing)?;
     Ok(run(rt, &mut files, words, Vec::new(rt.alloc()))?)
+}
+
+fn runs_to(
+    rt: &HostRuntime,
+    words: &[&str],
+    failing: Vec<u64>,
+    rc: u8,
+    lines: &[&str],
+) -> Result<bool, Fail> {
+    Ok(prints(&run_over(rt, words, failing)?, rc, lines))
 }
 
 const USAGE: &str =
@@ -314,8 +333,10 @@ fn words_are_answered(rt: HostRuntime) -> Result<(), Fail> {
         ),
     ];
     for (words, rc, lines) in cases {
-        let printed = run_over(&rt, words, Vec::new(rt.alloc()))?;
-        assert!(rt; prints(&printed, rc, lines), "{words:?}");
+        assert!(rt;
+            runs_to(&rt, words, Vec::new(rt.alloc()), rc, lines)?,
+            "{words:?}"
+        );
     }
     Ok(())
 }
@@ -329,8 +350,11 @@ fn failed_files_are_told(rt: HostRuntime) -> Result<(), Fail> {
         (5, "SBY [t] ERROR: file t/model/base.cnf"),
         (6, "SBY [t] ERROR: file s0"),
     ] {
-        let printed = run_over(&rt, &words, vec![in rt.alloc(); call]?)?;
-        assert!(rt; prints(&printed, 16, &[line, ERROR]), "{call}");
+        let failing = vec![in rt.alloc(); call]?;
+        assert!(rt;
+            runs_to(&rt, &words, failing, 16, &[line, ERROR])?,
+            "{call}"
+        );
     }
     Ok(())
 }
@@ -380,71 +404,77 @@ impl Sink for SlowSink {
 
 #[test]
 fn a_slow_sink_is_offered_the_rest(rt: HostRuntime) -> Result<(), Fail> {
-    let mut files = store(rt.alloc(), T, b"0\n", Vec::new(rt.alloc()))?;
     let mut out = SlowSink {
         taken: Vec::new(rt.alloc()),
         faults: 0,
     };
-    let words = ["--judge", "t.il", "bmc", "1", "s0"];
-    assert_eq!(rt; run_into(&rt, &mut files, &words, &mut out)?, 0);
+    assert!(rt; fills(&rt, &mut out)?);
     assert!(rt; are_lines(out.taken.as_slice(), &[DESIGN, UNSAT, PASS]));
     Ok(())
 }
 
-fn base_file(rt: &HostRuntime, design: &[&str], depth: &str) -> Result<Vec<u8>, Fail> {
+fn fills(rt: &HostRuntime, out: &mut SlowSink) -> Result<bool, Fail> {
+    let mut files = store(rt.alloc(), T, b"0\n", Vec::new(rt.alloc()))?;
+    let words = ["--judge", "t.il", "bmc", "1", "s0"];
+    Ok(run_into(rt, &mut files, &words, out)? == 0)
+}
+
+// What a run leaves as the job's file.
+#[derive(Clone, Copy, Debug, PartialEq, Eq)]
+enum JobFile {
+    Falsum,
+    Formula,
+    Other,
+    Missing,
+}
+
+fn job_file_of(content: Option<&[u8]>) -> JobFile {
+    match content {
+        None => JobFile::Missing,
+        Some(b"p cnf 1 1\n0\n") => JobFile::Falsum,
+        Some(bytes) if bytes.starts_with(b"p cnf ") => JobFile::Formula,
+        Some(_) => JobFile::Other,
+    }
+}
+
+fn job_file(rt: &HostRuntime, design: &[&str], depth: &str) -> Result<JobFile, Fail> {
     let alloc = rt.alloc();
     let mut files = store(alloc, design, b"0\n", Vec::new(alloc))?;
-    run(
-        rt,
-        &mut files,
-        &["--judge", "t.il", "bmc", depth, "s0"],
-        Vec::new(alloc),
-    )?;
-    match files.content("t/model/base.cnf") {
-        Some(bytes) => Ok(Vec::from_slice(alloc, bytes)?),
-        None => Ok(Vec::new(alloc)),
-    }
+    let words = ["--judge", "t.il", "bmc", depth, "s0"];
+    run(rt, &mut files, &words, Vec::new(alloc))?;
+    Ok(job_file_of(files.content("t/model/base.cnf")))
 }
 
 #[test]
 fn job_files_are_put(rt: HostRuntime) -> Result<(), Fail> {
     let plain: &[&str] = &[HEAD, NOT, REGISTER, END];
-    assert_eq!(rt;
-        base_file(&rt, plain, "5")?.as_slice(),
-        b"p cnf 1 1\n0\n".as_slice()
-    );
-    let printed = judged(&rt, plain, "5", b"0\n")?;
-    assert!(rt;
-        prints(
-            &printed,
-            0,
-            &[
-                "SBY [t] design: 1 register bits, 0 assert, 0 assume, 0 cover",
-                UNSAT,
-                PASS
-            ]
-        )
-    );
-    assert!(rt; base_file(&rt, T, "2")?.starts_with(b"p cnf "));
-    assert!(rt; base_file(&rt, &[HEAD, NOT, NOT, REGISTER, END], "2")?.is_empty());
-    assert!(rt; base_file(&rt, &["x"], "2")?.is_empty());
+    let cases: [(&[&str], JobFile); 4] = [
+        (plain, JobFile::Falsum),
+        (T, JobFile::Formula),
+        (&[HEAD, NOT, NOT, REGISTER, END], JobFile::Missing),
+        (&["x"], JobFile::Missing),
+    ];
+    for (design, file) in cases {
+        assert_eq!(rt; job_file(&rt, design, "2")?, file);
+    }
+    let lines = [
+        "SBY [t] design: 1 register bits, 0 assert, 0 assume, 0 cover",
+        UNSAT,
+        PASS,
+    ];
+    assert!(rt; is_judged(&rt, plain, "5", b"0\n", 0, &lines)?);
     Ok(())
 }
 
 #[test]
 fn an_open_register_starts_anyhow(rt: HostRuntime) -> Result<(), Fail> {
-    let printed = judged(&rt, &[OPEN_HEAD, NOT, REGISTER, ASSERT, END], "1", b"0\n")?;
-    assert!(rt;
-        prints(
-            &printed,
-            16,
-            &[
-                DESIGN,
-                "SBY [t] engine_0 base: certificate NotRup at byte 0",
-                ERROR
-            ]
-        )
-    );
+    let design = [OPEN_HEAD, NOT, REGISTER, ASSERT, END];
+    let lines = [
+        DESIGN,
+        "SBY [t] engine_0 base: certificate NotRup at byte 0",
+        ERROR,
+    ];
+    assert!(rt; is_judged(&rt, &design, "1", b"0\n", 16, &lines)?);
     Ok(())
 }
 
@@ -467,7 +497,8 @@ const FALLING: &str =
 
 #[test]
 fn design_faults_are_told(rt: HostRuntime) -> Result<(), Fail> {
-    let cases: [(&[&str], &str); 6] = [
+    let cases: [(&[&str], &str); 7] = [
+        (&["x"], "SBY [t] ERROR: rtlil byte 0: Syntax"),
         (
             &[HEAD, NO_TYPE, END],
             "SBY [t] ERROR: design UnknownCell $n",
@@ -488,17 +519,11 @@ fn design_faults_are_told(rt: HostRuntime) -> Result<(), Fail> {
         (&[HEAD, LOOP, END], "SBY [t] ERROR: design Loop $n"),
     ];
     for (design, line) in cases {
-        let printed = judged(&rt, design, "1", b"0\n")?;
-        assert!(rt; prints(&printed, 16, &[line, ERROR]), "{line}");
+        assert!(rt;
+            is_judged(&rt, design, "1", b"0\n", 16, &[line, ERROR])?,
+            "{line}"
+        );
     }
-    let printed = judged(&rt, &["x"], "1", b"0\n")?;
-    assert!(rt;
-        prints(
-            &printed,
-            16,
-            &["SBY [t] ERROR: rtlil byte 0: Syntax", ERROR]
-        )
-    );
     Ok(())
 }
 
@@ -534,8 +559,11 @@ fn chain(alloc: Global) -> Result<Vec<&'static str>, AllocError> {
 
 #[test]
 fn a_chain_is_followed(rt: HostRuntime) -> Result<(), Fail> {
-    let parts = chain(rt.alloc())?;
-    let printed = judged(&rt, parts.as_slice(), "1", b"0\n")?;
-    assert!(rt; prints(&printed, 0, &[DESIGN, UNSAT, PASS]));
+    assert!(rt; is_chained(&rt)?);
     Ok(())
+}
+
+fn is_chained(rt: &HostRuntime) -> Result<bool, Fail> {
+    let parts = chain(rt.alloc())?;
+    is_judged(rt, parts.as_slice(), "1", b"0\n", 0, &[DESIGN, UNSAT, PASS])
 }

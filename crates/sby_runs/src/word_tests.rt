@@ -39,15 +39,28 @@ const REFUSED: [&[&str]; 22] = [
     &["--judge", "t.il", "bmc", "1", "-x"],
 ];
 
+fn is_refused(alloc: Global, words: &[&str]) -> Result<bool, AllocError> {
+    Ok(ask(alloc, words)?.is_none())
+}
+
 #[test]
 fn other_words_are_refused(rt: HostRuntime) -> Result<(), Fail> {
     for words in REFUSED {
-        assert!(rt; ask(rt.alloc(), words)?.is_none(), "{words:?}");
+        assert!(rt; is_refused(rt.alloc(), words)?, "{words:?}");
     }
     Ok(())
 }
 
-const ASKED: [(&[&str], &str, &str, u32, &[&str]); 6] = [
+// Words, and the folder, design, depth and streams that they ask for.
+type Row = (
+    &'static [&'static str],
+    &'static str,
+    &'static str,
+    u32,
+    &'static [&'static str],
+);
+
+const ASKED: [Row; 6] = [
     (&["--judge", "t.il", "bmc", "1"], "t", "t.il", 1, &[]),
     (
         &["-d", "out", "--judge", "a/b.il", "bmc", "3", "x", "y"],
@@ -93,16 +106,18 @@ fn is_same(asked: &TaskRequest, folder: &str, design: &str, depth: u32, streams:
             .all(|(stream, name)| stream.as_str() == *name)
 }
 
+fn is_asked(alloc: Global, row: Row) -> Result<bool, AllocError> {
+    let (words, folder, design, depth, streams) = row;
+    match ask(alloc, words)? {
+        None => Ok(false),
+        Some(asked) => Ok(is_same(&asked, folder, design, depth, streams)),
+    }
+}
+
 #[test]
 fn judged_designs_are_asked(rt: HostRuntime) -> Result<(), Fail> {
-    for (words, folder, design, depth, streams) in ASKED {
-        match ask(rt.alloc(), words)? {
-            None => panic!(rt; "{words:?}"),
-            Some(asked) => assert!(rt;
-                is_same(&asked, folder, design, depth, streams),
-                "{words:?}"
-            ),
-        }
+    for row in ASKED {
+        assert!(rt; is_asked(rt.alloc(), row)?, "{row:?}");
     }
     Ok(())
 }

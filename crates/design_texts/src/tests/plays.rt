@@ -2,7 +2,7 @@
 
 use crate::tests::checked;
 use rtlil_design::flat::Flat;
-use rtlil_design::row::Row;
+use rtlil_design::row::{Row, Run};
 use run_choices::{Choices, open_of};
 use run_play::{Player, play};
 use std::alloc::Global;
@@ -28,43 +28,65 @@ fn toggle(alloc: Global) -> Result<Flat, Fail> {
     checked(alloc, TOGGLE)?.map_err(|_| Fail::from("not flat"))
 }
 
-#[test]
-fn register_turns_over(rt: HostRuntime) -> Result<(), Fail> {
-    let flat = toggle(rt.alloc())?;
-    let mut player = Player::new(rt.alloc(), &flat)?;
+fn turns_over(alloc: Global, flat: &Flat) -> Result<bool, Fail> {
+    let mut player = Player::new(alloc, flat)?;
     if player.opens().starts().len() != 0 || player.opens().inputs().len() != 1 {
-        return Err(Fail::from("other open bits"));
+        return Ok(false);
     }
     if player.asserts() != 1 || player.covers() != 0 {
-        return Err(Fail::from("other statements"));
+        return Ok(false);
     }
     player.begin(&[]);
     player.step(&[true]);
-    assert_eq!(rt; player.row(), [true, false, true].as_slice());
-    assert!(rt; player.assumed() && !player.broken(0));
+    let first = player.row() == [true, false, true].as_slice()
+        && player.assumed()
+        && !player.broken(0);
     player.step(&[false]);
-    assert_eq!(rt; player.row(), [false, true, false].as_slice());
-    assert!(rt; player.assumed() && player.broken(0));
+    Ok(
+        first
+            && player.row() == [false, true, false].as_slice()
+            && player.assumed()
+            && player.broken(0),
+    )
+}
+
+fn inputs(alloc: Global) -> Result<Choices, Fail> {
+    let mut rows = Vec::new(alloc);
+    rows.push(Row::new(Vec::from_slice(alloc, &[true])?))?;
+    rows.push(Row::new(Vec::from_slice(alloc, &[false])?))?;
+    Ok(Choices::new(Row::new(Vec::new(alloc)), rows))
+}
+
+fn is_shown(run: &Run) -> bool {
+    match run.cycles() {
+        [first, last] => {
+            first.wires() == [true, false, true].as_slice()
+                && last.wires() == [false, true, false].as_slice()
+                && last.free().is_empty()
+        }
+        _ => false,
+    }
+}
+
+fn is_played(alloc: Global, flat: &Flat, choices: &Choices) -> Result<bool, Fail> {
+    let opens = open_of(alloc, flat)?;
+    if !opens.fits(choices) || choices.inputs().len() != 2 {
+        return Ok(false);
+    }
+    Ok(is_shown(&play(alloc, flat, choices)?))
+}
+
+#[test]
+fn register_turns_over(rt: HostRuntime) -> Result<(), Fail> {
+    let flat = toggle(rt.alloc())?;
+    assert!(rt; turns_over(rt.alloc(), &flat)?);
     Ok(())
 }
 
 #[test]
 fn whole_run_is_played(rt: HostRuntime) -> Result<(), Fail> {
-    let alloc = rt.alloc();
-    let flat = toggle(alloc)?;
-    let mut rows = Vec::new(alloc);
-    rows.push(Row::new(Vec::from_slice(alloc, &[true])?))?;
-    rows.push(Row::new(Vec::from_slice(alloc, &[false])?))?;
-    let choices = Choices::new(Row::new(Vec::new(alloc)), rows);
-    let opens = open_of(alloc, &flat)?;
-    if !opens.fits(&choices) || choices.inputs().len() != 2 {
-        return Err(Fail::from("other open bits"));
-    }
-    let run = play(alloc, &flat, &choices)?;
-    let cycles = run.cycles();
-    assert_eq!(rt; cycles.len(), 2);
-    assert_eq!(rt; cycles[0].wires(), [true, false, true].as_slice());
-    assert_eq!(rt; cycles[1].wires(), [false, true, false].as_slice());
-    assert_eq!(rt; cycles[1].free().len(), 0);
+    let flat = toggle(rt.alloc())?;
+    let choices = inputs(rt.alloc())?;
+    assert!(rt; is_played(rt.alloc(), &flat, &choices)?);
     Ok(())
 }
