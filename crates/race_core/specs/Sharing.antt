@@ -21,11 +21,66 @@ share_read m n = cond ((nat_lt 0 m && nat_lt 0 n) && fits (m + n)) (Some (event.
 abbrev pub share_turns : {T : Type 0} → ℕ → ℕ → Option (LaneEvent T)
 share_turns m n = cond (fits (m + n)) (Some (event.Turns (m + n))) None
 
+-- the entry that a read of m bytes, judged More, and the next event share, if they do
+abbrev pub shared_read : {T : Type 0} → ℕ → LaneEvent T → Option (LaneEvent T)
+shared_read m (event.Read n progress.More) = share_read m n
+shared_read m (event.Read n (progress.Found f)) = None
+shared_read m (event.Read n progress.Unknown) = None
+shared_read m (event.Read n (progress.Bad number at)) = None
+shared_read m (event.Read n progress.Failed) = None
+shared_read m (event.Read n progress.Unjudged) = None
+shared_read m (event.File n p) = None
+shared_read m (event.Settle won) = None
+shared_read m event.ReaderMemory = None
+shared_read m (event.Turns n) = None
+shared_read m (event.Poll p) = None
+shared_read m (event.Clock r) = None
+shared_read m (event.Look c known) = None
+shared_read m event.Kill = None
+shared_read m event.KeeperMemory = None
+shared_read m event.Took = None
+shared_read m event.Start = None
+shared_read m event.Finish = None
+shared_read m event.Gave = None
+
+-- and that m turns and the next event share
+abbrev pub shared_turns : {T : Type 0} → ℕ → LaneEvent T → Option (LaneEvent T)
+shared_turns m (event.Read n p) = None
+shared_turns m (event.File n p) = None
+shared_turns m (event.Settle won) = None
+shared_turns m event.ReaderMemory = None
+shared_turns m (event.Turns n) = share_turns m n
+shared_turns m (event.Poll p) = None
+shared_turns m (event.Clock r) = None
+shared_turns m (event.Look c known) = None
+shared_turns m event.Kill = None
+shared_turns m event.KeeperMemory = None
+shared_turns m event.Took = None
+shared_turns m event.Start = None
+shared_turns m event.Finish = None
+shared_turns m event.Gave = None
+
 -- the entry that an event and the next one share, if they do
 abbrev pub shared : {T : Type 0} → LaneEvent T → LaneEvent T → Option (LaneEvent T)
-shared (event.Read m progress.More) (event.Read n progress.More) = share_read m n
-shared (event.Turns m) (event.Turns n) = share_turns m n
-shared e f = None
+shared (event.Read m progress.More) e = shared_read m e
+shared (event.Read m (progress.Found f)) e = None
+shared (event.Read m progress.Unknown) e = None
+shared (event.Read m (progress.Bad number at)) e = None
+shared (event.Read m progress.Failed) e = None
+shared (event.Read m progress.Unjudged) e = None
+shared (event.File n p) e = None
+shared (event.Settle won) e = None
+shared event.ReaderMemory e = None
+shared (event.Turns m) e = shared_turns m e
+shared (event.Poll p) e = None
+shared (event.Clock r) e = None
+shared (event.Look c known) e = None
+shared event.Kill e = None
+shared event.KeeperMemory e = None
+shared event.Took e = None
+shared event.Start e = None
+shared event.Finish e = None
+shared event.Gave e = None
 
 -- the two entries, or the shared one
 abbrev pub entries : {T : Type 0} → LaneEvent T → LaneEvent T → Option (LaneEvent T) → List (LaneEvent T)

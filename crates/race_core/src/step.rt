@@ -100,14 +100,15 @@ pub fn place_step<T>(place: Place, event: &LaneEvent<T>) -> Place
 }
 
 impl JobTerms {
-    // Whether a finding makes the job needless.
-    fn is_needless<T: Settled>(&self, value: &T) -> bool
+    /// Whether a finding makes the job needless: `wait` is off, and it is one for the job itself, or for Step one that Base is Sat.
+    pub fn is_needless<T: Settled>(&self, value: &T) -> bool
         ensures { result ≡ is_needless T.job T.answer self.now value.now }
     {
         !self.wait && is_needless_by(value.job(), value.answer(), self.job)
     }
 
-    fn is_shown(&self, reading: u64) -> bool
+    /// Whether a reading of the clock, in milliseconds, shows the limit.
+    pub fn is_shown(&self, reading: u64) -> bool
         ensures { result ≡ shows_limit self.now.start self.now.limit reading }
     {
         match self.limit {
