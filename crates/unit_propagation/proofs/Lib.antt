@@ -13,3 +13,4 @@ pub mod Filing
 pub mod States
 pub mod Assumptions
 pub mod Levels
+pub mod Learning

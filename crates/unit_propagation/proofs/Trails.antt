@@ -1,14 +1,15 @@
 -- A trail that grows by one literal, or loses its last one.
-use Rattle.std.proofs.Common.{◌≡◌, ℕ, ◌+◌, ◌-◌, ◌*◌, ◌<◌, ◌≤◌, Bool, true, false, not, cond, List, [], ◌∷◌, ◌++◌, length, get_or, set, take, refl, sym, ◌∙◌, ap, subst, inl, inr, arith}
+use Rattle.std.proofs.Common.{◌≡◌, ◌⊎◌, ℕ, ◌+◌, ◌-◌, ◌*◌, ◌<◌, ◌≤◌, Bool, true, false, not, cond, List, [], ◌∷◌, ◌++◌, length, get_or, set, take, refl, sym, ◌∙◌, ap, subst, inl, inr, arith}
 use Rattle.std.specs.Prelude.{Contains}
 use Rattle.std.proofs.lemmas.Bool.{both_ways, cases_eq, cases_lt, cases_Bool}
-use Rattle.std.proofs.lemmas.List.{get_or-set_same, get_or-set_other, take-append-le, take_at, take_all, get_or_append_left, get_or_push, length_push, length-set}
+use Rattle.std.proofs.lemmas.List.{get_or-set_same, get_or-set_other, take-append-le, take_at, take_all, get_or-take, length-take, get_or_append_left, get_or_push, length_push, length-set}
 use Rattle.std.proofs.lemmas.List.Sums.{sum_by-set}
-use Rattle.std.proofs.lemmas.List.Elements.{All-push, Contains-append_left, Contains-push, Contains-push_cases}
+use Rattle.std.proofs.lemmas.List.Elements.{All-push, Contains-append_left, Contains-push, Contains-push_cases, Contains-get_or}
 use Rattle.cnf_form.specs.Cnf.{LitOf, negate, index_of}
 use Rattle.cnf_form.proofs.Literals.{index_of-injective, lit_cases, negate-negate}
 use Rattle.cnf_form.proofs.Members.{take_one_more}
-use Rattle.unit_propagation.specs.Marks.{is_marked, IsBelow, IsTrail, TrailOf}
+use Rattle.unit_propagation.specs.Marks.{is_marked, IsBelow, IsTrail, IsPlaced, TrailOf}
+use Rattle.unit_propagation.specs.declared.watch.Origin.{Origin}
 use Rattle.unit_propagation.specs.Propagation.{IsConsistent, IsOpen}
 
 sign_room : (v n : ℕ) (a : Bool) → v ≤ n → 2 * v + cond a 1 0 < 2 * n + 2
@@ -159,3 +160,46 @@ cut_ends t ls place n room e past short idle =
       | inr h ↦ e ∙ ap (λ k. take k t) (let m : n ≤ length t = short h in omega (arith, m, past, room))
       | inl h ↦ e ∙ take_all _ t (let m : n ≡ place = idle h in omega (arith, m)) ∙ sym (take_all place t (omega (arith, h)))
     ]
+
+signs : (a b : Bool) → (a ≡ b) ⊎ (a ≡ not b)
+signs true true = inl refl
+signs true false = inr refl
+signs false true = inr refl
+signs false false = inl refl
+
+-- literals of one variable
+pub var_cases : (m l : LitOf) → m.var ≡ l.var → (m ≡ l) ⊎ (m ≡ negate l)
+var_cases m l same =
+    let mk : ℕ → Bool → LitOf = λ v b. record { var = v; negated = b } in
+    elim (signs m.negated l.negated) [
+      | inl e ↦ inl (ap (λ v. mk v m.negated) same ∙ ap (mk l.var) e)
+      | inr e ↦ inr (ap (λ v. mk v m.negated) same ∙ ap (mk l.var) e)
+    ]
+
+-- the table of places, as the trail grows and as it is cut
+pub placed_push : (vars : ℕ) (origins : List Origin) (t : List LitOf) (l : LitOf) (o : Origin) → IsPlaced vars origins t → l.var ≤ vars → IsOpen t l → o.place ≡ length t → IsPlaced vars (set origins l.var o) (t ++ l ∷ [])
+placed_push vars origins t l o w below opened at = record {
+  sized = length-set origins l.var o ∙ w.sized;
+  placed = λ i d e h. elim (cases_eq i (length t)) [
+    | inl g ↦
+        let here : get_or (t ++ l ∷ []) i d ≡ l = get_or_push t l d i (sym g) in
+        ap (λ (z : LitOf). (get_or (set origins l.var o) z.var e).place) here
+        ∙ ap (λ (z : Origin). z.place) (get_or-set_same origins l.var o e (omega (arith, below, w.sized))) ∙ at ∙ sym g
+    | inr ne ↦
+        let inside : i < length t = omega (arith, h, length_push t l, ne) in
+        let before : get_or (t ++ l ∷ []) i d ≡ get_or t i d = get_or_append_left t (l ∷ []) d i inside in
+        ap (λ (z : LitOf). (get_or (set origins l.var o) z.var e).place) before
+        ∙ ap (λ (z : Origin). z.place) (get_or-set_other origins l.var (get_or t i d).var o e (λ same. not_on (get_or t i d) (Contains-get_or t i d inside) same)) ∙ w.placed i d e inside
+  ];
+}
+  where
+    not_on : (m : LitOf) → Contains t m → m.var ≡ l.var → ⊥
+    not_on m k same = elim (var_cases m l same) [ inl e ↦ opened.not_true (subst (Contains t) e k) | inr e ↦ opened.not_false (subst (Contains t) e k) ]
+
+pub placed_cut : (vars : ℕ) (origins : List Origin) (t t' : List LitOf) (n : ℕ) → IsPlaced vars origins t → t' ≡ take n t → IsPlaced vars origins t'
+placed_cut vars origins t t' n w e = rw e (record {
+  sized = w.sized;
+  placed = λ i d o h.
+      let short = length-take n t in
+      ap (λ (z : LitOf). (get_or origins z.var o).place) (get_or-take n t i d (omega (arith, h, short))) ∙ w.placed i d o (omega (arith, h, short));
+})

@@ -2,6 +2,7 @@
 use Rattle.std.specs.Prelude.{◌≡◌, ℕ, ◌+◌, ◌*◌, ◌^◌, ◌<◌, ◌≤◌, Bool, true, false, List, length, take, Contains, All, slice_index_or}
 use Rattle.std.specs.List.{count_by}
 use Rattle.cnf_form.specs.Cnf.{LitOf, index_of}
+use Rattle.unit_propagation.specs.declared.watch.Origin.{Origin}
 use Rattle.unit_propagation.specs.Propagation.{IsConsistent}
 
 abbrev pub is_marked : List Bool → LitOf → Bool
@@ -34,3 +35,8 @@ pub record IsTrail (vars : ℕ) (marks : List Bool) (trail : List LitOf) : Type 
   pub counted : count_by (λ b. b) marks ≡ length trail
   pub consistent : IsConsistent trail
   pub distinct : IsDistinct trail
+
+-- the table has the place of each literal of the trail, by its variable
+pub record IsPlaced (vars : ℕ) (origins : List Origin) (trail : List LitOf) : Type 0 where
+  pub sized : length origins ≡ vars + 1
+  pub placed : (i : ℕ) (d : LitOf) (e : Origin) → i < length trail → (slice_index_or origins (slice_index_or trail i d).var e).place ≡ i

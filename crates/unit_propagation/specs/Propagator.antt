@@ -65,6 +65,18 @@ EndsAssumed new lits Complete = (l : LitOf) → Contains lits l → Contains new
 EndsAssumed new lits (Falsified k) = (c : List LitOf) × (slot_at new.slots k ≡ Some c) × IsFalsified new.trail c
 EndsAssumed new lits Opposed = (l : LitOf) × Contains lits l × Contains new.trail (negate l)
 
+-- a level was opened, the literal was made true, and what follows from it is true
+pub record IsDecided (old : PropagatorOf) (l : LitOf) (new : PropagatorOf) : Type 0 where
+  pub vars : new.vars ≡ old.vars
+  pub slots : new.slots ≡ old.slots
+  pub limits : new.limits ≡ old.limits ++ length old.trail ∷ []
+  pub propagated : Propagates (clauses_of old.slots) (old.trail ++ l ∷ []) new.trail
+
+-- how it ended: nothing is left to do, or a clause is falsified
+abbrev pub EndsDecided : PropagatorOf → Option ℕ → Type 0
+EndsDecided new None = new.conflict ≡ false
+EndsDecided new (Some k) = (new.conflict ≡ true) × ((c : List LitOf) × (slot_at new.slots k ≡ Some c) × IsFalsified new.trail c)
+
 -- memory was wanting: only a number may be used up
 abbrev pub IsWanting : PropagatorOf → PropagatorOf → Type 0
 IsWanting old new = Same old.slots new.slots × (new ≡ record old { slots = new.slots })

@@ -14,6 +14,7 @@ use crate::outcome::Outcome;
 use crate::store::ClauseStore;
 use crate::trail::Trail;
 use crate::walk::settle;
+use crate::watch::GONE;
 use cnf_form::Lit;
 use std::alloc::{AllocError, Global};
 
@@ -31,7 +32,7 @@ fn assume_one(trail: &mut Trail, l: Lit) -> Result<bool, AllocError>
     if trail.is_true(l.negate()) {
         return Ok(false);
     }
-    trail.assign(l)?;
+    trail.assign(l, GONE)?;
     Ok(true)
 }
 

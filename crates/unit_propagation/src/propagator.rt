@@ -1,10 +1,11 @@
 // Clauses, watch lists and trail together.
 
-ghost use Rattle.std.specs.Prelude.{ℕ, ◌≡◌, ◌≢◌, ◌↔◌, ◌⊎◌, ◌+◌, ◌*◌, ◌<◌, ◌≤◌, ◌^◌, ◌++◌, ◌∷◌, [], true, false, List, Option, length, take, Contains, All, IfOk, IfSome, IfNone, OnOk, OnErr, IsTrue, Some, None, slice_index_or, slice_set};
-ghost use Rattle.cnf_form.specs.Cnf.{LitOf, negate, ClauseWithin};
+ghost use Rattle.std.specs.Prelude.{ℕ, ◌≡◌, ◌≢◌, ◌↔◌, ◌⊎◌, ◌+◌, ◌*◌, ◌<◌, ◌≤◌, ◌^◌, ◌++◌, ◌∷◌, [], true, false, List, Option, length, take, Contains, All, IfOk, IfSome, IfNone, OnOk, OnErr, IsTrue, Some, None, slice_get, slice_index_or, slice_set};
+ghost use Rattle.cnf_form.specs.Cnf.{LitOf, negate, LitWithin, ClauseWithin};
 ghost use Rattle.cnf_form.specs.declared.literal.TheConstants.{MAX_VARS};
 ghost use Rattle.unit_propagation.specs.Propagation.{IsConsistent, IsOpen, IsSatisfied, IsFalsified, IsFalsifiedBut, IsFixpoint, Propagates};
-ghost use Rattle.unit_propagation.specs.Propagator.{clauses_of, slot_at, IsPut, IsWanting, IsAssumed, EndsAssumed, is_conflict};
+ghost use Rattle.unit_propagation.specs.Marks.{IsBelow, IsDistinct};
+ghost use Rattle.unit_propagation.specs.Propagator.{clauses_of, slot_at, IsPut, IsWanting, IsAssumed, EndsAssumed, IsDecided, EndsDecided, is_conflict};
 
 use crate::assume::assume;
 use crate::file::{file_clause, take_out};
@@ -14,6 +15,7 @@ use crate::scan::{Standing, scan_clause};
 use crate::store::ClauseStore;
 use crate::trail::Trail;
 use crate::walk::settle_unit;
+use crate::watch::GONE;
 use cnf_form::{Lit, MAX_VARS};
 use std::alloc::{AllocError, Global};
 use std::marker::Model;
@@ -251,6 +253,7 @@ impl Propagator {
             &self.pairs,
             &mut self.trail,
             l,
+            k,
         ) {
             Ok(stop) => {
                 self.conflict = stop.is_some();
@@ -309,6 +312,172 @@ impl Propagator {
             }
             Err(e) => {
                 self.limits.truncate(level);
+                Err(e)
+            }
+        }
+    }
+    /// The literals that are true, in the order in which they became so.
+    #[inline(always)]
+    pub fn trail(&self) -> &[Lit]
+        ensures trail { result.now ≡ self.now.trail }
+        ensures below { All (IsBelow self.now.vars) result.now }
+        ensures consistent { IsConsistent self.now.trail }
+        ensures room { length self.now.trail ≤ 2 * self.now.vars + 2 }
+        ensures distinct { IsDistinct self.now.trail }
+    {
+        self.trail.lits()
+    }
+
+    /// The place of a true literal on the trail.
+    #[inline(always)]
+    pub fn place(&self, l: Lit) -> usize
+        requires below { l.var ≤ self.now.vars }
+        requires on { Contains self.now.trail l }
+        ensures within { result < length self.now.trail }
+        ensures at { slice_get self.now.trail result ≡ Some l }
+        ensures first { Contains (take result self.now.trail) l → ⊥ }
+    {
+        self.trail.place(l)
+    }
+
+    /// The number of the clause that made a true literal so, where one did. A hint: nothing follows from it, and who reads it
+    /// looks at the clause.
+    #[inline(always)]
+    pub fn reason(&self, l: Lit) -> u32
+        requires { l.var ≤ self.now.vars }
+    {
+        self.trail.reason(l)
+    }
+
+    /// The number of levels above level 0.
+    pub fn levels(&self) -> usize
+        ensures { result ≡ length self.now.limits }
+    {
+        self.limits.len()
+    }
+
+    /// The length of the trail when the level above this one began.
+    pub fn limit(&self, level: usize) -> usize
+        requires { level < length self.now.limits }
+        ensures limit { result ≡ slice_index_or self.now.limits level 0 }
+        ensures within { result ≤ length self.now.trail }
+    {
+        self.limits[level]
+    }
+
+    /// The level of a place of the trail: how many levels began at it or before.
+    pub fn level_of(&self, place: usize) -> usize
+        ensures within { result ≤ length self.now.limits }
+        ensures below { (i : ℕ) → i < result → slice_index_or self.now.limits i 0 ≤ place }
+        ensures above { (i : ℕ) → result ≤ i → i < length self.now.limits → place < slice_index_or self.now.limits i 0 }
+    {
+        let count = self.limits.len();
+        for taken in 0..count {
+            let level = count - taken;
+            if self.limits[level - 1] <= place {
+                return level;
+            }
+        }
+        0
+    }
+
+    /// The clauses are over the variables.
+    pub fn clauses_are_within(&self)
+        ensures { (c : List LitOf) → Contains (clauses_of self.now.slots) c → ClauseWithin self.now.vars c }
+    {
+        let _conflict = self.conflict;
+    }
+
+    /// Where a level begins, nothing is left to do on the trail up to there.
+    pub fn levels_are_complete(&self)
+        ensures consistent { IsConsistent self.now.trail }
+        ensures rising { (i j : ℕ) → i ≤ j → j < length self.now.limits
+            → slice_index_or self.now.limits i 0 ≤ slice_index_or self.now.limits j 0 }
+        ensures within { (n : ℕ) → Contains self.now.limits n → n ≤ length self.now.trail }
+        ensures fixpoint { (n : ℕ) → Contains self.now.limits n
+            → IsFixpoint (take n self.now.trail) (clauses_of self.now.slots) }
+    {
+        let _conflict = self.conflict;
+    }
+
+    /// Opens a level, makes an open literal true, and then what follows from it. The number of the falsified clause, if there
+    /// is one. If memory runs out, nothing changes.
+    pub fn decide(&mut self, l: Lit) -> Result<Option<u32>, AllocError>
+        requires conflict { self.old.conflict ≡ false }
+        requires below { l.var ≤ self.old.vars }
+        requires opened { IsOpen self.old.trail l }
+        ensures decided { OnOk result (IsDecided self.old l self.new) }
+        ensures ends { IfOk result (λ o. EndsDecided self.new o) }
+        ensures err { OnErr result (self.new ≡ self.old) }
+    {
+        let level = self.limits.len();
+        let base = self.trail.len();
+        self.limits.push(base)?;
+        match settle_unit(
+            self.alloc,
+            &mut self.store,
+            &mut self.lists,
+            &self.pairs,
+            &mut self.trail,
+            l,
+            GONE,
+        ) {
+            Ok(falsified) => {
+                self.conflict = falsified.is_some();
+                Ok(falsified)
+            }
+            Err(e) => {
+                self.limits.truncate(level);
+                Err(e)
+            }
+        }
+    }
+
+    /// Puts a clause on the level that is open, all of whose literals are false but the first of these two, and of which the
+    /// second became false on this level; makes the first true, and then what follows. The number of the falsified clause, if
+    /// there is one. If memory runs out, no clause is put; a number may be used up.
+    pub fn learn(
+        &mut self,
+        clause: &[Lit],
+        first: Lit,
+        second: Lit,
+    ) -> Result<Option<u32>, AllocError>
+        requires conflict { self.old.conflict ≡ false }
+        requires within { ClauseWithin self.old.vars clause.now }
+        requires first { Contains clause.now first }
+        requires second { Contains clause.now second }
+        requires two { first ≢ second }
+        requires opened { IsOpen self.old.trail first }
+        requires unit { IsFalsifiedBut self.old.trail clause.now first }
+        requires level { (n : ℕ) → Contains self.old.limits n → Contains (take n self.old.trail) (negate second) → ⊥ }
+        ensures ok { OnOk result (IsPut self.old clause.now self.new) }
+        ensures ends { IfOk result (λ o. EndsDecided self.new o) }
+        ensures err { OnErr result (IsWanting self.old self.new) }
+    {
+        file_clause(
+            &mut self.store,
+            &mut self.lists,
+            &mut self.pairs,
+            clause,
+            first,
+            second,
+        )?;
+        let k = (self.store.len() - 1) as u32;
+        match settle_unit(
+            self.alloc,
+            &mut self.store,
+            &mut self.lists,
+            &self.pairs,
+            &mut self.trail,
+            first,
+            k,
+        ) {
+            Ok(falsified) => {
+                self.conflict = falsified.is_some();
+                Ok(falsified)
+            }
+            Err(e) => {
+                take_out(&mut self.store, &mut self.pairs, k);
                 Err(e)
             }
         }

@@ -1,10 +1,12 @@
 // The literals that are true, in the order in which they became so.
 
-ghost use Rattle.std.specs.Prelude.{◌≡◌, ◌↔◌, ◌+◌, ◌-◌, ◌*◌, ◌<◌, ◌≤◌, ◌^◌, ◌++◌, ◌∷◌, [], IsTrue, IfOk, OnOk, OnErr, length, take, Contains, slice_get, Some};
+ghost use Rattle.std.specs.Prelude.{◌≡◌, ◌↔◌, ◌+◌, ◌-◌, ◌*◌, ◌<◌, ◌≤◌, ◌^◌, ◌++◌, ◌∷◌, [], IsTrue, IfOk, OnOk, OnErr, length, take, All, Contains, slice_get, Some};
 ghost use Rattle.cnf_form.specs.Cnf.{LitOf, negate};
-ghost use Rattle.unit_propagation.specs.Marks.{Shows};
+ghost use Rattle.unit_propagation.specs.Marks.{IsBelow, IsDistinct, Shows};
 ghost use Rattle.unit_propagation.specs.Propagation.{IsConsistent, IsOpen};
+ghost use Rattle.unit_propagation.specs.declared.watch.Origin.{Origin};
 
+use crate::watch::{GONE, Origin};
 use cnf_form::Lit;
 use std::alloc::{AllocError, Global};
 use std::marker::Model;
@@ -13,17 +15,18 @@ use std::marker::Model;
 pub struct Trail {
     vars: u32,
     marks: Vec<bool>,
+    origins: Vec<Origin>,
     lits: Vec<Lit>,
 }
 
 impl Model for Trail {
-    ghost use Rattle.unit_propagation.specs.Marks.{TrailOf, IsTrail};
+    ghost use Rattle.unit_propagation.specs.Marks.{TrailOf, IsTrail, IsPlaced};
 
     ghost Value = { TrailOf };
 
     ghost view = { λ t. record { vars = t.vars; lits = t.lits.items } };
 
-    ghost invariant = { λ t. IsTrail t.vars t.marks.items t.lits.items };
+    ghost invariant = { λ t. IsTrail t.vars t.marks.items t.lits.items × IsPlaced t.vars t.origins.items t.lits.items };
 }
 
 impl Trail {
@@ -32,9 +35,15 @@ impl Trail {
         ensures { IfOk result (λ t. t ≡ record { vars = vars; lits = [] }) }
     {
         let marks = vec![in alloc; false; 2 * vars as usize + 2]?;
+        let origin = Origin {
+            place: 0,
+            reason: GONE,
+        };
+        let origins = vec![in alloc; origin; vars as usize + 1]?;
         Ok(Trail {
             vars,
             marks,
+            origins,
             lits: Vec::new(alloc),
         })
     }
@@ -56,16 +65,18 @@ impl Trail {
         self.marks.as_slice()
     }
 
-    // Makes an open literal true.
+    // Makes an open literal true. The reason is a hint, from which nothing follows.
     #[inline(always)]
-    pub fn assign(&mut self, l: Lit) -> Result<(), AllocError>
+    pub fn assign(&mut self, l: Lit, reason: u32) -> Result<(), AllocError>
         requires below { l.var ≤ self.old.vars }
         requires opened { IsOpen self.old.lits l }
         ensures ok { OnOk result (self.new ≡ record self.old { lits = self.old.lits ++ l ∷ [] }) }
         ensures err { OnErr result (self.new ≡ self.old) }
     {
+        let place = self.len() as u32;
         self.lits.push(l)?;
         self.marks[l.index()] = true;
+        self.origins[l.var() as usize] = Origin { place, reason };
         Ok(())
     }
 
@@ -84,6 +95,38 @@ impl Trail {
         ensures below { result.var ≤ self.now.vars }
     {
         self.lits[place]
+    }
+
+    // The place of a true literal.
+    #[inline(always)]
+    pub fn place(&self, l: Lit) -> usize
+        requires below { l.var ≤ self.now.vars }
+        requires on { Contains self.now.lits l }
+        ensures within { result < length self.now.lits }
+        ensures at { slice_get self.now.lits result ≡ Some l }
+        ensures first { Contains (take result self.now.lits) l → ⊥ }
+    {
+        self.origins[l.var() as usize].place as usize
+    }
+
+    // The number of the clause that made a literal true, if one did, as it was told.
+    #[inline(always)]
+    pub fn reason(&self, l: Lit) -> u32
+        requires { l.var ≤ self.now.vars }
+    {
+        self.origins[l.var() as usize].reason
+    }
+
+    // The literals in order.
+    #[inline(always)]
+    pub fn lits(&self) -> &[Lit]
+        ensures lits { result.now ≡ self.now.lits }
+        ensures below { All (IsBelow self.now.vars) result.now }
+        ensures consistent { IsConsistent self.now.lits }
+        ensures room { length self.now.lits ≤ 2 * self.now.vars + 2 }
+        ensures distinct { IsDistinct self.now.lits }
+    {
+        self.lits.as_slice()
     }
 
     // Takes the last literal back.

@@ -188,7 +188,7 @@ fn visit_clause(
             Visited::Moved(other, m)
         }
         Visit::Assign(other) => {
-            if trail.assign(other).is_err() {
+            if trail.assign(other, clause).is_err() {
                 return Visited::NoMemory(other);
             }
             Visited::Assigned(other)

@@ -94,7 +94,7 @@ fn imply(trail: &mut Trail, clause: u32, blocker: Lit) -> Option<Stop>
     if trail.is_true(blocker.negate()) {
         return Some(Stop::Conflict(clause));
     }
-    if trail.assign(blocker).is_err() {
+    if trail.assign(blocker, clause).is_err() {
         return Some(Stop::Memory);
     }
     None
@@ -272,6 +272,7 @@ pub(crate) fn settle_unit(
     pairs: &WatchLists,
     trail: &mut Trail,
     l: Lit,
+    reason: u32,
 ) -> Result<Option<u32>, AllocError>
     requires trail { trail.old.vars ≡ store.old.vars }
     requires lists { lists.old.vars ≡ store.old.vars }
@@ -292,6 +293,6 @@ pub(crate) fn settle_unit(
         → SettleFits slots (rows_of pairs.now.lists.items) (record old { trail = old.trail ++ l ∷ [] }) new old.trail result }
 {
     let base = trail.len();
-    trail.assign(l)?;
+    trail.assign(l, reason)?;
     settle(alloc, store, lists, pairs, trail, base)
 }

@@ -22,3 +22,10 @@ pub struct Watch {
     pub clause: u32,
     pub blocker: Lit,
 }
+
+// The place of a literal on the trail, and the clause that made it true.
+#[derive(Clone, Copy)]
+pub struct Origin {
+    pub place: u32,
+    pub reason: u32,
+}
