@@ -1,12 +1,12 @@
 -- The number of digits, from the highest down.
-use Rattle.std.proofs.Common.{◌≡◌, ℕ, zero, suc, ◌+◌, ◌-◌, ◌*◌, ◌/◌, ◌%◌, ◌^◌, ◌<◌, ◌≤◌, Bool, true, false, eqb, List, [], ◌∷◌, map, length, get_or, drop, Some, refl, ap, ◌∙◌, arith}
+use Rattle.std.proofs.Common.{◌≡◌, ℕ, zero, suc, ◌+◌, ◌-◌, ◌*◌, ◌/◌, ◌%◌, ◌^◌, ◌<◌, ◌≤◌, Bool, true, false, eqb, ◌&&◌, List, [], ◌∷◌, ◌++◌, replicate, map, length, get_or, drop, Some, refl, ap, ◌∙◌, arith}
 use Rattle.std.specs.Prelude.{slice_get}
 use Rattle.std.proofs.lemmas.List.{length-map}
 use Rattle.std.proofs.Math.Nat.{mod-eq_of_lt}
 use Rattle.sby_bits.specs.Rows.{Row, num, low_bits}
 use Rattle.sby_bits.proofs.Numbers.{length-low_bits, low_bits-at}
 use Rattle.sby_bits.proofs.RowLaws.{num-low_bits}
-use Rattle.design_core.specs.Digits.{digit_number, digits_number, is_number, number_digits}
+use Rattle.design_core.specs.Digits.{digit_number, digits_number, is_binary, is_number, number_digits}
 use Rattle.design_core.specs.declared.digit.Digit.{Digit}
 use Rattle.design_core.specs.declared.digit.Digit.TheVariants.{Const}
 
@@ -56,3 +56,21 @@ map-at (b ∷ r) (suc i) h = map-at r i (omega arith)
 pub number-digit : (w v i : ℕ) → i < w → slice_get (number_digits w v) i ≡ Some (Const (eqb (v / 2 ^ i % 2) 1))
 number-digit w v i h =
     map-at (low_bits w v) i (omega (arith, h, length-low_bits w v)) ∙ ap (λ (b : Bool). Some (Const b)) (low_bits-at w v i h)
+
+-- ---- digits with others above them
+
+zeros-number : (n : ℕ) → digits_number (replicate n (Const false)) ≡ 0
+zeros-number zero = refl
+zeros-number (suc n) = let rest : digits_number (replicate n (Const false)) ≡ 0 = zeros-number n in omega arith
+
+pub zeros-above : (xs : List Digit) (n : ℕ) → digits_number (xs ++ replicate n (Const false)) ≡ digits_number xs
+zeros-above [] n = zeros-number n
+zeros-above (x ∷ xs) n = ap (λ (k : ℕ). digit_number x + 2 * k) (zeros-above xs n)
+
+zeros-binary : (n : ℕ) → is_number (replicate n (Const false)) ≡ true
+zeros-binary zero = refl
+zeros-binary (suc n) = zeros-binary n
+
+pub binary-above : (xs : List Digit) (n : ℕ) → is_number (xs ++ replicate n (Const false)) ≡ is_number xs
+binary-above [] n = zeros-binary n
+binary-above (x ∷ xs) n = ap (λ (b : Bool). is_binary x && b) (binary-above xs n)

@@ -1,9 +1,11 @@
 -- The digits of parameters, lowest first, and what they are as numbers.
-use Rattle.std.specs.Prelude.{ℕ, ◌+◌, ◌*◌, Bool, true, false, cond, List, [], ◌∷◌, map}
+use Rattle.std.specs.Prelude.{ℕ, ◌+◌, ◌*◌, Bool, true, false, cond, List, [], ◌∷◌, map, replicate}
 use Rattle.std.specs.List.{list_all}
 use Rattle.sby_bits.specs.Rows.{low_bits}
 use Rattle.design_core.specs.declared.digit.Digit.{Digit}
 use Rattle.design_core.specs.declared.digit.Digit.TheVariants.{Const, Free, Marker}
+use Rattle.design_core.specs.declared.digit.Extension.{Extension}
+use Rattle.design_core.specs.declared.digit.Extension.TheVariants.{Zeros, Markers}
 
 abbrev pub is_binary : Digit → Bool
 is_binary (Const b) = true
@@ -33,3 +35,15 @@ is_number digits = list_all is_binary digits
 -- a number as so many digits
 abbrev pub number_digits : ℕ → ℕ → List Digit
 number_digits width n = map (λ b. Const b) (low_bits width n)
+
+-- what stands above digits that are kept one by one
+abbrev pub above_digit : Extension → Digit
+above_digit (Zeros count) = Const false
+above_digit (Markers count) = Marker
+
+abbrev pub above_count : Extension → ℕ
+above_count (Zeros count) = count
+above_count (Markers count) = count
+
+abbrev pub above_digits : Extension → List Digit
+above_digits above = replicate (above_count above) (above_digit above)

@@ -1,7 +1,8 @@
 // The constants of parameters.
 
-ghost use Rattle.std.specs.Prelude.{◌≡◌, ◌≤◌, ◌<◌, ◌^◌, ◌⊎◌, length, slice_get, Some, IfOk, IfSome, IfNone, true, false};
+ghost use Rattle.std.specs.Prelude.{◌≡◌, ◌≤◌, ◌<◌, ◌^◌, ◌⊎◌, ◌++◌, length, slice_get, Some, IfOk, IfSome, IfNone, true, false};
 ghost use Rattle.design_core.specs.Digits.{digit_number, digits_number, is_binary, is_number, number_digits};
+ghost use Rattle.design_core.specs.Digits.{above_digit, above_digits};
 
 use std::alloc::{AllocError, Global};
 use std::marker::Model;
@@ -14,11 +15,25 @@ pub enum Digit {
     Marker,
 }
 
+/// What stands above the digits that are kept one by one: so many zeros, or digits without a value.
+#[derive(Clone, Copy, Debug, PartialEq, Eq)]
+pub enum Extension {
+    Zeros(u32),
+    Markers(u32),
+}
+
+/// Digits, lowest first, and what stands above them.
+#[derive(Drop)]
+pub struct LongDigits {
+    pub digits: Vec<Digit>,
+    pub above: Extension,
+}
+
 /// How a constant is kept: a number below two to its width, or its digits.
 #[derive(Drop)]
 pub enum ConstantParts {
     Number(u64, u32),
-    Digits(Box<Vec<Digit>>),
+    Digits(Box<LongDigits>),
 }
 
 /// A constant: its digits, lowest first.
@@ -55,8 +70,20 @@ impl Constant {
     pub fn new(alloc: Global, digits: Vec<Digit>) -> Result<Constant, AllocError>
         ensures { IfOk result (λ constant. constant ≡ digits.items) }
     {
+        Constant::extended(alloc, digits, Extension::Zeros(0))
+    }
+
+    /// A constant of these digits, lowest first, and of those above them, which take no room.
+    pub fn extended(
+        alloc: Global,
+        digits: Vec<Digit>,
+        above: Extension,
+    ) -> Result<Constant, AllocError>
+        ensures { IfOk result (λ constant. constant ≡ digits.items ++ above_digits above) }
+    {
+        let long = LongDigits { digits, above };
         Ok(Constant {
-            parts: ConstantParts::Digits(Box::new(alloc, digits)?),
+            parts: ConstantParts::Digits(Box::new(alloc, long)?),
         })
     }
 
@@ -66,7 +93,7 @@ impl Constant {
     {
         match &self.parts {
             ConstantParts::Number(_, width) => *width as usize,
-            ConstantParts::Digits(digits) => digits.len(),
+            ConstantParts::Digits(long) => long.digits.len() + above_count(long.above),
         }
     }
 
@@ -77,7 +104,7 @@ impl Constant {
     {
         match &self.parts {
             ConstantParts::Number(value, _) => Digit::Const((*value >> place) % 2 == 1),
-            ConstantParts::Digits(digits) => digit_at(digits.as_slice(), place),
+            ConstantParts::Digits(long) => long_digit(long.digits.as_slice(), long.above, place),
         }
     }
 
@@ -88,16 +115,50 @@ impl Constant {
     {
         match &self.parts {
             ConstantParts::Number(value, _) => Some(*value),
-            ConstantParts::Digits(digits) => number_in(digits.as_slice()),
+            ConstantParts::Digits(long) => long_number(long.digits.as_slice(), long.above),
         }
     }
 }
 
-fn digit_at(digits: &[Digit], place: usize) -> Digit
-    requires { place < length digits.now }
-    ensures { slice_get digits.now place ≡ Some result }
+fn above_count(above: Extension) -> usize
+    ensures count { result ≡ length (above_digits above) }
+    ensures few { result < 2 ^ 32 }
 {
-    digits[place]
+    match above {
+        Extension::Zeros(count) | Extension::Markers(count) => count as usize,
+    }
+}
+
+fn above_digit(above: Extension) -> Digit
+    ensures { result ≡ above_digit above }
+{
+    match above {
+        Extension::Zeros(_) => Digit::Const(false),
+        Extension::Markers(_) => Digit::Marker,
+    }
+}
+
+fn long_digit(digits: &[Digit], above: Extension, place: usize) -> Digit
+    requires { place < length (digits.now ++ above_digits above) }
+    ensures { slice_get (digits.now ++ above_digits above) place ≡ Some result }
+{
+    if place < digits.len() {
+        digits[place]
+    } else {
+        above_digit(above)
+    }
+}
+
+// The number of digits and those above them, where each is 0 or 1, and 64 bits hold it.
+fn long_number(digits: &[Digit], above: Extension) -> Option<u64>
+    ensures some { IfSome result (λ n. (is_number (digits.now ++ above_digits above) ≡ true) × (n ≡ digits_number (digits.now ++ above_digits above))) }
+    ensures none { IfNone result ((is_number (digits.now ++ above_digits above) ≡ false) ⊎ (2 ^ 64 ≤ digits_number (digits.now ++ above_digits above))) }
+{
+    match above {
+        Extension::Zeros(_) => number_in(digits),
+        Extension::Markers(count) if count > 0 => None,
+        Extension::Markers(_) => number_in(digits),
+    }
 }
 
 // Digits as a number, where each is 0 or 1, and 64 bits hold it.

@@ -1,13 +1,14 @@
 -- Rows of chunks.
-use Rattle.std.proofs.Common.{◌≡◌, ℕ, zero, suc, ◌+◌, ◌-◌, ◌<◌, ◌≤◌, true, false, List, [], ◌∷◌, ◌++◌, length, take, drop, map, Option, Some, None, get_or, refl, sym, ap, ◌∙◌, subst, append_assoc, arith}
+use Rattle.std.proofs.Common.{◌≡◌, ℕ, zero, suc, ◌+◌, ◌-◌, ◌<◌, ◌≤◌, true, false, List, [], ◌∷◌, ◌++◌, length, replicate, take, drop, map, Option, Some, None, get_or, refl, sym, ap, ◌∙◌, subst, append_assoc, arith}
 use Rattle.std.specs.Prelude.{reverse, Result, Ok, Err, OnOk, IfOk, option_to_list, IsSome, ◌↔◌}
 use Rattle.std.proofs.lemmas.List.{take-append-drop, take_at, take-take, drop-append-le, length-append, length-take, length-map, length-reverse, reverse-append, reverse-reverse, append-nil, drop_more, drop_all, drop_at, length-drop, get_or-reverse}
 use Rattle.std.proofs.Math.Seq.{drop-append_seam}
 use Rattle.design_signals.specs.declared.sig_bit.SigBit.{SigBit}
-use Rattle.design_signals.specs.declared.sig_bit.SigBit.TheVariants.{Wire}
+use Rattle.design_signals.specs.declared.sig_bit.SigBit.TheVariants.{Wire, Const, Free}
 use Rattle.design_signals.specs.declared.chunk.Chunk.{Chunk}
 use Rattle.design_signals.specs.Chunks.{above, bits_from, chunk_bits, bits_of}
-use Rattle.design_signals.specs.Parts.{falling, row_of, rows_of, AreStarts, wire_row, slice_row, IsSliced}
+use Rattle.design_signals.specs.Parts.{falling, row_of, rows_of, AreStarts, free_row, wire_row, slice_row, IsSliced}
+use Rattle.design_signals.proofs.Cutting.{long_step}
 
 abbrev Bits : Type 0
 Bits = List SigBit
@@ -112,6 +113,31 @@ wire_falls w (suc n) =
     ∙ reverse-append (bits_from (Wire w 0) 0 n) (above (Wire w 0) (0 + n) ∷ [])
     ∙ ap (λ (j : ℕ). Wire w j ∷ reverse (bits_from (Wire w 0) 0 n)) at
     ∙ ap (λ (x : Bits). Wire w n ∷ x) (wire_falls w n)
+
+-- free bits, from the lowest number on, and one constant
+pub free_falls : (m n count : ℕ) → m + 1 ≡ n + count → reverse (bits_from (Free m) 0 count) ≡ free_row n count
+free_falls m n zero e = refl
+free_falls m n (suc count) e =
+    let at : m - (0 + count) ≡ n = omega arith in
+    ap (λ (x : Bits). reverse x) (bits_more (Free m) 0 count)
+    ∙ reverse-append (bits_from (Free m) 0 count) (above (Free m) (0 + count) ∷ [])
+    ∙ ap (λ (j : ℕ). Free j ∷ reverse (bits_from (Free m) 0 count)) at
+    ∙ ap (λ (x : Bits). Free n ∷ x) (free_falls m (n + 1) count (omega (arith, e)))
+
+pub const_falls : (b : _) (count : ℕ) → reverse (bits_from (Const b) 0 count) ≡ replicate count (Const b)
+const_falls b zero = refl
+const_falls b (suc count) =
+    ap (λ (x : Bits). reverse x) (bits_more (Const b) 0 count)
+    ∙ reverse-append (bits_from (Const b) 0 count) (Const b ∷ [])
+    ∙ ap (λ (x : Bits). Const b ∷ x) (const_falls b count)
+
+-- a row has as many bits as its chunks read from below
+row_long : (cs : Chunks) → length (row_of cs) ≡ length (bits_of cs)
+row_long [] = refl
+row_long (c ∷ cs) = omega (arith, length-append (falling c) (row_of cs), length-append (chunk_bits c) (bits_of cs), length-reverse (chunk_bits c), row_long cs)
+
+pub row_step : (cs : Chunks) (i : ℕ) (d : Chunk) → i < length cs → length (row_of (drop i cs)) ≡ (get_or cs i d).width + length (row_of (drop (i + 1) cs))
+row_step cs i d h = omega (arith, row_long (drop i cs), row_long (drop (i + 1) cs), long_step cs i d h)
 
 pub on_ok : {X E : Type 0} (r : Result X E) (P Q : Type 0) → (P → Q) → OnOk r P → OnOk r Q
 on_ok (Ok x) P Q f h = f h
@@ -250,3 +276,24 @@ bit_pushed was now old b n x e p a =
     p ∙ ap (λ (l : Bits). l ++ x ∷ []) e ∙ append_assoc old (bits_from b 0 n) (x ∷ [])
     ∙ ap (λ (y : SigBit). old ++ (bits_from b 0 n ++ y ∷ [])) (a ∙ ap (λ (j : ℕ). above b j) (sym at))
     ∙ ap (λ (l : Bits). old ++ l) (sym (bits_more b 0 n)) ∙ ap (λ (j : ℕ). old ++ bits_from b 0 j) next
+
+-- ---- the last row
+
+below_in : (cs new : Chunks) (start : ℕ) (bit : SigBit) (rs : List ℕ) → ((s : ℕ) (ss : List ℕ) → rs ≡ s ∷ ss → start ≡ s) → take start new ≡ take start cs
+    → row_of (drop start new) ≡ row_of (drop start cs) ++ bit ∷ [] → (row : Bits) (rows : List Bits) → map row_of (rows_of cs rs) ≡ row ∷ rows → map row_of (rows_of new rs) ≡ (row ++ bit ∷ []) ∷ rows
+below_in cs new start bit [] at before below row rows e = absurd cc
+below_in cs new start bit (s ∷ rs) at before below row rows e =
+    let same : start ≡ s = at s rs refl in
+    let first : row_of (drop s cs) ≡ row = cc in
+    let others : map row_of (rows_of (take s cs) rs) ≡ rows = cc in
+    let now : row_of (drop s new) ≡ row ++ bit ∷ [] = subst (λ (n : ℕ). row_of (drop n new) ≡ row_of (drop n cs) ++ bit ∷ []) same below ∙ ap (λ (x : Bits). x ++ bit ∷ []) first in
+    let kept : take s new ≡ take s cs = subst (λ (n : ℕ). take n new ≡ take n cs) same before in
+    ap (λ (x : Bits). x ∷ map row_of (rows_of (take s new) rs)) now
+    ∙ ap (λ (x : Chunks). (row ++ bit ∷ []) ∷ map row_of (rows_of x rs)) kept
+    ∙ ap (λ (x : List Bits). (row ++ bit ∷ []) ∷ x) others
+
+-- a bit below the last row
+pub below_rows : (cs new : Chunks) (starts : List ℕ) (d start : ℕ) (bit : SigBit) → start ≡ get_or starts (length starts - 1) d → take start new ≡ take start cs
+    → row_of (drop start new) ≡ row_of (drop start cs) ++ bit ∷ [] → (row : Bits) (rows : List Bits) → shown cs starts ≡ row ∷ rows → shown new starts ≡ (row ++ bit ∷ []) ∷ rows
+below_rows cs new starts d start bit at before below row rows e =
+    below_in cs new start bit (reverse starts) (λ s ss g. at ∙ first_turned starts d s ss g) before below row rows e

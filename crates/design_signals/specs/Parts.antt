@@ -2,7 +2,7 @@
 use Rattle.std.specs.Prelude.{◌≡◌, ℕ, zero, suc, ◌+◌, ◌-◌, ◌≤◌, List, [], ◌∷◌, take, drop, reverse, length}
 use Rattle.std.specs.List.{flat_map}
 use Rattle.design_signals.specs.declared.sig_bit.SigBit.{SigBit}
-use Rattle.design_signals.specs.declared.sig_bit.SigBit.TheVariants.{Wire}
+use Rattle.design_signals.specs.declared.sig_bit.SigBit.TheVariants.{Wire, Free}
 use Rattle.design_signals.specs.declared.chunk.Chunk.{Chunk}
 use Rattle.design_signals.specs.Chunks.{chunk_bits}
 
@@ -27,6 +27,11 @@ AreStarts n (start ∷ starts) = (start ≤ n) × AreStarts start starts
 abbrev pub wire_row : ℕ → ℕ → List SigBit
 wire_row w zero = []
 wire_row w (suc n) = Wire w n ∷ wire_row w n
+
+-- so many free bits, numbered from n on
+abbrev pub free_row : ℕ → ℕ → List SigBit
+free_row n zero = []
+free_row n (suc count) = Free n ∷ free_row (n + 1) count
 
 abbrev pub slice_row : List SigBit → ℕ → ℕ → List SigBit
 slice_row row n m = take (n + 1 - m) (drop (length row - (n + 1)) row)

@@ -3,10 +3,13 @@
 ghost use Rattle.std.specs.Prelude.{◌≡◌, ◌+◌, ◌<◌, ◌≤◌, ◌^◌, All, [], ◌∷◌, ◌++◌, List, length, reverse, IfOk, OnOk, take, drop};
 ghost use Rattle.design_signals.specs.declared.sig_bit.SigBit.{SigBit};
 ghost use Rattle.design_signals.specs.declared.chunk.Chunk.{Chunk};
-ghost use Rattle.design_signals.specs.Chunks.{IsChunk, bits_of};
-ghost use Rattle.design_signals.specs.Parts.{IsSliced, falling, row_of, slice_row, wire_row};
+ghost use Rattle.std.specs.Prelude.{replicate};
+ghost use Rattle.design_signals.specs.declared.sig_bit.SigBit.TheVariants.{Const};
+ghost use Rattle.design_signals.specs.Chunks.{HasRoom, IsChunk};
+ghost use Rattle.design_signals.specs.Parts.{IsSliced, falling, free_row, row_of, slice_row, wire_row};
 
-use crate::chunk::{Chunk, part};
+use crate::chunk::Chunk;
+use crate::digits::push_below;
 use crate::sig_bit::SigBit;
 use crate::signal::Signal;
 use std::alloc::{AllocError, Global};
@@ -81,6 +84,50 @@ impl Segments {
         })
     }
 
+    /// Adds free bits as a row, numbered from `first` on.
+    pub fn push_free(&mut self, first: u32, count: u32) -> Result<(), AllocError>
+        requires some { 0 < count }
+        requires fits { first + count ≤ 2 ^ 32 }
+        ensures { OnOk result (self.new ≡ free_row first count ∷ self.old) }
+    {
+        self.push(Chunk {
+            first: SigBit::Free(first + (count - 1)),
+            width: count,
+        })
+    }
+
+    /// Adds one constant bit, so many times, as a row.
+    pub fn push_const(&mut self, bit: bool, count: u32) -> Result<(), AllocError>
+        requires { 0 < count }
+        ensures { OnOk result (self.new ≡ replicate count (Const bit) ∷ self.old) }
+    {
+        self.push(Chunk {
+            first: SigBit::Const(bit),
+            width: count,
+        })
+    }
+
+    /// Adds a bit below the others of the last row.
+    pub fn push_bit(&mut self, bit: SigBit) -> Result<(), AllocError>
+        requires some { 1 ≤ length self.old }
+        requires room { HasRoom bit 1 }
+        ensures { OnOk result ((row : List SigBit) (rows : List (List SigBit)) → self.old ≡ row ∷ rows → self.new ≡ (row ++ bit ∷ []) ∷ rows) }
+    {
+        let starts = self.starts.as_slice();
+        let start = starts[starts.len() - 1];
+        push_below(&mut self.chunks, start, bit)
+    }
+
+    /// How many bits the last row has.
+    pub fn width(&self) -> Result<usize, AllocError>
+        requires { 1 ≤ length self.now }
+        ensures { IfOk result (λ n. (row : List SigBit) (rows : List (List SigBit)) → self.now ≡ row ∷ rows → n ≡ length row) }
+    {
+        let starts = self.starts.as_slice();
+        let start = starts[starts.len() - 1];
+        row_width(&self.chunks.as_slice()[start..])
+    }
+
     /// Makes the last two rows one, the last one below the other.
     pub fn join(&mut self)
         requires { 2 ≤ length self.old }
@@ -109,6 +156,20 @@ impl Segments {
     {
         turned(alloc, self.chunks.as_slice())
     }
+}
+
+/// How many bits a row has, where a number holds it.
+fn row_width(chunks: &[Chunk]) -> Result<usize, AllocError>
+    ensures { IfOk result (λ n. n ≡ length (row_of chunks.now)) }
+{
+    let mut width = 0usize;
+    for chunk in chunks {
+        let Some(more) = width.checked_add(chunk.width as usize) else {
+            return Err(AllocError);
+        };
+        width = more;
+    }
+    Ok(width)
 }
 
 /// A row as a signal.

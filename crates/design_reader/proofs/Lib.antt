@@ -1,0 +1,16 @@
+pub mod WordLemmas
+pub mod NameLemmas
+pub mod LabelLemmas
+pub mod TokenText
+pub mod DigitLemmas
+pub mod RunLemmas
+pub mod Declared
+pub mod WireLemmas
+pub mod SliceLemmas
+pub mod StartLemmas
+pub mod PartLemmas
+pub mod Wholes
+pub mod ReadLemmas
+pub mod Room
+pub mod Closing
+pub mod Continuing

@@ -1,0 +1,10 @@
+pub mod Kinds
+pub mod Labels
+pub mod Parts
+pub mod Grammar
+pub mod Runs
+pub mod Faults
+pub mod Views
+pub mod Drafts
+pub mod Beginnings
+pub mod Outcome
