@@ -1,0 +1,10 @@
+pub mod Products
+pub mod Counting
+pub mod Firsts
+pub mod Clocking
+pub mod Highest
+pub mod Conflicting
+pub mod Verdict
+pub mod Placing
+pub mod Statements
+pub mod Asking

@@ -1,0 +1,11 @@
+pub mod Declared
+pub mod EdgeSteps
+pub mod Unique
+pub mod Netting
+pub mod Resting
+pub mod Looping
+pub mod Counts
+pub mod MarkSets
+pub mod Starting
+pub mod Ordering
+pub mod Driving

@@ -1,0 +1,4 @@
+pub mod Items
+pub mod Order
+pub mod Starts
+pub mod Edges
