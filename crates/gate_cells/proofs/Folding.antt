@@ -30,10 +30,10 @@ or_true : (r : Row) → chained ◌||◌ true r ≡ true
 or_true [] = refl
 or_true (b ∷ r) = or_true r
 
-some_more : (n : ℕ) → not (eqb n 0) ≡ not (eqb (0 + 2 * n) 0)
+pub some_more : (n : ℕ) → not (eqb n 0) ≡ not (eqb (0 + 2 * n) 0)
 some_more n = grind (arith, nat_tests)
 
-some_here : (n : ℕ) → true ≡ not (eqb (1 + 2 * n) 0)
+pub some_here : (n : ℕ) → true ≡ not (eqb (1 + 2 * n) 0)
 some_here n = grind (arith, nat_tests)
 
 pub some_is : (r : Row) → chained ◌||◌ false r ≡ some_bit r

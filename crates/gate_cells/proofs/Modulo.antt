@@ -1,6 +1,7 @@
 -- Whole numbers that are the same modulo a power of two.
 use Rattle.std.proofs.Common.{◌≡◌, ℕ, zero, suc, ◌+◌, ◌-◌, ◌*◌, ◌/◌, ◌%◌, ◌^◌, ◌<◌, ◌≤◌, Bool, true, false, cond, not, ◌&&◌, ◌||◌, map, List, length, get_or, take, refl, sym, ◌∙◌, ap, subst, arith}
 use Rattle.std.specs.Prelude.{ℤ, pos, negsuc, ◌+ℤ◌, ◌-ℤ◌, ◌*ℤ◌}
+use lib.IntN.{neg_ℤ, negsuc-*ℤ-pos, pos-*ℤ-negsuc}
 use Rattle.std.proofs.lemmas.Int.{ints}
 use Rattle.std.proofs.lemmas.List.{take_all, length-map, get_or-map}
 use Rattle.cnf_form.specs.Cnf.{LitOf, Assignment, Satisfies, lit_in}
@@ -12,9 +13,9 @@ use Rattle.gate_rows.proofs.Building.{length-row, length-bitwise, fit_long}
 use Rattle.cell_table.specs.Cells.{bitwise, binary_fn, either_one, same_bit}
 use Rattle.cell_table.specs.declared.kind.Binary.{Binary}
 use Rattle.cell_table.specs.declared.kind.Binary.TheVariants.{And, Or, Xor, Xnor, Add, Sub, Mul}
-use Rattle.gate_cells.specs.Words.{IsServed, made}
-use Rattle.std.proofs.lemmas.Nat.{pow_pos, mod_below}
-use Rattle.std.proofs.Math.Nat.{mul-add, div-add-mod, add-mul-mod_self_left, mod-eq_of_lt}
+use Rattle.gate_cells.specs.Words.{made, made_gates, binary_gates}
+use Rattle.std.proofs.lemmas.Nat.{pow_pos, mod_below, mul-le}
+use Rattle.std.proofs.Math.Nat.{mul_comm, mul-add, div-add-mod, add-mul-mod_self_left, mod-eq_of_lt}
 use Rattle.sby_bits.specs.Rows.{Row, num, residue, low_bits, fit}
 use Rattle.sby_bits.proofs.Numbers.{num-lt, num-turned, length-fit, fit-at, complement-at, row_is}
 use Rattle.sby_bits.proofs.RowLaws.{num-fit, row_again}
@@ -183,45 +184,107 @@ difference_cut y a b =
           (mul-add d (p.up + q.over) w.up ∙ ap (λ (k : ℕ). k + d * w.up) (mul-add d p.up q.over)) (mul-add d (p.over + q.up) w.over ∙ ap (λ (k : ℕ). k + d * w.over) (mul-add d p.over q.up)) p.same q.same w.same;
     }
 
+-- with the products of the four numbers written out
+times_pos : (a b m n d i j k l : ℕ) → a + d * i ≡ m + d * k → b + d * j ≡ n + d * l → pos (a * b) +ℤ pos (d * (a * j + i * b + i * (d * j))) ≡ pos (m * n + d * (m * l + k * n + k * (d * l)))
+times_pos a b m n d i j k l e f = ap pos (let p : (a + d * i) * (b + d * j) ≡ (m + d * k) * (n + d * l) = ap (λ (t : ℕ). t * (b + d * j)) e ∙ ap (λ (t : ℕ). (m + d * k) * t) f in omega arith)
+
+-- the first one below zero
+less_numbers : (a b m n d i j k l : ℕ) → d * i ≡ m + d * k + a → b + d * j ≡ n + d * l → d * (i * b + m * j) ≡ a * b + (m * n + d * (m * l + k * b))
+less_numbers a b m n d i j k l e f = let p : d * i * b ≡ (m + d * k + a) * b = ap (λ (t : ℕ). t * b) e in let q : m * (b + d * j) ≡ m * (n + d * l) = ap (λ (t : ℕ). m * t) f in omega arith
+
+both_numbers : (a b m n d i j k l : ℕ) → d * i ≡ m + d * k + a → d * j ≡ n + d * l + b → a * b + d * (m * j + k * (d * j)) ≡ m * n + d * (i * b + m * l + k * n + k * (d * l))
+both_numbers a b m n d i j k l e f = let p : d * i * b ≡ (m + d * k + a) * b = ap (λ (t : ℕ). t * b) e in let q : (m + d * k) * (d * j) ≡ (m + d * k) * (n + d * l + b) = ap (λ (t : ℕ). (m + d * k) * t) f in omega arith
+
+below_zero : (z : ℤ) (c s t : ℕ) → z ≡ neg_ℤ (pos c) → s ≡ c + t → z +ℤ pos s ≡ pos t
+below_zero z zero s t e f = rw e (omega (arith, ints))
+below_zero z (suc c) s t e f = rw e (omega (arith, ints))
+
+down_to : (a m i k : ℕ) → negsuc a +ℤ pos i ≡ pos (m + k) → i ≡ m + k + suc a
+down_to a m i k e = omega (arith, ints)
+
+up_to : (a m i k : ℕ) → pos a +ℤ pos i ≡ pos (m + k) → a + i ≡ m + k
+up_to a m i k e = omega (arith, ints)
+
+pub Near-mul : (d : ℕ) (a b : ℤ) (m n : ℕ) → Near d a m → Near d b n → Near d (a *ℤ b) (m * n)
+Near-mul d (pos a) (pos b) m n p q = record {
+  up = a * q.up + p.up * b + p.up * (d * q.up);
+  over = m * q.over + p.over * n + p.over * (d * q.over);
+  same = times_pos a b m n d p.up q.up p.over q.over (up_to a m (d * p.up) (d * p.over) p.same) (up_to b n (d * q.up) (d * q.over) q.same);
+}
+Near-mul d (negsuc a) (pos b) m n p q = record {
+  up = p.up * b + m * q.up;
+  over = m * q.over + p.over * b;
+  same = below_zero (negsuc a *ℤ pos b) (suc a * b) (d * (p.up * b + m * q.up)) (m * n + d * (m * q.over + p.over * b)) (negsuc-*ℤ-pos a b)
+      (less_numbers (suc a) b m n d p.up q.up p.over q.over (down_to a m (d * p.up) (d * p.over) p.same) (up_to b n (d * q.up) (d * q.over) q.same));
+}
+Near-mul d (pos a) (negsuc b) m n p q = record {
+  up = q.up * a + n * p.up;
+  over = n * p.over + q.over * a;
+  same = below_zero (pos a *ℤ negsuc b) (suc b * a) (d * (q.up * a + n * p.up)) (m * n + d * (n * p.over + q.over * a)) (pos-*ℤ-negsuc a b ∙ ap (λ (t : ℕ). neg_ℤ (pos t)) (mul_comm a (suc b)))
+      (less_numbers (suc b) a n m d q.up p.up q.over p.over (down_to b n (d * q.up) (d * q.over) q.same) (up_to a m (d * p.up) (d * p.over) p.same) ∙ ap (λ (t : ℕ). suc b * a + (t + d * (n * p.over + q.over * a))) (mul_comm n m));
+}
+Near-mul d (negsuc a) (negsuc b) m n p q = record {
+  up = m * q.up + p.over * (d * q.up);
+  over = p.up * suc b + m * q.over + p.over * n + p.over * (d * q.over);
+  same = ap pos (both_numbers (suc a) (suc b) m n d p.up q.up p.over q.over (down_to a m (d * p.up) (d * p.over) p.same) (down_to b n (d * q.up) (d * q.over) q.same));
+}
+
+pub product_cut : (y : ℕ) (a b : ℤ) → fit y (pos (num (fit y a) * num (fit y b))) ≡ fit y (a *ℤ b)
+product_cut y a b = one_row y _ (a *ℤ b) (num (fit y a) * num (fit y b)) (Near-pos (2 ^ y) (num (fit y a) * num (fit y b))) (Near-mul (2 ^ y) a b (num (fit y a)) (num (fit y b)) (Near-fit y a) (Near-fit y b))
+
 -- the operation on the operands at width y is that on the operands
-pub made_is : (k : Binary) (y : ℕ) (a b : ℤ) → IsServed k → made k y (fit y a) (fit y b) ≡ binary_fn k y a b
-made_is And y a b w = refl
-made_is Or y a b w = refl
-made_is Xor y a b w = refl
-made_is Xnor y a b w = refl
-made_is Add y a b w = sum_cut y a b
-made_is Sub y a b w = difference_cut y a b
-made_is Mul y a b w = absurd w
+pub made_is : (k : Binary) (y : ℕ) (a b : ℤ) → made k y (fit y a) (fit y b) ≡ binary_fn k y a b
+made_is And y a b = refl
+made_is Or y a b = refl
+made_is Xor y a b = refl
+made_is Xnor y a b = refl
+made_is Add y a b = sum_cut y a b
+made_is Sub y a b = difference_cut y a b
+made_is Mul y a b = product_cut y a b
 
-pub length-binary : (k : Binary) (y : ℕ) (a b : ℤ) → IsServed k → length (binary_fn k y a b) ≡ y
-length-binary And y a b w = length-bitwise ◌&&◌ (fit y a) (fit y b) (length-fit y a ∙ sym (length-fit y b)) ∙ length-fit y a
-length-binary Or y a b w = length-bitwise ◌||◌ (fit y a) (fit y b) (length-fit y a ∙ sym (length-fit y b)) ∙ length-fit y a
-length-binary Xor y a b w = length-bitwise either_one (fit y a) (fit y b) (length-fit y a ∙ sym (length-fit y b)) ∙ length-fit y a
-length-binary Xnor y a b w = length-bitwise same_bit (fit y a) (fit y b) (length-fit y a ∙ sym (length-fit y b)) ∙ length-fit y a
-length-binary Add y a b w = length-fit y (a +ℤ b)
-length-binary Sub y a b w = length-fit y (a -ℤ b)
-length-binary Mul y a b w = absurd w
+pub length-binary : (k : Binary) (y : ℕ) (a b : ℤ) → length (binary_fn k y a b) ≡ y
+length-binary And y a b = length-bitwise ◌&&◌ (fit y a) (fit y b) (length-fit y a ∙ sym (length-fit y b)) ∙ length-fit y a
+length-binary Or y a b = length-bitwise ◌||◌ (fit y a) (fit y b) (length-fit y a ∙ sym (length-fit y b)) ∙ length-fit y a
+length-binary Xor y a b = length-bitwise either_one (fit y a) (fit y b) (length-fit y a ∙ sym (length-fit y b)) ∙ length-fit y a
+length-binary Xnor y a b = length-bitwise same_bit (fit y a) (fit y b) (length-fit y a ∙ sym (length-fit y b)) ∙ length-fit y a
+length-binary Add y a b = length-fit y (a +ℤ b)
+length-binary Sub y a b = length-fit y (a -ℤ b)
+length-binary Mul y a b = length-fit y (a *ℤ b)
 
-length-made : (k : Binary) (y : ℕ) (a b : Row) → IsServed k → length a ≡ y → length b ≡ y → length (made k y a b) ≡ y
-length-made And y a b w p q = length-bitwise ◌&&◌ a b (p ∙ sym q) ∙ p
-length-made Or y a b w p q = length-bitwise ◌||◌ a b (p ∙ sym q) ∙ p
-length-made Xor y a b w p q = length-bitwise either_one a b (p ∙ sym q) ∙ p
-length-made Xnor y a b w p q = length-bitwise same_bit a b (p ∙ sym q) ∙ p
-length-made Add y a b w p q = length-fit y (pos (num a) +ℤ pos (num b))
-length-made Sub y a b w p q = length-fit y (pos (num a) -ℤ pos (num b))
-length-made Mul y a b w p q = absurd w
+pub length-made : (k : Binary) (y : ℕ) (a b : Row) → length a ≡ y → length b ≡ y → length (made k y a b) ≡ y
+length-made And y a b p q = length-bitwise ◌&&◌ a b (p ∙ sym q) ∙ p
+length-made Or y a b p q = length-bitwise ◌||◌ a b (p ∙ sym q) ∙ p
+length-made Xor y a b p q = length-bitwise either_one a b (p ∙ sym q) ∙ p
+length-made Xnor y a b p q = length-bitwise same_bit a b (p ∙ sym q) ∙ p
+length-made Add y a b p q = length-fit y (pos (num a) +ℤ pos (num b))
+length-made Sub y a b p q = length-fit y (pos (num a) -ℤ pos (num b))
+length-made Mul y a b p q = length-fit y (pos (num a * num b))
 
-pub binary_means : (g h : GatesOf) (k : Binary) (y : ℕ) (F G : Assignment → ℤ) (a b r : List LitOf) → IsServed k → Continues g h → MeansRow g (λ x. fit y (F x)) a → MeansRow g (λ x. fit y (G x)) b →
+-- the gates of a row within those of the cell
+pub made_few : (k : Binary) (y w : ℕ) → y ≤ w → made_gates k y ≤ binary_gates k w
+made_few And y w h = omega arith
+made_few Or y w h = omega arith
+made_few Xor y w h = omega arith
+made_few Xnor y w h = omega arith
+made_few Add y w h = omega arith
+made_few Sub y w h = omega arith
+made_few Mul y w h = let p : y * y ≤ w * w = mul-le y y w w h h in let q : w ≤ w * w = square_more w in omega arith
+  where
+    square_more : (w : ℕ) → w ≤ w * w
+    square_more zero = omega arith
+    square_more (suc w) = omega arith
+
+pub binary_means : (g h : GatesOf) (k : Binary) (y : ℕ) (F G : Assignment → ℤ) (a b r : List LitOf) → Continues g h → MeansRow g (λ x. fit y (F x)) a → MeansRow g (λ x. fit y (G x)) b →
     MeansRow h (λ x. made k (length a) (row_of x a) (row_of x b)) r → MeansRow h (λ x. binary_fn k y (F x) (G x)) r
-binary_means g h k y F G a b r w c m n t =
+binary_means g h k y F G a b r c m n t =
     let la : length a ≡ y = fit_long g y F a m in
     let lb : length b ≡ y = fit_long g y G b n in
     record {
-      as_many = λ x. t.as_many x ∙ ap (λ (i : ℕ). length (made k i (row_of x a) (row_of x b))) la ∙ length-made k y (row_of x a) (row_of x b) w (length-row x a ∙ la) (length-row x b ∙ lb) ∙ sym (length-binary k y (F x) (G x) w);
+      as_many = λ x. t.as_many x ∙ ap (λ (i : ℕ). length (made k i (row_of x a) (row_of x b))) la ∙ length-made k y (row_of x a) (row_of x b) (length-row x a ∙ la) (length-row x b ∙ lb) ∙ sym (length-binary k y (F x) (G x));
       within = t.within;
       means = λ x s.
           let old = keeps g h c x s in
-          t.means x s ∙ ap (λ (i : ℕ). made k i (row_of x a) (row_of x b)) la ∙ ap (λ (q : Row). made k y q (row_of x b)) (m.means x old) ∙ ap (made k y (fit y (F x))) (n.means x old) ∙ made_is k y (F x) (G x) w;
+          t.means x s ∙ ap (λ (i : ℕ). made k i (row_of x a) (row_of x b)) la ∙ ap (λ (q : Row). made k y q (row_of x b)) (m.means x old) ∙ ap (made k y (fit y (F x))) (n.means x old) ∙ made_is k y (F x) (G x);
     }
 
 not_bits : (y : ℕ) (z : ℤ) → map not (fit y z) ≡ fit y (negsuc 0 -ℤ z)

@@ -4,17 +4,22 @@ ghost use Rattle.std.specs.Prelude.{◌≡◌, ◌+◌, ◌*◌, All, length, ma
 ghost use Rattle.cnf_form.specs.Cnf.{Assignment, LitWithin};
 ghost use Rattle.sby_bits.specs.Rows.{fit, num, value};
 ghost use Rattle.cell_table.specs.Cells.{binary_fn, bitwise, unary_fn};
-ghost use Rattle.gate_cells.specs.Words.{Builds, IsFull, IsServed, MeansRow, linear, made, row_of};
+ghost use Rattle.gate_cells.specs.Words.{Builds, IsFull, MeansRow, binary_gates, made, made_gates, row_of, unary_gates};
 ghost use Rattle.gate_rows.specs.Sums.{op_bit, op_lits};
 
 use cell_table::kind::{Binary, Unary};
 use cnf_form::Lit;
 use gate_graph::{GateFault, Gates};
-use gate_rows::{BitOp, add, each, extended, negated};
+use gate_rows::{BitOp, add, each, extended, mul, negated};
 use std::alloc::{AllocError, Global};
 
 // The difference of two rows of length `y`, modulo two to the `y`.
-fn difference(alloc: Global, gates: &mut Gates, a: &[Lit], b: &[Lit]) -> Result<Vec<Lit>, GateFault>
+pub(crate) fn difference(
+    alloc: Global,
+    gates: &mut Gates,
+    a: &[Lit],
+    b: &[Lit],
+) -> Result<Vec<Lit>, GateFault>
     requires a { All (LitWithin gates.old.formula.vars) a.now }
     requires b { All (LitWithin gates.old.formula.vars) b.now }
     requires as_many { length a.now ≡ length b.now }
@@ -56,7 +61,7 @@ fn complement(
     ensures { let row = λ (x : Assignment). fit y (negsuc 0 -ℤ value signed (row_of x a.now)) in
         IfOk result (λ word. MeansRow gates.now row word.items) }
 {
-    let wide = extended(alloc, gates, a, signed, y)?;
+    let wide = extended(alloc, gates, a, signed, y as usize)?;
     let word = negated(alloc, gates, &wide)?;
     Ok(word)
 }
@@ -75,13 +80,13 @@ fn opposite(
     ensures builds { Builds gates.old gates.new (3 * y) }
     ensures too_many { result ≡ Err GateFault.TooMany → IsFull gates.old gates.new (3 * y) }
 {
-    let wide = extended(alloc, gates, a, signed, y)?;
-    let zeros = extended(alloc, gates, &[], false, y)?;
+    let wide = extended(alloc, gates, a, signed, y as usize)?;
+    let zeros = extended(alloc, gates, &[], false, y as usize)?;
     let word = difference(alloc, gates, &zeros, &wide)?;
     Ok(word)
 }
 
-/// `$not`, `$pos` and `$neg` at width `y`, by the sign of `a` where `signed`.
+/// `$not`, `$pos` and `$neg` at width `y`, by the sign of `a` where `signed`. The first two make no gate.
 pub fn unary(
     alloc: Global,
     gates: &mut Gates,
@@ -93,8 +98,8 @@ pub fn unary(
     requires a { All (LitWithin gates.old.formula.vars) a.now }
     ensures row { let row = λ (x : Assignment). unary_fn kind y (value signed (row_of x a.now)) in
         IfOk result (λ word. MeansRow gates.new row word.items) }
-    ensures builds { Builds gates.old gates.new (3 * y) }
-    ensures too_many { result ≡ Err GateFault.TooMany → IsFull gates.old gates.new (3 * y) }
+    ensures builds { Builds gates.old gates.new (unary_gates kind y) }
+    ensures too_many { result ≡ Err GateFault.TooMany → IsFull gates.old gates.new (unary_gates kind y) }
 {
     match kind {
         Unary::Not => {
@@ -102,7 +107,7 @@ pub fn unary(
             Ok(word)
         }
         Unary::Pos => {
-            let word = extended(alloc, gates, a, signed, y)?;
+            let word = extended(alloc, gates, a, signed, y as usize)?;
             Ok(word)
         }
         Unary::Neg => opposite(alloc, gates, a, signed, y),
@@ -116,15 +121,16 @@ fn of_width(
     kind: Binary,
     a: &[Lit],
     b: &[Lit],
+    y: u32,
 ) -> Result<Vec<Lit>, GateFault>
-    requires kind { IsServed kind }
     requires a { All (LitWithin gates.old.formula.vars) a.now }
     requires b { All (LitWithin gates.old.formula.vars) b.now }
     requires as_many { length a.now ≡ length b.now }
+    requires long { length a.now ≡ y }
     ensures row { let row = λ (x : Assignment). made kind (length a.now) (row_of x a.now) (row_of x b.now) in
         IfOk result (λ word. MeansRow gates.new row word.items) }
-    ensures builds { Builds gates.old gates.new (3 * length a.now) }
-    ensures too_many { result ≡ Err GateFault.TooMany → IsFull gates.old gates.new (3 * length a.now) }
+    ensures builds { Builds gates.old gates.new (made_gates kind (length a.now)) }
+    ensures too_many { result ≡ Err GateFault.TooMany → IsFull gates.old gates.new (made_gates kind (length a.now)) }
 {
     match kind {
         Binary::And => bits(alloc, gates, &BitOp::And, a, b),
@@ -133,7 +139,7 @@ fn of_width(
         Binary::Xnor => bits(alloc, gates, &BitOp::Xnor, a, b),
         Binary::Add => sum(alloc, gates, a, b),
         Binary::Sub => difference(alloc, gates, a, b),
-        Binary::Mul => unreachable!(),
+        Binary::Mul => mul(alloc, gates, a, b, y),
     }
 }
 
@@ -158,7 +164,7 @@ fn bits(
     each(alloc, gates, op, a, b)
 }
 
-/// `$and`, `$or`, `$xor`, `$xnor`, `$add` and `$sub` at width `y`, both operands by their signs where `signed`.
+/// `$and`, `$or`, `$xor`, `$xnor`, `$add`, `$sub` and `$mul` at width `y`, both operands by their signs where `signed`.
 pub fn binary(
     alloc: Global,
     gates: &mut Gates,
@@ -168,16 +174,15 @@ pub fn binary(
     signed: bool,
     y: u32,
 ) -> Result<Vec<Lit>, GateFault>
-    requires kind { IsServed kind }
     requires a { All (LitWithin gates.old.formula.vars) a.now }
     requires b { All (LitWithin gates.old.formula.vars) b.now }
     ensures row { let row = λ (x : Assignment). binary_fn kind y (value signed (row_of x a.now)) (value signed (row_of x b.now)) in
         IfOk result (λ word. MeansRow gates.new row word.items) }
-    ensures builds { Builds gates.old gates.new (linear (length a.now + length b.now + y)) }
-    ensures too_many { result ≡ Err GateFault.TooMany → IsFull gates.old gates.new (linear (length a.now + length b.now + y)) }
+    ensures builds { Builds gates.old gates.new (binary_gates kind (length a.now + length b.now + y)) }
+    ensures too_many { result ≡ Err GateFault.TooMany → IsFull gates.old gates.new (binary_gates kind (length a.now + length b.now + y)) }
 {
-    let wide_a = extended(alloc, gates, a, signed, y)?;
-    let wide_b = extended(alloc, gates, b, signed, y)?;
-    let word = of_width(alloc, gates, kind, &wide_a, &wide_b)?;
+    let wide_a = extended(alloc, gates, a, signed, y as usize)?;
+    let wide_b = extended(alloc, gates, b, signed, y as usize)?;
+    let word = of_width(alloc, gates, kind, &wide_a, &wide_b, y)?;
     Ok(word)
 }

@@ -14,7 +14,7 @@ use gate_rows::{BitOp, at_least, chain, each, extended, moved_up, negated};
 use std::alloc::{AllocError, Global};
 
 // Whether some bit of the row is set.
-fn any(gates: &mut Gates, a: &[Lit]) -> Result<Lit, GateFault>
+pub(crate) fn any(gates: &mut Gates, a: &[Lit]) -> Result<Lit, GateFault>
     requires { All (LitWithin gates.old.formula.vars) a.now }
     ensures bit { IfOk result (MeansBit gates.new (λ x. some_bit (row_of x a.now))) }
     ensures builds { Builds gates.old gates.new (length a.now) }
@@ -54,7 +54,7 @@ fn flag_word(alloc: Global, gates: &Gates, flag: Lit, y: u32) -> Result<Vec<Lit>
     requires { LitWithin gates.now.formula.vars flag }
     ensures { IfOk result (λ word. MeansRow gates.now (λ x. bit_row y (lit_in x flag)) word.items) }
 {
-    let word = moved_up(alloc, gates, &[flag], 0, y)?;
+    let word = moved_up(alloc, gates, &[flag], 0, y as usize)?;
     Ok(word)
 }
 
@@ -275,7 +275,7 @@ fn wide_compared(
     a: &[Lit],
     b: &[Lit],
     signed: bool,
-    width: u32,
+    width: usize,
 ) -> Result<Lit, GateFault>
     requires width { width ≡ max (length a.now) (length b.now) }
     requires a { All (LitWithin gates.old.formula.vars) a.now }
@@ -301,8 +301,6 @@ pub fn compare(
     signed: bool,
     y: u32,
 ) -> Result<Vec<Lit>, GateFault>
-    requires a_wide { length a.now < 2 ^ 32 }
-    requires b_wide { length b.now < 2 ^ 32 }
     requires a { All (LitWithin gates.old.formula.vars) a.now }
     requires b { All (LitWithin gates.old.formula.vars) b.now }
     ensures row { let row = λ (x : Assignment). bit_row y (is_compared kind (max (length a.now) (length b.now)) (value signed (row_of x a.now)) (value signed (row_of x b.now))) in
@@ -310,7 +308,7 @@ pub fn compare(
     ensures builds { Builds gates.old gates.new (2 * (length a.now + length b.now)) }
     ensures too_many { result ≡ Err GateFault.TooMany → IsFull gates.old gates.new (2 * (length a.now + length b.now)) }
 {
-    let width = a.len().max(b.len()) as u32;
+    let width = a.len().max(b.len());
     let flag = wide_compared(alloc, gates, kind, a, b, signed, width)?;
     Ok(flag_word(alloc, gates, flag, y)?)
 }

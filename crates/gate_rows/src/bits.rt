@@ -103,8 +103,8 @@ pub fn chain(gates: &mut Gates, op: &BitOp, start: Lit, a: &[Lit]) -> Result<Lit
     Ok(lit)
 }
 
-// Puts a literal behind the others.
-pub(crate) fn push(word: &mut Vec<Lit>, lit: Lit) -> Result<(), AllocError>
+/// Puts a literal behind the others.
+pub fn push(word: &mut Vec<Lit>, lit: Lit) -> Result<(), AllocError>
     ensures { OnOk result (word.new.items ≡ word.old.items ++ lit ∷ []) }
 {
     word.push(lit)?;

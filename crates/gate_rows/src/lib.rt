@@ -6,7 +6,7 @@ mod places;
 mod products;
 mod sums;
 
-pub use bits::{BitOp, chain, each};
-pub use places::{extended, moved_down, moved_up, negated};
+pub use bits::{BitOp, chain, each, push};
+pub use places::{extended, fill_of, moved_down, moved_up, negated};
 pub use products::mul;
 pub use sums::{add, at_least, save};

@@ -13,8 +13,8 @@ use cnf_form::Lit;
 use gate_graph::Gates;
 use std::alloc::{AllocError, Global};
 
-// The literal that a word has in every place above its own: its last where it is signed, else 0.
-fn fill_of(gates: &Gates, word: &[Lit], signed: bool) -> Lit
+/// The literal that a word has in every place above its own: its last where it is signed, else 0.
+pub fn fill_of(gates: &Gates, word: &[Lit], signed: bool) -> Lit
     requires { All (LitWithin gates.now.formula.vars) word.now }
     ensures within { LitWithin gates.now.formula.vars result }
     ensures means { Means gates.now result (λ x. signed && top_bit (row_of x word.now)) }
@@ -41,31 +41,32 @@ pub fn moved_down(
     alloc: Global,
     gates: &Gates,
     a: &[Lit],
-    from: u32,
+    from: usize,
     fill: Lit,
-    y: u32,
+    y: usize,
 ) -> Result<Vec<Lit>, AllocError>
+    requires places { from + y < 2 ^ 64 }
     requires a { All (LitWithin gates.now.formula.vars) a.now }
     requires fill { LitWithin gates.now.formula.vars fill }
     ensures { let row = λ (x : Assignment). fit y (int_div_euclid (filled_number (row_of x a.now) (lit_in x fill)) (pos (2 ^ from))) in
         IfOk result (λ word. MeansRow gates.now row word.items) }
 {
     let mut word = Vec::new(alloc);
-    for place in 0..y as usize {
-        push(&mut word, lit_or(a, place + from as usize, fill))?;
+    for place in 0..y {
+        push(&mut word, lit_or(a, place + from, fill))?;
     }
     Ok(word)
 }
 
 // The literal of a place of a row that is moved up.
-fn up_lit(a: &[Lit], place: u32, by: u32, zero: Lit) -> Lit
+fn up_lit(a: &[Lit], place: usize, by: usize, zero: Lit) -> Lit
     ensures low { place < by → result ≡ zero }
     ensures high { by ≤ place → result ≡ slice_index_or a.now (place - by) zero }
 {
     if place < by {
         zero
     } else {
-        lit_or(a, (place - by) as usize, zero)
+        lit_or(a, place - by, zero)
     }
 }
 
@@ -74,8 +75,8 @@ pub fn moved_up(
     alloc: Global,
     gates: &Gates,
     a: &[Lit],
-    by: u32,
-    y: u32,
+    by: usize,
+    y: usize,
 ) -> Result<Vec<Lit>, AllocError>
     requires a { All (LitWithin gates.now.formula.vars) a.now }
     ensures { let row = λ (x : Assignment). fit y (pos (num (row_of x a.now) * 2 ^ by)) in
@@ -95,7 +96,7 @@ pub fn extended(
     gates: &Gates,
     a: &[Lit],
     signed: bool,
-    y: u32,
+    y: usize,
 ) -> Result<Vec<Lit>, AllocError>
     requires { All (LitWithin gates.now.formula.vars) a.now }
     ensures { let row = λ (x : Assignment). fit y (value signed (row_of x a.now)) in

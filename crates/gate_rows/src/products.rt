@@ -29,8 +29,8 @@ fn term(
     ensures builds { Builds gates.old gates.new y }
     ensures too_many { result ≡ Err GateFault.TooMany → IsFull gates.old gates.new y }
 {
-    let zeros = moved_up(alloc, gates, &[], 0, y)?;
-    let moved = moved_up(alloc, gates, a, k, y)?;
+    let zeros = moved_up(alloc, gates, &[], 0, y as usize)?;
+    let moved = moved_up(alloc, gates, a, k as usize, y as usize)?;
     let word = each(alloc, gates, &BitOp::Mux(bit), &zeros, &moved)?;
     Ok(word)
 }
@@ -78,8 +78,8 @@ pub fn mul(
     ensures builds { Builds gates.old gates.new (4 * y * y + 3 * y) }
     ensures too_many { result ≡ Err GateFault.TooMany → IsFull gates.old gates.new (4 * y * y + 3 * y) }
 {
-    let mut s = moved_up(alloc, gates, &[], 0, y)?;
-    let mut c = moved_up(alloc, gates, &[], 0, y)?;
+    let mut s = moved_up(alloc, gates, &[], 0, y as usize)?;
+    let mut c = moved_up(alloc, gates, &[], 0, y as usize)?;
     for k in 0..y {
         let bit = b[k as usize];
         let (t, u) = add_term(alloc, gates, a, bit, k, &s, &c, y)?;
