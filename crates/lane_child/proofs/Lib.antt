@@ -1,0 +1,5 @@
+mod Endings
+mod Entries
+mod Keepers
+mod Proving
+mod Readers

@@ -1,0 +1,269 @@
+-- What a job's reader takes of its child's pipe, and comes to by it.
+use Rattle.std.specs.Prelude.{◌≡◌, ◌≢◌, ◌⊎◌, ℕ, ◌+◌, List, [], ◌∷◌, ◌++◌, length, take, Bool, true, false, Option, None, Some, IsSomeAnd}
+use Rattle.sby_edge.specs.declared.outside.Got.{Got}
+use Rattle.sby_edge.specs.declared.outside.Got.TheVariants.{All, Long}
+use Rattle.sby_edge.specs.Child.{BayOf, PipeOf}
+use Rattle.sby_terms.specs.declared.names.JobName.{JobName}
+use Rattle.race_core.specs.Parts.{judged as judged_as}
+use Rattle.race_core.specs.declared.event.Judged.{Judged}
+use Rattle.race_core.specs.declared.event.Judged.TheVariants as judged
+use Rattle.race_core.specs.declared.event.LaneEvent.{LaneEvent}
+use Rattle.race_core.specs.declared.event.LaneEvent.TheVariants as event
+use Rattle.race_core.specs.Ends.{IsKilled}
+use Rattle.race_core.specs.declared.end.JobEnd.{JobEnd}
+use Rattle.race_core.specs.declared.end.JobEnd.TheVariants as end
+use Rattle.race_core.specs.declared.part.Keeper.{Keeper}
+use Rattle.race_core.specs.declared.part.By.{By}
+use Rattle.race_core.specs.declared.part.By.TheVariants as by
+use Rattle.race_core.specs.declared.part.Reader.{Reader}
+use Rattle.race_core.specs.declared.part.Reader.TheVariants as reader
+
+-- how many bytes an event's read took
+abbrev pub read_by : {T : Type 0} → LaneEvent T → ℕ
+read_by (event.Read n p) = n
+read_by (event.File n p) = 0
+read_by (event.Settle won) = 0
+read_by event.ReaderMemory = 0
+read_by (event.Turns n) = 0
+read_by (event.Poll p) = 0
+read_by (event.Clock r) = 0
+read_by (event.Look c known) = 0
+read_by event.Kill = 0
+read_by event.KeeperMemory = 0
+read_by event.Took = 0
+read_by event.Start = 0
+read_by event.Finish = 0
+read_by event.Gave = 0
+
+-- how many bytes the reads of a list took
+abbrev pub bytes_read : {T : Type 0} → List (LaneEvent T) → ℕ
+bytes_read [] = 0
+bytes_read (e ∷ es) = read_by e + bytes_read es
+
+-- how many bytes of the proof file an event took
+abbrev pub filed_by : {T : Type 0} → LaneEvent T → ℕ
+filed_by (event.Read n p) = 0
+filed_by (event.File n p) = n
+filed_by (event.Settle won) = 0
+filed_by event.ReaderMemory = 0
+filed_by (event.Turns n) = 0
+filed_by (event.Poll p) = 0
+filed_by (event.Clock r) = 0
+filed_by (event.Look c known) = 0
+filed_by event.Kill = 0
+filed_by event.KeeperMemory = 0
+filed_by event.Took = 0
+filed_by event.Start = 0
+filed_by event.Finish = 0
+filed_by event.Gave = 0
+
+-- how many bytes of the proof file a list took
+abbrev pub bytes_filed : {T : Type 0} → List (LaneEvent T) → ℕ
+bytes_filed [] = 0
+bytes_filed (e ∷ es) = filed_by e + bytes_filed es
+
+-- the bytes taken of a pipe that tells: none and no read yet; or a front of its bytes, or of the gate's other ones
+abbrev pub TookSome : PipeOf → PipeOf → List ℕ → Type 0
+TookSome before now taken =
+    ((now ≡ before) × (taken ≡ []))
+    ⊎ ((now.place ≡ before.place) × (now.given ≡ before.given + length taken) × (now.instead ≡ None)
+    × ((taken ++ now.bytes ≡ before.bytes) ⊎ IsSomeAnd before.instead (λ other. taken ++ now.bytes ≡ other)))
+
+-- the bytes taken of a pipe
+abbrev pub Took : Option PipeOf → Option PipeOf → List ℕ → Type 0
+Took None now taken = now ≡ None
+Took (Some before) None taken = ⊥
+Took (Some before) (Some now) taken = TookSome before now taken
+
+-- no byte is left, where that is told
+abbrev pub NoneLeft : Option PipeOf → Type 0
+NoneLeft None = Unit {0}
+NoneLeft (Some pipe) = pipe.bytes ≡ []
+
+-- What an output, with the proof file behind it where that was asked, comes to: by its bytes so far; by its close, at its end alone;
+-- or by the proof file, where its end leaves it to that.
+abbrev pub ComesBy : {T : Type 0} → (stands ends proves : List ℕ → Judged T → Type 0) → Type 0 → List ℕ → List ℕ → By → Judged T → Type 0
+ComesBy stands ends proves ended output proof by.Bytes p = stands output p
+ComesBy stands ends proves ended output proof by.Close p = ended × ends output p
+ComesBy stands ends proves ended output proof by.File p = ended × ends output judged.More × proves proof p
+
+-- What a reader came to is what its output comes to. That it has read on, that a read failed, or that memory was wanting, is no word
+-- on the output.
+abbrev pub Comes : {T : Type 0} → (stands ends proves : List ℕ → Judged T → Type 0) → Type 0 → List ℕ → List ℕ → Reader T → Type 0
+Comes stands ends proves ended output proof (reader.Holding f b) = ComesBy stands ends proves ended output proof b (judged.Found f)
+Comes stands ends proves ended output proof (reader.Found f b won) = ComesBy stands ends proves ended output proof b (judged.Found f)
+Comes stands ends proves ended output proof (reader.Unknown b) = ComesBy stands ends proves ended output proof b judged.Unknown
+Comes stands ends proves ended output proof (reader.Bad number at b) = ComesBy stands ends proves ended output proof b (judged.Bad number at)
+Comes stands ends proves ended output proof reader.Asking = ended × ends output judged.More
+Comes stands ends proves ended output proof reader.Fresh = Unit {0}
+Comes stands ends proves ended output proof reader.Reading = Unit {0}
+Comes stands ends proves ended output proof reader.Unjudged = Unit {0}
+Comes stands ends proves ended output proof reader.Failed = Unit {0}
+Comes stands ends proves ended output proof reader.Short = Unit {0}
+Comes stands ends proves ended output proof reader.Wrong = ⊥
+
+-- the reader reads on
+abbrev pub ReadsOn : {T : Type 0} → Reader T → Type 0
+ReadsOn reader.Fresh = Unit {0}
+ReadsOn reader.Reading = Unit {0}
+ReadsOn reader.Asking = ⊥
+ReadsOn reader.Unjudged = ⊥
+ReadsOn (reader.Holding f b) = ⊥
+ReadsOn (reader.Found f b won) = ⊥
+ReadsOn (reader.Unknown b) = ⊥
+ReadsOn (reader.Bad number at b) = ⊥
+ReadsOn reader.Failed = ⊥
+ReadsOn reader.Short = ⊥
+ReadsOn reader.Wrong = ⊥
+
+-- the reader of the output has ended: it holds a finding, has another end of its own, or leaves it to the proof file
+abbrev pub HasRead : {T : Type 0} → Reader T → Type 0
+HasRead (reader.Holding f b) = Unit {0}
+HasRead (reader.Unknown b) = Unit {0}
+HasRead (reader.Bad number at b) = Unit {0}
+HasRead reader.Asking = Unit {0}
+HasRead reader.Failed = Unit {0}
+HasRead reader.Short = Unit {0}
+HasRead reader.Fresh = ⊥
+HasRead reader.Reading = ⊥
+HasRead reader.Unjudged = ⊥
+HasRead (reader.Found f b won) = ⊥
+HasRead reader.Wrong = ⊥
+
+-- what a read of so many bytes, judged so, is entered as: so, or as want of memory
+abbrev pub EnteredAs : {T : Type 0} → By → Judged T → Reader T → Type 0
+EnteredAs b p part = (part ≡ judged_as b p) ⊎ (part ≡ reader.Short)
+
+-- A moment of a reader's work since its pipe and its list were fresh: what it took of the pipe is the subject's output, as many bytes
+-- as its list tells.
+pub record ReadSoFar {T : Type 0} (pipe pipe' : Option PipeOf) (output : List ℕ) (events : List (LaneEvent T)) : Type 0 where
+  pub took : Took pipe pipe' output
+  pub counted : bytes_read events ≡ length output
+  pub unfiled : bytes_filed events ≡ 0
+
+-- what a proof file comes to
+abbrev pub Proves : {T : Type 0} → (List ℕ → Judged T → Type 0) → List ℕ → Reader T → Type 0
+Proves proves proof (reader.Holding f b) = (b ≡ by.File) × proves proof (judged.Found f)
+Proves proves proof (reader.Unknown b) = (b ≡ by.File) × proves proof judged.Unknown
+Proves proves proof (reader.Bad number at b) = (b ≡ by.File) × proves proof (judged.Bad number at)
+Proves proves proof reader.Failed = Unit {0}
+Proves proves proof reader.Short = Unit {0}
+Proves proves proof (reader.Found f b won) = ⊥
+Proves proves proof reader.Fresh = ⊥
+Proves proves proof reader.Reading = ⊥
+Proves proves proof reader.Asking = ⊥
+Proves proves proof reader.Unjudged = ⊥
+Proves proves proof reader.Wrong = ⊥
+
+-- a reader settled what it held, or dropped it for want of memory
+abbrev pub Settles : {T : Type 0} → Reader T → Reader T → Type 0
+Settles (reader.Holding f b) part = (part ≡ reader.Found f b true) ⊎ ((part ≡ reader.Found f b false) ⊎ (part ≡ reader.Short))
+Settles (reader.Found f b won) part = part ≡ reader.Found f b won
+Settles (reader.Unknown b) part = part ≡ reader.Unknown b
+Settles (reader.Bad number at b) part = part ≡ reader.Bad number at b
+Settles reader.Fresh part = part ≡ reader.Fresh
+Settles reader.Reading part = part ≡ reader.Reading
+Settles reader.Asking part = part ≡ reader.Asking
+Settles reader.Unjudged part = part ≡ reader.Unjudged
+Settles reader.Failed part = part ≡ reader.Failed
+Settles reader.Short part = part ≡ reader.Short
+Settles reader.Wrong part = part ≡ reader.Wrong
+
+-- the reader is over: it has an end of its own, wanted memory, or left it to a proof file that isn't asked for after a kill
+abbrev pub IsOver : {T : Type 0} → Reader T → Keeper T → Type 0
+IsOver (reader.Found f b won) k = Unit {0}
+IsOver (reader.Unknown b) k = Unit {0}
+IsOver (reader.Bad number at b) k = Unit {0}
+IsOver reader.Failed k = Unit {0}
+IsOver reader.Short k = Unit {0}
+IsOver reader.Asking k = IsKilled k
+IsOver (reader.Holding f b) k = ⊥
+IsOver reader.Fresh k = ⊥
+IsOver reader.Reading k = ⊥
+IsOver reader.Unjudged k = ⊥
+IsOver reader.Wrong k = ⊥
+
+-- the reader's own end that is no finding
+abbrev pub IsReaders : {T : Type 0} → Reader T → JobEnd T → Type 0
+IsReaders (reader.Unknown b) e = e ≡ end.Unknown
+IsReaders (reader.Bad number at b) e = e ≡ end.Bad number at
+IsReaders reader.Failed e = e ≡ end.ReadFailed
+IsReaders (reader.Found f b won) e = ⊥
+IsReaders (reader.Holding f b) e = ⊥
+IsReaders reader.Asking e = ⊥
+IsReaders reader.Short e = ⊥
+IsReaders reader.Fresh e = ⊥
+IsReaders reader.Reading e = ⊥
+IsReaders reader.Unjudged e = ⊥
+IsReaders reader.Wrong e = ⊥
+
+-- the reader has a finding, leaves the end to the keeper, or isn't over
+abbrev pub LeavesEnd : {T : Type 0} → Bool → Reader T → Type 0
+LeavesEnd killed (reader.Unknown b) = (killed ≡ true) × (b ≡ by.Close)
+LeavesEnd killed (reader.Bad number at b) = (killed ≡ true) × (b ≡ by.Close) × (number ≡ 48)
+LeavesEnd killed reader.Failed = ⊥
+LeavesEnd killed (reader.Found f b won) = Unit {0}
+LeavesEnd killed (reader.Holding f b) = Unit {0}
+LeavesEnd killed reader.Asking = Unit {0}
+LeavesEnd killed reader.Short = Unit {0}
+LeavesEnd killed reader.Fresh = Unit {0}
+LeavesEnd killed reader.Reading = Unit {0}
+LeavesEnd killed reader.Unjudged = Unit {0}
+LeavesEnd killed reader.Wrong = Unit {0}
+
+-- the reader has a finding
+abbrev pub IsFound : {T : Type 0} → Reader T → Type 0
+IsFound (reader.Found f b won) = Unit {0}
+IsFound (reader.Unknown b) = ⊥
+IsFound (reader.Bad number at b) = ⊥
+IsFound reader.Failed = ⊥
+IsFound (reader.Holding f b) = ⊥
+IsFound reader.Asking = ⊥
+IsFound reader.Short = ⊥
+IsFound reader.Fresh = ⊥
+IsFound reader.Reading = ⊥
+IsFound reader.Unjudged = ⊥
+IsFound reader.Wrong = ⊥
+
+-- a proof file that was got, of the job's script where that is told: all of it, or its first `most + 1` bytes where it is longer
+abbrev pub IsProof : Option BayOf → JobName → ℕ → List ℕ → Type 0
+IsProof None job most proof = Unit {0}
+IsProof (Some bay) job most proof = proof ≡ take (most + 1) (bay.scripts job).proof
+
+-- the reader holds a finding that isn't settled
+abbrev pub IsHolding : {T : Type 0} → Reader T → Type 0
+IsHolding (reader.Holding f b) = Unit {0}
+IsHolding (reader.Found f b won) = ⊥
+IsHolding (reader.Unknown b) = ⊥
+IsHolding (reader.Bad number at b) = ⊥
+IsHolding reader.Failed = ⊥
+IsHolding reader.Asking = ⊥
+IsHolding reader.Short = ⊥
+IsHolding reader.Fresh = ⊥
+IsHolding reader.Reading = ⊥
+IsHolding reader.Unjudged = ⊥
+IsHolding reader.Wrong = ⊥
+
+-- where the reader won the cell, this holds of its finding
+abbrev pub IfWon : {T : Type 0} → Reader T → (T → Type 0) → Type 0
+IfWon (reader.Found f b true) P = P f
+IfWon (reader.Found f b false) P = Unit {0}
+IfWon (reader.Holding f b) P = Unit {0}
+IfWon (reader.Unknown b) P = Unit {0}
+IfWon (reader.Bad number at b) P = Unit {0}
+IfWon reader.Failed P = Unit {0}
+IfWon reader.Asking P = Unit {0}
+IfWon reader.Short P = Unit {0}
+IfWon reader.Fresh P = Unit {0}
+IfWon reader.Reading P = Unit {0}
+IfWon reader.Unjudged P = Unit {0}
+IfWon reader.Wrong P = Unit {0}
+
+-- what a proof file, judged so, is entered as: so, or as want of memory
+abbrev pub FiledAs : {T : Type 0} → Judged T → Reader T → Type 0
+FiledAs p part = ((p ≢ judged.Unjudged) × (part ≡ judged_as by.File p)) ⊎ (part ≡ reader.Short)
+
+-- the bytes that were got of a file
+abbrev pub got_bytes : Got → List ℕ
+got_bytes (All bytes) = bytes.items
+got_bytes (Long bytes) = bytes.items

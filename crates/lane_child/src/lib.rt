@@ -1,0 +1,16 @@
+//! The life of a lane's child: its reader and its keeper beside each other, and its end.
+#![tactic(auto)]
+
+mod ending;
+mod entering;
+mod job;
+mod keeper;
+mod life;
+mod over;
+mod reader;
+mod subject;
+
+pub use job::{Ran, run_started};
+pub use keeper::Watch;
+pub use over::Asked;
+pub use subject::{Asks, Subject};
