@@ -1,0 +1,10 @@
+-- Definitions.
+pub mod Text
+pub mod Machine
+pub mod Telling
+pub mod Scan
+pub mod Stream
+pub mod Beginning
+pub mod Words
+pub mod Places
+pub mod Reasons
