@@ -129,6 +129,14 @@ impl<T: Drop> EventList<T> {
         }
     }
 
+    // The entries alone.
+    pub(crate) fn into_events(self) -> Vec<LaneEvent<T>>
+        ensures { result.items ≡ self.events }
+    {
+        let EventList { events, room: _ } = self;
+        events
+    }
+
     /// The events so far.
     pub fn events(&self) -> &[LaneEvent<T>]
         ensures { result.now ≡ self.now.events }
@@ -138,7 +146,7 @@ impl<T: Drop> EventList<T> {
 }
 
 // Adds an entry where there is room.
-fn push_within<T: Drop>(events: &mut Vec<LaneEvent<T>>, event: LaneEvent<T>)
+pub(crate) fn push_within<T: Drop>(events: &mut Vec<LaneEvent<T>>, event: LaneEvent<T>)
     requires { vec_len events.old < vec_capacity events.old }
     ensures items { events.new.items ≡ events.old.items ++ event ∷ [] }
     ensures capacity { vec_capacity events.old ≤ vec_capacity events.new }

@@ -125,3 +125,16 @@ fn neighbours_share_an_entry(rt: HostRuntime) -> Result<(), Fail> {
     assert_eq!(rt; numbers, [7, 0, u64::MAX, 1]);
     Ok(())
 }
+
+#[test]
+fn events_are_put(rt: HostRuntime) -> Result<(), Fail> {
+    let alloc = rt.alloc();
+    let mut report = Report::<Refuted>::new(alloc, 0, 2)?;
+    report.want_memory(0);
+    let reader = EventList::new(alloc, 1)?;
+    let mut keeper = EventList::new(alloc, 1)?;
+    keeper.push(LaneEvent::Turns(1));
+    report.put_events(1, reader, keeper);
+    assert!(rt; report.events().iter().all(|job| job.keeper().len() == 1));
+    Ok(())
+}
