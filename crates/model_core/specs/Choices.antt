@@ -1,5 +1,5 @@
 -- What a run of a model leaves open, and what is chosen for it.
-use Rattle.std.specs.Prelude.{◌≡◌, ℕ, ◌<◌, Bool, List, [], ◌∷◌, length, Option, Some, None, slice_get, All, Contains}
+use Rattle.std.specs.Prelude.{◌≡◌, ℕ, ◌<◌, Bool, List, [], ◌∷◌, length, Option, Some, None, slice_get, All}
 use Rattle.sby_bits.specs.Rows.{Row}
 use Rattle.model_core.specs.Shape.{ModelOf, states}
 use Rattle.model_core.specs.Meaning.{Cycle, Run, row_at}
@@ -14,6 +14,13 @@ without_digit (p ∷ ps) (None ∷ digits) = p ∷ without_digit ps digits
 -- the state bits that may start with either value
 abbrev pub open_states : ModelOf → List ℕ
 open_states m = without_digit (states m) m.starts
+
+-- what state bits start with: each its digit, else the next of the chosen bits
+abbrev pub start_row : List (Option Bool) → Row → Row
+start_row [] row = []
+start_row (Some x ∷ digits) row = x ∷ start_row digits row
+start_row (None ∷ digits) [] = []
+start_row (None ∷ digits) (b ∷ row) = b ∷ start_row digits row
 
 -- a bit for each open state bit, and for each cycle a row with a bit for each input
 pub record ChoicesOf : Type 0 where

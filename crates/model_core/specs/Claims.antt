@@ -1,5 +1,5 @@
 -- What can be shown of a model's runs: the words that jobs are said in.
-use Rattle.std.specs.Prelude.{◌≡◌, ℕ, suc, ◌<◌, ◌≤◌}
+use Rattle.std.specs.Prelude.{◌≡◌, ℕ, suc, ◌<◌}
 use Rattle.model_core.specs.Shape.{ModelOf}
 use Rattle.model_core.specs.Meaning.{Cycle, Window, Run, Assumed, Broken, Reached}
 

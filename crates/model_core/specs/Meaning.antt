@@ -1,5 +1,6 @@
 -- The meaning of a model: relations on whole cycles.
-use Rattle.std.specs.Prelude.{◌≡◌, ℕ, zero, suc, ◌<◌, Bool, true, false, cond, not, ◌||◌, List, length, map, max, Option, Some, slice_get, IsTrue}
+use Rattle.std.specs.Prelude.{◌≡◌, ℕ, suc, ◌<◌, Bool, true, false, cond, not, ◌||◌, List, length, map, max, Some, slice_get, IsTrue}
+use Rattle.std.specs.List.{flat_map}
 use Rattle.sby_bits.specs.Rows.{Row, num, value}
 use Rattle.cell_table.specs.Cells.{unary_fn, binary_fn, is_reduced, is_logic, is_compared, left_shift_fn, right_shift_fn, sign_shift_fn, any_shift_fn, divide_fn, mux_fn, pmux_fn, bmux_fn, slice_fn, bit_row, same_bit}
 use Rattle.std.specs.Prelude.{eqb, ◌++◌}
@@ -58,6 +59,10 @@ abbrev pub next_row : Cycle → RegisterOf → Row
 next_row c r = cond r.reset_first
     (cond (is_active c r.reset) (row_at c r.value) (cond (is_active c r.enable) (row_at c r.d) (row_at c r.q)))
     (cond (is_active c r.enable) (cond (is_active c r.reset) (row_at c r.value) (row_at c r.d)) (row_at c r.q))
+
+-- what all state bits have in the next cycle
+abbrev pub next_states : ModelOf → Cycle → Row
+next_states m c = flat_map (next_row c) m.registers
 
 -- e can come right after c
 abbrev pub Follows : ModelOf → Cycle → Cycle → Type 0

@@ -1,12 +1,12 @@
 -- Which widths of A, B, S and Y a node has, by what it does.
-use Rattle.std.specs.Prelude.{◌≡◌, ℕ, ◌+◌, ◌*◌, ◌^◌, ◌<◌, ◌≤◌, length, max, slice_get, Some, take, Contains, All, List, [], ◌++◌}
+use Rattle.std.specs.Prelude.{◌≡◌, ℕ, ◌+◌, ◌*◌, ◌^◌, ◌<◌, ◌≤◌, length, slice_get, Some, take, Contains, All, ◌++◌}
 use Rattle.cell_table.specs.declared.kind.Unary.{Unary}
 use Rattle.cell_table.specs.declared.kind.Unary.TheVariants.{Not, Pos, Neg}
 use Rattle.cell_table.specs.declared.kind.Binary.{Binary}
 use Rattle.cell_table.specs.declared.kind.Binary.TheVariants.{And, Or, Xor, Xnor, Add, Sub, Mul}
 use Rattle.cell_table.specs.declared.kind.Compare.{Compare}
 use Rattle.cell_table.specs.declared.kind.Compare.TheVariants.{Eq, Ne, Eqx, Nex, Lt, Le, Gt, Ge}
-use Rattle.model_core.specs.Shape.{NodeOf, RegisterOf, ModelOf, AreBelow, IsDistinct, IsRegister, IsStatement, given, reads, sources, states}
+use Rattle.model_core.specs.Shape.{NodeOf, ModelOf, AreBelow, IsDistinct, IsRegister, IsStatement, given, reads, sources, states}
 use Rattle.model_core.specs.declared.op.Op.{Op}
 use Rattle.model_core.specs.declared.op.Op.TheVariants as op
 

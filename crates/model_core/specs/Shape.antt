@@ -1,5 +1,5 @@
 -- The parts of a model as contracts see them: lists and places. A place is that of a bit, counted from 0.
-use Rattle.std.specs.Prelude.{◌≡◌, ◌⊎◌, ℕ, suc, ◌+◌, ◌*◌, ◌^◌, ◌<◌, ◌≤◌, Bool, List, [], ◌∷◌, ◌++◌, length, take, max, Option, Some, slice_get, Contains, All}
+use Rattle.std.specs.Prelude.{◌≡◌, ℕ, suc, ◌<◌, ◌≤◌, Bool, List, ◌∷◌, ◌++◌, length, Option, Some, slice_get, All}
 use Rattle.std.specs.List.{flat_map}
 use Rattle.model_core.specs.declared.model.Control.{Control}
 use Rattle.model_core.specs.declared.model.Statement.{Statement}

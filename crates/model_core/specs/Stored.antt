@@ -1,5 +1,6 @@
 -- How a model is kept: nodes and registers with the places of their rows one after the other in one list.
-use Rattle.std.specs.Prelude.{ℕ, ◌+◌, ◌≤◌, List, [], take, drop, length, map, All}
+use Rattle.std.specs.Prelude.{◌≡◌, ℕ, ◌+◌, ◌≤◌, List, take, drop, length, All}
+use Rattle.std.specs.List.{flat_map}
 use Rattle.model_core.specs.Shape.{NodeOf, RegisterOf}
 use Rattle.model_core.specs.declared.stored.StoredNode.{StoredNode}
 use Rattle.model_core.specs.declared.stored.StoredRegister.{StoredRegister}
@@ -33,3 +34,9 @@ IsNodeInside places n = n.first + n.a + n.b + n.s + n.y ≤ length places
 
 abbrev pub IsRegisterInside : List ℕ → List ℕ → StoredRegister → Type 0
 IsRegisterInside places states r = (r.first + r.width + r.width ≤ length places) × (r.state + r.width ≤ length states)
+
+-- what is kept stands inside the lists, and the list of state bits is the registers' rows one after the other
+pub record AreKept (places bits : List ℕ) (nodes : List StoredNode) (registers : List StoredRegister) : Type 0 where
+  pub nodes_inside : All (IsNodeInside places) nodes
+  pub registers_inside : All (IsRegisterInside places bits) registers
+  pub all_bits : flat_map (λ r. part bits r.state r.width) registers ≡ bits

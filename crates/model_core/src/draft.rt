@@ -27,10 +27,9 @@ pub struct Draft {
 }
 
 impl Model for Draft {
-    ghost use Rattle.std.specs.Prelude.{All, map};
-    ghost use Rattle.model_core.specs.Shape.{ModelOf, states};
-    ghost use Rattle.std.specs.Prelude.{◌≡◌};
-    ghost use Rattle.model_core.specs.Stored.{IsNodeInside, IsRegisterInside, node_of, register_of};
+    ghost use Rattle.std.specs.Prelude.{map};
+    ghost use Rattle.model_core.specs.Shape.{ModelOf};
+    ghost use Rattle.model_core.specs.Stored.{AreKept, node_of, register_of};
 
     ghost Value = { ModelOf };
 
@@ -46,21 +45,7 @@ impl Model for Draft {
       covers = m.covers.items;
     } };
 
-    ghost invariant = { λ m. record {
-      nodes : All (IsNodeInside m.places.items) m.nodes.items;
-      registers : All (IsRegisterInside m.places.items m.states.items) m.registers.items;
-      states : states (record {
-        size = m.size;
-        zero = m.zero;
-        nodes = map (node_of m.places.items) m.nodes.items;
-        registers = map (register_of m.places.items m.states.items) m.registers.items;
-        starts = m.starts.items;
-        inputs = m.inputs.items;
-        asserts = m.asserts.items;
-        assumes = m.assumes.items;
-        covers = m.covers.items;
-      }) ≡ m.states.items;
-    } };
+    ghost invariant = { λ m. AreKept m.places.items m.states.items m.nodes.items m.registers.items };
 }
 
 impl Draft {
@@ -138,8 +123,9 @@ impl Draft {
         let state = self.states.len();
         self.places.extend_from_slice(d)?;
         self.places.extend_from_slice(value)?;
-        self.states.extend_from_slice(q)?;
         self.starts.extend_from_slice(starts)?;
+        // With room for its state bits they are added where the register is.
+        self.states.try_reserve(q.len())?;
         self.registers.push(StoredRegister {
             first,
             state,
@@ -148,6 +134,7 @@ impl Draft {
             reset,
             reset_first,
         })?;
+        self.states.extend_from_slice(q)?;
         Ok(())
     }
 

@@ -170,7 +170,8 @@ impl WordModel {
     pub fn states(&self) -> &[u32]
         ensures { result.now ≡ states self.now }
     {
-        self.draft.states.as_slice()
+        let draft = &self.draft;
+        draft.states.as_slice()
     }
 
     /// For each state bit the digit that it starts with, if it has one.
