@@ -1,0 +1,5 @@
+pub mod Trace
+pub mod Changes
+pub mod Printed
+pub mod Reading
+pub mod Stopped
