@@ -82,6 +82,11 @@ right_kept None (keeper.Due w) is = absurd is
 right_kept None (keeper.Killed w) is = absurd is
 right_kept None keeper.Wrong is = absurd is
 
+-- a keeper that is over has looked
+pub kept_looked : {T : Type 0} (why : Option (Reason T)) (k : Keeper T) → MatchOption why (TakesTurns k) (λ w. k ≡ keeper.Killed w) → k ≡ keeper.Fresh → ⊥
+kept_looked (Some w) k is fresh = cc
+kept_looked {T} None k is fresh = subst (λ (k : Keeper T). TakesTurns k) fresh is
+
 -- settling changes nothing of what an output comes to
 comes_settled : {T : Type 0} (st en pr : List ℕ → Judged T → Type 0) (ended : Type 0) (output proof : List ℕ) (part now : Reader T)
     → Comes st en pr ended output proof part → Settles part now → Comes st en pr ended output proof now

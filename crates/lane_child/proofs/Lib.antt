@@ -3,3 +3,4 @@ mod Entries
 mod Keepers
 mod Proving
 mod Readers
+mod Starts

@@ -3,6 +3,7 @@
 ghost use Rattle.std.specs.Prelude.{◌≡◌, ◌≢◌, ◌⊎◌, IfNone, IfSome, MatchBool, true};
 ghost use Rattle.lane_child.specs.Keeping.{HasKept};
 ghost use Rattle.lane_child.specs.Reading.{IsFound, IsOver, IsReaders, LeavesEnd};
+ghost use Rattle.lane_child.specs.Starting.{HasRun};
 ghost use Rattle.race_core.specs.Ends.{EndIs, IsKilled, IsShort, Yields};
 ghost use Rattle.race_core.specs.Parts.{Terms};
 ghost use Rattle.race_core.specs.declared.end.JobEnd.TheVariants as end;
@@ -20,7 +21,8 @@ const EARLY: u8 = 48;
 fn end_by_keeper<T: Drop>(kept: Keeper<T>, is_failed: bool) -> JobEnd<T>
     requires kept { HasKept kept }
     ensures end { (a : Terms T) (part : Reader T) → IsShort part ⊎ (Yields part × IsKilled kept) → EndIs a (λ _. ⊥) part kept result }
-    ensures other { (result ≢ end.StartFailed) × (result ≢ end.ReadFailed) }
+    ensures ran { HasRun result }
+    ensures other { result ≢ end.ReadFailed }
     ensures hold { result ≡ end.HoldFailed → (is_failed ≡ true) ⊎ (kept ≡ keeper.Killed reason.Fault) }
 {
     match kept {
@@ -40,7 +42,7 @@ fn is_killed<T>(keeper: &Keeper<T>) -> bool
 
 // The reader's end, if it has one that isn't a finding and doesn't yield to a kill.
 fn plain_end<T: Drop>(part: &Reader<T>, is_killed: bool) -> Option<JobEnd<T>>
-    ensures some { IfSome result (λ e. IsReaders part.now e × (Yields part.now → is_killed ≡ true → ⊥)) }
+    ensures some { IfSome result (λ e. IsReaders part.now e × HasRun e × (Yields part.now → is_killed ≡ true → ⊥)) }
     ensures none { IfNone result (LeavesEnd is_killed part.now) }
 {
     match part {
@@ -59,7 +61,8 @@ fn found_end<T: Drop>(part: Reader<T>, kept: Keeper<T>, is_failed: bool) -> JobE
     requires kept { HasKept kept }
     requires left { IsFound part ⊎ (IsShort part ⊎ (Yields part × IsKilled kept)) }
     ensures end { (a : Terms T) → EndIs a (λ _. ⊥) part kept result }
-    ensures other { (result ≢ end.StartFailed) × (result ≢ end.ReadFailed) }
+    ensures ran { HasRun result }
+    ensures other { result ≢ end.ReadFailed }
     ensures hold { result ≡ end.HoldFailed → (is_failed ≡ true) ⊎ (kept ≡ keeper.Killed reason.Fault) }
 {
     match part {
@@ -80,7 +83,7 @@ pub(crate) fn job_end<T: Drop>(part: Reader<T>, kept: Keeper<T>, is_failed: bool
     requires over { IsOver part kept }
     requires kept { HasKept kept }
     ensures end { (a : Terms T) → EndIs a (λ _. ⊥) part kept result }
-    ensures started { result ≢ end.StartFailed }
+    ensures ran { HasRun result }
     ensures read { result ≡ end.ReadFailed → part ≡ reader.Failed }
     ensures hold { result ≡ end.HoldFailed → (is_failed ≡ true) ⊎ (kept ≡ keeper.Killed reason.Fault) }
 {

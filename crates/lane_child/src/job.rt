@@ -3,6 +3,7 @@
 ghost use Rattle.std.specs.Prelude.{◌≡◌, ◌≢◌, ◌⊎◌, ℕ, ◌+◌, ◌<◌, ◌≤◌, [], Option, Some, IfSome, length, map, option_map, string_bytes, true};
 ghost use Rattle.lane_child.specs.Keeping.{EndsChild, HasKept, IsOfCell, Keeps, Remember, TakesTurns};
 ghost use Rattle.lane_child.specs.Reading.{HasRead, IfWon, IsHolding, IsOver, bytes_filed, bytes_read};
+ghost use Rattle.lane_child.specs.Starting.{HasRun};
 ghost use Rattle.lane_child.specs.Sides.{Asks, Finishes, RanFrom, kept_by};
 ghost use Rattle.race_cells.specs.Notes.{AreNotesOf, known_at};
 ghost use Rattle.race_core.specs.Asking.{terms_of};
@@ -148,7 +149,7 @@ fn conclude<L: Launch, S: Subject<T> + Drop, T: Settled + Drop>(
     ensures read { bytes_read result.events.events ≡ bytes_read lived.events.events }
     ensures remember { Remember notes.old notes.new }
     ensures won { IfWon (reader_from reader.Fresh result.events.events) (λ f. known_at notes.new place ≡ Some f) }
-    ensures started { result.end ≢ end.StartFailed }
+    ensures started { HasRun result.end }
     ensures read_failed { result.end ≡ end.ReadFailed → (lived.part ≡ reader.Failed) ⊎ Rose (L.read_faults bay.old) (L.read_faults bay.new) }
     ensures hold_failed { result.end ≡ end.HoldFailed → (lived.is_failed ≡ true) ⊎ (kept_by lived.why ≡ keeper.Killed reason.Fault) }
     ensures told { L.told bay.new ≡ L.told bay.old }
@@ -202,11 +203,12 @@ pub fn run_started<
     requires turns { TakesTurns (keeper_from (terms_of T.job T.answer watch.now.terms.now) keeper.Fresh keeper_events.old.events) }
     ensures end { EndIs (terms_of T.job T.answer watch.now.terms.now) (λ _. ⊥) (reader_from reader.Fresh result.events.events) (keeper_from (terms_of T.job T.answer watch.now.terms.now) keeper.Fresh keeper_events.new.events) result.end }
     ensures right { RightReader (reader_from reader.Fresh result.events.events) × RightKeeper (keeper_from (terms_of T.job T.answer watch.now.terms.now) keeper.Fresh keeper_events.new.events) }
+    ensures looked { keeper_from (terms_of T.job T.answer watch.now.terms.now) keeper.Fresh keeper_events.new.events ≢ keeper.Fresh }
     ensures keeps { Keeps (IsOfCell T.problem T.job (J.problem watch.now.asks.now) watch.now.terms.now watch.now.other) (C.may_read watch.now.clock.now) notes.old notes.new keeper_events.old.events keeper_events.new.events }
     ensures won { IfWon (reader_from reader.Fresh result.events.events) (λ f. known_at notes.new watch.now.terms.now.cell ≡ Some f) }
     ensures ran { RanFrom (S.stands subject) (S.ends subject) (S.proves subject) asked.now.job asked.now.most (L.told bay.old) (L.told bay.new)
         (L.Pipe.told child.0) result.events.events }
-    ensures started { result.end ≢ end.StartFailed }
+    ensures started { HasRun result.end }
     ensures read_failed { result.end ≡ end.ReadFailed → Rose (L.read_faults bay.old) (L.read_faults bay.new) }
     ensures hold_failed { result.end ≡ end.HoldFailed → Rose (L.hold_faults bay.old) (L.hold_faults bay.new) }
     ensures starts { L.start_faults bay.new ≡ L.start_faults bay.old }

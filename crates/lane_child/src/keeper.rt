@@ -20,6 +20,7 @@ use std::sync::Wait;
 use std::sync::atomic::{AtomicBool, Ordering};
 
 /// What a job's keeper watches beside its child.
+#[derive(Drop)]
 pub struct Watch<'a, J, T, C> {
     /// The problem.
     pub asks: &'a J,
@@ -35,7 +36,7 @@ const ROOM: usize = 4;
 
 // Two copies of what the cell at a place has, where that makes the job needless: one for the list, one for the end.
 #[tactic(auto, using(crate::proofs::Keepers::learns_remember, crate::proofs::Keepers::learns_known))]
-fn needless_at<J: Asks<T>, T: Settled + Drop, C: Clock>(
+pub(crate) fn needless_at<J: Asks<T>, T: Settled + Drop, C: Clock>(
     watch: &Watch<'_, J, T, C>,
     place: u32,
     job: JobName,
@@ -158,7 +159,7 @@ fn read_clock<J: Asks<T>, T: Settled + Drop, C: Clock>(
 }
 
 // An entry that shows no finding and has no reading.
-fn enter_plain<J: Asks<T>, T: Settled + Drop, C: Clock>(
+pub(crate) fn enter_plain<J: Asks<T>, T: Settled + Drop, C: Clock>(
     watch: &Watch<'_, J, T, C>,
     notes: &Notes<T>,
     events: &mut EventList<T>,

@@ -7,7 +7,7 @@ use Rattle.lane_child.specs.Keeping.{IsOfCell}
 use Rattle.lane_child.specs.Reading.{IsProof, NoneLeft, Proves}
 use Rattle.lane_child.specs.Sides.{kept_by}
 use Rattle.race_core.specs.Ends.{IsKilled}
-use Rattle.lane_child.proofs.Endings.{comes_finished, ends_kept, proof_or_none, right_kept}
+use Rattle.lane_child.proofs.Endings.{comes_finished, ends_kept, kept_looked, proof_or_none, right_kept}
 use Rattle.lane_child.proofs.Keepers.{keeps_remember, keeps_then}
 use Rattle.lane_child.proofs.job.run_started.Goals as goal
 
@@ -16,6 +16,9 @@ returns-clause-end g c = ends_kept (terms_of g.T.Settled.job g.T.Settled.answer 
 
 pub returns-clause-right : goal.returns-clause-right
 returns-clause-right g c = (c.conclude.ensures.right, right_kept c.live-lived.result.why (keeper_from (terms_of g.T.Settled.job g.T.Settled.answer c.args.watch.now.terms.now) keeper.Fresh c.live-lived.new.keeper_events.events) c.live-lived.ensures.kept)
+
+pub returns-clause-looked : goal.returns-clause-looked
+returns-clause-looked g c = λ fresh. kept_looked c.live-lived.result.why (keeper_from (terms_of g.T.Settled.job g.T.Settled.answer c.args.watch.now.terms.now) keeper.Fresh c.live-lived.new.keeper_events.events) c.live-lived.ensures.kept fresh
 
 pub returns-clause-keeps : goal.returns-clause-keeps
 returns-clause-keeps g c =

@@ -1,0 +1,77 @@
+-- What a job leaves to its bay and its list, from the look before its start on.
+use Rattle.std.specs.Prelude.{◌≡◌, ◌⊎◌, ℕ, List, [], ◌∷◌, ◌++◌, length, Option, None, Some, IsSomeAnd}
+use Rattle.sby_edge.specs.Child.{BayOf, StartOf, up_to}
+use Rattle.sby_edge.specs.Script.{ScriptOf}
+use Rattle.sby_terms.specs.declared.names.JobName.{JobName}
+use Rattle.race_core.specs.Parts.{reader_from}
+use Rattle.race_core.specs.declared.end.JobEnd.{JobEnd}
+use Rattle.race_core.specs.declared.end.JobEnd.TheVariants as end
+use Rattle.race_core.specs.declared.event.Judged.{Judged}
+use Rattle.race_core.specs.declared.event.LaneEvent.{LaneEvent}
+use Rattle.race_core.specs.declared.part.Reader.TheVariants as reader
+use Rattle.lane_child.specs.Reading.{Comes, IsProof, bytes_filed, bytes_read}
+
+-- an end of a job whose child ran
+abbrev pub HasRun : {T : Type 0} → JobEnd T → Type 0
+HasRun (end.Found f) = Unit {0}
+HasRun end.Unknown = Unit {0}
+HasRun (end.Bad number at) = Unit {0}
+HasRun end.ReadFailed = Unit {0}
+HasRun end.HoldFailed = Unit {0}
+HasRun (end.CalledOff f) = Unit {0}
+HasRun (end.Stopped r) = Unit {0}
+HasRun end.Memory = Unit {0}
+HasRun end.NotServed = ⊥
+HasRun end.StartFailed = ⊥
+HasRun (end.Skipped f) = ⊥
+
+-- an end of a job whose child wasn't asked to start
+abbrev pub NoStart : {T : Type 0} → JobEnd T → Type 0
+NoStart end.NotServed = Unit {0}
+NoStart (end.Skipped f) = Unit {0}
+NoStart end.Memory = Unit {0}
+NoStart (end.Found f) = ⊥
+NoStart end.Unknown = ⊥
+NoStart (end.Bad number at) = ⊥
+NoStart end.ReadFailed = ⊥
+NoStart end.StartFailed = ⊥
+NoStart end.HoldFailed = ⊥
+NoStart (end.CalledOff f) = ⊥
+NoStart (end.Stopped r) = ⊥
+
+-- an output and what is left behind it: the script's bytes up to its stall, or its gate's other ones
+abbrev pub IsFront : ScriptOf → List ℕ → List ℕ → Type 0
+IsFront script output rest =
+    (output ++ rest ≡ up_to script.stalls script.bytes) ⊎ IsSomeAnd script.gate (λ gate. output ++ rest ≡ up_to script.stalls gate.instead)
+
+-- the same of a job's script, where the bay tells it
+abbrev pub IsFrontOf : Option BayOf → JobName → List ℕ → List ℕ → Type 0
+IsFrontOf None job output rest = Unit {0}
+IsFrontOf (Some bay) job output rest = IsFront (bay.scripts job) output rest
+
+-- A reader took an output, a front of the script's, and perhaps a proof file, as many bytes as its list tells, and came to what these
+-- come to. Nothing being left, the output ended.
+pub record ReadsScript {T : Type 0} (stands ends proves : List ℕ → Judged T → Type 0) (bay : Option BayOf) (job : JobName) (most : ℕ) (events : List (LaneEvent T)) : Type 0 where
+  pub output : List ℕ
+  pub rest : List ℕ
+  pub proof : List ℕ
+  pub front : IsFrontOf bay job output rest
+  pub read : bytes_read events ≡ length output
+  pub filed : bytes_filed events ≡ length proof
+  pub is_proof : (proof ≡ []) ⊎ IsProof bay job most proof
+  pub comes : Comes stands ends proves (rest ≡ []) output proof (reader_from reader.Fresh events)
+
+-- the bay with these starts more
+abbrev pub with_starts : List StartOf → BayOf → BayOf
+with_starts starts bay = record bay { starts = bay.starts ++ starts }
+
+-- a start of the job with these words, whose pipe gave so many bytes, if it was finished
+abbrev pub start_of : JobName → List (List ℕ) → Option ℕ → StartOf
+start_of job words given = record { job = job; words = words; given = given }
+
+-- The starts of a job: none; or one that failed; or one with these words whose child ran, and gave as many bytes as the reader's list tells.
+abbrev pub Starts : {T : Type 0} → JobName → List (List ℕ) → Type 0 → List (LaneEvent T) → JobEnd T → List StartOf → Type 0
+Starts job words ran events e starts =
+    (NoStart e × (events ≡ []) × (starts ≡ []))
+    ⊎ (((e ≡ end.StartFailed) × (events ≡ []) × (starts ≡ start_of job words None ∷ []))
+    ⊎ (HasRun e × ran × (starts ≡ start_of job words (Some (bytes_read events)) ∷ [])))

@@ -1,0 +1,284 @@
+// A job from the look before its start on.
+
+ghost use Rattle.std.specs.Prelude.{◌≡◌, ◌≢◌, ◌⊎◌, ℕ, ◌+◌, ◌<◌, ◌≤◌, List, [], IfSome, length, map, option_map, string_bytes, true};
+ghost use Rattle.std.specs.Option.{MatchOption};
+ghost use Rattle.lane_child.specs.Keeping.{IsOfCell, Keeps};
+ghost use Rattle.lane_child.specs.Reading.{IfWon};
+ghost use Rattle.lane_child.specs.Starting.{NoStart, ReadsScript, Starts, with_starts};
+ghost use Rattle.race_cells.specs.Notes.{AreNotesOf, known_at};
+ghost use Rattle.race_core.specs.Asking.{terms_of};
+ghost use Rattle.race_core.specs.Ends.{EndIs, HasEnd};
+ghost use Rattle.race_core.specs.Parts.{RightKeeper, RightReader, keeper_from, reader_from};
+ghost use Rattle.race_core.specs.declared.end.JobEnd.TheVariants as end;
+ghost use Rattle.race_core.specs.declared.event.Judged.TheVariants as judged;
+ghost use Rattle.race_core.specs.declared.part.Keeper.TheVariants as keeper;
+ghost use Rattle.race_core.specs.declared.part.Reader.TheVariants as reader;
+ghost use Rattle.sby_edge.specs.Cause.{Rose};
+ghost use Rattle.sby_edge.specs.Child.{StartOf};
+
+use crate::entering::enter;
+use crate::job::{Ran, run_started};
+use crate::keeper::{Watch, enter_plain, needless_at};
+use crate::making::{Child, Makes};
+use crate::over::Asked;
+use crate::subject::{Asks, Subject};
+use race_cells::Notes;
+use race_core::{EventList, JobEnd, LaneEvent};
+use sby_edge::{Clock, Fail, Launch};
+use sby_terms::{JobName, Settled};
+use std::alloc::Global;
+use std::sync::Wait;
+use std::thread::Threads;
+
+// A look at one cell before the start. Its answer is the end of a job that isn't started.
+fn look_before<J: Asks<T>, T: Settled + Drop, C: Clock>(
+    watch: &Watch<'_, J, T, C>,
+    place: u32,
+    job: JobName,
+    notes: &mut Notes<T>,
+    events: &mut EventList<T>,
+) -> Option<JobEnd<T>>
+    requires place { place < length watch.now.cells.now }
+    requires notes { AreNotesOf watch.now.cells.now notes.old }
+    requires room { 1 ≤ events.old.room }
+    requires of_cell { (f : T) → T.problem f ≡ J.problem watch.now.asks.now → T.job f ≡ job → IsOfCell T.problem T.job (J.problem watch.now.asks.now) watch.now.terms.now watch.now.other place f }
+    requires before { (keeper_from (terms_of T.job T.answer watch.now.terms.now) keeper.Fresh events.old.events ≡ keeper.Fresh)
+        ⊎ ((keeper_from (terms_of T.job T.answer watch.now.terms.now) keeper.Fresh events.old.events ≡ keeper.Looked) × (place ≢ watch.now.terms.now.cell)) }
+    ensures end { MatchOption result (keeper_from (terms_of T.job T.answer watch.now.terms.now) keeper.Fresh events.new.events ≡ keeper.Looked)
+        (λ e. NoStart e × (keeper_from (terms_of T.job T.answer watch.now.terms.now) keeper.Fresh events.new.events ≢ keeper.Fresh) × RightKeeper (keeper_from (terms_of T.job T.answer watch.now.terms.now) keeper.Fresh events.new.events)
+        × EndIs (terms_of T.job T.answer watch.now.terms.now) (λ _. ⊥) reader.Fresh (keeper_from (terms_of T.job T.answer watch.now.terms.now) keeper.Fresh events.new.events) e) }
+    ensures room { events.new.room + 1 ≡ events.old.room }
+    ensures keeps { Keeps (IsOfCell T.problem T.job (J.problem watch.now.asks.now) watch.now.terms.now watch.now.other) (C.may_read watch.now.clock.now) notes.old notes.new events.old.events events.new.events }
+{
+    match needless_at(watch, place, job, notes) {
+        None => {
+            enter_plain(
+                watch,
+                notes,
+                events,
+                LaneEvent::Look {
+                    cell: place,
+                    known: None,
+                },
+            );
+            None
+        }
+        Some(Ok((known, value))) => {
+            enter(
+                events,
+                LaneEvent::Look {
+                    cell: place,
+                    known: Some(known),
+                },
+            );
+            Some(JobEnd::Skipped(value))
+        }
+        Some(Err(_)) => {
+            enter_plain(watch, notes, events, LaneEvent::KeeperMemory);
+            Some(JobEnd::Memory)
+        }
+    }
+}
+
+/// The looks before a job's start: at its own cell, then at the other one. The answer is the end of a job that isn't started: it is
+/// skipped, by a finding that makes it needless, or memory was wanting.
+pub fn look_first<J: Asks<T>, T: Settled + Drop, C: Clock>(
+    watch: &Watch<'_, J, T, C>,
+    notes: &mut Notes<T>,
+    events: &mut EventList<T>,
+) -> Option<JobEnd<T>>
+    requires cell { watch.now.terms.now.cell < length watch.now.cells.now }
+    requires other { IfSome watch.now.other (λ o. o.0 < length watch.now.cells.now) }
+    requires notes { AreNotesOf watch.now.cells.now notes.old }
+    requires fresh { (events.old.events ≡ []) × (2 ≤ events.old.room) }
+    ensures end { MatchOption result (keeper_from (terms_of T.job T.answer watch.now.terms.now) keeper.Fresh events.new.events ≡ keeper.Looked)
+        (λ e. NoStart e × (keeper_from (terms_of T.job T.answer watch.now.terms.now) keeper.Fresh events.new.events ≢ keeper.Fresh) × RightKeeper (keeper_from (terms_of T.job T.answer watch.now.terms.now) keeper.Fresh events.new.events)
+        × EndIs (terms_of T.job T.answer watch.now.terms.now) (λ _. ⊥) reader.Fresh (keeper_from (terms_of T.job T.answer watch.now.terms.now) keeper.Fresh events.new.events) e) }
+    ensures room { events.old.room ≤ events.new.room + 2 }
+    ensures keeps { Keeps (IsOfCell T.problem T.job (J.problem watch.now.asks.now) watch.now.terms.now watch.now.other) (C.may_read watch.now.clock.now) notes.old notes.new events.old.events events.new.events }
+{
+    let terms = watch.terms;
+    if let Some(end) = look_before(watch, terms.cell, terms.job, notes, events) {
+        return Some(end);
+    }
+    match watch.other {
+        Some((place, job)) if place != terms.cell => look_before(watch, place, job, notes, events),
+        _ => None,
+    }
+}
+
+/// Enters that memory was wanting before a job's start, and answers the job's end.
+pub fn want<J: Asks<T>, T: Settled + Drop, C: Clock>(
+    watch: &Watch<'_, J, T, C>,
+    notes: &Notes<T>,
+    events: &mut EventList<T>,
+) -> JobEnd<T>
+    requires room { 1 ≤ events.old.room }
+    requires looked { keeper_from (terms_of T.job T.answer watch.now.terms.now) keeper.Fresh events.old.events ≡ keeper.Looked }
+    ensures end { EndIs (terms_of T.job T.answer watch.now.terms.now) (λ _. ⊥) reader.Fresh (keeper_from (terms_of T.job T.answer watch.now.terms.now) keeper.Fresh events.new.events) result }
+    ensures right { RightKeeper (keeper_from (terms_of T.job T.answer watch.now.terms.now) keeper.Fresh events.new.events) }
+    ensures looked { keeper_from (terms_of T.job T.answer watch.now.terms.now) keeper.Fresh events.new.events ≢ keeper.Fresh }
+    ensures is { result ≡ end.Memory }
+    ensures keeps { Keeps (IsOfCell T.problem T.job (J.problem watch.now.asks.now) watch.now.terms.now watch.now.other) (C.may_read watch.now.clock.now) notes.now notes.now events.old.events events.new.events }
+{
+    enter_plain(watch, notes, events, LaneEvent::KeeperMemory);
+    JobEnd::Memory
+}
+
+// What a judge finds is for its job.
+fn findings_are_for<S: Subject<T>, T: Settled>(subject: &S)
+    ensures { (bytes : List ℕ) (f : T) → S.stands subject.now bytes (judged.Found f) ⊎ (S.ends subject.now bytes (judged.Found f) ⊎ S.proves subject.now bytes (judged.Found f))
+        → (T.problem f ≡ S.problem subject.now) × (T.job f ≡ S.job subject.now) }
+{}
+
+// Starts a child, and runs it.
+fn start_child<
+    R: Threads + Wait + Sync,
+    L: Launch,
+    S: Subject<T> + Send + Drop,
+    J: Asks<T>,
+    T: Settled + Drop + Send,
+    C: Clock,
+>(
+    rt: &R,
+    alloc: Global,
+    bay: &mut L,
+    watch: &Watch<'_, J, T, C>,
+    child: Child<S>,
+    bytes: &[u8],
+    most: u64,
+    notes: &mut Notes<T>,
+    reader_events: EventList<T>,
+    keeper_events: &mut EventList<T>,
+) -> Ran<T>
+    requires fresh { (S.taken child.subject ≡ []) × (reader_events.events ≡ []) }
+    requires goes_on { S.goes_on child.subject }
+    requires about { (S.problem child.subject ≡ J.problem watch.now.asks.now) × (S.job child.subject ≡ watch.now.terms.now.job) }
+    requires reader_room { 1 ≤ reader_events.room }
+    requires cell { watch.now.terms.now.cell < length watch.now.cells.now }
+    requires other { IfSome watch.now.other (λ o. o.0 < length watch.now.cells.now) }
+    requires notes { AreNotesOf watch.now.cells.now notes.old }
+    requires room { 2 ≤ keeper_events.old.room }
+    requires looked { keeper_from (terms_of T.job T.answer watch.now.terms.now) keeper.Fresh keeper_events.old.events ≡ keeper.Looked }
+    ensures end { EndIs (terms_of T.job T.answer watch.now.terms.now) (λ _. ⊥) (reader_from reader.Fresh result.events.events) (keeper_from (terms_of T.job T.answer watch.now.terms.now) keeper.Fresh keeper_events.new.events) result.end }
+    ensures right { RightReader (reader_from reader.Fresh result.events.events) × RightKeeper (keeper_from (terms_of T.job T.answer watch.now.terms.now) keeper.Fresh keeper_events.new.events) }
+    ensures keeps { Keeps (IsOfCell T.problem T.job (J.problem watch.now.asks.now) watch.now.terms.now watch.now.other) (C.may_read watch.now.clock.now) notes.old notes.new keeper_events.old.events keeper_events.new.events }
+    ensures looked { keeper_from (terms_of T.job T.answer watch.now.terms.now) keeper.Fresh keeper_events.new.events ≢ keeper.Fresh }
+    ensures won { IfWon (reader_from reader.Fresh result.events.events) (λ f. known_at notes.new watch.now.terms.now.cell ≡ Some f) }
+    ensures found { (f : T) → HasEnd (reader_from reader.Fresh result.events.events) (end.Found f) → (T.problem f ≡ J.problem watch.now.asks.now) × (T.job f ≡ watch.now.terms.now.job) }
+    ensures starts { (starts : List StartOf) × (L.told bay.new ≡ option_map (with_starts starts) (L.told bay.old))
+        × Starts watch.now.terms.now.job (map string_bytes child.words.items)
+        (ReadsScript (S.stands child.subject) (S.ends child.subject) (S.proves child.subject) (L.told bay.old) watch.now.terms.now.job most result.events.events)
+        result.events.events result.end starts }
+    ensures start_failed { result.end ≡ end.StartFailed → Rose (L.start_faults bay.old) (L.start_faults bay.new) }
+    ensures read_failed { result.end ≡ end.ReadFailed → Rose (L.read_faults bay.old) (L.read_faults bay.new) }
+    ensures hold_failed { result.end ≡ end.HoldFailed → Rose (L.hold_faults bay.old) (L.hold_faults bay.new) }
+    ensures later { (L.start_faults bay.old ≤ L.start_faults bay.new) × (L.read_faults bay.old ≤ L.read_faults bay.new) × (L.hold_faults bay.old ≤ L.hold_faults bay.new) }
+{
+    let Child {
+        subject,
+        words,
+        proof,
+    } = child;
+    findings_are_for(&subject);
+    let job = watch.terms.job;
+    match bay.start(alloc, job, words.as_slice(), bytes) {
+        Err(Fail::Failed) => Ran {
+            end: JobEnd::StartFailed,
+            events: reader_events,
+        },
+        Err(Fail::Memory) => Ran {
+            end: want(watch, notes, keeper_events),
+            events: reader_events,
+        },
+        Ok(started) => {
+            let asked = Asked {
+                job,
+                words: words.as_slice(),
+                bytes,
+                proof: proof.as_str(),
+                most,
+            };
+            run_started(
+                rt,
+                alloc,
+                bay,
+                started,
+                &asked,
+                watch,
+                subject,
+                notes,
+                reader_events,
+                keeper_events,
+            )
+        }
+    }
+}
+
+/// Runs a job that the lane serves: it is skipped where a look before its start shows a finding that makes it needless; else its child
+/// is made and started, with these words, once, and runs to its end. Waits for the child.
+pub fn run_child<
+    R: Threads + Wait + Sync,
+    L: Launch,
+    M: Makes<T>,
+    T: Settled + Drop + Send,
+    C: Clock,
+>(
+    rt: &R,
+    alloc: Global,
+    bay: &mut L,
+    lane: u32,
+    watch: &Watch<'_, M, T, C>,
+    notes: &mut Notes<T>,
+    reader_events: EventList<T>,
+    keeper_events: &mut EventList<T>,
+) -> Ran<T>
+    requires served { M.is_served watch.now.asks.now lane watch.now.terms.now.job }
+    requires fresh { (reader_events.events ≡ []) × (keeper_events.old.events ≡ []) }
+    requires room { (1 ≤ reader_events.room) × (4 ≤ keeper_events.old.room) }
+    requires cell { watch.now.terms.now.cell < length watch.now.cells.now }
+    requires other { IfSome watch.now.other (λ o. o.0 < length watch.now.cells.now) }
+    requires notes { AreNotesOf watch.now.cells.now notes.old }
+    ensures end { EndIs (terms_of T.job T.answer watch.now.terms.now) (λ _. ⊥) (reader_from reader.Fresh result.events.events) (keeper_from (terms_of T.job T.answer watch.now.terms.now) keeper.Fresh keeper_events.new.events) result.end }
+    ensures right { RightReader (reader_from reader.Fresh result.events.events) × RightKeeper (keeper_from (terms_of T.job T.answer watch.now.terms.now) keeper.Fresh keeper_events.new.events) }
+    ensures keeps { Keeps (IsOfCell T.problem T.job (M.problem watch.now.asks.now) watch.now.terms.now watch.now.other) (C.may_read watch.now.clock.now) notes.old notes.new [] keeper_events.new.events }
+    ensures looked { keeper_from (terms_of T.job T.answer watch.now.terms.now) keeper.Fresh keeper_events.new.events ≢ keeper.Fresh }
+    ensures won { IfWon (reader_from reader.Fresh result.events.events) (λ f. known_at notes.new watch.now.terms.now.cell ≡ Some f) }
+    ensures found { (f : T) → HasEnd (reader_from reader.Fresh result.events.events) (end.Found f) → (T.problem f ≡ M.problem watch.now.asks.now) × (T.job f ≡ watch.now.terms.now.job) }
+    ensures starts { (starts : List StartOf) × (L.told bay.new ≡ option_map (with_starts starts) (L.told bay.old))
+        × Starts watch.now.terms.now.job (M.words watch.now.asks.now lane watch.now.terms.now.job)
+        (ReadsScript (M.stands watch.now.asks.now lane watch.now.terms.now.job) (M.ends watch.now.asks.now lane watch.now.terms.now.job) (M.proves watch.now.asks.now lane watch.now.terms.now.job)
+        (L.told bay.old) watch.now.terms.now.job (M.most watch.now.asks.now) result.events.events)
+        result.events.events result.end starts }
+    ensures start_failed { result.end ≡ end.StartFailed → Rose (L.start_faults bay.old) (L.start_faults bay.new) }
+    ensures read_failed { result.end ≡ end.ReadFailed → Rose (L.read_faults bay.old) (L.read_faults bay.new) }
+    ensures hold_failed { result.end ≡ end.HoldFailed → Rose (L.hold_faults bay.old) (L.hold_faults bay.new) }
+    ensures later { (L.start_faults bay.old ≤ L.start_faults bay.new) × (L.read_faults bay.old ≤ L.read_faults bay.new) × (L.hold_faults bay.old ≤ L.hold_faults bay.new) }
+{
+    if let Some(end) = look_first(watch, notes, keeper_events) {
+        return Ran {
+            end,
+            events: reader_events,
+        };
+    }
+    let makes = watch.asks;
+    let job = watch.terms.job;
+    let Ok(child) = makes.make(alloc, lane, job) else {
+        return Ran {
+            end: want(watch, notes, keeper_events),
+            events: reader_events,
+        };
+    };
+    start_child(
+        rt,
+        alloc,
+        bay,
+        watch,
+        child,
+        makes.bytes(job),
+        makes.most(),
+        notes,
+        reader_events,
+        keeper_events,
+    )
+}
