@@ -124,7 +124,7 @@ module _ (vars : ℕ) where
       ]
 
   -- a literal is read where there is room, and 0 always
-  literal_read : (full : Bool) (text : List ℕ) (l : LitOf) → full ≡ false → literal_of vars text ≡ Some l → scan vars full Gap text ≡ Reads (Digits l)
+  pub literal_read : (full : Bool) (text : List ℕ) (l : LitOf) → full ≡ false → literal_of vars text ≡ Some l → scan vars full Gap text ≡ Reads (Digits l)
   literal_read full text l f e = of (scan vars full Gap text) (word_read vars full text)
     where
       of : (s : Scanned) → IsRead vars full text s → s ≡ Reads (Digits l)
@@ -139,13 +139,13 @@ module _ (vars : ℕ) where
   zero_read : (full : Bool) (text : List ℕ) → text ≡ codes "0" → scan vars full Gap text ≡ Reads Zero
   zero_read full text e = ap (scan vars full Gap) e
 
-  -- a list's words
-  words_say : (kind : ListKind) (counted : Bool) (unended more : List Saying) (place : ℕ) (ws : List Word) (zero : Word) (lits front : List LitOf)
-      → AreDone ws → map (λ w. literal_of vars w.text) ws ≡ map Some lits → length front + length lits ≤ vars → IsZero zero
+  -- a list's words; its 0 counts
+  pub words_say : (kind : ListKind) (counted : Bool) (unended more : List Saying) (place : ℕ) (ws : List Word) (zero : Word) (lits front : List LitOf)
+      → AreDone ws → map (λ w. literal_of vars w.text) ws ≡ map Some lits → length front + length lits ≤ vars → (zero.text ≡ codes "0") × ((zero.done || counted) ≡ true)
       → list_says vars kind counted unended more place front (ws ++ zero ∷ []) ≡ flat_map (heard_says kind) lits ++ ended_says kind place (front ++ lits) ∷ more
   words_say kind counted unended more place [] zero [] front d m n (z, c) =
       ap (λ s. word_says vars kind counted unended more place front s zero []) (zero_read (leb vars (length front)) zero.text z)
-      ∙ ap (λ b. cond (b || counted) (ended_says kind place front ∷ more) []) c
+      ∙ ap (λ b. cond b (ended_says kind place front ∷ more) []) c
       ∙ ap (λ x. ended_says kind place x ∷ more) (sym (append-nil front))
   words_say kind counted unended more place [] zero (l ∷ lits) front d m n z = cc
   words_say kind counted unended more place (w ∷ ws) zero [] front d m n z = cc
@@ -182,7 +182,7 @@ literal_byte vars (b ∷ bs) l h =
       | inr f ↦ let d = (goes_on_is vars 0 b (begins_digit vars b (literal_first vars b bs l h).0 f)).digit in rw (f, d) refl
     ]
 
-alone_one : (w : Word) (c : ℕ) (ss : List Saying) → w.text ≡ c ∷ [] → alone w ss ≡ ss
+pub alone_one : (w : Word) (c : ℕ) (ss : List Saying) → w.text ≡ c ∷ [] → alone w ss ≡ ss
 alone_one w c ss e = ap (λ t. cond (eqb (length t) 1) ss (bad BadLine (w.place + 1))) e
 
 -- amid values only values may come
@@ -197,7 +197,7 @@ module _ (vars : ℕ) (counted : Bool) (broken going more : List Saying) (place 
   whole kind = flat_map (heard_says kind) lits ++ ended_says kind place lits ∷ more
 
   list_whole : (kind : ListKind) (unended : List Saying) (ws : List Word) (zero : Word) → Write vars ws lits → IsZero zero → list_says vars kind counted unended more place [] (ws ++ zero ∷ []) ≡ whole kind
-  list_whole kind unended ws zero (d, m, n) z = words_say vars kind counted unended more place ws zero lits [] d m (omega (arith, n)) z
+  list_whole kind unended ws zero (d, m, n) z = words_say vars kind counted unended more place ws zero lits [] d m (omega (arith, n)) (z.0, ap (λ b. b || counted) z.1)
 
   first_is : (ws : List Word) (zero first : Word) (others : List Word) → ws ++ zero ∷ [] ≡ first ∷ others → Write vars ws lits → IsZero zero
       → (eqb (slice_index first.text 0) 45 || is_digit (slice_index first.text 0)) ≡ true

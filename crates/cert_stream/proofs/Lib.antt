@@ -1,3 +1,4 @@
+pub mod Keeping
 pub mod Pieces
 pub mod Cutting
 pub mod Faults

@@ -1,6 +1,6 @@
 -- What each byte of a stream does to the little that is kept of the bytes before it.
 use Rattle.std.specs.Prelude.{ℕ, ◌+◌, ◌*◌, ◌-◌, Bool, true, false, cond, not, ◌&&◌, ◌||◌, eqb, leb, List, [], ◌∷◌, ◌++◌, length, Option, Some, None}
-use Rattle.cnf_form.specs.Cnf.{LitOf}
+use Rattle.cnf_form.specs.Cnf.{LitOf, LitWithin, ClauseWithin}
 use Rattle.cert_stream.specs.Text.{is_blank, is_digit}
 use Rattle.cert_stream.specs.declared.mode.ListKind.{ListKind}
 use Rattle.cert_stream.specs.declared.mode.ListKind.TheVariants.{Clause as ClauseList, Deletion, Values}
@@ -228,3 +228,31 @@ fault_of (InList kind part) = None
 fault_of Closed = None
 fault_of (Bad f) = Some f
 fault_of Lost = None
+
+-- a literal that was read has a variable from 1 to `vars`
+abbrev pub IsPartWithin : ℕ → Part → Type 0
+IsPartWithin vars Gap = Unit {0}
+IsPartWithin vars Minus = Unit {0}
+IsPartWithin vars Zero = Unit {0}
+IsPartWithin vars (Digits l) = LitWithin vars l
+
+abbrev pub IsModeWithin : ℕ → Mode → Type 0
+IsModeWithin vars (Start amid) = Unit {0}
+IsModeWithin vars (Skip amid) = Unit {0}
+IsModeWithin vars (Head kind) = Unit {0}
+IsModeWithin vars StatusHead = Unit {0}
+IsModeWithin vars StatusGap = Unit {0}
+IsModeWithin vars (Spelled n) = Unit {0}
+IsModeWithin vars Whole = Unit {0}
+IsModeWithin vars (InList kind part) = IsPartWithin vars part
+IsModeWithin vars Closed = Unit {0}
+IsModeWithin vars (Bad f) = Unit {0}
+IsModeWithin vars Lost = Unit {0}
+
+abbrev pub IsEventWithin : ℕ → Option Event → Type 0
+IsEventWithin vars None = Unit {0}
+IsEventWithin vars (Some Clause) = Unit {0}
+IsEventWithin vars (Some Delete) = Unit {0}
+IsEventWithin vars (Some (Value l)) = LitWithin vars l
+IsEventWithin vars (Some ValuesEnd) = Unit {0}
+IsEventWithin vars (Some Unknown) = Unit {0}

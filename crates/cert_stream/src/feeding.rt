@@ -1,8 +1,8 @@
 // Pieces of a stream.
 
 ghost use Rattle.std.specs.Prelude.{◌≡◌, ◌≢◌, ℕ, ◌+◌, ◌<◌, ◌≤◌, ◌^◌, Bool, true, false, List, [], ◌∷◌, ◌++◌, length, Option, Some, None, IfOk, IfSome, OnErr, IsErr, Ok, ◌⊎◌};
-ghost use Rattle.cnf_form.specs.Cnf.{LitOf};
-ghost use Rattle.cert_stream.specs.Machine.{WireOf, Turn, turn, at_end, fault_of};
+ghost use Rattle.cnf_form.specs.Cnf.{LitOf, LitWithin, ClauseWithin};
+ghost use Rattle.cert_stream.specs.Machine.{WireOf, Turn, IsEventWithin, turn, at_end, fault_of};
 ghost use Rattle.cert_stream.specs.Telling.{Saying, TakesMemory, IsClause, IsDelete, IsValue, IsValuesEnd, IsUnknown, saying, told_by, after, said, answer, Gets, is_stopped};
 ghost use Rattle.cert_stream.specs.declared.mode.Mode.TheVariants.{Lost};
 
@@ -13,6 +13,9 @@ use std::alloc::AllocError;
 
 /// Gets what a stream says. Each call answers whether no more is wanted, or want of memory.
 pub trait Receiver {
+    /// It takes literals of the variables from 1 to this one.
+    ghost vars: { Self → ℕ };
+
     /// What becomes of it when it gets a saying.
     ghost gets: { Self → Saying → Self → Type 0 };
 
@@ -21,28 +24,36 @@ pub trait Receiver {
 
     /// A clause, and the place of its line's first visible byte in the stream, counted from 0.
     fn clause(&mut self, lits: &[Lit], place: u64) -> Result<bool, AllocError>
+        requires { ClauseWithin (vars self.old) lits.now }
         ensures gets { IfOk result (λ _. gets self.old (IsClause lits.now place) self.new) }
-        ensures stops { IfOk result (λ stop. stop ≡ stops self.new) };
+        ensures stops { IfOk result (λ stop. stop ≡ stops self.new) }
+        ensures vars { IfOk result (λ _. vars self.new ≡ vars self.old) };
 
     /// A clause with these literals is deleted.
     fn delete(&mut self, lits: &[Lit]) -> Result<bool, AllocError>
+        requires { ClauseWithin (vars self.old) lits.now }
         ensures gets { IfOk result (λ _. gets self.old (IsDelete lits.now) self.new) }
-        ensures stops { IfOk result (λ stop. stop ≡ stops self.new) };
+        ensures stops { IfOk result (λ stop. stop ≡ stops self.new) }
+        ensures vars { IfOk result (λ _. vars self.new ≡ vars self.old) };
 
     /// A literal is true.
     fn value(&mut self, l: Lit) -> Result<bool, AllocError>
+        requires { LitWithin (vars self.old) l }
         ensures gets { IfOk result (λ _. gets self.old (IsValue l) self.new) }
-        ensures stops { IfOk result (λ stop. stop ≡ stops self.new) };
+        ensures stops { IfOk result (λ stop. stop ≡ stops self.new) }
+        ensures vars { IfOk result (λ _. vars self.new ≡ vars self.old) };
 
     /// No more values come.
     fn values_end(&mut self) -> Result<bool, AllocError>
         ensures gets { IfOk result (λ _. gets self.old IsValuesEnd self.new) }
-        ensures stops { IfOk result (λ stop. stop ≡ stops self.new) };
+        ensures stops { IfOk result (λ stop. stop ≡ stops self.new) }
+        ensures vars { IfOk result (λ _. vars self.new ≡ vars self.old) };
 
     /// The engine doesn't know.
     fn unknown(&mut self) -> Result<bool, AllocError>
         ensures gets { IfOk result (λ _. gets self.old IsUnknown self.new) }
-        ensures stops { IfOk result (λ stop. stop ≡ stops self.new) };
+        ensures stops { IfOk result (λ stop. stop ≡ stops self.new) }
+        ensures vars { IfOk result (λ _. vars self.new ≡ vars self.old) };
 }
 
 /// Whether the receiver stopped the call.
@@ -54,6 +65,9 @@ pub enum Fed {
 
 // Hands on what a byte said.
 fn tell<R: Receiver>(wire: &Wire, receiver: &mut R, event: Event) -> Result<bool, AllocError>
+    requires vars { R.vars receiver.old ≡ wire.now.vars }
+    requires within { IsEventWithin wire.now.vars (Some event) }
+    ensures vars { IfOk result (λ _. R.vars receiver.new ≡ R.vars receiver.old) }
     ensures gets { IfOk result (λ _. R.gets receiver.old (saying wire.now event) receiver.new) }
     ensures stops { IfOk result (λ stop. stop ≡ R.stops receiver.new) }
 {
@@ -72,9 +86,11 @@ fn take_piece<R: Receiver>(
     piece: &[u8],
     receiver: &mut R,
 ) -> Result<bool, AllocError>
-    requires { wire.old.taken + length piece.now < 2 ^ 64 }
+    requires vars { R.vars receiver.old ≡ wire.old.vars }
+    requires count { wire.old.taken + length piece.now < 2 ^ 64 }
     ensures told { IfOk result (λ stopped. Gets R.gets R.stops receiver.old (said wire.old piece.now) receiver.new stopped) }
     ensures kept { IfOk result (λ stopped. stopped ≡ false → wire.new ≡ after wire.old piece.now) }
+    ensures vars { IfOk result (λ _. R.vars receiver.new ≡ wire.new.vars) }
     ensures count { IfOk result (λ _. wire.new.taken ≤ wire.old.taken + length piece.now) }
     ensures memory { OnErr result (TakesMemory wire.old piece.now) }
 {
@@ -97,7 +113,9 @@ fn take_piece<R: Receiver>(
 
 // Tells what counts by the stream's end, and answers whether the receiver stopped.
 fn take_end<R: Receiver>(wire: &Wire, receiver: &mut R) -> Result<bool, AllocError>
+    requires { R.vars receiver.old ≡ wire.now.vars }
     ensures told { IfOk result (λ stopped. Gets R.gets R.stops receiver.old (told_by wire.now (at_end wire.now.mode)) receiver.new stopped) }
+    ensures vars { IfOk result (λ _. R.vars receiver.new ≡ wire.now.vars) }
     ensures memory { OnErr result (at_end wire.now.mode ≢ None) }
 {
     let Some(event) = wire.at_end() else {
@@ -134,15 +152,18 @@ impl Wire {
 
     /// Takes the next piece of the stream, and hands to the receiver what the bytes say, until it stops. The answer is then
     /// Stopped, and more bytes have no meaning; else it is the fault, if no stream begins with the bytes so far, or More. Want of
-    /// memory, which is answered from then on, comes only where a literal was read or something said. A stream has fewer than 2^64 bytes.
+    /// memory, which is answered from then on, comes only where a literal was read or something said. A stream has fewer than 2^64
+    /// bytes, and the receiver takes the literals of its variables.
     pub fn feed<R: Receiver>(
         &mut self,
         piece: &[u8],
         receiver: &mut R,
     ) -> Result<Result<Fed, WireFault>, AllocError>
-        requires { self.old.taken + length piece.now < 2 ^ 64 }
+        requires vars { R.vars receiver.old ≡ self.old.vars }
+        requires count { self.old.taken + length piece.now < 2 ^ 64 }
         ensures told { IfOk result (λ fed. Gets R.gets R.stops receiver.old (said self.old piece.now) receiver.new (is_stopped fed)) }
         ensures kept { IfOk result (λ fed. is_stopped fed ≡ false → self.new ≡ after self.old piece.now) }
+        ensures vars { IfOk result (λ _. R.vars receiver.new ≡ self.new.vars) }
         ensures answer { IfOk result (λ fed. is_stopped fed ≡ false → fed ≡ answer (fault_of (after self.old piece.now).mode)) }
         ensures count { self.new.taken ≤ self.old.taken + length piece.now }
         ensures lost { OnErr result (self.new.mode ≡ Lost) }
@@ -161,8 +182,10 @@ impl Wire {
         &mut self,
         receiver: &mut R,
     ) -> Result<Result<Fed, WireFault>, AllocError>
+        requires { R.vars receiver.old ≡ self.old.vars }
         ensures told { IfOk result (λ fed. Gets R.gets R.stops receiver.old (told_by self.old (at_end self.old.mode)) receiver.new (is_stopped fed)) }
         ensures kept { IfOk result (λ _. self.new ≡ self.old) }
+        ensures vars { IfOk result (λ _. R.vars receiver.new ≡ self.new.vars) }
         ensures answer { IfOk result (λ fed. is_stopped fed ≡ false → fed ≡ answer (fault_of self.old.mode)) }
         ensures count { self.new.taken ≤ self.old.taken }
         ensures lost { OnErr result (self.new.mode ≡ Lost) }

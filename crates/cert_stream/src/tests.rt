@@ -11,13 +11,15 @@ use std::test::Fail;
 // values, u unknown; and whether no more is wanted.
 #[derive(Drop)]
 struct Heard {
+    vars: u32,
     said: Vec<(char, u64)>,
     stopped: bool,
 }
 
 impl Heard {
     fn hear(&mut self, kind: char, number: u64) -> Result<bool, AllocError>
-        ensures { IfOk result (λ stop. stop ≡ self.new.stopped) }
+        ensures stop { IfOk result (λ stop. stop ≡ self.new.stopped) }
+        ensures vars { self.new.vars ≡ self.old.vars }
     {
         match self.said.push((kind, number)) {
             Ok(()) => Ok(self.stopped),
@@ -27,6 +29,8 @@ impl Heard {
 }
 
 impl Receiver for Heard {
+    ghost vars = { λ a. a.vars };
+
     ghost gets = { λ old saying new. Unit {0} };
 
     ghost stops = { λ a. a.stopped };
@@ -69,7 +73,8 @@ fn told(heard: &mut Heard, answer: Result<Fed, WireFault>) -> Result<bool, Alloc
 }
 
 fn listen(wire: &mut Wire, front: &[u8], back: &[u8], heard: &mut Heard) -> Result<(), AllocError>
-    requires { wire.old.taken + length front.now + length back.now < 2 ^ 64 }
+    requires vars { heard.old.vars ≡ wire.old.vars }
+    requires count { wire.old.taken + length front.now + length back.now < 2 ^ 64 }
 {
     let answer = wire.feed(front, heard)?;
     if !told(heard, answer)? {
@@ -90,11 +95,13 @@ fn outlines(
     text: &str,
     cut: usize,
 ) -> Result<Vec<(char, u64)>, AllocError> {
+    let vars = u32::from(vars);
     let mut heard = Heard {
+        vars,
         said: Vec::new(alloc),
         stopped: false,
     };
-    let mut wire = Wire::new(alloc, u32::from(vars));
+    let mut wire = Wire::new(alloc, vars);
     let (front, back) = text.as_bytes().split_at(cut.min(text.len()));
     listen(&mut wire, front, back, &mut heard)?;
     Ok(heard.said)

@@ -1,9 +1,9 @@
 // What is kept of a stream.
 
 ghost use Rattle.std.specs.Prelude.{◌≡◌, ℕ, ◌+◌, ◌<◌, ◌≤◌, ◌^◌, ◌↔◌, IsTrue, cond, Bool, true, false, List, [], ◌∷◌, ◌++◌, length, take, drop, Option, Some, None, IfOk, OnErr};
-ghost use Rattle.cnf_form.specs.Cnf.{LitOf};
+ghost use Rattle.cnf_form.specs.Cnf.{LitOf, ClauseWithin};
 ghost use Rattle.cnf_form.specs.declared.literal.TheConstants.{MAX_VARS};
-ghost use Rattle.cert_stream.specs.Machine.{WireOf, Turn, fault_of, at_end, begins_literal, counted, end_line, end_part, end_word, ended, fails, first_of_both, goes_on, heard, is_in_literal, is_literal_part, read, spelling, turn, unended, visible, visible_digit, visible_first, visible_part, visible_plain, visible_spelled, visible_start, emptied, with_digit};
+ghost use Rattle.cert_stream.specs.Machine.{WireOf, Turn, IsPartWithin, IsEventWithin, fault_of, at_end, begins_literal, counted, end_line, end_part, end_word, ended, fails, first_of_both, goes_on, heard, is_in_literal, is_literal_part, read, spelling, turn, unended, visible, visible_digit, visible_first, visible_part, visible_plain, visible_spelled, visible_start, emptied, with_digit};
 ghost use Rattle.cert_stream.specs.Telling.{TakesMemory, after, said, fresh};
 ghost use Rattle.cert_stream.specs.Text.{NoFeed, is_blank, is_digit};
 ghost use Rattle.cert_stream.specs.declared.mode.Mode.TheVariants.{Lost};
@@ -55,14 +55,15 @@ pub struct Wire {
 
 impl Model for Wire {
     ghost use Rattle.std.specs.Prelude.{◌≤◌};
+    ghost use Rattle.cnf_form.specs.Cnf.{ClauseWithin};
     ghost use Rattle.cnf_form.specs.declared.literal.TheConstants.{MAX_VARS};
-    ghost use Rattle.cert_stream.specs.Machine.{WireOf};
+    ghost use Rattle.cert_stream.specs.Machine.{WireOf, IsModeWithin};
 
     ghost Value = { WireOf };
 
     ghost view = { λ a. record { vars = a.vars; taken = a.taken; place = a.place; mode = a.mode; lits = a.lits.items } };
 
-    ghost invariant = { λ a. a.vars ≤ MAX_VARS };
+    ghost invariant = { λ a. (a.vars ≤ MAX_VARS) × ClauseWithin a.vars a.lits.items × IsModeWithin a.vars a.mode };
 }
 
 fn ended(kind: ListKind) -> Event
@@ -136,6 +137,7 @@ impl Wire {
     }
 
     fn end_part(&mut self, kind: ListKind, part: Part) -> Result<Option<Event>, AllocError>
+        requires { IsPartWithin self.old.vars part }
         ensures ended { IfOk result (λ event. record { to = self.new; event = event } ≡ end_part self.old kind part) }
         ensures memory { OnErr result (is_literal_part part ≡ true) }
     {
@@ -322,7 +324,8 @@ impl Wire {
     }
 
     pub(crate) fn lits(&self) -> &[Lit]
-        ensures { result.now ≡ self.now.lits }
+        ensures lits { result.now ≡ self.now.lits }
+        ensures within { ClauseWithin self.now.vars self.now.lits }
     {
         self.lits.as_slice()
     }
@@ -331,6 +334,13 @@ impl Wire {
         ensures { result ≡ self.now.place }
     {
         self.place
+    }
+
+    /// How many bytes were taken.
+    pub fn taken(&self) -> u64
+        ensures { result ≡ self.now.taken }
+    {
+        self.taken
     }
 
     /// Where no stream goes on.
@@ -363,6 +373,7 @@ impl Wire {
         requires { self.old.taken + length bytes.now < 2 ^ 64 }
         ensures within { result ≤ length bytes.now }
         ensures taken { self.new.taken ≡ self.old.taken + result }
+        ensures vars { self.new.vars ≡ self.old.vars }
         ensures after { after self.new (drop result bytes.now) ≡ after self.old bytes.now }
         ensures said { said self.new (drop result bytes.now) ≡ said self.old bytes.now }
         ensures memory { TakesMemory self.new (drop result bytes.now) → TakesMemory self.old bytes.now }
@@ -376,7 +387,8 @@ impl Wire {
     }
 
     pub(crate) fn at_end(&self) -> Option<Event>
-        ensures { result ≡ at_end self.now.mode }
+        ensures event { result ≡ at_end self.now.mode }
+        ensures within { IsEventWithin self.now.vars result }
     {
         match self.mode {
             Mode::InList(kind, Part::Zero) => Some(ended(kind)),
@@ -388,6 +400,8 @@ impl Wire {
     pub(crate) fn turn(&mut self, b: u8) -> Result<Option<Event>, AllocError>
         requires { self.old.taken + 1 < 2 ^ 64 }
         ensures turned { IfOk result (λ event. record { to = self.new; event = event } ≡ turn self.old b) }
+        ensures vars { IfOk result (λ _. self.new.vars ≡ self.old.vars) }
+        ensures within { IfOk result (λ event. IsEventWithin self.old.vars event) }
         ensures memory { OnErr result (is_in_literal self.old.mode ≡ true) }
     {
         let taken = self.taken;
