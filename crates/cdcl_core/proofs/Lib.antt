@@ -1,0 +1,6 @@
+mod Marks
+mod Analyses
+mod Driven
+mod Backjumps
+mod Answering
+mod Solutions

@@ -1,0 +1,115 @@
+-- What was logged, and what answers it gives.
+use Rattle.std.proofs.Common.{◌≡◌, ◌⊎◌, inl, inr, ℕ, ◌+◌, ◌*◌, ◌<◌, ◌≤◌, Bool, List, [], ◌∷◌, ◌++◌, length, refl, sym, ◌∙◌, ap, subst, arith, append_assoc, append-nil}
+use Rattle.std.specs.Prelude.{Contains, Option, Some, None, option_map, Result, Ok, Err, IfOk, OnOk}
+use Rattle.std.specs.declared.alloc.AllocError.{AllocError}
+use Rattle.cnf_form.specs.Cnf.{LitOf, FormulaOf, Satisfies, IsAdmitted, Deletes, Line, Addition, Deletion, Drup}
+use Rattle.cnf_form.proofs.Removal.{Drup-refutes}
+use Rattle.unit_propagation.specs.Propagation.{ContainsAll}
+use Rattle.cdcl_core.specs.Logged.{IsNew, Logged, none, added, deleted, additions, deletions}
+use Rattle.unit_propagation.specs.Propagator.{PropagatorOf, clauses_of}
+use Rattle.cdcl_core.specs.declared.solver.Solved.{Solved}
+use Rattle.cdcl_core.specs.declared.solver.Solved.TheVariants.{Unsat, LogFailed}
+use Rattle.cdcl_core.specs.declared.solver.Turn.{Turn}
+use Rattle.cdcl_core.specs.declared.solver.Turn.TheVariants.{Answered, Learnt}
+use Rattle.cdcl_core.specs.Solving.{Takes, IsSearch, IsFound, IsRefuted, IsBroken, SolvedFits, TurnFits, StepFits, valued}
+use Rattle.cdcl_core.proofs.Driven.{all_push}
+
+-- lines that are taken one after another
+pub takes_none : (a : Option (List Line)) → Takes a [] a
+takes_none None = refl
+takes_none (Some t) = ap Some (sym (append-nil t))
+
+pub takes_both : (a b c : Option (List Line)) (ls ms : List Line) → Takes a ls b → Takes b ms c → Takes a (ls ++ ms) c
+takes_both None b c ls ms e f = f ∙ ap (option_map (λ t. t ++ ms)) e
+takes_both (Some t) b c ls ms e f = f ∙ ap (option_map (λ x. x ++ ms)) e ∙ ap Some (append_assoc t ls ms)
+
+-- a line more
+drup_add : (F G : List (List LitOf)) (ls : List Line) (c : List LitOf) → Drup F ls G → IsAdmitted G c → Drup F (ls ++ Addition c ∷ []) (G ++ c ∷ [])
+drup_add F G [] c e a = (subst (λ z. IsAdmitted z c) e a, ap (λ z. z ++ c ∷ []) e)
+drup_add F G (Addition d ∷ ls) c w a = (w.0, drup_add (F ++ d ∷ []) G ls c w.1 a)
+drup_add F G (Deletion d ∷ ls) c w a = (w.0, w.1, drup_add w.0 G ls c w.2 a)
+
+drup_delete : (F G H : List (List LitOf)) (ls : List Line) (c : List LitOf) → Drup F ls G → Deletes G c H → Drup F (ls ++ Deletion c ∷ []) H
+drup_delete F G H [] c e a = (H, subst (λ z. Deletes z c H) e a, refl)
+drup_delete F G H (Addition d ∷ ls) c w a = (w.0, drup_delete (F ++ d ∷ []) G H ls c w.1 a)
+drup_delete F G H (Deletion d ∷ ls) c w a = (w.0, w.1, drup_delete w.0 G H ls c w.2 a)
+
+-- what is logged is a proof
+pub logged_drup : {F : List (List LitOf)} {ls : List Line} {G : List (List LitOf)} {n d : ℕ} → Logged F ls G n d → Drup F ls G
+logged_drup none = refl
+logged_drup {F} (added ls G n d c w a new) = drup_add F G ls c (logged_drup w) a
+logged_drup {F} (deleted ls G H n d c w a few) = drup_delete F G H ls c (logged_drup w) a
+
+pub logged_half : {F : List (List LitOf)} {ls : List Line} {G : List (List LitOf)} {n d : ℕ} → Logged F ls G n d → 2 * d ≤ n
+logged_half none = omega arith
+logged_half (added ls G n d c w a new) = let h = logged_half w in omega (arith, h)
+logged_half (deleted ls G H n d c w a few) = omega (arith, few)
+
+additions_push : (ls : List Line) (c : List LitOf) → (additions (ls ++ Addition c ∷ []) ≡ additions ls + 1) × (deletions (ls ++ Addition c ∷ []) ≡ deletions ls)
+additions_push [] c = (refl, refl)
+additions_push (Addition d ∷ ls) c = let h = additions_push ls c in (ap (λ z. z + 1) h.0, h.1)
+additions_push (Deletion d ∷ ls) c = let h = additions_push ls c in (h.0, ap (λ z. z + 1) h.1)
+
+deletions_push : (ls : List Line) (c : List LitOf) → (additions (ls ++ Deletion c ∷ []) ≡ additions ls) × (deletions (ls ++ Deletion c ∷ []) ≡ deletions ls + 1)
+deletions_push [] c = (refl, refl)
+deletions_push (Addition d ∷ ls) c = let h = deletions_push ls c in (ap (λ z. z + 1) h.0, h.1)
+deletions_push (Deletion d ∷ ls) c = let h = deletions_push ls c in (h.0, ap (λ z. z + 1) h.1)
+
+pub logged_count : {F : List (List LitOf)} {ls : List Line} {G : List (List LitOf)} {n d : ℕ} → Logged F ls G n d → (additions ls ≡ n) × (deletions ls ≡ d)
+logged_count none = (refl, refl)
+logged_count (added ls G n d c w a new) = let h = logged_count w in let e = additions_push ls c in (e.0 ∙ ap (λ z. z + 1) h.0, e.1 ∙ h.1)
+logged_count (deleted ls G H n d c w a few) = let h = logged_count w in let e = deletions_push ls c in (e.0 ∙ h.0, e.1 ∙ ap (λ z. z + 1) h.1)
+
+pub search_none : (f : FormulaOf) (a : Option (List Line)) → IsSearch f a a f.clauses 0
+search_none f a = record { lines = []; deletions = 0; taken = takes_none a; logged = none }
+
+-- a clause was logged
+pub search_more : (f : FormulaOf) (a b now : Option (List Line)) (G H : List (List LitOf)) (n : ℕ) (c : List LitOf) → IsSearch f a b G n → IsAdmitted G c → IsNew G c → H ≡ G ++ c ∷ [] → Takes b (Addition c ∷ []) now → IsSearch f a now H (n + 1)
+search_more f a b now G H n c s h new e t = subst (λ z. IsSearch f a now z (n + 1)) (sym e) (record {
+  lines = s.lines ++ Addition c ∷ [];
+  deletions = s.deletions;
+  taken = takes_both a b now s.lines (Addition c ∷ []) s.taken t;
+  logged = added s.lines G n s.deletions c s.logged h new;
+})
+
+-- the answers
+pub found : (f : FormulaOf) (budget n : ℕ) (a b : Option (List Line)) (G : List (List LitOf)) (values : List Bool) → n < budget → IsSearch f a b G n → length values ≡ f.vars + 1 → ContainsAll f.clauses G → Satisfies (valued values) G
+    → IsFound f budget a b values
+found f budget n a b G values h s sized all sat = record { present = G; count = n; search = s; in_time = h; sized = sized; satisfies = λ c k. sat c (all.each c k) }
+
+pub refuted : (f : FormulaOf) (budget n : ℕ) (a b now : Option (List Line)) (G : List (List LitOf)) → n < budget → IsSearch f a b G n → IsAdmitted G [] → Takes b (Addition [] ∷ []) now → IsRefuted f budget a now
+refuted f budget n a b now G h s w t = record {
+  lines = s.lines;
+  present = G;
+  count = n;
+  deletions = s.deletions;
+  taken = takes_both a b now s.lines (Addition [] ∷ []) s.taken t;
+  logged = s.logged;
+  in_time = h;
+  admitted = w;
+  unsatisfiable = Drup-refutes f.clauses G s.lines (logged_drup s.logged) w;
+}
+
+pub broken : (f : FormulaOf) (budget n : ℕ) (a b now : Option (List Line)) (G : List (List LitOf)) → n < budget → IsSearch f a b G n → now ≡ b → IsBroken f budget a now
+broken f budget n a b now G h s e = record { present = G; count = n; search = subst (λ z. IsSearch f a z G n) (sym e) s; in_time = h }
+
+-- the end, at a falsified clause at level 0
+pub end_fits : (f : FormulaOf) (budget n : ℕ) (a b now : Option (List Line)) (G : List (List LitOf)) (s : Solved) → (s ≡ Unsat → Takes b (Addition [] ∷ []) now) → (s ≡ LogFailed → now ≡ b) → (s ≡ Unsat) ⊎ (s ≡ LogFailed)
+    → n < budget → IsSearch f a b G n → IsAdmitted G [] → SolvedFits f budget a now s
+end_fits f budget n a b now G s took failed which h w admits = elim which [
+  | inl e ↦ subst (SolvedFits f budget a now) (sym e) (refuted f budget n a b now G h w admits (took e))
+  | inr e ↦ subst (SolvedFits f budget a now) (sym e) (broken f budget n a b now G h w (failed e))
+]
+
+-- what a clause that is learnt comes to
+pub step_keeps : (old new : PropagatorOf) (b now : Option (List Line)) (r : Result Turn AllocError) → IfOk r (StepFits old new b now) → OnOk r (ContainsAll (clauses_of old.slots) (clauses_of new.slots))
+step_keeps old new b now (Err e) w = tt
+step_keeps old new b now (Ok (Answered s)) w = record { each = λ c k. subst (λ z. Contains z c) (sym w.2) k }
+step_keeps old new b now (Ok (Learnt k)) w = subst (ContainsAll (clauses_of old.slots)) (sym w.3) (all_push (clauses_of old.slots) w.0)
+
+pub step_fits : (f : FormulaOf) (old new : PropagatorOf) (F : List (List LitOf)) (b now : Option (List Line)) (r : Result Turn AllocError) → clauses_of old.slots ≡ F → IfOk r (StepFits old new b now)
+    → IfOk r (λ t. (budget count : ℕ) (before : Option (List Line)) → count < budget → IsSearch f before b F count → TurnFits f budget count before now new t)
+step_fits f old new F b now (Err e) is w = tt
+step_fits f old new F b now (Ok (Answered s)) is w = λ budget count before h k. subst (SolvedFits f budget before now) (sym w.0) (broken f budget count before b now F h k w.1)
+step_fits f old new F b now (Ok (Learnt o)) is w = λ budget count before h k.
+    search_more f before b now F (clauses_of new.slots) count w.0 k (subst (λ z. IsAdmitted z w.0) is w.1) (subst (λ z. IsNew z w.0) is w.2) (w.3 ∙ ap (λ z. z ++ w.0 ∷ []) is) w.4

@@ -1,0 +1,4 @@
+pub mod Logged
+pub mod Levels
+pub mod Analysis
+pub mod Solving

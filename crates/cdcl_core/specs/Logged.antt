@@ -1,0 +1,27 @@
+-- The lines of a search.
+use Rattle.std.specs.Prelude.{ℕ, ◌+◌, ◌*◌, ◌≤◌, List, [], ◌∷◌, ◌++◌, Contains}
+use Rattle.cnf_form.specs.Cnf.{LitOf, IsAdmitted, Deletes, Line, Addition, Deletion}
+
+-- no present clause is a subset of the clause
+pub record IsNew (G : List (List LitOf)) (c : List LitOf) : Type 0 where
+  pub apart : (e : List LitOf) → Contains G e → ((l : LitOf) → Contains e l → Contains c l) → ⊥
+
+-- The lines lead from the clauses F to those that are present, after so many additions and deletions: each clause that is added is
+-- admitted at its place and new, and at each deletion the deletions are at most half of the additions.
+pub data Logged (F : List (List LitOf)) : List Line → List (List LitOf) → ℕ → ℕ → Type 0 where
+  none : Logged F [] F 0 0
+  added : (lines : List Line) (G : List (List LitOf)) (n d : ℕ) (c : List LitOf) → Logged F lines G n d → IsAdmitted G c → IsNew G c
+      → Logged F (lines ++ Addition c ∷ []) (G ++ c ∷ []) (n + 1) d
+  deleted : (lines : List Line) (G H : List (List LitOf)) (n d : ℕ) (c : List LitOf) → Logged F lines G n d → Deletes G c H → 2 * (d + 1) ≤ n
+      → Logged F (lines ++ Deletion c ∷ []) H n (d + 1)
+
+-- how many clauses a list of lines adds, and how many it deletes
+abbrev pub additions : List Line → ℕ
+additions [] = 0
+additions (Addition c ∷ ls) = additions ls + 1
+additions (Deletion c ∷ ls) = additions ls
+
+abbrev pub deletions : List Line → ℕ
+deletions [] = 0
+deletions (Addition c ∷ ls) = deletions ls
+deletions (Deletion c ∷ ls) = deletions ls + 1

@@ -1,0 +1,355 @@
+// The analysis of a conflict: which clause follows from it.
+
+ghost use Rattle.std.specs.Prelude.{◌≡◌, ◌≢◌, ◌⊎◌, ℕ, ◌+◌, ◌*◌, ◌<◌, ◌≤◌, ◌++◌, ◌∷◌, [], true, List, length, take, Contains, All, IfOk, IfSome, OnOk, IsTrue, Ok, Some};
+ghost use Rattle.cnf_form.specs.Cnf.{LitOf, negate, ClauseWithin};
+ghost use Rattle.cnf_form.specs.declared.literal.TheConstants.{MAX_VARS};
+ghost use Rattle.unit_propagation.specs.Marks.{is_marked};
+ghost use Rattle.unit_propagation.specs.Propagator.{clauses_of};
+ghost use Rattle.cdcl_core.specs.Levels.{IsDriven, end_of};
+ghost use Rattle.cdcl_core.specs.Analysis.{IsClear, IsListed, IsNoted, Supports, IsFirst, IsLearnt};
+
+use cnf_form::{Lit, MAX_VARS};
+use std::alloc::{AllocError, Global};
+use unit_propagation::Propagator;
+
+// The true literals that a conflict rests on, as far as it was gone through: those that are marked. `lower` has the negations
+// of those that were true when the last level began, `current` those that became true on it, resolved ones among them.
+#[derive(Drop)]
+pub(crate) struct Analysis {
+    seen: Vec<bool>,
+    lower: Vec<Lit>,
+    current: Vec<Lit>,
+    pub(crate) clause: Vec<Lit>,
+    ghost lower_places: { All (λ l. 2 * l.var + 1 < length seen.items) lower.items },
+    ghost current_places: { All (λ l. 2 * l.var + 1 < length seen.items) current.items },
+}
+
+impl Analysis {
+    pub fn new(alloc: Global, vars: u32) -> Result<Self, AllocError>
+        requires { vars ≤ MAX_VARS }
+        ensures sized { IfOk result (λ a. length a.seen.items ≡ 2 * vars + 2) }
+        ensures clear { IfOk result (λ a. IsClear a.seen.items) }
+        ensures lower { IfOk result (λ a. a.lower.items ≡ []) }
+        ensures current { IfOk result (λ a. a.current.items ≡ []) }
+    {
+        let seen = vec![in alloc; false; 2 * vars as usize + 2]?;
+        Ok(Analysis {
+            seen,
+            lower: Vec::new(alloc),
+            current: Vec::new(alloc),
+            clause: Vec::new(alloc),
+        })
+    }
+
+    // The clause that is to be learnt.
+    pub fn clause(&self) -> &[Lit]
+        ensures { result.now ≡ self.now.clause.items }
+    {
+        self.clause.as_slice()
+    }
+
+    // The literals of the last level that the conflict rested on.
+    pub fn current(&self) -> &[Lit] {
+        self.current.as_slice()
+    }
+
+    // The others, negated.
+    pub fn lower(&self) -> &[Lit] {
+        self.lower.as_slice()
+    }
+
+    // Marks the negation of a literal, which was true when the last level began.
+    fn mark_lower(&mut self, m: Lit) -> Result<(), AllocError>
+        requires { 2 * m.var + 1 < length self.old.seen.items }
+        ensures sized { length self.new.seen.items ≡ length self.old.seen.items }
+        ensures listed { (t : List LitOf) (base : ℕ) → Contains (take base t) (negate m)
+            → IsListed t base self.old.seen.items self.old.lower.items self.old.current.items
+            → IsListed t base self.new.seen.items self.new.lower.items self.new.current.items }
+        ensures keeps { (l : LitOf) → is_marked self.old.seen.items l ≡ true → is_marked self.new.seen.items l ≡ true }
+        ensures marked { OnOk result (is_marked self.new.seen.items (negate m) ≡ true) }
+    {
+        self.lower.push(m)?;
+        self.seen[m.negate().index()] = true;
+        Ok(())
+    }
+
+    // Marks a literal that became true on the last level.
+    fn mark_current(&mut self, l: Lit) -> Result<(), AllocError>
+        requires { 2 * l.var + 1 < length self.old.seen.items }
+        ensures sized { length self.new.seen.items ≡ length self.old.seen.items }
+        ensures listed { (t : List LitOf) (base : ℕ) → IsListed t base self.old.seen.items self.old.lower.items self.old.current.items
+            → IsListed t base self.new.seen.items self.new.lower.items self.new.current.items }
+        ensures keeps { (x : LitOf) → is_marked self.old.seen.items x ≡ true → is_marked self.new.seen.items x ≡ true }
+        ensures marked { OnOk result (is_marked self.new.seen.items l ≡ true) }
+    {
+        self.current.push(l)?;
+        self.seen[l.index()] = true;
+        Ok(())
+    }
+
+    // Whether a literal of a clause is false. Its negation is marked then, unless it is true at level 0.
+    fn note(
+        &mut self,
+        core: &Propagator,
+        m: Lit,
+        root: usize,
+        base: usize,
+    ) -> Result<bool, AllocError>
+        requires below { m.var ≤ core.now.vars }
+        requires sized { length self.old.seen.items ≡ 2 * core.now.vars + 2 }
+        ensures sized { length self.new.seen.items ≡ 2 * core.now.vars + 2 }
+        ensures listed { IsListed core.now.trail base self.old.seen.items self.old.lower.items self.old.current.items
+            → IsListed core.now.trail base self.new.seen.items self.new.lower.items self.new.current.items }
+        ensures keeps { (l : LitOf) → is_marked self.old.seen.items l ≡ true → is_marked self.new.seen.items l ≡ true }
+        ensures noted { result ≡ Ok true → IsNoted core.now.trail root self.new.seen.items m }
+    {
+        let l = m.negate();
+        if !core.is_true(l) {
+            return Ok(false);
+        }
+        if self.seen[l.index()] {
+            return Ok(true);
+        }
+        let place = core.place(l);
+        if place < root {
+            return Ok(true);
+        }
+        if place < base {
+            self.mark_lower(m)?;
+        } else {
+            self.mark_current(l)?;
+        }
+        Ok(true)
+    }
+
+    // The same of a literal that isn't this one.
+    fn note_but(
+        &mut self,
+        core: &Propagator,
+        m: Lit,
+        but: Lit,
+        root: usize,
+        base: usize,
+    ) -> Result<bool, AllocError>
+        requires below { m.var ≤ core.now.vars }
+        requires sized { length self.old.seen.items ≡ 2 * core.now.vars + 2 }
+        ensures sized { length self.new.seen.items ≡ 2 * core.now.vars + 2 }
+        ensures listed { IsListed core.now.trail base self.old.seen.items self.old.lower.items self.old.current.items
+            → IsListed core.now.trail base self.new.seen.items self.new.lower.items self.new.current.items }
+        ensures keeps { (l : LitOf) → is_marked self.old.seen.items l ≡ true → is_marked self.new.seen.items l ≡ true }
+        ensures noted { result ≡ Ok true → m ≢ but → IsNoted core.now.trail root self.new.seen.items m }
+    {
+        if m == but {
+            return Ok(true);
+        }
+        self.note(core, m, root, base)
+    }
+
+    // Whether this literal is in the clause, and all others are false, which are noted then.
+    fn note_others(
+        &mut self,
+        core: &Propagator,
+        clause: &[Lit],
+        but: Lit,
+        root: usize,
+        base: usize,
+    ) -> Result<bool, AllocError>
+        requires within { ClauseWithin core.now.vars clause.now }
+        requires sized { length self.old.seen.items ≡ 2 * core.now.vars + 2 }
+        ensures sized { length self.new.seen.items ≡ 2 * core.now.vars + 2 }
+        ensures listed { IsListed core.now.trail base self.old.seen.items self.old.lower.items self.old.current.items
+            → IsListed core.now.trail base self.new.seen.items self.new.lower.items self.new.current.items }
+        ensures keeps { (l : LitOf) → is_marked self.old.seen.items l ≡ true → is_marked self.new.seen.items l ≡ true }
+        ensures found { result ≡ Ok true → Contains clause.now but }
+        ensures noted { result ≡ Ok true → (m : LitOf) → Contains clause.now m → m ≢ but
+            → IsNoted core.now.trail root self.new.seen.items m }
+    {
+        let mut found = false;
+        for m in clause {
+            let m = *m;
+            if !self.note_but(core, m, but, root, base)? {
+                return Ok(false);
+            }
+            if m == but {
+                found = true;
+            }
+        }
+        Ok(found)
+    }
+
+    // Begins with a clause: whether all its literals are false.
+    fn begin(
+        &mut self,
+        core: &Propagator,
+        k: u32,
+        root: usize,
+        base: usize,
+    ) -> Result<bool, AllocError>
+        requires clause { k < length core.now.slots }
+        requires sized { length self.old.seen.items ≡ 2 * core.now.vars + 2 }
+        ensures sized { length self.new.seen.items ≡ 2 * core.now.vars + 2 }
+        ensures listed { IsListed core.now.trail base self.old.seen.items self.old.lower.items self.old.current.items
+            → IsListed core.now.trail base self.new.seen.items self.new.lower.items self.new.current.items }
+        ensures supports { result ≡ Ok true
+            → Supports (clauses_of core.now.slots) core.now.trail root self.new.seen.items }
+    {
+        let Some(clause) = core.clause(k) else {
+            return Ok(false);
+        };
+        let Some(first) = clause.first() else {
+            return Ok(false);
+        };
+        let first = *first;
+        if !self.note(core, first, root, base)? {
+            return Ok(false);
+        }
+        self.note_others(core, clause, first, root, base)
+    }
+
+    // Puts what a literal was derived from in its place. Whether the clause that it is said to come from derives it.
+    fn resolve(
+        &mut self,
+        core: &Propagator,
+        l: Lit,
+        root: usize,
+        base: usize,
+    ) -> Result<bool, AllocError>
+        requires below { l.var ≤ core.now.vars }
+        requires sized { length self.old.seen.items ≡ 2 * core.now.vars + 2 }
+        ensures sized { length self.new.seen.items ≡ 2 * core.now.vars + 2 }
+        ensures listed { IsListed core.now.trail base self.old.seen.items self.old.lower.items self.old.current.items
+            → IsListed core.now.trail base self.new.seen.items self.new.lower.items self.new.current.items }
+        ensures supports { result ≡ Ok true
+            → Supports (clauses_of core.now.slots) core.now.trail root self.old.seen.items
+            → Supports (clauses_of core.now.slots) core.now.trail root self.new.seen.items }
+    {
+        let k = core.reason(l);
+        if k as usize >= core.len() {
+            return Ok(false);
+        }
+        let Some(clause) = core.clause(k) else {
+            return Ok(false);
+        };
+        self.seen[l.index()] = false;
+        self.note_others(core, clause, l, root, base)
+    }
+
+    // Whether no literal of the last level is marked but this one, which became true on it.
+    fn is_first(&self, core: &Propagator, l: Lit, base: usize) -> bool
+        requires below { l.var ≤ core.now.vars }
+        requires on { Contains core.now.trail l }
+        ensures late { IsTrue result → Contains (take base core.now.trail) l → ⊥ }
+        ensures only { IsTrue result → (x : LitOf) → Contains self.now.current.items x
+            → is_marked self.now.seen.items x ≡ true → x ≡ l }
+    {
+        for x in &self.current {
+            let x = *x;
+            if x != l {
+                if self.seen[x.index()] {
+                    return false;
+                }
+            }
+        }
+        if core.place(l) < base {
+            return false;
+        }
+        true
+    }
+
+    // Goes back on the last level until one of its literals alone is marked.
+    fn walk(
+        &mut self,
+        core: &Propagator,
+        root: usize,
+        base: usize,
+    ) -> Result<Option<Lit>, AllocError>
+        requires sized { length self.old.seen.items ≡ 2 * core.now.vars + 2 }
+        ensures sized { length self.new.seen.items ≡ 2 * core.now.vars + 2 }
+        ensures listed { IsListed core.now.trail base self.old.seen.items self.old.lower.items self.old.current.items
+            → IsListed core.now.trail base self.new.seen.items self.new.lower.items self.new.current.items }
+        ensures supports { IfOk result (λ o. Supports (clauses_of core.now.slots) core.now.trail root self.old.seen.items
+            → IfSome o (λ l. Supports (clauses_of core.now.slots) core.now.trail root self.new.seen.items)) }
+        ensures first { IfOk result (λ o. IfSome o (λ l. IsFirst core.now.trail base self.new.seen.items self.new.current.items l)) }
+    {
+        let trail = core.trail();
+        let mut resolved: usize = 0;
+        for taken in base..trail.len() {
+            let l = trail[trail.len() - 1 - (taken - base)];
+            if !self.seen[l.index()] {
+                continue;
+            }
+            if self.current.len() <= resolved.saturating_add(1) {
+                if self.is_first(core, l, base) {
+                    return Ok(Some(l));
+                }
+                return Ok(None);
+            }
+            if !self.resolve(core, l, root, base)? {
+                return Ok(None);
+            }
+            resolved = resolved.saturating_add(1);
+        }
+        Ok(None)
+    }
+
+    // The clause of the negations of this literal and of what is marked before the last level.
+    fn build(&mut self, l: Lit) -> Result<(), AllocError>
+        ensures seen { self.new.seen ≡ self.old.seen }
+        ensures lower { self.new.lower ≡ self.old.lower }
+        ensures current { self.new.current ≡ self.old.current }
+        ensures clause { OnOk result (self.new.clause.items ≡ negate l ∷ self.old.lower.items) }
+    {
+        self.clause.clear();
+        self.clause.push(l.negate())?;
+        self.clause.extend_from_slice(&self.lower)?;
+        Ok(())
+    }
+
+    // Takes all marks back.
+    pub fn reset(&mut self)
+        ensures sized { length self.new.seen.items ≡ length self.old.seen.items }
+        ensures clause { self.new.clause ≡ self.old.clause }
+        ensures clear { (t : List LitOf) (base : ℕ) → IsListed t base self.old.seen.items self.old.lower.items self.old.current.items
+            → IsClear self.new.seen.items }
+        ensures lower { self.new.lower.items ≡ [] }
+        ensures current { self.new.current.items ≡ [] }
+    {
+        for k in 0..self.current.len() {
+            let l = self.current[k];
+            self.seen[l.index()] = false;
+        }
+        for k in 0..self.lower.len() {
+            let l = self.lower[k].negate();
+            self.seen[l.index()] = false;
+        }
+        self.current.clear();
+        self.lower.clear();
+    }
+
+    // Finds the clause that is learnt from a falsified one, as far as the reasons lead to it: its first literal.
+    pub fn analyse(
+        &mut self,
+        core: &Propagator,
+        k: u32,
+        root: usize,
+        base: usize,
+    ) -> Result<Option<Lit>, AllocError>
+        requires clause { k < length core.now.slots }
+        requires sized { length self.old.seen.items ≡ 2 * core.now.vars + 2 }
+        requires listed { IsListed core.now.trail base self.old.seen.items self.old.lower.items self.old.current.items }
+        requires driven { IsDriven core.now }
+        requires root { root ≡ end_of core.now 0 }
+        ensures sized { length self.new.seen.items ≡ 2 * core.now.vars + 2 }
+        ensures listed { IsListed core.now.trail base self.new.seen.items self.new.lower.items self.new.current.items }
+        ensures learnt { IfOk result (λ o. IfSome o (λ first. IsLearnt core.now base self.new.clause.items first)) }
+    {
+        if !self.begin(core, k, root, base)? {
+            return Ok(None);
+        }
+        let Some(l) = self.walk(core, root, base)? else {
+            return Ok(None);
+        };
+        self.build(l)?;
+        Ok(Some(l.negate()))
+    }
+}

@@ -1,0 +1,170 @@
+// The clause that is learnt from a conflict, and what follows from it.
+
+ghost use Rattle.std.specs.Prelude.{◌≡◌, ◌≢◌, ◌<◌, ◌≤◌, ◌++◌, ◌∷◌, [], ℕ, false, List, length, take, Contains, IsTrue, IfOk, IfSome, OnOk, Some};
+ghost use Rattle.cnf_form.specs.Cnf.{LitOf, negate, ClauseWithin};
+ghost use Rattle.cdcl_core.specs.Levels.{IsDriven, IsPending, base_of};
+ghost use Rattle.cdcl_core.specs.Analysis.{IsLearnt, IsLastOf, ComesLast};
+
+use crate::order::Order;
+use cnf_form::Lit;
+use std::alloc::AllocError;
+use unit_propagation::Propagator;
+
+// The clause of the negations of all that was true when the last level was decided. Its first literal.
+pub(crate) fn negate_trail(
+    core: &Propagator,
+    k: u32,
+    base: usize,
+    clause: &mut Vec<Lit>,
+) -> Result<Lit, AllocError>
+    requires driven { IsDriven core.now }
+    requires levels { 0 < length core.now.limits }
+    requires base { base ≡ base_of core.now }
+    requires conflict { IsPending core.now (Some k) }
+    ensures { IfOk result (λ first. IsLearnt core.now base clause.new.items first) }
+{
+    let trail = core.trail();
+    let _limit = core.vars();
+    clause.clear();
+    for place in 0..base {
+        clause.push(trail[place].negate())?;
+    }
+    let first = trail[base].negate();
+    clause.push(first)?;
+    Ok(first)
+}
+
+// Whether a literal became false before another one.
+fn is_before(core: &Propagator, a: Lit, b: Lit) -> bool
+    requires a_below { a.var ≤ core.now.vars }
+    requires b_below { b.var ≤ core.now.vars }
+    requires a_false { Contains core.now.trail (negate a) }
+    requires b_false { Contains core.now.trail (negate b) }
+    ensures yes { IsTrue result → (n : ℕ) → Contains (take n core.now.trail) (negate b) → Contains (take n core.now.trail) (negate a) }
+    ensures no { result ≡ false → (n : ℕ) → Contains (take n core.now.trail) (negate a) → Contains (take n core.now.trail) (negate b) }
+{
+    let a_place = core.place(a.negate());
+    let b_place = core.place(b.negate());
+    if a_place < b_place {
+        return true;
+    }
+    false
+}
+
+// Of the literals but one the one that became false last, with one more literal.
+fn later(core: &Propagator, first: Lit, last: Option<Lit>, m: Lit) -> Option<Lit>
+    requires below { m.var ≤ core.now.vars }
+    requires false_now { m ≢ first → Contains core.now.trail (negate m) }
+    requires last { IfSome last (λ s. (s.var ≤ core.now.vars) × Contains core.now.trail (negate s)) }
+    ensures last { IfSome result (λ s. (s.var ≤ core.now.vars) × Contains core.now.trail (negate s)) }
+    ensures step { (c : List LitOf) → IsLastOf core.now.trail first c last → IsLastOf core.now.trail first (c ++ m ∷ []) result }
+{
+    if m == first {
+        return last;
+    }
+    let Some(s) = last else {
+        return Some(m);
+    };
+    if is_before(core, s, m) {
+        return Some(m);
+    }
+    Some(s)
+}
+
+// Of the literals of a clause but one, the one that became false last.
+fn last_false(core: &Propagator, clause: &[Lit], first: Lit) -> Option<Lit>
+    requires within { ClauseWithin core.now.vars clause.now }
+    requires others { (m : LitOf) → Contains clause.now m → m ≢ first → Contains core.now.trail (negate m) }
+    ensures { IsLastOf core.now.trail first clause.now result }
+{
+    let mut last = None;
+    for m in clause {
+        last = later(core, first, last, *m);
+    }
+    last
+}
+
+// The variables from a place of the trail on will be open again.
+fn reopen(core: &Propagator, order: &mut Order, place: usize) -> Result<(), AllocError> {
+    let trail = core.trail();
+    for place in place..trail.len() {
+        order.put(trail[place].var(), trail[place].is_negated())?;
+    }
+    Ok(())
+}
+
+// Takes all levels back.
+pub(crate) fn restart(core: &mut Propagator, order: &mut Order) -> Result<(), AllocError>
+    requires driven { IsDriven core.old }
+    requires conflict { core.old.conflict ≡ false }
+    ensures vars { core.new.vars ≡ core.old.vars }
+    ensures slots { core.new.slots ≡ core.old.slots }
+    ensures driven { IsDriven core.new }
+    ensures conflict { core.new.conflict ≡ false }
+{
+    if core.levels() == 0 {
+        return Ok(());
+    }
+    core.levels_are_complete();
+    reopen(core, order, core.limit(0))?;
+    core.undo(0);
+    Ok(())
+}
+
+// Goes back to the lowest level on which all literals of a learnt clause but its first are false, puts it, and makes the
+// first true. The falsified clause, if there is one above level 0.
+pub(crate) fn assert_learnt(
+    core: &mut Propagator,
+    order: &mut Order,
+    clause: &[Lit],
+    first: Lit,
+) -> Result<Option<u32>, AllocError>
+    requires driven { IsDriven core.old }
+    requires levels { 0 < length core.old.limits }
+    requires learnt { IsLearnt core.old (base_of core.old) clause.now first }
+    ensures vars { core.new.vars ≡ core.old.vars }
+    ensures slots { OnOk result (core.new.slots ≡ core.old.slots ++ Some clause.now ∷ []) }
+    ensures driven { OnOk result (IsDriven core.new) }
+    ensures pending { IfOk result (λ o. IsPending core.new o) }
+{
+    match last_false(core, clause, first) {
+        None => {
+            core.levels_are_complete();
+            reopen(core, order, core.limit(0))?;
+            core.undo(0);
+            core.levels_are_complete();
+            core.put(clause)?;
+            core.clauses_are_within();
+            Ok(None)
+        }
+        Some(second) => go_back(core, order, clause, first, second),
+    }
+}
+
+// The same for a clause of two literals or more.
+fn go_back(
+    core: &mut Propagator,
+    order: &mut Order,
+    clause: &[Lit],
+    first: Lit,
+    second: Lit,
+) -> Result<Option<u32>, AllocError>
+    requires driven { IsDriven core.old }
+    requires levels { 0 < length core.old.limits }
+    requires learnt { IsLearnt core.old (base_of core.old) clause.now first }
+    requires last { ComesLast core.old.trail first clause.now second }
+    ensures vars { core.new.vars ≡ core.old.vars }
+    ensures slots { OnOk result (core.new.slots ≡ core.old.slots ++ Some clause.now ∷ []) }
+    ensures driven { OnOk result (IsDriven core.new) }
+    ensures pending { IfOk result (λ o. IsPending core.new o) }
+{
+    core.levels_are_complete();
+    let place = core.place(second.negate());
+    let level = core.level_of(place);
+    reopen(core, order, core.limit(level))?;
+    core.undo(level);
+    core.levels_are_complete();
+    let falsified = core.learn(clause, first, second)?;
+    core.clauses_are_within();
+    Ok(falsified)
+}

@@ -1,0 +1,19 @@
+//! A solver by conflict-driven clause learning, which logs a proof.
+#![tactic(auto)]
+
+mod analysis;
+mod choose;
+mod laws;
+mod learn;
+mod log;
+mod order;
+mod pace;
+mod search;
+mod solver;
+
+pub use crate::laws::logged_lines_are_a_proof;
+pub use crate::log::Log;
+pub use crate::solver::{Solved, solve};
+
+#[cfg(test)]
+mod tests;

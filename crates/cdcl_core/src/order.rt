@@ -1,0 +1,191 @@
+// The order in which variables are decided: those that conflicts rested on lately come first. Nothing is promised of it.
+
+ghost use Rattle.std.specs.Prelude.{◌<◌};
+
+use std::alloc::{AllocError, Global};
+
+// Where an activity is halved with all others.
+const MAX_ACTIVITY: u64 = 1 << 60;
+
+// The place of a variable that isn't in the heap.
+const NO_PLACE: u32 = 0xffff_ffff;
+
+#[derive(Drop)]
+pub(crate) struct Order {
+    heap: Vec<u32>,
+    places: Vec<u32>,
+    activities: Vec<u64>,
+    signs: Vec<bool>,
+    step: u64,
+}
+
+impl Order {
+    pub fn new(alloc: Global, vars: u32) -> Result<Self, AllocError>
+        requires { vars < 0xffff_ffff }
+    {
+        let mut heap = Vec::new(alloc);
+        let mut places = Vec::new(alloc);
+        places.push(NO_PLACE)?;
+        for place in 0..vars {
+            heap.push(place + 1)?;
+            places.push(place)?;
+        }
+        let activities = vec![in alloc; 0; vars as usize + 1]?;
+        let signs = vec![in alloc; true; vars as usize + 1]?;
+        Ok(Order {
+            heap,
+            places,
+            activities,
+            signs,
+            step: 1 << 20,
+        })
+    }
+
+    // How many variables are in the heap.
+    pub fn len(&self) -> usize {
+        self.heap.len()
+    }
+
+    // Whether a variable was false last.
+    pub fn sign(&self, var: u32) -> bool {
+        match self.signs.get(var as usize) {
+            Some(sign) => *sign,
+            None => true,
+        }
+    }
+
+    fn activity(&self, var: u32) -> u64 {
+        match self.activities.get(var as usize) {
+            Some(activity) => *activity,
+            None => 0,
+        }
+    }
+
+    // The variable at a place of the heap.
+    fn at(&self, place: usize) -> u32 {
+        match self.heap.get(place) {
+            Some(var) => *var,
+            None => 0,
+        }
+    }
+
+    fn set(&mut self, place: usize, var: u32) {
+        if place < self.heap.len() && place < 0xffff_ffff {
+            self.heap[place] = var;
+            if (var as usize) < self.places.len() {
+                self.places[var as usize] = place as u32;
+            }
+        }
+    }
+
+    // Moves a variable up from a place.
+    fn rise(&mut self, place: usize) {
+        let var = self.at(place);
+        let activity = self.activity(var);
+        let mut place = place;
+        for _ in 0..64 {
+            if place == 0 {
+                break;
+            }
+            let parent = (place - 1) / 2;
+            let other = self.at(parent);
+            if self.activity(other) >= activity {
+                break;
+            }
+            self.set(place, other);
+            place = parent;
+        }
+        self.set(place, var);
+    }
+
+    // Of the two places below one, that of the more active variable.
+    fn child(&self, place: usize) -> usize {
+        let left = place.saturating_mul(2).saturating_add(1);
+        let right = left.saturating_add(1);
+        if right < self.heap.len() && self.activity(self.at(right)) > self.activity(self.at(left)) {
+            right
+        } else {
+            left
+        }
+    }
+
+    // Moves a variable down from a place.
+    fn sink(&mut self, place: usize) {
+        let var = self.at(place);
+        let activity = self.activity(var);
+        let mut place = place;
+        for _ in 0..64 {
+            let child = self.child(place);
+            if child >= self.heap.len() {
+                break;
+            }
+            let other = self.at(child);
+            if self.activity(other) <= activity {
+                break;
+            }
+            self.set(place, other);
+            place = child;
+        }
+        self.set(place, var);
+    }
+
+    // Takes the most active variable out, or answers 0.
+    pub fn pop(&mut self) -> u32 {
+        let top = self.at(0);
+        if let Some(last) = self.heap.pop() {
+            if (top as usize) < self.places.len() {
+                self.places[top as usize] = NO_PLACE;
+            }
+            if last != top {
+                self.set(0, last);
+                self.sink(0);
+            }
+        }
+        top
+    }
+
+    // Puts a variable that isn't in the heap, with the sign that it had.
+    pub fn put(&mut self, var: u32, sign: bool) -> Result<(), AllocError> {
+        let index = var as usize;
+        if index < self.signs.len() {
+            self.signs[index] = sign;
+        }
+        if index < self.places.len() && self.places[index] == NO_PLACE {
+            let place = self.heap.len();
+            self.heap.push(var)?;
+            self.set(place, var);
+            self.rise(place);
+        }
+        Ok(())
+    }
+
+    // Makes a variable more active.
+    pub fn bump(&mut self, var: u32) {
+        let index = var as usize;
+        if index < self.activities.len() {
+            self.activities[index] = self.activities[index].saturating_add(self.step);
+            if self.activities[index] > MAX_ACTIVITY {
+                self.shrink();
+            }
+        }
+        if index < self.places.len() {
+            let place = self.places[index];
+            if place != NO_PLACE {
+                self.rise(place as usize);
+            }
+        }
+    }
+
+    // Makes later conflicts count more.
+    pub fn age(&mut self) {
+        self.step = self.step.saturating_add(self.step / 20);
+    }
+
+    // Makes all activities smaller, in the same order but for ties.
+    fn shrink(&mut self) {
+        for index in 0..self.activities.len() {
+            self.activities[index] /= 1 << 40;
+        }
+        self.step = self.step / (1 << 40) + 1;
+    }
+}

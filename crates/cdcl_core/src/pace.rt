@@ -1,0 +1,87 @@
+// When the search begins anew at level 0: where the clauses learnt lately are worse than those before. Nothing is promised of it.
+
+use cnf_form::Lit;
+use std::alloc::{AllocError, Global};
+use unit_propagation::Propagator;
+
+// So many conflicts come at least between one restart and the next.
+const LEAST: u64 = 50;
+
+// The averages are over the glue of the learnt clauses: how many levels the literals of one became false on. They have 32 binary
+// places.
+#[derive(Drop)]
+pub(crate) struct Pace {
+    stamps: Vec<u64>,
+    clock: u64,
+    since: u64,
+    fast: u64,
+    slow: u64,
+}
+
+// The level on which a literal became true.
+fn level_of(core: &Propagator, l: Lit) -> usize {
+    if l.var() > core.vars() {
+        return 0;
+    }
+    if !core.is_true(l) {
+        return 0;
+    }
+    let place = core.place(l);
+    let mut low: usize = 0;
+    let mut high = core.levels();
+    for _ in 0..64 {
+        let middle = low / 2 + high / 2;
+        if low >= high || middle >= core.levels() {
+            break;
+        }
+        if core.limit(middle) <= place {
+            low = middle.saturating_add(1);
+        } else {
+            high = middle;
+        }
+    }
+    low
+}
+
+impl Pace {
+    pub fn new(alloc: Global, vars: u32) -> Result<Self, AllocError> {
+        let stamps = vec![in alloc; 0; vars as usize + 1]?;
+        Ok(Pace {
+            stamps,
+            clock: 0,
+            since: 0,
+            fast: 0,
+            slow: 0,
+        })
+    }
+
+    fn glue(&mut self, core: &Propagator, clause: &[Lit]) -> u64 {
+        self.clock = self.clock.saturating_add(1);
+        let mut glue: u64 = 0;
+        for l in clause {
+            let level = level_of(core, l.negate());
+            if level < self.stamps.len() && self.stamps[level] != self.clock {
+                self.stamps[level] = self.clock;
+                glue = glue.saturating_add(1);
+            }
+        }
+        glue
+    }
+
+    // Counts a conflict, and the clause that is learnt from it.
+    pub fn count(&mut self, core: &Propagator, clause: &[Lit]) {
+        let glue = self.glue(core, clause).saturating_mul(1 << 32);
+        self.since = self.since.saturating_add(1);
+        self.fast = (self.fast - self.fast / 32).saturating_add(glue / 32);
+        self.slow = (self.slow - self.slow / 8192).saturating_add(glue / 8192);
+    }
+
+    // Whether the search is to begin anew.
+    pub fn is_due(&mut self) -> bool {
+        if self.since < LEAST || self.fast / 10 * 9 <= self.slow {
+            return false;
+        }
+        self.since = 0;
+        true
+    }
+}

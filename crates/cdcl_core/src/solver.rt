@@ -1,0 +1,321 @@
+// The solver.
+
+ghost use Rattle.std.specs.Prelude.{◌≡◌, ◌⊎◌, ◌+◌, ◌<◌, ◌≤◌, ◌++◌, ◌∷◌, [], ℕ, true, false, List, Option, length, Contains, IfOk, OnOk, Ok, Some, None};
+ghost use Rattle.cnf_form.specs.Cnf.{LitOf, Satisfies, lit_in, Line, Addition, ClauseWithin};
+ghost use Rattle.cnf_form.specs.declared.literal.TheConstants.{MAX_VARS};
+ghost use Rattle.unit_propagation.specs.Propagation.{ContainsAll};
+ghost use Rattle.unit_propagation.specs.Propagator.{clauses_of};
+ghost use Rattle.sby_edge.specs.Cause.{Rose};
+ghost use Rattle.cdcl_core.specs.Levels.{IsDriven, IsPending, FoundFits, base_of};
+ghost use Rattle.cdcl_core.specs.Logged.{IsNew, Logged};
+ghost use Rattle.cdcl_core.specs.declared.search.Found.TheVariants.{Assigned};
+ghost use Rattle.cdcl_core.specs.Analysis.{IsIdle, IsLearnt};
+ghost use Rattle.cdcl_core.specs.Solving.{SolvedFits, TurnFits, StepFits, GoesOn, IsSearch, Takes, valued};
+
+use crate::analysis::Analysis;
+use crate::learn::{assert_learnt, negate_trail};
+use crate::log::Log;
+use crate::order::Order;
+use crate::pace::Pace;
+use crate::search::{Found, find};
+use cnf_form::{Formula, Lit, MAX_VARS};
+use std::alloc::{AllocError, Global};
+use unit_propagation::Propagator;
+
+/// What the solver answers.
+#[derive(Drop, Debug)]
+pub enum Solved {
+    /// Values that satisfy the formula: that of each variable at its number.
+    Sat(Vec<bool>),
+    /// There are no such values. The empty clause was logged last.
+    Unsat,
+    /// As many conflicts were counted as the budget has.
+    Budget,
+    /// The log failed.
+    LogFailed,
+}
+
+// What a conflict comes to: an answer, or a learnt clause, and the one that it falsifies, if any.
+enum Turn {
+    Answered(Solved),
+    Learnt(Option<u32>),
+}
+
+// What is kept between conflicts beside clauses and values.
+#[derive(Drop)]
+struct Tools {
+    analysis: Analysis,
+    order: Order,
+    pace: Pace,
+}
+
+impl Tools {
+    fn new(alloc: Global, vars: u32) -> Result<Self, AllocError>
+        requires { vars ≤ MAX_VARS }
+        ensures { IfOk result (λ t. IsIdle vars t.analysis.seen.items t.analysis.lower.items t.analysis.current.items) }
+    {
+        let analysis = Analysis::new(alloc, vars)?;
+        let order = Order::new(alloc, vars)?;
+        let pace = Pace::new(alloc, vars)?;
+        Ok(Tools {
+            analysis,
+            order,
+            pace,
+        })
+    }
+}
+
+// Puts a clause of the formula at level 0.
+fn put_next(core: &mut Propagator, clause: &[Lit]) -> Result<(), AllocError>
+    requires level { core.old.limits ≡ [] }
+    requires driven { IsDriven core.old }
+    requires pending { IsPending core.old None }
+    requires within { ClauseWithin core.old.vars clause.now }
+    ensures vars { OnOk result (core.new.vars ≡ core.old.vars) }
+    ensures clauses { OnOk result (clauses_of core.new.slots ≡ clauses_of core.old.slots ++ clause.now ∷ []) }
+    ensures level { OnOk result (core.new.limits ≡ []) }
+    ensures driven { OnOk result (IsDriven core.new) }
+    ensures pending { OnOk result (IsPending core.new None) }
+{
+    core.levels_are_complete();
+    core.put(clause)?;
+    core.clauses_are_within();
+    Ok(())
+}
+
+// Puts the clauses of the formula.
+fn put_all(core: &mut Propagator, formula: &Formula) -> Result<(), AllocError>
+    requires vars { core.old.vars ≡ formula.now.vars }
+    requires slots { core.old.slots ≡ [] }
+    requires level { core.old.limits ≡ [] }
+    requires driven { IsDriven core.old }
+    requires pending { IsPending core.old None }
+    ensures vars { OnOk result (core.new.vars ≡ formula.now.vars) }
+    ensures clauses { OnOk result (clauses_of core.new.slots ≡ formula.now.clauses) }
+    ensures driven { OnOk result (IsDriven core.new) }
+    ensures pending { OnOk result (IsPending core.new None) }
+{
+    let clauses = formula.clauses();
+    for place in 0..clauses.len() {
+        put_next(core, clauses.get(place))?;
+    }
+    Ok(())
+}
+
+// The clauses of the formula, with what follows from them.
+fn load(alloc: Global, formula: &Formula) -> Result<Propagator, AllocError>
+    ensures vars { IfOk result (λ p. p.vars ≡ formula.now.vars) }
+    ensures clauses { IfOk result (λ p. clauses_of p.slots ≡ formula.now.clauses) }
+    ensures driven { IfOk result (λ p. IsDriven p) }
+    ensures pending { IfOk result (λ p. IsPending p None) }
+{
+    let mut core = Propagator::new(alloc, formula.vars())?;
+    put_all(&mut core, formula)?;
+    Ok(core)
+}
+
+// The values of all variables, that of each at its number.
+fn values_of(alloc: Global, core: &Propagator) -> Result<Vec<bool>, AllocError>
+    ensures sized { IfOk result (λ v. length v.items ≡ core.now.vars + 1) }
+    ensures values { IfOk result (λ v. (l : LitOf) → Contains core.now.trail l → 0 < l.var → lit_in (valued v.items) l ≡ true) }
+{
+    let mut values = Vec::new(alloc);
+    values.push(false)?;
+    let _consistent = core.conflict();
+    let _below = core.trail().len();
+    for place in 0..core.vars() {
+        values.push(core.is_true(Lit::new(place + 1, false)))?;
+    }
+    Ok(values)
+}
+
+// Values that satisfy the clauses, where all variables have one.
+fn satisfying(alloc: Global, core: &Propagator) -> Result<Vec<bool>, AllocError>
+    requires { FoundFits core.now Assigned }
+    ensures sized { IfOk result (λ v. length v.items ≡ core.now.vars + 1) }
+    ensures satisfies { IfOk result (λ v. Satisfies (valued v.items) (clauses_of core.now.slots)) }
+{
+    core.clauses_are_within();
+    let _fixpoint = core.conflict();
+    let values = values_of(alloc, core)?;
+    Ok(values)
+}
+
+// Makes the variables that a conflict rested on more active.
+fn bump_all(analysis: &Analysis, order: &mut Order) {
+    for l in analysis.current() {
+        order.bump(l.var());
+    }
+    for l in analysis.lower() {
+        order.bump(l.var());
+    }
+    order.age();
+}
+
+// The clause that is learnt from a falsified one. Its first literal.
+fn first_of(
+    core: &Propagator,
+    analysis: &mut Analysis,
+    order: &mut Order,
+    k: u32,
+) -> Result<Lit, AllocError>
+    requires idle { IsIdle core.now.vars analysis.old.seen.items analysis.old.lower.items analysis.old.current.items }
+    requires driven { IsDriven core.now }
+    requires levels { 0 < length core.now.limits }
+    requires conflict { IsPending core.now (Some k) }
+    ensures idle { OnOk result (IsIdle core.now.vars analysis.new.seen.items analysis.new.lower.items analysis.new.current.items) }
+    ensures learnt { IfOk result (λ first. IsLearnt core.now (base_of core.now) analysis.new.clause.items first) }
+{
+    let base = core.limit(core.levels() - 1);
+    let root = core.limit(0);
+    let found = analysis.analyse(core, k, root, base)?;
+    bump_all(analysis, order);
+    analysis.reset();
+    match found {
+        Some(first) => Ok(first),
+        None => negate_trail(core, k, base, &mut analysis.clause),
+    }
+}
+
+// The same; no present clause is a subset of it.
+fn learn_from(
+    core: &Propagator,
+    analysis: &mut Analysis,
+    order: &mut Order,
+    k: u32,
+) -> Result<Lit, AllocError>
+    requires idle { IsIdle core.now.vars analysis.old.seen.items analysis.old.lower.items analysis.old.current.items }
+    requires driven { IsDriven core.now }
+    requires levels { 0 < length core.now.limits }
+    requires conflict { IsPending core.now (Some k) }
+    ensures idle { OnOk result (IsIdle core.now.vars analysis.new.seen.items analysis.new.lower.items analysis.new.current.items) }
+    ensures learnt { IfOk result (λ first. IsLearnt core.now (base_of core.now) analysis.new.clause.items first) }
+    ensures new { OnOk result (IsNew (clauses_of core.now.slots) analysis.new.clause.items) }
+{
+    let first = first_of(core, analysis, order, k)?;
+    core.levels_are_complete();
+    Ok(first)
+}
+
+// Logs the empty clause.
+fn end<L: Log>(log: &mut L) -> Solved
+    ensures unsat { result ≡ Solved.Unsat → Takes (L.taken log.old) (Addition [] ∷ []) (L.taken log.new) }
+    ensures failed { result ≡ Solved.LogFailed → L.taken log.new ≡ L.taken log.old }
+    ensures which { (result ≡ Solved.Unsat) ⊎ (result ≡ Solved.LogFailed) }
+    ensures later { L.faults log.old ≤ L.faults log.new }
+    ensures cause { result ≡ Solved.LogFailed → Rose (L.faults log.old) (L.faults log.new) }
+{
+    if log.clause(&[]).is_err() {
+        return Solved::LogFailed;
+    }
+    Solved::Unsat
+}
+
+// Learns from a falsified clause, and goes back to where the learnt one makes a literal true.
+fn learn_one<L: Log>(
+    core: &mut Propagator,
+    tools: &mut Tools,
+    log: &mut L,
+    k: u32,
+) -> Result<Turn, AllocError>
+    requires idle { IsIdle core.old.vars tools.old.analysis.seen.items tools.old.analysis.lower.items tools.old.analysis.current.items }
+    requires driven { IsDriven core.old }
+    requires levels { 0 < length core.old.limits }
+    requires conflict { IsPending core.old (Some k) }
+    ensures vars { core.new.vars ≡ core.old.vars }
+    ensures idle { OnOk result (IsIdle core.new.vars tools.new.analysis.seen.items tools.new.analysis.lower.items tools.new.analysis.current.items) }
+    ensures driven { OnOk result (IsDriven core.new) }
+    ensures goes_on { IfOk result (GoesOn core.new) }
+    ensures step { IfOk result (StepFits core.old core.new (L.taken log.old) (L.taken log.new)) }
+    ensures later { L.faults log.old ≤ L.faults log.new }
+    ensures cause { result ≡ Ok (Turn.Answered Solved.LogFailed) → Rose (L.faults log.old) (L.faults log.new) }
+{
+    let first = learn_from(core, &mut tools.analysis, &mut tools.order, k)?;
+    let clause = tools.analysis.clause();
+    tools.pace.count(core, clause);
+    if log.clause(clause).is_err() {
+        return Ok(Turn::Answered(Solved::LogFailed));
+    }
+    let falsified = assert_learnt(core, &mut tools.order, clause, first)?;
+    Ok(Turn::Learnt(falsified))
+}
+
+// Decides until there is an answer, or a clause to be learnt.
+fn next_turn<L: Log>(
+    alloc: Global,
+    formula: &Formula,
+    core: &mut Propagator,
+    tools: &mut Tools,
+    log: &mut L,
+    pending: Option<u32>,
+) -> Result<Turn, AllocError>
+    requires vars { core.old.vars ≡ formula.now.vars }
+    requires keeps { ContainsAll formula.now.clauses (clauses_of core.old.slots) }
+    requires idle { IsIdle core.old.vars tools.old.analysis.seen.items tools.old.analysis.lower.items tools.old.analysis.current.items }
+    requires driven { IsDriven core.old }
+    requires pending { IsPending core.old pending }
+    ensures vars { core.new.vars ≡ core.old.vars }
+    ensures keeps { OnOk result (ContainsAll (clauses_of core.old.slots) (clauses_of core.new.slots)) }
+    ensures idle { OnOk result (IsIdle core.new.vars tools.new.analysis.seen.items tools.new.analysis.lower.items tools.new.analysis.current.items) }
+    ensures driven { OnOk result (IsDriven core.new) }
+    ensures goes_on { IfOk result (GoesOn core.new) }
+    ensures fits { IfOk result (λ t. (budget count : ℕ) (before : Option (List Line)) → count < budget
+        → IsSearch formula.now before (L.taken log.old) (clauses_of core.old.slots) count
+        → TurnFits formula.now budget count before (L.taken log.new) core.new t) }
+    ensures later { L.faults log.old ≤ L.faults log.new }
+    ensures cause { result ≡ Ok (Turn.Answered Solved.LogFailed) → Rose (L.faults log.old) (L.faults log.new) }
+{
+    let anew = tools.pace.is_due();
+    match find(core, &mut tools.order, formula, pending, anew)? {
+        Found::Assigned => {
+            let values = satisfying(alloc, core)?;
+            Ok(Turn::Answered(Solved::Sat(values)))
+        }
+        Found::Refuted => Ok(Turn::Answered(end(log))),
+        Found::Falsified(k) => learn_one(core, tools, log, k),
+    }
+}
+
+// Goes on until there is an answer.
+fn search<L: Log>(
+    alloc: Global,
+    formula: &Formula,
+    budget: u64,
+    core: &mut Propagator,
+    tools: &mut Tools,
+    log: &mut L,
+) -> Result<Solved, AllocError>
+    requires vars { core.old.vars ≡ formula.now.vars }
+    requires clauses { clauses_of core.old.slots ≡ formula.now.clauses }
+    requires idle { IsIdle core.old.vars tools.old.analysis.seen.items tools.old.analysis.lower.items tools.old.analysis.current.items }
+    requires driven { IsDriven core.old }
+    requires pending { IsPending core.old None }
+    ensures solved { IfOk result (λ s. SolvedFits formula.now budget (L.taken log.old) (L.taken log.new) s) }
+    ensures cause { result ≡ Ok Solved.LogFailed → Rose (L.faults log.old) (L.faults log.new) }
+{
+    let mut pending = None;
+    for _ in 0..budget {
+        match next_turn(alloc, formula, core, tools, log, pending)? {
+            Turn::Answered(solved) => return Ok(solved),
+            Turn::Learnt(falsified) => pending = falsified,
+        }
+    }
+    Ok(Solved::Budget)
+}
+
+/// Searches for values that satisfy the formula, and logs what it learns, until as many conflicts above level 0 were counted
+/// as the budget has. Each logged clause is admitted by those that are present, and none of those is a subset of it; an
+/// answer that there are no values ends with the empty clause. An error is want of memory.
+pub fn solve<L: Log>(
+    alloc: Global,
+    formula: &Formula,
+    budget: u64,
+    log: &mut L,
+) -> Result<Solved, AllocError>
+    ensures solved { IfOk result (λ s. SolvedFits formula.now budget (L.taken log.old) (L.taken log.new) s) }
+    ensures cause { result ≡ Ok Solved.LogFailed → Rose (L.faults log.old) (L.faults log.new) }
+{
+    let mut core = load(alloc, formula)?;
+    let mut tools = Tools::new(alloc, formula.vars())?;
+    search(alloc, formula, budget, &mut core, &mut tools, log)
+}
