@@ -1,0 +1,85 @@
+-- What sayings come to, and what that is worth.
+use Rattle.std.proofs.Common.{ℕ, ◌<◌, ◌≤◌, true, false, leb, List, [], ◌∷◌, ◌++◌, length, take, Some, inl, inr, subst, ◌⊎◌}
+use Rattle.std.specs.Prelude.{Contains}
+use Rattle.std.proofs.lemmas.Bool.{cases_Bool, leb-true, leb-false}
+use Rattle.cnf_form.specs.Cnf.{LitOf, FormulaOf, Assignment, IsUnsatisfiable, Satisfies}
+use Rattle.cnf_form.proofs.Rup.{Admitted-true, Satisfies-push}
+use Rattle.cnf_form.proofs.Members.{Contains-empty}
+use Rattle.cnf_form.proofs.Removal.{Deletes-within}
+use Rattle.cert_stream.specs.Stream.{sayings}
+use Rattle.cert_stream.specs.Telling.{Saying, IsClause, IsDelete, IsValue, IsValuesEnd, IsUnknown, IsFault}
+use Rattle.sby_terms.specs.declared.names.Answer.TheVariants.{Sat, Unsat}
+use Rattle.stream_judge.specs.Fate.{Found, ComesTo, FateSoFar, FateOf}
+use Rattle.stream_judge.specs.Values.{named, unnamed}
+
+pub refuted : (C F : List (List LitOf)) (x : Assignment) (ss : List Saying) → ComesTo C F x ss (Some (Found Unsat)) → IsUnsatisfiable F
+refuted C F x [] e y s = cc
+refuted C F x (IsClause c place ∷ ss) (inl (a, n, e)) y s = let t = Admitted-true y F c a s in Contains-empty t.0 (subst (λ z. Contains z t.0) n t.1)
+refuted C F x (IsClause c place ∷ ss) (inr (inl (a, n, h))) y s = refuted C (F ++ c ∷ []) x ss h y (Satisfies-push y F c s (Admitted-true y F c a s))
+refuted C F x (IsClause c place ∷ ss) (inr (inr (n, e))) y s = cc
+refuted C F x (IsDelete c ∷ ss) (G, d, h) y s = refuted C G x ss h y (λ e k. s e (Deletes-within F G c d e k))
+refuted C F x (IsValue c ∷ ss) h y s = refuted C F (named x c) ss h y s
+refuted C F x (IsValuesEnd ∷ ss) (inl (t, e)) y s = cc
+refuted C F x (IsValuesEnd ∷ ss) (inr (n, u, e)) y s = cc
+refuted C F x (IsUnknown ∷ ss) e y s = cc
+refuted C F x (IsFault f ∷ ss) e y s = cc
+
+-- values that satisfy a formula's clauses, where its certificate for Sat is complete
+satisfied : (C F : List (List LitOf)) (x : Assignment) (ss : List Saying) → ComesTo C F x ss (Some (Found Sat)) → (y : Assignment) × Satisfies y C
+satisfied C F x [] e = cc
+satisfied C F x (IsClause c place ∷ ss) (inl (a, n, e)) = cc
+satisfied C F x (IsClause c place ∷ ss) (inr (inl (a, n, h))) = satisfied C (F ++ c ∷ []) x ss h
+satisfied C F x (IsClause c place ∷ ss) (inr (inr (n, e))) = cc
+satisfied C F x (IsDelete c ∷ ss) (G, d, h) = satisfied C G x ss h
+satisfied C F x (IsValue c ∷ ss) h = satisfied C F (named x c) ss h
+satisfied C F x (IsValuesEnd ∷ ss) (inl (s, e)) = (x, s)
+satisfied C F x (IsValuesEnd ∷ ss) (inr (n, u, e)) = cc
+satisfied C F x (IsUnknown ∷ ss) e = cc
+satisfied C F x (IsFault f ∷ ss) e = cc
+
+pub sides : (n most : ℕ) → (n ≤ most) ⊎ (most < n)
+sides n most = elim (cases_Bool (leb n most)) [ inl t ↦ inl (leb-true n most t) | inr f ↦ inr (leb-false n most f) ]
+
+-- no assignment satisfies a formula that a stream refutes
+pub refuted_so_far : (f : FormulaOf) (bytes : List ℕ) (most : ℕ) → FateSoFar f bytes most (Some (Found Unsat)) → IsUnsatisfiable f.clauses
+refuted_so_far f bytes most h =
+    elim (sides (length bytes) most) [
+      | inl l ↦ refuted f.clauses f.clauses unnamed (sayings f.vars false bytes) (h.within l)
+      | inr l ↦ elim (h.beyond l) [
+        | inl (x, k, e) ↦ refuted f.clauses f.clauses unnamed (sayings f.vars false (take most bytes)) (rw e k)
+        | inr (k, e) ↦ λ x s. cc
+      ]
+    ]
+
+pub refuted_at_end : (f : FormulaOf) (bytes : List ℕ) (most : ℕ) → FateOf f bytes most (Found Unsat) → IsUnsatisfiable f.clauses
+refuted_at_end f bytes most h =
+    elim (sides (length bytes) most) [
+      | inl l ↦ elim (h.within l) [
+        | inl k ↦ refuted f.clauses f.clauses unnamed (sayings f.vars true bytes) k
+        | inr (k, e) ↦ λ x s. cc
+      ]
+      | inr l ↦ refuted_so_far f bytes most (h.beyond l)
+    ]
+
+abbrev CanSatisfy : FormulaOf → Type 0
+CanSatisfy f = (y : Assignment) × Satisfies y f.clauses
+
+satisfied_so_far : (f : FormulaOf) (bytes : List ℕ) (most : ℕ) → FateSoFar f bytes most (Some (Found Sat)) → CanSatisfy f
+satisfied_so_far f bytes most h =
+    elim (sides (length bytes) most) [
+      | inl l ↦ satisfied f.clauses f.clauses unnamed (sayings f.vars false bytes) (h.within l)
+      | inr l ↦ elim (h.beyond l) [
+        | inl (x, k, e) ↦ satisfied f.clauses f.clauses unnamed (sayings f.vars false (take most bytes)) (rw e k)
+        | inr (k, e) ↦ absurd (let g = e in cc)
+      ]
+    ]
+
+pub satisfied_at_end : (f : FormulaOf) (bytes : List ℕ) (most : ℕ) → FateOf f bytes most (Found Sat) → (y : Assignment) × Satisfies y f.clauses
+satisfied_at_end f bytes most h =
+    elim (sides (length bytes) most) [
+      | inl l ↦ elim (h.within l) [
+        | inl k ↦ satisfied f.clauses f.clauses unnamed (sayings f.vars true bytes) k
+        | inr (k, e) ↦ absurd (let g = e in cc)
+      ]
+      | inr l ↦ satisfied_so_far f bytes most (h.beyond l)
+    ]

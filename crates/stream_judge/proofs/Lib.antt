@@ -1,0 +1,10 @@
+pub mod Valuing
+pub mod Leading
+pub mod Deletions
+pub mod Coming
+pub mod Fates
+pub mod Following
+pub mod Taking
+pub mod Lines
+pub mod Accepting
+pub mod Certs

@@ -1,0 +1,13 @@
+-- The numbers of the faults of a stream.
+use Rattle.std.specs.Prelude.{ℕ}
+use Rattle.stream_judge.specs.declared.stream.CertKind.{CertKind}
+use Rattle.stream_judge.specs.declared.stream.CertKind.TheVariants.{BadLine, BadLiteral, LineTooLong, NotRup, NotSatisfying, TooLong, EarlyEnd}
+
+abbrev pub number_of : CertKind → ℕ
+number_of BadLine = 41
+number_of BadLiteral = 42
+number_of LineTooLong = 43
+number_of NotRup = 44
+number_of NotSatisfying = 45
+number_of TooLong = 47
+number_of EarlyEnd = 48
