@@ -1,0 +1,21 @@
+-- Three words.
+use Rattle.std.proofs.Common.{◌≡◌, ℕ, ◌<◌, ◌≤◌, List, [], ◌∷◌, length, get_or, map, refl, sym, ◌∙◌, ap, subst, arith}
+use Rattle.std.specs.Prelude.{Option, Some, None, codes, decimal}
+use Rattle.cdcl_words.specs.Asking.{Asks}
+
+pub three : {X : Type 0} (xs : List X) (a b c : X) → 3 ≤ length xs → length xs < 4 → a ≡ get_or xs 0 a → b ≡ get_or xs 1 b → c ≡ get_or xs 2 c → xs ≡ a ∷ b ∷ c ∷ []
+three [] a b c low high e f g = absurd (omega arith)
+three (x ∷ []) a b c low high e f g = absurd (omega arith)
+three (x ∷ y ∷ []) a b c low high e f g = absurd (omega arith)
+three (x ∷ y ∷ z ∷ []) a b c low high e f g = cc
+three (x ∷ y ∷ z ∷ w ∷ ws) a b c low high e f g = absurd (omega arith)
+
+pub asks_within : {X : Type 0} (f : X → List ℕ) (xs : List X) (a b c : X) (n : ℕ) → xs ≡ a ∷ b ∷ c ∷ [] → f a ≡ codes "--conflicts" → f b ≡ decimal n → map f xs ≡ codes "--conflicts" ∷ decimal n ∷ f c ∷ []
+asks_within f xs a b c n e h k = let w = ap (map f) e in cc
+
+second : (x y z : List ℕ) (u v w : List ℕ) (xs : List (List ℕ)) → xs ≡ x ∷ y ∷ z ∷ [] → xs ≡ u ∷ v ∷ w ∷ [] → y ≡ v
+second x y z u v w xs e f = cc
+
+pub asks_not : {X : Type 0} (f : X → List ℕ) (xs : List X) (a b c : X) → xs ≡ a ∷ b ∷ c ∷ [] → ((n : ℕ) → f b ≡ decimal n → 1 ≤ n → n ≤ 1000000000 → ⊥) → (conflicts : Option ℕ) (file : List ℕ) → Asks (map f xs) conflicts file → ⊥
+asks_not f xs a b c e h None file w = let k = ap length (sym (ap (map f) e) ∙ w) in absurd (omega (arith, k))
+asks_not f xs a b c e h (Some n) file w = h n (second (f a) (f b) (f c) (codes "--conflicts") (decimal n) file (map f xs) (ap (map f) e) w.0) w.1 w.2
