@@ -1,0 +1,60 @@
+use Rattle.std.proofs.Common.{ℕ, ◌+◌, [], ◌∷◌, ◌++◌, refl, sym, ap, subst, ◌∙◌}
+use Rattle.race_core.specs.Asking.{name_at, terms_of}
+use Rattle.race_core.specs.Carrying.{KnewBy}
+use Rattle.race_core.specs.Consistent.{events_at}
+use Rattle.race_core.specs.Report.{ReportOf}
+use Rattle.race_core.specs.declared.end.JobEnd.TheVariants as end
+use Rattle.race_core.specs.declared.event.LaneEvent.TheVariants as event
+use Rattle.lane_run.specs.Asked.{IsFor, terms_at}
+use Rattle.lane_run.specs.Done.{LaneSoFar}
+use Rattle.lane_run.proofs.Lanes.{one_done}
+use Rattle.lane_run.proofs.Wholes.{next_fresh, want_done}
+use Rattle.lane_run.proofs.lane.run_job.Goals as goal
+
+pub returns-in_default-clause-so_far : goal.returns-in_default-clause-so_far
+returns-in_default-clause-so_far g c =
+    let t = c.args.task.now in
+    let for = IsFor g.T.Settled.problem g.T.Settled.job (g.M.Asks.problem t.makes.now) t.mode in
+    let serves = λ (k : ℕ). g.M.Makes.is_served t.makes.now c.args.report.now.lane (name_at t.mode k) in
+    let terms = λ (k : ℕ). terms_of g.T.Settled.job g.T.Settled.answer (terms_at t.mode t.limit k) in
+    let may = g.C.Clock.may_read t.clock.now in
+    let n = c.args.place in
+    let r = c.args.report.now in
+    subst (λ (x : ReportOf g.row.T.Denot). LaneSoFar for serves terms may (n + 1) c.args.notes.now x) (sym c.want_lists.ensures.report)
+    (one_done for serves terms may n c.args.notes.now r c.requires.so_far c.args.notes.now (record { reader = []; keeper = event.KeeperMemory ∷ [] }) end.Memory
+    (record { cells = refl; knows = λ place f h. h }) c.requires.place.1 c.requires.free
+    (want_done for (serves n) (terms n) (KnewBy (events_at r) n) may n c.args.notes.now c.want_lists.ensures.served))
+
+pub want_lists-requires-in_default-new-clause-left : goal.want_lists-requires-in_default-new-clause-left
+want_lists-requires-in_default-new-clause-left g c κs within =
+    let t = c.args.task.now in
+    next_fresh (IsFor g.T.Settled.problem g.T.Settled.job (g.M.Asks.problem t.makes.now) t.mode) (λ k. g.M.Makes.is_served t.makes.now c.args.report.now.lane (name_at t.mode k))
+    (λ k. terms_of g.T.Settled.job g.T.Settled.answer (terms_at t.mode t.limit k)) (g.C.Clock.may_read t.clock.now) c.args.place c.args.notes.now c.args.report.now c.requires.so_far c.requires.place.1
+
+pub returns-in_default-new-clause-so_far : goal.returns-in_default-new-clause-so_far
+returns-in_default-new-clause-so_far g c =
+    let t = c.args.task.now in
+    let for = IsFor g.T.Settled.problem g.T.Settled.job (g.M.Asks.problem t.makes.now) t.mode in
+    let serves = λ (k : ℕ). g.M.Makes.is_served t.makes.now c.args.report.now.lane (name_at t.mode k) in
+    let terms = λ (k : ℕ). terms_of g.T.Settled.job g.T.Settled.answer (terms_at t.mode t.limit k) in
+    let may = g.C.Clock.may_read t.clock.now in
+    let n = c.args.place in
+    let r = c.args.report.now in
+    subst (λ (x : ReportOf g.row.T.Denot). LaneSoFar for serves terms may (n + 1) c.args.notes.now x) (sym c.want_lists-in_default-new.ensures.report)
+    (one_done for serves terms may n c.args.notes.now r c.requires.so_far c.args.notes.now (record { reader = []; keeper = event.KeeperMemory ∷ [] }) end.Memory
+    (record { cells = refl; knows = λ place f h. h }) c.requires.place.1 c.requires.free
+    (want_done for (serves n) (terms n) (KnewBy (events_at r) n) may n c.args.notes.now c.want_lists-in_default-new.ensures.served))
+
+pub returns-clause-so_far : goal.returns-clause-so_far
+returns-clause-so_far g c =
+    let t = c.args.task.now in
+    let for = IsFor g.T.Settled.problem g.T.Settled.job (g.M.Asks.problem t.makes.now) t.mode in
+    let serves = λ (k : ℕ). g.M.Makes.is_served t.makes.now c.args.report.now.lane (name_at t.mode k) in
+    let terms = λ (k : ℕ). terms_of g.T.Settled.job g.T.Settled.answer (terms_at t.mode t.limit k) in
+    let may = g.C.Clock.may_read t.clock.now in
+    let n = c.args.place in
+    let e = c.do_job-end.result.end in
+    subst (λ (x : ReportOf g.row.T.Denot). LaneSoFar for serves terms may (n + 1) c.do_job-end.new.notes x)
+    (sym (c.push_end.ensures ∙ ap (λ (x : ReportOf g.row.T.Denot). record x { ends = x.ends ++ e ∷ [] }) c.put_events.ensures))
+    (one_done for serves terms may n c.args.notes.now c.args.report.now c.requires.so_far c.do_job-end.new.notes (record { reader = c.do_job-end.result.events.events; keeper = c.do_job-end.new.keeper.events }) e
+    c.do_job-end.ensures.remember c.requires.place.1 c.requires.free c.do_job-end.ensures.done)

@@ -1,0 +1,57 @@
+use Rattle.std.proofs.Common.{◌≡◌, ℕ, ◌+◌, refl, sym, subst, ◌∙◌, arith}
+use Rattle.race_core.specs.Consistent.{Replays}
+use Rattle.race_core.specs.Asking.{name_at, terms_of}
+use Rattle.lane_run.specs.Asked.{IsFor, terms_at}
+use Rattle.lane_run.specs.Done.{LaneSoFar}
+use Rattle.lane_run.proofs.Wholes.{lane_fresh, lane_replays}
+use Rattle.lane_run.proofs.lane.run_lane.Goals as goal
+
+pub loop-place-init : goal.loop-place-init
+loop-place-init g c =
+    let t = c.args.task.now in
+    record {
+      so_far = lane_fresh (IsFor g.T.Settled.problem g.T.Settled.job (g.M.Asks.problem t.makes.now) t.mode) (λ k. g.M.Makes.is_served t.makes.now c.args.report.now.lane (name_at t.mode k))
+          (λ k. terms_of g.T.Settled.job g.T.Settled.answer (terms_at t.mode t.limit k)) (g.C.Clock.may_read t.clock.now) c.args.notes.now c.args.report.now c.requires.fresh.0 c.requires.fresh.1;
+      remember = record { cells = refl; knows = λ place f h. h };
+      same = (refl, refl);
+      of = c.requires.notes;
+    }
+
+pub run_next-requires-clause-so_far : goal.run_next-requires-clause-so_far
+run_next-requires-clause-so_far g c κs within =
+    let t = c.args.task.now in
+    let l = c.loop-place in
+    subst (λ (lane : ℕ). LaneSoFar (IsFor g.T.Settled.problem g.T.Settled.job (g.M.Asks.problem t.makes.now) t.mode) (λ k. g.M.Makes.is_served t.makes.now lane (name_at t.mode k))
+    (λ k. terms_of g.T.Settled.job g.T.Settled.answer (terms_at t.mode t.limit k)) (g.C.Clock.may_read t.clock.now) l.place l.notes l.report)
+    (sym l.invariant.same.0) l.invariant.so_far
+
+pub loop-place-preserved : goal.loop-place-preserved
+loop-place-preserved g c =
+    let t = c.args.task.now in
+    let l = c.loop-place in
+    let e = c.run_next.ensures in
+    record {
+      so_far = subst (λ (lane : ℕ). LaneSoFar (IsFor g.T.Settled.problem g.T.Settled.job (g.M.Asks.problem t.makes.now) t.mode) (λ k. g.M.Makes.is_served t.makes.now lane (name_at t.mode k))
+          (λ k. terms_of g.T.Settled.job g.T.Settled.answer (terms_at t.mode t.limit k)) (g.C.Clock.may_read t.clock.now) (l.place + 1) c.run_next.new.notes c.run_next.new.report)
+          l.invariant.same.0 e.so_far;
+      remember = record { cells = e.remember.cells ∙ l.invariant.remember.cells; knows = λ place f h. e.remember.knows place f (l.invariant.remember.knows place f h) };
+      same = (e.same.0 ∙ l.invariant.same.0, e.same.1 ∙ l.invariant.same.1);
+      of = e.remember.cells ∙ l.invariant.of;
+    }
+
+pub returns-clause-replays : goal.returns-clause-replays
+returns-clause-replays g c =
+    let t = c.args.task.now in
+    let l = c.loop-place in
+    let at : l.place ≡ c.args.report.now.jobs = omega (c.loop-place-test.false, c.loop-place.auto.place-end, c.jobs-place-end.ensures.jobs, arith) in
+    subst (λ (n : ℕ). Replays (λ k. g.M.Makes.is_served t.makes.now c.args.report.now.lane (name_at t.mode k)) (λ k. terms_of g.T.Settled.job g.T.Settled.answer (terms_at t.mode t.limit k)) n l.report) at
+    (lane_replays (IsFor g.T.Settled.problem g.T.Settled.job (g.M.Asks.problem t.makes.now) t.mode) (λ k. g.M.Makes.is_served t.makes.now c.args.report.now.lane (name_at t.mode k))
+    (λ k. terms_of g.T.Settled.job g.T.Settled.answer (terms_at t.mode t.limit k)) (g.C.Clock.may_read t.clock.now) l.place l.notes l.report l.invariant.so_far (l.invariant.same.1 ∙ sym at))
+
+pub returns-clause-done : goal.returns-clause-done
+returns-clause-done g c =
+    let t = c.args.task.now in
+    let l = c.loop-place in
+    let at : l.place ≡ c.args.report.now.jobs = omega (c.loop-place-test.false, c.loop-place.auto.place-end, c.jobs-place-end.ensures.jobs, arith) in
+    subst (λ (n : ℕ). LaneSoFar (IsFor g.T.Settled.problem g.T.Settled.job (g.M.Asks.problem t.makes.now) t.mode) (λ k. g.M.Makes.is_served t.makes.now c.args.report.now.lane (name_at t.mode k))
+    (λ k. terms_of g.T.Settled.job g.T.Settled.answer (terms_at t.mode t.limit k)) (g.C.Clock.may_read t.clock.now) n l.notes l.report) at l.invariant.so_far

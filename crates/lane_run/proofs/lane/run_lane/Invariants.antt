@@ -1,0 +1,16 @@
+use Rattle.std.proofs.Common.{◌≡◌}
+use Rattle.race_cells.specs.Notes.{AreNotesOf}
+use Rattle.race_core.specs.Asking.{name_at, terms_of}
+use Rattle.lane_child.specs.Keeping.{Remember}
+use Rattle.lane_run.specs.Asked.{IsFor, terms_at}
+use Rattle.lane_run.specs.Done.{LaneSoFar}
+use Rattle.lane_run.proofs.lane.run_lane.Given as goal
+
+abbrev pub invariant-loop-place : goal.invariant-loop-place
+invariant-loop-place g l = record {
+  so_far : LaneSoFar (IsFor g.T.Settled.problem g.T.Settled.job (g.M.Asks.problem l.task.makes.now) l.task.mode) (λ k. g.M.Makes.is_served l.task.makes.now l.fn.report.lane (name_at l.task.mode k))
+      (λ k. terms_of g.T.Settled.job g.T.Settled.answer (terms_at l.task.mode l.task.limit k)) (g.C.Clock.may_read l.task.clock.now) l.place l.notes l.report;
+  remember : Remember l.fn.notes l.notes;
+  same : (l.report.lane ≡ l.fn.report.lane) × (l.report.jobs ≡ l.fn.report.jobs);
+  of : AreNotesOf l.task.cells.now l.notes;
+}

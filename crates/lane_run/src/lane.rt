@@ -1,0 +1,204 @@
+// A lane: its jobs, in their order.
+
+ghost use Rattle.std.specs.Prelude.{◌≡◌, ◌≢◌, ◌⊎◌, ℕ, ◌+◌, ◌<◌, ◌≤◌, [], ◌∷◌, ◌++◌, Some, length, replicate, set, slice_get, slice_index_or};
+ghost use Rattle.std.specs.Option.{MatchOption};
+ghost use Rattle.race_cells.specs.Notes.{AreNotesOf};
+ghost use Rattle.race_core.specs.Asking.{name_at, terms_of};
+ghost use Rattle.race_core.specs.Carrying.{KnewBy};
+ghost use Rattle.race_core.specs.Consistent.{Replays, end_at, events_at};
+ghost use Rattle.race_core.specs.Ends.{IsLast};
+ghost use Rattle.race_core.specs.Report.{no_events};
+ghost use Rattle.race_core.specs.declared.end.JobEnd.TheVariants as end;
+ghost use Rattle.race_core.specs.declared.event.LaneEvent.TheVariants as event;
+ghost use Rattle.lane_child.specs.Keeping.{Remember};
+ghost use Rattle.lane_run.specs.Asked.{IsFor, terms_at};
+ghost use Rattle.lane_run.specs.Done.{JobDone, LaneSoFar};
+
+use crate::passing::pass_job;
+use crate::task::{Task, other_cell};
+use lane_child::{Makes, Ran, Watch, run_child};
+use race_cells::Notes;
+use race_core::{EventList, JobEnd, Report, job_at};
+use sby_edge::{Clock, Launch};
+use sby_terms::Settled;
+use std::alloc::Global;
+use std::sync::Wait;
+use std::thread::Threads;
+
+// The next job, where no earlier end stops it. Answers its end, and its reader's events.
+fn do_job<R: Threads + Wait + Sync, L: Launch, M: Makes<T>, T: Settled + Drop + Send, C: Clock>(
+    rt: &R,
+    alloc: Global,
+    bay: &mut L,
+    task: &Task<'_, M, T, C>,
+    place: u32,
+    report: &Report<T>,
+    notes: &mut Notes<T>,
+    reader: EventList<T>,
+    keeper: &mut EventList<T>,
+) -> Ran<T>
+    requires place { (place < length task.now.cells.now) × (place < report.now.jobs) }
+    requires notes { AreNotesOf task.now.cells.now notes.old }
+    requires fresh { (reader.events ≡ []) × (keeper.old.events ≡ []) }
+    requires room { (1 ≤ reader.room) × (4 ≤ keeper.old.room) }
+    requires so_far { LaneSoFar (IsFor T.problem T.job (M.problem task.now.makes.now) task.now.mode) (λ k. M.is_served task.now.makes.now report.now.lane (name_at task.now.mode k))
+        (λ k. terms_of T.job T.answer (terms_at task.now.mode task.now.limit k)) (C.may_read task.now.clock.now) place notes.old report.now }
+    ensures done { JobDone (IsFor T.problem T.job (M.problem task.now.makes.now) task.now.mode) (M.is_served task.now.makes.now report.now.lane (name_at task.now.mode place))
+        (terms_of T.job T.answer (terms_at task.now.mode task.now.limit place)) (KnewBy (events_at report.now) place) (C.may_read task.now.clock.now) place notes.new
+        (record { reader = result.events.events; keeper = keeper.new.events }) result.end }
+    ensures remember { Remember notes.old notes.new }
+    ensures looked { keeper.new.events ≢ [] }
+{
+    let terms = task.terms(place);
+    let watch = Watch {
+        asks: task.makes,
+        cells: task.cells,
+        clock: task.clock,
+        terms: &terms,
+        other: other_cell(terms.job),
+    };
+    if task.makes.serves(report.lane(), terms.job) {
+        run_child(rt, alloc, bay, report.lane(), &watch, notes, reader, keeper)
+    } else {
+        Ran {
+            end: pass_job(&watch, report, notes, keeper),
+            events: reader,
+        }
+    }
+}
+
+// The end itself, where it ends the lane's work.
+fn lasting<T: Drop>(ended: &JobEnd<T>) -> Option<JobEnd<T>>
+    ensures { MatchOption result (IsLast ended.now → ⊥) (λ e. IsLast e × (e ≡ ended.now)) }
+{
+    match ended {
+        JobEnd::Stopped(reading) => Some(JobEnd::Stopped(*reading)),
+        JobEnd::Memory => Some(JobEnd::Memory),
+        _ => None,
+    }
+}
+
+// The last end, where it ends the lane's work.
+fn lasting_end<T: Drop>(ends: &[JobEnd<T>]) -> Option<JobEnd<T>>
+    ensures { MatchOption result ((l : ℕ) → l + 1 ≡ length ends.now → IsLast (slice_index_or ends.now l end.NotServed) → ⊥)
+        (λ e. (l : ℕ) × (l + 1 ≡ length ends.now) × IsLast e × (e ≡ slice_index_or ends.now l end.NotServed)) }
+{
+    match ends.last() {
+        None => None,
+        Some(ended) => lasting(ended),
+    }
+}
+
+// A job for whose lists memory is wanting.
+fn want_lists<M: Makes<T>, T: Settled + Drop, C: Clock>(
+    task: &Task<'_, M, T, C>,
+    place: u32,
+    report: &mut Report<T>,
+)
+    requires place { (place < report.old.jobs) × (length report.old.ends ≡ place) }
+    requires left { slice_get report.old.events place ≡ Some no_events }
+    ensures report { report.new ≡ record report.old { events = set report.old.events place (record { reader = []; keeper = event.KeeperMemory ∷ [] }); ends = report.old.ends ++ end.Memory ∷ [] } }
+    ensures served { M.is_served task.now.makes.now report.old.lane (name_at task.now.mode place) ⊎ (M.is_served task.now.makes.now report.old.lane (name_at task.now.mode place) → ⊥) }
+{
+    let _is_served = task.makes.serves(report.lane(), job_at(task.mode, place));
+    report.want_memory(place);
+    report.push_end(JobEnd::Memory);
+}
+
+// The next job, where no earlier end stops it.
+fn run_job<R: Threads + Wait + Sync, L: Launch, M: Makes<T>, T: Settled + Drop + Send, C: Clock>(
+    rt: &R,
+    alloc: Global,
+    bay: &mut L,
+    task: &Task<'_, M, T, C>,
+    place: u32,
+    report: &mut Report<T>,
+    notes: &mut Notes<T>,
+)
+    requires place { (place < length task.now.cells.now) × (place < report.old.jobs) }
+    requires notes { AreNotesOf task.now.cells.now notes.old }
+    requires so_far { LaneSoFar (IsFor T.problem T.job (M.problem task.now.makes.now) task.now.mode) (λ k. M.is_served task.now.makes.now report.old.lane (name_at task.now.mode k))
+        (λ k. terms_of T.job T.answer (terms_at task.now.mode task.now.limit k)) (C.may_read task.now.clock.now) place notes.old report.old }
+    requires free { (l : ℕ) → l < place → IsLast (end_at report.old l) → ⊥ }
+    ensures so_far { LaneSoFar (IsFor T.problem T.job (M.problem task.now.makes.now) task.now.mode) (λ k. M.is_served task.now.makes.now report.old.lane (name_at task.now.mode k))
+        (λ k. terms_of T.job T.answer (terms_at task.now.mode task.now.limit k)) (C.may_read task.now.clock.now) (place + 1) notes.new report.new }
+    ensures remember { Remember notes.old notes.new }
+    ensures same { (report.new.lane ≡ report.old.lane) × (report.new.jobs ≡ report.old.jobs) }
+{
+    let Ok(reader) = EventList::new(alloc, 1) else {
+        return want_lists(task, place, report);
+    };
+    let Ok(mut keeper) = EventList::new(alloc, 4) else {
+        return want_lists(task, place, report);
+    };
+    let Ran { end, events } = do_job(
+        rt,
+        alloc,
+        bay,
+        task,
+        place,
+        report,
+        notes,
+        reader,
+        &mut keeper,
+    );
+    report.put_events(place, events, keeper);
+    report.push_end(end);
+}
+
+// The next job: done, or behind an end that ended the lane's work.
+fn run_next<R: Threads + Wait + Sync, L: Launch, M: Makes<T>, T: Settled + Drop + Send, C: Clock>(
+    rt: &R,
+    alloc: Global,
+    bay: &mut L,
+    task: &Task<'_, M, T, C>,
+    place: u32,
+    report: &mut Report<T>,
+    notes: &mut Notes<T>,
+)
+    requires place { (place < length task.now.cells.now) × (place < report.old.jobs) }
+    requires notes { AreNotesOf task.now.cells.now notes.old }
+    requires so_far { LaneSoFar (IsFor T.problem T.job (M.problem task.now.makes.now) task.now.mode) (λ k. M.is_served task.now.makes.now report.old.lane (name_at task.now.mode k))
+        (λ k. terms_of T.job T.answer (terms_at task.now.mode task.now.limit k)) (C.may_read task.now.clock.now) place notes.old report.old }
+    ensures so_far { LaneSoFar (IsFor T.problem T.job (M.problem task.now.makes.now) task.now.mode) (λ k. M.is_served task.now.makes.now report.old.lane (name_at task.now.mode k))
+        (λ k. terms_of T.job T.answer (terms_at task.now.mode task.now.limit k)) (C.may_read task.now.clock.now) (place + 1) notes.new report.new }
+    ensures remember { Remember notes.old notes.new }
+    ensures same { (report.new.lane ≡ report.old.lane) × (report.new.jobs ≡ report.old.jobs) }
+{
+    match lasting_end(report.ends()) {
+        Some(end) => report.push_end(end),
+        None => run_job(rt, alloc, bay, task, place, report, notes),
+    }
+}
+
+/// Runs the jobs of a lane in their order. Each is skipped where a finding makes it needless, passed over where the lane's engine
+/// doesn't serve it, or started and run to its end, at most once; behind a reading that shows the limit, or want of memory, the later
+/// jobs end the same. The notes then know what the events say. Waits for the children.
+pub fn run_lane<
+    R: Threads + Wait + Sync,
+    L: Launch,
+    M: Makes<T>,
+    T: Settled + Drop + Send,
+    C: Clock,
+>(
+    rt: &R,
+    alloc: Global,
+    bay: &mut L,
+    task: &Task<'_, M, T, C>,
+    report: &mut Report<T>,
+    notes: &mut Notes<T>,
+)
+    requires jobs { report.old.jobs ≡ length task.now.cells.now }
+    requires fresh { (report.old.ends ≡ []) × (report.old.events ≡ replicate report.old.jobs no_events) }
+    requires notes { AreNotesOf task.now.cells.now notes.old }
+    ensures replays { Replays (λ k. M.is_served task.now.makes.now report.old.lane (name_at task.now.mode k))
+        (λ k. terms_of T.job T.answer (terms_at task.now.mode task.now.limit k)) report.old.jobs report.new }
+    ensures done { LaneSoFar (IsFor T.problem T.job (M.problem task.now.makes.now) task.now.mode) (λ k. M.is_served task.now.makes.now report.old.lane (name_at task.now.mode k))
+        (λ k. terms_of T.job T.answer (terms_at task.now.mode task.now.limit k)) (C.may_read task.now.clock.now) report.old.jobs notes.new report.new }
+    ensures remember { Remember notes.old notes.new }
+    ensures same { (report.new.lane ≡ report.old.lane) × (report.new.jobs ≡ report.old.jobs) }
+{
+    for place in 0..report.jobs() {
+        run_next(rt, alloc, bay, task, place, report, notes);
+    }
+}
