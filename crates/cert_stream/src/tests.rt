@@ -58,7 +58,9 @@ impl Receiver for Heard {
 }
 
 // A fault is told like a saying: B, L or M, and its byte; a stop by s.
-fn told(heard: &mut Heard, answer: Result<Fed, WireFault>) -> Result<bool, AllocError> {
+fn told(heard: &mut Heard, answer: Result<Fed, WireFault>) -> Result<bool, AllocError>
+    ensures { heard.new.vars ≡ heard.old.vars }
+{
     let (kind, number) = match answer {
         Ok(Fed::More) => return Ok(true),
         Ok(Fed::Stopped) => ('s', 0),

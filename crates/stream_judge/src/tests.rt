@@ -24,7 +24,26 @@ fn told(outcome: Outcome) -> (u8, u64) {
     }
 }
 
+// Whether a judge that came to its outcome answers it again.
+fn answers_again(judge: &mut StreamJudge, outcome: Outcome) -> Result<bool, AllocError> {
+    let fed = judge.feed(b"0\n")?;
+    let ended = judge.end()?;
+    Ok(fed == Some(outcome) && ended == outcome)
+}
+
 // What a judge answers to a stream in two pieces.
+fn outcome_of(judge: &mut StreamJudge, front: &[u8], back: &[u8]) -> Result<Outcome, AllocError> {
+    judge.feed(front)?;
+    judge.feed(back)?;
+    judge.end()
+}
+
+fn told_of(judge: &mut StreamJudge, front: &[u8], back: &[u8]) -> Result<(u8, u64), AllocError> {
+    let outcome = outcome_of(judge, front, back)?;
+    let again = answers_again(judge, outcome)?;
+    Ok(if again { told(outcome) } else { (0, 0) })
+}
+
 fn judged(
     alloc: Global,
     formula: &Formula,
@@ -36,15 +55,7 @@ fn judged(
     requires limit { most ≤ 2 ^ 32 }
 {
     let mut judge = StreamJudge::new(alloc, formula, StreamKind::Drup, most)?;
-    judge.feed(front)?;
-    judge.feed(back)?;
-    let outcome = judge.end()?;
-    let again = judge.feed(b"0\n")?;
-    if again == Some(outcome) && judge.end()? == outcome {
-        Ok(told(outcome))
-    } else {
-        Ok((0, 0))
-    }
+    told_of(&mut judge, front, back)
 }
 
 // Whether it answers so, however the stream is cut.
@@ -159,6 +170,11 @@ fn most_bytes_are_taken(rt: HostRuntime) -> Result<(), Fail> {
 }
 
 // Whether the values of a stream are these.
+fn values_are(judge: &mut StreamJudge, stream: &[u8], values: &[bool]) -> Result<bool, AllocError> {
+    let outcome = judge.feed(stream)?;
+    Ok(outcome == Some(Outcome::Satisfied) && judge.values() == values)
+}
+
 fn gives(
     alloc: Global,
     formula: &Formula,
@@ -166,8 +182,7 @@ fn gives(
     values: &[bool],
 ) -> Result<bool, AllocError> {
     let mut judge = StreamJudge::new(alloc, formula, StreamKind::Drup, 1000)?;
-    let outcome = judge.feed(stream)?;
-    Ok(outcome == Some(Outcome::Satisfied) && judge.values() == values)
+    values_are(&mut judge, stream, values)
 }
 
 #[test]
