@@ -1,0 +1,11 @@
+pub mod Lists
+pub mod Reading
+pub mod Opening
+pub mod Places
+pub mod Giving
+pub mod Following
+pub mod Framing
+pub mod Saying
+pub mod Choosing
+pub mod Filling
+pub mod Noding

@@ -1,0 +1,4 @@
+pub mod Frames
+pub mod Costs
+pub mod Rows
+pub mod Steps
