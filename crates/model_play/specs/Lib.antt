@@ -1,0 +1,4 @@
+pub mod Playing
+pub mod Packed
+pub mod Players
+pub mod Counter
