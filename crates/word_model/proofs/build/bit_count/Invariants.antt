@@ -1,0 +1,6 @@
+use Rattle.std.proofs.Common.{◌≡◌, ◌+◌, length, drop}
+use Rattle.design_signals.specs.Chunks.{bits_of}
+use Rattle.word_model.proofs.build.bit_count.Given as goal
+
+abbrev pub invariant-loop-chunk : goal.invariant-loop-chunk
+invariant-loop-chunk l = l.count + length (bits_of (drop l.chunk-index l.chunks)) ≡ length (bits_of l.chunks)
