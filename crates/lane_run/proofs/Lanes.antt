@@ -143,7 +143,7 @@ look_shows c f (event.Gave ∷ es) zero lt is = absurd cc
 look_shows c f (event.Gave ∷ es) (suc k) lt is = look_shows c f es k (omega (lt, arith)) is
 
 -- more is known: by the notes, and by the lane's jobs the same
-done_more : {T : Type 0} (For : ℕ → T → Type 0) (serves : Type 0) (a : Terms T) (K K' : T → Type 0) (may_read : ℕ → Type 0) (place : ℕ) (notes notes' : List (NoteOf T))
+pub done_more : {T : Type 0} (For : ℕ → T → Type 0) (serves : Type 0) (a : Terms T) (K K' : T → Type 0) (may_read : ℕ → Type 0) (place : ℕ) (notes notes' : List (NoteOf T))
     (es : EventsOf T) (e : JobEnd T) → ((f : T) → K f → K' f) → ((f : T) → K' f → K f) → Remember notes notes'
     → JobDone For serves a K may_read place notes es e → JobDone For serves a K' may_read place notes' es e
 done_more {T} For serves a K K' may_read place notes notes' es e there back remember d = record {

@@ -1,4 +1,7 @@
+pub mod Faults
+pub mod Gathered
 pub mod Jobs
+pub mod Joins
 pub mod Lanes
 pub mod Nones
 pub mod Races

@@ -1,5 +1,6 @@
 -- What a lane has done of its jobs.
 use Rattle.std.specs.Prelude.{◌≡◌, ◌⊎◌, ℕ, ◌<◌, ◌≤◌, List, ◌∷◌, ◌++◌, length, Some, Contains}
+use Rattle.sby_edge.specs.Cause.{CountsOf, Rose}
 use Rattle.race_cells.specs.Notes.{NoteOf, known_at}
 use Rattle.race_core.specs.Carrying.{Carries, KnewBy, Looked}
 use Rattle.race_core.specs.Consistent.{Replayed, end_at, events_at}
@@ -46,3 +47,15 @@ pub record LaneSoFar {T : Type 0} (For : ℕ → T → Type 0) (serves : ℕ →
   pub each : (j : ℕ) → j < n
       → (((l : ℕ) → l < j → IsLast (end_at r l) → ⊥) × JobDone For (serves j) (terms j) (KnewBy (events_at r) j) may_read j notes (events_at r j) (end_at r j))
       ⊎ CameLate r j
+
+-- the counts of failed calls between two moments: none fell, and an end that tells of a failed call comes only where its count rose
+pub record JobFaults {T : Type 0} (before now : CountsOf) (e : JobEnd T) : Type 0 where
+  pub later : (before.starts ≤ now.starts) × (before.reads ≤ now.reads) × (before.holds ≤ now.holds)
+  pub start : e ≡ end.StartFailed → Rose before.starts now.starts
+  pub read : e ≡ end.ReadFailed → Rose before.reads now.reads
+  pub hold : e ≡ end.HoldFailed → Rose before.holds now.holds
+
+-- the same of the ends of a lane's first jobs
+pub record LaneFaults {T : Type 0} (before now : CountsOf) (n : ℕ) (r : ReportOf T) : Type 0 where
+  pub later : (before.starts ≤ now.starts) × (before.reads ≤ now.reads) × (before.holds ≤ now.holds)
+  pub each : (j : ℕ) → j < n → JobFaults before now (end_at r j)

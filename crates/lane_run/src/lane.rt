@@ -12,7 +12,8 @@ ghost use Rattle.race_core.specs.declared.end.JobEnd.TheVariants as end;
 ghost use Rattle.race_core.specs.declared.event.LaneEvent.TheVariants as event;
 ghost use Rattle.lane_child.specs.Keeping.{Remember};
 ghost use Rattle.lane_run.specs.Asked.{IsFor, terms_at};
-ghost use Rattle.lane_run.specs.Done.{JobDone, LaneSoFar};
+ghost use Rattle.race_core.specs.declared.end.JobEnd.{JobEnd};
+ghost use Rattle.lane_run.specs.Done.{JobDone, JobFaults, LaneFaults, LaneSoFar};
 
 use crate::passing::pass_job;
 use crate::task::{Task, other_cell};
@@ -48,6 +49,7 @@ fn do_job<R: Threads + Wait + Sync, L: Launch, M: Makes<T>, T: Settled + Drop + 
         (record { reader = result.events.events; keeper = keeper.new.events }) result.end }
     ensures remember { Remember notes.old notes.new }
     ensures looked { keeper.new.events ≢ [] }
+    ensures faults { JobFaults (record { starts = L.start_faults bay.old; reads = L.read_faults bay.old; holds = L.hold_faults bay.old }) (record { starts = L.start_faults bay.new; reads = L.read_faults bay.new; holds = L.hold_faults bay.new }) result.end }
 {
     let terms = task.terms(place);
     let watch = Watch {
@@ -124,6 +126,7 @@ fn run_job<R: Threads + Wait + Sync, L: Launch, M: Makes<T>, T: Settled + Drop +
         (λ k. terms_of T.job T.answer (terms_at task.now.mode task.now.limit k)) (C.may_read task.now.clock.now) (place + 1) notes.new report.new }
     ensures remember { Remember notes.old notes.new }
     ensures same { (report.new.lane ≡ report.old.lane) × (report.new.jobs ≡ report.old.jobs) }
+    ensures faults { (e : JobEnd T) × (report.new.ends ≡ report.old.ends ++ e ∷ []) × JobFaults (record { starts = L.start_faults bay.old; reads = L.read_faults bay.old; holds = L.hold_faults bay.old }) (record { starts = L.start_faults bay.new; reads = L.read_faults bay.new; holds = L.hold_faults bay.new }) e }
 {
     let Ok(reader) = EventList::new(alloc, 1) else {
         return want_lists(task, place, report);
@@ -164,6 +167,7 @@ fn run_next<R: Threads + Wait + Sync, L: Launch, M: Makes<T>, T: Settled + Drop 
         (λ k. terms_of T.job T.answer (terms_at task.now.mode task.now.limit k)) (C.may_read task.now.clock.now) (place + 1) notes.new report.new }
     ensures remember { Remember notes.old notes.new }
     ensures same { (report.new.lane ≡ report.old.lane) × (report.new.jobs ≡ report.old.jobs) }
+    ensures faults { (e : JobEnd T) × (report.new.ends ≡ report.old.ends ++ e ∷ []) × JobFaults (record { starts = L.start_faults bay.old; reads = L.read_faults bay.old; holds = L.hold_faults bay.old }) (record { starts = L.start_faults bay.new; reads = L.read_faults bay.new; holds = L.hold_faults bay.new }) e }
 {
     match lasting_end(report.ends()) {
         Some(end) => report.push_end(end),
@@ -172,8 +176,9 @@ fn run_next<R: Threads + Wait + Sync, L: Launch, M: Makes<T>, T: Settled + Drop 
 }
 
 /// Runs the jobs of a lane in their order. Each is skipped where a finding makes it needless, passed over where the lane's engine
-/// doesn't serve it, or started and run to its end, at most once; behind a reading that shows the limit, or want of memory, the later
-/// jobs end the same. The notes then know what the events say. Waits for the children.
+/// doesn't serve it, or started and run to its end; behind a reading that shows the limit, or want of memory, the later
+/// jobs end the same. The notes then know what the events say; an end that tells of a failed call comes only where the bay's count of
+/// such calls rose. Waits for the children.
 pub fn run_lane<
     R: Threads + Wait + Sync,
     L: Launch,
@@ -197,6 +202,7 @@ pub fn run_lane<
         (λ k. terms_of T.job T.answer (terms_at task.now.mode task.now.limit k)) (C.may_read task.now.clock.now) report.old.jobs notes.new report.new }
     ensures remember { Remember notes.old notes.new }
     ensures same { (report.new.lane ≡ report.old.lane) × (report.new.jobs ≡ report.old.jobs) }
+    ensures faults { LaneFaults (record { starts = L.start_faults bay.old; reads = L.read_faults bay.old; holds = L.hold_faults bay.old }) (record { starts = L.start_faults bay.new; reads = L.read_faults bay.new; holds = L.hold_faults bay.new }) report.old.jobs report.new }
 {
     for place in 0..report.jobs() {
         run_next(rt, alloc, bay, task, place, report, notes);

@@ -8,6 +8,7 @@ use Rattle.lane_run.specs.Asked.{IsFor, terms_at}
 use Rattle.lane_run.specs.Done.{JobDone, KnownIn}
 use Rattle.lane_run.proofs.Jobs.{passed_done, served_done}
 use Rattle.lane_run.proofs.Lanes.{known_for, known_knew, knew_known}
+use Rattle.lane_run.proofs.Faults.{none_failed}
 use Rattle.lane_run.proofs.lane.do_job.Goals as goal
 
 pub returns-then-serves-clause-done : goal.returns-then-serves-clause-done
@@ -43,3 +44,13 @@ returns-else-serves-clause-done g c =
     (λ f h. knew_known for serves terms may n c.args.notes.now r c.requires.so_far few f h)
     (λ f h. known_for for serves terms may n c.args.notes.now r c.requires.so_far f h)
     (record { ended = e.end; right_keeper = e.right; keeps = e.keeps }))
+
+pub returns-then-serves-clause-faults : goal.returns-then-serves-clause-faults
+returns-then-serves-clause-faults g c =
+    let e = c.run_child.ensures in
+    record { later = e.later; start = e.start_failed; read = e.read_failed; hold = e.hold_failed }
+
+pub returns-else-serves-clause-faults : goal.returns-else-serves-clause-faults
+returns-else-serves-clause-faults g c =
+    let L = g.L.Launch in
+    none_failed (record { starts = L.start_faults c.args.bay.now; reads = L.read_faults c.args.bay.now; holds = L.hold_faults c.args.bay.now }) c.pass_job.result c.pass_job.ensures.no_start

@@ -9,6 +9,7 @@ use Rattle.lane_run.specs.Asked.{IsFor, terms_at}
 use Rattle.lane_run.specs.Done.{LaneSoFar}
 use Rattle.lane_run.proofs.Lanes.{one_done}
 use Rattle.lane_run.proofs.Wholes.{next_fresh, want_done}
+use Rattle.lane_run.proofs.Faults.{none_failed}
 use Rattle.lane_run.proofs.lane.run_job.Goals as goal
 
 pub returns-in_default-clause-so_far : goal.returns-in_default-clause-so_far
@@ -58,3 +59,24 @@ returns-clause-so_far g c =
     (sym (c.push_end.ensures ∙ ap (λ (x : ReportOf g.row.T.Denot). record x { ends = x.ends ++ e ∷ [] }) c.put_events.ensures))
     (one_done for serves terms may n c.args.notes.now c.args.report.now c.requires.so_far c.do_job-end.new.notes (record { reader = c.do_job-end.result.events.events; keeper = c.do_job-end.new.keeper.events }) e
     c.do_job-end.ensures.remember c.requires.place.1 c.requires.free c.do_job-end.ensures.done)
+
+pub returns-in_default-clause-faults : goal.returns-in_default-clause-faults
+returns-in_default-clause-faults g c =
+    let L = g.L.Launch in (
+      end.Memory,
+      ap (λ (x : ReportOf g.row.T.Denot). x.ends) c.want_lists.ensures.report,
+      none_failed (record { starts = L.start_faults c.args.bay.now; reads = L.read_faults c.args.bay.now; holds = L.hold_faults c.args.bay.now }) end.Memory tt,
+    )
+
+pub returns-in_default-new-clause-faults : goal.returns-in_default-new-clause-faults
+returns-in_default-new-clause-faults g c =
+    let L = g.L.Launch in (
+      end.Memory,
+      ap (λ (x : ReportOf g.row.T.Denot). x.ends) c.want_lists-in_default-new.ensures.report,
+      none_failed (record { starts = L.start_faults c.args.bay.now; reads = L.read_faults c.args.bay.now; holds = L.hold_faults c.args.bay.now }) end.Memory tt,
+    )
+
+pub returns-clause-faults : goal.returns-clause-faults
+returns-clause-faults g c =
+    let e = c.do_job-end.result.end in
+    (e, ap (λ (x : ReportOf g.row.T.Denot). x.ends) (c.push_end.ensures ∙ ap (λ (x : ReportOf g.row.T.Denot). record x { ends = x.ends ++ e ∷ [] }) c.put_events.ensures), c.do_job-end.ensures.faults)

@@ -2,8 +2,9 @@ use Rattle.std.proofs.Common.{◌≡◌, ℕ, ◌+◌, refl, sym, subst, ◌∙�
 use Rattle.race_core.specs.Consistent.{Replays}
 use Rattle.race_core.specs.Asking.{name_at, terms_of}
 use Rattle.lane_run.specs.Asked.{IsFor, terms_at}
-use Rattle.lane_run.specs.Done.{LaneSoFar}
+use Rattle.lane_run.specs.Done.{LaneFaults, LaneSoFar}
 use Rattle.lane_run.proofs.Wholes.{lane_fresh, lane_replays}
+use Rattle.lane_run.proofs.Faults.{faults_more}
 use Rattle.lane_run.proofs.lane.run_lane.Goals as goal
 
 pub loop-place-init : goal.loop-place-init
@@ -14,6 +15,7 @@ loop-place-init g c =
           (λ k. terms_of g.T.Settled.job g.T.Settled.answer (terms_at t.mode t.limit k)) (g.C.Clock.may_read t.clock.now) c.args.notes.now c.args.report.now c.requires.fresh.0 c.requires.fresh.1;
       remember = record { cells = refl; knows = λ place f h. h };
       same = (refl, refl);
+      faults = record { later = (omega arith, omega arith, omega arith); each = λ j lt. absurd (omega (lt, arith)) };
       of = c.requires.notes;
     }
 
@@ -36,6 +38,8 @@ loop-place-preserved g c =
           l.invariant.same.0 e.so_far;
       remember = record { cells = e.remember.cells ∙ l.invariant.remember.cells; knows = λ place f h. e.remember.knows place f (l.invariant.remember.knows place f h) };
       same = (e.same.0 ∙ l.invariant.same.0, e.same.1 ∙ l.invariant.same.1);
+      faults = faults_more (record { starts = g.L.Launch.start_faults c.args.bay.now; reads = g.L.Launch.read_faults c.args.bay.now; holds = g.L.Launch.hold_faults c.args.bay.now }) (record { starts = g.L.Launch.start_faults l.bay; reads = g.L.Launch.read_faults l.bay; holds = g.L.Launch.hold_faults l.bay }) (record { starts = g.L.Launch.start_faults c.run_next.new.bay; reads = g.L.Launch.read_faults c.run_next.new.bay; holds = g.L.Launch.hold_faults c.run_next.new.bay })
+          l.place l.report c.run_next.new.report e.faults.0 l.invariant.faults l.invariant.so_far.ends e.faults.1 e.faults.2;
       of = e.remember.cells ∙ l.invariant.of;
     }
 
@@ -55,3 +59,9 @@ returns-clause-done g c =
     let at : l.place ≡ c.args.report.now.jobs = omega (c.loop-place-test.false, c.loop-place.auto.place-end, c.jobs-place-end.ensures.jobs, arith) in
     subst (λ (n : ℕ). LaneSoFar (IsFor g.T.Settled.problem g.T.Settled.job (g.M.Asks.problem t.makes.now) t.mode) (λ k. g.M.Makes.is_served t.makes.now c.args.report.now.lane (name_at t.mode k))
     (λ k. terms_of g.T.Settled.job g.T.Settled.answer (terms_at t.mode t.limit k)) (g.C.Clock.may_read t.clock.now) n l.notes l.report) at l.invariant.so_far
+
+pub returns-clause-faults : goal.returns-clause-faults
+returns-clause-faults g c =
+    let l = c.loop-place in
+    let at : l.place ≡ c.args.report.now.jobs = omega (c.loop-place-test.false, c.loop-place.auto.place-end, c.jobs-place-end.ensures.jobs, arith) in
+    subst (λ (n : ℕ). LaneFaults (record { starts = g.L.Launch.start_faults c.args.bay.now; reads = g.L.Launch.read_faults c.args.bay.now; holds = g.L.Launch.hold_faults c.args.bay.now }) (record { starts = g.L.Launch.start_faults l.bay; reads = g.L.Launch.read_faults l.bay; holds = g.L.Launch.hold_faults l.bay }) n l.report) at l.invariant.faults

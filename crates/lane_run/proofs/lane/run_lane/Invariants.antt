@@ -3,7 +3,7 @@ use Rattle.race_cells.specs.Notes.{AreNotesOf}
 use Rattle.race_core.specs.Asking.{name_at, terms_of}
 use Rattle.lane_child.specs.Keeping.{Remember}
 use Rattle.lane_run.specs.Asked.{IsFor, terms_at}
-use Rattle.lane_run.specs.Done.{LaneSoFar}
+use Rattle.lane_run.specs.Done.{LaneFaults, LaneSoFar}
 use Rattle.lane_run.proofs.lane.run_lane.Given as goal
 
 abbrev pub invariant-loop-place : goal.invariant-loop-place
@@ -12,5 +12,7 @@ invariant-loop-place g l = record {
       (λ k. terms_of g.T.Settled.job g.T.Settled.answer (terms_at l.task.mode l.task.limit k)) (g.C.Clock.may_read l.task.clock.now) l.place l.notes l.report;
   remember : Remember l.fn.notes l.notes;
   same : (l.report.lane ≡ l.fn.report.lane) × (l.report.jobs ≡ l.fn.report.jobs);
+  faults : LaneFaults (record { starts = g.L.Launch.start_faults l.fn.bay; reads = g.L.Launch.read_faults l.fn.bay; holds = g.L.Launch.hold_faults l.fn.bay })
+      (record { starts = g.L.Launch.start_faults l.bay; reads = g.L.Launch.read_faults l.bay; holds = g.L.Launch.hold_faults l.bay }) l.place l.report;
   of : AreNotesOf l.task.cells.now l.notes;
 }

@@ -1,4 +1,4 @@
-use Rattle.std.proofs.Common.{ℕ, ◌+◌, ◌<◌, sym, subst, arith}
+use Rattle.std.proofs.Common.{ℕ, ◌+◌, ◌<◌, sym, ap, subst, arith}
 use Rattle.race_core.specs.Asking.{name_at, terms_of}
 use Rattle.race_core.specs.Ends.{IsLast}
 use Rattle.race_core.specs.Report.{ReportOf}
@@ -6,6 +6,7 @@ use Rattle.race_core.specs.declared.end.JobEnd.{JobEnd}
 use Rattle.lane_run.specs.Asked.{IsFor, terms_at}
 use Rattle.lane_run.specs.Done.{LaneSoFar}
 use Rattle.lane_run.proofs.Lanes.{none_last, one_late}
+use Rattle.lane_run.proofs.Faults.{late_failed}
 use Rattle.lane_run.proofs.lane.run_next.Goals as goal
 
 pub returns-in-Some-clause-so_far : goal.returns-in-Some-clause-so_far
@@ -29,3 +30,12 @@ run_job-requires-clause-free g c κs within =
     λ l lt last. none_last (IsFor g.T.Settled.problem g.T.Settled.job (g.M.Asks.problem t.makes.now) t.mode) (λ k. g.M.Makes.is_served t.makes.now c.args.report.now.lane (name_at t.mode k))
     (λ k. terms_of g.T.Settled.job g.T.Settled.answer (terms_at t.mode t.limit k)) (g.C.Clock.may_read t.clock.now) c.args.place c.args.notes.now c.args.report.now c.requires.so_far
     (λ k is lasts. x k (omega (is, ends, arith)) lasts) l lt last
+
+pub returns-in-Some-clause-faults : goal.returns-in-Some-clause-faults
+returns-in-Some-clause-faults g c =
+    let L = g.L.Launch in
+    let x = rw c.ends.ensures at c.in-Some.ensures in (
+      c.in-Some.end,
+      ap (λ (y : ReportOf g.row.T.Denot). y.ends) c.push_end.ensures,
+      late_failed (record { starts = L.start_faults c.args.bay.now; reads = L.read_faults c.args.bay.now; holds = L.hold_faults c.args.bay.now }) c.in-Some.end x.2,
+    )

@@ -1,0 +1,53 @@
+// What the lanes of a race leave.
+
+ghost use Rattle.std.specs.Prelude.{◌≡◌, ◌+◌, ◌<◌, ◌≤◌, All, List, ◌∷◌, ◌++◌, [], length, map, vec_capacity};
+ghost use Rattle.lane_child.specs.Keeping.{Remember};
+
+use crate::racing::Lane;
+use race_cells::Notes;
+use race_core::Report;
+
+/// What the lanes of a race leave, in their order, and a note that knows what theirs knew.
+#[derive(Drop)]
+pub struct Raced<L, T> {
+    pub bays: Vec<L>,
+    pub reports: Vec<Report<T>>,
+    pub notes: Notes<T>,
+}
+
+// Adds what a lane leaves.
+fn take_in<L: Drop, T: Drop>(lane: Lane<L, T>, raced: &mut Raced<L, T>)
+    requires cells { map (λ n. n.cell) lane.notes ≡ map (λ n. n.cell) raced.old.notes }
+    requires bays { length raced.old.bays.items < vec_capacity raced.old.bays }
+    requires reports { length raced.old.reports.items < vec_capacity raced.old.reports }
+    ensures bays { raced.new.bays.items ≡ raced.old.bays.items ++ lane.bay ∷ [] }
+    ensures reports { raced.new.reports.items ≡ raced.old.reports.items ++ lane.report ∷ [] }
+    ensures notes { Remember raced.old.notes raced.new.notes × Remember lane.notes raced.new.notes }
+    ensures room { (vec_capacity raced.old.bays ≤ vec_capacity raced.new.bays) × (vec_capacity raced.old.reports ≤ vec_capacity raced.new.reports) }
+{
+    let Lane { bay, report, notes } = lane;
+    raced.notes.join(notes);
+    match raced.bays.push(bay) {
+        Ok(()) => {}
+        Err(_) => unreachable!(),
+    }
+    match raced.reports.push(report) {
+        Ok(()) => {}
+        Err(_) => unreachable!(),
+    }
+}
+
+// What the lanes leave. There is room for all.
+pub(crate) fn gather<L: Drop, T: Drop>(lanes: Vec<Lane<L, T>>, raced: &mut Raced<L, T>)
+    requires fresh { (raced.old.bays.items ≡ []) × (raced.old.reports.items ≡ []) }
+    requires cells { All (λ l. map (λ n. n.cell) l.notes ≡ map (λ n. n.cell) raced.old.notes) lanes.items }
+    requires bays { length lanes.items ≤ vec_capacity raced.old.bays }
+    requires reports { length lanes.items ≤ vec_capacity raced.old.reports }
+    ensures bays { raced.new.bays.items ≡ map (λ l. l.bay) lanes.items }
+    ensures reports { raced.new.reports.items ≡ map (λ l. l.report) lanes.items }
+    ensures notes { All (λ l. Remember l.notes raced.new.notes) lanes.items }
+{
+    for lane in lanes {
+        take_in(lane, raced);
+    }
+}
