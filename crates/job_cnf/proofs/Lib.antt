@@ -1,0 +1,11 @@
+pub mod Tables
+pub mod Places
+pub mod Watching
+pub mod Opening
+pub mod Unrolling
+pub mod Costing
+pub mod Solving
+pub mod Ending
+pub mod Origins
+pub mod Rows
+pub mod Whole

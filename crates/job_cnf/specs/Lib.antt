@@ -1,0 +1,4 @@
+pub mod Jobs
+pub mod Decoding
+pub mod Encoding
+pub mod Unrolling
