@@ -89,9 +89,11 @@ fn built(alloc: Global, flat: &Flat) -> Result<Draft, AllocError>
     Ok(draft)
 }
 
-/// The model of a flat design: its bits, kept rows and constants by places, and its cycles and runs both ways.
+/// The model of a flat design: its bits, kept rows and constants by places, and its cycles and runs both ways. It has one node for each
+/// combinational cell, each register with an asynchronous reset and each bit of a connect, and one register for each cell with a state.
 pub fn build(alloc: Global, flat: &Flat) -> Result<WordModel, AllocError>
-    ensures { IfOk result (λ m. IsModelOf flat.now m) }
+    ensures model { IfOk result (λ m. IsModelOf flat.now m) }
+    ensures built { IfOk result (λ m. (order : List Driver) × IsOrder flat.now order × IsBuilt flat.now order m) }
 {
     let draft = built(alloc, flat)?;
     Ok(draft.finish())

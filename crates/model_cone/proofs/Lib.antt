@@ -1,0 +1,12 @@
+pub mod Marks
+pub mod Reading
+pub mod Giving
+pub mod Coning
+pub mod Filling
+pub mod Growing
+pub mod Counting
+pub mod Slicing
+pub mod Closing
+pub mod Digits
+pub mod Windows
+pub mod Claims

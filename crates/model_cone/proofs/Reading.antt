@@ -1,0 +1,208 @@
+-- The places that are read, and that they are marked.
+use Rattle.std.proofs.Common.{◌≡◌, ◌⊎◌, inl, inr, ℕ, zero, suc, ◌+◌, ◌<◌, ◌≤◌, Bool, List, [], ◌∷◌, ◌++◌, Some, length, take, get_or, refl, sym, subst, ◌∙◌, arith}
+use Rattle.std.specs.Prelude.{Contains, slice_get}
+use Rattle.std.specs.List.{flat_map}
+use Rattle.std.proofs.lemmas.List.Elements.{Contains-append_cases, Contains-append_left, Contains-append_right}
+use Rattle.std.proofs.lemmas.Option.{same_Some, slice_get_within}
+use Rattle.model_core.specs.Served.{IsModel}
+use Rattle.model_core.specs.Shape.{AreBelow, IsRegister, ModelOf, NodeOf, RegisterOf, reads, states}
+use Rattle.model_core.specs.declared.model.Statement.{Statement}
+use Rattle.model_core.proofs.Frames.{gives_below, open_source, reads_below, source_below}
+use Rattle.model_core.proofs.Lists.{all_at, all_from, contained_at}
+use Rattle.model_cone.specs.declared.asked.Asked.{Asked}
+use Rattle.model_cone.specs.declared.asked.Asked.TheVariants.{Cover}
+use Rattle.model_cone.specs.declared.givers.Giver.TheVariants.{Node, Register}
+use Rattle.model_cone.specs.Cone.{IsRoot, register_reads}
+use Rattle.model_cone.specs.Marking.{IsAskedPlace, IsPlaceOf, IsReadBy, Spreads}
+use Rattle.model_cone.proofs.Marks.{more-from, more-to, spread-as, spread-then}
+
+pub below-from : (size : ℕ) (ps : List ℕ) → ((p : ℕ) → Contains ps p → p < size) → AreBelow size ps
+below-from size ps h = all_from (λ p. p < size) ps (λ k p e. h p (contained_at ps p k e))
+
+-- places that decide a register
+pub part-q : (r : RegisterOf) (p : ℕ) → Contains r.q p → Contains (register_reads r) p
+part-q r p h = Contains-append_left r.q _ p h
+
+module _ (m : ModelOf) (is : IsModel m) where
+  pub zero-below : m.zero < m.size
+  zero-below = source_below m is m.zero (0, omega arith, refl)
+
+  pub one-below : suc m.zero < m.size
+  one-below = source_below m is (suc m.zero) (1, omega arith, refl)
+
+  pub a-below : (i : ℕ) (n : NodeOf) → slice_get m.nodes i ≡ Some n → AreBelow m.size n.a
+  a-below i n e = below-from m.size n.a (λ p h. reads_below m is i n e p (Contains-append_left n.a (n.b ++ n.s) p h))
+
+  pub b-below : (i : ℕ) (n : NodeOf) → slice_get m.nodes i ≡ Some n → AreBelow m.size n.b
+  b-below i n e = below-from m.size n.b (λ p h. reads_below m is i n e p (Contains-append_right n.a (n.b ++ n.s) p (Contains-append_left n.b n.s p h)))
+
+  pub s-below : (i : ℕ) (n : NodeOf) → slice_get m.nodes i ≡ Some n → AreBelow m.size n.s
+  s-below i n e = below-from m.size n.s (λ p h. reads_below m is i n e p (Contains-append_right n.a (n.b ++ n.s) p (Contains-append_right n.b n.s p h)))
+
+  pub y-below : (i : ℕ) (n : NodeOf) → slice_get m.nodes i ≡ Some n → AreBelow m.size n.y
+  y-below i n e = below-from m.size n.y (λ p h. gives_below m is i n e p h)
+
+  pub register-is : (i : ℕ) (r : RegisterOf) → slice_get m.registers i ≡ Some r → IsRegister m.size r
+  register-is i r e = all_at (IsRegister m.size) m.registers i r is.registers e
+
+  pub in-states : (i : ℕ) (r : RegisterOf) (p : ℕ) → slice_get m.registers i ≡ Some r → Contains r.q p → Contains (states m) p
+  in-states i r p g h = by m.registers i g
+    where
+      by : (rs : List RegisterOf) (i : ℕ) → slice_get rs i ≡ Some r → Contains (flat_map (λ (k : RegisterOf). k.q) rs) p
+      by [] i g = absurd cc
+      by (k ∷ rs) zero g = let z : r ≡ k = cc in Contains-append_left k.q _ p (subst (λ (n : RegisterOf). Contains n.q p) z h)
+      by (k ∷ rs) (suc i) g = Contains-append_right k.q _ p (by rs i g)
+
+  pub q-below : (i : ℕ) (r : RegisterOf) → slice_get m.registers i ≡ Some r → AreBelow m.size r.q
+  q-below i r e = below-from m.size r.q (λ p h. source_below m is p (open_source m is p (Contains-append_left (states m) m.inputs p (in-states i r p e h))))
+
+-- what a node reads is at its A, B and S
+pub node-spread : (m : ModelOf) (i : ℕ) (n : NodeOf) → slice_get m.nodes i ≡ Some n → (a b s : List ℕ) → a ≡ n.a → b ≡ n.b → s ≡ n.s → (marks more : List Bool) (stack waiting : List ℕ)
+    → Spreads (λ p. (Contains a p ⊎ Contains b p) ⊎ Contains s p) marks stack more waiting → Spreads (IsReadBy m (Node i)) marks stack more waiting
+node-spread m i n e a b s ea eb es marks more stack waiting h = spread-as (λ p. (Contains a p ⊎ Contains b p) ⊎ Contains s p) (IsReadBy m (Node i)) marks more stack waiting to from h
+  where
+    to : (p : ℕ) → (Contains a p ⊎ Contains b p) ⊎ Contains s p → IsReadBy m (Node i) p
+    to p g = (
+      n,
+      e,
+      elim g as (λ _. Contains (reads n) p) [
+        | inl f ↦ elim f as (λ _. Contains (reads n) p) [
+          | inl x ↦ Contains-append_left n.a (n.b ++ n.s) p (subst (λ (ps : List ℕ). Contains ps p) ea x)
+          | inr x ↦ Contains-append_right n.a (n.b ++ n.s) p (Contains-append_left n.b n.s p (subst (λ (ps : List ℕ). Contains ps p) eb x))
+        ]
+        | inr x ↦ Contains-append_right n.a (n.b ++ n.s) p (Contains-append_right n.b n.s p (subst (λ (ps : List ℕ). Contains ps p) es x))
+      ],
+    )
+
+    from-n : (p : ℕ) → Contains (reads n) p → (Contains a p ⊎ Contains b p) ⊎ Contains s p
+    from-n p g =
+        elim (Contains-append_cases n.a (n.b ++ n.s) p g) as (λ _. (Contains a p ⊎ Contains b p) ⊎ Contains s p) [
+          | inl x ↦ inl (inl (subst (λ (ps : List ℕ). Contains ps p) (sym ea) x))
+          | inr f ↦ elim (Contains-append_cases n.b n.s p f) as (λ _. (Contains a p ⊎ Contains b p) ⊎ Contains s p) [
+            | inl x ↦ inl (inr (subst (λ (ps : List ℕ). Contains ps p) (sym eb) x))
+            | inr x ↦ inr (subst (λ (ps : List ℕ). Contains ps p) (sym es) x)
+          ]
+        ]
+
+    from : (p : ℕ) → IsReadBy m (Node i) p → (Contains a p ⊎ Contains b p) ⊎ Contains s p
+    from p g =
+        let same : n ≡ g.0 = same_Some n g.0 (sym e ∙ g.1) in
+        from-n p (subst (λ (k : NodeOf). Contains (reads k) p) (sym same) g.2)
+
+-- what decides a register's next row is at its q, d and value, and its control bits
+pub register-spread : (m : ModelOf) (i : ℕ) (r : RegisterOf) → slice_get m.registers i ≡ Some r → (q d v : List ℕ) (x y : ℕ) → q ≡ r.q → d ≡ r.d → v ≡ r.value → x ≡ r.enable.place → y ≡ r.reset.place
+    → (marks more : List Bool) (stack waiting : List ℕ) → Spreads (λ p. (((Contains q p ⊎ Contains d p) ⊎ Contains v p) ⊎ (p ≡ x)) ⊎ (p ≡ y)) marks stack more waiting
+    → Spreads (IsReadBy m (Register i)) marks stack more waiting
+register-spread m i r e q d v x y eq ed ev ex ey marks more stack waiting h =
+    spread-as (λ p. (((Contains q p ⊎ Contains d p) ⊎ Contains v p) ⊎ (p ≡ x)) ⊎ (p ≡ y)) (IsReadBy m (Register i)) marks more stack waiting (λ p g. (r, e, to p g)) from h
+  where
+    to : (p : ℕ) → (((Contains q p ⊎ Contains d p) ⊎ Contains v p) ⊎ (p ≡ x)) ⊎ (p ≡ y) → Contains (register_reads r) p
+    to p g =
+        let tail : List ℕ = r.value ++ (r.enable.place ∷ r.reset.place ∷ []) in
+        elim g as (λ _. Contains (register_reads r) p) [
+          | inl f ↦ elim f as (λ _. Contains (register_reads r) p) [
+            | inl k ↦ elim k as (λ _. Contains (register_reads r) p) [
+              | inl j ↦ elim j as (λ _. Contains (register_reads r) p) [
+                | inl z ↦ Contains-append_left r.q (r.d ++ tail) p (subst (λ (ps : List ℕ). Contains ps p) eq z)
+                | inr z ↦ Contains-append_right r.q (r.d ++ tail) p (Contains-append_left r.d tail p (subst (λ (ps : List ℕ). Contains ps p) ed z))
+              ]
+              | inr z ↦ Contains-append_right r.q (r.d ++ tail) p
+                  (Contains-append_right r.d tail p (Contains-append_left r.value (r.enable.place ∷ r.reset.place ∷ []) p (subst (λ (ps : List ℕ). Contains ps p) ev z)))
+            ]
+            | inr z ↦ Contains-append_right r.q (r.d ++ tail) p
+                (Contains-append_right r.d tail p (Contains-append_right r.value (r.enable.place ∷ r.reset.place ∷ []) p (0, omega arith, sym ex ∙ sym z)))
+          ]
+          | inr z ↦ Contains-append_right r.q (r.d ++ tail) p
+              (Contains-append_right r.d tail p (Contains-append_right r.value (r.enable.place ∷ r.reset.place ∷ []) p (1, omega arith, sym ey ∙ sym z)))
+        ]
+
+    controls : (p : ℕ) → Contains (r.enable.place ∷ r.reset.place ∷ []) p → (((Contains q p ⊎ Contains d p) ⊎ Contains v p) ⊎ (p ≡ x)) ⊎ (p ≡ y)
+    controls p (zero, l, z) = inl (inr (sym z ∙ sym ex))
+    controls p (suc zero, l, z) = inr (sym z ∙ sym ey)
+    controls p (suc (suc k), l, z) = absurd (omega arith)
+
+    from-r : (p : ℕ) → Contains (register_reads r) p → (((Contains q p ⊎ Contains d p) ⊎ Contains v p) ⊎ (p ≡ x)) ⊎ (p ≡ y)
+    from-r p g =
+        let tail : List ℕ = r.value ++ (r.enable.place ∷ r.reset.place ∷ []) in
+        elim (Contains-append_cases r.q (r.d ++ tail) p g) as (λ _. (((Contains q p ⊎ Contains d p) ⊎ Contains v p) ⊎ (p ≡ x)) ⊎ (p ≡ y)) [
+          | inl z ↦ inl (inl (inl (inl (subst (λ (ps : List ℕ). Contains ps p) (sym eq) z))))
+          | inr f ↦ elim (Contains-append_cases r.d tail p f) as (λ _. (((Contains q p ⊎ Contains d p) ⊎ Contains v p) ⊎ (p ≡ x)) ⊎ (p ≡ y)) [
+            | inl z ↦ inl (inl (inl (inr (subst (λ (ps : List ℕ). Contains ps p) (sym ed) z))))
+            | inr k ↦ elim (Contains-append_cases r.value (r.enable.place ∷ r.reset.place ∷ []) p k) as (λ _. (((Contains q p ⊎ Contains d p) ⊎ Contains v p) ⊎ (p ≡ x)) ⊎ (p ≡ y)) [
+              | inl z ↦ inl (inl (inr (subst (λ (ps : List ℕ). Contains ps p) (sym ev) z)))
+              | inr z ↦ controls p z
+            ]
+          ]
+        ]
+
+    from : (p : ℕ) → IsReadBy m (Register i) p → (((Contains q p ⊎ Contains d p) ⊎ Contains v p) ⊎ (p ≡ x)) ⊎ (p ≡ y)
+    from p g =
+        let same : r ≡ g.0 = same_Some r g.0 (sym e ∙ g.1) in
+        from-r p (subst (λ (k : RegisterOf). Contains (register_reads k) p) (sym same) g.2)
+
+-- the places of one statement more
+pub statements-spread : (xs : List Statement) (i : ℕ) (x : Statement) → i < length xs → x ≡ get_or xs i x → (a b c : List Bool) (s t u : List ℕ) → Spreads (IsPlaceOf (take i xs)) a s b t
+    → Spreads (λ p. (p ≡ x.a) ⊎ (p ≡ x.en)) b t c u → Spreads (IsPlaceOf (take (i + 1) xs)) a s c u
+statements-spread xs i x l e a b c s t u before here =
+    spread-as (λ p. IsPlaceOf (take i xs) p ⊎ ((p ≡ x.a) ⊎ (p ≡ x.en))) (IsPlaceOf (take (i + 1) xs)) a c s u to from
+    (spread-then (IsPlaceOf (take i xs)) (λ p. (p ≡ x.a) ⊎ (p ≡ x.en)) a b c s t u before here)
+  where
+    to : (p : ℕ) → IsPlaceOf (take i xs) p ⊎ ((p ≡ x.a) ⊎ (p ≡ x.en)) → IsPlaceOf (take (i + 1) xs) p
+    to p g = elim g as (λ _. IsPlaceOf (take (i + 1) xs) p) [
+      | inl f ↦ (f.0, more-to xs i x l e f.0 (inl f.1), f.2)
+      | inr f ↦ (x, more-to xs i x l e x (inr refl), f)
+    ]
+
+    from : (p : ℕ) → IsPlaceOf (take (i + 1) xs) p → IsPlaceOf (take i xs) p ⊎ ((p ≡ x.a) ⊎ (p ≡ x.en))
+    from p g = elim (more-from xs i x l e g.0 g.1) as (λ _. IsPlaceOf (take i xs) p ⊎ ((p ≡ x.a) ⊎ (p ≡ x.en))) [
+      | inl f ↦ inl (g.0, f, g.2)
+      | inr q ↦ inr (subst (λ (z : Statement). (p ≡ z.a) ⊎ (p ≡ z.en)) q g.2)
+    ]
+
+-- what is asked
+pub cover-spread : (m : ModelOf) (k : ℕ) (x : Statement) → slice_get m.covers k ≡ Some x → (a b : List Bool) (s t : List ℕ) → Spreads (λ p. (p ≡ x.a) ⊎ (p ≡ x.en)) a s b t → Spreads (IsAskedPlace m (Cover k)) a s b t
+cover-spread m k x e a b s t h =
+    spread-as (λ p. (p ≡ x.a) ⊎ (p ≡ x.en)) (IsAskedPlace m (Cover k)) a b s t (λ p g. (x, e, g))
+    (λ p g. let same : g.0 ≡ x = same_Some g.0 x (sym g.1 ∙ e) in subst (λ (z : Statement). (p ≡ z.a) ⊎ (p ≡ z.en)) same g.2) h
+
+pub no-cover : (m : ModelOf) (k : ℕ) → length m.covers ≤ k → (p : ℕ) → IsAskedPlace m (Cover k) p → ⊥
+no-cover m k l p g = let w = slice_get_within m.covers k g.0 g.1 in omega arith
+
+-- where the cone begins
+pub roots-spread : (m : ModelOf) (asked : Asked) (a b : List Bool) (s t : List ℕ)
+    → Spreads (λ p. (((p ≡ m.zero) ⊎ (p ≡ suc m.zero)) ⊎ IsPlaceOf m.assumes p) ⊎ IsAskedPlace m asked p) a s b t → Spreads (IsRoot m asked) a s b t
+roots-spread m asked a b s t h =
+    spread-as (λ p. (((p ≡ m.zero) ⊎ (p ≡ suc m.zero)) ⊎ IsPlaceOf m.assumes p) ⊎ IsAskedPlace m asked p) (IsRoot m asked) a b s t to from h
+  where
+    to : (p : ℕ) → (((p ≡ m.zero) ⊎ (p ≡ suc m.zero)) ⊎ IsPlaceOf m.assumes p) ⊎ IsAskedPlace m asked p → IsRoot m asked p
+    to p g = elim g as (λ _. IsRoot m asked p) [
+      | inl f ↦ elim f as (λ _. IsRoot m asked p) [
+        | inl x ↦ inr x
+        | inr x ↦ inl (x.0, inr x.1, x.2)
+      ]
+      | inr x ↦ inl (x.0, inl x.1, x.2)
+    ]
+
+    from : (p : ℕ) → IsRoot m asked p → (((p ≡ m.zero) ⊎ (p ≡ suc m.zero)) ⊎ IsPlaceOf m.assumes p) ⊎ IsAskedPlace m asked p
+    from p g = elim g as (λ _. (((p ≡ m.zero) ⊎ (p ≡ suc m.zero)) ⊎ IsPlaceOf m.assumes p) ⊎ IsAskedPlace m asked p) [
+      | inl x ↦ elim x.1 as (λ _. (((p ≡ m.zero) ⊎ (p ≡ suc m.zero)) ⊎ IsPlaceOf m.assumes p) ⊎ IsAskedPlace m asked p) [
+        | inl y ↦ inr (x.0, y, x.2)
+        | inr y ↦ inl (inr (x.0, y, x.2))
+      ]
+      | inr x ↦ inl (inl x)
+    ]
+
+pub roots-made : (m : ModelOf) (asked : Asked) (z o : ℕ) (assumes : List Statement) → z ≡ m.zero → o ≡ suc m.zero → assumes ≡ m.assumes → (a b c d e : List Bool) (s t u v w : List ℕ)
+    → Spreads (λ p. p ≡ z) a s b t → Spreads (λ p. p ≡ o) b t c u → Spreads (IsPlaceOf assumes) c u d v → Spreads (IsAskedPlace m asked) d v e w → Spreads (IsRoot m asked) a s e w
+roots-made m asked z o assumes ez eo ea a b c d e s t u v w hz ho ha hk =
+    roots-spread m asked a e s w
+    (spread-then (λ p. ((p ≡ m.zero) ⊎ (p ≡ suc m.zero)) ⊎ IsPlaceOf m.assumes p) (IsAskedPlace m asked) a d e s v w
+    (spread-then (λ p. (p ≡ m.zero) ⊎ (p ≡ suc m.zero)) (IsPlaceOf m.assumes) a c d s u v
+    (spread-then (λ p. p ≡ m.zero) (λ p. p ≡ suc m.zero) a b c s t u
+    (subst (λ (k : ℕ). Spreads (λ p. p ≡ k) a s b t) ez hz)
+    (subst (λ (k : ℕ). Spreads (λ p. p ≡ k) b t c u) eo ho))
+    (subst (λ (xs : List Statement). Spreads (IsPlaceOf xs) c u d v) ea ha))
+    hk)
+
+pub input-below : (m : ModelOf) → IsModel m → (k p : ℕ) → slice_get m.inputs k ≡ Some p → p < m.size
+input-below m is k p e = source_below m is p (open_source m is p (Contains-append_right (states m) m.inputs p (contained_at m.inputs p k e)))

@@ -1,0 +1,4 @@
+use Rattle.model_cone.proofs.marking.mark_asked.Goals as goal
+
+pub mark_statements-requires : goal.mark_statements-requires
+mark_statements-requires c = rw (c.asserts.ensures, c.requires.size) c.requires.model.asserts

@@ -1,0 +1,3 @@
+-- Definitions.
+pub mod Cost
+pub mod Reads

@@ -1,0 +1,4 @@
+pub mod Splitting
+pub mod Meaning
+pub mod Widths
+pub mod Adding
