@@ -1,11 +1,7 @@
+pub mod Induction
+pub mod Cycles
 pub mod Problems
+pub mod Carrying
+pub mod Encodes
 pub mod Truth
-pub mod Valuing
-pub mod Coming
-pub mod Deletions
-pub mod Feeding
-pub mod Fates
-pub mod Prefixes
-pub mod Certs
-pub mod Accepting
-pub mod Following
+pub mod Telling

@@ -1,11 +1,12 @@
+-- Definitions.
+pub mod Text
+pub mod Jobs
 pub mod Problem
-pub mod Places
 pub mod Fault
 pub mod Finding
 pub mod Agree
-pub mod Values
-pub mod Fate
+pub mod Rows
+pub mod Places
+pub mod Stored
 pub mod Played
 pub mod Judging
-pub mod Numbers
-pub mod Cert

@@ -1,36 +1,34 @@
--- A problem: a text, the design that it reads, and each of its jobs as a formula.
-use Rattle.std.specs.Prelude.{◌≡◌, ◌↔◌, ℕ, List, [], ◌∷◌, length, map, Some, slice_get}
-use Rattle.std.specs.List.{range_with_len}
+-- A problem: a text, the design that it reads, its model, and each of its jobs as a formula.
+use Rattle.std.specs.Prelude.{◌≡◌, ◌↔◌, ℕ, List, length, Some, slice_get}
 use Rattle.cnf_form.specs.Cnf.{Assignment, FormulaOf, Satisfies}
 use Rattle.cnf_form.specs.Dimacs.{IsDimacs, dimacs_text}
-use Rattle.frame_cnf.specs.Jobs.{Solvable}
-use Rattle.frame_cnf.specs.Encoding.{CanBeSatisfied, EncodedOf, HasOrigins, IsDecoded, Propagates, decoded, empty_job}
-use Rattle.rtlil_design.specs.Shape.{DesignOf}
-use Rattle.rtlil_design.specs.Meaning.{asserts, covers}
-use Rattle.rtlil_design.specs.Faults.{IsFlat}
-use Rattle.rtlil_reader.specs.Grammar.{Reads}
-use Rattle.run_choices.specs.Choices.{AreChoicesFor, AreOpen, OpenOf}
+use Rattle.job_cnf.specs.Encoding.{CanBeSatisfied, EncodedOf, HasOrigins, IsDecoded, Propagates, decoded, empty_job}
+use Rattle.design_core.specs.Shape.{DesignOf, IsDesign}
+use Rattle.design_check.specs.Faults.{IsFlat}
+use Rattle.design_reader.specs.Grammar.{Reads}
+use Rattle.model_core.specs.Choices.{AreChoicesFor}
+use Rattle.model_core.specs.Served.{IsModel}
+use Rattle.model_core.specs.Shape.{ModelOf}
+use Rattle.design_graph.specs.Order.{IsOrder}
+use Rattle.design_graph.specs.declared.driver.Driver.{Driver}
+use Rattle.word_model.specs.Built.{IsBuilt}
+use Rattle.word_model.specs.Model.{IsModelOf}
 use Rattle.sby_terms.specs.Problem.{ProblemOf}
-use Rattle.sby_terms.specs.declared.names.Mode.{Mode}
-use Rattle.sby_terms.specs.declared.names.Mode.TheVariants.{Bmc, Prove, Cover as CoverMode}
 use Rattle.sby_terms.specs.declared.names.JobName.{JobName}
-use Rattle.sby_terms.specs.declared.names.JobName.TheVariants.{Base, Step, Cover}
+use Rattle.sby_terms.specs.declared.names.JobName.TheVariants.{Step}
+use Rattle.sby_terms.specs.declared.span.Span.{Span}
+use Rattle.judge.specs.Jobs.{AsksNothing, Solvable, jobs_of, span_of}
 
--- the jobs of a mode, in order
-abbrev pub jobs_of : Mode → DesignOf → List JobName
-jobs_of Bmc d = (Base 0) ∷ []
-jobs_of Prove d = (Base 0) ∷ Step ∷ []
-jobs_of CoverMode d = map Cover (range_with_len 0 (length (covers d)))
-
--- what is asked, the design, and each job as it is encoded, in the order of the jobs
+-- what is asked, the design, its model, and each job as it is encoded, in the order of the jobs
 pub record AskedOf : Type 0 where
   pub problem : ProblemOf
   pub design : DesignOf
+  pub model : ModelOf
   pub encoded : List EncodedOf
 
 -- the job at place i
 abbrev pub IsJobAt : AskedOf → ℕ → JobName → Type 0
-IsJobAt p i job = slice_get (jobs_of p.problem.mode p.design) i ≡ Some job
+IsJobAt p i job = slice_get (jobs_of p.problem p.design) i ≡ Some job
 
 -- one of the jobs
 abbrev pub IsJob : AskedOf → JobName → Type 0
@@ -50,21 +48,24 @@ IsJobFile p job bytes = (f : FormulaOf) × IsFormulaOf p job f × (bytes ≡ dim
 
 -- What is promised of an encoded job: its formula can be satisfied exactly where the job can be solved; where some variables are
 -- fixed, each of which stands for a bit that the job leaves free, unit propagation comes to a conflict or fixes all others; over no
--- assertion the formula is one variable and the empty clause; and each assignment tells choices for a run of the design, which
--- breaks an assertion where the assignment satisfies the formula of Base.
-pub record IsEncodedJob (d : DesignOf) (job : JobName) (n : ℕ) (e : EncodedOf) : Type 0 where
-  pub speaks : CanBeSatisfied e.formula ↔ Solvable d job n
+-- statement the formula is one variable and the empty clause; and, but for Step, each assignment tells choices for a run of the
+-- model, and one that satisfies the formula those for a run that shows the job's goal.
+pub record IsEncodedJob (d : DesignOf) (m : ModelOf) (job : JobName) (span : Span) (e : EncodedOf) : Type 0 where
+  pub speaks : CanBeSatisfied e.formula ↔ Solvable d job span
   pub propagates : Propagates e
-  pub origins : HasOrigins d job n e
-  pub empty : job ≡ (Base 0) → asserts d ≡ [] → e.formula ≡ empty_job
-  pub choices : (o : OpenOf) (x : Assignment) → AreOpen d o → AreChoicesFor o (decoded e x)
-  pub decodes : job ≡ (Base 0) → (x : Assignment) → Satisfies x e.formula.clauses → IsDecoded d n (decoded e x)
+  pub origins : HasOrigins m job span e
+  pub empty : AsksNothing d job → e.formula ≡ empty_job
+  pub choices : (job ≡ Step → ⊥) → (x : Assignment) → AreChoicesFor m (decoded e x)
+  pub decodes : (job ≡ Step → ⊥) → (x : Assignment) → Satisfies x e.formula.clauses → IsDecoded m job span (decoded e x)
 
--- the text reads the design and no other, which is flat; and each job is encoded. The mode served so far is bmc.
+-- the text reads the design and no other, which is flat; the model is the design's, made of its parts; and each job is encoded
 pub record IsProblem (p : AskedOf) : Type 0 where
-  pub mode : p.problem.mode ≡ Bmc
   pub reads : Reads p.problem.text p.design
   pub only : (d : DesignOf) → Reads p.problem.text d → d ≡ p.design
+  pub design : IsDesign p.design
   pub flat : IsFlat p.design
-  pub each : length p.encoded ≡ length (jobs_of p.problem.mode p.design)
-  pub encodes : (job : JobName) (e : EncodedOf) → IsEncodedOf p job e → IsEncodedJob p.design job p.problem.depth e
+  pub is_model : IsModel p.model
+  pub model : IsModelOf p.design p.model
+  pub built : (order : List Driver) × IsOrder p.design order × IsBuilt p.design order p.model
+  pub each : length p.encoded ≡ length (jobs_of p.problem p.design)
+  pub encodes : (job : JobName) (e : EncodedOf) → IsEncodedOf p job e → IsEncodedJob p.design p.model job (span_of p.problem) e

@@ -1,46 +1,46 @@
 // A finding: what was found of a job.
 
-ghost use Rattle.std.specs.Prelude.{◌≡◌, ◌↔◌, ◌+◌, ◌++◌, [], take, length, List, IfOk, IsTrue, None, Some, MatchOption, option_map};
+ghost use Rattle.std.specs.Prelude.{◌≡◌, ◌↔◌, ◌+◌, length, List, Option, IfOk, IsTrue, None, Some, option_map};
 ghost use Rattle.cnf_form.specs.Cnf.{FormulaOf, IsUnsatisfiable, Satisfies};
-ghost use Rattle.frame_cnf.specs.Encoding.{EncodedOf, values_of};
-ghost use Rattle.judge.specs.Finding.{Claim, IsTrueFinding, RunShows};
-ghost use Rattle.judge.specs.Played.{IsPlayed};
+ghost use Rattle.design_core.specs.Shape.{DesignOf};
+ghost use Rattle.design_meaning.specs.Runs.{CycleOf};
+ghost use Rattle.design_reader.specs.Grammar.{Reads};
+ghost use Rattle.job_cnf.specs.Decoding.{values_of};
+ghost use Rattle.job_cnf.specs.Encoding.{EncodedOf};
+ghost use Rattle.judge.specs.Finding.{Claim, IsTrueFinding};
+ghost use Rattle.judge.specs.Jobs.{span_of};
+ghost use Rattle.judge.specs.Played.{ShowsPlayed};
 ghost use Rattle.judge.specs.Problem.{IsEncodedOf, IsFormulaOf, IsJob};
-ghost use Rattle.rtlil_design.specs.Runs.{CycleOf};
-ghost use Rattle.rtlil_design.specs.Shape.{DesignOf};
-ghost use Rattle.rtlil_reader.specs.Grammar.{Reads};
 
 use crate::problem::Problem;
-use crate::values::Values;
-use rtlil_design::row::{Cycle, Row, Run};
-use run_play::play;
+use crate::run::PlayedRun;
+use crate::text::Text;
 use sby_terms::{Answer, JobName, Mode, Settled};
 use std::alloc::{AllocError, Global};
 use std::marker::Model;
 
 /// The answer to a job of a problem, with the run that shows it where it is Sat on Base or Cover.
 ///
-/// It is true wherever it is: no other crate can make one, and `answer` tells what is true of the design.
+/// It is true wherever it is: no other crate can make one, and `answer` tells what is true of the design. Text and run are shared with
+/// the problem and with its copies.
 #[derive(Drop)]
 pub struct Finding {
-    text: Vec<u8>,
+    text: Text,
     mode: Mode,
     depth: u32,
     job: JobName,
     answer: Answer,
-    run: Option<Run>,
+    run: Option<PlayedRun>,
 }
 
 impl Model for Finding {
-    ghost use Rattle.judge.specs.Finding.{FindingOf};
+    ghost use Rattle.judge.specs.Finding.{FindingOf, IsTrueFinding};
 
     ghost Value = { FindingOf };
 
-    ghost use Rattle.judge.specs.Finding.{IsTrueFinding};
+    ghost view = { λ a. record { problem = record { text = a.text; mode = a.mode; depth = a.depth }; job = a.job; answer = a.answer; run = a.run } };
 
-    ghost view = { λ a. record { problem = record { text = a.text.items; mode = a.mode; depth = a.depth }; job = a.job; answer = a.answer; run = a.run } };
-
-    ghost invariant = { λ a. IsTrueFinding (record { problem = record { text = a.text.items; mode = a.mode; depth = a.depth }; job = a.job; answer = a.answer; run = a.run }) };
+    ghost invariant = { λ a. IsTrueFinding (record { problem = record { text = a.text; mode = a.mode; depth = a.depth }; job = a.job; answer = a.answer; run = a.run }) };
 }
 
 impl Finding {
@@ -48,7 +48,7 @@ impl Finding {
     pub fn answer(&self) -> Answer
         ensures answer { result ≡ self.now.answer }
         ensures is_true { IsTrueFinding self.now }
-        ensures claim { (d : DesignOf) → Reads self.now.problem.text d → Claim d self.now.problem.depth self.now.job result self.now.run }
+        ensures claim { (d : DesignOf) → Reads self.now.problem.text d → Claim d (span_of self.now.problem) self.now.job result self.now.run }
     {
         self.answer
     }
@@ -62,7 +62,7 @@ impl Finding {
     }
 
     /// The run that shows the answer.
-    pub fn run(&self) -> Option<&Run>
+    pub fn run(&self) -> Option<&PlayedRun>
         ensures run { option_map (λ r. r.now) result ≡ self.now.run }
         ensures is_true { IsTrueFinding self.now }
     {
@@ -81,12 +81,12 @@ impl Finding {
 }
 
 // The finding that a job can't be solved, where its formula can't be satisfied.
-pub(crate) fn unsat(alloc: Global, problem: &Problem, job: JobName) -> Result<Finding, AllocError>
+pub(crate) fn unsat(problem: &Problem, job: JobName) -> Result<Finding, AllocError>
     requires { (f : FormulaOf) × IsFormulaOf problem.now job f × IsUnsatisfiable f.clauses }
     ensures { IfOk result (λ f. f ≡ record { problem = problem.now.problem; job = job; answer = Answer.Unsat; run = None }) }
 {
     let _flat = problem.flat();
-    let text = Vec::from_slice(alloc, problem.text())?;
+    let text = problem.share_text()?;
     Ok(Finding {
         text,
         mode: problem.mode(),
@@ -97,18 +97,25 @@ pub(crate) fn unsat(alloc: Global, problem: &Problem, job: JobName) -> Result<Fi
     })
 }
 
-// The run that values which satisfy the formula of Base stand for.
-fn shown(alloc: Global, problem: &Problem, job: JobName, values: &Values) -> Result<Run, AllocError>
-    requires { (e : EncodedOf) × IsEncodedOf problem.now job e × (length values.now ≡ e.formula.vars + 1)
-        × Satisfies (values_of values.now) e.formula.clauses }
-    ensures shows { IfOk result (λ run. RunShows problem.now.design problem.now.problem.depth (Some run)) }
-    ensures played { IfOk result (λ run. (e : EncodedOf) × IsEncodedOf problem.now job e
-        × IsPlayed problem.now.design e (values_of values.now) run) }
+// The run that shows that a job can be solved, for values that satisfy its formula.
+fn shown(
+    alloc: Global,
+    problem: &Problem,
+    job: JobName,
+    values: &[bool],
+) -> Result<Option<PlayedRun>, AllocError>
+    requires { (e : EncodedOf) × IsEncodedOf problem.now job e × Satisfies (values_of values.now) e.formula.clauses }
+    ensures claim { IfOk result (λ run. Claim problem.now.design (span_of problem.now.problem) job Answer.Sat run) }
+    ensures played { IfOk result (λ run. ShowsPlayed problem.now job (values_of values.now) run) }
 {
-    let flat = problem.flat();
-    let choices = problem.encoded(job).decode(alloc, values.bits())?;
-    let run = play(alloc, flat, &choices)?;
-    Ok(run)
+    let _flat = problem.flat();
+    match job {
+        JobName::Step => Ok(None),
+        JobName::Base(_) | JobName::Cover(_) => {
+            let run = problem.played(alloc, job, values)?;
+            Ok(Some(run))
+        }
+    }
 }
 
 // The finding that a job can be solved, where these values satisfy its formula.
@@ -116,56 +123,36 @@ pub(crate) fn sat(
     alloc: Global,
     problem: &Problem,
     job: JobName,
-    values: &Values,
+    values: &[bool],
 ) -> Result<Finding, AllocError>
-    requires { (e : EncodedOf) × IsEncodedOf problem.now job e × (length values.now ≡ e.formula.vars + 1)
-        × Satisfies (values_of values.now) e.formula.clauses }
+    requires { (e : EncodedOf) × IsEncodedOf problem.now job e × Satisfies (values_of values.now) e.formula.clauses }
     ensures problem { IfOk result (λ f. f.problem ≡ problem.now.problem) }
     ensures job { IfOk result (λ f. f.job ≡ job) }
     ensures answer { IfOk result (λ f. f.answer ≡ Answer.Sat) }
-    ensures run { IfOk result (λ f. (e : EncodedOf) × (run : List CycleOf) × IsEncodedOf problem.now job e
-        × (f.run ≡ Some run) × IsPlayed problem.now.design e (values_of values.now) run) }
+    ensures run { IfOk result (λ f. ShowsPlayed problem.now job (values_of values.now) f.run) }
 {
     let run = shown(alloc, problem, job, values)?;
     let _flat = problem.flat();
-    let text = Vec::from_slice(alloc, problem.text())?;
+    let text = problem.share_text()?;
     Ok(Finding {
         text,
         mode: problem.mode(),
         depth: problem.depth(),
         job,
         answer: Answer::Sat,
-        run: Some(run),
+        run,
     })
 }
 
-fn copy_row(alloc: Global, bits: &[bool]) -> Result<Row, AllocError>
-    ensures { IfOk result (λ row. row ≡ bits.now) }
-{
-    let bits = Vec::from_slice(alloc, bits)?;
-    Ok(Row::new(bits))
-}
-
-fn copy_run(alloc: Global, run: &Run) -> Result<Run, AllocError>
-    ensures { IfOk result (λ copied. copied ≡ run.now) }
-{
-    let mut copied = Run::new(alloc);
-    for cycle in run.cycles() {
-        let wires = copy_row(alloc, cycle.wires())?;
-        let free = copy_row(alloc, cycle.free())?;
-        copied.push(Cycle::new(wires, free))?;
-    }
-    Ok(copied)
-}
-
-fn copy_shown(alloc: Global, run: &Option<Run>) -> Result<Option<Run>, AllocError>
-    ensures { IfOk result (λ copied. copied ≡ run.now) }
+// Another owner of a run, where there is one.
+fn share_run(run: &Option<PlayedRun>) -> Result<Option<PlayedRun>, AllocError>
+    ensures { IfOk result (λ shared. shared ≡ run.now) }
 {
     match run {
         None => Ok(None),
         Some(run) => {
-            let copied = copy_run(alloc, run)?;
-            Ok(Some(copied))
+            let shared = run.share()?;
+            Ok(Some(shared))
         }
     }
 }
@@ -193,9 +180,8 @@ impl Settled for Finding {
     }
 
     fn copy(&self) -> Result<Self, AllocError> {
-        let alloc = *self.text.allocator();
-        let text = Vec::from_slice(alloc, self.text.as_slice())?;
-        let run = copy_shown(alloc, &self.run)?;
+        let text = self.text.share()?;
+        let run = share_run(&self.run)?;
         Ok(Finding {
             text,
             mode: self.mode,

@@ -1,71 +1,39 @@
-// A problem: a text, its design, and its jobs as formulas.
+// A problem: a text, its design and model, and its jobs as formulas.
 
-ghost use Rattle.std.specs.Prelude.{◌≡◌, ◌≤◌, ◌<◌, ◌+◌, ◌*◌, ◌^◌, IfOk, MatchResult, [], ◌∷◌, length, Some, slice_get};
-ghost use Rattle.cnf_form.specs.Dimacs.{IsDimacs, dimacs_text};
-ghost use Rattle.frame_cnf.specs.Encoding.{CanBeSatisfied, cost};
-ghost use Rattle.frame_cnf.specs.Jobs.{Solvable, frames};
-ghost use Rattle.judge.specs.Problem.{AskedOf, IsEncodedOf, IsJob, IsJobFile, IsProblem, jobs_of};
+ghost use Rattle.std.specs.Prelude.{◌≡◌, ◌≢◌, ◌+◌, ◌<◌, ◌≤◌, ℕ, IfErr, IfOk, MatchResult, Some, length, slice_get};
+ghost use Rattle.cnf_form.specs.Cnf.{Satisfies};
+ghost use Rattle.job_cnf.specs.Decoding.{values_of};
+ghost use Rattle.job_cnf.specs.Encoding.{EncodedOf};
 ghost use Rattle.judge.specs.Fault.{IsProblemFault};
+ghost use Rattle.judge.specs.Jobs.{jobs_in, jobs_of};
 ghost use Rattle.judge.specs.Places.{place_of};
-ghost use Rattle.rtlil_design.specs.Faults.{IsFlat};
+ghost use Rattle.judge.specs.Played.{IsPlayed};
+ghost use Rattle.judge.specs.Problem.{AskedOf, IsEncodedOf, IsJob, IsJobFile, IsProblem};
+ghost use Rattle.judge.specs.Stored.{AreEncoded, IsBuiltFor, IsTooMany};
+ghost use Rattle.sby_terms.specs.Span.{whole};
 
-use cnf_form::write_dimacs;
-use frame_cnf::{Encoded, TooMany, encode};
-use rtlil_design::check::{DesignFault, check};
-use rtlil_design::flat::Flat;
-use rtlil_reader::{ReadFault, read};
+use crate::encoding::{Job, encode_all, model_of};
+use crate::run::PlayedRun;
+use crate::text::Text;
+use design_check::check::{DesignFault, check};
+use design_check::flat::Flat;
+use design_reader::{ReadFault, read};
+use job_cnf::Encoded;
+use model_core::model::WordModel;
+use model_play::whole::play;
 use sby_terms::{JobName, Mode};
 use std::alloc::{AllocError, Global};
 use std::marker::Model;
 
-// An encoded job, and its file.
-#[derive(Drop)]
-struct Job {
-    encoded: Encoded,
-    file: Vec<u8>,
-}
-
-impl Model for Job {
-    ghost use Rattle.std.specs.Prelude.{◌≡◌};
-    ghost use Rattle.cnf_form.specs.Dimacs.{IsDimacs, dimacs_text};
-    ghost use Rattle.frame_cnf.specs.Encoding.{EncodedOf};
-
-    ghost Value = { EncodedOf };
-
-    ghost view = { λ a. a.encoded };
-
-    ghost invariant = { λ a. (a.file.items ≡ dimacs_text a.encoded.formula) × IsDimacs a.file.items a.encoded.formula };
-}
-
-impl Job {
-    fn new(alloc: Global, encoded: Encoded) -> Result<Job, AllocError>
-        ensures { IfOk result (λ job. job ≡ encoded) }
-    {
-        let file = write_dimacs(alloc, encoded.formula())?;
-        Ok(Job { encoded, file })
-    }
-
-    fn encoded(&self) -> &Encoded
-        ensures { result.now ≡ self.now }
-    {
-        &self.encoded
-    }
-
-    fn file(&self) -> &[u8]
-        ensures text { result.now ≡ dimacs_text self.now.formula }
-        ensures grammar { IsDimacs result.now self.now.formula }
-    {
-        self.file.as_slice()
-    }
-}
-
-/// What is asked: a design's text, a mode and a depth; with the design that the text reads, and its jobs as they are encoded.
+/// What is asked: a design's text, a mode and a depth; with the design that the text reads, its model, and its jobs as they are
+/// encoded.
 #[derive(Drop)]
 pub struct Problem {
-    text: Vec<u8>,
+    text: Text,
     mode: Mode,
     depth: u32,
     flat: Flat,
+    model: WordModel,
     jobs: Vec<Job>,
 }
 
@@ -74,11 +42,11 @@ impl Model for Problem {
 
     ghost Value = { AskedOf };
 
-    ghost use Rattle.judge.specs.Problem.{IsProblem};
+    ghost use Rattle.judge.specs.Stored.{IsStored, asked_by};
 
-    ghost view = { λ a. record { problem = record { text = a.text.items; mode = a.mode; depth = a.depth }; design = a.flat; encoded = a.jobs.items } };
+    ghost view = { λ a. asked_by a.text a.mode a.depth a.flat a.model a.jobs.items };
 
-    ghost invariant = { λ a. IsProblem (record { problem = record { text = a.text.items; mode = a.mode; depth = a.depth }; design = a.flat; encoded = a.jobs.items }) };
+    ghost invariant = { λ a. IsStored (asked_by a.text a.mode a.depth a.flat a.model a.jobs.items) a.jobs.items };
 }
 
 /// Why a problem is refused: the text reads no design, the design has a fault, or a job has too many variables.
@@ -90,15 +58,14 @@ pub enum ProblemFault {
 }
 
 impl Problem {
-    /// The problem of a design's text, at a depth from 1 to 1,000. A refusal is that of the earliest stage, and drops the
-    /// text.
+    /// The problem of a design's text, at a depth from 1 to 1,000: all jobs of the mode are encoded, in their order. A refusal is
+    /// that of the earliest stage, and drops the text.
     pub fn new(
         alloc: Global,
         text: Vec<u8>,
         mode: Mode,
         depth: u32,
     ) -> Result<Result<Problem, ProblemFault>, AllocError>
-        requires mode { mode ≡ Mode.Bmc }
         requires least { 1 ≤ depth }
         requires most { depth ≤ 1000 }
         ensures problem { IfOk result (λ r. MatchResult r
@@ -113,17 +80,18 @@ impl Problem {
             Ok(flat) => flat,
             Err(fault) => return Ok(Err(ProblemFault::Design(fault))),
         };
-        let encoded = match encode(alloc, &flat, JobName::Base(0), depth)? {
-            Ok(encoded) => encoded,
-            Err(TooMany) => return Ok(Err(ProblemFault::TooMany(JobName::Base(0)))),
+        let model = model_of(alloc, &flat)?;
+        let jobs = match encode_all(alloc, &flat, &model, mode, depth)? {
+            Ok(jobs) => jobs,
+            Err(job) => return Ok(Err(ProblemFault::TooMany(job))),
         };
-        let job = Job::new(alloc, encoded)?;
-        let jobs = vec![in alloc; job]?;
+        let text = Text::new(alloc, text)?;
         let problem = Problem {
             text,
             mode,
             depth,
             flat,
+            model,
             jobs,
         };
         let _ = problem.flat();
@@ -137,9 +105,17 @@ impl Problem {
         self.text.as_slice()
     }
 
+    // The text, with one more owner.
+    pub(crate) fn share_text(&self) -> Result<Text, AllocError>
+        ensures { IfOk result (λ text. text ≡ self.now.problem.text) }
+    {
+        let text = self.text.share()?;
+        Ok(text)
+    }
+
     /// The design's text, which the problem gives up.
-    pub fn into_text(self) -> Vec<u8>
-        ensures { result.items ≡ self.problem.text }
+    pub fn into_text(self) -> Text
+        ensures { result ≡ self.problem.text }
     {
         self.text
     }
@@ -166,12 +142,27 @@ impl Problem {
         &self.flat
     }
 
+    /// How many jobs there are.
+    pub fn jobs(&self) -> usize
+        ensures { result ≡ length (jobs_of self.now.problem self.now.design) }
+    {
+        self.jobs.len()
+    }
+
+    /// The job at a place, in the order of the jobs.
+    pub fn job(&self, place: usize) -> JobName
+        requires { place < length (jobs_of self.now.problem self.now.design) }
+        ensures { slice_get (jobs_of self.now.problem self.now.design) place ≡ Some result }
+    {
+        self.jobs[place].name()
+    }
+
     /// What is put as the job's file: its formula in DIMACS.
     pub fn job_bytes(&self, job: JobName) -> &[u8]
         requires { IsJob self.now job }
         ensures { IsJobFile self.now job result.now }
     {
-        self.job(job).file()
+        self.named(job).file()
     }
 
     // The job as it is encoded.
@@ -179,15 +170,37 @@ impl Problem {
         requires { IsJob self.now job }
         ensures { IsEncodedOf self.now job result.now }
     {
-        self.job(job).encoded()
+        self.named(job).encoded()
     }
 
-    fn job(&self, job: JobName) -> &Job
+    fn named(&self, job: JobName) -> &Job
         requires { IsJob self.now job }
-        ensures { IsEncodedOf self.now job result.now }
+        ensures { IsEncodedOf self.now job result.now.encoded }
     {
         let jobs = self.jobs.as_slice();
         &jobs[place_of(job)]
+    }
+
+    // The run for which values that satisfy the formula of Base or Cover stand.
+    pub(crate) fn played(
+        &self,
+        alloc: Global,
+        job: JobName,
+        values: &[bool],
+    ) -> Result<PlayedRun, AllocError>
+        requires run { job ≢ JobName.Step }
+        requires satisfying { (e : EncodedOf) × IsEncodedOf self.now job e × Satisfies (values_of values.now) e.formula.clauses }
+        ensures { IfOk result (λ run. (e : EncodedOf) × IsEncodedOf self.now job e × IsPlayed self.now e (values_of values.now) run) }
+    {
+        let choices = self.encoded(job).decode(alloc, values)?;
+        let model = &self.model;
+        let rows = play(alloc, model, &choices)?;
+        let design = self.flat.design();
+        let wires = design.bits();
+        let free = design.free();
+        let kept = model.size() - (wires + free + 2);
+        let run = PlayedRun::new(alloc, rows, wires, free, kept)?;
+        Ok(run)
     }
 }
 

@@ -4,10 +4,11 @@ ghost use Rattle.std.specs.Prelude.{◌≡◌, ◌≤◌, ◌^◌, IfOk, IfErr};
 ghost use Rattle.judge.specs.Problem.{IsJob};
 
 use crate::tests::{END, HEAD, NOT, REGISTER, T, joined};
-use judge::{BadCert, CertKind, Judge, Problem, Progress, StreamKind};
+use judge::{Judge, Problem, Progress};
 use sby_terms::{Answer, JobName, Mode};
 use std::alloc::{AllocError, Global};
 use std::test::Fail;
+use stream_judge::{BadCert, CertKind, StreamKind};
 
 // What a judge answered.
 #[derive(Clone, Copy, Debug, PartialEq, Eq)]
@@ -31,7 +32,7 @@ fn told_by(answer: &Result<Progress, BadCert>) -> Told {
         Ok(Progress::Done(finding)) => match finding.answer() {
             Answer::Unsat => Told::Unsat,
             Answer::Sat => match finding.run() {
-                Some(run) => Told::Sat(run.cycles().len()),
+                Some(run) => Told::Sat(run.cycles()),
                 None => Told::Sat(0),
             },
         },

@@ -5,13 +5,14 @@ use Rattle.std.proofs.lemmas.Bool.{cases_lt, cases_eq, cases_order}
 use Rattle.std.proofs.lemmas.List.Elements.{All-append, All-cons, All-head, All-nil, All-tail}
 use Rattle.std.proofs.lemmas.List.Folds.{concat-append}
 use Rattle.judge.specs.Finding.{Claim, FindingOf, RunShows}
+use Rattle.judge.specs.Jobs.{span_of}
 use Rattle.judge.specs.Problem.{AskedOf, IsProblem}
 use Rattle.race_core.specs.declared.end.JobEnd.{JobEnd}
 use Rattle.race_core.specs.declared.end.JobEnd.TheVariants.{Found, Unknown, NotServed, Bad, ReadFailed, StartFailed, HoldFailed, Skipped, CalledOff, Stopped, Memory as MemoryEnd}
-use Rattle.rtlil_design.specs.Meaning.{Broken, Valuation, asserts, is_enabled, says}
-use Rattle.rtlil_design.specs.Runs.{CycleOf, shown_of}
-use Rattle.rtlil_design.specs.Shape.{CellOf, DesignOf, WireOf}
-use Rattle.rtlil_reader.specs.Grammar.{Reads}
+use Rattle.design_meaning.specs.Meaning.{Broken, Valuation, asserts, is_enabled, says}
+use Rattle.design_meaning.specs.Runs.{CycleOf, shown_of}
+use Rattle.design_core.specs.Shape.{CellOf, DesignOf, WireOf}
+use Rattle.design_reader.specs.Grammar.{Reads}
 use Rattle.sby_bits.specs.Rows.{Row}
 use Rattle.sby_terms.specs.Problem.{ProblemOf}
 use Rattle.sby_terms.specs.declared.names.Answer.{Answer}
@@ -21,7 +22,7 @@ use Rattle.sby_top.specs.Broken.{AreLinesOf, HasBrokenLines, IsBrokenCell, IsFir
 use Rattle.sby_top.specs.Judged.{IsFindingOf}
 use Rattle.sby_top.specs.Steps.{Breaks, HasEndLines, HasShownLines, IsLined}
 use Rattle.sby_top.specs.Texts.{broken_text}
-use Rattle.trace_text.specs.Trace.{cycle_line, cycles_from, trace, value_text, wire_line, wire_lines}
+use Rattle.design_trace.specs.Trace.{cycle_line, cycles_from, trace, value_text, wire_line, wire_lines}
 
 -- ---- the lines of a text
 
@@ -153,35 +154,35 @@ broken_lines d name run breaks =
     (broken_line name cell.0 run ∷ traced.0, record { cell = cell.0; traced = traced.0; is_broken = cell.1; is_trace = traced.1; all = refl })
 
 -- what a finding for the job Base says of the design
-pub finding_claims : (p : AskedOf) (f : FindingOf) (answer : Answer) → IsFindingOf p (Base 0) f → f.answer ≡ answer → (d : DesignOf) → Reads p.problem.text d → Claim d p.problem.depth (Base 0) answer f.run
+pub finding_claims : (p : AskedOf) (f : FindingOf) (answer : Answer) → IsFindingOf p (Base 0) f → f.answer ≡ answer → (d : DesignOf) → Reads p.problem.text d → Claim d (span_of p.problem) (Base 0) answer f.run
 finding_claims p f answer of is d reads =
-    let claim : Claim d f.problem.depth f.job f.answer f.run = of.is_true.claims d (subst (λ (q : ProblemOf). Reads q.text d) (sym of.problem) reads) in
-    let job : Claim d f.problem.depth (Base 0) f.answer f.run = subst (λ j. Claim d f.problem.depth j f.answer f.run) of.of_job claim in
-    let depth : Claim d p.problem.depth (Base 0) f.answer f.run = subst (λ (q : ProblemOf). Claim d q.depth (Base 0) f.answer f.run) of.problem job in
-    subst (λ a. Claim d p.problem.depth (Base 0) a f.run) is depth
+    let claim : Claim d (span_of f.problem) f.job f.answer f.run = of.is_true.claims d (subst (λ (q : ProblemOf). Reads q.text d) (sym of.problem) reads) in
+    let job : Claim d (span_of f.problem) (Base 0) f.answer f.run = subst (λ j. Claim d (span_of f.problem) j f.answer f.run) of.of_job claim in
+    let depth : Claim d (span_of p.problem) (Base 0) f.answer f.run = subst (λ (q : ProblemOf). Claim d (span_of q) (Base 0) f.answer f.run) of.problem job in
+    subst (λ a. Claim d (span_of p.problem) (Base 0) a f.run) is depth
 
 -- a run that shows a broken assertion breaks it
-pub shown_breaks : (d : DesignOf) (n : ℕ) (run : List CycleOf) → RunShows d n (Some run) → Breaks d run
-shown_breaks d n run shows = let at = shows.2.1 in record {
+pub shown_breaks : (d : DesignOf) (k n : ℕ) (run : List CycleOf) → RunShows d k n (Some run) → Breaks d run
+shown_breaks d k n run shows = let at = shows.3.1 in record {
   rows = shows.0;
   some = at.run.window.some;
-  broken = (shows.2.0, at.last (length run - 1) (omega (arith, at.run.window.some)));
+  broken = (shows.3.0, at.last (length run - 1) (omega (arith, at.run.window.some)));
 }
 
-run_claim : (p : AskedOf) (f : FindingOf) (run : List CycleOf) (answer : Answer) → IsProblem p → IsFindingOf p (Base 0) f → f.run ≡ Some run → f.answer ≡ answer → RunShows p.design p.problem.depth (Some run)
-run_claim p f run Sat problem of is answers = subst (RunShows p.design p.problem.depth) is (finding_claims p f Sat of answers p.design problem.reads)
+run_claim : (p : AskedOf) (f : FindingOf) (run : List CycleOf) (answer : Answer) → IsProblem p → IsFindingOf p (Base 0) f → f.run ≡ Some run → f.answer ≡ answer → RunShows p.design 0 p.problem.depth (Some run)
+run_claim p f run Sat problem of is answers = subst (RunShows p.design 0 p.problem.depth) is (finding_claims p f Sat of answers p.design problem.reads)
 run_claim p f run Unsat problem of is answers = let none : f.run ≡ None = (finding_claims p f Unsat of answers p.design problem.reads).1 in cc
 
 -- the run of a finding for the job Base shows a broken assertion
-pub run_shows : (p : AskedOf) (f : FindingOf) (run : List CycleOf) → IsProblem p → IsFindingOf p (Base 0) f → f.run ≡ Some run → RunShows p.design p.problem.depth (Some run)
+pub run_shows : (p : AskedOf) (f : FindingOf) (run : List CycleOf) → IsProblem p → IsFindingOf p (Base 0) f → f.run ≡ Some run → RunShows p.design 0 p.problem.depth (Some run)
 run_shows p f run problem of is = run_claim p f run f.answer problem of is refl
 
 pub finding_breaks : (p : AskedOf) (flat : DesignOf) (f : FindingOf) (run : List CycleOf) → flat ≡ p.design → IsProblem p → IsFindingOf p (Base 0) f → f.run ≡ Some run → Breaks flat run
-finding_breaks p flat f run same problem of is = rw same (shown_breaks p.design p.problem.depth run (run_shows p f run problem of is))
+finding_breaks p flat f run same problem of is = rw same (shown_breaks p.design 0 p.problem.depth run (run_shows p f run problem of is))
 
 shown_lines : (p : AskedOf) (name : List ℕ) (f : FindingOf) (run : Option (List CycleOf)) → IsProblem p → IsFindingOf p (Base 0) f → f.run ≡ run → (lines : List (List ℕ)) × HasShownLines p.design name run lines
 shown_lines p name f None problem of is = ([], refl)
-shown_lines p name f (Some run) problem of is = broken_lines p.design name run (shown_breaks p.design p.problem.depth run (run_shows p f run problem of is))
+shown_lines p name f (Some run) problem of is = broken_lines p.design name run (shown_breaks p.design 0 p.problem.depth run (run_shows p f run problem of is))
 
 -- the lines of the run that an end carries
 pub end_lines : (p : AskedOf) (name : List ℕ) (end : JobEnd FindingOf) → IsProblem p → IsLined p (Base 0) end → (lines : List (List ℕ)) × HasEndLines p.design name end lines
@@ -196,3 +197,14 @@ end_lines p name (Skipped f) problem lined = ([], refl)
 end_lines p name (CalledOff f) problem lined = ([], refl)
 end_lines p name (Stopped reading) problem lined = ([], refl)
 end_lines p name MemoryEnd problem lined = ([], refl)
+
+-- ---- the cycles of a run
+
+one_more : (cycles : List CycleOf) (n : ℕ) (cycle : CycleOf) → slice_get cycles n ≡ Some cycle → take (suc n) cycles ≡ take n cycles ++ cycle ∷ []
+one_more [] n cycle is = cc
+one_more (c ∷ cs) zero cycle is = let same : c ≡ cycle = cc in ap (λ x. x ∷ []) same
+one_more (c ∷ cs) (suc n) cycle is = ap (λ t. c ∷ t) (one_more cs n cycle is)
+
+-- one cycle more
+pub take_next : (cycles : List CycleOf) (n : ℕ) (cycle : CycleOf) → slice_get cycles n ≡ Some cycle → take (n + 1) cycles ≡ take n cycles ++ cycle ∷ []
+take_next cycles n cycle is = let next : n + 1 ≡ suc n = omega arith in ap (λ k. take k cycles) next ∙ one_more cycles n cycle is

@@ -4,8 +4,8 @@ use Rattle.std.specs.Prelude.{bit_or, Option, Some, None, Contains, map}
 use Rattle.std.specs.Int.Bits.{or_zero_r}
 use Rattle.std.proofs.lemmas.List.Elements.{Contains-append_right}
 use Rattle.cnf_form.proofs.Members.{Contains-map, Contains-map_from}
-use Rattle.rtlil_design.specs.Claims.{NoBreak}
-use Rattle.rtlil_design.specs.Shape.{DesignOf}
+use Rattle.design_meaning.specs.Claims.{NoBreak}
+use Rattle.design_core.specs.Shape.{DesignOf}
 use Rattle.judge.specs.Finding.{FindingOf}
 use Rattle.judge.specs.Problem.{AskedOf}
 use Rattle.race_core.specs.Report.{ReportOf}
@@ -111,10 +111,10 @@ usage_of_refused before after words done (inr nothing) refused = inr nothing
 
 -- ---- PASS
 pub pass_claimed : (start finish : World) (request : Request) (end : TaskEnd) (exit : Exit) → TaskRan start finish request end exit → end.status ≡ Pass → request.mode ≡ Bmc
-    → (d : DesignOf) × IsDesignOf start request d × NoBreak d request.depth
+    → (d : DesignOf) × IsDesignOf start request d × NoBreak d 0 request.depth
 pass_claimed start finish request end exit ran status bmc =
-    let is : IsTrueOf start.told request end.text.items (PassClaim Bmc) = subst (λ m. IsTrueOf start.told request end.text.items (PassClaim m)) bmc (ran.pass status) in
-    (is.1.0, record { text = end.text.items; got = is.0; reads = is.1.1; flat = is.1.2 }, is.1.3)
+    let is : IsTrueOf start.told request end.text (PassClaim Bmc) = subst (λ m. IsTrueOf start.told request end.text (PassClaim m)) bmc (ran.pass status) in
+    (is.1.0, record { text = end.text; got = is.0; reads = is.1.1; flat = is.1.2 }, is.1.3)
 
 -- ---- FAIL
 whole_or_cut : (start finish : World) (request : Request) (end : TaskEnd) (exit : Exit) → IsPrinted start.taken finish.taken start.sink_faults finish.sink_faults finish.ended request end exit → end.status ≢ Memory
@@ -127,12 +127,12 @@ whole_or_cut start finish request end Cut printed apart = (printed.2.0, printed.
 
 pub fail_claimed : (start finish : World) (request : Request) (end : TaskEnd) (exit : Exit) → TaskRan start finish request end exit → end.status ≡ Fail → request.mode ≡ Bmc → IsShownBreak start finish request end
 fail_claimed start finish request end exit ran status bmc =
-    let is : IsTrueOf start.told request end.text.items (FailClaim Bmc request end) = subst (λ m. IsTrueOf start.told request end.text.items (FailClaim m request end)) bmc (ran.fail status) in
+    let is : IsTrueOf start.told request end.text (FailClaim Bmc request end) = subst (λ m. IsTrueOf start.told request end.text (FailClaim m request end)) bmc (ran.fail status) in
     let shown = is.1.3 in
     let printed = whole_or_cut start finish request end exit ran.printed (λ e. let z : Fail ≡ Memory = sym status ∙ e in cc) in
     record {
       design = is.1.0;
-      is_design = record { text = end.text.items; got = is.0; reads = is.1.1; flat = is.1.2 };
+      is_design = record { text = end.text; got = is.0; reads = is.1.1; flat = is.1.2 };
       run = shown.run;
       assertion = shown.assertion;
       cell = shown.cell;
@@ -240,7 +240,7 @@ early_status mode Streams reports status is = inr is
 early_status mode MemoryEarly reports status is = inl is
 
 early_event : (start finish : World) (request : Request) (end : TaskEnd) (early : Early) (reports : List (ReportOf FindingOf)) (status : Status) → end.early ≡ Some early
-    → IsOutcome request start.told finish.told start.file_faults finish.file_faults finish.blamed (Some early) end.text.items reports → IsStatus request.mode (Some early) reports status
+    → IsOutcome request start.told finish.told start.file_faults finish.file_faults finish.blamed (Some early) end.text reports → IsStatus request.mode (Some early) reports status
     → IsEvent start finish request end status
 early_event start finish request end early reports status is came st = elim (early_status request.mode early reports status st) [
   | inl memory ↦ subst (IsEvent start finish request end) (sym memory) tt
@@ -248,7 +248,7 @@ early_event start finish request end early reports status is came st = elim (ear
 ]
 
 event_by : (start finish : World) (request : Request) (end : TaskEnd) (early : Option Early) → end.early ≡ early
-    → IsOutcome request start.told finish.told start.file_faults finish.file_faults finish.blamed early end.text.items end.reports.items
+    → IsOutcome request start.told finish.told start.file_faults finish.file_faults finish.blamed early end.text end.reports.items
     → IsStatus request.mode early end.reports.items end.status → IsEvent start finish request end end.status
 event_by start finish request end (Some early) is came st = early_event start finish request end early end.reports.items end.status is came st
 event_by start finish request end None is came st =

@@ -2,19 +2,20 @@ use Rattle.std.proofs.Common.{◌≡◌, ℕ, ◌+◌, ◌<◌, List, [], ◌++�
 use Rattle.std.specs.Prelude.{◌≢◌, Bool, true, false, ◌&&◌, leb, IsTrue, Some, None, MatchOption, Result, Ok, Err}
 use Rattle.std.proofs.lemmas.Bool.{cases_lt, lt-leb}
 use Rattle.std.proofs.lemmas.List.{length-take-le, take-append-drop, take-append-le, take_all}
-use Rattle.judge.specs.Fate.{Fate, IsFate, IsFateSoFar, Found as FoundFate, Unknown as UnknownFate, Bad as BadFate}
+use Rattle.stream_judge.specs.Fate.{Fate, IsFate, IsFateSoFar, Found as FoundFate, Unknown as UnknownFate, Bad as BadFate}
 use Rattle.judge.specs.Finding.{FindingOf}
 use Rattle.race_core.specs.declared.end.JobEnd.{JobEnd}
-use Rattle.cert_wire.specs.Stream.{sayings}
-use Rattle.judge.specs.Judging.{Ends, Feeds, Finds, FindsRun, JudgeOf, fate_told}
-use Rattle.judge.specs.Played.{IsPlayed}
-use Rattle.judge.specs.Values.{stream_values, values_said}
+use Rattle.cert_stream.specs.Stream.{sayings}
+use Rattle.judge.specs.Judging.{Ends, Feeds, Finds, FindsRun, IsSameJudge, JudgeOf, Took, fate_told, state_behind}
+use Rattle.judge.specs.Played.{IsPlayed, IsStreamsRun}
+use Rattle.stream_judge.specs.Values.{stream_values, values_said}
 use Rattle.judge.specs.Problem.{AskedOf}
 use Rattle.judge.specs.declared.judging.Progress.{Progress}
 use Rattle.judge.specs.declared.judging.Progress.TheVariants.{More, Done, Unknown as UnknownProgress}
-use Rattle.judge.specs.declared.stream.BadCert.{BadCert}
+use Rattle.stream_judge.specs.declared.stream.BadCert.{BadCert}
+use Rattle.design_meaning.specs.Runs.{CycleOf}
 use Rattle.sby_terms.specs.declared.names.JobName.{JobName}
-use Rattle.judge.specs.declared.judging.State.TheVariants.{Reading}
+use Rattle.judge.specs.declared.judging.State.TheVariants.{Over}
 use Rattle.sby_top.specs.Judged.{EndsWithRun, IsEndOf, IsFateEnd}
 use Rattle.sby_top.specs.Steps.{end_of, IsBytesJudged, IsTrueEnd, WasFed}
 use Rattle.sby_top.specs.Served.{most_stream}
@@ -63,36 +64,40 @@ told_fate stay file bytes stream most (Ok UnknownProgress) apart is h = fate_of_
 told_fate stay file bytes stream most (Err bad) apart is h = fate_of_stream stay file bytes stream most (BadFate bad.kind bad.at) is h
 
 -- a judge answered a fate at once
-pub fed_at_once : Stay → (j new : JudgeOf) (bytes : List ℕ) (r : Result Progress BadCert) → r ≢ Ok More → j.taken ≡ [] → Feeds j new (j.taken ++ bytes) r → WasFed j bytes r
-fed_at_once stay j new bytes r apart fresh fed = record {
+pub fed_at_once : Stay → (j new : JudgeOf) (bytes : List ℕ) (r : Result Progress BadCert) → r ≢ Ok More → Feeds j new bytes r → WasFed j bytes r
+fed_at_once stay j new bytes r apart fed = record {
   finds = fed.finds;
-  fate = λ file stream is cut. told_fate stay file bytes stream j.most r apart cut (subst (λ t. IsFateSoFar file (t ++ bytes) j.most (fate_told r)) fresh (fed.fate file is));
-  run = (false, subst (λ t. FindsRun j false (t ++ bytes) r) fresh fed.run);
+  fate = λ file stream is cut. told_fate stay file bytes stream j.most r apart cut (fed.fate file is);
+  run = (false, fed.run);
 }
 
--- what was taken before is nothing to the run that was found
-run_same : (j : JudgeOf) (bytes : List ℕ) (r : Result Progress BadCert) → FindsRun (record j { taken = bytes; state = Reading }) true bytes r → FindsRun j true bytes r
-run_same j bytes (Ok More) h = tt
-run_same j bytes (Ok (Done f)) h = h
-run_same j bytes (Ok UnknownProgress) h = tt
-run_same j bytes (Err bad) h = tt
+-- what is found is of the problem and the job, whatever was taken before
+finds_same : (j mid : JudgeOf) (r : Result Progress BadCert) → IsSameJudge j mid → Finds mid.asked mid.job r → Finds j.asked j.job r
+finds_same j mid r same h = subst (λ k. Finds j.asked k r) same.1 (subst (λ p. Finds p mid.job r) same.0 h)
+
+run_same : (j mid : JudgeOf) (bytes : List ℕ) (r : Result Progress BadCert) → IsSameJudge j mid → FindsRun mid true bytes r → FindsRun j true bytes r
+run_same j mid bytes (Ok More) same h = tt
+run_same j mid bytes (Ok (Done f)) same h = λ sat step. let found = h sat (λ e. step (sym same.1 ∙ e)) in
+    (
+      found.0,
+      found.1,
+      subst (λ m. IsStreamsRun j.asked j.job true bytes m found.0) same.2
+          (subst (λ k. IsStreamsRun j.asked k true bytes mid.most found.0) same.1 (subst (λ p. IsStreamsRun p mid.job true bytes mid.most found.0) same.0 found.2)),
+    )
+run_same j mid bytes (Ok UnknownProgress) same h = tt
+run_same j mid bytes (Err bad) same h = tt
 
 -- a judge answered at the end of the stream
-pub fed_to_end : (j mid new : JudgeOf) (bytes : List ℕ) (r : Result Progress BadCert) → j.taken ≡ [] → Feeds j mid (j.taken ++ bytes) (Ok More) → Ends mid new r → WasFed j bytes r
-fed_to_end j mid new bytes r fresh fed ended =
-    let stands : mid ≡ record j { taken = bytes; state = Reading } = fed.stands ∙ ap (λ t. record j { taken = t ++ bytes; state = Reading }) fresh in
-    let last : Ends (record j { taken = bytes; state = Reading }) new r = subst (λ m. Ends m new r) stands ended in
-    record {
-      finds = last.finds;
-      run = (true, run_same j bytes r last.run);
-      fate = λ file stream is cut.
-          let more : IsFateSoFar file bytes j.most None = subst (λ t. IsFateSoFar file (t ++ bytes) j.most None) fresh (fed.fate file is) in
-          subst (λ s. MatchOption (fate_told r) ⊥ (IsFate file s j.most)) (sym (stream_is_whole file bytes stream j.most cut more)) (last.fate file is);
-    }
-
--- after More the judge takes more
-pub still_reading : (j mid : JudgeOf) (bytes : List ℕ) → Feeds j mid bytes (Ok More) → mid.state ≡ Reading
-still_reading j mid bytes fed = ap (λ m. m.state) fed.stands
+pub fed_to_end : (j mid new : JudgeOf) (bytes : List ℕ) (r : Result Progress BadCert) → Feeds j mid bytes (Ok More) → Ends mid new bytes r → WasFed j bytes r
+fed_to_end j mid new bytes r fed ended = record {
+  finds = finds_same j mid r fed.same ended.finds;
+  run = (true, run_same j mid bytes r fed.same ended.run);
+  fate = λ file stream is cut.
+      let more : IsFateSoFar file bytes j.most None = fed.fate file is in
+      let last : MatchOption (fate_told r) ⊥ (IsFate file bytes mid.most) = ended.fate file (rw (fed.same.0, fed.same.1) is) in
+      let here : MatchOption (fate_told r) ⊥ (IsFate file bytes j.most) = subst (λ m. MatchOption (fate_told r) ⊥ (IsFate file bytes m)) fed.same.2 last in
+      subst (λ s. MatchOption (fate_told r) ⊥ (IsFate file s j.most)) (sym (stream_is_whole file bytes stream j.most cut more)) here;
+}
 
 more_only : (r : Result Progress BadCert) → fate_told r ≡ None → r ≡ Ok More
 more_only (Ok More) is = refl
@@ -101,20 +106,24 @@ more_only (Ok UnknownProgress) is = cc
 more_only (Err bad) is = cc
 
 -- the judge answered no fate yet, and takes more
-pub still_reading_after : (j mid : JudgeOf) (bytes : List ℕ) (r : Result Progress BadCert) → fate_told r ≡ None → Feeds j mid bytes r → mid.state ≡ Reading
-still_reading_after j mid bytes r none fed = still_reading j mid bytes (subst (Feeds j mid bytes) (more_only r none) fed)
+pub took_after : (j mid : JudgeOf) (bytes : List ℕ) (r : Result Progress BadCert) → fate_told r ≡ None → Feeds j mid bytes r → Took mid bytes
+took_after j mid bytes r none fed = fed.stands (fed.state ∙ ap state_behind (more_only r none))
 
-pub fed_then_ended : (j mid new : JudgeOf) (bytes : List ℕ) (first r : Result Progress BadCert) → fate_told first ≡ None → j.taken ≡ [] → Feeds j mid (j.taken ++ bytes) first → Ends mid new r → WasFed j bytes r
-fed_then_ended j mid new bytes first r none fresh fed ended = fed_to_end j mid new bytes r fresh (subst (Feeds j mid (j.taken ++ bytes)) (more_only first none) fed) ended
+-- then it isn't over
+pub not_over : (j : JudgeOf) (bytes : List ℕ) → Took j bytes → j.state ≢ Over
+not_over j bytes took = let e = took.state in λ is. cc
 
-pub fed_whole : Stay → (j new : JudgeOf) (bytes : List ℕ) (r : Result Progress BadCert) → (fate_told r ≡ None → ⊥) → j.taken ≡ [] → Feeds j new (j.taken ++ bytes) r → WasFed j bytes r
-fed_whole stay j new bytes r some fresh fed = fed_at_once stay j new bytes r (λ e. some (ap fate_told e)) fresh fed
+pub fed_then_ended : (j mid new : JudgeOf) (bytes : List ℕ) (first r : Result Progress BadCert) → fate_told first ≡ None → Feeds j mid bytes first → Ends mid new bytes r → WasFed j bytes r
+fed_then_ended j mid new bytes first r none fed ended = fed_to_end j mid new bytes r (subst (Feeds j mid bytes) (more_only first none) fed) ended
 
-end_kind : (p : AskedOf) (job : JobName) (r : Result Progress BadCert) → Finds (record { asked = p; job = job; most = most_stream; taken = []; state = Reading }) r → IsTrueEnd (end_of r) → IsEndOf p job (end_of r)
-end_kind p job (Ok More) finds holds = tt
-end_kind p job (Ok (Done f)) finds holds = record { problem = finds.0; of_job = finds.1; is_true = holds }
-end_kind p job (Ok UnknownProgress) finds holds = tt
-end_kind p job (Err bad) finds holds = tt
+pub fed_whole : Stay → (j new : JudgeOf) (bytes : List ℕ) (r : Result Progress BadCert) → (fate_told r ≡ None → ⊥) → Feeds j new bytes r → WasFed j bytes r
+fed_whole stay j new bytes r some fed = fed_at_once stay j new bytes r (λ e. some (ap fate_told e)) fed
+
+end_kind : (j : JudgeOf) (r : Result Progress BadCert) → Finds j.asked j.job r → IsTrueEnd (end_of r) → IsEndOf j.asked j.job (end_of r)
+end_kind j (Ok More) finds holds = tt
+end_kind j (Ok (Done f)) finds holds = record { problem = finds.0; of_job = finds.1; is_true = holds }
+end_kind j (Ok UnknownProgress) finds holds = tt
+end_kind j (Err bad) finds holds = tt
 
 -- what counts of a stream counts of the bytes that were got of it
 counted : (most : ℕ) (stream : List ℕ) → leb (length (take (most + 1) stream)) most ≡ leb (length stream) most
@@ -137,25 +146,32 @@ same_values vars ended bytes stream most is =
     ∙ ap (λ n. values_said (sayings vars (ended && n) (take most (take (most + 1) stream)))) (counted most stream)
     ∙ ap (λ s. values_said (sayings vars (ended && leb (length stream) most) s)) (fewer most stream)
 
+same_run : (p : AskedOf) (job : JobName) (ended : Bool) (bytes stream : List ℕ) (most : ℕ) (run : List CycleOf) → bytes ≡ take (most + 1) stream
+    → IsStreamsRun p job ended bytes most run → IsStreamsRun p job ended stream most run
+same_run p job ended bytes stream most run cut h =
+    (h.0, h.1, subst (λ x. IsPlayed p h.0 x run) (same_values h.0.formula.vars ended bytes stream most cut) h.2)
+
 -- the run of an end is played from the values of the stream
-end_run : (p : AskedOf) (job : JobName) (bytes stream : List ℕ) (ended : Bool) (r : Result Progress BadCert) → bytes ≡ take (most_stream + 1) stream
-    → FindsRun (record { asked = p; job = job; most = most_stream; taken = []; state = Reading }) ended bytes r → EndsWithRun p job stream (end_of r)
-end_run p job bytes stream ended (Ok More) cut found = tt
-end_run p job bytes stream ended (Ok (Done f)) cut found = λ sat. let h = found sat in
-    (ended, h.0, h.1, h.2, h.3, subst (λ x. IsPlayed p.design h.0 x h.1) (same_values h.0.formula.vars ended bytes stream most_stream cut) h.4)
-end_run p job bytes stream ended (Ok UnknownProgress) cut found = tt
-end_run p job bytes stream ended (Err bad) cut found = tt
+end_run : (j : JudgeOf) (bytes stream : List ℕ) (ended : Bool) (r : Result Progress BadCert) → j.most ≡ most_stream → bytes ≡ take (most_stream + 1) stream
+    → FindsRun j ended bytes r → EndsWithRun j.asked j.job stream (end_of r)
+end_run j bytes stream ended (Ok More) most cut found = tt
+end_run j bytes stream ended (Ok (Done f)) most cut found = λ sat step. let h = found sat step in
+    (ended, h.0, h.1, same_run j.asked j.job ended bytes stream most_stream h.0 cut (subst (λ m. IsStreamsRun j.asked j.job ended bytes m h.0) most h.2))
+end_run j bytes stream ended (Ok UnknownProgress) most cut found = tt
+end_run j bytes stream ended (Err bad) most cut found = tt
 
 -- a job whose judge was fed these bytes
-pub bytes_judged : (p : AskedOf) (job : JobName) (bytes : List ℕ) (j : JudgeOf) (r : Result Progress BadCert) (end : JobEnd FindingOf) → j ≡ record { asked = p; job = job; most = most_stream; taken = []; state = Reading }
+judged_by : (j : JudgeOf) (bytes : List ℕ) (r : Result Progress BadCert) → j.most ≡ most_stream → IsTrueEnd (end_of r) → WasFed j bytes r → IsBytesJudged j.asked j.job bytes (end_of r)
+judged_by j bytes r most holds was = record {
+  of = end_kind j r was.finds holds;
+  fate = λ file stream at cut. end_by_fate file stream r (subst (λ m. MatchOption (fate_told r) ⊥ (IsFate file stream m)) most (was.fate file stream at (subst (λ m. bytes ≡ take (m + 1) stream) (sym most) cut)));
+  run = λ stream cut. end_run j bytes stream was.run.0 r most cut was.run.1;
+}
+
+pub bytes_judged : (p : AskedOf) (job : JobName) (bytes : List ℕ) (j : JudgeOf) (r : Result Progress BadCert) (end : JobEnd FindingOf) → j.asked ≡ p → j.job ≡ job → j.most ≡ most_stream
     → end ≡ end_of r → IsTrueEnd end → WasFed j bytes r → IsBytesJudged p job bytes end
-bytes_judged p job bytes j r end fresh is holds fed =
-    let was : WasFed (record { asked = p; job = job; most = most_stream; taken = []; state = Reading }) bytes r = subst (λ k. WasFed k bytes r) fresh fed in
-    rw is (record {
-      of = end_kind p job r was.finds (subst IsTrueEnd is holds);
-      fate = λ file stream at cut. end_by_fate file stream r (was.fate file stream at cut);
-      run = λ stream cut. end_run p job bytes stream was.run.0 r cut was.run.1;
-    })
+bytes_judged p job bytes j r end asked is_job most is holds fed =
+    rw is (rw (← asked, ← is_job) (judged_by j bytes r most (subst IsTrueEnd is holds) fed))
 
 pub never_both : (b : Bool) → b ≡ false → IsTrue b → ⊥
 never_both true is holds = cc

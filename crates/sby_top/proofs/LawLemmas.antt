@@ -3,7 +3,7 @@ use Rattle.std.specs.Prelude.{Option, Some, None, map}
 use Rattle.std.specs.Str.{bytes_eq}
 use Rattle.std.proofs.lemmas.Slice.Eq.{bytes_eq-Decides}
 use Rattle.sby_edge.specs.Files.{Store, put_at}
-use Rattle.judge.specs.Fate.{Fate, Found, IsFate}
+use Rattle.stream_judge.specs.Fate.{Fate, Found, IsFate}
 use Rattle.judge.specs.Fault.{IsProblemFault}
 use Rattle.judge.specs.Problem.{AskedOf, IsJobFile}
 use Rattle.judge.specs.declared.problem.ProblemFault.{ProblemFault}
@@ -82,14 +82,14 @@ pub gives : OneFate → OneFile → (before after : World) (request : Request) (
     → request.streams ≡ path ∷ [] → now path ≡ Some stream → now (job_path request.folder (Base 0)) ≡ Some file → IsFate file stream most_stream (Found answer) → end.status ≡ status_for answer
 gives one_fate one_file before after request end exit store now path stream file answer ran told_before told_after bmc early apart streams has stands valid = elim ran.named.status [
   | inl is ↦
-      let came : IsOutcome request (Some store) (Some now) before.file_faults after.file_faults after.blamed None end.text.items end.reports.items =
-      subst (λ e. IsOutcome request (Some store) (Some now) before.file_faults after.file_faults after.blamed e end.text.items end.reports.items) early
-      (subst (λ t. IsOutcome request (Some store) t before.file_faults after.file_faults after.blamed end.early end.text.items end.reports.items) told_after
-      (subst (λ t. IsOutcome request t after.told before.file_faults after.file_faults after.blamed end.early end.text.items end.reports.items) told_before ran.named.cause)) in
+      let came : IsOutcome request (Some store) (Some now) before.file_faults after.file_faults after.blamed None end.text end.reports.items =
+      subst (λ e. IsOutcome request (Some store) (Some now) before.file_faults after.file_faults after.blamed e end.text end.reports.items) early
+      (subst (λ t. IsOutcome request (Some store) t before.file_faults after.file_faults after.blamed end.early end.text end.reports.items) told_after
+      (subst (λ t. IsOutcome request t after.told before.file_faults after.file_faults after.blamed end.early end.text end.reports.items) told_before ran.named.cause)) in
       let status : IsStatus request.mode None (came.0 ∷ []) end.status =
       subst (λ rs. IsStatus request.mode None rs end.status) came.1 (subst (λ e. IsStatus request.mode e end.reports.items end.status) early is) in
       judged_gives one_fate one_file store now request None end.status path stream file answer bmc streams has stands valid
-      (done_judged request store now end.text.items came.0 end.status bmc apart status came.3)
+      (done_judged request store now end.text came.0 end.status bmc apart status came.3)
   | inr memory ↦ absurd (apart memory)
 ]
 

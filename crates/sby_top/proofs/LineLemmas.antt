@@ -5,7 +5,7 @@ use Rattle.judge.specs.Problem.{AskedOf, IsProblem}
 use Rattle.race_core.specs.Report.{ReportOf}
 use Rattle.race_core.specs.declared.end.JobEnd.{JobEnd}
 use Rattle.race_core.specs.declared.end.JobEnd.TheVariants.{Found, Unknown, NotServed, Bad, ReadFailed, StartFailed, HoldFailed, Skipped, CalledOff, Stopped, Memory as MemoryEnd}
-use Rattle.rtlil_design.specs.Runs.{CycleOf}
+use Rattle.design_meaning.specs.Runs.{CycleOf}
 use Rattle.sby_terms.specs.Code.{HasCode}
 use Rattle.sby_terms.specs.declared.names.Answer.{Answer}
 use Rattle.sby_terms.specs.declared.names.Answer.TheVariants.{Sat, Unsat}
@@ -63,8 +63,8 @@ found_verdict : (p : AskedOf) (name : List ℕ) (f : FindingOf) (run : Option (L
 found_verdict p name f (Some run) Sat shown problem of carries is has = (run, (0, f, refl, refl, carries), has)
 found_verdict p name f None Unsat shown problem of carries is has = has
 found_verdict p name f None Sat shown problem of carries is has =
-    let shows : RunShows p.design p.problem.depth f.run = finding_claims p f Sat of is p.design problem.reads in
-    absurd (subst (RunShows p.design p.problem.depth) carries shows)
+    let shows : RunShows p.design 0 p.problem.depth f.run = finding_claims p f Sat of is p.design problem.reads in
+    absurd (subst (RunShows p.design 0 p.problem.depth) carries shows)
 found_verdict p name f (Some run) Unsat shown problem of carries is has = let none : f.run ≡ None = (finding_claims p f Unsat of is p.design problem.reads).1 in cc
 
 end_verdict : (p : AskedOf) (name : List ℕ) (end : JobEnd FindingOf) (shown : List (List ℕ)) → IsProblem p → IsLined p (Base 0) end → HasEndLines p.design name end shown
@@ -111,7 +111,7 @@ memory_code = record { expected = λ apart. absurd (apart refl); unexpected = λ
 
 -- lines that were told were printed, with the exit status and the status that go with how they were told
 pub printed_as : {T : Type 0} {d : Option ℕ} (before now : Option (List ℕ)) (f g : ℕ) (request : Request) (end : TaskEnd) (lines : List (List ℕ)) (told : Result T Stop) (decided : Status) (rc code : ℕ)
-    → Tells before now f g d lines told → HasLines request.mode request.folder end.text.items end.early end.reports.items lines
+    → Tells before now f g d lines told → HasLines request.mode request.folder end.text end.early end.reports.items lines
     → IsStatus request.mode end.early end.reports.items decided → HasCode (Pass ∷ []) decided rc → (end.status, code) ≡ ended told decided rc
     → IsPrintedAs before now f g d request end code
 printed_as before now f g request end lines (Ok x) decided rc code tells has is coded ends =
@@ -198,9 +198,9 @@ pub early_printed : {T : Type 0} {d : Option ℕ} (before now : Option (List ℕ
 early_printed before now f g request end early name told decided rc code expect folder is tells status pass coded ends =
     let coded_pass : HasCode (Pass ∷ []) decided rc = subst (λ e. HasCode e decided rc) pass coded in
     let lines : List (List ℕ) = line_if name (early_text early) ++ done_line name decided rc ∷ [] in
-    let has : HasLines request.mode name end.text.items (Some early) end.reports.items lines = early_has_lines request.mode name end.text.items early end.reports.items decided rc status coded_pass in
+    let has : HasLines request.mode name end.text (Some early) end.reports.items lines = early_has_lines request.mode name end.text early end.reports.items decided rc status coded_pass in
     printed_as before now f g request end lines told decided rc code tells
-    (subst (λ n. HasLines request.mode n end.text.items end.early end.reports.items lines) folder (subst (λ e. HasLines request.mode name end.text.items e end.reports.items lines) (sym is) has))
+    (subst (λ n. HasLines request.mode n end.text end.early end.reports.items lines) folder (subst (λ e. HasLines request.mode name end.text e end.reports.items lines) (sym is) has))
     (subst (λ e. IsStatus request.mode e end.reports.items decided) (sym is) status) coded_pass ends
 
 -- the lines of a task with one job
@@ -210,7 +210,7 @@ served_lines p name lane end shown status rc = one_job_body name (counts_of p.de
 -- they were printed
 pub served_printed : {T : Type 0} {d : Option ℕ} (before now : Option (List ℕ)) (f g : ℕ) (request : Request) (end : TaskEnd) (p : AskedOf) (report : ReportOf FindingOf) (job : JobEnd FindingOf) (name : List ℕ) (lane : ℕ)
     (told : Result T Stop) (decided : Status) (rc code : ℕ) (expect : List Status) (mode : Mode) → request.mode ≡ Bmc → mode ≡ request.mode → name ≡ request.folder → lane ≡ report.lane → end.early ≡ None → end.reports.items ≡ report ∷ [] → report.ends ≡ job ∷ []
-    → end.text.items ≡ p.problem.text → IsProblem p → AreLined p report.ends
+    → end.text ≡ p.problem.text → IsProblem p → AreLined p report.ends
     → ((shown : List (List ℕ)) → HasEndLines p.design name job shown → Tells before now f g d (served_lines p name lane job shown decided rc) told)
     → IsStatusOf mode (answer_of job ∷ []) (event_of job ∷ []) decided → expect ≡ Pass ∷ [] → HasCode expect decided rc → (end.status, code) ≡ ended told decided rc → IsPrintedAs before now f g d request end code
 served_printed before now f g request end p report job name lane told decided rc code expect mode bmc mode_is folder lane_is is reports ends_are text_is problem lined tells decides pass coded ends =
@@ -225,7 +225,7 @@ served_printed before now f g request end p report job name lane told decided rc
     subst (λ l. HasLines request.mode name p.problem.text None (report ∷ []) (served_lines p name l job shown.0 decided rc)) (sym lane_is) at_lane in
     let status : IsStatus request.mode None (report ∷ []) decided = one_job_status request.mode report job decided ends_are decides_here in
     printed_as before now f g request end lines told decided rc code (tells shown.0 shown.1)
-    (subst (λ n. HasLines request.mode n end.text.items end.early end.reports.items lines) folder
+    (subst (λ n. HasLines request.mode n end.text end.early end.reports.items lines) folder
     (subst (λ t. HasLines request.mode name t end.early end.reports.items lines) (sym text_is)
     (subst (λ e. HasLines request.mode name p.problem.text e end.reports.items lines) (sym is) (subst (λ rs. HasLines request.mode name p.problem.text None rs lines) (sym reports) has))))
     (subst (λ e. IsStatus request.mode e end.reports.items decided) (sym is) (subst (λ rs. IsStatus request.mode None rs decided) (sym reports) status)) coded_pass ends

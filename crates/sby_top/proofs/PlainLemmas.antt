@@ -2,7 +2,7 @@ use Rattle.std.proofs.Common.{◌≡◌, ℕ, ◌≤◌, List, [], ◌∷◌, re
 use Rattle.std.specs.Prelude.{◌≢◌, Option, Some, None, MatchOption}
 use Rattle.sby_edge.specs.Cause.{Rose}
 use Rattle.sby_edge.specs.Files.{Store}
-use Rattle.judge.specs.Fate.{Fate, IsFate, Found as FoundFate, Unknown as UnknownFate, Bad as BadFate}
+use Rattle.stream_judge.specs.Fate.{Fate, IsFate, Found as FoundFate, Unknown as UnknownFate, Bad as BadFate}
 use Rattle.judge.specs.Finding.{FindingOf}
 use Rattle.judge.specs.Problem.{AskedOf, IsJobFile}
 use Rattle.judge.specs.declared.problem.ProblemFault.TheVariants.{Read as ReadFault, Design as DesignFault, TooMany as TooManyFault}
@@ -119,8 +119,8 @@ plainly b request store now f g None text reports status askable still apart is 
 -- completeness, where each status names its event
 pub is_complete : (before after : World) (request : Request) (end : TaskEnd) → IsAskable request → NamesEvent before after request end → IsComplete before after request end
 is_complete before after request end askable named = λ store now told_before told_after smooth. elim named.status [
-  | inl is ↦ plainly _ request store now before.file_faults after.file_faults end.early end.text.items end.reports.items end.status askable smooth.files smooth.memory is
-      (subst (λ t. IsOutcome request (Some store) t before.file_faults after.file_faults after.blamed end.early end.text.items end.reports.items) told_after
-      (subst (λ t. IsOutcome request t after.told before.file_faults after.file_faults after.blamed end.early end.text.items end.reports.items) told_before named.cause))
+  | inl is ↦ plainly _ request store now before.file_faults after.file_faults end.early end.text end.reports.items end.status askable smooth.files smooth.memory is
+      (subst (λ t. IsOutcome request (Some store) t before.file_faults after.file_faults after.blamed end.early end.text end.reports.items) told_after
+      (subst (λ t. IsOutcome request t after.told before.file_faults after.file_faults after.blamed end.early end.text end.reports.items) told_before named.cause))
   | inr memory ↦ absurd (smooth.memory memory)
 ]

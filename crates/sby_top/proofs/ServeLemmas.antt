@@ -5,7 +5,9 @@ use Rattle.sby_edge.specs.Cause.{Rose}
 use Rattle.sby_edge.specs.Files.{Store, GotAt, GotFits, GotFrom, GotOf}
 use Rattle.sby_edge.specs.declared.outside.Got.{Got}
 use Rattle.sby_edge.specs.declared.outside.Got.TheVariants.{All as Whole, Long}
-use Rattle.judge.specs.Problem.{AskedOf, IsJob, IsJobFile, IsProblem, jobs_of}
+use Rattle.judge.specs.Jobs.{jobs_in as jobs_of_mode}
+use Rattle.judge.specs.Problem.{AskedOf, IsJob, IsJobFile, IsProblem}
+use Rattle.sby_terms.specs.Span.{whole}
 use Rattle.sby_terms.specs.declared.names.JobName.{JobName}
 use Rattle.sby_terms.specs.declared.names.JobName.TheVariants.{Base}
 use Rattle.sby_terms.specs.declared.names.Mode.TheVariants.{Bmc}
@@ -39,7 +41,7 @@ got_from (Some store) path most got fits h = got_at (store path) most got h
 
 -- the jobs of bmc
 pub one_job_in : (p : AskedOf) → p.problem.mode ≡ Bmc → jobs_in p ≡ (Base 0) ∷ []
-one_job_in p is = ap (λ m. jobs_of m p.design) is
+one_job_in p is = ap (λ m. jobs_of_mode m (whole p.problem.depth) p.design) is
 
 pub has_base : (p : AskedOf) → p.problem.mode ≡ Bmc → IsJob p (Base 0)
 has_base p is = (0, rw (one_job_in p is) refl)

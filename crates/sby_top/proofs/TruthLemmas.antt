@@ -2,13 +2,13 @@ use Rattle.std.proofs.Common.{◌≡◌, ℕ, zero, suc, ◌-◌, ◌≤◌, Lis
 use Rattle.std.specs.Prelude.{Option, Some, None}
 use Rattle.sby_edge.specs.Files.{Store}
 use Rattle.judge.specs.Finding.{FindingOf, RunShows}
-use Rattle.judge.specs.Problem.{AskedOf, IsProblem, jobs_of}
+use Rattle.judge.specs.Problem.{AskedOf, IsProblem}
 use Rattle.race_core.specs.Report.{ReportOf}
 use Rattle.race_core.specs.declared.end.JobEnd.{JobEnd}
 use Rattle.race_core.specs.declared.end.JobEnd.TheVariants.{Found, Unknown, NotServed, Bad, ReadFailed, StartFailed, HoldFailed, Skipped, CalledOff, Stopped, Memory as MemoryEnd}
-use Rattle.rtlil_design.specs.Meaning.{Broken}
-use Rattle.rtlil_design.specs.Runs.{CycleOf, valuations}
-use Rattle.rtlil_design.specs.Shape.{CellOf, DesignOf}
+use Rattle.design_meaning.specs.Meaning.{Broken}
+use Rattle.design_meaning.specs.Runs.{CycleOf, valuations}
+use Rattle.design_core.specs.Shape.{CellOf, DesignOf}
 use Rattle.sby_terms.specs.Problem.{ProblemOf}
 use Rattle.sby_terms.specs.declared.names.Answer.{Answer}
 use Rattle.sby_terms.specs.declared.names.Answer.TheVariants.{Sat, Unsat}
@@ -24,7 +24,7 @@ use Rattle.sby_top.specs.Causes.{IsOutcome, IsDone}
 use Rattle.sby_top.specs.Headline.{ArePrintedOf, FailClaim, IsShown, IsTrueOf, NamesEvent, PassClaim}
 use Rattle.sby_top.specs.Judged.{AreJudged, IsEndOf, IsFindingOf}
 use Rattle.sby_top.specs.Lines.{HasLines, HasVerdictLines, done_line, lane_lines, settled_lines, unless_decided}
-use Rattle.sby_top.specs.Served.{IsAccepted, jobs_in}
+use Rattle.sby_top.specs.Served.{IsAccepted, jobs_at, jobs_in}
 use Rattle.sby_top.specs.Status.{AreDecided, IsStatus, IsStatusOf, answer_of, event_of}
 use Rattle.sby_top.specs.Counts.{counts_of}
 use Rattle.sby_top.specs.Texts.{design_text, line_of}
@@ -117,24 +117,24 @@ shows_lines p name report f run cell lines problem ends sat carries broken has =
     let verdict : body.1 ≡ Some FailVerdict = sat_decides body.1 (subst (λ a. AreDecided Bmc (Some a ∷ []) body.1) sat (subst (λ es. AreDecided Bmc (map answer_of es) body.1) ends body.4)) in
     let own : HasVerdictLines p.design name (Found f ∷ []) body.1 body.2 = subst (λ es. HasVerdictLines p.design name es body.1 body.2) ends (subst (λ d. HasVerdictLines d name report.ends body.1 body.2) design body.5) in
     subst (ArePrintedOf p.design name cell run) (sym (has.all ∙ ap (λ ls. ls ++ done_line name has.status has.rc ∷ []) body.6))
-    (fail_lines p name f run cell body.1 (line_of name (design_text (counts_of body.0)) ∷ settled_lines name (jobs_of Bmc body.0) report.ends
-    ++ unless_decided body.1 (lane_lines name report.lane (jobs_of Bmc body.0) report.ends)) body.2 (done_line name has.status has.rc) verdict carries broken own)
+    (fail_lines p name f run cell body.1 (line_of name (design_text (counts_of body.0)) ∷ settled_lines name (jobs_at Bmc body.0) report.ends
+    ++ unless_decided body.1 (lane_lines name report.lane (jobs_at Bmc body.0) report.ends)) body.2 (done_line name has.status has.rc) verdict carries broken own)
 
 -- a task whose one finding is Sat, with this run, shows it
-shows_run : (request : Request) (end : TaskEnd) (p : AskedOf) (report : ReportOf FindingOf) (f : FindingOf) (run : List CycleOf) → request.mode ≡ Bmc → end.early ≡ None → end.reports.items ≡ report ∷ [] → end.text.items ≡ p.problem.text
-    → IsProblem p → report.ends ≡ Found f ∷ [] → f.answer ≡ Sat → f.run ≡ Some run → RunShows p.design p.problem.depth (Some run) → IsShown request end p.design p.problem.depth
+shows_run : (request : Request) (end : TaskEnd) (p : AskedOf) (report : ReportOf FindingOf) (f : FindingOf) (run : List CycleOf) → request.mode ≡ Bmc → end.early ≡ None → end.reports.items ≡ report ∷ [] → end.text ≡ p.problem.text
+    → IsProblem p → report.ends ≡ Found f ∷ [] → f.answer ≡ Sat → f.run ≡ Some run → RunShows p.design 0 p.problem.depth (Some run) → IsShown request end p.design p.problem.depth
 shows_run request end p report f run bmc early reports text problem ends sat carries shows =
-    let breaks = shown_breaks p.design p.problem.depth run shows in
+    let breaks = shown_breaks p.design 0 p.problem.depth run shows in
     let first = first_exists p.design (last_of p.design run) breaks.broken.0 breaks.broken.1 in
     let cell = broken_cell p.design run first.0 first.1 in
-    let at = shows.2.1 in
+    let at = shows.3.1 in
     record {
       run = run;
       assertion = cell.1.0;
       cell = cell.0;
       carried = (report, reports, rw (bmc, ends) (0, f, refl, refl, carries));
       rows = shows.0;
-      within = shows.1;
+      within = shows.2;
       shows = record {
         run = at.run;
         assumed = at.assumed;
@@ -144,22 +144,22 @@ shows_run request end p report f run bmc early reports text problem ends sat car
       is_cell = cell.1.2;
       printed = λ lines are. shows_lines p request.folder report f run cell.0 lines problem ends sat carries cell.1
           (subst (λ m. HasLines m request.folder p.problem.text None (report ∷ []) lines) bmc (subst (λ t. HasLines request.mode request.folder t None (report ∷ []) lines) text
-          (subst (λ e. HasLines request.mode request.folder end.text.items e (report ∷ []) lines) early (subst (λ rs. HasLines request.mode request.folder end.text.items end.early rs lines) reports are))));
+          (subst (λ e. HasLines request.mode request.folder end.text e (report ∷ []) lines) early (subst (λ rs. HasLines request.mode request.folder end.text end.early rs lines) reports are))));
     }
 
 -- a finding that is Sat carries a run
 carries_run : (p : AskedOf) (f : FindingOf) (run : Option (List CycleOf)) → IsProblem p → IsFindingOf p (Base 0) f → f.answer ≡ Sat → f.run ≡ run → (shown : List CycleOf) × (f.run ≡ Some shown)
 carries_run p f (Some run) problem of sat is = (run, is)
 carries_run p f None problem of sat is =
-    let shows : RunShows p.design p.problem.depth f.run = finding_claims p f Sat of sat p.design problem.reads in absurd (subst (RunShows p.design p.problem.depth) is shows)
+    let shows : RunShows p.design 0 p.problem.depth f.run = finding_claims p f Sat of sat p.design problem.reads in absurd (subst (RunShows p.design 0 p.problem.depth) is shows)
 
 fails_by : (request : Request) (told : Option Store) (end : TaskEnd) (report : ReportOf FindingOf) → request.mode ≡ Bmc → end.early ≡ None → end.reports.items ≡ report ∷ []
-    → IsAnswered request told end.text.items report Sat → IsTrueOf told request end.text.items (FailClaim request.mode request end)
+    → IsAnswered request told end.text report Sat → IsTrueOf told request end.text (FailClaim request.mode request end)
 fails_by request told end report bmc early reports a =
     let run = carries_run a.p a.finding a.finding.run a.accepted.problem a.of a.answers refl in
     let shown : IsShown request end a.p.design a.p.problem.depth =
     shows_run request end a.p report a.finding run.0 bmc early reports a.text_is a.accepted.problem a.ends a.answers run.1 (run_shows a.p a.finding run.0 a.accepted.problem a.of run.1) in
-    subst (λ m. IsTrueOf told request end.text.items (FailClaim m request end)) (sym bmc) (says_truly request told end.text.items a.p (FailClaim Bmc request end) a.accepted a.text_is shown)
+    subst (λ m. IsTrueOf told request end.text (FailClaim m request end)) (sym bmc) (says_truly request told end.text a.p (FailClaim Bmc request end) a.accepted a.text_is shown)
 
 passes_by : (request : Request) (told : Option Store) (text : List ℕ) (report : ReportOf FindingOf) → request.mode ≡ Bmc → IsAnswered request told text report Unsat → IsTrueOf told request text (PassClaim request.mode)
 passes_by request told text report bmc a =
@@ -184,7 +184,7 @@ passes_truly b request before after f g None text reports askable is came =
     passes_by request before text came.0 askable.mode (done_answered request before after text came.0 Unsat askable came.3 (one_job_answers request came.0 Pass Unsat askable s pass_answer))
 
 fails_truly : (b : Option (List ℕ)) (request : Request) (before after : Option Store) (f g : ℕ) (end : TaskEnd) (early : Option Early) → IsAskable request → end.early ≡ early
-    → IsStatus request.mode early end.reports.items Fail → IsOutcome request before after f g b early end.text.items end.reports.items → IsTrueOf before request end.text.items (FailClaim request.mode request end)
+    → IsStatus request.mode early end.reports.items Fail → IsOutcome request before after f g b early end.text end.reports.items → IsTrueOf before request end.text (FailClaim request.mode request end)
 fails_truly b request before after f g end (Some (File path)) askable early is came = cc
 fails_truly b request before after f g end (Some (Read x)) askable early is came = cc
 fails_truly b request before after f g end (Some (Design x)) askable early is came = cc
@@ -194,19 +194,19 @@ fails_truly b request before after f g end (Some MemoryEarly) askable early is c
 fails_truly b request before after f g end None askable early is came =
     let s : IsStatus request.mode None (came.0 ∷ []) Fail = subst (λ rs. IsStatus request.mode None rs Fail) came.1 is in
     fails_by request before end came.0 askable.mode early came.1
-    (done_answered request before after end.text.items came.0 Sat askable came.3 (one_job_answers request came.0 Fail Sat askable s fail_answer))
+    (done_answered request before after end.text came.0 Sat askable came.3 (one_job_answers request came.0 Fail Sat askable s fail_answer))
 
 -- PASS and FAIL are true, where each status names its event
 pub is_pass_true : (before after : World) (request : Request) (end : TaskEnd) → IsAskable request → NamesEvent before after request end → end.status ≡ Pass
-    → IsTrueOf before.told request end.text.items (PassClaim request.mode)
+    → IsTrueOf before.told request end.text (PassClaim request.mode)
 is_pass_true before after request end askable named passes = elim named.status [
-  | inl is ↦ passes_truly _ request before.told after.told before.file_faults after.file_faults end.early end.text.items end.reports.items askable
+  | inl is ↦ passes_truly _ request before.told after.told before.file_faults after.file_faults end.early end.text end.reports.items askable
       (subst (IsStatus request.mode end.early end.reports.items) passes is) named.cause
   | inr memory ↦ cc
 ]
 
 pub is_fail_true : (before after : World) (request : Request) (end : TaskEnd) → IsAskable request → NamesEvent before after request end → end.status ≡ Fail
-    → IsTrueOf before.told request end.text.items (FailClaim request.mode request end)
+    → IsTrueOf before.told request end.text (FailClaim request.mode request end)
 is_fail_true before after request end askable named fails = elim named.status [
   | inl is ↦ fails_truly _ request before.told after.told before.file_faults after.file_faults end end.early askable refl
       (subst (IsStatus request.mode end.early end.reports.items) fails is) named.cause

@@ -4,13 +4,13 @@ use Rattle.std.specs.List.{concat}
 use Rattle.judge.specs.Finding.{FindingOf}
 use Rattle.race_core.specs.declared.end.JobEnd.{JobEnd}
 use Rattle.race_core.specs.declared.end.JobEnd.TheVariants.{Found}
-use Rattle.rtlil_design.specs.Meaning.{Broken, Valuation, asserts}
-use Rattle.rtlil_design.specs.Runs.{CycleOf, shown_of, valuations}
-use Rattle.rtlil_design.specs.Shape.{CellOf, DesignOf}
+use Rattle.design_meaning.specs.Meaning.{Broken, Valuation, asserts}
+use Rattle.design_meaning.specs.Runs.{CycleOf, shown_of, valuations}
+use Rattle.design_core.specs.Shape.{CellOf, DesignOf}
 use Rattle.sby_terms.specs.declared.names.JobName.{JobName}
 use Rattle.sby_terms.specs.declared.names.JobName.TheVariants.{Base}
 use Rattle.sby_top.specs.Texts.{broken_text, line_of}
-use Rattle.trace_text.specs.Trace.{trace}
+use Rattle.design_trace.specs.Trace.{trace}
 
 -- a line: its last byte is its one line feed
 abbrev pub IsLine : List ℕ → Type 0

@@ -2,16 +2,16 @@
 use Rattle.std.specs.Prelude.{◌≡◌, ◌⊎◌, ℕ, ◌≤◌, List, [], ◌∷◌, length, slice_get, Option, Some, None, Contains}
 use Rattle.std.specs.List.{concat}
 use Rattle.sby_edge.specs.Cause.{Rose}
-use Rattle.rtlil_design.specs.Claims.{NoBreak, Shows}
-use Rattle.rtlil_design.specs.Meaning.{asserts}
-use Rattle.rtlil_design.specs.Runs.{CycleOf, IsRunOf, valuations}
-use Rattle.rtlil_design.specs.Shape.{CellOf, DesignOf}
+use Rattle.design_meaning.specs.Claims.{NoBreak, Shows}
+use Rattle.design_meaning.specs.Meaning.{asserts}
+use Rattle.design_meaning.specs.Runs.{CycleOf, IsRunOf, valuations}
+use Rattle.design_core.specs.Shape.{CellOf, DesignOf}
 use Rattle.judge.specs.Finding.{FindingOf}
 use Rattle.race_core.specs.Report.{ReportOf}
 use Rattle.race_core.specs.declared.end.JobEnd.{JobEnd}
 use Rattle.race_core.specs.declared.end.JobEnd.TheVariants.{Found, Unknown as UnknownEnd, NotServed, Bad, ReadFailed, StartFailed, HoldFailed, Skipped, CalledOff, Stopped, Memory as MemoryEnd}
-use Rattle.rtlil_design.specs.Faults.{IsFlat}
-use Rattle.rtlil_reader.specs.Grammar.{Reads}
+use Rattle.design_check.specs.Faults.{IsFlat}
+use Rattle.design_reader.specs.Grammar.{Reads}
 use Rattle.sby_terms.specs.declared.names.Status.{Status}
 use Rattle.sby_terms.specs.declared.names.Status.TheVariants.{Pass, Fail, Unknown, Error, Timeout, Memory}
 use Rattle.sby_top.specs.Broken.{IsFirstBroken, last_of}
@@ -92,7 +92,7 @@ IsFaultyEnd end = (number : ℕ) × (at : ℕ) × (end ≡ Bad number at)
 -- the task was judged, with one report, and no file call failed
 abbrev pub WasJudged : World → World → Request → TaskEnd → ReportOf FindingOf → Type 0
 WasJudged start finish request end report =
-    (end.early ≡ None) × (end.reports.items ≡ report ∷ []) × (finish.file_faults ≡ start.file_faults) × IsDone request start.told finish.told end.text.items report
+    (end.early ≡ None) × (end.reports.items ≡ report ∷ []) × (finish.file_faults ≡ start.file_faults) × IsDone request start.told finish.told end.text report
 
 -- the event that a status other than PASS and FAIL names; of want of memory nothing is said, and no clock is read yet
 abbrev pub IsEvent : World → World → Request → TaskEnd → Status → Type 0

@@ -1,22 +1,14 @@
 -- What the design line counts.
-use Rattle.std.specs.Prelude.{ℕ, Bool, true, false, length}
+use Rattle.std.specs.Prelude.{ℕ, Bool, length}
 use Rattle.std.specs.List.{sum_by, filter}
-use Rattle.rtlil_design.specs.Shape.{CellOf, DesignOf}
-use Rattle.rtlil_design.specs.Asked.{Role, Combinational, Register, Constant, Initial, Source, Saying, Stranger, role_of, output_of}
-use Rattle.rtlil_design.specs.Meaning.{asserts, assumes, covers, is_assert, is_assume, is_cover}
-use Rattle.rtlil_design.specs.declared.kind.Kind.{Kind}
-use Rattle.rtlil_design.specs.declared.kind.Statement.{Statement}
-use Rattle.rtlil_design.specs.declared.kind.Statement.TheVariants.{Assert, Assume, Cover}
+use Rattle.design_core.specs.Shape.{CellOf, DesignOf}
+use Rattle.design_core.specs.Asked.{output_of}
+use Rattle.design_core.specs.Table.{role_of}
+use Rattle.design_meaning.specs.Meaning.{asserts, assumes, covers, is_assert, is_assume, is_cover, is_register}
+use Rattle.cell_table.specs.declared.kind.Kind.{Kind}
+use Rattle.cell_table.specs.declared.kind.Statement.{Statement}
+use Rattle.cell_table.specs.declared.kind.Statement.TheVariants.{Assert, Assume, Cover}
 use Rattle.sby_top.specs.declared.counts.Counts.{Counts}
-
-abbrev pub is_register : Role → Bool
-is_register Register = true
-is_register Combinational = false
-is_register Constant = false
-is_register Initial = false
-is_register Source = false
-is_register Saying = false
-is_register Stranger = false
 
 -- the bits that registers hold
 abbrev pub register_bits : DesignOf → ℕ

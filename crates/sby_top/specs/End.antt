@@ -32,7 +32,7 @@ ended (Err Sink) decided rc = (decided, 16)
 pub record IsEnd (request : Request) (early : Option Early) (text : List ℕ) (reports : List (ReportOf FindingOf)) (end : TaskEnd) : Type 0 where
   pub name : string_bytes end.name ≡ request.folder
   pub early_is : end.early ≡ early
-  pub text_is : end.text.items ≡ text
+  pub text_is : end.text ≡ text
   pub reports_are : end.reports.items ≡ reports
   pub status : IsStatus request.mode early reports end.status ⊎ (end.status ≡ Memory)
   pub start : end.start ≡ None

@@ -4,20 +4,21 @@ use Rattle.std.specs.List.{concat}
 use Rattle.sby_edge.specs.Cause.{Rose}
 use Rattle.sby_edge.specs.Sink.{AreAll}
 use Rattle.sby_edge.specs.Files.{Store}
-use Rattle.frame_cnf.specs.Jobs.{Solvable}
-use Rattle.judge.specs.Fate.{Fate, IsFate, Found, Unknown, Bad}
+use Rattle.judge.specs.Jobs.{Solvable}
+use Rattle.stream_judge.specs.Fate.{Fate, IsFate, Found, Unknown, Bad}
 use Rattle.judge.specs.Finding.{FindingOf}
-use Rattle.judge.specs.Problem.{AskedOf, IsJobFile, jobs_of}
+use Rattle.judge.specs.Problem.{AskedOf, IsJobFile}
 use Rattle.judge.specs.declared.problem.ProblemFault.{ProblemFault}
 use Rattle.judge.specs.declared.problem.ProblemFault.TheVariants.{Read as ReadFault, Design as DesignFault, TooMany as TooManyFault}
 use Rattle.race_core.specs.Report.{ReportOf}
-use Rattle.rtlil_design.specs.Claims.{NeverBreak, NoBreak, Shows}
-use Rattle.rtlil_design.specs.Faults.{IsFlat}
-use Rattle.rtlil_design.specs.Meaning.{asserts}
-use Rattle.rtlil_design.specs.Runs.{CycleOf, IsRunOf, shown_of, valuations}
-use Rattle.rtlil_design.specs.Shape.{CellOf, DesignOf}
-use Rattle.rtlil_reader.specs.Grammar.{Reads}
+use Rattle.design_meaning.specs.Claims.{NeverBreak, NoBreak, Shows}
+use Rattle.design_check.specs.Faults.{IsFlat}
+use Rattle.design_meaning.specs.Meaning.{asserts}
+use Rattle.design_meaning.specs.Runs.{CycleOf, IsRunOf, shown_of, valuations}
+use Rattle.design_core.specs.Shape.{CellOf, DesignOf}
+use Rattle.design_reader.specs.Grammar.{Reads}
 use Rattle.sby_terms.specs.Code.{HasCode}
+use Rattle.sby_terms.specs.Span.{whole}
 use Rattle.sby_terms.specs.declared.names.Answer.{Answer}
 use Rattle.sby_terms.specs.declared.names.Event.{Event}
 use Rattle.sby_terms.specs.declared.names.Event.TheVariants.{Quiet, Fault}
@@ -30,7 +31,7 @@ use Rattle.sby_terms.specs.declared.names.Status.TheVariants.{Pass, Fail, Error,
 use Rattle.sby_top.specs.Broken.{AreLinesOf, CarriesRun, IsFirstBroken, broken_line, last_of}
 use Rattle.sby_top.specs.Causes.{IsOutcome}
 use Rattle.sby_top.specs.Lines.{HasLines}
-use Rattle.sby_top.specs.Served.{ArePut, IsAccepted, IsGot, IsRefused, IsStored, jobs_in, most_design, most_stream}
+use Rattle.sby_top.specs.Served.{ArePut, IsAccepted, IsGot, IsRefused, IsStored, jobs_at, jobs_in, most_design, most_stream}
 use Rattle.sby_top.specs.Status.{IsStatus, IsStatusOf}
 use Rattle.sby_top.specs.Telling.{GrownByFirst, GrownBySome, grown}
 use Rattle.sby_top.specs.Words.{Request}
@@ -38,22 +39,22 @@ use Rattle.sby_top.specs.World.{World}
 use Rattle.sby_top.specs.declared.outcome.Early.{Early}
 use Rattle.sby_top.specs.declared.outcome.Early.TheVariants.{Read, Design, TooMany, Streams}
 use Rattle.sby_top.specs.declared.outcome.TaskEnd.{TaskEnd}
-use Rattle.trace_text.specs.Trace.{trace}
+use Rattle.design_trace.specs.Trace.{trace}
 
 -- What PASS says of a design at depth n: in bmc no run of at most n cycles breaks an assertion, in prove no run of any length does.
 -- Cover isn't served yet.
 abbrev pub PassClaim : Mode → DesignOf → ℕ → Type 0
-PassClaim Bmc d n = NoBreak d n
+PassClaim Bmc d n = NoBreak d 0 n
 PassClaim Prove d n = NeverBreak d
 PassClaim Cover d n = ⊥
 
 -- a task that came to this end has these lines
 abbrev pub AreLines : Request → TaskEnd → List (List ℕ) → Type 0
-AreLines request end lines = HasLines request.mode request.folder end.text.items end.early end.reports.items lines
+AreLines request end lines = HasLines request.mode request.folder end.text end.early end.reports.items lines
 
 -- the one report of a task carries this run, in its finding for Base
 abbrev pub IsCarried : Mode → DesignOf → List (ReportOf FindingOf) → List CycleOf → Type 0
-IsCarried mode d reports run = (report : ReportOf FindingOf) × (reports ≡ report ∷ []) × CarriesRun (jobs_of mode d) report.ends run
+IsCarried mode d reports run = (report : ReportOf FindingOf) × (reports ≡ report ∷ []) × CarriesRun (jobs_at mode d) report.ends run
 
 -- somewhere in the lines stands that of the broken assertion, then the trace of the run, then the last
 abbrev pub ArePrintedOf : DesignOf → List ℕ → CellOf → List CycleOf → List (List ℕ) → Type 0
@@ -78,7 +79,7 @@ pub record IsShown (request : Request) (end : TaskEnd) (d : DesignOf) (n : ℕ) 
 -- what FAIL says at depth n: in bmc it shows a run that breaks an assertion, in prove there is one
 abbrev pub FailClaim : Mode → Request → TaskEnd → DesignOf → ℕ → Type 0
 FailClaim Bmc request end d n = IsShown request end d n
-FailClaim Prove request end d n = Solvable d (Base 0) n
+FailClaim Prove request end d n = Solvable d (Base 0) (whole n)
 FailClaim Cover request end d n = ⊥
 
 -- the text that the design's path gave reads a flat design of which the claim is true
@@ -90,7 +91,7 @@ IsTrueOf told request text claim =
 pub record NamesEvent (before after : World) (request : Request) (end : TaskEnd) : Type 0 where
   pub name : string_bytes end.name ≡ request.folder
   pub status : IsStatus request.mode end.early end.reports.items end.status ⊎ (end.status ≡ Memory)
-  pub cause : IsOutcome request before.told after.told before.file_faults after.file_faults after.blamed end.early end.text.items end.reports.items
+  pub cause : IsOutcome request before.told after.told before.file_faults after.file_faults after.blamed end.early end.text end.reports.items
   pub start : end.start ≡ None
   pub unput : end.unput.items ≡ []
 
@@ -184,8 +185,8 @@ pub record IsLater (before after : World) : Type 0 where
 
 -- a task was run, from one moment to another
 pub record TaskRan (before after : World) (request : Request) (end : TaskEnd) (exit : Exit) : Type 0 where
-  pub pass : end.status ≡ Pass → IsTrueOf before.told request end.text.items (PassClaim request.mode)
-  pub fail : end.status ≡ Fail → IsTrueOf before.told request end.text.items (FailClaim request.mode request end)
+  pub pass : end.status ≡ Pass → IsTrueOf before.told request end.text (PassClaim request.mode)
+  pub fail : end.status ≡ Fail → IsTrueOf before.told request end.text (FailClaim request.mode request end)
   pub named : NamesEvent before after request end
   pub printed : IsPrinted before.taken after.taken before.sink_faults after.sink_faults after.ended request end exit
   pub stored : IsStored request before.told after.told

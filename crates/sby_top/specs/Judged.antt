@@ -1,20 +1,19 @@
 -- How the jobs of a task end.
 use Rattle.std.specs.Prelude.{◌≡◌, ℕ, Bool, List, [], ◌∷◌, length, replicate, Option, Some, None, MatchOption}
 use Rattle.sby_edge.specs.Files.{Store}
-use Rattle.frame_cnf.specs.Encoding.{EncodedOf}
-use Rattle.judge.specs.Fate.{IsFate, Found as FoundFate, Unknown as UnknownFate, Bad as BadFate}
+use Rattle.stream_judge.specs.Fate.{IsFate, Found as FoundFate, Unknown as UnknownFate, Bad as BadFate}
 use Rattle.judge.specs.Finding.{FindingOf, IsTrueFinding}
-use Rattle.judge.specs.Numbers.{number_of}
-use Rattle.judge.specs.Played.{IsPlayed}
-use Rattle.judge.specs.Problem.{AskedOf, IsEncodedOf, IsJobFile}
-use Rattle.judge.specs.Values.{stream_values}
-use Rattle.judge.specs.declared.stream.CertKind.{CertKind}
+use Rattle.stream_judge.specs.Numbers.{number_of}
+use Rattle.judge.specs.Played.{IsStreamsRun}
+use Rattle.judge.specs.Problem.{AskedOf, IsJobFile}
+use Rattle.stream_judge.specs.declared.stream.CertKind.{CertKind}
 use Rattle.race_core.specs.Report.{ReportOf, no_events}
 use Rattle.race_core.specs.declared.end.JobEnd.{JobEnd}
 use Rattle.race_core.specs.declared.end.JobEnd.TheVariants.{Found, Unknown, NotServed, Bad, ReadFailed, StartFailed, HoldFailed, Skipped, CalledOff, Stopped, Memory}
-use Rattle.rtlil_design.specs.Runs.{CycleOf}
+use Rattle.design_meaning.specs.Runs.{CycleOf}
 use Rattle.sby_terms.specs.declared.names.Answer.TheVariants.{Sat}
 use Rattle.sby_terms.specs.declared.names.JobName.{JobName}
+use Rattle.sby_terms.specs.declared.names.JobName.TheVariants.{Step}
 use Rattle.sby_top.specs.Served.{jobs_in, most_stream}
 
 -- what a path has meets this, where the store tells, and a path that has nothing doesn't; where it doesn't tell, some bytes do
@@ -55,11 +54,10 @@ IsEndOf p job (Skipped f) = ⊥
 IsEndOf p job (CalledOff f) = ⊥
 IsEndOf p job (Stopped reading) = ⊥
 
--- a finding that the job can be solved has the run that is played from the values that the stream names
+-- a finding that Base or Cover can be solved has the run that is played from the values that the stream names
 abbrev pub HasStreamsRun : AskedOf → JobName → List ℕ → FindingOf → Type 0
 HasStreamsRun p job stream f =
-    f.answer ≡ Sat → (ended : Bool) × (e : EncodedOf) × (run : List CycleOf) × IsEncodedOf p job e × (f.run ≡ Some run)
-    × IsPlayed p.design e (stream_values e.formula.vars ended stream most_stream) run
+    f.answer ≡ Sat → (job ≡ Step → ⊥) → (ended : Bool) × (run : List CycleOf) × (f.run ≡ Some run) × IsStreamsRun p job ended stream most_stream run
 
 abbrev pub EndsWithRun : AskedOf → JobName → List ℕ → JobEnd FindingOf → Type 0
 EndsWithRun p job stream (Found f) = HasStreamsRun p job stream f

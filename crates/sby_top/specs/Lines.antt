@@ -1,15 +1,15 @@
 -- The lines of a task.
 use Rattle.std.specs.Prelude.{◌≡◌, ◌≢◌, ℕ, ◌==◌, if◌then◌else◌, List, [], ◌∷◌, ◌++◌, string_bytes, Option, Some, None}
 use Rattle.judge.specs.Finding.{FindingOf}
-use Rattle.judge.specs.Problem.{jobs_of}
-use Rattle.judge.specs.declared.stream.CertKind.{CertKind}
-use Rattle.judge.specs.declared.stream.CertKind.TheVariants.{BadLine, BadLiteral, LineTooLong, NotRup, NotSatisfying, NotPlaying, TooLong, EarlyEnd, BadWitness}
+use Rattle.sby_top.specs.Served.{jobs_at}
+use Rattle.stream_judge.specs.declared.stream.CertKind.{CertKind}
+use Rattle.stream_judge.specs.declared.stream.CertKind.TheVariants.{BadLine, BadLiteral, LineTooLong, NotRup, NotSatisfying, TooLong, EarlyEnd}
 use Rattle.race_core.specs.Report.{ReportOf}
 use Rattle.race_core.specs.declared.end.JobEnd.{JobEnd}
 use Rattle.race_core.specs.declared.end.JobEnd.TheVariants.{Found, Unknown, NotServed, Bad, ReadFailed, StartFailed, HoldFailed, Skipped, CalledOff, Stopped, Memory as MemoryEnd}
-use Rattle.rtlil_design.specs.Runs.{CycleOf}
-use Rattle.rtlil_design.specs.Shape.{DesignOf}
-use Rattle.rtlil_reader.specs.Grammar.{Reads}
+use Rattle.design_meaning.specs.Runs.{CycleOf}
+use Rattle.design_core.specs.Shape.{DesignOf}
+use Rattle.design_reader.specs.Grammar.{Reads}
 use Rattle.sby_terms.specs.Code.{HasCode}
 use Rattle.sby_terms.specs.declared.names.Answer.{Answer}
 use Rattle.sby_terms.specs.declared.names.JobName.{JobName}
@@ -27,11 +27,11 @@ use Rattle.sby_top.specs.declared.outcome.Early.{Early}
 use Rattle.sby_top.specs.declared.outcome.Early.TheVariants.{File, Read, Design, TooMany, Streams, Memory as MemoryEarly}
 use Rattle.std.specs.Prelude.{map}
 
--- the kind of a certificate's fault by its number, from 41 to 49
+-- the kind of a certificate's fault by its number: 41 to 45, 47 or 48
 abbrev pub kind_numbered : ℕ → CertKind
 kind_numbered number =
     if number == 41 then BadLine else if number == 42 then BadLiteral else if number == 43 then LineTooLong else if number == 44 then NotRup
-    else if number == 45 then NotSatisfying else if number == 46 then NotPlaying else if number == 47 then TooLong else if number == 48 then EarlyEnd else BadWitness
+    else if number == 45 then NotSatisfying else if number == 47 then TooLong else EarlyEnd
 
 -- the line of a text, or no line
 abbrev pub line_if : List ℕ → Option (List ℕ) → List (List ℕ)
@@ -88,7 +88,7 @@ unless_decided (Some verdict) lines = []
 
 -- FAIL has the lines of the run that the finding for Base carries; PASS has none, nor is there a run without a verdict
 abbrev pub HasVerdictLines : DesignOf → List ℕ → List (JobEnd FindingOf) → Option Verdict → List (List ℕ) → Type 0
-HasVerdictLines d name ends (Some FailVerdict) lines = (run : List CycleOf) × CarriesRun (jobs_of Bmc d) ends run × HasBrokenLines d name run lines
+HasVerdictLines d name ends (Some FailVerdict) lines = (run : List CycleOf) × CarriesRun (jobs_at Bmc d) ends run × HasBrokenLines d name run lines
 HasVerdictLines d name ends (Some PassVerdict) lines = lines ≡ []
 HasVerdictLines d name ends None lines = lines ≡ []
 
@@ -98,8 +98,8 @@ abbrev pub HasJobLines : Mode → List ℕ → List ℕ → ReportOf FindingOf �
 HasJobLines Bmc name text report body =
     (d : DesignOf) × (verdict : Option Verdict) × (shown : List (List ℕ)) × Reads text d × AreDecided Bmc (map answer_of report.ends) verdict
     × HasVerdictLines d name report.ends verdict shown
-    × (body ≡ line_of name (design_text (counts_of d)) ∷ settled_lines name (jobs_of Bmc d) report.ends
-    ++ unless_decided verdict (lane_lines name report.lane (jobs_of Bmc d) report.ends) ++ shown)
+    × (body ≡ line_of name (design_text (counts_of d)) ∷ settled_lines name (jobs_at Bmc d) report.ends
+    ++ unless_decided verdict (lane_lines name report.lane (jobs_at Bmc d) report.ends) ++ shown)
 HasJobLines Prove name text report body = ⊥
 HasJobLines Cover name text report body = ⊥
 

@@ -2,7 +2,11 @@
 use Rattle.std.specs.Prelude.{◌≡◌, ◌⊎◌, ℕ, ◌+◌, ◌≤◌, List, [], ◌∷◌, length, take, Option, Some, None, option_map}
 use Rattle.sby_edge.specs.Files.{Store, put_at}
 use Rattle.judge.specs.Fault.{IsProblemFault}
-use Rattle.judge.specs.Problem.{AskedOf, IsJobFile, IsProblem, jobs_of}
+use Rattle.design_core.specs.Shape.{DesignOf}
+use Rattle.judge.specs.Jobs.{jobs_of, jobs_in as jobs_of_mode}
+use Rattle.judge.specs.Problem.{AskedOf, IsJobFile, IsProblem}
+use Rattle.sby_terms.specs.Span.{whole}
+use Rattle.sby_terms.specs.declared.names.Mode.{Mode}
 use Rattle.judge.specs.declared.problem.ProblemFault.{ProblemFault}
 use Rattle.sby_terms.specs.Problem.{ProblemOf}
 use Rattle.sby_terms.specs.declared.names.JobName.{JobName}
@@ -35,8 +39,13 @@ pub record IsAccepted (told : Option Store) (request : Request) (p : AskedOf) : 
   pub asked : p.problem ≡ problem_of request p.problem.text
   pub problem : IsProblem p
 
+-- the jobs of a mode over one slice from cycle 0, whatever the depth
+abbrev pub jobs_at : Mode → DesignOf → List JobName
+jobs_at mode d = jobs_of_mode mode (whole 1) d
+
+-- the jobs of a problem
 abbrev pub jobs_in : AskedOf → List JobName
-jobs_in p = jobs_of p.problem.mode p.design
+jobs_in p = jobs_of p.problem p.design
 
 -- and there is a job for each stream
 abbrev pub IsServed : Option Store → Request → AskedOf → Type 0

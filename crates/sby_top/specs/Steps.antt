@@ -4,21 +4,21 @@ use Rattle.sby_edge.specs.Cause.{Rose}
 use Rattle.sby_edge.specs.Files.{Store}
 use Rattle.sby_edge.specs.declared.outside.Got.{Got}
 use Rattle.sby_edge.specs.declared.outside.Got.TheVariants.{All as Whole, Long}
-use Rattle.judge.specs.Fate.{IsFate}
+use Rattle.stream_judge.specs.Fate.{IsFate}
 use Rattle.judge.specs.Fault.{IsProblemFault}
 use Rattle.judge.specs.Finding.{FindingOf, IsTrueFinding}
 use Rattle.judge.specs.Judging.{Finds, FindsRun, JudgeOf, fate_told}
-use Rattle.judge.specs.Numbers.{number_of}
+use Rattle.stream_judge.specs.Numbers.{number_of}
 use Rattle.judge.specs.Problem.{AskedOf, IsJobFile}
 use Rattle.judge.specs.declared.judging.Progress.{Progress}
 use Rattle.judge.specs.declared.judging.Progress.TheVariants.{More, Done, Unknown as UnknownProgress}
 use Rattle.judge.specs.declared.problem.ProblemFault.TheVariants.{Read as ReadFault, Design as DesignFault, TooMany as TooManyFault}
-use Rattle.judge.specs.declared.stream.BadCert.{BadCert}
+use Rattle.stream_judge.specs.declared.stream.BadCert.{BadCert}
 use Rattle.race_core.specs.declared.end.JobEnd.{JobEnd}
 use Rattle.race_core.specs.declared.end.JobEnd.TheVariants.{Found, Unknown, NotServed, Bad, Stopped}
-use Rattle.rtlil_design.specs.Meaning.{Broken}
-use Rattle.rtlil_design.specs.Runs.{CycleOf, IsRunOf}
-use Rattle.rtlil_design.specs.Shape.{DesignOf}
+use Rattle.design_meaning.specs.Meaning.{Broken}
+use Rattle.design_meaning.specs.Runs.{CycleOf, IsRunOf}
+use Rattle.design_core.specs.Shape.{DesignOf}
 use Rattle.sby_terms.specs.Problem.{ProblemOf}
 use Rattle.sby_terms.specs.declared.names.JobName.{JobName}
 use Rattle.sby_terms.specs.declared.names.JobName.TheVariants.{Base}
@@ -95,7 +95,7 @@ HasEndLines d name _ lines = lines ≡ []
 
 -- a judge was fed these bytes as its whole stream, or as one that goes on past what it takes
 pub record WasFed (j : JudgeOf) (bytes : List ℕ) (r : Result Progress BadCert) : Type 0 where
-  pub finds : Finds j r
+  pub finds : Finds j.asked j.job r
   pub fate : (file stream : List ℕ) → IsJobFile j.asked j.job file → bytes ≡ take (j.most + 1) stream → MatchOption (fate_told r) ⊥ (IsFate file stream j.most)
   pub run : (ended : Bool) × FindsRun j ended bytes r
 

@@ -1,12 +1,12 @@
 -- The text of every line, as bytes. Nothing above these definitions speaks of text.
 use Rattle.std.specs.Prelude.{ℕ, List, [], ◌∷◌, ◌++◌, codes}
 use Rattle.std.specs.Fmt.{decimal}
-use Rattle.rtlil_design.specs.declared.fault.FaultKind.{FaultKind}
-use Rattle.rtlil_design.specs.declared.fault.FaultKind.TheVariants.{UnknownCell, LeftOut as LeftOutCell, BadParameter, PortWidth, WidthLimit, MixedSign, TwoDrivers, MultiClock, InitConflict, Loop}
-use Rattle.rtlil_reader.specs.declared.fault.ReadFaultKind.{ReadFaultKind}
-use Rattle.rtlil_reader.specs.declared.fault.ReadFaultKind.TheVariants.{Limit, Syntax, NotUtf8Name, DoubleName, UnknownWire, Index, LeftOut, NoModule, SeveralModules}
-use Rattle.judge.specs.declared.stream.CertKind.{CertKind}
-use Rattle.judge.specs.declared.stream.CertKind.TheVariants.{BadLine, BadLiteral, LineTooLong, NotRup, NotSatisfying, NotPlaying, TooLong, EarlyEnd, BadWitness}
+use Rattle.design_check.specs.declared.fault.FaultKind.{FaultKind}
+use Rattle.design_check.specs.declared.fault.FaultKind.TheVariants.{UnknownCell, LeftOut as LeftOutCell, BadParameter, PortWidth, WidthLimit, MixedSign, TwoDrivers, MultiClock, InitConflict, Loop}
+use Rattle.design_reader.specs.declared.fault.ReadFaultKind.{ReadFaultKind}
+use Rattle.design_reader.specs.declared.fault.ReadFaultKind.TheVariants.{Limit, Syntax, NotUtf8Name, DoubleName, UnknownWire, Index, LeftOut, NoModule, SeveralModules}
+use Rattle.stream_judge.specs.declared.stream.CertKind.{CertKind}
+use Rattle.stream_judge.specs.declared.stream.CertKind.TheVariants.{BadLine, BadLiteral, LineTooLong, NotRup, NotSatisfying, TooLong, EarlyEnd}
 use Rattle.sby_terms.specs.declared.names.Answer.{Answer}
 use Rattle.sby_terms.specs.declared.names.Answer.TheVariants.{Sat, Unsat}
 use Rattle.sby_terms.specs.declared.names.JobName.{JobName}
@@ -70,10 +70,8 @@ cert_kind_text BadLiteral = codes "BadLiteral at byte"
 cert_kind_text LineTooLong = codes "LineTooLong at byte"
 cert_kind_text NotRup = codes "NotRup at byte"
 cert_kind_text NotSatisfying = codes "NotSatisfying clause"
-cert_kind_text NotPlaying = codes "NotPlaying frame"
 cert_kind_text TooLong = codes "TooLong at byte"
 cert_kind_text EarlyEnd = codes "EarlyEnd at byte"
-cert_kind_text BadWitness = codes "BadWitness at byte"
 
 unfoldable pub file_text : List ℕ → List ℕ
 file_text path = codes "ERROR: file " ++ path

@@ -1,8 +1,8 @@
 // What is claimed of a call of the program, one claim each. Each law stands on what `run_sby` ensures, and its body is empty.
 
 ghost use Rattle.std.specs.Prelude.{◌≡◌, ◌⊎◌, ℕ, List, Contains};
-ghost use Rattle.rtlil_design.specs.Claims.{NoBreak};
-ghost use Rattle.rtlil_design.specs.Shape.{DesignOf};
+ghost use Rattle.design_meaning.specs.Claims.{NoBreak};
+ghost use Rattle.design_core.specs.Shape.{DesignOf};
 ghost use Rattle.sby_terms.specs.declared.names.Mode.TheVariants.{Bmc};
 ghost use Rattle.sby_terms.specs.declared.names.Status.TheVariants.{Pass, Fail};
 ghost use Rattle.sby_top.specs.Claims.{IsDesignOf, IsEvent, IsShownBreak, IsTaskOf};
@@ -24,7 +24,7 @@ pub fn each_end_is_of_a_task()
 pub fn pass_of_bmc_is_true()
     ensures { (before after start finish : World) (words : List (List ℕ)) (done : Done) (request : Request) (end : TaskEnd)
         → IsTaskOf before after words done start finish request end → end.status ≡ Pass → request.mode ≡ Bmc
-        → (d : DesignOf) × IsDesignOf start request d × NoBreak d request.depth }
+        → (d : DesignOf) × IsDesignOf start request d × NoBreak d 0 request.depth }
 {}
 
 /// FAIL of bmc shows a run: of the flat design that the path's text reads, of at most the depth's cycles, all of them assumed, whose

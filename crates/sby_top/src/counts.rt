@@ -1,14 +1,18 @@
 // What the design line counts.
 
-ghost use Rattle.std.specs.Prelude.{◌≡◌, ◌≤◌, ◌^◌, length};
+ghost use Rattle.std.specs.Prelude.{◌≡◌, ◌<◌, ◌≤◌, ◌^◌, length};
+ghost use Rattle.design_signals.specs.Chunks.{bits_of};
 ghost use Rattle.std.specs.List.{filter, sum_by};
-ghost use Rattle.rtlil_design.specs.Asked.{output_of, role_of};
-ghost use Rattle.rtlil_design.specs.Shape.{CellOf};
-ghost use Rattle.sby_top.specs.Counts.{counts_of, is_register, is_statement};
+ghost use Rattle.design_core.specs.Asked.{output_of};
+ghost use Rattle.design_core.specs.Table.{role_of};
+ghost use Rattle.design_meaning.specs.Meaning.{is_register};
+ghost use Rattle.design_core.specs.Shape.{CellOf};
+ghost use Rattle.sby_top.specs.Counts.{counts_of, is_statement};
 
-use rtlil_design::cell::Cell;
-use rtlil_design::design::Design;
-use rtlil_design::kind::{Kind, Statement};
+use design_core::cell::Cell;
+use design_core::design::Design;
+use design_signals::chunk::Chunk;
+use cell_table::kind::{Kind, Statement};
 
 /// A design's register bits, and its statements of each kind.
 #[derive(Clone, Copy, Debug, PartialEq, Eq)]
@@ -24,19 +28,45 @@ fn is_register(kind: Kind) -> bool
 {
     matches!(
         kind,
-        Kind::Ff | Kind::Dff | Kind::Dffe | Kind::Sdff | Kind::Sdffe | Kind::Sdffce
+        Kind::Ff
+            | Kind::Dff
+            | Kind::Dffe
+            | Kind::Sdff
+            | Kind::Sdffe
+            | Kind::Sdffce
+            | Kind::Adff
+            | Kind::Adffe
     )
 }
 
-// 2^26 outputs of less than 2^64 bits each fit.
+fn chunk_width(chunk: Chunk) -> u128
+    ensures width { result ≡ chunk.width }
+    ensures few { result < 2 ^ 32 }
+{
+    u128::from(chunk.width)
+}
+
+// How many bits chunks have.
+fn bit_count(chunks: &[Chunk]) -> u128
+    ensures count { result ≡ length (bits_of chunks.now) }
+    ensures few { result < 2 ^ 96 }
+{
+    let mut count = 0u128;
+    for chunk in chunks {
+        count += chunk_width(*chunk);
+    }
+    count
+}
+
+// 2^27 outputs of less than 2^96 bits each fit.
 fn register_bits(cells: &[Cell]) -> u128
-    requires { length cells.now ≤ 2 ^ 26 }
+    requires { length cells.now ≤ 2 ^ 27 }
     ensures { result ≡ sum_by (λ (c : CellOf). length (output_of c)) (filter (λ (c : CellOf). is_register (role_of c.kind)) cells.now) }
 {
     let mut bits = 0;
     for cell in cells {
         if is_register(cell.kind()) {
-            bits += cell.output().len() as u128;
+            bits += bit_count(cell.output());
         }
     }
     bits

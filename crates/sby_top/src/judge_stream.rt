@@ -1,14 +1,15 @@
 // A job's stream is judged.
 
 ghost use Rattle.std.specs.Prelude.{◌≡◌, ◌↔◌, [], IfOk, IsTrue, None, option_map};
-ghost use Rattle.judge.specs.Judging.{fate_told};
+ghost use Rattle.judge.specs.Judging.{Took, fate_told};
 ghost use Rattle.judge.specs.Problem.{IsJob};
 ghost use Rattle.sby_top.specs.Steps.{end_of, IsBytesJudged, IsStreamJudged, IsTrueEnd, WasFed};
 
-use judge::{BadCert, Finding, Judge, Problem, Progress, State, StreamKind, fates_stay};
+use judge::{Finding, Judge, Problem, Progress};
 use race_core::JobEnd;
 use sby_terms::{JobName, MAX_STREAM};
 use std::alloc::{AllocError, Global};
+use stream_judge::{BadCert, StreamKind, fates_stay};
 
 fn is_more(answer: &Result<Progress, BadCert>) -> bool
     ensures { IsTrue result ↔ (fate_told answer.now ≡ None) }
@@ -18,8 +19,7 @@ fn is_more(answer: &Result<Progress, BadCert>) -> bool
 
 // Feeds all bytes, and the end where they aren't a fate.
 fn feed_all(judge: &mut Judge, bytes: &[u8]) -> Result<Result<Progress, BadCert>, AllocError>
-    requires state { judge.old.state ≡ State.Reading }
-    requires fresh { judge.old.taken ≡ [] }
+    requires { Took judge.old [] }
     ensures { IfOk result (λ r. WasFed judge.old bytes.now r) }
 {
     fates_stay();

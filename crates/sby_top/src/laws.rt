@@ -1,9 +1,9 @@
 // Laws of what is promised.
 
 ghost use Rattle.std.specs.Prelude.{◌≡◌, ◌≢◌, ◌⊎◌, ◌<◌, ◌≤◌, [], ◌∷◌, ◌++◌, ℕ, true, List, None, length, Some};
-ghost use Rattle.cert_wire.specs.Text.{is_blank};
-ghost use Rattle.judge.specs.Cert.{IsCert};
-ghost use Rattle.judge.specs.Fate.{Found, IsFate};
+ghost use Rattle.cert_stream.specs.Text.{is_blank};
+ghost use Rattle.stream_judge.specs.Cert.{IsCert};
+ghost use Rattle.stream_judge.specs.Fate.{Found, IsFate};
 ghost use Rattle.judge.specs.Fault.{IsProblemFault};
 ghost use Rattle.judge.specs.declared.problem.ProblemFault.{ProblemFault};
 ghost use Rattle.sby_edge.specs.Files.{Store};
@@ -19,7 +19,8 @@ ghost use Rattle.sby_top.specs.Words.{Request};
 ghost use Rattle.sby_top.specs.World.{World};
 ghost use Rattle.sby_top.specs.declared.outcome.TaskEnd.{TaskEnd};
 
-use judge::{certificate_is_found, certificate_is_found_before_more, one_fate, one_file};
+use judge::one_file;
+use stream_judge::{certificate_is_found, certificate_is_found_before_more, one_fate};
 
 /// A design that is not refused is judged: over a store that tells, where no call failed and memory was not wanting, and where there is
 /// one stream at most, the task comes to its lane.

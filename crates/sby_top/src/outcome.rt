@@ -1,9 +1,9 @@
 // What a call came to.
 
-use judge::Finding;
+use judge::{Finding, Text};
 use race_core::Report;
-use rtlil_design::check::DesignFault;
-use rtlil_reader::ReadFault;
+use design_check::check::DesignFault;
+use design_reader::ReadFault;
 use sby_terms::{JobName, Status};
 
 /// A fault before the lanes of a task.
@@ -38,7 +38,7 @@ pub struct TaskEnd {
     /// The traces that couldn't be put. No traces are put yet.
     pub unput: Vec<u32>,
     /// The text of the accepted design; empty after a fault before the lanes.
-    pub text: Vec<u8>,
+    pub text: Text,
 }
 
 /// What a call came to.

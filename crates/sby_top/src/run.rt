@@ -21,7 +21,7 @@ use crate::tell::{Stop, offer};
 use crate::tell_task::{tell_early, tell_served};
 use crate::text;
 use crate::words::{TaskRequest, asked_of};
-use judge::Finding;
+use judge::{Finding, Text};
 use race_core::Report;
 use sby_edge::{Clock, Files, Sink, Yard};
 use sby_terms::{Expect, Status, rc_of};
@@ -86,7 +86,7 @@ fn finish_early<S: Sink>(
         start: None,
         reports: Vec::new(alloc),
         unput: Vec::new(alloc),
-        text: Vec::new(alloc),
+        text: Text::empty(),
     };
     (end, rc)
 }

@@ -1,21 +1,21 @@
 // The lines of a run that breaks an assertion.
 
 ghost use Rattle.std.specs.Prelude.{◌≡◌, ◌-◌, ◌<◌, [], ◌∷◌, ℕ, List, IfOk, length, string_bytes};
-ghost use Rattle.rtlil_design.specs.Runs.{IsRunOf, shown_of};
-ghost use Rattle.rtlil_design.specs.Shape.{CellOf};
+ghost use Rattle.design_meaning.specs.Runs.{IsRunOf, shown_of};
+ghost use Rattle.design_core.specs.Shape.{CellOf};
 ghost use Rattle.sby_terms.specs.declared.names.JobName.TheVariants.{Base};
 ghost use Rattle.sby_top.specs.Broken.{AreLinesOf, HasBrokenLines, IsBrokenCell, broken_line};
 ghost use Rattle.sby_top.specs.Steps.{Breaks, HasEndLines, IsLined};
 ghost use Rattle.sby_top.specs.Telling.{Tells};
 ghost use Rattle.sby_top.specs.Texts.{broken_text};
-ghost use Rattle.trace_text.specs.Trace.{trace};
+ghost use Rattle.design_trace.specs.Trace.{trace};
 
 use crate::tell::{Stop, tell_line, tell_lines};
 use crate::text;
-use judge::{Finding, Problem};
+use design_check::flat::Flat;
+use design_meaning::run::Run;
+use judge::{Finding, PlayedRun, Problem};
 use race_core::JobEnd;
-use rtlil_design::flat::Flat;
-use rtlil_design::row::Run;
 use sby_edge::Sink;
 use std::alloc::{AllocError, Global};
 
@@ -55,7 +55,7 @@ fn tell_trace<S: Sink>(alloc: Global, out: &mut S, flat: &Flat, run: &Run) -> Re
     ensures { (lines : List (List ℕ)) → AreLinesOf (trace flat.now (shown_of run.now)) lines
         → Tells (S.taken out.old) (S.taken out.new) (S.faults out.old) (S.faults out.new) (S.ended out.new) lines result }
 {
-    match trace_text::text(alloc, flat, run) {
+    match design_trace::text(alloc, flat, run) {
         Ok(text) => tell_lines(out, text.as_slice()),
         Err(_) => Err(Stop::Memory),
     }
@@ -76,6 +76,34 @@ fn tell_broken<S: Sink>(
     tell_trace(alloc, out, flat, run)
 }
 
+// The cycles of a run, all at once.
+fn whole_run(alloc: Global, played: &PlayedRun) -> Result<Run, AllocError>
+    ensures { IfOk result (λ run. run ≡ played.now) }
+{
+    let mut run = Run::new(alloc);
+    for number in 0..played.cycles() {
+        run.push(played.cycle(alloc, number)?)?;
+    }
+    Ok(run)
+}
+
+fn tell_played<S: Sink>(
+    alloc: Global,
+    out: &mut S,
+    name: &str,
+    flat: &Flat,
+    played: &PlayedRun,
+) -> Result<(), Stop>
+    requires { Breaks flat.now played.now }
+    ensures { (lines : List (List ℕ)) → HasBrokenLines flat.now name.now played.now lines
+        → Tells (S.taken out.old) (S.taken out.new) (S.faults out.old) (S.faults out.new) (S.ended out.new) lines result }
+{
+    match whole_run(alloc, played) {
+        Ok(run) => tell_broken(alloc, out, name, flat, &run),
+        Err(AllocError) => Err(Stop::Memory),
+    }
+}
+
 /// Offers the lines of the run that the end of the job Base carries, if it carries one.
 pub fn tell_run<S: Sink>(
     alloc: Global,
@@ -90,7 +118,7 @@ pub fn tell_run<S: Sink>(
 {
     match end {
         JobEnd::Found(finding) => match finding.run() {
-            Some(run) => tell_broken(alloc, out, name, problem.flat(), run),
+            Some(played) => tell_played(alloc, out, name, problem.flat(), played),
             None => Ok(()),
         },
         _ => Ok(()),

@@ -5,9 +5,9 @@ ghost use Rattle.sby_top.specs.Lines.{kind_numbered};
 ghost use Rattle.sby_top.specs.Texts.{answer_text, broken_text, cert_kind_text, cert_text, design_kind_text, design_text, done_text, fault_text, file_text, hold_failed_text, job_path, path_text, job_text, lane_text, line_of, memory_text, not_served_text, read_failed_text, read_kind_text, read_text, settled_text, start_failed_text, status_text, streams_text, too_many_text, unknown_text, usage_line};
 
 use crate::counts::Counts;
-use judge::CertKind;
-use rtlil_design::fault::FaultKind;
-use rtlil_reader::ReadFaultKind;
+use stream_judge::CertKind;
+use design_check::fault::FaultKind;
+use design_reader::ReadFaultKind;
 use sby_terms::{Answer, JobName, Status};
 use std::alloc::{AllocError, Global};
 
@@ -96,7 +96,7 @@ pub fn design_kind_text(kind: FaultKind) -> &'static str
     }
 }
 
-/// The kind of a certificate's fault by its number, from 41 to 49.
+/// The kind of a certificate's fault by its number: 41 to 45, 47 or 48.
 pub fn kind_numbered(no: u8) -> CertKind
     ensures { result ≡ kind_numbered no }
 {
@@ -106,10 +106,8 @@ pub fn kind_numbered(no: u8) -> CertKind
         43 => CertKind::LineTooLong,
         44 => CertKind::NotRup,
         45 => CertKind::NotSatisfying,
-        46 => CertKind::NotPlaying,
         47 => CertKind::TooLong,
-        48 => CertKind::EarlyEnd,
-        _ => CertKind::BadWitness,
+        _ => CertKind::EarlyEnd,
     }
 }
 
@@ -123,10 +121,8 @@ pub fn cert_kind_text(kind: CertKind) -> &'static str
         CertKind::LineTooLong => "LineTooLong at byte",
         CertKind::NotRup => "NotRup at byte",
         CertKind::NotSatisfying => "NotSatisfying clause",
-        CertKind::NotPlaying => "NotPlaying frame",
         CertKind::TooLong => "TooLong at byte",
         CertKind::EarlyEnd => "EarlyEnd at byte",
-        CertKind::BadWitness => "BadWitness at byte",
     }
 }
 

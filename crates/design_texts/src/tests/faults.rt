@@ -1,11 +1,11 @@
 // Each fault of a design once, and the one that is named where there are several.
 
 use crate::tests::checked;
-use rtlil_design::driver::Driver;
-use rtlil_design::fault::FaultKind;
-use rtlil_design::flat::Flat;
-use rtlil_design::row::{Cycle, Row, Run};
-use rtlil_design::shape::SigBit;
+use design_check::fault::FaultKind;
+use design_check::flat::Flat;
+use design_graph::driver::Driver;
+use design_meaning::run::{Cycle, Row, Run};
+use design_signals::sig_bit::SigBit;
 use std::alloc::Global;
 use std::test::*;
 
@@ -62,7 +62,7 @@ const MIXED: &str = r"cell $and $c
 
 /// What stands behind the wires, and the fault: its kind, and the name of what is at fault.
 const FAULTS: [(&[&str], FaultKind, &str); 12] = [
-    (&["cell $pmux $c end"], FaultKind::UnknownCell, "$c"),
+    (&["cell $nothing $c end"], FaultKind::UnknownCell, "$c"),
     (&["cell $lut $c end"], FaultKind::LeftOut, "$c"),
     (&["cell $mux $c end"], FaultKind::BadParameter, "$c"),
     (&["cell $assume $c end"], FaultKind::PortWidth, "$c"),
@@ -159,7 +159,8 @@ fn add_cycle(alloc: Global, run: &mut Run, y: bool) -> Result<(), Fail> {
     for place in 0..7 {
         wires.push(place == 5 && y)?;
     }
-    run.push(Cycle::new(Row::new(wires), Row::new(Vec::new(alloc))))?;
+    let (free, kept) = (Row::new(Vec::new(alloc)), Row::new(Vec::new(alloc)));
+    run.push(Cycle::new(Row::new(wires), free, kept))?;
     Ok(())
 }
 

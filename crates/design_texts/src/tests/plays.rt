@@ -1,12 +1,14 @@
 // A register that turns over in each cycle, with an assertion on what it takes next.
 
 use crate::tests::checked;
-use rtlil_design::flat::Flat;
-use rtlil_design::row::{Row, Run};
-use run_choices::{Choices, open_of};
-use run_play::{Player, play};
+use model_core::model::WordModel;
+use model_play::choices::Choices;
+use model_play::kept::Kept;
+use model_play::player::Player;
+use model_play::whole::play;
 use std::alloc::Global;
 use std::test::*;
+use word_model::build::build;
 
 const TOGGLE: &str = r"module \t
     wire input 1 \clk
@@ -24,69 +26,51 @@ const TOGGLE: &str = r"module \t
     cell $assert \a connect \A \d connect \EN 1'1 end
 end";
 
-fn toggle(alloc: Global) -> Result<Flat, Fail> {
-    checked(alloc, TOGGLE)?.map_err(|_| Fail::from("not flat"))
+fn toggle(alloc: Global) -> Result<WordModel, Fail> {
+    let flat = checked(alloc, TOGGLE)?.map_err(|_| Fail::from("not flat"))?;
+    Ok(build(alloc, &flat)?)
 }
 
-fn turns_over(alloc: Global, flat: &Flat) -> Result<bool, Fail> {
-    let mut player = Player::new(alloc, flat)?;
-    if player.opens().starts().len() != 0 || player.opens().inputs().len() != 1 {
-        return Ok(false);
-    }
-    if player.asserts() != 1 || player.covers() != 0 {
-        return Ok(false);
-    }
+// The bits of the clock, of q and of d.
+fn is_row(row: &[bool], wires: [bool; 3]) -> bool {
+    row.len() >= 3 && row[..3] == wires.as_slice()
+}
+
+fn turns_over(alloc: Global, model: &WordModel) -> Result<bool, Fail> {
+    let mut player = Player::new(alloc, model)?;
     player.begin(&[]);
     player.step(&[true]);
-    let first = player.row() == [true, false, true].as_slice()
-        && player.assumed()
-        && !player.broken(0);
+    let first =
+        is_row(player.row(), [true, false, true]) && player.assumed() && !player.broken(0);
     player.step(&[false]);
     Ok(
         first
-            && player.row() == [false, true, false].as_slice()
+            && is_row(player.row(), [false, true, false])
             && player.assumed()
             && player.broken(0),
     )
 }
 
-fn inputs(alloc: Global) -> Result<Choices, Fail> {
-    let mut rows = Vec::new(alloc);
-    rows.push(Row::new(Vec::from_slice(alloc, &[true])?))?;
-    rows.push(Row::new(Vec::from_slice(alloc, &[false])?))?;
-    Ok(Choices::new(Row::new(Vec::new(alloc)), rows))
-}
-
-fn is_shown(run: &Run) -> bool {
-    match run.cycles() {
-        [first, last] => {
-            first.wires() == [true, false, true].as_slice()
-                && last.wires() == [false, true, false].as_slice()
-                && last.free().is_empty()
-        }
-        _ => false,
-    }
-}
-
-fn is_played(alloc: Global, flat: &Flat, choices: &Choices) -> Result<bool, Fail> {
-    let opens = open_of(alloc, flat)?;
-    if !opens.fits(choices) || choices.inputs().len() != 2 {
-        return Ok(false);
-    }
-    Ok(is_shown(&play(alloc, flat, choices)?))
+fn is_shown(kept: &Kept) -> bool {
+    kept.cycles() == 2 && kept.get(0, 0) && !kept.get(0, 1) && !kept.get(1, 0) && kept.get(1, 1)
 }
 
 #[test]
 fn register_turns_over(rt: HostRuntime) -> Result<(), Fail> {
-    let flat = toggle(rt.alloc())?;
-    assert!(rt; turns_over(rt.alloc(), &flat)?);
+    let model = toggle(rt.alloc())?;
+    assert_eq!(rt;
+        (model.inputs().len(), model.states().len(), model.asserts().len(), model.covers().len()),
+        (1, 1, 1, 0)
+    );
+    assert!(rt; turns_over(rt.alloc(), &model)?);
     Ok(())
 }
 
 #[test]
 fn whole_run_is_played(rt: HostRuntime) -> Result<(), Fail> {
-    let flat = toggle(rt.alloc())?;
-    let choices = inputs(rt.alloc())?;
-    assert!(rt; is_played(rt.alloc(), &flat, &choices)?);
+    let model = toggle(rt.alloc())?;
+    let inputs = Vec::from_slice(rt.alloc(), &[true, false])?;
+    let choices = Choices::new(Vec::new(rt.alloc()), inputs, 1, 2);
+    assert!(rt; is_shown(&play(rt.alloc(), &model, &choices)?));
     Ok(())
 }

@@ -1,29 +1,14 @@
-use Rattle.std.proofs.Common.{Bool, List, ◌∙◌, ap}
-use Rattle.frame_cnf.specs.Encoding.{decoded, values_of}
-use Rattle.judge.proofs.Truth.{choices_fit, run_played, run_shows, some_choices}
+use Rattle.std.proofs.Common.{refl}
+use Rattle.judge.proofs.Truth.{runs-apart, shown_claim, step_claim}
 use Rattle.judge.proofs.finding.shown.Goals as goal
 
-pub play-requires-clause-fits : goal.play-requires-clause-fits
-play-requires-clause-fits c =
-    let told = c.in_ok-choices.ensures ∙ ap (λ (b : List Bool). decoded c.encoded.result.now (values_of b)) c.bits.ensures in
-    rw c.flat-flat.ensures.flat (choices_fit c.args.problem.now c.args.job c.flat-flat.ensures.problem c.encoded.result.now c.encoded.ensures c.args.values.now c.in_ok-choices.choices told)
+pub returns-in-Step-clause-claim : goal.returns-in-Step-clause-claim
+returns-in-Step-clause-claim c = let w = c.requires in step_claim c.args.problem.now c.args.job w.0 _ c.in-Step.is c.flat-flat.ensures.problem w.1 w.2
 
-pub play-requires-clause-some : goal.play-requires-clause-some
-play-requires-clause-some c =
-    let told = c.in_ok-choices.ensures ∙ ap (λ (b : List Bool). decoded c.encoded.result.now (values_of b)) c.bits.ensures in
-    some_choices c.args.problem.now c.args.job c.flat-flat.ensures.problem c.encoded.result.now c.encoded.ensures c.args.values.now c.in_ok-choices.choices told c.requires
-
-pub returns-clause-shows : goal.returns-clause-shows
-returns-clause-shows c =
-    let told = c.in_ok-choices.ensures ∙ ap (λ (b : List Bool). decoded c.encoded.result.now (values_of b)) c.bits.ensures in
-    run_shows c.args.problem.now c.args.job c.flat-flat.ensures.problem c.encoded.result.now c.encoded.ensures c.args.values.now c.in_ok-choices.choices told c.requires c.in_ok-run.run'
-    (rw c.flat-flat.ensures.flat at c.in_ok-run.ensures.plays) (rw c.flat-flat.ensures.flat at c.in_ok-run.ensures.rows) c.in_ok-run.ensures.cycles
-
-pub returns-clause-played : goal.returns-clause-played
-returns-clause-played c =
-    let told = c.in_ok-choices.ensures ∙ ap (λ (b : List Bool). decoded c.encoded.result.now (values_of b)) c.bits.ensures in (
-      c.encoded.result.now,
-      c.encoded.ensures,
-      run_played c.args.problem.now c.args.job c.flat-flat.ensures.problem c.encoded.result.now c.encoded.ensures c.args.values.now c.in_ok-choices.choices told c.requires c.in_ok-run.run'
-          (rw c.flat-flat.ensures.flat at c.in_ok-run.ensures.plays) (rw c.flat-flat.ensures.flat at c.in_ok-run.ensures.rows) c.in_ok-run.ensures.cycles,
-    )
+pub returns-in_ok-run-in-Base : goal.returns-in_ok-run-in-Base
+returns-in_ok-run-in-Base c =
+    let w = c.in_ok-run-in-Base.ensures in
+    record {
+      claim = shown_claim c.args.problem.now c.flat-flat.ensures.problem w.0 _ c.in_ok-run-in-Base.run' w.2 c.args.job (runs-apart c.args.job c.in-Base.is) w.1;
+      played = λ _. (w.0, c.in_ok-run-in-Base.run', refl, w.1, w.2);
+    }

@@ -1,6 +1,6 @@
 use Rattle.std.proofs.Common.{◌≡◌, ◌≤◌, length, take}
 use Rattle.std.specs.List.{filter}
-use Rattle.rtlil_design.specs.Shape.{CellOf}
+use Rattle.design_core.specs.Shape.{CellOf}
 use Rattle.sby_top.specs.Counts.{is_statement}
 use Rattle.sby_top.proofs.counts.statements.Given as goal
 

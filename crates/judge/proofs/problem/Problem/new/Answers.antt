@@ -1,10 +1,8 @@
-use Rattle.std.proofs.Common.{◌∷◌, [], ◌∙◌, refl, ap, sym, subst}
-use Rattle.rtlil_design.specs.Shape.{DesignOf}
-use Rattle.rtlil_design.specs.Faults.{IsFlat}
-use Rattle.rtlil_reader.specs.Grammar.{Reads}
-use Rattle.judge.proofs.Problems.{made}
-use Rattle.judge.specs.Problem.{IsEncodedJob}
-use Rattle.sby_terms.specs.declared.names.JobName.TheVariants.{Base}
+use Rattle.std.proofs.Common.{◌∙◌, List, ℕ, sym, subst}
+use Rattle.design_check.specs.Faults.{IsFlat}
+use Rattle.design_core.specs.Shape.{DesignOf}
+use Rattle.design_reader.specs.Grammar.{Reads}
+use Rattle.judge.proofs.Encodes.{stored, too_many}
 use Rattle.judge.proofs.problem.Problem.new.Goals as goal
 
 pub returns-in-Err : goal.returns-in-Err
@@ -18,15 +16,8 @@ returns-in-Err-3 c =
     let reads = subst (λ (d : DesignOf). Reads c.args.text.items d) (sym same) read in
     let flat = subst (λ (d : DesignOf). IsFlat d) (sym same) checked.1 in
     record {
-      problem = (
-        c.in-Ok-2.flat,
-        reads,
-        flat,
-        (0, rw c.requires.mode refl),
-        rw c.in-Err-3.is at c.in_ok-encoded.ensures.too_many,
-        rw c.in-Err-3.is at c.in_ok-encoded.ensures.past,
-        rw c.in-Err-3.is at c.in_ok-encoded.ensures.asserts,
-      );
+      problem = too_many c.in-Ok-2.flat c.in_ok-model.model c.in_ok-model.ensures (record { text = c.args.text.items; mode = c.args.mode; depth = c.args.depth }) c.in-Err-3.job c.requires.least reads flat
+          (rw c.in-Err-3.is at c.in_ok-jobs.ensures.refused);
     }
 
 pub invariant_of-problem : goal.invariant_of-problem
@@ -37,14 +28,6 @@ invariant_of-problem c =
     let same = checked.0 in
     let reads = subst (λ (d : DesignOf). Reads c.args.text.items d) (sym same) read in
     let flat = subst (λ (d : DesignOf). IsFlat d) (sym same) checked.1 in
-    let job : IsEncodedJob c.in-Ok-2.flat (Base 0) c.args.depth c.in-Ok-3.encoded =
-    record {
-      speaks = rw c.in-Ok-3.is at c.in_ok-encoded.ensures.solvable;
-      propagates = rw c.in-Ok-3.is at c.in_ok-encoded.ensures.propagates;
-      origins = rw c.in-Ok-3.is at c.in_ok-encoded.ensures.origins;
-      empty = λ _ none. (rw c.in-Ok-3.is at c.in_ok-encoded.ensures.empty) none;
-      choices = rw c.in-Ok-3.is at c.in_ok-encoded.ensures.choices;
-      decodes = λ _. rw c.in-Ok-3.is at c.in_ok-encoded.ensures.decoded;
-    } in
-    made _ _ _ c.in-Ok-2.flat c.in-Ok-3.encoded _ c.requires.mode reads (λ e r. only e r ∙ sym same) flat
-    job (c.in_ok-jobs.ensures.items ∙ ap (λ z. z ∷ []) c.in_ok-job.ensures)
+    let text = c.in_ok-text.ensures in
+    stored _ c.args.mode c.args.depth c.in-Ok-2.flat c.in_ok-model.model _ (subst (λ (bytes : List ℕ). Reads bytes c.in-Ok-2.flat) (sym text) reads)
+    (λ e r. only e (subst (λ (bytes : List ℕ). Reads bytes e) text r) ∙ sym same) flat c.in_ok-model.ensures (rw c.in-Ok-3.is at c.in_ok-jobs.ensures.jobs)

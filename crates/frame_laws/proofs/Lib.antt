@@ -1,5 +1,0 @@
-mod Filling
-mod Widths
-mod Completing
-mod Beginning
-mod Going

@@ -1,0 +1,15 @@
+use Rattle.std.proofs.Common.{subst}
+use Rattle.design_core.specs.Shape.{DesignOf, IsDesign}
+use Rattle.judge.proofs.encoding.model_of.Goals as goal
+
+pub returns : goal.returns
+returns c =
+    let shape = subst (λ (d : DesignOf). IsDesign d) c.design.ensures.design c.places-places.ensures.design in
+    let built = c.in_ok-model.ensures.built in
+    record {
+      design = shape;
+      is_model = c.size-size.ensures.model;
+      model = c.in_ok-model.ensures.model;
+      built = built;
+      within = c.variables_are_within_cost.ensures c.args.flat.now built.0 c.in_ok-model.model shape c.design.ensures.flat built.1 built.2;
+    }

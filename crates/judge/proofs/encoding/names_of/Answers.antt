@@ -1,0 +1,10 @@
+use Rattle.std.proofs.Common.{List, [], ◌∷◌, ◌++◌, ◌∙◌, ap, arith, sym}
+use Rattle.std.proofs.lemmas.List.FromFn.{map-range_with_len_more}
+use Rattle.sby_terms.specs.declared.names.JobName.{JobName}
+use Rattle.sby_terms.specs.declared.names.JobName.TheVariants.{Cover}
+use Rattle.judge.proofs.encoding.names_of.Goals as goal
+
+pub loop-k-preserved : goal.loop-k-preserved
+loop-k-preserved c =
+    c.in_ok-push-in-Cover.ensures.items
+    ∙ (ap (λ (names : List JobName). names ++ Cover c.loop-k.k ∷ []) c.loop-k.invariant ∙ sym (map-range_with_len_more Cover 0 c.loop-k.k c.loop-k.k (omega arith)))

@@ -1,0 +1,7 @@
+use Rattle.std.proofs.Common.{◌≡◌, map}
+use Rattle.std.specs.List.{range_with_len}
+use Rattle.sby_terms.specs.declared.names.JobName.TheVariants.{Cover}
+use Rattle.judge.proofs.encoding.names_of.Given as goal
+
+abbrev pub invariant-loop-k : goal.invariant-loop-k
+invariant-loop-k l = l.names.items ≡ map Cover (range_with_len 0 l.k)

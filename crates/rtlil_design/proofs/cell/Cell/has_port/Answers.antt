@@ -1,6 +1,0 @@
-use Rattle.std.proofs.Common.{◌∙◌, sym, string_bytes}
-use Rattle.rtlil_design.proofs.Names.{ports-is_some}
-use Rattle.rtlil_design.proofs.cell.Cell.has_port.Goals as goal
-
-pub returns : goal.returns
-returns c = rw (← c.self.view_is) (c.contains_key.ensures ∙ sym (ports-is_some string_bytes c.args.name.now c.self.inside.ports.entries))

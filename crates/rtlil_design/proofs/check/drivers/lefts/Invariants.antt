@@ -1,6 +1,0 @@
-use Rattle.std.proofs.Common.{◌≡◌, take}
-use Rattle.std.specs.Prelude.{flat_map}
-use Rattle.rtlil_design.proofs.check.drivers.lefts.Given as goal
-
-abbrev pub invariant-loop-connect : goal.invariant-loop-connect
-invariant-loop-connect l = l.bits.items ≡ flat_map (λ j. j.left) (take l.connect-index l.connects)

@@ -1,6 +1,0 @@
-use Rattle.digraph.specs.Graph.{Extends}
-use Rattle.rtlil_design.proofs.EdgeSteps.{CellsUpto}
-use Rattle.rtlil_design.proofs.check.edges.add_cells.Given as goal
-
-abbrev pub invariant-loop-place : goal.invariant-loop-place
-invariant-loop-place l = Extends l.fn.graph (CellsUpto l.design l.design.cells l.place) l.graph

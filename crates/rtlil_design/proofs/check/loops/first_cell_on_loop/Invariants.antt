@@ -1,6 +1,0 @@
-use Rattle.std.proofs.Common.{ℕ, ◌<◌}
-use Rattle.rtlil_design.specs.Order.{IsCellOnLoop}
-use Rattle.rtlil_design.proofs.check.loops.first_cell_on_loop.Given as goal
-
-abbrev pub invariant-loop-place : goal.invariant-loop-place
-invariant-loop-place l = (k : ℕ) → k < l.place → IsCellOnLoop l.design k → ⊥

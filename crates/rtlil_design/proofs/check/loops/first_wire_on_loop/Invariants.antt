@@ -1,6 +1,0 @@
-use Rattle.std.proofs.Common.{ℕ, ◌<◌}
-use Rattle.rtlil_design.specs.Edges.{IsWireOnLoop}
-use Rattle.rtlil_design.proofs.check.loops.first_wire_on_loop.Given as goal
-
-abbrev pub invariant-loop-wire : goal.invariant-loop-wire
-invariant-loop-wire l = (k : ℕ) → k < l.wire → IsWireOnLoop l.design k → ⊥

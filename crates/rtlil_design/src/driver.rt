@@ -1,8 +1,0 @@
-// What drives bits within a cycle.
-
-/// A driver: the combinational cell at a place, or bit `.1` of the connect at place `.0`, each counted from 0 in file order.
-#[derive(Clone, Copy, Debug, PartialEq, Eq)]
-pub enum Driver {
-    Cell(usize),
-    Connect(usize, usize),
-}

@@ -1,9 +1,0 @@
-use Rattle.std.proofs.Common.{◌≡◌, ◌+◌, ◌++◌, drop}
-use Rattle.rtlil_reader.specs.Grammar.{numbered_digits, open_digits}
-use Rattle.rtlil_reader.proofs.cell_text.numbered_digits.Given as goal
-
-abbrev pub invariant-loop-digit : goal.invariant-loop-digit
-invariant-loop-digit l = record {
-  row : l.row.items ++ numbered_digits l.number (drop l.digit-index l.digits) ≡ numbered_digits l.first l.digits;
-  count : l.number + open_digits (drop l.digit-index l.digits) ≡ l.first + open_digits l.digits;
-}

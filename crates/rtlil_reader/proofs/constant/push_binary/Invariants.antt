@@ -1,9 +1,0 @@
-use Rattle.std.proofs.Common.{◌≡◌, ◌≤◌, ◌++◌}
-use Rattle.rtlil_reader.specs.Constants.{binary}
-use Rattle.rtlil_reader.proofs.constant.push_binary.Given as goal
-
-abbrev pub invariant-bits : goal.invariant-bits
-invariant-bits l = (l.place ≤ l.count) × (l.digits.items ++ binary l.place l.number ≡ l.fn.digits.items ++ binary l.count l.number)
-
-abbrev pub decreases-bits : goal.decreases-bits
-decreases-bits l = l.place

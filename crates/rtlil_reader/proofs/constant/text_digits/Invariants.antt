@@ -1,9 +1,0 @@
-use Rattle.std.proofs.Common.{◌≡◌, ◌++◌, length}
-use Rattle.rtlil_reader.specs.Constants.{string_digits, unescaped}
-use Rattle.rtlil_reader.proofs.constant.text_digits.Given as goal
-
-abbrev pub invariant-bytes : goal.invariant-bytes
-invariant-bytes l = l.digits.items ++ string_digits (unescaped 0 l.rest) ≡ string_digits (unescaped 0 l.inside)
-
-abbrev pub decreases-bytes : goal.decreases-bytes
-decreases-bytes l = length l.rest

@@ -1,7 +1,0 @@
-use Rattle.std.proofs.Common.{◌∙◌, ℕ, List, bytes_eq}
-use Rattle.std.specs.Borrow.{Bor}
-use Rattle.rtlil_reader.proofs.NameLemmas.{position_by, bytes_eq_comm}
-use Rattle.rtlil_reader.proofs.names.Names.place.Goals as goal
-
-pub returns-clause-place : goal.returns-clause-place
-returns-clause-place c = rw (← c.self.view_is) (c.get_index_of.ensures.index ∙ position_by (λ (n : Bor (List ℕ)). n.now) (λ n. bytes_eq n c.args.name.now) (λ n. bytes_eq c.args.name.now n.now) (λ n. bytes_eq_comm c.args.name.now n.now) c.self.inside.names.keys)

@@ -1,5 +1,0 @@
-use Rattle.rtlil_reader.proofs.NameLemmas.{push_name}
-use Rattle.rtlil_reader.proofs.names.Names.push.Goals as goal
-
-pub returns : goal.returns
-returns c = rw (c.in_ok-insert.ensures.keys, ← c.self.view_is) (push_name c.self.inside.names.keys c.args.name (rw (← c.self.view_is) at c.requires))

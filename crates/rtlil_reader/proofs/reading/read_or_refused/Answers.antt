@@ -1,5 +1,0 @@
-use Rattle.rtlil_reader.proofs.Wholes.{never_both}
-use Rattle.rtlil_reader.proofs.reading.read_or_refused.Goals as goal
-
-pub returns : goal.returns
-returns c = λ text d byte kind r f. never_both text d byte kind r f

@@ -1,5 +1,0 @@
-pub mod Patterns
-pub mod Lines
-pub mod Faults
-pub mod Readings
-pub mod Printing

@@ -1,5 +1,0 @@
-use Rattle.trace_text.proofs.Printing.{run_prints}
-use Rattle.trace_text.proofs.laws.text_shows_the_run.Goals as goal
-
-pub returns : goal.returns
-returns c d run fits = run_prints d run fits

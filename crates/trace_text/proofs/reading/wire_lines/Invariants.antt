@@ -1,9 +1,0 @@
-use Rattle.std.proofs.Common.{◌≡◌, ◌≤◌, ◌++◌, Bool, List, take, length}
-use Rattle.std.specs.List.{sum_by}
-use Rattle.trace_text.specs.Trace.{wire_lines}
-use Rattle.trace_text.specs.Reading.{Reads}
-use Rattle.trace_text.proofs.reading.wire_lines.Given as goal
-
-abbrev pub invariant-loop-wire : goal.invariant-loop-wire
-invariant-loop-wire l = (l.place ≤ length l.bytes) × ((r : List Bool) × (l.row.items ≡ l.fn.row.items ++ r) × (length r ≡ sum_by (λ w. w.width) (take l.wire-index l.wires))
-    × Reads l.bytes l.at (wire_lines (take l.wire-index l.wires) r) l.place)

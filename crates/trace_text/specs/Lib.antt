@@ -1,4 +1,0 @@
-pub mod Trace
-pub mod Printed
-pub mod Reading
-pub mod Stopped

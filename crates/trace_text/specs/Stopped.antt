@@ -1,9 +1,0 @@
--- Where reading stopped for the bytes, and not for want of memory.
-use Rattle.std.specs.Prelude.{ℕ}
-use Rattle.trace_text.specs.declared.reading.Stop.{Stop}
-use Rattle.trace_text.specs.declared.reading.Stop.TheVariants.{Fault, Memory}
-
--- this holds of the byte
-abbrev pub IsStop : Stop → (ℕ → Type 0) → Type 0
-IsStop (Fault fault) P = P fault.byte
-IsStop Memory P = Unit {0}
