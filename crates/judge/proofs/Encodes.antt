@@ -14,7 +14,8 @@ use Rattle.design_core.proofs.Lists.{Contains-from_place}
 use Rattle.design_core.specs.Shape.{CellOf, DesignOf}
 use Rattle.design_meaning.specs.Meaning.{covers, is_cover}
 use Rattle.design_reader.specs.Grammar.{Reads}
-use Rattle.job_cnf.specs.Encoding.{CanBeSatisfied, CanPass, EncodedOf, HasOrigins, IsDecoded, Propagates, decoded, empty_job, frame_cost}
+use Rattle.cone_cnf.specs.Asking.{HasOriginsInBits}
+use Rattle.job_cnf.specs.Encoding.{CanBeSatisfied, CanPass, EncodedOf, IsDecoded, Propagates, decoded, empty_job, frame_cost}
 use Rattle.job_cnf.specs.Jobs.{AsksNothing as AsksNothingOf, IsJob as IsJobOf, Solvable as SolvableOf, frames}
 use Rattle.model_core.specs.Choices.{AreChoicesFor}
 use Rattle.model_core.specs.Shape.{ModelOf, states}
@@ -40,7 +41,7 @@ module _ (d : DesignOf) (m : ModelOf) (built : IsBuiltFor d m) where
       omega
       (arith, built.model.covers, built.design.few_cells, length-filter (λ (c : CellOf). is_cover c.kind) d.cells, count_by-le-length (λ (c : CellOf). is_cover c.kind) d.cells)
 
-  pub encoded_job : (job : JobName) (span : Span) (e : EncodedOf) → CanBeSatisfied e.formula ↔ SolvableOf m job span → Propagates e → HasOrigins m job span e
+  pub encoded_job : (job : JobName) (span : Span) (e : EncodedOf) → CanBeSatisfied e.formula ↔ SolvableOf m job span → Propagates e → HasOriginsInBits m job span e
       → (AsksNothingOf m job → e.formula ≡ empty_job) → ((job ≡ Step → ⊥) → (x : Assignment) → AreChoicesFor m (decoded e x))
       → ((job ≡ Step → ⊥) → (x : Assignment) → Satisfies x e.formula.clauses → IsDecoded m job span (decoded e x)) → IsEncodedJob d m job span e
   encoded_job job span e speaks propagates origins empty choices decodes = record {

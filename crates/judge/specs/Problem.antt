@@ -2,7 +2,8 @@
 use Rattle.std.specs.Prelude.{◌≡◌, ◌↔◌, ℕ, List, length, Some, slice_get}
 use Rattle.cnf_form.specs.Cnf.{Assignment, FormulaOf, Satisfies}
 use Rattle.cnf_form.specs.Dimacs.{IsDimacs, dimacs_text}
-use Rattle.job_cnf.specs.Encoding.{CanBeSatisfied, EncodedOf, HasOrigins, IsDecoded, Propagates, decoded, empty_job}
+use Rattle.cone_cnf.specs.Asking.{HasOriginsInBits}
+use Rattle.job_cnf.specs.Encoding.{CanBeSatisfied, EncodedOf, IsDecoded, Propagates, decoded, empty_job}
 use Rattle.design_core.specs.Shape.{DesignOf, IsDesign}
 use Rattle.design_check.specs.Faults.{IsFlat}
 use Rattle.design_reader.specs.Grammar.{Reads}
@@ -53,7 +54,7 @@ IsJobFile p job bytes = (f : FormulaOf) × IsFormulaOf p job f × (bytes ≡ dim
 pub record IsEncodedJob (d : DesignOf) (m : ModelOf) (job : JobName) (span : Span) (e : EncodedOf) : Type 0 where
   pub speaks : CanBeSatisfied e.formula ↔ Solvable d job span
   pub propagates : Propagates e
-  pub origins : HasOrigins m job span e
+  pub origins : HasOriginsInBits m job span e
   pub empty : AsksNothing d job → e.formula ≡ empty_job
   pub choices : (job ≡ Step → ⊥) → (x : Assignment) → AreChoicesFor m (decoded e x)
   pub decodes : (job ≡ Step → ⊥) → (x : Assignment) → Satisfies x e.formula.clauses → IsDecoded m job span (decoded e x)

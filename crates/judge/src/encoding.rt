@@ -12,8 +12,8 @@ ghost use Rattle.judge.specs.Stored.{AreEncoded, IsBuiltFor, IsTooMany};
 ghost use Rattle.sby_terms.specs.Span.{whole};
 
 use cnf_form::write_dimacs;
+use cone_cnf::{Encoded, TooMany, encode};
 use design_check::flat::Flat;
-use job_cnf::{Encoded, TooMany, encode};
 use model_core::model::WordModel;
 use model_laws::laws::variables_are_within_cost;
 use sby_terms::{JobName, Mode, Span};
