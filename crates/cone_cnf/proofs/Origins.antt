@@ -1,15 +1,13 @@
 -- Where the free variables of a slice stand in its model.
-use Rattle.std.proofs.Common.{◌≡◌, ◌⊎◌, ℕ, zero, suc, ◌<◌, ◌≤◌, Bool, true, false, List, [], ◌∷◌, Some, length, map, refl, sym, ap, subst, ◌∙◌, arith}
-use Rattle.std.specs.Prelude.{All, Contains, slice_get}
-use Rattle.std.specs.List.{filter}
-use Rattle.std.proofs.lemmas.Option.{slice_get_within}
+use Rattle.std.proofs.Common.{◌≡◌, ℕ, zero, suc, ◌<◌, Bool, true, false, List, [], ◌∷◌, Some, length, map, refl, sym, ap, subst, ◌∙◌, arith}
+use Rattle.std.specs.Prelude.{Contains, slice_get}
 use Rattle.cnf_form.specs.Cnf.{Assignment, Satisfies}
 use Rattle.frame_gates.specs.Frames.{open_at}
 use Rattle.frame_gates.specs.declared.first.First.{First as Begin}
 use Rattle.frame_gates.specs.declared.first.First.TheVariants.{Start, Any}
 use Rattle.sby_bits.specs.Rows.{Row}
 use Rattle.model_core.specs.Choices.{AreChoicesFor, ChoicesOf, Plays, open_states}
-use Rattle.model_core.specs.Meaning.{Cycle, row_at}
+use Rattle.model_core.specs.Meaning.{Cycle}
 use Rattle.model_core.specs.Served.{IsModel}
 use Rattle.model_core.specs.Shape.{ModelOf, states}
 use Rattle.model_core.proofs.Lists.{all_at, all_from, at_place, place_of_contained}
@@ -26,7 +24,7 @@ use Rattle.model_cone.proofs.Digits.{row-bit}
 use Rattle.model_cone.proofs.Slicing.{filter-contains, kept-states}
 use Rattle.cone_cnf.specs.Asking.{HasOriginsInCone, asked_of, place_of}
 use Rattle.cone_cnf.specs.Spreading.{spread_bits, spread_choices, spread_decoding}
-use Rattle.cone_cnf.proofs.Playing.{choices-fit, cycles-same, filter-contained, open-kept, played, played-kept, played-plays, spread-decoded}
+use Rattle.cone_cnf.proofs.Playing.{cycles-same, filter-contained, open-kept, played, played-kept, played-plays, spread-decoded}
 
 -- a place that isn't kept is 0 in a row that is spread
 spread-out : (keep : ℕ → Bool) (ps : List ℕ) (row : Row) (k p : ℕ) → slice_get ps k ≡ Some p → keep p ≡ false → slice_get (spread_bits (map keep ps) row) k ≡ Some false

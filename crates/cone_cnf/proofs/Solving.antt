@@ -1,7 +1,7 @@
 -- A job of a slice can be solved where that of its model can.
-use Rattle.std.proofs.Common.{◌≡◌, ℕ, zero, suc, ◌+◌, ◌<◌, ◌≤◌, Bool, true, List, [], length, refl, sym, ap, subst, ◌∙◌, arith}
+use Rattle.std.proofs.Common.{ℕ, suc, ◌<◌, Bool, arith}
 use Rattle.model_core.specs.Claims.{ReachRun, Shows, StepShows}
-use Rattle.model_core.specs.Meaning.{Broken, Cycle, Run, Window}
+use Rattle.model_core.specs.Meaning.{Cycle, Run, Window}
 use Rattle.model_core.specs.Served.{IsModel}
 use Rattle.model_core.specs.Shape.{ModelOf}
 use Rattle.sby_terms.specs.declared.names.JobName.{JobName}

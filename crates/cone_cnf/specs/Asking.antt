@@ -22,7 +22,7 @@ abbrev pub place_of : Origin → ℕ
 place_of (First p) = p
 place_of (Input t p) = p
 
--- each free variable stands for a bit that the job leaves free, and that is in the cone of what the job asks
+-- each free variable stands for a bit that the job leaves free, and that is in the cone of what the job asks, where registers are kept whole
 pub record HasOriginsInCone (m : ModelOf) (job : JobName) (span : Span) (e : EncodedOf) : Type 0 where
   pub has : HasOrigins m job span e
   pub cone : All (λ o. IsInCone m (asked_of job) (place_of o)) has.origins

@@ -2,7 +2,7 @@
 use Rattle.std.specs.Prelude.{ℕ, Bool, true, false, List, [], ◌∷◌, map, Option, None}
 use Rattle.sby_bits.specs.Rows.{Row}
 use Rattle.model_core.specs.Choices.{ChoicesOf}
-use Rattle.job_cnf.specs.Decoding.{DecodingOf, FrameOf}
+use Rattle.job_cnf.specs.Decoding.{DecodingOf}
 
 -- where a place is kept the next of the variables, where it isn't none
 abbrev pub spread : List Bool → List (Option ℕ) → List (Option ℕ)

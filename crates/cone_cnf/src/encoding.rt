@@ -102,10 +102,8 @@ pub(crate) fn encode_registers(
     ensures choices { IfOk result (λ r. IfOk r (λ e. (job ≡ JobName.Step → ⊥) → (x : Assignment) → AreChoicesFor model.now (decoded e x))) }
     ensures decoded { IfOk result (λ r. IfOk r (λ e. (job ≡ JobName.Step → ⊥) → (x : Assignment) → Satisfies x e.formula.clauses → IsDecoded model.now job span (decoded e x))) }
 {
-    let _ = model.size();
     let marks = cone(alloc, model, asked_of(job))?;
     let slice = cut(alloc, model, &marks)?;
-    let _ = slice.size();
     let starts = kept_starts(alloc, model, &marks)?;
     let inputs = kept_inputs(alloc, model, &marks)?;
     match job_cnf::encode(alloc, &slice, job, span)? {

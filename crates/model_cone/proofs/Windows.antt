@@ -123,9 +123,6 @@ module _ (m : ModelOf) (is : IsModel m) (asked : Asked) (keep : ℕ → Bool) (c
   slice-bits : states (sliced keep m) ≡ filter keep (states m)
   slice-bits = slice-states m is keep (whole-cone m asked keep cone) (constants-kept m asked keep cone) (node-closed m asked keep cone)
 
-  Kept : Cycle → Cycle → Type 0
-  Kept c e = (p : ℕ) → keep p ≡ true → c p ≡ e p
-
   -- what follows in the one follows in the other
   row-kept : (c e : Cycle) → ((p : ℕ) → keep p ≡ true → c p ≡ e p) → (i : ℕ) (r : RegisterOf) → slice_get m.registers i ≡ Some r → has_kept keep r.q ≡ true → row_at c r.q ≡ row_at e r.q
   row-kept c e h i r at k = row_same c e r.q (λ p g. h p (whole-cone m asked keep cone i r at k p g))

@@ -6,7 +6,7 @@ use Rattle.model_core.specs.declared.op.Op.TheVariants as op
 use Rattle.model_cone.specs.declared.asked.Asked.{Asked}
 use Rattle.model_cone.specs.Cone.{IsCone}
 
--- a mark for each place as the places that are kept; none past its end
+-- whether a place is marked; none is past the marks' end
 abbrev pub kept_by : List Bool → ℕ → Bool
 kept_by marks p = slice_index_or marks p false
 
@@ -35,7 +35,7 @@ kept_digits keep [] digits = []
 kept_digits keep (p ∷ ps) [] = []
 kept_digits keep (p ∷ ps) (x ∷ digits) = cond (keep p) (x ∷ kept_digits keep ps digits) (kept_digits keep ps digits)
 
--- of no register a part is kept
+-- each register is kept whole, or nothing of it is
 abbrev pub IsWhole : (ℕ → Bool) → ModelOf → Type 0
 IsWhole keep m = (i : ℕ) (r : RegisterOf) → slice_get m.registers i ≡ Some r → has_kept keep r.q ≡ true → (p : ℕ) → Contains r.q p → keep p ≡ true
 

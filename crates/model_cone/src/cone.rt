@@ -32,6 +32,7 @@ fn spread(
 
 /// A mark for each place of the model, set where the place is in the cone of what is asked.
 pub fn cone(alloc: Global, model: &WordModel, asked: Asked) -> Result<Vec<bool>, AllocError>
+    ensures model { IfOk result (λ marks. IsModel model.now) }
     ensures size { IfOk result (λ marks. length marks.items ≡ model.now.size) }
     ensures cone { IfOk result (λ marks. IsCone model.now asked (kept_by marks.items)) }
 {

@@ -1,7 +1,7 @@
 //! Laws of the definitions: each function's contract is a law, and its body is empty.
 
 ghost use Rattle.std.specs.Prelude.{◌≡◌, ◌↔◌, ◌<◌, ℕ, false, Contains};
-ghost use Rattle.model_core.specs.Choices.{AreChoicesFor, ChoicesOf, Plays, open_states};
+ghost use Rattle.model_core.specs.Choices.{open_states};
 ghost use Rattle.model_core.specs.Meaning.{Assumed, Broken, Cycle, Reached, Run, Window};
 ghost use Rattle.model_core.specs.Served.{IsModel};
 ghost use Rattle.model_core.specs.Shape.{ModelOf, states};

@@ -1,6 +1,6 @@
 // The slice of a model.
 
-ghost use Rattle.std.specs.Prelude.{◌≡◌, ◌+◌, ◌++◌, ◌∷◌, [], ◌<◌, ◌≤◌, ◌^◌, IfOk, OnOk, Some, Contains, cond, not, length, map, slice_get, true};
+ghost use Rattle.std.specs.Prelude.{◌≡◌, ◌++◌, ◌∷◌, [], ◌<◌, ◌^◌, IfOk, OnOk, Some, cond, not, length, map, slice_get};
 ghost use Rattle.std.specs.List.{filter};
 ghost use Rattle.model_core.specs.Served.{IsModel};
 ghost use Rattle.model_core.specs.Shape.{AreBelow, NodeOf, RegisterOf, states};
@@ -255,7 +255,8 @@ fn push_statements(draft: &mut Draft, model: &WordModel) -> Result<(), AllocErro
 pub fn cut(alloc: Global, model: &WordModel, marks: &[bool]) -> Result<WordModel, AllocError>
     requires size { length marks.now ≡ model.now.size }
     requires cone { (asked : Asked) × IsCone model.now asked (kept_by marks.now) }
-    ensures { IfOk result (λ s. s ≡ sliced (kept_by marks.now) model.now) }
+    ensures model { IfOk result (λ s. IsModel s) }
+    ensures slice { IfOk result (λ s. s ≡ sliced (kept_by marks.now) model.now) }
 {
     let mut row = Vec::new(alloc);
     let mut draft = Draft::new(alloc, model.size(), model.zero());

@@ -11,8 +11,9 @@ encode_registers-requires-clause-job c = subst (λ (m : ModelOf). IsJob m c.args
 
 pub returns-clause-solvable : goal.returns-clause-solvable
 returns-clause-solvable c = IfOk-weaker c.encode_registers.result _ _ (λ r h. IfOk-weaker r _ _ (λ e k. (
-    λ s. solvable-whole c.args.model.now c.size.ensures.model c.args.job c.args.span (k.0 s),
-    λ s. k.1 (solvable-split c.args.model.now c.size.ensures.model c.args.job c.args.span s))) h)
+  λ s. solvable-whole c.args.model.now c.size.ensures.model c.args.job c.args.span (k.0 s),
+  λ s. k.1 (solvable-split c.args.model.now c.size.ensures.model c.args.job c.args.span s),
+)) h)
     (rw c.in_ok-bits.ensures at c.encode_registers.ensures.solvable)
 
 pub returns-clause-too_many : goal.returns-clause-too_many

@@ -16,4 +16,4 @@ spread-requires-clause-begun c =
     spread-begins c.args.model.now c.args.asked c.size.result _ _ size (rw (grown, c.new.ensures.items) at c.in_ok-mark_roots.ensures) (length-replicate c.size.result false)
 
 pub returns : goal.returns
-returns c = record { size = c.in_ok-spread.ensures.size; cone = cone-found c.args.model.now c.args.asked _ c.in_ok-spread.ensures }
+returns c = record { model = c.size.ensures.model; size = c.in_ok-spread.ensures.size; cone = cone-found c.args.model.now c.args.asked _ c.in_ok-spread.ensures }

@@ -15,12 +15,17 @@ made c =
     (c.new-draft.ensures ∙ rw (c.size.ensures.size, c.zero.ensures) refl)
     c.in_ok-push_nodes.ensures c.in_ok-push_left_registers.ensures c.in_ok-push_left_inputs.ensures c.in_ok-push_registers.ensures c.in_ok-push_inputs.ensures c.in_ok-push_statements.ensures
 
-pub finish-requires : goal.finish-requires
-finish-requires c =
+model-is : (c : In_ok-push_statements) → IsModel c.push_statements.new.draft
+model-is c =
     let m = c.args.model.now in
     let keep = kept_by c.args.marks.now in
     let cone = c.requires.cone in
     subst IsModel (sym (made c)) (slice-is m c.size.ensures.model keep (whole-cone m cone.0 keep cone.1) (constants-kept m cone.0 keep cone.1) (node-closed m cone.0 keep cone.1))
 
+pub finish-requires : goal.finish-requires
+finish-requires c = model-is c
+
 pub returns : goal.returns
-returns c = c.finish.ensures ∙ made (goal.at.returns c).In_ok-push_statements
+returns c =
+    let i = (goal.at.returns c).In_ok-push_statements in
+    record { model = subst IsModel (sym c.finish.ensures) (model-is i); slice = c.finish.ensures ∙ made i }

@@ -10,5 +10,5 @@ pub returns : goal.returns
 returns c = record {
   keep = kept_by c.in_ok-marks.marks.items;
   cone = c.in_ok-marks.ensures.cone;
-  is = c.in_ok-slice.ensures ∙ ap (λ (marks : List Bool). sliced (kept_by marks) c.args.model.now) c.deref.ensures.value;
+  is = c.in_ok-slice.ensures.slice ∙ ap (λ (marks : List Bool). sliced (kept_by marks) c.args.model.now) c.deref.ensures.value;
 }
