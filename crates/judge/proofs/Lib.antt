@@ -5,3 +5,4 @@ pub mod Carrying
 pub mod Encodes
 pub mod Truth
 pub mod Telling
+pub mod Zeros

@@ -1,14 +1,19 @@
 // Laws of problems, and of what their findings say.
 
-ghost use Rattle.std.specs.Prelude.{◌≡◌, ◌<◌, ◌≤◌, ℕ, suc, Bool, List, length};
+ghost use Rattle.std.specs.Prelude.{◌≡◌, ◌<◌, ◌≤◌, ℕ, suc, Bool, false, Contains, List, length, Some, slice_get};
 ghost use Rattle.cnf_form.specs.Cnf.{FormulaOf};
-ghost use Rattle.design_core.specs.Shape.{DesignOf};
+ghost use Rattle.design_core.specs.Shape.{CellOf, DesignOf};
+ghost use Rattle.design_core.specs.Table.{role_of};
 ghost use Rattle.design_meaning.specs.Claims.{NeverBreak, ReachRun, Shows};
-ghost use Rattle.design_meaning.specs.Meaning.{Broken, Reached};
+ghost use Rattle.design_meaning.specs.Meaning.{Broken, IsCell, Reached, bit_in};
 ghost use Rattle.design_meaning.specs.Runs.{CycleOf, valuations};
+ghost use Rattle.design_meaning.specs.States.{StateBit, input_bits, state_in, state_of};
+ghost use Rattle.design_signals.specs.declared.sig_bit.SigBit.{SigBit};
+ghost use Rattle.model_laws.specs.Reads.{IsReadOtherwise, IsStateRead};
 ghost use Rattle.sby_terms.specs.Span.{first_of, last_of, whole};
 ghost use Rattle.sby_terms.specs.declared.names.JobName.{JobName};
 ghost use Rattle.sby_terms.specs.declared.names.JobName.TheVariants.{Base, Cover, Step};
+ghost use Rattle.word_model.specs.Registers.{BeginsWith};
 ghost use Rattle.judge.specs.Jobs.{Solvable, span_of};
 ghost use Rattle.judge.specs.Played.{IsStreamsRun};
 ghost use Rattle.judge.specs.Problem.{AskedOf, IsFormulaOf, IsJobFile, IsProblem};
@@ -38,6 +43,16 @@ pub fn played_run_ends_at_first_goal()
 pub fn one_played_run()
     ensures { (p : AskedOf) (job : JobName) (ended : Bool) (bytes : List ℕ) (most : ℕ) (run other : List CycleOf) → IsProblem p
         → IsStreamsRun p job ended bytes most run → IsStreamsRun p job ended bytes most other → run ≡ other }
+{}
+
+/// In a stream's run what is open and isn't read is 0: the inputs in each cycle, and the state bits without a start digit in the first. A
+/// bit that only clocks read isn't read.
+pub fn played_run_is_zero_where_nothing_reads()
+    ensures inputs { (p : AskedOf) (job : JobName) (ended : Bool) (bytes : List ℕ) (most : ℕ) (run : List CycleOf) → IsProblem p → IsStreamsRun p job ended bytes most run → (job ≡ Step → ⊥)
+        → (t : ℕ) (b : SigBit) → t < length run → Contains (input_bits p.design) b → ¬ IsReadOtherwise p.design b → bit_in (valuations p.design run t) b ≡ false }
+    ensures starts { (p : AskedOf) (job : JobName) (ended : Bool) (bytes : List ℕ) (most : ℕ) (run : List CycleOf) → IsProblem p → IsStreamsRun p job ended bytes most run → (job ≡ Step → ⊥)
+        → (i k : ℕ) (c : CellOf) (s : StateBit) → IsCell p.design i c → slice_get (state_of (i, c)) k ≡ Some s → ((x : Bool) → BeginsWith (role_of c.kind) p.design i k x → ⊥)
+        → (IsStateRead p.design s → ⊥) → state_in (valuations p.design run 0) s ≡ false }
 {}
 
 /// k-induction: where neither Base nor Step of one depth, over one slice from cycle 0, can be solved, no run breaks an assertion, whatever its

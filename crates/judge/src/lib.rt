@@ -12,7 +12,8 @@ mod text;
 pub use finding::Finding;
 pub use judging::{Judge, Progress, State};
 pub use laws::{
-    base_and_step_show_that_nothing_breaks, one_file, one_played_run, played_run_ends_at_first_goal,
+    base_and_step_show_that_nothing_breaks, one_file, one_played_run,
+    played_run_ends_at_first_goal, played_run_is_zero_where_nothing_reads,
 };
 pub use problem::{Problem, ProblemFault};
 pub use run::PlayedRun;
