@@ -77,13 +77,12 @@ finds_same j mid r same h = subst (λ k. Finds j.asked k r) same.1 (subst (λ p.
 
 run_same : (j mid : JudgeOf) (bytes : List ℕ) (r : Result Progress BadCert) → IsSameJudge j mid → FindsRun mid true bytes r → FindsRun j true bytes r
 run_same j mid bytes (Ok More) same h = tt
-run_same j mid bytes (Ok (Done f)) same h = λ sat step. let found = h sat (λ e. step (sym same.1 ∙ e)) in
-    (
-      found.0,
-      found.1,
-      subst (λ m. IsStreamsRun j.asked j.job true bytes m found.0) same.2
-          (subst (λ k. IsStreamsRun j.asked k true bytes mid.most found.0) same.1 (subst (λ p. IsStreamsRun p mid.job true bytes mid.most found.0) same.0 found.2)),
-    )
+run_same j mid bytes (Ok (Done f)) same h = λ sat step. let found = h sat (λ e. step (sym same.1 ∙ e)) in (
+  found.0,
+  found.1,
+  subst (λ m. IsStreamsRun j.asked j.job true bytes m found.0) same.2
+      (subst (λ k. IsStreamsRun j.asked k true bytes mid.most found.0) same.1 (subst (λ p. IsStreamsRun p mid.job true bytes mid.most found.0) same.0 found.2)),
+)
 run_same j mid bytes (Ok UnknownProgress) same h = tt
 run_same j mid bytes (Err bad) same h = tt
 

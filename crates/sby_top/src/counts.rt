@@ -9,10 +9,10 @@ ghost use Rattle.design_meaning.specs.Meaning.{is_register};
 ghost use Rattle.design_core.specs.Shape.{CellOf};
 ghost use Rattle.sby_top.specs.Counts.{counts_of, is_statement};
 
+use cell_table::kind::{Kind, Statement};
 use design_core::cell::Cell;
 use design_core::design::Design;
 use design_signals::chunk::Chunk;
-use cell_table::kind::{Kind, Statement};
 
 /// A design's register bits, and its statements of each kind.
 #[derive(Clone, Copy, Debug, PartialEq, Eq)]

@@ -1,9 +1,9 @@
 // What a call came to.
 
-use judge::{Finding, Text};
-use race_core::Report;
 use design_check::check::DesignFault;
 use design_reader::ReadFault;
+use judge::{Finding, Text};
+use race_core::Report;
 use sby_terms::{JobName, Status};
 
 /// A fault before the lanes of a task.

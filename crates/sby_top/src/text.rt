@@ -5,11 +5,11 @@ ghost use Rattle.sby_top.specs.Lines.{kind_numbered};
 ghost use Rattle.sby_top.specs.Texts.{answer_text, broken_text, cert_kind_text, cert_text, design_kind_text, design_text, done_text, fault_text, file_text, hold_failed_text, job_path, path_text, job_text, lane_text, line_of, memory_text, not_served_text, read_failed_text, read_kind_text, read_text, settled_text, start_failed_text, status_text, streams_text, too_many_text, unknown_text, usage_line};
 
 use crate::counts::Counts;
-use stream_judge::CertKind;
 use design_check::fault::FaultKind;
 use design_reader::ReadFaultKind;
 use sby_terms::{Answer, JobName, Status};
 use std::alloc::{AllocError, Global};
+use stream_judge::CertKind;
 
 /// The usage line.
 #[tactic(auto, unfolding(crate::specs::Texts::usage_line))]

@@ -40,15 +40,9 @@ fn turns_over(alloc: Global, model: &WordModel) -> Result<bool, Fail> {
     let mut player = Player::new(alloc, model)?;
     player.begin(&[]);
     player.step(&[true]);
-    let first =
-        is_row(player.row(), [true, false, true]) && player.assumed() && !player.broken(0);
+    let first = is_row(player.row(), [true, false, true]) && player.assumed() && !player.broken(0);
     player.step(&[false]);
-    Ok(
-        first
-            && is_row(player.row(), [false, true, false])
-            && player.assumed()
-            && player.broken(0),
-    )
+    Ok(first && is_row(player.row(), [false, true, false]) && player.assumed() && player.broken(0))
 }
 
 fn is_shown(kept: &Kept) -> bool {
@@ -59,7 +53,12 @@ fn is_shown(kept: &Kept) -> bool {
 fn register_turns_over(rt: HostRuntime) -> Result<(), Fail> {
     let model = toggle(rt.alloc())?;
     assert_eq!(rt;
-        (model.inputs().len(), model.states().len(), model.asserts().len(), model.covers().len()),
+        (
+            model.inputs().len(),
+            model.states().len(),
+            model.asserts().len(),
+            model.covers().len()
+        ),
         (1, 1, 1, 0)
     );
     assert!(rt; turns_over(rt.alloc(), &model)?);

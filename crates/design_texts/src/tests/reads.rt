@@ -16,16 +16,10 @@ const TEXTS: [(&str, &str); 21] = [
         r"module \t wire width 2 \a connect \a 2's1 end",
         "1 wires, 2 bits, 0 cells, 1 connects",
     ),
-    (
-        BITS,
-        "11 wires, 43 bits, 7 cells, 2 connects",
-    ),
+    (BITS, "11 wires, 43 bits, 7 cells, 2 connects"),
     (SHIFTER, "11 wires, 48 bits, 8 cells, 0 connects"),
     (FORMAL, "15 wires, 33 bits, 16 cells, 0 connects"),
-    (
-        SUB,
-        "19 wires, 96 bits, 12 cells, 6 connects",
-    ),
+    (SUB, "19 wires, 96 bits, 12 cells, 6 connects"),
     ("", "byte 0: no module"),
     ("autoidx", "byte 7: no module"),
     (r"module \t", "byte 9: syntax"),
@@ -57,9 +51,7 @@ fn described(rt: &HostRuntime, design: &Design) -> Result<String, Fail> {
     let bits = design.bits();
     let cells = design.cells().len();
     let connects = design.connects().len();
-    Ok(format!(in rt.alloc();
-        "{wires} wires, {bits} bits, {cells} cells, {connects} connects"
-    )?)
+    Ok(format!(in rt.alloc(); "{wires} wires, {bits} bits, {cells} cells, {connects} connects")?)
 }
 
 fn answered(rt: &HostRuntime, text: &[u8]) -> Result<String, Fail> {
