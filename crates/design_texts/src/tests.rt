@@ -2,7 +2,7 @@
 
 mod designs;
 mod faults;
-mod plays;
+mod models;
 mod reads;
 
 use design_check::check::{DesignFault, check};
