@@ -86,7 +86,7 @@ module _ (d : DesignOf) (m : ModelOf) (built : IsBuiltFor d m) where
   pub too_many : (p : ProblemOf) (job : JobName) → 1 ≤ p.depth → Reads p.text d → IsFlat d → IsTooMany d m (whole p.depth) (jobs_of p d) job → IsProblemFault p (TooMany job)
   too_many p job least reads flat h =
       let n = frames job (whole p.depth) in
-      (d, reads, flat, h.0, h.1, past_cost n (frames_some job p.depth least) h.2, (m, built.model, h.2))
+      (d, reads, flat, h.0, h.1, past_cost n (frames_some job p.depth least) h.2, (built.built.0, m, built.built.1, built.built.2, h.2))
 
 module _ (d : DesignOf) (m : ModelOf) (span : Span) (names : List JobName) where
   pub encoded_none : AreEncoded d m span (take 0 names) []

@@ -1,22 +1,30 @@
 // Laws of problems, and of what their findings say.
 
-ghost use Rattle.std.specs.Prelude.{◌≡◌, ◌<◌, ◌≤◌, ℕ, suc, Bool, false, Contains, List, length, Some, slice_get};
+ghost use Rattle.std.specs.Prelude.{◌≡◌, ◌<◌, ◌≤◌, ◌++◌, ℕ, suc, Bool, false, Contains, List, length, Some, slice_get};
 ghost use Rattle.cnf_form.specs.Cnf.{FormulaOf};
+ghost use Rattle.cone_cnf.specs.Asking.{HasOriginsInBits};
+ghost use Rattle.design_core.specs.Places.{place_of};
 ghost use Rattle.design_core.specs.Shape.{CellOf, DesignOf};
 ghost use Rattle.design_core.specs.Table.{role_of};
 ghost use Rattle.design_meaning.specs.Claims.{NeverBreak, ReachRun, Shows};
-ghost use Rattle.design_meaning.specs.Meaning.{Broken, IsCell, Reached, bit_in};
+ghost use Rattle.design_meaning.specs.Meaning.{Broken, Frame, IsCell, Reached, Run, bit_in};
 ghost use Rattle.design_meaning.specs.Runs.{CycleOf, valuations};
-ghost use Rattle.design_meaning.specs.States.{StateBit, input_bits, state_in, state_of};
+ghost use Rattle.design_meaning.specs.States.{StateBit, input_bits, state_bits, state_in, state_of};
 ghost use Rattle.design_signals.specs.declared.sig_bit.SigBit.{SigBit};
+ghost use Rattle.job_cnf.specs.Encoding.{EncodedOf};
+ghost use Rattle.job_cnf.specs.Encoding.Origin.{First, Input};
+ghost use Rattle.model_core.specs.Choices.{AreChoicesFor, ChoicesOf, Plays};
+ghost use Rattle.model_core.specs.Meaning.{Cycle};
+ghost use Rattle.model_core.specs.Shape.{states};
 ghost use Rattle.model_laws.specs.Reads.{IsReadOtherwise, IsStateRead};
 ghost use Rattle.sby_terms.specs.Span.{first_of, last_of, whole};
 ghost use Rattle.sby_terms.specs.declared.names.JobName.{JobName};
 ghost use Rattle.sby_terms.specs.declared.names.JobName.TheVariants.{Base, Cover, Step};
+ghost use Rattle.word_model.specs.Layout.{state_place, valued};
 ghost use Rattle.word_model.specs.Registers.{BeginsWith};
 ghost use Rattle.judge.specs.Jobs.{Solvable, span_of};
 ghost use Rattle.judge.specs.Played.{IsStreamsRun};
-ghost use Rattle.judge.specs.Problem.{AskedOf, IsFormulaOf, IsJobFile, IsProblem};
+ghost use Rattle.judge.specs.Problem.{AskedOf, IsEncodedOf, IsFormulaOf, IsJobFile, IsProblem};
 
 /// A job of a problem has one formula, and one file.
 pub fn one_file()
@@ -43,6 +51,24 @@ pub fn played_run_ends_at_first_goal()
 pub fn one_played_run()
     ensures { (p : AskedOf) (job : JobName) (ended : Bool) (bytes : List ℕ) (most : ℕ) (run other : List CycleOf) → IsProblem p
         → IsStreamsRun p job ended bytes most run → IsStreamsRun p job ended bytes most other → run ≡ other }
+{}
+
+/// Whatever is chosen for the bits that a run leaves open, the problem's design has a run with it, and whatever the state bits and the inputs
+/// have, a frame.
+pub fn every_choice_has_a_run_of_the_design()
+    ensures run { (p : AskedOf) → IsProblem p → (c : ChoicesOf) → AreChoicesFor p.model c → 0 < length c.inputs
+        → (cs : ℕ → Cycle) × Plays p.model c cs × Run p.design (length c.inputs) (λ t. valued p.design (cs t)) }
+    ensures frame { (p : AskedOf) → IsProblem p → (c : Cycle)
+        → (e : Cycle) × Frame p.design (valued p.design e) × ((n : ℕ) → Contains (states p.model ++ p.model.inputs) n → e n ≡ c n) }
+{}
+
+/// A job has a free variable only for what the design reads otherwise than as a clock: an input in a cycle, or a state bit in the first. A
+/// kept row is read where some bit of its register's output is.
+pub fn free_variables_are_read()
+    ensures inputs { (p : AskedOf) (job : JobName) (e : EncodedOf) → IsProblem p → IsEncodedOf p job e → (o : HasOriginsInBits p.model job (span_of p.problem) e)
+        → (t : ℕ) (b : SigBit) → Contains (input_bits p.design) b → Contains o.has.origins (Input t (place_of p.design b)) → IsReadOtherwise p.design b }
+    ensures starts { (p : AskedOf) (job : JobName) (e : EncodedOf) → IsProblem p → IsEncodedOf p job e → (o : HasOriginsInBits p.model job (span_of p.problem) e)
+        → (s : StateBit) → Contains (state_bits p.design) s → Contains o.has.origins (First (state_place p.design s)) → IsStateRead p.design s }
 {}
 
 /// In a stream's run what is open and isn't read is 0: the inputs in each cycle, and the state bits without a start digit in the first. A
