@@ -1,14 +1,20 @@
 -- What a conflict rests on.
-use Rattle.std.proofs.Common.{◌≡◌, ◌≢◌, ℕ, ◌+◌, ◌-◌, ◌<◌, Bool, true, false, List, [], ◌∷◌, ◌++◌, length, get_or, set, take, map, arith, refl, sym, ◌∙◌, ap, subst, inl, inr}
+use Rattle.std.proofs.Common.{length-append, get_or-take, ◌≡◌, ◌≢◌, ◌⊎◌, ℕ, ◌+◌, ◌-◌, ◌<◌, ◌≤◌, Bool, true, false, not, eqb, List, [], ◌∷◌, ◌++◌, length, get_or, set, take, map, arith, refl, sym, ◌∙◌, ap, subst, inl, inr}
 use Rattle.std.specs.Prelude.{Contains, All, Some}
 use Rattle.std.proofs.lemmas.List.Elements.{Contains-append_left, Contains-append_right, Contains-push, Contains-push_cases, Contains-get_or}
+use Rattle.std.specs.List.{list_any}
+use Rattle.std.proofs.lemmas.List.{length-take-le, length-map, get_or-map}
+use Rattle.std.proofs.lemmas.Bool.{cases_Bool, eqb-true}
+use Rattle.std.proofs.lemmas.Map.Views.{Contains-from_any}
+use Rattle.std.proofs.lemmas.Map.Steps.{length-le_from_distinct_below}
+use Rattle.std.proofs.lemmas.Map.Keys.{IsDistinct-from_apart}
 use Rattle.cnf_form.specs.Cnf.{LitOf, negate, index_of, LitWithin, Closure, propagated, negated_units}
 use Rattle.cnf_form.proofs.Literals.{lit_cases, negate-negate}
 use Rattle.cnf_form.proofs.Members.{Contains-empty, Contains-one, Contains-head, Contains-tail, Contains-cases, Contains-map, Contains-map_from, take_one_more}
 use Rattle.unit_propagation.specs.Marks.{is_marked, IsDistinct}
 use Rattle.std.proofs.lemmas.List.{take_all}
 use Rattle.unit_propagation.proofs.Slots.{clauses_of-contains}
-use Rattle.unit_propagation.specs.Propagation.{ContainsAll, IsDerived}
+use Rattle.unit_propagation.specs.Propagation.{ContainsAll, IsConsistent, IsDerived}
 use Rattle.unit_propagation.specs.Propagator.{PropagatorOf, clauses_of}
 use Rattle.cdcl_core.specs.Levels.{IsDriven, IsPending, end_of, base_of}
 use Rattle.cdcl_core.specs.Analysis.{IsListed, IsNoted, Supports, IsFirst, IsLearnt}
@@ -48,8 +54,8 @@ negated_derived F c m h =
 
 -- the clause that an analysis ends with
 pub learnt_first : (p : PropagatorOf) (base root : ℕ) (seen : List Bool) (lower current : List LitOf) (l : LitOf) → IsDriven p → root ≡ end_of p 0 → IsListed p.trail base seen lower current
-    → Supports (clauses_of p.slots) p.trail root seen → IsFirst p.trail base seen current l → IsLearnt p base (negate l ∷ lower) (negate l)
-learnt_first p base root seen lower current l v e listed w f =
+    → Supports (clauses_of p.slots) p.trail root seen → IsFirst p.trail base seen current l → length (negate l ∷ lower) ≤ p.vars → IsLearnt p base (negate l ∷ lower) (negate l)
+learnt_first p base root seen lower current l v e listed w f short =
     let F = clauses_of p.slots in
     let c = negate l ∷ lower in
     let G = F ++ negated_units c in
@@ -71,16 +77,65 @@ learnt_first p base root seen lower current l v e listed w f =
         | inl q ↦ let s = v.within l f.on in subst (LitWithin p.vars) q (s.0, s.1)
         | inr q ↦ false_one m q
       ]);
+      short = short;
     }
 
 -- what is noted stays so while marks are only set
 pub noted_keeps : (t : List LitOf) (root : ℕ) (seen seen' : List Bool) (m : LitOf) → ((l : LitOf) → is_marked seen l ≡ true → is_marked seen' l ≡ true) → IsNoted t root seen m → IsNoted t root seen' m
 noted_keeps t root seen seen' m keeps n = elim n [ inl h ↦ inl (keeps (negate m) h) | inr h ↦ inr h ]
 
+-- a variable counted from 0
+place_of : LitOf → ℕ
+place_of l = l.var - 1
+
+same_var : (l m : LitOf) → l.var ≡ m.var → (l ≡ m) ⊎ (l ≡ negate m)
+same_var l m e = var_cases l.var m.var l.negated m.negated e
+  where
+    var_cases : (v w : ℕ) (a b : Bool) → v ≡ w
+        → ((let l : LitOf = record { var = v; negated = a } in l) ≡ record { var = w; negated = b }) ⊎ ((let l : LitOf = record { var = v; negated = a } in l) ≡ record { var = w; negated = not b })
+    var_cases v w true true e = inl cc
+    var_cases v w false false e = inl cc
+    var_cases v w true false e = inr cc
+    var_cases v w false true e = inr cc
+
+no_literal : LitOf
+no_literal = record { var = 0; negated = false }
+
+-- literals at two places have two variables
+places_apart : (vars : ℕ) (t : List LitOf) → ((l : LitOf) → Contains t l → LitWithin vars l) → IsDistinct t → IsConsistent t
+    → (i j : ℕ) (d : ℕ) → i < j → j < length t → eqb (get_or (map place_of t) i d) (get_or (map place_of t) j d) ≡ false
+unfolding place_of
+places_apart vars t within distinct consistent i j d before room =
+    let first : i < length t = omega (arith, before, room) in
+    let a = get_or t i no_literal in
+    let b = get_or t j no_literal in
+    let has_a : Contains t a = Contains-get_or t i no_literal first in
+    let has_b : Contains t b = Contains-get_or t j no_literal room in
+    let wa = within a has_a in
+    let wb = within b has_b in
+    let front : Contains (take j t) a = subst (Contains (take j t)) (get_or-take j t i no_literal before) (Contains-get_or (take j t) i no_literal (let n = length-take-le j t (omega (arith, room)) in omega (arith, n, before))) in
+    rw (get_or-map place_of t i no_literal d first, get_or-map place_of t j no_literal d room) (elim (cases_Bool (eqb (a.var - 1) (b.var - 1))) [
+      | inr f ↦ f
+      | inl e ↦ absurd (elim (same_var a b (let k = eqb-true (a.var - 1) (b.var - 1) e in omega (arith, k, wa.0, wb.0))) [
+        | inl s ↦ distinct.once j no_literal room (subst (Contains (take j t)) s front)
+        | inr s ↦ consistent.apart b has_b (subst (Contains t) s has_a)
+      ])
+    ])
+
+-- a trail has at most as many literals as there are variables
+trail_short : (vars : ℕ) (t : List LitOf) → ((l : LitOf) → Contains t l → LitWithin vars l) → IsDistinct t → IsConsistent t → length t ≤ vars
+unfolding place_of
+trail_short vars t within distinct consistent =
+    let xs = map place_of t in
+    let n : length xs ≡ length t = length-map t place_of in
+    let below : (q : ℕ) → list_any (eqb q) xs ≡ true → q < vars = λ q h. let x = Contains-map_from place_of q t (Contains-from_any eqb-true q xs h) in let w = within x.0 x.1 in let e : x.0.var - 1 ≡ q = x.2 in omega (arith, w.0, w.1, e) in
+    let h = length-le_from_distinct_below xs vars (IsDistinct-from_apart eqb xs (λ i j d before room. places_apart vars t within distinct consistent i j d before (omega (arith, room, n)))) below in
+    omega (arith, h, n)
+
 -- the clause of the negations of all that was true when the last level was decided
-pub learnt_trail : (p : PropagatorOf) (k : ℕ) (c : List LitOf) (d : LitOf) → IsDriven p → 0 < length p.limits → base_of p < length p.trail → IsPending p (Some k) → IsDistinct p.trail
+pub learnt_trail : (p : PropagatorOf) (k : ℕ) (c : List LitOf) (d : LitOf) → IsDriven p → 0 < length p.limits → base_of p < length p.trail → IsPending p (Some k) → IsDistinct p.trail → IsConsistent p.trail
     → d ≡ get_or p.trail (base_of p) d → c ≡ map negate (take (base_of p) p.trail) ++ negate d ∷ [] → IsLearnt p (base_of p) c (negate d)
-learnt_trail p k c d v levels room pending distinct read is =
+learnt_trail p k c d v levels room pending distinct consistent read is =
     let F = clauses_of p.slots in
     let b = base_of p in
     let L = length p.limits in
@@ -116,6 +171,10 @@ learnt_trail p k c d v levels room pending distinct read is =
             let y = v.within x.0 (of_prefix p.trail b x.0 x.1) in subst (LitWithin p.vars) x.2 (y.0, y.1)
         | inr e ↦ let y = v.within d (b, room, sym read) in subst (LitWithin p.vars) e (y.0, y.1)
       ]);
+      short =
+          let all_short = trail_short p.vars p.trail v.within distinct consistent in
+          let upto : length (take b p.trail) ≡ b = length-take-le b p.trail (omega (arith, room)) in
+          omega (arith, all_short, room, upto, ap length is, length-append front (negate d ∷ []), length-map (take b p.trail) negate);
     }
 
 -- where the last level begins there is its decision

@@ -1,11 +1,12 @@
 -- What was logged, and what answers it gives.
-use Rattle.std.proofs.Common.{◌≡◌, ◌⊎◌, inl, inr, ℕ, ◌+◌, ◌*◌, ◌<◌, ◌≤◌, Bool, List, [], ◌∷◌, ◌++◌, length, refl, sym, ◌∙◌, ap, subst, arith, append_assoc, append-nil}
-use Rattle.std.specs.Prelude.{Contains, Option, Some, None, option_map, Result, Ok, Err, IfOk, OnOk}
+use Rattle.std.proofs.Common.{◌≡◌, ◌⊎◌, inl, inr, ℕ, ◌+◌, ◌*◌, ◌<◌, ◌≤◌, Bool, List, [], ◌∷◌, ◌++◌, length, refl, sym, ◌∙◌, ap, subst, arith}
+use Rattle.std.specs.Prelude.{Contains, Result, Ok, Err, IfOk, OnOk}
+use Rattle.std.proofs.lemmas.List.Elements.{All-nil, All-push}
 use Rattle.std.specs.declared.alloc.AllocError.{AllocError}
 use Rattle.cnf_form.specs.Cnf.{LitOf, FormulaOf, Satisfies, IsAdmitted, Deletes, Line, Addition, Deletion, Drup}
 use Rattle.cnf_form.proofs.Removal.{Drup-refutes}
 use Rattle.unit_propagation.specs.Propagation.{ContainsAll}
-use Rattle.cdcl_core.specs.Logged.{IsNew, Logged, none, added, deleted, additions, deletions}
+use Rattle.cdcl_core.specs.Logged.{IsNew, IsProper, clause_of, Logged, none, added, deleted, additions, deletions}
 use Rattle.unit_propagation.specs.Propagator.{PropagatorOf, clauses_of}
 use Rattle.cdcl_core.specs.declared.solver.Solved.{Solved}
 use Rattle.cdcl_core.specs.declared.solver.Solved.TheVariants.{Unsat, LogFailed}
@@ -14,14 +15,10 @@ use Rattle.cdcl_core.specs.declared.solver.Turn.TheVariants.{Answered, Learnt}
 use Rattle.cdcl_core.specs.Solving.{Takes, IsSearch, IsFound, IsRefuted, IsBroken, SolvedFits, TurnFits, StepFits, valued}
 use Rattle.cdcl_core.proofs.Driven.{all_push}
 
--- lines that are taken one after another
-pub takes_none : (a : Option (List Line)) → Takes a [] a
-takes_none None = refl
-takes_none (Some t) = ap Some (sym (append-nil t))
-
-pub takes_both : (a b c : Option (List Line)) (ls ms : List Line) → Takes a ls b → Takes b ms c → Takes a (ls ++ ms) c
-takes_both None b c ls ms e f = f ∙ ap (option_map (λ t. t ++ ms)) e
-takes_both (Some t) b c ls ms e f = f ∙ ap (option_map (λ x. x ++ ms)) e ∙ ap Some (append_assoc t ls ms)
+-- a line more is taken
+takes_more : {A : Type 0} (takes : A → Line → A → Type 0) (a b c : A) (ls : List Line) (l : Line) → Takes takes a ls b → takes b l c → Takes takes a (ls ++ l ∷ []) c
+takes_more takes a b c [] l e h = (c, subst (λ z. takes z l c) e h, refl)
+takes_more takes a b c (m ∷ ls) l w h = (w.0, w.1, takes_more takes w.0 b c ls l w.2 h)
 
 -- a line more
 drup_add : (F G : List (List LitOf)) (ls : List Line) (c : List LitOf) → Drup F ls G → IsAdmitted G c → Drup F (ls ++ Addition c ∷ []) (G ++ c ∷ [])
@@ -60,56 +57,59 @@ logged_count none = (refl, refl)
 logged_count (added ls G n d c w a new) = let h = logged_count w in let e = additions_push ls c in (e.0 ∙ ap (λ z. z + 1) h.0, e.1 ∙ h.1)
 logged_count (deleted ls G H n d c w a few) = let h = logged_count w in let e = deletions_push ls c in (e.0 ∙ h.0, e.1 ∙ ap (λ z. z + 1) h.1)
 
-pub search_none : (f : FormulaOf) (a : Option (List Line)) → IsSearch f a a f.clauses 0
-search_none f a = record { lines = []; deletions = 0; taken = takes_none a; logged = none }
+pub search_none : {A : Type 0} (takes : A → Line → A → Type 0) (f : FormulaOf) (a : A) → IsSearch takes f a a f.clauses 0
+search_none takes f a = record { lines = []; deletions = 0; taken = refl; logged = none; proper = All-nil (λ l. IsProper f.vars (clause_of l)) }
 
 -- a clause was logged
-pub search_more : (f : FormulaOf) (a b now : Option (List Line)) (G H : List (List LitOf)) (n : ℕ) (c : List LitOf) → IsSearch f a b G n → IsAdmitted G c → IsNew G c → H ≡ G ++ c ∷ [] → Takes b (Addition c ∷ []) now → IsSearch f a now H (n + 1)
-search_more f a b now G H n c s h new e t = subst (λ z. IsSearch f a now z (n + 1)) (sym e) (record {
+pub search_more : {A : Type 0} (takes : A → Line → A → Type 0) (f : FormulaOf) (a b now : A) (G H : List (List LitOf)) (n : ℕ) (c : List LitOf) → IsSearch takes f a b G n → IsAdmitted G c → IsNew G c → IsProper f.vars c → H ≡ G ++ c ∷ []
+    → takes b (Addition c) now → IsSearch takes f a now H (n + 1)
+search_more takes f a b now G H n c s h new fits e t = subst (λ z. IsSearch takes f a now z (n + 1)) (sym e) (record {
   lines = s.lines ++ Addition c ∷ [];
   deletions = s.deletions;
-  taken = takes_both a b now s.lines (Addition c ∷ []) s.taken t;
+  taken = takes_more takes a b now s.lines (Addition c) s.taken t;
   logged = added s.lines G n s.deletions c s.logged h new;
+  proper = All-push (λ l. IsProper f.vars (clause_of l)) s.lines (Addition c) s.proper fits;
 })
 
 -- the answers
-pub found : (f : FormulaOf) (budget n : ℕ) (a b : Option (List Line)) (G : List (List LitOf)) (values : List Bool) → n < budget → IsSearch f a b G n → length values ≡ f.vars + 1 → ContainsAll f.clauses G → Satisfies (valued values) G
-    → IsFound f budget a b values
-found f budget n a b G values h s sized all sat = record { present = G; count = n; search = s; in_time = h; sized = sized; satisfies = λ c k. sat c (all.each c k) }
+pub found : {A : Type 0} (takes : A → Line → A → Type 0) (f : FormulaOf) (budget n : ℕ) (a b : A) (G : List (List LitOf)) (values : List Bool) → n < budget → IsSearch takes f a b G n → length values ≡ f.vars + 1 → ContainsAll f.clauses G
+    → Satisfies (valued values) G → IsFound takes f budget a b values
+found takes f budget n a b G values h s sized all sat = record { present = G; count = n; search = s; in_time = h; sized = sized; satisfies = λ c k. sat c (all.each c k) }
 
-pub refuted : (f : FormulaOf) (budget n : ℕ) (a b now : Option (List Line)) (G : List (List LitOf)) → n < budget → IsSearch f a b G n → IsAdmitted G [] → Takes b (Addition [] ∷ []) now → IsRefuted f budget a now
-refuted f budget n a b now G h s w t = record {
-  lines = s.lines;
+pub refuted : {A : Type 0} (takes : A → Line → A → Type 0) (f : FormulaOf) (budget n : ℕ) (a b now : A) (G : List (List LitOf)) → n < budget → IsSearch takes f a b G n → IsAdmitted G [] → takes b (Addition []) now → IsRefuted takes f budget a now
+refuted takes f budget n a b now G h s w t = record {
+  last = b;
   present = G;
   count = n;
-  deletions = s.deletions;
-  taken = takes_both a b now s.lines (Addition [] ∷ []) s.taken t;
-  logged = s.logged;
+  search = s;
   in_time = h;
+  empty = t;
   admitted = w;
   unsatisfiable = Drup-refutes f.clauses G s.lines (logged_drup s.logged) w;
 }
 
-pub broken : (f : FormulaOf) (budget n : ℕ) (a b now : Option (List Line)) (G : List (List LitOf)) → n < budget → IsSearch f a b G n → now ≡ b → IsBroken f budget a now
-broken f budget n a b now G h s e = record { present = G; count = n; search = subst (λ z. IsSearch f a z G n) (sym e) s; in_time = h }
+pub broken : {A : Type 0} (takes : A → Line → A → Type 0) (fails : A → A → Type 0) (f : FormulaOf) (budget n : ℕ) (a b now : A) (G : List (List LitOf)) → n < budget → IsSearch takes f a b G n → fails b now → IsBroken takes fails f budget a now
+broken takes fails f budget n a b now G h s e = record { last = b; present = G; count = n; search = s; in_time = h; failed = e }
 
 -- the end, at a falsified clause at level 0
-pub end_fits : (f : FormulaOf) (budget n : ℕ) (a b now : Option (List Line)) (G : List (List LitOf)) (s : Solved) → (s ≡ Unsat → Takes b (Addition [] ∷ []) now) → (s ≡ LogFailed → now ≡ b) → (s ≡ Unsat) ⊎ (s ≡ LogFailed)
-    → n < budget → IsSearch f a b G n → IsAdmitted G [] → SolvedFits f budget a now s
-end_fits f budget n a b now G s took failed which h w admits = elim which [
-  | inl e ↦ subst (SolvedFits f budget a now) (sym e) (refuted f budget n a b now G h w admits (took e))
-  | inr e ↦ subst (SolvedFits f budget a now) (sym e) (broken f budget n a b now G h w (failed e))
+pub end_fits : {A : Type 0} (takes : A → Line → A → Type 0) (fails : A → A → Type 0) (f : FormulaOf) (budget n : ℕ) (a b now : A) (G : List (List LitOf)) (s : Solved) → (s ≡ Unsat → takes b (Addition []) now) → (s ≡ LogFailed → fails b now)
+    → (s ≡ Unsat) ⊎ (s ≡ LogFailed) → n < budget → IsSearch takes f a b G n → IsAdmitted G [] → SolvedFits takes fails f budget a now s
+end_fits takes fails f budget n a b now G s took failed which h w admits = elim which [
+  | inl e ↦ subst (SolvedFits takes fails f budget a now) (sym e) (refuted takes f budget n a b now G h w admits (took e))
+  | inr e ↦ subst (SolvedFits takes fails f budget a now) (sym e) (broken takes fails f budget n a b now G h w (failed e))
 ]
 
 -- what a clause that is learnt comes to
-pub step_keeps : (old new : PropagatorOf) (b now : Option (List Line)) (r : Result Turn AllocError) → IfOk r (StepFits old new b now) → OnOk r (ContainsAll (clauses_of old.slots) (clauses_of new.slots))
-step_keeps old new b now (Err e) w = tt
-step_keeps old new b now (Ok (Answered s)) w = record { each = λ c k. subst (λ z. Contains z c) (sym w.2) k }
-step_keeps old new b now (Ok (Learnt k)) w = subst (ContainsAll (clauses_of old.slots)) (sym w.3) (all_push (clauses_of old.slots) w.0)
+pub step_keeps : {A : Type 0} (takes : A → Line → A → Type 0) (fails : A → A → Type 0) (old new : PropagatorOf) (b now : A) (r : Result Turn AllocError) → IfOk r (StepFits takes fails old new b now)
+    → OnOk r (ContainsAll (clauses_of old.slots) (clauses_of new.slots))
+step_keeps takes fails old new b now (Err e) w = tt
+step_keeps takes fails old new b now (Ok (Answered s)) w = record { each = λ c k. subst (λ z. Contains z c) (sym w.2) k }
+step_keeps takes fails old new b now (Ok (Learnt k)) w = subst (ContainsAll (clauses_of old.slots)) (sym w.4) (all_push (clauses_of old.slots) w.0)
 
-pub step_fits : (f : FormulaOf) (old new : PropagatorOf) (F : List (List LitOf)) (b now : Option (List Line)) (r : Result Turn AllocError) → clauses_of old.slots ≡ F → IfOk r (StepFits old new b now)
-    → IfOk r (λ t. (budget count : ℕ) (before : Option (List Line)) → count < budget → IsSearch f before b F count → TurnFits f budget count before now new t)
-step_fits f old new F b now (Err e) is w = tt
-step_fits f old new F b now (Ok (Answered s)) is w = λ budget count before h k. subst (SolvedFits f budget before now) (sym w.0) (broken f budget count before b now F h k w.1)
-step_fits f old new F b now (Ok (Learnt o)) is w = λ budget count before h k.
-    search_more f before b now F (clauses_of new.slots) count w.0 k (subst (λ z. IsAdmitted z w.0) is w.1) (subst (λ z. IsNew z w.0) is w.2) (w.3 ∙ ap (λ z. z ++ w.0 ∷ []) is) w.4
+pub step_fits : {A : Type 0} (takes : A → Line → A → Type 0) (fails : A → A → Type 0) (f : FormulaOf) (old new : PropagatorOf) (F : List (List LitOf)) (b now : A) (r : Result Turn AllocError) → old.vars ≡ f.vars → clauses_of old.slots ≡ F
+    → IfOk r (StepFits takes fails old new b now)
+    → IfOk r (λ t. (budget count : ℕ) (before : A) → count < budget → IsSearch takes f before b F count → TurnFits takes fails f budget count before now new t)
+step_fits takes fails f old new F b now (Err e) v is w = tt
+step_fits takes fails f old new F b now (Ok (Answered s)) v is w = λ budget count before h k. subst (SolvedFits takes fails f budget before now) (sym w.0) (broken takes fails f budget count before b now F h k w.1)
+step_fits takes fails f old new F b now (Ok (Learnt o)) v is w = λ budget count before h k.
+    search_more takes f before b now F (clauses_of new.slots) count w.0 k (subst (λ z. IsAdmitted z w.0) is w.1) (subst (λ z. IsNew z w.0) is w.2) (subst (λ z. IsProper z w.0) v w.3) (w.4 ∙ ap (λ z. z ++ w.0 ∷ []) is) w.5

@@ -1,5 +1,5 @@
 -- The analysis of a conflict.
-use Rattle.std.specs.Prelude.{◌≡◌, ◌≢◌, ◌⊎◌, ℕ, ◌+◌, ◌*◌, Bool, true, List, [], length, take, Option, Some, None, Contains}
+use Rattle.std.specs.Prelude.{◌≡◌, ◌≢◌, ◌⊎◌, ℕ, ◌+◌, ◌*◌, ◌≤◌, Bool, true, List, [], length, take, Option, Some, None, Contains}
 use Rattle.cnf_form.specs.Cnf.{LitOf, negate, ClauseWithin, Closure, Conflict, IsAdmitted}
 use Rattle.unit_propagation.specs.Marks.{is_marked}
 use Rattle.unit_propagation.specs.Propagation.{ContainsAll, IsDerived}
@@ -37,6 +37,7 @@ pub record IsLearnt (p : PropagatorOf) (base : ℕ) (c : List LitOf) (first : Li
   pub on : Contains p.trail (negate first)
   pub late : Contains (take base p.trail) (negate first) → ⊥
   pub within : ClauseWithin p.vars c
+  pub short : length c ≤ p.vars
 
 -- a literal that became true on the last level, which alone of those is marked
 pub record IsFirst (t : List LitOf) (base : ℕ) (seen : List Bool) (current : List LitOf) (l : LitOf) : Type 0 where

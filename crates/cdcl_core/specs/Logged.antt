@@ -1,10 +1,23 @@
 -- The lines of a search.
-use Rattle.std.specs.Prelude.{ℕ, ◌+◌, ◌*◌, ◌≤◌, List, [], ◌∷◌, ◌++◌, Contains}
-use Rattle.cnf_form.specs.Cnf.{LitOf, IsAdmitted, Deletes, Line, Addition, Deletion}
+use Rattle.std.specs.Prelude.{ℕ, ◌+◌, ◌*◌, ◌≤◌, List, [], ◌∷◌, ◌++◌, length, Contains, All}
+use Rattle.cnf_form.specs.Cnf.{LitOf, ClauseWithin, IsAdmitted, Deletes, Line, Addition, Deletion}
 
 -- no present clause is a subset of the clause
 pub record IsNew (G : List (List LitOf)) (c : List LitOf) : Type 0 where
   pub apart : (e : List LitOf) → Contains G e → ((l : LitOf) → Contains e l → Contains c l) → ⊥
+
+-- a clause over the variables from 1 to vars, with at most as many literals as these are
+pub record IsProper (vars : ℕ) (c : List LitOf) : Type 0 where
+  pub within : ClauseWithin vars c
+  pub short : length c ≤ vars
+
+-- the clause that a line adds or deletes
+abbrev pub clause_of : Line → List LitOf
+clause_of (Addition c) = c
+clause_of (Deletion c) = c
+
+abbrev pub AreProper : ℕ → List Line → Type 0
+AreProper vars lines = All (λ l. IsProper vars (clause_of l)) lines
 
 -- The lines lead from the clauses F to those that are present, after so many additions and deletions: each clause that is added is
 -- admitted at its place and new, and at each deletion the deletions are at most half of the additions.

@@ -350,6 +350,9 @@ impl Analysis {
             return Ok(None);
         };
         self.build(l)?;
+        if self.clause.len() > core.vars() as usize {
+            return Ok(None);
+        }
         Ok(Some(l.negate()))
     }
 }

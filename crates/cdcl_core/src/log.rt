@@ -1,6 +1,6 @@
 // Where the lines of a proof go.
 
-ghost use Rattle.std.specs.Prelude.{◌≡◌, ℕ, ◌++◌, ◌∷◌, [], List, Option, OnOk, OnErr, option_map};
+ghost use Rattle.std.specs.Prelude.{ℕ, OnOk, OnErr};
 ghost use Rattle.cnf_form.specs.Cnf.{Line, Addition, Deletion};
 ghost use Rattle.sby_edge.specs.Cause.{HasPlainCause};
 
@@ -9,21 +9,24 @@ use sby_edge::Failed;
 
 /// Where the lines of a proof go.
 pub trait Log {
-    /// The lines taken so far, where they are told.
-    ghost taken: { Self → Option (List Line) };
+    /// What becomes of it when it takes a line.
+    ghost takes: { Self → Line → Self → Type 0 };
+
+    /// What becomes of it when a call fails.
+    ghost fails: { Self → Self → Type 0 };
 
     /// How often a call failed; it stays at the greatest u64.
     ghost faults: { Self → ℕ };
 
     /// Takes the addition of a clause.
     fn clause(&mut self, clause: &[Lit]) -> Result<(), Failed>
-        ensures ok { OnOk result (taken self.new ≡ option_map (λ lines. lines ++ Addition clause.now ∷ []) (taken self.old)) }
-        ensures err { OnErr result (taken self.new ≡ taken self.old) }
+        ensures ok { OnOk result (takes self.old (Addition clause.now) self.new) }
+        ensures err { OnErr result (fails self.old self.new) }
         ensures cause { HasPlainCause (faults self.old) (faults self.new) result };
 
     /// Takes the deletion of a clause.
     fn delete(&mut self, clause: &[Lit]) -> Result<(), Failed>
-        ensures ok { OnOk result (taken self.new ≡ option_map (λ lines. lines ++ Deletion clause.now ∷ []) (taken self.old)) }
-        ensures err { OnErr result (taken self.new ≡ taken self.old) }
+        ensures ok { OnOk result (takes self.old (Deletion clause.now) self.new) }
+        ensures err { OnErr result (fails self.old self.new) }
         ensures cause { HasPlainCause (faults self.old) (faults self.new) result };
 }

@@ -1,7 +1,7 @@
 // The solver.
 
-ghost use Rattle.std.specs.Prelude.{◌≡◌, ◌⊎◌, ◌+◌, ◌<◌, ◌≤◌, ◌++◌, ◌∷◌, [], ℕ, true, false, List, Option, length, Contains, IfOk, OnOk, Ok, Some, None};
-ghost use Rattle.cnf_form.specs.Cnf.{LitOf, Satisfies, lit_in, Line, Addition, ClauseWithin};
+ghost use Rattle.std.specs.Prelude.{◌≡◌, ◌⊎◌, ◌+◌, ◌<◌, ◌≤◌, ◌++◌, ◌∷◌, [], ℕ, true, false, List, length, Contains, IfOk, OnOk, Ok, Some, None};
+ghost use Rattle.cnf_form.specs.Cnf.{LitOf, Satisfies, lit_in, Addition, ClauseWithin};
 ghost use Rattle.cnf_form.specs.declared.literal.TheConstants.{MAX_VARS};
 ghost use Rattle.unit_propagation.specs.Propagation.{ContainsAll};
 ghost use Rattle.unit_propagation.specs.Propagator.{clauses_of};
@@ -10,7 +10,7 @@ ghost use Rattle.cdcl_core.specs.Levels.{IsDriven, IsPending, FoundFits, base_of
 ghost use Rattle.cdcl_core.specs.Logged.{IsNew, Logged};
 ghost use Rattle.cdcl_core.specs.declared.search.Found.TheVariants.{Assigned};
 ghost use Rattle.cdcl_core.specs.Analysis.{IsIdle, IsLearnt};
-ghost use Rattle.cdcl_core.specs.Solving.{SolvedFits, TurnFits, StepFits, GoesOn, IsSearch, Takes, valued};
+ghost use Rattle.cdcl_core.specs.Solving.{SolvedFits, TurnFits, StepFits, GoesOn, IsSearch, valued};
 
 use crate::analysis::Analysis;
 use crate::learn::{assert_learnt, negate_trail};
@@ -199,8 +199,8 @@ fn learn_from(
 
 // Logs the empty clause.
 fn end<L: Log>(log: &mut L) -> Solved
-    ensures unsat { result ≡ Solved.Unsat → Takes (L.taken log.old) (Addition [] ∷ []) (L.taken log.new) }
-    ensures failed { result ≡ Solved.LogFailed → L.taken log.new ≡ L.taken log.old }
+    ensures unsat { result ≡ Solved.Unsat → L.takes log.old (Addition []) log.new }
+    ensures failed { result ≡ Solved.LogFailed → L.fails log.old log.new }
     ensures which { (result ≡ Solved.Unsat) ⊎ (result ≡ Solved.LogFailed) }
     ensures later { L.faults log.old ≤ L.faults log.new }
     ensures cause { result ≡ Solved.LogFailed → Rose (L.faults log.old) (L.faults log.new) }
@@ -226,7 +226,7 @@ fn learn_one<L: Log>(
     ensures idle { OnOk result (IsIdle core.new.vars tools.new.analysis.seen.items tools.new.analysis.lower.items tools.new.analysis.current.items) }
     ensures driven { OnOk result (IsDriven core.new) }
     ensures goes_on { IfOk result (GoesOn core.new) }
-    ensures step { IfOk result (StepFits core.old core.new (L.taken log.old) (L.taken log.new)) }
+    ensures step { IfOk result (StepFits L.takes L.fails core.old core.new log.old log.new) }
     ensures later { L.faults log.old ≤ L.faults log.new }
     ensures cause { result ≡ Ok (Turn.Answered Solved.LogFailed) → Rose (L.faults log.old) (L.faults log.new) }
 {
@@ -259,9 +259,9 @@ fn next_turn<L: Log>(
     ensures idle { OnOk result (IsIdle core.new.vars tools.new.analysis.seen.items tools.new.analysis.lower.items tools.new.analysis.current.items) }
     ensures driven { OnOk result (IsDriven core.new) }
     ensures goes_on { IfOk result (GoesOn core.new) }
-    ensures fits { IfOk result (λ t. (budget count : ℕ) (before : Option (List Line)) → count < budget
-        → IsSearch formula.now before (L.taken log.old) (clauses_of core.old.slots) count
-        → TurnFits formula.now budget count before (L.taken log.new) core.new t) }
+    ensures fits { IfOk result (λ t. (budget count : ℕ) (before : L) → count < budget
+        → IsSearch L.takes formula.now before log.old (clauses_of core.old.slots) count
+        → TurnFits L.takes L.fails formula.now budget count before log.new core.new t) }
     ensures later { L.faults log.old ≤ L.faults log.new }
     ensures cause { result ≡ Ok (Turn.Answered Solved.LogFailed) → Rose (L.faults log.old) (L.faults log.new) }
 {
@@ -290,7 +290,7 @@ fn search<L: Log>(
     requires idle { IsIdle core.old.vars tools.old.analysis.seen.items tools.old.analysis.lower.items tools.old.analysis.current.items }
     requires driven { IsDriven core.old }
     requires pending { IsPending core.old None }
-    ensures solved { IfOk result (λ s. SolvedFits formula.now budget (L.taken log.old) (L.taken log.new) s) }
+    ensures solved { IfOk result (λ s. SolvedFits L.takes L.fails formula.now budget log.old log.new s) }
     ensures cause { result ≡ Ok Solved.LogFailed → Rose (L.faults log.old) (L.faults log.new) }
 {
     let mut pending = None;
@@ -304,15 +304,16 @@ fn search<L: Log>(
 }
 
 /// Searches for values that satisfy the formula, and logs what it learns, until as many conflicts above level 0 were counted
-/// as the budget has. Each logged clause is admitted by those that are present, and none of those is a subset of it; an
-/// answer that there are no values ends with the empty clause. An error is want of memory.
+/// as the budget has. Each logged clause is admitted by those that are present, and none of those is a subset of it; it has
+/// at most as many literals as there are variables. An answer that there are no values ends with the empty clause. An error
+/// is want of memory.
 pub fn solve<L: Log>(
     alloc: Global,
     formula: &Formula,
     budget: u64,
     log: &mut L,
 ) -> Result<Solved, AllocError>
-    ensures solved { IfOk result (λ s. SolvedFits formula.now budget (L.taken log.old) (L.taken log.new) s) }
+    ensures solved { IfOk result (λ s. SolvedFits L.takes L.fails formula.now budget log.old log.new s) }
     ensures cause { result ≡ Ok Solved.LogFailed → Rose (L.faults log.old) (L.faults log.new) }
 {
     let mut core = load(alloc, formula)?;

@@ -16,9 +16,9 @@ struct CountingLog {
 }
 
 impl Log for CountingLog {
-    ghost use Rattle.std.specs.Prelude.{None};
+    ghost takes = { λ log line next. Unit {0} };
 
-    ghost taken = { λ log. None };
+    ghost fails = { λ log next. Unit {0} };
 
     ghost faults = { λ log. log.faults };
 

@@ -39,4 +39,4 @@ returns c =
     let is : c.push-2.new.self.items ≡ map negate (take (base_of core) core.trail) ++ negate d ∷ [] =
     e.items ∙ ap (λ z. z ++ c.negate-first.result ∷ []) (c.loop-place.invariant ∙ ap (map negate) upto) ∙ ap (λ z. map negate (take (base_of core) core.trail) ++ z ∷ []) c.negate-first.ensures in
     subst (λ z. IsLearnt core z c.push-2.new.self.items c.negate-first.result) (sym r.base) (subst (IsLearnt core (base_of core) c.push-2.new.self.items) (sym c.negate-first.ensures)
-    (learnt_trail core c.args.k c.push-2.new.self.items d r.driven r.levels b r.conflict c.trail-trail.ensures.distinct read is))
+    (learnt_trail core c.args.k c.push-2.new.self.items d r.driven r.levels b r.conflict c.trail-trail.ensures.distinct c.trail-trail.ensures.consistent read is))

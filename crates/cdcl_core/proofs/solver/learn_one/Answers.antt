@@ -1,8 +1,7 @@
-use Rattle.std.proofs.Common.{◌∷◌, [], rules, ap, sym, subst, ◌∙◌}
+use Rattle.std.proofs.Common.{rules, ap, sym, subst, ◌∙◌}
 use Rattle.cnf_form.specs.Cnf.{IsAdmitted, Addition}
 use Rattle.unit_propagation.specs.Propagator.{clauses_of}
-use Rattle.cdcl_core.specs.Logged.{IsNew}
-use Rattle.cdcl_core.specs.Solving.{Takes}
+use Rattle.cdcl_core.specs.Logged.{IsNew, IsProper}
 use Rattle.cdcl_core.proofs.Driven.{clauses_push}
 use Rattle.cdcl_core.proofs.solver.learn_one.Goals as goal
 
@@ -15,5 +14,6 @@ returns-clause-step g c =
     let w = e.learnt in
     let f = c.in_ok-falsified.ensures in
     let same = sym c.clause-clause.ensures in
-    let taken : Takes (g.L.Log.taken c.args.log.now) (Addition cl ∷ []) (g.L.Log.taken c.clause.new.self) = search rules in
-    (cl, subst (IsAdmitted F) same w.admitted, subst (IsNew F) same e.new, ap clauses_of f.slots ∙ clauses_push core.slots cl, taken)
+    let taken : g.L.Log.takes c.args.log.now (Addition cl) c.clause.new.self = search rules in
+    let proper : IsProper core.vars c.learn_from.new.analysis.clause.items = record { within = w.within; short = w.short } in
+    (cl, subst (IsAdmitted F) same w.admitted, subst (IsNew F) same e.new, subst (IsProper core.vars) same proper, ap clauses_of f.slots ∙ clauses_push core.slots cl, taken)

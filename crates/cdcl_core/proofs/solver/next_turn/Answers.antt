@@ -16,7 +16,7 @@ returns-in_ok-values-in-Assigned-clause-fits g c budget count before h k =
     let r = c.requires in
     let same = ap clauses_of f.slots in
     let values = c.in_ok-values-in-Assigned.values.items in
-    found c.args.formula.now budget count before (g.L.Log.taken c.args.log.now) (clauses_of c.args.core.now.slots) values h k
+    found g.L.Log.takes c.args.formula.now budget count before c.args.log.now (clauses_of c.args.core.now.slots) values h k
     (e.sized ∙ ap (λ z. z + 1) (f.vars ∙ r.vars)) r.keeps (subst (Satisfies (valued values)) same e.satisfies)
 
 pub returns-in-Refuted-clause-fits : goal.returns-in-Refuted-clause-fits
@@ -24,7 +24,7 @@ returns-in-Refuted-clause-fits g c budget count before h k =
     let f = c.in_ok-find.ensures in
     let e = c.end.ensures in
     let w = subst (FoundFits c.find.new.core) c.in-Refuted.is f.found in
-    end_fits c.args.formula.now budget count before (g.L.Log.taken c.args.log.now) (g.L.Log.taken c.end.new.log) (clauses_of c.args.core.now.slots) c.end.result e.unsat e.failed e.which h k
+    end_fits g.L.Log.takes g.L.Log.fails c.args.formula.now budget count before c.args.log.now c.end.new.log (clauses_of c.args.core.now.slots) c.end.result e.unsat e.failed e.which h k
     (subst (λ z. IsAdmitted z []) (ap clauses_of f.slots) (root_admits c.find.new.core f.driven w.0 w.1))
 
 pub returns-in-Falsified-clause-keeps : goal.returns-in-Falsified-clause-keeps
@@ -32,10 +32,10 @@ returns-in-Falsified-clause-keeps g c =
     let f = c.in_ok-find.ensures in
     let e = c.learn_one.ensures in
     subst (λ z. OnOk c.learn_one.result (ContainsAll z (clauses_of c.learn_one.new.core.slots))) (ap clauses_of f.slots)
-    (step_keeps c.find.new.core c.learn_one.new.core (g.L.Log.taken c.args.log.now) (g.L.Log.taken c.learn_one.new.log) c.learn_one.result e.step)
+    (step_keeps g.L.Log.takes g.L.Log.fails c.find.new.core c.learn_one.new.core c.args.log.now c.learn_one.new.log c.learn_one.result e.step)
 
 pub returns-in-Falsified-clause-fits : goal.returns-in-Falsified-clause-fits
 returns-in-Falsified-clause-fits g c =
     let f = c.in_ok-find.ensures in
     let e = c.learn_one.ensures in
-    step_fits c.args.formula.now c.find.new.core c.learn_one.new.core (clauses_of c.args.core.now.slots) (g.L.Log.taken c.args.log.now) (g.L.Log.taken c.learn_one.new.log) c.learn_one.result (ap clauses_of f.slots) e.step
+    step_fits g.L.Log.takes g.L.Log.fails c.args.formula.now c.find.new.core c.learn_one.new.core (clauses_of c.args.core.now.slots) c.args.log.now c.learn_one.new.log c.learn_one.result (f.vars ∙ c.requires.vars) (ap clauses_of f.slots) e.step

@@ -9,14 +9,14 @@ pub loop-init : goal.loop-init
 loop-init g c =
     let r = c.requires in
     let f = c.args.formula.now in
-    let a = g.L.Log.taken c.args.log.now in
+    let a = c.args.log.now in
     record {
       vars = r.vars;
       keeps = subst (ContainsAll f.clauses) (sym r.clauses) (record { each = λ x k. k });
       driven = r.driven;
       pending = r.pending;
       idle = r.idle;
-      search = subst (λ z. IsSearch f a a z 0) (sym r.clauses) (search_none f a);
+      search = subst (λ z. IsSearch g.L.Log.takes f a a z 0) (sym r.clauses) (search_none g.L.Log.takes f a);
       later = omega arith;
     }
 
@@ -24,14 +24,14 @@ pub returns-in-Answered-clause-solved : goal.returns-in-Answered-clause-solved
 returns-in-Answered-clause-solved g c =
     let i = c.loop.invariant in
     let n = c.in_ok-solved.ensures in
-    let a = g.L.Log.taken c.args.log.now in
-    subst (TurnFits c.args.formula.now c.args.budget c.loop.counter a (g.L.Log.taken c.next_turn.new.log) c.next_turn.new.core) c.in-Answered.is (n.fits c.args.budget c.loop.counter a (omega (arith, c.loop-test.true)) i.search)
+    let a = c.args.log.now in
+    subst (TurnFits g.L.Log.takes g.L.Log.fails c.args.formula.now c.args.budget c.loop.counter a c.next_turn.new.log c.next_turn.new.core) c.in-Answered.is (n.fits c.args.budget c.loop.counter a (omega (arith, c.loop-test.true)) i.search)
 
 pub loop-preserved : goal.loop-preserved
 loop-preserved g c =
     let i = c.loop.invariant in
     let n = c.in_ok-solved.ensures in
-    let a = g.L.Log.taken c.args.log.now in
+    let a = c.args.log.now in
     let k = n.keeps in
     let w = i.keeps in
     record {
@@ -40,7 +40,7 @@ loop-preserved g c =
       driven = n.driven;
       pending = subst (GoesOn c.next_turn.new.core) c.in-Learnt.is n.goes_on;
       idle = n.idle;
-      search = subst (TurnFits c.args.formula.now c.args.budget c.loop.counter a (g.L.Log.taken c.next_turn.new.log) c.next_turn.new.core) c.in-Learnt.is (n.fits c.args.budget c.loop.counter a (omega (arith, c.loop-test.true)) i.search);
+      search = subst (TurnFits g.L.Log.takes g.L.Log.fails c.args.formula.now c.args.budget c.loop.counter a c.next_turn.new.log c.next_turn.new.core) c.in-Learnt.is (n.fits c.args.budget c.loop.counter a (omega (arith, c.loop-test.true)) i.search);
       later = omega (arith, i.later, n.later);
     }
 
@@ -51,5 +51,5 @@ returns-clause-solved g c =
     let e : c.loop.counter ≡ c.args.budget = omega (arith, c.loop-test.false, c.loop.auto) in
     record {
       present = clauses_of c.loop.core.slots;
-      search = subst (IsSearch f (g.L.Log.taken c.args.log.now) (g.L.Log.taken c.loop.log) (clauses_of c.loop.core.slots)) e i.search;
+      search = subst (IsSearch g.L.Log.takes f c.args.log.now c.loop.log (clauses_of c.loop.core.slots)) e i.search;
     }

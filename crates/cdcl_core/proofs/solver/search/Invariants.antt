@@ -13,6 +13,6 @@ invariant-loop g l = record {
   driven : IsDriven l.core;
   pending : IsPending l.core l.pending;
   idle : IsIdle l.core.vars l.tools.analysis.seen.items l.tools.analysis.lower.items l.tools.analysis.current.items;
-  search : IsSearch l.formula (g.L.Log.taken l.fn.log) (g.L.Log.taken l.log) (clauses_of l.core.slots) l.counter;
+  search : IsSearch g.L.Log.takes l.formula l.fn.log l.log (clauses_of l.core.slots) l.counter;
   later : g.L.Log.faults l.fn.log ≤ g.L.Log.faults l.log;
 }

@@ -1,0 +1,103 @@
+-- What a log took, line by line.
+use Rattle.std.proofs.Common.{◌≡◌, ℕ, List, [], ◌∷◌, ◌++◌, ap, ◌∙◌, sym, subst, append-nil, append_assoc}
+use Rattle.std.specs.Prelude.{Result, Ok, Err, IfOk, OnOk}
+use Rattle.std.specs.declared.alloc.AllocError.{AllocError}
+use Rattle.cnf_form.specs.Cnf.{LitOf, FormulaOf, Line, Addition, Drup}
+use Rattle.sby_edge.specs.Cause.{Rose}
+use Rattle.cdcl_core.specs.Solving.{Takes, SolvedFits}
+use Rattle.cdcl_core.specs.declared.solver.Solved.{Solved}
+use Rattle.cdcl_core.specs.declared.solver.Solved.TheVariants.{Sat, Unsat, Budget, LogFailed}
+use Rattle.cdcl_core.specs.Logged.{Logged, additions}
+use Rattle.cdcl_run.specs.Answer.{Searches}
+use Rattle.cdcl_run.specs.Output.{OutputOf, Puts, Fails}
+use Rattle.cdcl_run.specs.Text.{proof_line, proof_text}
+use Rattle.cdcl_run.proofs.Putting.{puts_both, puts_none}
+
+-- the same sink and the same piece, with a text more
+pub record Goes {A N M : Type 0} (sink : A → N) (piece : A → M) (out : A → OutputOf) (a b : A) (text : List ℕ) : Type 0 where
+  pub same_sink : sink b ≡ sink a
+  pub same_piece : piece b ≡ piece a
+  pub puts : Puts (out a) (out b) text
+
+module _ {A N M : Type 0} (sink : A → N) (piece : A → M) (out : A → OutputOf) (takes : A → Line → A → Type 0) (each : (a b : A) (l : Line) → takes a l b → Goes sink piece out a b (proof_line l)) where
+  pub chain : (ls : List Line) (a b : A) → Takes takes a ls b → Goes sink piece out a b (proof_text ls)
+  chain [] a b e = record { same_sink = ap sink e; same_piece = ap piece e; puts = subst (λ z. Puts (out a) (out z) []) (sym e) (puts_none (out a)) }
+  chain (l ∷ ls) a b w =
+      let h = each a w.0 l w.1 in
+      let k = chain ls w.0 b w.2 in
+      record {
+        same_sink = k.same_sink ∙ h.same_sink;
+        same_piece = k.same_piece ∙ h.same_piece;
+        puts = puts_both (out a) (out w.0) (out b) (proof_line l) (proof_text ls) h.puts k.puts;
+      }
+
+  pub chain_end : (ls : List Line) (l : Line) (a b c : A) → Takes takes a ls b → takes b l c → Goes sink piece out a c (proof_text ls ++ proof_line l)
+  chain_end ls l a b c w e =
+      let h = chain ls a b w in
+      let k = each b c l e in
+      record {
+        same_sink = k.same_sink ∙ h.same_sink;
+        same_piece = k.same_piece ∙ h.same_piece;
+        puts = puts_both (out a) (out b) (out c) (proof_text ls) (proof_line l) h.puts k.puts;
+      }
+
+-- a line more
+pub proof_text_push : (ls : List Line) (l : Line) → proof_text (ls ++ l ∷ []) ≡ proof_text ls ++ proof_line l
+proof_text_push [] l = append-nil (proof_line l)
+proof_text_push (m ∷ ls) l = ap (λ z. proof_line m ++ z) (proof_text_push ls l) ∙ sym (append_assoc (proof_line m) (proof_text ls) (proof_line l))
+
+-- the same sink and the same piece, of which a call failed
+pub record Breaks {A N M : Type 0} (sink : A → N) (piece : A → M) (out : A → OutputOf) (a b : A) : Type 0 where
+  pub same_sink : sink b ≡ sink a
+  pub same_piece : piece b ≡ piece a
+  pub fails : Fails (out a) (out b)
+
+-- a search as what was put
+pub record Searched {A N M : Type 0} (sink : A → N) (piece : A → M) (out : A → OutputOf) (f : FormulaOf) (budget : ℕ) (a b : A) (s : Solved) : Type 0 where
+  pub same_sink : sink b ≡ sink a
+  pub same_piece : piece b ≡ piece a
+  pub searches : Searches f budget (out a) (out b) s
+
+module _ {A N M : Type 0} (sink : A → N) (piece : A → M) (out : A → OutputOf) (takes : A → Line → A → Type 0) (fails : A → A → Type 0)
+    (each : (a b : A) (l : Line) → takes a l b → Goes sink piece out a b (proof_line l)) (each_fail : (a b : A) → fails a b → Breaks sink piece out a b)
+    (leads : (F G : List (List LitOf)) (lines : List Line) (n d : ℕ) → Logged F lines G n d → Drup F lines G) (counts : (F G : List (List LitOf)) (lines : List Line) (n d : ℕ) → Logged F lines G n d → additions lines ≡ n) where
+  searched : (f : FormulaOf) (budget : ℕ) (a b : A) (s : Solved) → SolvedFits takes fails f budget a b s → Searched sink piece out f budget a b s
+  searched f budget a b (Sat values) w =
+      let s = w.search in
+      let h = chain sink piece out takes each s.lines a b s.taken in
+      record { same_sink = h.same_sink; same_piece = h.same_piece; searches = (s.lines, w.present, record { leads = leads f.clauses w.present s.lines w.count s.deletions s.logged; proper = s.proper }, h.puts, w.sized, w.satisfies) }
+  searched f budget a b Unsat w =
+      let s = w.search in
+      let h = chain_end sink piece out takes each s.lines (Addition []) a w.last b s.taken w.empty in
+      record {
+        same_sink = h.same_sink;
+        same_piece = h.same_piece;
+        searches = (s.lines, w.present, record { leads = leads f.clauses w.present s.lines w.count s.deletions s.logged; proper = s.proper }, subst (Puts (out a) (out b)) (sym (proof_text_push s.lines (Addition []))) h.puts, w.admitted);
+      }
+  searched f budget a b Budget w =
+      let s = w.search in
+      let h = chain sink piece out takes each s.lines a b s.taken in
+      record { same_sink = h.same_sink; same_piece = h.same_piece; searches = (s.lines, counts f.clauses w.present s.lines budget s.deletions s.logged, h.puts) }
+  searched f budget a b LogFailed w =
+      let s = w.search in
+      let h = chain sink piece out takes each s.lines a w.last s.taken in
+      let k = each_fail w.last b w.failed in
+      let p = h.puts in
+      record { same_sink = k.same_sink ∙ h.same_sink; same_piece = k.same_piece ∙ h.same_piece; searches = subst (λ n. Rose n (out b).faults) p.still k.fails }
+
+  pub answered : (f : FormulaOf) (budget : ℕ) (a b : A) (r : Result Solved AllocError) → IfOk r (λ s. SolvedFits takes fails f budget a b s) → IfOk r (λ s. Searched sink piece out f budget a b s)
+  answered f budget a b (Err e) w = tt
+  answered f budget a b (Ok s) w = searched f budget a b s w
+
+module _ {A N M : Type 0} (sink : A → N) (piece : A → M) (out : A → OutputOf) (f : FormulaOf) (budget : ℕ) (a b : A) where
+  pub answer_sink : (r : Result Solved AllocError) → IfOk r (λ s. Searched sink piece out f budget a b s) → OnOk r (sink b ≡ sink a)
+  answer_sink (Err e) w = tt
+  answer_sink (Ok s) w = w.same_sink
+
+  pub answer_piece : (r : Result Solved AllocError) → IfOk r (λ s. Searched sink piece out f budget a b s) → OnOk r (piece b ≡ piece a)
+  answer_piece (Err e) w = tt
+  answer_piece (Ok s) w = w.same_piece
+
+  pub answer_searches : (r : Result Solved AllocError) → IfOk r (λ s. Searched sink piece out f budget a b s) → IfOk r (λ s. Searches f budget (out a) (out b) s)
+  answer_searches (Err e) w = tt
+  answer_searches (Ok s) w = w.searches

@@ -1,0 +1,11 @@
+pub mod Putting
+pub mod Chains
+pub mod Rows
+pub mod Words
+pub mod Proofs
+pub mod Unsat
+pub mod Naming
+pub mod Sat
+pub mod Answering
+pub mod Contents
+pub mod Promise

@@ -1,0 +1,59 @@
+-- The stream for a satisfiable formula.
+use Rattle.std.proofs.Common.{◌≡◌, ℕ, ◌+◌, ◌-◌, ◌<◌, ◌^◌, Bool, List, [], ◌∷◌, ◌++◌, length, drop, refl, ap, ◌∙◌, sym, subst, inl, inr, append_assoc, arith, length-drop}
+use Rattle.std.specs.Prelude.{codes, map}
+use Rattle.cnf_form.specs.Cnf.{LitOf, FormulaOf, Line, Satisfies}
+use Rattle.cnf_form.specs.Dimacs.{IsDimacs}
+use Rattle.cdcl_core.specs.Solving.{valued}
+use Rattle.stream_judge.specs.Cert.{IsIdle, Names, lines, named_by}
+use Rattle.cdcl_run.specs.Answer.{IsProof, IsSatStream, literals_from}
+use Rattle.cdcl_run.specs.Text.{AreValueLines, proof_text, satisfiable_line}
+use Rattle.cdcl_run.proofs.Naming.{bare_values, last_words, literals_in, named_value, names, row_words, satisfies_by, value_lines, values_fed}
+use Rattle.cdcl_run.proofs.Proofs.{full_of, line_first, line_words, proof_leads, proof_lines}
+use Rattle.cdcl_run.proofs.Words.{AreIn}
+use Rattle.cdcl_run.proofs.Rows.{length-literals_from}
+
+-- the words of the status line
+abbrev status : List (List ℕ)
+status = codes "s" ∷ codes "SATISFIABLE" ∷ []
+
+idle : IsIdle status
+idle = inr (refl, λ e. (let k : codes "SATISFIABLE" ≡ codes "UNKNOWN" = cc in let j : ◌≡◌ {A = ℕ} 83 85 = cc in omega (arith, j)))
+
+pub sat_stream : (job : List ℕ) (f : FormulaOf) (ls : List Line) (G : List (List LitOf)) (values : List Bool) (text stream : List ℕ) → IsDimacs job f → IsProof f ls G → length values ≡ f.vars + 1 → Satisfies (valued values) f.clauses
+    → AreValueLines (literals_from 1 (drop 1 values)) text → stream ≡ proof_text ls ++ (satisfiable_line ++ text) → IsSatStream job stream
+sat_stream job f ls G values text stream d p sized s v is =
+    let small : f.vars < 2 ^ 64 = (let h = d.limit in omega (arith, h)) in
+    let lits = literals_from 1 (drop 1 values) in
+    let n : length lits ≡ f.vars = (let a = length-literals_from 1 (drop 1 values) in let b : length (drop 1 values) ≡ length values - 1 = length-drop 1 values in omega (arith, a, b, sized)) in
+    let within = literals_in f.vars 1 (drop 1 values) (omega arith) (let b : length (drop 1 values) ≡ length values - 1 = length-drop 1 values in omega (arith, b, sized)) in
+    let all = v.all in
+    let bare = bare_values v.rows v.last in
+    let cert = proof_text ls ++ (satisfiable_line ++ bare) in
+    let last = map row_words v.rows ++ last_words v.last ∷ [] in
+    let proof = map line_words ls ++ status ∷ [] in
+    let fed : text ≡ bare ++ 10 ∷ [] = v.text_is ∙ values_fed v.rows v.last in
+    let status_lines : lines (satisfiable_line ++ bare) ≡ status ∷ lines bare = line_first (codes "s SATISFIABLE") bare (refl, (refl, (refl, (refl, (refl, (refl, (refl, (refl, (refl, (refl, (refl, (refl, (refl, tt))))))))))))) in
+    let inside = subst (AreIn f.vars) (sym all) within in
+    let read : lines cert ≡ proof ++ last =
+    proof_lines f.vars small ls (satisfiable_line ++ bare) p.proper
+    ∙ ap (λ z. map line_words ls ++ z) (status_lines ∙ ap (λ z. status ∷ z) (value_lines f.vars small v.rows v.last inside))
+    ∙ sym (append_assoc (map line_words ls) (status ∷ []) last) in
+    let named : Names f.vars last lits = subst (Names f.vars last) all (names f.vars small v.rows v.last inside (omega (arith, n, ap length all))) in
+    record {
+      cert = cert;
+      is = is ∙ ap (λ z. proof_text ls ++ (satisfiable_line ++ z)) fed ∙ ap (λ z. proof_text ls ++ z) (sym (append_assoc satisfiable_line bare (10 ∷ []))) ∙ sym (append_assoc (proof_text ls) (satisfiable_line ++ bare) (10 ∷ []));
+      is_cert = (
+        f,
+        d,
+        (
+          proof,
+          last,
+          G,
+          lits,
+          read,
+          proof_leads f.vars small ls (status ∷ []) f.clauses G G p.leads p.proper (full_of ls f.clauses G (valued values) p.leads s) (inl (idle, refl)),
+          named,
+          satisfies_by f.vars f.clauses (named_by lits) (valued values) d.within (λ w low high. named_value values w low (omega (arith, high, sized))) s,
+        ),
+      );
+    }

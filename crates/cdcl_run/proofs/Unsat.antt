@@ -1,0 +1,37 @@
+-- The stream for an unsatisfiable formula.
+use Rattle.std.proofs.Common.{◌≡◌, ℕ, ◌<◌, ◌^◌, List, [], ◌∷◌, ◌++◌, refl, ap, ◌∙◌, sym, subst, append_assoc, append-nil, arith}
+use Rattle.std.specs.Prelude.{codes, map}
+use Rattle.cnf_form.specs.Cnf.{LitOf, FormulaOf, Line, Addition, IsAdmitted}
+use Rattle.cnf_form.specs.Dimacs.{IsDimacs}
+use Rattle.stream_judge.specs.Cert.{Leads}
+use Rattle.cdcl_run.specs.Answer.{IsProof, IsUnsatStream}
+use Rattle.cdcl_run.specs.Text.{proof_text, unsatisfiable_line}
+use Rattle.cdcl_run.proofs.Proofs.{line_words, proof_lines, proof_leads, up_to, proof_text_append}
+
+pub unsat_stream : (job : List ℕ) (f : FormulaOf) (ls : List Line) (G : List (List LitOf)) (stream : List ℕ) → IsDimacs job f → IsProof f ls G → IsAdmitted G [] → stream ≡ proof_text (ls ++ Addition [] ∷ []) ++ unsatisfiable_line
+    → IsUnsatStream job stream
+unsat_stream job f ls G stream d p a is =
+    let w = up_to ls f.clauses G f.vars p.leads a p.proper in
+    let small : f.vars < 2 ^ 64 = (let h = d.limit in omega (arith, h)) in
+    let cert = proof_text w.front ++ codes "0" in
+    let rest = proof_text w.rest ++ unsatisfiable_line in
+    let whole : stream ≡ (proof_text w.front ++ (48 ∷ 10 ∷ proof_text w.rest)) ++ unsatisfiable_line =
+    is ∙ ap (λ z. z ++ unsatisfiable_line) (ap proof_text w.are ∙ proof_text_append w.front (Addition [] ∷ w.rest)) in
+    record {
+      cert = cert;
+      rest = rest;
+      begins = whole ∙ append_assoc (proof_text w.front) (48 ∷ 10 ∷ proof_text w.rest) unsatisfiable_line ∙ sym (append_assoc (proof_text w.front) (48 ∷ []) (10 ∷ rest));
+      is_cert = (
+        f,
+        d,
+        (
+          map line_words w.front,
+          w.present,
+          proof_lines f.vars small w.front (codes "0") w.proper,
+          subst (λ z. Leads f.vars z f.clauses w.present) (append-nil (map line_words w.front)) (proof_leads f.vars small w.front [] f.clauses w.present w.present w.leads w.proper w.full refl),
+          w.admitted,
+        ),
+      );
+      front = proof_text ls ++ codes "0";
+      last = is ∙ ap (λ z. z ++ unsatisfiable_line) (proof_text_append ls (Addition [] ∷ []) ∙ sym (append_assoc (proof_text ls) (48 ∷ []) (10 ∷ [])));
+    }

@@ -1,0 +1,5 @@
+-- Definitions.
+pub mod Output
+pub mod Text
+pub mod Answer
+pub mod Run

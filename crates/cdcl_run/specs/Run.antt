@@ -1,0 +1,68 @@
+-- What a call of the engine does.
+use Rattle.std.specs.Prelude.{◌≡◌, ◌⊎◌, ℕ, ◌^◌, ◌<◌, ◌≤◌, List, length, Option, Some, IfSome}
+use Rattle.cnf_form.specs.Cnf.{FormulaOf}
+use Rattle.cnf_form.specs.Dimacs.{IsDimacs}
+use Rattle.cnf_form.specs.Reading.{IsFault}
+use Rattle.cnf_form.specs.declared.reader.DimacsFaultKind.{DimacsFaultKind}
+use Rattle.sby_edge.specs.Cause.{Rose}
+use Rattle.sby_edge.specs.Files.{Store}
+use Rattle.cdcl_words.specs.Asking.{Asks}
+use Rattle.cdcl_run.specs.Output.{GrownBySome, grown}
+use Rattle.cdcl_run.specs.Text.{usage_line, file_line, long_line, fault_line}
+use Rattle.cdcl_run.specs.Answer.{IsAnswer, budget_of}
+
+-- What the file store and the sink tell, and how often each failed.
+pub record World : Type 0 where
+  pub told : Option Store
+  pub file_faults : ℕ
+  pub taken : Option (List ℕ)
+  pub sink_faults : ℕ
+
+-- this text was written; or a call of the sink failed, and a part of it was
+abbrev pub Writes : World → World → List ℕ → Type 0
+Writes before after text =
+    ((after.taken ≡ grown before.taken text) × (after.sink_faults ≡ before.sink_faults))
+    ⊎ (GrownBySome before.taken after.taken text × Rose before.sink_faults after.sink_faults)
+
+-- the words are refused: the usage line alone
+pub record IsRefused (before after : World) (words : List (List ℕ)) (exit : ℕ) : Type 0 where
+  pub none : (conflicts : Option ℕ) (file : List ℕ) → Asks words conflicts file → ⊥
+  pub exit_is : exit ≡ 1
+  pub line : Writes before after usage_line
+  pub file_faults : after.file_faults ≡ before.file_faults
+
+-- the file can't be got
+pub record IsUngot (before after : World) (exit : ℕ) : Type 0 where
+  pub exit_is : exit ≡ 1
+  pub line : Writes before after file_line
+  pub file_faults : Rose before.file_faults after.file_faults
+
+-- the bytes are those of the file, where the store tells them
+abbrev pub IsContent : Option Store → List ℕ → List ℕ → Type 0
+IsContent told file bytes = IfSome told (λ store. store file ≡ Some bytes)
+
+-- an answer for a formula, whole; or a call of the sink failed
+abbrev pub Answers : World → World → List ℕ → ℕ → ℕ → Type 0
+Answers before after bytes budget exit =
+    ((stream : List ℕ) × (after.taken ≡ grown before.taken stream) × (after.sink_faults ≡ before.sink_faults) × IsAnswer bytes budget stream exit)
+    ⊎ ((exit ≡ 1) × Rose before.sink_faults after.sink_faults)
+
+-- what is done with the bytes of a file
+abbrev pub IsServed : World → World → List ℕ → ℕ → ℕ → Type 0
+IsServed before after bytes budget exit =
+    ((2 ^ 32 < length bytes) × (exit ≡ 1) × Writes before after long_line)
+    ⊎ ((length bytes ≤ 2 ^ 32) × ((kind : DimacsFaultKind) × (byte : ℕ) × IsFault bytes kind byte × (exit ≡ 1) × Writes before after (fault_line kind byte)))
+    ⊎ ((length bytes ≤ 2 ^ 32) × ((f : FormulaOf) × IsDimacs bytes f × Answers before after bytes budget exit))
+
+-- What is done with a file: memory was wanting; or the file can't be got; or its bytes are served.
+abbrev pub IsDone : World → World → Option ℕ → List ℕ → ℕ → Type 0
+IsDone before after conflicts file exit =
+    (exit ≡ 32)
+    ⊎ IsUngot before after exit
+    ⊎ ((bytes : List ℕ) × IsContent before.told file bytes × (after.file_faults ≡ before.file_faults) × IsServed before after bytes (budget_of conflicts) exit)
+
+-- What a call does: the words are refused, or what they ask for is done. The store stays as it was.
+abbrev pub Did : World → World → List (List ℕ) → ℕ → Type 0
+Did before after words exit =
+    (after.told ≡ before.told)
+    × (IsRefused before after words exit ⊎ ((conflicts : Option ℕ) × (file : List ℕ) × Asks words conflicts file × IsDone before after conflicts file exit))

@@ -1,0 +1,28 @@
+// What a call promises.
+
+ghost use Rattle.std.specs.Prelude.{◌≡◌, ◌≢◌, ◌⊎◌, ◌≤◌, ◌^◌, ℕ, List, Option, Some, length};
+ghost use Rattle.cnf_form.specs.Cnf.{FormulaOf};
+ghost use Rattle.cnf_form.specs.Dimacs.{IsDimacs};
+ghost use Rattle.cdcl_words.specs.Asking.{Asks};
+ghost use Rattle.sby_edge.specs.Cause.{Rose};
+ghost use Rattle.sby_edge.specs.Files.{Store};
+ghost use Rattle.cdcl_run.specs.Answer.{IsAnswer, budget_of};
+ghost use Rattle.cdcl_run.specs.Output.{grown};
+ghost use Rattle.cdcl_run.specs.Run.{Did, World};
+
+use cnf_form::dimacs_faults_are_decided;
+
+/// Where a store tells a file of at most 2^32 bytes that is a formula, and words ask for it, a call of `run_engine` writes a
+/// whole stream with the answer of its exit status, unless that is 1 or 32; it is 1 only where a call of the store or of the
+/// sink failed.
+pub fn promise_is_kept()
+    ensures answer { (before after : World) (words : List (List ℕ)) (exit : ℕ) (conflicts : Option ℕ) (file job : List ℕ) (store : Store) (f : FormulaOf)
+        → Did before after words exit → Asks words conflicts file → before.told ≡ Some store → store file ≡ Some job → length job ≤ 2 ^ 32 → IsDimacs job f
+        → exit ≢ 1 → exit ≢ 32
+        → (stream : List ℕ) × (after.taken ≡ grown before.taken stream) × IsAnswer job (budget_of conflicts) stream exit }
+    ensures failed { (before after : World) (words : List (List ℕ)) (exit : ℕ) (conflicts : Option ℕ) (file job : List ℕ) (store : Store) (f : FormulaOf)
+        → Did before after words exit → Asks words conflicts file → before.told ≡ Some store → store file ≡ Some job → length job ≤ 2 ^ 32 → IsDimacs job f
+        → exit ≡ 1 → Rose before.sink_faults after.sink_faults ⊎ Rose before.file_faults after.file_faults }
+{
+    dimacs_faults_are_decided();
+}

@@ -1,0 +1,15 @@
+//! The engine: the solver at work on a file, its answer a stream.
+#![tactic(auto)]
+
+mod laws;
+mod output;
+mod piece;
+mod proof;
+mod run;
+mod values;
+
+pub use laws::promise_is_kept;
+pub use run::run_engine;
+
+#[cfg(test)]
+mod tests;

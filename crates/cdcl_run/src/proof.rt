@@ -1,0 +1,106 @@
+// The proof, written while the solver searches.
+
+ghost use Rattle.std.specs.Prelude.{◌≡◌, ◌≤◌, ◌++◌, ◌∷◌, [], IfOk, OnErr, OnOk};
+ghost use Rattle.cnf_form.specs.Cnf.{Addition};
+ghost use Rattle.cnf_form.specs.Dimacs.{literal_text, clause_text};
+ghost use Rattle.sby_edge.specs.Cause.{Rose, greatest};
+ghost use Rattle.cdcl_run.specs.Answer.{Searches};
+ghost use Rattle.cdcl_run.specs.Output.{Puts};
+
+use crate::output::{put, put_literal};
+use crate::piece::Piece;
+use cdcl_core::{Log, Solved, logged_lines_are_a_proof, solve};
+use cnf_form::{Formula, Lit};
+use sby_edge::{Failed, Sink};
+use std::alloc::{AllocError, Global};
+
+// Gathers a literal and a space.
+fn put_word<S: Sink>(sink: &mut S, piece: &mut Piece, l: Lit) -> Result<(), Failed>
+    ensures ok { OnOk result (Puts
+        (record { taken = S.taken sink.old; faults = S.faults sink.old; gathered = piece.old })
+        (record { taken = S.taken sink.new; faults = S.faults sink.new; gathered = piece.new }) (literal_text l ++ 32 ∷ [])) }
+    ensures failed { OnErr result (Rose (S.faults sink.old) (S.faults sink.new)) }
+    ensures later { S.faults sink.old ≤ S.faults sink.new }
+    ensures stays { S.faults sink.old ≡ greatest → S.faults sink.new ≡ S.faults sink.old }
+{
+    put_literal(sink, piece, l)?;
+    put(sink, piece, b" ")
+}
+
+// Gathers the line of a clause.
+fn put_clause<S: Sink>(sink: &mut S, piece: &mut Piece, clause: &[Lit]) -> Result<(), Failed>
+    ensures ok { OnOk result (Puts
+        (record { taken = S.taken sink.old; faults = S.faults sink.old; gathered = piece.old })
+        (record { taken = S.taken sink.new; faults = S.faults sink.new; gathered = piece.new }) (clause_text clause.now)) }
+    ensures failed { OnErr result (Rose (S.faults sink.old) (S.faults sink.new)) }
+    ensures later { S.faults sink.old ≤ S.faults sink.new }
+    ensures stays { S.faults sink.old ≡ greatest → S.faults sink.new ≡ S.faults sink.old }
+{
+    for l in clause {
+        put_word(sink, piece, *l)?;
+    }
+    put(sink, piece, b"0\n")
+}
+
+// Writes the lines of a proof.
+#[derive(Drop)]
+struct ProofLog<'a, S: Sink> {
+    sink: &'a mut S,
+    piece: &'a mut Piece,
+}
+
+impl<'a, S: Sink> Log for ProofLog<'a, S> {
+    ghost use Rattle.cdcl_run.specs.Output.{Puts};
+    ghost use Rattle.cdcl_run.specs.Text.{proof_line};
+
+    ghost takes = { λ a l b. (b.sink.ghost_name ≡ a.sink.ghost_name) × (b.piece.ghost_name ≡ a.piece.ghost_name)
+        × Puts (record { taken = S.taken a.sink.now; faults = S.faults a.sink.now; gathered = a.piece.now })
+        (record { taken = S.taken b.sink.now; faults = S.faults b.sink.now; gathered = b.piece.now }) (proof_line l) };
+
+    ghost fails = { λ a b. (b.sink.ghost_name ≡ a.sink.ghost_name) × (b.piece.ghost_name ≡ a.piece.ghost_name)
+        × Rose (S.faults a.sink.now) (S.faults b.sink.now) };
+
+    ghost faults = { λ a. S.faults a.sink.now };
+
+    fn clause(&mut self, clause: &[Lit]) -> Result<(), Failed> {
+        put_clause(self.sink, self.piece, clause)
+    }
+
+    fn delete(&mut self, clause: &[Lit]) -> Result<(), Failed> {
+        put(self.sink, self.piece, b"d ")?;
+        put_clause(self.sink, self.piece, clause)
+    }
+}
+
+// Searches, and logs the proof.
+fn solve_to<S: Sink>(
+    alloc: Global,
+    formula: &Formula,
+    budget: u64,
+    log: &mut ProofLog<'_, S>,
+) -> Result<Solved, AllocError>
+    ensures same_sink { OnOk result (log.new.sink.ghost_name ≡ log.old.sink.ghost_name) }
+    ensures same_piece { OnOk result (log.new.piece.ghost_name ≡ log.old.piece.ghost_name) }
+    ensures searches { IfOk result (λ solved. Searches formula.now budget
+        (record { taken = S.taken log.old.sink.now; faults = S.faults log.old.sink.now; gathered = log.old.piece.now })
+        (record { taken = S.taken log.new.sink.now; faults = S.faults log.new.sink.now; gathered = log.new.piece.now }) solved) }
+{
+    logged_lines_are_a_proof();
+    solve(alloc, formula, budget, log)
+}
+
+// Searches, and writes the proof.
+pub(crate) fn search<S: Sink>(
+    alloc: Global,
+    formula: &Formula,
+    budget: u64,
+    sink: &mut S,
+    piece: &mut Piece,
+) -> Result<Solved, AllocError>
+    ensures { IfOk result (λ solved. Searches formula.now budget
+        (record { taken = S.taken sink.old; faults = S.faults sink.old; gathered = piece.old })
+        (record { taken = S.taken sink.new; faults = S.faults sink.new; gathered = piece.new }) solved) }
+{
+    let mut log = ProofLog { sink, piece };
+    solve_to(alloc, formula, budget, &mut log)
+}

@@ -1,0 +1,202 @@
+// The top call.
+
+ghost use Rattle.std.specs.Prelude.{◌≡◌, ◌⊎◌, ◌≤◌, ◌^◌, [], ℕ, List, length, map, string_bytes, IfOk, OnErr, Some, None};
+ghost use Rattle.cnf_form.specs.Cnf.{FormulaOf};
+ghost use Rattle.cnf_form.specs.Dimacs.{IsDimacs};
+ghost use Rattle.cdcl_core.specs.declared.solver.Solved.TheVariants.{LogFailed};
+ghost use Rattle.sby_edge.specs.Cause.{Rose};
+ghost use Rattle.cdcl_run.specs.Answer.{HasFew, IsEnd, budget_of};
+ghost use Rattle.cdcl_run.specs.Output.{Puts};
+ghost use Rattle.cdcl_run.specs.Run.{Answers, Did, IsDone, IsServed, Writes};
+ghost use Rattle.cdcl_run.specs.Text.{fault_line, file_line, kind_text, long_line, usage_line};
+
+use crate::output::{flush, offer, put};
+use crate::piece::Piece;
+use crate::proof::search;
+use crate::values::put_values;
+use cdcl_core::Solved;
+use cdcl_words::read_words;
+use cnf_form::{DimacsFault, DimacsFaultKind, Formula, read_dimacs};
+use sby_edge::{Fail, Failed, Files, Got, Sink};
+use std::alloc::{AllocError, Global};
+
+// The most bytes that a file may have.
+const MOST: u64 = 1 << 32;
+
+const FAULT: u8 = 1;
+
+const OUT_OF_MEMORY: u8 = 32;
+
+// Writes a line alone.
+fn refuse<S: Sink>(sink: &mut S, line: &[u8]) -> u8
+    ensures exit { result ≡ 1 }
+    ensures line { (told : _) (faults : ℕ) → Writes
+        (record { told = told; file_faults = faults; taken = S.taken sink.old; sink_faults = S.faults sink.old })
+        (record { told = told; file_faults = faults; taken = S.taken sink.new; sink_faults = S.faults sink.new }) line.now }
+{
+    // A failed call has the same exit status.
+    let _ = offer(sink, line);
+    FAULT
+}
+
+fn kind_text(kind: DimacsFaultKind) -> &'static str
+    ensures { result.now ≡ kind_text kind }
+{
+    match kind {
+        DimacsFaultKind::Header => "Header",
+        DimacsFaultKind::Literal => "Literal",
+        DimacsFaultKind::Count => "Count",
+    }
+}
+
+fn fault_line(alloc: Global, fault: DimacsFault) -> Result<String, AllocError>
+    ensures { IfOk result (λ text. string_bytes text ≡ fault_line fault.kind fault.byte) }
+{
+    let byte = fault.byte;
+    let kind = kind_text(fault.kind);
+    format!(in alloc; "c fault: byte {byte} {kind}\n")
+}
+
+// Gathers how the stream of an answer ends. The exit status.
+fn put_end<S: Sink>(sink: &mut S, piece: &mut Piece, solved: &Solved) -> Result<u8, Failed>
+    requires { HasFew solved.now }
+    ensures end { IfOk result (λ exit. (text : List ℕ) × IsEnd solved.now text exit × Puts
+        (record { taken = S.taken sink.old; faults = S.faults sink.old; gathered = piece.old })
+        (record { taken = S.taken sink.new; faults = S.faults sink.new; gathered = piece.new }) text) }
+    ensures failed { OnErr result ((solved.now ≡ LogFailed) ⊎ Rose (S.faults sink.old) (S.faults sink.new)) }
+    ensures later { S.faults sink.old ≤ S.faults sink.new }
+{
+    match solved {
+        Solved::Unsat => {
+            put(sink, piece, b"s UNSATISFIABLE\n")?;
+            Ok(20)
+        }
+        Solved::Sat(values) => {
+            put(sink, piece, b"s SATISFIABLE\n")?;
+            put_values(sink, piece, values)?;
+            Ok(10)
+        }
+        Solved::Budget => {
+            put(sink, piece, b"s UNKNOWN\n")?;
+            Ok(0)
+        }
+        Solved::LogFailed => Err(Failed),
+    }
+}
+
+// Writes how the stream of an answer ends. The exit status.
+fn finish<S: Sink>(sink: &mut S, piece: &mut Piece, solved: &Solved) -> Result<u8, Failed>
+    requires { HasFew solved.now }
+    ensures end { IfOk result (λ exit. (text : List ℕ) × IsEnd solved.now text exit × Puts
+        (record { taken = S.taken sink.old; faults = S.faults sink.old; gathered = piece.old })
+        (record { taken = S.taken sink.new; faults = S.faults sink.new; gathered = [] }) text) }
+    ensures failed { OnErr result ((solved.now ≡ LogFailed) ⊎ Rose (S.faults sink.old) (S.faults sink.new)) }
+    ensures later { S.faults sink.old ≤ S.faults sink.new }
+{
+    let exit = put_end(sink, piece, solved)?;
+    flush(sink, piece)?;
+    Ok(exit)
+}
+
+// Searches, and writes the stream with the answer.
+fn answer<S: Sink>(alloc: Global, formula: &Formula, budget: u64, sink: &mut S) -> u8
+    ensures { (told : _) (faults : ℕ) (job : List ℕ) → IsDimacs job formula.now → (result ≡ 32) ⊎ Answers
+        (record { told = told; file_faults = faults; taken = S.taken sink.old; sink_faults = S.faults sink.old })
+        (record { told = told; file_faults = faults; taken = S.taken sink.new; sink_faults = S.faults sink.new }) job budget result }
+{
+    let mut piece = match Piece::new(alloc) {
+        Ok(piece) => piece,
+        Err(AllocError) => return OUT_OF_MEMORY,
+    };
+    let _few = formula.vars();
+    let solved = match search(alloc, formula, budget, sink, &mut piece) {
+        Ok(solved) => solved,
+        Err(AllocError) => return OUT_OF_MEMORY,
+    };
+    match finish(sink, &mut piece, &solved) {
+        Ok(exit) => exit,
+        Err(Failed) => FAULT,
+    }
+}
+
+// Tells a fault of the file's text.
+fn tell_fault<S: Sink>(alloc: Global, fault: DimacsFault, sink: &mut S) -> u8
+    ensures { (told : _) (faults : ℕ) → (result ≡ 32) ⊎ ((result ≡ 1) × Writes
+        (record { told = told; file_faults = faults; taken = S.taken sink.old; sink_faults = S.faults sink.old })
+        (record { told = told; file_faults = faults; taken = S.taken sink.new; sink_faults = S.faults sink.new }) (fault_line fault.kind fault.byte)) }
+{
+    match fault_line(alloc, fault) {
+        Ok(line) => refuse(sink, line.as_bytes()),
+        Err(AllocError) => OUT_OF_MEMORY,
+    }
+}
+
+// Serves the bytes of a file.
+fn serve<S: Sink>(alloc: Global, bytes: &[u8], budget: u64, sink: &mut S) -> u8
+    requires { length bytes.now ≤ 2 ^ 32 }
+    ensures { (told : _) (faults : ℕ) → (result ≡ 32) ⊎ IsServed
+        (record { told = told; file_faults = faults; taken = S.taken sink.old; sink_faults = S.faults sink.old })
+        (record { told = told; file_faults = faults; taken = S.taken sink.new; sink_faults = S.faults sink.new }) bytes.now budget result }
+{
+    match read_dimacs(alloc, bytes) {
+        Ok(Ok(formula)) => answer(alloc, &formula, budget, sink),
+        Ok(Err(fault)) => tell_fault(alloc, fault, sink),
+        Err(AllocError) => OUT_OF_MEMORY,
+    }
+}
+
+// The most conflicts.
+fn budget_of(conflicts: Option<u32>) -> u64
+    ensures { result ≡ budget_of conflicts }
+{
+    match conflicts {
+        Some(conflicts) => u64::from(conflicts),
+        None => u64::MAX,
+    }
+}
+
+// Does what the words ask for.
+fn run_asked<F: Files, S: Sink>(
+    alloc: Global,
+    conflicts: Option<u32>,
+    file: &str,
+    files: &mut F,
+    sink: &mut S,
+) -> u8
+    ensures told { F.told files.new ≡ F.told files.old }
+    ensures done { IsDone
+        (record { told = F.told files.old; file_faults = F.faults files.old; taken = S.taken sink.old; sink_faults = S.faults sink.old })
+        (record { told = F.told files.new; file_faults = F.faults files.new; taken = S.taken sink.new; sink_faults = S.faults sink.new })
+        conflicts file.now result }
+{
+    match files.get(alloc, file, MOST) {
+        Ok(Got::All(bytes)) => serve(alloc, &bytes, budget_of(conflicts), sink),
+        Ok(Got::Long(_)) => refuse(sink, b"c fault: long\n"),
+        Err(Fail::Failed) => refuse(sink, b"c fault: file\n"),
+        Err(Fail::Memory) => OUT_OF_MEMORY,
+    }
+}
+
+/// Does all that the program `cdcl_program` does: `words` are its arguments, `files` and `sink` the file store and the output
+/// that it uses. It answers the exit status: 10, 20 or 0 behind an answer (satisfiable, unsatisfiable, unknown), 1 where the
+/// words are refused, the file can't be got, has more than 2^32 bytes or isn't DIMACS, or where the output failed, and 32 at
+/// want of memory.
+///
+/// Words are a file, or `--conflicts`, a number of conflicts from 1 to 1,000,000,000 and a file; without a number there are
+/// 2^64 - 1 conflicts. Output is written in pieces of 64 KiB, while the solver searches, and what is left at the end.
+pub fn run_engine<F: Files, S: Sink>(
+    alloc: Global,
+    words: &[String],
+    files: &mut F,
+    sink: &mut S,
+) -> u8
+    ensures did { Did
+        (record { told = F.told files.old; file_faults = F.faults files.old; taken = S.taken sink.old; sink_faults = S.faults sink.old })
+        (record { told = F.told files.new; file_faults = F.faults files.new; taken = S.taken sink.new; sink_faults = S.faults sink.new })
+        (map string_bytes words.now) result }
+{
+    match read_words(words) {
+        Some(asked) => run_asked(alloc, asked.conflicts, asked.file, files, sink),
+        None => refuse(sink, b"c usage: cdcl_program [--conflicts n] FILE.cnf\n"),
+    }
+}
