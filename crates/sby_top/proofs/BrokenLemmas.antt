@@ -17,6 +17,7 @@ use Rattle.sby_bits.specs.Rows.{Row}
 use Rattle.sby_terms.specs.Problem.{ProblemOf}
 use Rattle.sby_terms.specs.declared.names.Answer.{Answer}
 use Rattle.sby_terms.specs.declared.names.Answer.TheVariants.{Sat, Unsat}
+use Rattle.sby_terms.specs.declared.names.JobName.{JobName}
 use Rattle.sby_terms.specs.declared.names.JobName.TheVariants.{Base}
 use Rattle.sby_top.specs.Broken.{AreLinesOf, HasBrokenLines, IsBrokenCell, IsFirstBroken, IsLine, broken_line, last_of}
 use Rattle.sby_top.specs.Judged.{IsFindingOf}
@@ -73,6 +74,10 @@ cut_cycle k = subst Cut (append_assoc (codes "cycle ") (decimal k) (10 ∷ [])) 
 cut_cycles : (d : DesignOf) (k : ℕ) (rows : List Row) → Cut (cycles_from d k rows)
 cut_cycles d k [] = ([], (refl, All-nil IsLine))
 cut_cycles d k (row ∷ rows) = cut_both _ _ (cut_both _ _ (cut_cycle k) (cut_wires d.wires row)) (cut_cycles d (k + 1) rows)
+
+-- the lines of a run's trace
+pub trace_lines : (d : DesignOf) (run : List CycleOf) → Cut (trace d (shown_of run))
+trace_lines d run = cut_cycles d 0 (shown_of run)
 
 -- the trace of a run of some cycles isn't empty
 pub trace_begins : (d : DesignOf) (run : List CycleOf) (lines : List (List ℕ)) → 0 < length run → AreLinesOf (trace d (shown_of run)) lines → 0 < length lines
@@ -150,16 +155,16 @@ pub broken_lines : (d : DesignOf) (name : List ℕ) (run : List CycleOf) → Bre
 broken_lines d name run breaks =
     let first = first_exists d (last_of d run) breaks.broken.0 breaks.broken.1 in
     let cell = broken_cell d run first.0 first.1 in
-    let traced = cut_cycles d 0 (shown_of run) in
+    let traced = trace_lines d run in
     (broken_line name cell.0 run ∷ traced.0, record { cell = cell.0; traced = traced.0; is_broken = cell.1; is_trace = traced.1; all = refl })
 
--- what a finding for the job Base says of the design
-pub finding_claims : (p : AskedOf) (f : FindingOf) (answer : Answer) → IsFindingOf p (Base 0) f → f.answer ≡ answer → (d : DesignOf) → Reads p.problem.text d → Claim d (span_of p.problem) (Base 0) answer f.run
-finding_claims p f answer of is d reads =
+-- what a finding for a job says of the design
+pub finding_claims : (p : AskedOf) (job : JobName) (f : FindingOf) (answer : Answer) → IsFindingOf p job f → f.answer ≡ answer → (d : DesignOf) → Reads p.problem.text d → Claim d (span_of p.problem) job answer f.run
+finding_claims p job f answer of is d reads =
     let claim : Claim d (span_of f.problem) f.job f.answer f.run = of.is_true.claims d (subst (λ (q : ProblemOf). Reads q.text d) (sym of.problem) reads) in
-    let job : Claim d (span_of f.problem) (Base 0) f.answer f.run = subst (λ j. Claim d (span_of f.problem) j f.answer f.run) of.of_job claim in
-    let depth : Claim d (span_of p.problem) (Base 0) f.answer f.run = subst (λ (q : ProblemOf). Claim d (span_of q) (Base 0) f.answer f.run) of.problem job in
-    subst (λ a. Claim d (span_of p.problem) (Base 0) a f.run) is depth
+    let own : Claim d (span_of f.problem) job f.answer f.run = subst (λ j. Claim d (span_of f.problem) j f.answer f.run) of.of_job claim in
+    let depth : Claim d (span_of p.problem) job f.answer f.run = subst (λ (q : ProblemOf). Claim d (span_of q) job f.answer f.run) of.problem own in
+    subst (λ a. Claim d (span_of p.problem) job a f.run) is depth
 
 -- a run that shows a broken assertion breaks it
 pub shown_breaks : (d : DesignOf) (k n : ℕ) (run : List CycleOf) → RunShows d k n (Some run) → Breaks d run
@@ -170,8 +175,8 @@ shown_breaks d k n run shows = let at = shows.3.1 in record {
 }
 
 run_claim : (p : AskedOf) (f : FindingOf) (run : List CycleOf) (answer : Answer) → IsProblem p → IsFindingOf p (Base 0) f → f.run ≡ Some run → f.answer ≡ answer → RunShows p.design 0 p.problem.depth (Some run)
-run_claim p f run Sat problem of is answers = subst (RunShows p.design 0 p.problem.depth) is (finding_claims p f Sat of answers p.design problem.reads)
-run_claim p f run Unsat problem of is answers = let none : f.run ≡ None = (finding_claims p f Unsat of answers p.design problem.reads).1 in cc
+run_claim p f run Sat problem of is answers = subst (RunShows p.design 0 p.problem.depth) is (finding_claims p (Base 0) f Sat of answers p.design problem.reads)
+run_claim p f run Unsat problem of is answers = let none : f.run ≡ None = (finding_claims p (Base 0) f Unsat of answers p.design problem.reads).1 in cc
 
 -- the run of a finding for the job Base shows a broken assertion
 pub run_shows : (p : AskedOf) (f : FindingOf) (run : List CycleOf) → IsProblem p → IsFindingOf p (Base 0) f → f.run ≡ Some run → RunShows p.design 0 p.problem.depth (Some run)
@@ -179,24 +184,6 @@ run_shows p f run problem of is = run_claim p f run f.answer problem of is refl
 
 pub finding_breaks : (p : AskedOf) (flat : DesignOf) (f : FindingOf) (run : List CycleOf) → flat ≡ p.design → IsProblem p → IsFindingOf p (Base 0) f → f.run ≡ Some run → Breaks flat run
 finding_breaks p flat f run same problem of is = rw same (shown_breaks p.design 0 p.problem.depth run (run_shows p f run problem of is))
-
-shown_lines : (p : AskedOf) (name : List ℕ) (f : FindingOf) (run : Option (List CycleOf)) → IsProblem p → IsFindingOf p (Base 0) f → f.run ≡ run → (lines : List (List ℕ)) × HasShownLines p.design name run lines
-shown_lines p name f None problem of is = ([], refl)
-shown_lines p name f (Some run) problem of is = broken_lines p.design name run (shown_breaks p.design 0 p.problem.depth run (run_shows p f run problem of is))
-
--- the lines of the run that an end carries
-pub end_lines : (p : AskedOf) (name : List ℕ) (end : JobEnd FindingOf) → IsProblem p → IsLined p (Base 0) end → (lines : List (List ℕ)) × HasEndLines p.design name end lines
-end_lines p name (Found f) problem lined = shown_lines p name f f.run problem lined refl
-end_lines p name Unknown problem lined = ([], refl)
-end_lines p name NotServed problem lined = ([], refl)
-end_lines p name (Bad number at) problem lined = ([], refl)
-end_lines p name ReadFailed problem lined = ([], refl)
-end_lines p name StartFailed problem lined = ([], refl)
-end_lines p name HoldFailed problem lined = ([], refl)
-end_lines p name (Skipped f) problem lined = ([], refl)
-end_lines p name (CalledOff f) problem lined = ([], refl)
-end_lines p name (Stopped reading) problem lined = ([], refl)
-end_lines p name MemoryEnd problem lined = ([], refl)
 
 -- ---- the cycles of a run
 

@@ -1,10 +1,9 @@
 -- What is claimed of a call follows from what it did.
-use Rattle.std.proofs.Common.{◌≡◌, ◌≢◌, ◌⊎◌, ◌∙◌, ℕ, zero, suc, ◌+◌, ◌<◌, ◌≤◌, List, [], ◌∷◌, refl, ap, sym, subst, inl, inr, arith, length}
+use Rattle.std.proofs.Common.{◌≡◌, ◌≢◌, ◌⊎◌, ◌∙◌, ℕ, zero, suc, List, [], ◌∷◌, refl, ap, sym, subst, inl, inr, arith}
 use Rattle.std.specs.Prelude.{bit_or, Option, Some, None, Contains, map}
 use Rattle.std.specs.Int.Bits.{or_zero_r}
-use Rattle.std.proofs.lemmas.List.Elements.{Contains-append_right}
 use Rattle.cnf_form.proofs.Members.{Contains-map, Contains-map_from}
-use Rattle.design_meaning.specs.Claims.{NoBreak}
+use Rattle.design_meaning.specs.Claims.{NeverBreak, NoBreak}
 use Rattle.design_core.specs.Shape.{DesignOf}
 use Rattle.judge.specs.Finding.{FindingOf}
 use Rattle.judge.specs.Problem.{AskedOf}
@@ -14,21 +13,21 @@ use Rattle.race_core.specs.declared.end.JobEnd.TheVariants.{Found, Unknown as Un
 use Rattle.sby_edge.specs.Files.{Store}
 use Rattle.sby_terms.specs.Status.{HasStatus}
 use Rattle.sby_terms.specs.declared.names.Event.{Event}
-use Rattle.sby_terms.specs.declared.names.Event.TheVariants.{Quiet, Fault, Stopped as StoppedEvent, Memory as MemoryEvent}
+use Rattle.sby_terms.specs.declared.names.Event.TheVariants.{Fault, Stopped as StoppedEvent, Memory as MemoryEvent}
 use Rattle.sby_terms.specs.declared.names.JobName.{JobName}
 use Rattle.sby_terms.specs.declared.names.Mode.{Mode}
-use Rattle.sby_terms.specs.declared.names.Mode.TheVariants.{Bmc}
+use Rattle.sby_terms.specs.declared.names.Mode.TheVariants.{Bmc, Prove, Cover as CoverMode}
 use Rattle.sby_terms.specs.declared.names.Status.{Status}
 use Rattle.sby_terms.specs.declared.names.Status.TheVariants.{Pass, Fail, Unknown, Error, Timeout, Memory}
 use Rattle.sby_terms.specs.declared.names.Verdict.{Verdict}
 use Rattle.sby_top.specs.Causes.{IsOutcome}
-use Rattle.sby_top.specs.Claims.{IsTaskOf, IsDesignOf, IsShownBreak, HasPrinted, IsEvent, IsQuietEnd, IsFaultyEnd, WasJudged}
-use Rattle.sby_top.specs.Headline.{AreLines, Exit, Code, Cut, FailClaim, IsPrinted, IsTrueOf, PassClaim, TaskRan}
+use Rattle.sby_top.specs.Claims.{AreShownReaches, IsNamedUnreached, IsTaskOf, IsDesignOf, IsShownBreak, HasPrinted, IsEvent, IsQuietEnd, IsFaultyEnd, WasJudged}
+use Rattle.sby_top.specs.Headline.{AreLines, Exit, Code, Cut, FailClaim, IsPrinted, IsShown, IsTrueOf, PassClaim, TaskRan}
 use Rattle.sby_top.specs.Judged.{AreJudged, IsEndOf}
-use Rattle.sby_top.specs.Run.{Did, IsDoneAs, IsNothing, Ran, UsageAlone, joined, rc_of_exit}
+use Rattle.sby_top.specs.Run.{Did, IsNothing, Ran, UsageAlone, joined, rc_of_exit}
 use Rattle.sby_top.specs.Served.{jobs_in}
-use Rattle.sby_top.specs.Status.{IsStatus, IsStatusOf, answer_of, event_of}
-use Rattle.sby_top.specs.Words.{Asks, IsAsked, Request}
+use Rattle.sby_top.specs.Status.{IsStatus, event_of}
+use Rattle.sby_top.specs.Words.{Asks, Request}
 use Rattle.sby_top.specs.World.{World}
 use Rattle.sby_top.specs.declared.outcome.Done.{Done}
 use Rattle.sby_top.specs.declared.outcome.Early.{Early}
@@ -113,7 +112,13 @@ usage_of_refused before after words done (inr nothing) refused = inr nothing
 pub pass_claimed : (start finish : World) (request : Request) (end : TaskEnd) (exit : Exit) → TaskRan start finish request end exit → end.status ≡ Pass → request.mode ≡ Bmc
     → (d : DesignOf) × IsDesignOf start request d × NoBreak d 0 request.depth
 pass_claimed start finish request end exit ran status bmc =
-    let is : IsTrueOf start.told request end.text (PassClaim Bmc) = subst (λ m. IsTrueOf start.told request end.text (PassClaim m)) bmc (ran.pass status) in
+    let is : IsTrueOf start.told request end.text (PassClaim Bmc request end) = subst (λ m. IsTrueOf start.told request end.text (PassClaim m request end)) bmc (ran.pass status) in
+    (is.1.0, record { text = end.text; got = is.0; reads = is.1.1; flat = is.1.2 }, is.1.3)
+
+pub prove_pass_claimed : (start finish : World) (request : Request) (end : TaskEnd) (exit : Exit) → TaskRan start finish request end exit → end.status ≡ Pass → request.mode ≡ Prove
+    → (d : DesignOf) × IsDesignOf start request d × NeverBreak d
+prove_pass_claimed start finish request end exit ran status prove =
+    let is : IsTrueOf start.told request end.text (PassClaim Prove request end) = subst (λ m. IsTrueOf start.told request end.text (PassClaim m request end)) prove (ran.pass status) in
     (is.1.0, record { text = end.text; got = is.0; reads = is.1.1; flat = is.1.2 }, is.1.3)
 
 -- ---- FAIL
@@ -125,9 +130,10 @@ whole_or_cut start finish request end (Code rc) printed apart = elim printed.2.2
 ]
 whole_or_cut start finish request end Cut printed apart = (printed.2.0, printed.2.1, inr (printed.0, printed.2.2.1))
 
-pub fail_claimed : (start finish : World) (request : Request) (end : TaskEnd) (exit : Exit) → TaskRan start finish request end exit → end.status ≡ Fail → request.mode ≡ Bmc → IsShownBreak start finish request end
-fail_claimed start finish request end exit ran status bmc =
-    let is : IsTrueOf start.told request end.text (FailClaim Bmc request end) = subst (λ m. IsTrueOf start.told request end.text (FailClaim m request end)) bmc (ran.fail status) in
+-- a run that a task shows was printed
+shown_break : (start finish : World) (request : Request) (end : TaskEnd) (exit : Exit) → TaskRan start finish request end exit → end.status ≡ Fail → IsTrueOf start.told request end.text (IsShown request end)
+    → IsShownBreak start finish request end
+shown_break start finish request end exit ran status is =
     let shown = is.1.3 in
     let printed = whole_or_cut start finish request end exit ran.printed (λ e. let z : Fail ≡ Memory = sym status ∙ e in cc) in
     record {
@@ -141,6 +147,52 @@ fail_claimed start finish request end exit ran status bmc =
       lines = printed.0;
       are_lines = printed.1;
       shown = shown.printed printed.0 printed.1;
+      printed = printed.2;
+    }
+
+pub fail_claimed : (start finish : World) (request : Request) (end : TaskEnd) (exit : Exit) → TaskRan start finish request end exit → end.status ≡ Fail → request.mode ≡ Bmc → IsShownBreak start finish request end
+fail_claimed start finish request end exit ran status bmc =
+    shown_break start finish request end exit ran status (subst (λ m. IsTrueOf start.told request end.text (FailClaim m request end)) bmc (ran.fail status))
+
+pub prove_fail_claimed : (start finish : World) (request : Request) (end : TaskEnd) (exit : Exit) → TaskRan start finish request end exit → end.status ≡ Fail → request.mode ≡ Prove → IsShownBreak start finish request end
+prove_fail_claimed start finish request end exit ran status prove =
+    shown_break start finish request end exit ran status (subst (λ m. IsTrueOf start.told request end.text (FailClaim m request end)) prove (ran.fail status))
+
+-- ---- cover
+pub cover_pass_claimed : (start finish : World) (request : Request) (end : TaskEnd) (exit : Exit) → TaskRan start finish request end exit → end.status ≡ Pass → request.mode ≡ CoverMode → AreShownReaches start finish request end
+cover_pass_claimed start finish request end exit ran status cover =
+    let is : IsTrueOf start.told request end.text (PassClaim CoverMode request end) = subst (λ m. IsTrueOf start.told request end.text (PassClaim m request end)) cover (ran.pass status) in
+    let printed = whole_or_cut start finish request end exit ran.printed (λ e. let z : Pass ≡ Memory = sym status ∙ e in cc) in
+    record {
+      design = is.1.0;
+      is_design = record { text = end.text; got = is.0; reads = is.1.1; flat = is.1.2 };
+      lines = printed.0;
+      are_lines = printed.1;
+      each = λ k lt. let shown = is.1.3 k lt in record {
+        run = shown.run;
+        cell = shown.cell;
+        carried = shown.carried;
+        reaches = record { rows = shown.rows; within = shown.within; reaches = shown.reaches; is_cell = shown.is_cell };
+        shown = shown.printed printed.0 printed.1;
+      };
+      printed = printed.2;
+    }
+
+pub cover_fail_claimed : (start finish : World) (request : Request) (end : TaskEnd) (exit : Exit) → TaskRan start finish request end exit → end.status ≡ Fail → request.mode ≡ CoverMode → IsNamedUnreached start finish request end
+cover_fail_claimed start finish request end exit ran status cover =
+    let is : IsTrueOf start.told request end.text (FailClaim CoverMode request end) = subst (λ m. IsTrueOf start.told request end.text (FailClaim m request end)) cover (ran.fail status) in
+    let printed = whole_or_cut start finish request end exit ran.printed (λ e. let z : Fail ≡ Memory = sym status ∙ e in cc) in
+    let unreached = is.1.3.2 in
+    record {
+      design = is.1.0;
+      is_design = record { text = end.text; got = is.0; reads = is.1.1; flat = is.1.2 };
+      statement = is.1.3.0;
+      cell = unreached.cell;
+      is_cell = unreached.is_cell;
+      unreached = unreached.none;
+      lines = printed.0;
+      are_lines = printed.1;
+      named = unreached.printed printed.0 printed.1;
       printed = printed.2;
     }
 

@@ -5,7 +5,9 @@ pub mod WordsPlain
 pub mod TellLemmas
 pub mod StatusLemmas
 pub mod BrokenLemmas
+pub mod ReachLemmas
 pub mod LineLemmas
+pub mod JobLemmas
 pub mod ServeLemmas
 pub mod JudgeLemmas
 pub mod PlainLemmas

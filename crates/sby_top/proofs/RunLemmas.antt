@@ -19,11 +19,11 @@ use Rattle.sby_top.specs.declared.outcome.Done.{Done}
 use Rattle.sby_top.specs.declared.outcome.Early.{Early}
 use Rattle.sby_top.specs.declared.outcome.TaskEnd.{TaskEnd}
 use Rattle.sby_top.proofs.PlainLemmas.{is_complete}
-use Rattle.sby_top.proofs.TruthLemmas.{is_fail_true, is_pass_true}
+use Rattle.sby_top.proofs.TruthLemmas.{NothingBreaks, is_fail_true, is_pass_true}
 
 -- what words ask is served
 pub asked_is_askable : (words : List (List ℕ)) (r : Request) → IsAsked words (Some r) → IsAskable r
-asked_is_askable words r asks = record { mode = asks.judges.served; least = asks.judges.depth.least; most = asks.judges.depth.most }
+asked_is_askable words r asks = record { least = asks.judges.depth.least; most = asks.judges.depth.most }
 
 names : (before after : World) (request : Request) (end : TaskEnd) (early : Option Early) (text : List ℕ) (reports : List (ReportOf FindingOf)) → IsEnd request early text reports end
     → IsOutcome request before.told after.told before.file_faults after.file_faults after.blamed early text reports → NamesEvent before after request end
@@ -36,20 +36,20 @@ names before after request end early text reports made came = record {
 }
 
 -- a task that came to this, and whose lines were printed, was run
-pub task_ran : (before after : World) (request : Request) (end : TaskEnd) (rc : ℕ) (early : Option Early) (text : List ℕ) (reports : List (ReportOf FindingOf)) → IsAskable request → IsEnd request early text reports end
+pub task_ran : NothingBreaks → (before after : World) (request : Request) (end : TaskEnd) (rc : ℕ) (early : Option Early) (text : List ℕ) (reports : List (ReportOf FindingOf)) → IsAskable request → IsEnd request early text reports end
     → IsOutcome request before.told after.told before.file_faults after.file_faults after.blamed early text reports → IsPrintedAs before.taken after.taken before.sink_faults after.sink_faults after.ended request end rc
     → IsStored request before.told after.told → before.file_faults ≤ after.file_faults → before.sink_faults ≤ after.sink_faults
     → (exit : Exit) × TaskRan before after request end exit × (rc ≡ rc_of_exit exit)
-task_ran before after request end rc early text reports askable made came printed stored files sink =
+task_ran law before after request end rc early text reports askable made came printed stored files sink =
     let named = names before after request end early text reports made came in (
       printed.0,
       record {
-        pass = is_pass_true before after request end askable named;
-        fail = is_fail_true before after request end askable named;
+        pass = is_pass_true law before after request end askable named;
+        fail = is_fail_true before after request end named;
         named = named;
         printed = printed.1;
         stored = stored;
-        complete = is_complete before after request end askable named;
+        complete = is_complete before after request end named;
         later = record { files = files; sink = sink };
       },
       printed.2,

@@ -1,26 +1,27 @@
-use Rattle.std.proofs.Common.{◌≡◌, ℕ, ◌+◌, ◌≤◌, List, [], ◌∷◌, refl, ap, sym, ◌∙◌, subst, inl, inr, take, arith, ◌++◌}
-use Rattle.std.specs.Prelude.{Option, Some, None, IfSome, Contains, replicate}
+use Rattle.std.proofs.Common.{◌≡◌, ℕ, ◌+◌, ◌≤◌, List, [], ◌∷◌, refl, ap, sym, ◌∙◌, subst, inl, inr, length, take, arith}
+use Rattle.std.specs.Prelude.{Option, Some, None, IfSome, Contains, map, option_map, replicate, slice_get}
+use Rattle.std.specs.Borrow.{Bor}
+use Rattle.std.specs.Slice.{IsItemAt}
+use Rattle.std.proofs.lemmas.Option.{slice_get-get_or, slice_get-map, slice_get_past}
+use Rattle.design_core.proofs.Lists.{Contains-from_place}
 use Rattle.std.proofs.lemmas.List.{take_all}
 use Rattle.sby_edge.specs.Cause.{Rose}
 use Rattle.sby_edge.specs.Files.{Store, GotAt, GotFits, GotFrom, GotOf}
 use Rattle.sby_edge.specs.declared.outside.Got.{Got}
 use Rattle.sby_edge.specs.declared.outside.Got.TheVariants.{All as Whole, Long}
 use Rattle.judge.specs.Jobs.{jobs_in as jobs_of_mode}
-use Rattle.judge.specs.Problem.{AskedOf, IsJob, IsJobFile, IsProblem}
+use Rattle.judge.specs.Problem.{AskedOf, IsProblem}
 use Rattle.sby_terms.specs.Span.{whole}
 use Rattle.sby_terms.specs.declared.names.JobName.{JobName}
 use Rattle.sby_terms.specs.declared.names.JobName.TheVariants.{Base}
 use Rattle.sby_terms.specs.declared.names.Mode.TheVariants.{Bmc}
-use Rattle.sby_top.specs.Askable.{IsAskable}
 use Rattle.judge.specs.Finding.{FindingOf}
 use Rattle.race_core.specs.Report.{ReportOf, no_events}
 use Rattle.race_core.specs.declared.end.JobEnd.{JobEnd}
-use Rattle.race_core.specs.declared.end.JobEnd.TheVariants.{Found, Unknown, NotServed, Bad, ReadFailed, StartFailed, HoldFailed, Skipped, CalledOff, Stopped, Memory as MemoryEnd}
 use Rattle.sby_top.specs.Causes.{HasReason, IsDone}
-use Rattle.sby_top.specs.Steps.{got_items, AreLined, IsFailedCall, IsFirstGot, IsLined, IsRefusal, IsStreamJudged}
-use Rattle.sby_top.specs.Judged.{AreJudged, EndsWithRun, Has, IsEndOf, IsFateEnd, IsReport}
-use Rattle.sby_top.specs.Served.{ArePut, IsAccepted, IsGot, IsServed, IsStored, jobs_in, most_design, most_stream, problem_of, with_file}
-use Rattle.sby_top.specs.Texts.{job_path}
+use Rattle.sby_top.specs.Steps.{got_items, IsFailedCall, IsPathJudged, IsPutFailed, IsRefusal, IsStreamGot, IsStreamJudged}
+use Rattle.sby_top.specs.Judged.{AreJudged, EndsWithRun, Has, IsFateEnd, IsReport}
+use Rattle.sby_top.specs.Served.{ArePut, IsAccepted, IsGot, IsServed, IsStored, jobs_in, most_design, most_stream, problem_of}
 use Rattle.sby_top.specs.Words.{Request}
 use Rattle.sby_top.specs.declared.outcome.Early.{Early}
 use Rattle.sby_top.specs.declared.outcome.Early.TheVariants.{File, Read, Design, TooMany, Streams, Memory}
@@ -42,9 +43,6 @@ got_from (Some store) path most got fits h = got_at (store path) most got h
 -- the jobs of bmc
 pub one_job_in : (p : AskedOf) → p.problem.mode ≡ Bmc → jobs_in p ≡ (Base 0) ∷ []
 one_job_in p is = ap (λ m. jobs_of_mode m (whole p.problem.depth) p.design) is
-
-pub has_base : (p : AskedOf) → p.problem.mode ≡ Bmc → IsJob p (Base 0)
-has_base p is = (0, rw (one_job_in p is) refl)
 
 pub accepted_mode : (told : Option Store) (request : Request) (p : AskedOf) → request.mode ≡ Bmc → IsAccepted told request p → p.problem.mode ≡ Bmc
 accepted_mode told request p mode a = ap (λ q. q.mode) a.asked ∙ mode
@@ -91,26 +89,6 @@ text_refused b request before after f g Memory text got h same still = tt
 text_refused b request before after f g (File p) text got h same still = absurd h
 text_refused b request before after f g Streams text got h same still = absurd h
 
--- the job's file couldn't be put
-pub file_not_put : (b : Option (List ℕ)) (request : Request) (before after : Option Store) (f g : ℕ) (early : Early) (p : AskedOf) → IsAskable request → IsServed before request p
-    → IsFailedCall f g b (job_path request.folder (Base 0)) early → after ≡ before → HasReason request before after f g b early
-file_not_put b request before after f g (File path) p askable served h same =
-    (h.1, blamed_at _ _ _ h.0 h.2, inr (inl (p, 0, (Base 0), served, rw (one_job_in p (accepted_mode before request p askable.mode served.0)) refl, h.0, same)))
-file_not_put b request before after f g Memory p askable served h same = tt
-file_not_put b request before after f g (Read x) p askable served h same = absurd h
-file_not_put b request before after f g (Design x) p askable served h same = absurd h
-file_not_put b request before after f g (TooMany job) p askable served h same = absurd h
-file_not_put b request before after f g Streams p askable served h same = absurd h
-
--- the file of the one job was put
-pub one_put : (request : Request) (before after : Option Store) (p : AskedOf) (file : List ℕ) → p.problem.mode ≡ Bmc → IsJobFile p (Base 0) file → after ≡ with_file request.folder (Base 0) file before
-    → ArePut p request.folder (jobs_in p) before after
-one_put request before after p file bmc is put = rw (one_job_in p bmc) (file, is, put)
-
-pub one_put_first : (request : Request) (before after : Option Store) (p : AskedOf) (file : List ℕ) → p.problem.mode ≡ Bmc → IsJobFile p (Base 0) file → after ≡ with_file request.folder (Base 0) file before
-    → ArePut p request.folder (take 1 (jobs_in p)) before after
-one_put_first request before after p file bmc is put = rw (one_job_in p bmc) (file, is, put)
-
 -- a stream couldn't be got
 pub stream_not_got : (b : Option (List ℕ)) (request : Request) (before after : Option Store) (f g : ℕ) (early : Early) (p : AskedOf) (path : List ℕ) → IsServed before request p
     → Contains request.streams path → IsFailedCall f g b path early → ArePut p request.folder (jobs_in p) before after → HasReason request before after f g b early
@@ -135,97 +113,97 @@ pub has_from : (told : Option Store) (path bytes : List ℕ) (P : List ℕ → T
 has_from None path bytes P got each = (bytes, each bytes (sym (take_all (most_stream + 1) bytes got)))
 has_from (Some store) path bytes P got each = rw got.1 (each got.0 got.2)
 
--- the one job's stream was judged
-pub one_judged : (p : AskedOf) (told : Option Store) (paths : List (List ℕ)) (stream : Option (List ℕ)) (end : JobEnd FindingOf) → IsFirstGot told paths stream → IsStreamJudged p (Base 0) stream end
-    → AreJudged p told ((Base 0) ∷ []) paths (end ∷ [])
-one_judged p told [] None end got judged = (judged, refl)
-one_judged p told (path ∷ paths) (Some bytes) end got judged = (
-  record {
-    of = judged.of;
-    fate = λ file is. has_from told path bytes (λ s. IsFateEnd file s end) got (λ content cut. judged.fate file content is cut);
-    run = has_from told path bytes (λ s. EndsWithRun p (Base 0) s end) got (λ content cut. judged.run content cut);
-  },
-  refl,
-)
-one_judged p told [] (Some bytes) end got judged = absurd got
-one_judged p told (path ∷ paths) None end got judged = absurd got
+-- the path that stands at a job's place
+pub path_given : {X Y : Type 0} (v : X → Y) (xs : List X) (i : ℕ) (r : Option (Bor X)) → IsItemAt xs i r → option_map (λ (s : Bor X). v s.now) r ≡ slice_get (map v xs) i
+path_given {X} v xs i None h = sym (slice_get-map v xs i ∙ ap (option_map v) (slice_get_past xs i h.3))
+path_given {X} v xs i (Some r) h =
+    let at : slice_get xs i ≡ Some r.now = slice_get-get_or xs i r.now h.3.0 ∙ ap Some (sym h.1) in
+    sym (slice_get-map v xs i ∙ ap (λ (o : Option X). option_map v o) at)
 
--- an empty report of one job
-abbrev pub empty_report : ReportOf FindingOf
-empty_report = record { lane = 0; jobs = 1; ends = []; events = replicate 1 no_events }
+pub path_among : {X Y : Type 0} (v : X → Y) (xs : List X) (i : ℕ) (r : Option (Bor X)) (path : Y) → IsItemAt xs i r → option_map (λ (s : Bor X). v s.now) r ≡ Some path → Contains (map v xs) path
+path_among v xs i r path h is = Contains-from_place (map v xs) i path (sym (path_given v xs i r h) ∙ is)
 
-pub is_report : (p : AskedOf) (told : Option Store) (paths : List (List ℕ)) (report old : ReportOf FindingOf) (end : JobEnd FindingOf) → p.problem.mode ≡ Bmc → old ≡ empty_report
-    → report ≡ record old { ends = old.ends ++ end ∷ [] } → AreJudged p told ((Base 0) ∷ []) paths (end ∷ []) → IsReport p told paths report
-is_report p told paths report old end bmc empty is judged =
-    let one : report ≡ record empty_report { ends = end ∷ [] } = is ∙ ap {A = ReportOf FindingOf} (λ r. record r { ends = r.ends ++ end ∷ [] }) empty in
-    rw one (record {
-      lane = refl;
-      jobs = rw (one_job_in p bmc) refl;
-      events = rw (one_job_in p bmc) refl;
-      ends = rw (one_job_in p bmc) judged;
-    })
+-- a job's stream was judged
+pub path_judged : (p : AskedOf) (told : Option Store) (job : JobName) (path stream : Option (List ℕ)) (end : JobEnd FindingOf) → IsStreamGot told path stream → IsStreamJudged p job stream end
+    → IsPathJudged p told job path end
+path_judged p told job None None end got judged = judged
+path_judged p told job (Some path) (Some bytes) end got judged = record {
+  of = judged.of;
+  fate = λ file is. has_from told path bytes (λ s. IsFateEnd file s end) got (λ content cut. judged.fate file content is cut);
+  run = has_from told path bytes (λ s. EndsWithRun p job s end) got (λ content cut. judged.run content cut);
+}
+path_judged p told job None (Some bytes) end got judged = absurd got
+path_judged p told job (Some path) None end got judged = absurd got
 
-judged_lined : (p : AskedOf) (job : JobName) (end : JobEnd FindingOf) → IsEndOf p job end → IsLined p job end
-judged_lined p job (Found f) of = of
-judged_lined p job Unknown of = tt
-judged_lined p job NotServed of = tt
-judged_lined p job (Bad number at) of = tt
-judged_lined p job ReadFailed of = tt
-judged_lined p job StartFailed of = tt
-judged_lined p job HoldFailed of = tt
-judged_lined p job (Skipped f) of = tt
-judged_lined p job (CalledOff f) of = tt
-judged_lined p job (Stopped reading) of = of
-judged_lined p job MemoryEnd of = tt
+-- the file of a job couldn't be put
+file_not_put : (b : Option (List ℕ)) (request : Request) (before after : Option Store) (f g : ℕ) (early : Early) (p : AskedOf) → IsServed before request p
+    → IsPutFailed p request.folder before after f g b early → HasReason request before after f g b early
+file_not_put b request before after f g (File path) p served h =
+    (h.failed.1, blamed_at _ _ _ h.failed.0 h.failed.2, inr (inl (p, h.place, h.job, served, h.at, h.failed.0, h.put)))
+file_not_put b request before after f g Memory p served h = tt
+file_not_put b request before after f g (Read x) p served h = absurd h.failed
+file_not_put b request before after f g (Design x) p served h = absurd h.failed
+file_not_put b request before after f g (TooMany job) p served h = absurd h.failed
+file_not_put b request before after f g Streams p served h = absurd h.failed
 
-stream_lined : (p : AskedOf) (job : JobName) (stream : Option (List ℕ)) (end : JobEnd FindingOf) → IsStreamJudged p job stream end → IsLined p job end
-stream_lined p job None end judged = rw judged tt
-stream_lined p job (Some bytes) end judged = judged_lined p job end judged.of
+pub no_file : (b : Option (List ℕ)) (request : Request) (before after : Option Store) (f g : ℕ) (early : Early) (p : AskedOf) (folder : List ℕ) → IsServed before request p
+    → folder ≡ request.folder → IsPutFailed p folder before after f g b early → HasReason request before after f g b early
+no_file b request before after f g early p folder served folder_is failed =
+    file_not_put b request before after f g early p served (subst (λ x. IsPutFailed p x before after f g b early) folder_is failed)
 
--- the one end has lines
-pub report_lined : (p : AskedOf) (stream : Option (List ℕ)) (report old : ReportOf FindingOf) (end : JobEnd FindingOf) → old ≡ empty_report → report ≡ record old { ends = old.ends ++ end ∷ [] }
-    → IsStreamJudged p (Base 0) stream end → AreLined p report.ends
-report_lined p stream report old end empty is judged =
-    let one : report ≡ record empty_report { ends = end ∷ [] } = is ∙ ap {A = ReportOf FindingOf} (λ r. record r { ends = r.ends ++ end ∷ [] }) empty in
-    rw one (stream_lined p (Base 0) stream end judged, tt)
+-- the files of some jobs were put
+pub some_stored : (b : Option (List ℕ)) (request : Request) (before after : Option Store) (f g : ℕ) (early : Early) (p : AskedOf) (folder : List ℕ) → IsServed before request p
+    → folder ≡ request.folder → IsPutFailed p folder before after f g b early → IsStored request before after
+some_stored b request before after f g early p folder served folder_is failed =
+    inr (p, failed.place, served, subst (λ x. ArePut p x (take failed.place (jobs_in p)) before after) folder_is failed.put)
 
--- a file was put
-abbrev pub OnePut : AskedOf → List ℕ → Option Store → Option Store → Type 0
-OnePut p folder before after = (file : List ℕ) × IsJobFile p (Base 0) file × (after ≡ with_file folder (Base 0) file before)
-
--- the job was done
-pub is_done : (request : Request) (before mid after : Option Store) (p : AskedOf) (text folder : List ℕ) (paths : List (List ℕ)) (stream : Option (List ℕ)) (end : JobEnd FindingOf) (report old : ReportOf FindingOf)
-    → IsAskable request → IsServed before request p → text ≡ p.problem.text → folder ≡ request.folder → paths ≡ request.streams → OnePut p folder before mid → after ≡ mid
-    → IsFirstGot mid paths stream → IsStreamJudged p (Base 0) stream end → old ≡ empty_report → report ≡ record old { ends = old.ends ++ end ∷ [] } → IsDone request before after text report
-is_done request before mid after p text folder paths stream end report old askable served is folder_is paths_are put same got judged empty is_report_of =
-    let bmc = accepted_mode before request p askable.mode served.0 in (
+-- those of all jobs
+pub all_stored : (request : Request) (before mid after : Option Store) (p : AskedOf) (folder : List ℕ) → IsServed before request p → folder ≡ request.folder → ArePut p folder (jobs_in p) before mid
+    → after ≡ mid → IsStored request before after
+all_stored request before mid after p folder served folder_is put same =
+    inr (
       p,
+      length (jobs_in p),
       served,
-      is,
-      one_put request before after p put.0 bmc put.1 (same ∙ put.2 ∙ ap (λ f. with_file f (Base 0) put.0 before) folder_is),
-      is_report p after request.streams report old end bmc empty is_report_of
-          (subst (λ t. AreJudged p t ((Base 0) ∷ []) request.streams (end ∷ [])) (sym same) (subst (λ ps. AreJudged p mid ((Base 0) ∷ []) ps (end ∷ [])) paths_are (one_judged p mid paths stream end got judged))),
+      subst (λ js. ArePut p request.folder js before after) (sym (take_all (length (jobs_in p)) (jobs_in p) (omega arith)))
+          (subst (λ t. ArePut p request.folder (jobs_in p) before t) (sym same) (subst (λ x. ArePut p x (jobs_in p) before mid) folder_is put)),
     )
 
--- what was put
-pub is_stored : (request : Request) (before mid after : Option Store) (p : AskedOf) (folder : List ℕ) → IsAskable request → IsServed before request p → folder ≡ request.folder → OnePut p folder before mid
-    → after ≡ mid → IsStored request before after
-is_stored request before mid after p folder askable served folder_is put same =
-    inr (p, 1, served, one_put_first request before after p put.0 (accepted_mode before request p askable.mode served.0) put.1 (same ∙ put.2 ∙ ap (λ f. with_file f (Base 0) put.0 before) folder_is))
-
--- the stream of a task couldn't be got
-pub no_stream : (b : Option (List ℕ)) (request : Request) (before mid after : Option Store) (f g h : ℕ) (early : Early) (p : AskedOf) (folder : List ℕ) (paths : List (List ℕ)) → IsAskable request → IsServed before request p
-    → folder ≡ request.folder → paths ≡ request.streams → OnePut p folder before mid → after ≡ mid → f ≤ g
+-- the stream of a job couldn't be got
+pub no_stream : (b : Option (List ℕ)) (request : Request) (before mid after : Option Store) (f g h : ℕ) (early : Early) (p : AskedOf) (folder : List ℕ) (paths : List (List ℕ)) → IsServed before request p
+    → folder ≡ request.folder → paths ≡ request.streams → ArePut p folder (jobs_in p) before mid → after ≡ mid → f ≤ g
     → ((path : List ℕ) × Contains paths path × IsFailedCall g h b path early) → HasReason request before after f h b early
-no_stream b request before mid after f g h early p folder paths askable served folder_is paths_are put same later failed =
+no_stream b request before mid after f g h early p folder paths served folder_is paths_are put same later failed =
     stream_not_got _ request before after f h early p failed.0 served (subst (λ ps. Contains ps failed.0) paths_are failed.1) (failed_since _ f g h failed.0 early later failed.2)
-    (one_put request before after p put.0 (accepted_mode before request p askable.mode served.0) put.1 (same ∙ put.2 ∙ ap (λ x. with_file x (Base 0) put.0 before) folder_is))
+    (subst (λ t. ArePut p request.folder (jobs_in p) before t) (sym same) (subst (λ x. ArePut p x (jobs_in p) before mid) folder_is put))
 
--- the job's file of a task couldn't be put
-pub no_file : (b : Option (List ℕ)) (request : Request) (before after : Option Store) (f g : ℕ) (early : Early) (p : AskedOf) (folder : List ℕ) → IsAskable request → IsServed before request p
-    → folder ≡ request.folder → IsFailedCall f g b (job_path folder (Base 0)) early → after ≡ before → HasReason request before after f g b early
-no_file b request before after f g early p folder askable served folder_is failed same =
-    file_not_put _ request before after f g early p askable served (subst (λ x. IsFailedCall f g b (job_path x (Base 0)) early) folder_is failed) same
+-- an empty report of so many jobs
+abbrev pub empty_report : ℕ → ReportOf FindingOf
+empty_report jobs = record { lane = 0; jobs = jobs; ends = []; events = replicate jobs no_events }
+
+is_report : (p : AskedOf) (told : Option Store) (paths : List (List ℕ)) (report old : ReportOf FindingOf) → old ≡ empty_report (length (jobs_in p)) → report ≡ record old { ends = report.ends }
+    → AreJudged p told (jobs_in p) paths report.ends → IsReport p told paths report
+is_report p told paths report old empty is judged =
+    let all : report ≡ record (empty_report (length (jobs_in p))) { ends = report.ends } = is ∙ ap {A = ReportOf FindingOf} (λ r. record r { ends = report.ends }) empty in
+    record {
+      lane = ap (λ (r : ReportOf FindingOf). r.lane) all;
+      jobs = ap (λ (r : ReportOf FindingOf). r.jobs) all;
+      events = ap (λ (r : ReportOf FindingOf). r.events) all;
+      ends = judged;
+    }
+
+-- the jobs were done
+pub is_done : (request : Request) (before mid after : Option Store) (p : AskedOf) (text folder : List ℕ) (paths : List (List ℕ)) (report old : ReportOf FindingOf)
+    → IsServed before request p → text ≡ p.problem.text → folder ≡ request.folder → paths ≡ request.streams → ArePut p folder (jobs_in p) before mid → after ≡ mid
+    → AreJudged p mid (jobs_in p) paths report.ends → old ≡ empty_report (length (jobs_in p)) → report ≡ record old { ends = report.ends } → IsDone request before after text report
+is_done request before mid after p text folder paths report old served is folder_is paths_are put same judged empty is_report_of = (
+  p,
+  served,
+  is,
+  subst (λ t. ArePut p request.folder (jobs_in p) before t) (sym same) (subst (λ x. ArePut p x (jobs_in p) before mid) folder_is put),
+  is_report p after request.streams report old empty is_report_of
+      (subst (λ t. AreJudged p t (jobs_in p) request.streams report.ends) (sym same) (subst (λ ps. AreJudged p mid (jobs_in p) ps report.ends) paths_are judged)),
+)
 
 -- a reason since a later moment is one since an earlier one with the same count
 pub reason_since : (b : Option (List ℕ)) (request : Request) (before after : Option Store) (f g h : ℕ) (early : Early) → g ≡ f → HasReason request before after g h b early → HasReason request before after f h b early

@@ -1,4 +1,4 @@
-use Rattle.std.proofs.Common.{◌≡◌, ℕ, ◌+◌, ◌<◌, ◌≤◌, List, [], ◌++◌, refl, ap, ◌∙◌, sym, arith, take, drop, append_assoc, append-nil, length, length-append}
+use Rattle.std.proofs.Common.{◌≡◌, ℕ, ◌+◌, ◌<◌, ◌≤◌, List, [], ◌++◌, refl, ap, ◌∙◌, sym, subst, arith, take, drop, append_assoc, append-nil, length, length-append}
 use Rattle.std.specs.Prelude.{Option, Some, None, Result, Ok, Err}
 use Rattle.std.specs.List.{concat}
 use Rattle.sby_top.specs.declared.tell.Stop.{Stop}
@@ -91,3 +91,62 @@ tells_stopped {T} {U} b m f g first more e p = record {
     ),
   );
 }
+
+-- of all these lines, those before the rest were told
+abbrev pub ToldBefore : Option (List ℕ) → Option (List ℕ) → ℕ → ℕ → List (List ℕ) → List (List ℕ) → Type 0
+ToldBefore b m f g rest all = (first : List (List ℕ)) × Tells {T = Unit {0}} b m f g None first (Ok tt) × (first ++ rest ≡ all)
+
+pub told_start : (b : Option (List ℕ)) (f : ℕ) (all : List (List ℕ)) → ToldBefore b b f f all all
+told_start b f all = (
+  [],
+  record {
+    later = omega arith;
+    whole = sym (grown-nil b);
+    still = refl;
+    still_memory = λ e. let no : ⊥ = cc in absurd no;
+    memory = λ e. let no : ⊥ = cc in absurd no;
+    fault = λ e. let no : ⊥ = cc in absurd no;
+    last = λ e. let no : ⊥ = cc in absurd no;
+  },
+  refl,
+)
+
+-- the first of the rest were
+pub told_more : {e : Option ℕ} (b m n : Option (List ℕ)) (f g h : ℕ) (more rest old all : List (List ℕ)) → old ≡ more ++ rest → ToldBefore b m f g old all → Tells {T = Unit {0}} m n g h e more (Ok tt)
+    → ToldBefore b n f h rest all
+told_more b m n f g h more rest old all is told tells =
+    let both = tells_then {T = Unit {0}} {U = Unit {0}} b m n f g h told.0 more tt (Ok tt) told.1 tells in (
+      told.0 ++ more,
+      record {
+        later = both.later;
+        whole = both.whole;
+        still = both.still;
+        still_memory = λ e. let no : ⊥ = cc in absurd no;
+        memory = λ e. let no : ⊥ = cc in absurd no;
+        fault = λ e. let no : ⊥ = cc in absurd no;
+        last = λ e. let no : ⊥ = cc in absurd no;
+      },
+      append_assoc told.0 more rest ∙ ap (λ ls. told.0 ++ ls) (sym is) ∙ told.2,
+    )
+
+-- telling stopped at the first of the rest
+pub told_stopped : {T U : Type 0} {e : Option ℕ} (b m n : Option (List ℕ)) (f g h : ℕ) (more rest old all : List (List ℕ)) (s : Stop) → old ≡ more ++ rest → ToldBefore b m f g old all
+    → Tells {T = T} m n g h e more (Err s) → Tells {T = U} b n f h e all (Err s)
+told_stopped {T} {U} {e} b m n f g h more rest old all s is told tells =
+    let both = tells_then {T = Unit {0}} {U = T} b m n f g h told.0 more tt (Err s) told.1 tells in
+    subst (λ ls. Tells {T = U} b n f h e ls (Err s)) (append_assoc told.0 more rest ∙ ap (λ ls. told.0 ++ ls) (sym is) ∙ told.2)
+    (tells_stopped {T = T} {U = U} b n f h (told.0 ++ more) rest s both)
+
+-- no lines are left
+pub told_all : {e : Option ℕ} (b m : Option (List ℕ)) (f g : ℕ) (rest all : List (List ℕ)) → rest ≡ [] → ToldBefore b m f g rest all → Tells {T = Unit {0}} b m f g e all (Ok tt)
+told_all {e} b m f g rest all none told =
+    let same : told.0 ≡ all = sym (append-nil told.0) ∙ ap (λ ls. told.0 ++ ls) (sym none) ∙ told.2 in
+    subst (λ ls. Tells {T = Unit {0}} b m f g e ls (Ok tt)) same (record {
+      later = told.1.later;
+      whole = told.1.whole;
+      still = told.1.still;
+      still_memory = λ w. let no : ⊥ = cc in absurd no;
+      memory = λ w. let no : ⊥ = cc in absurd no;
+      fault = λ w. let no : ⊥ = cc in absurd no;
+      last = λ w. let no : ⊥ = cc in absurd no;
+    })

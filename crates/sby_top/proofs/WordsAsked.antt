@@ -1,8 +1,7 @@
 -- Depths, stems and lists of the words.
-use Rattle.std.proofs.Common.{◌≡◌, ◌≢◌, ◌∙◌, ◌<◌, ◌≤◌, ◌^◌, ◌==◌, ℕ, Bool, true, false, cond, List, [], ◌∷◌, ◌++◌, Option, Some, None, length, get_or, slice_index, take, drop, refl, sym, ap, subst, arith, eqb-true, lit≤}
-use Rattle.std.proofs.lemmas.List.{append_assoc, append_cancel_right, get_or_past, length-append, length-map, take_all}
+use Rattle.std.proofs.Common.{◌≡◌, ◌∙◌, ◌<◌, ◌≤◌, ◌==◌, ℕ, Bool, true, false, List, [], ◌∷◌, ◌++◌, Option, Some, None, length, get_or, slice_index, take, drop, refl, sym, ap, subst, arith, eqb-true, lit≤}
+use Rattle.std.proofs.lemmas.List.{append_assoc, append_cancel_right, length-append, length-map, take_all}
 use Rattle.std.specs.Fmt.{decimal}
-use Rattle.std.proofs.lemmas.Bool.{ne_eqb}
 use Rattle.std.proofs.lemmas.Fmt.{first_decimal}
 use Rattle.sby_terms.specs.Number.{number_upto}
 use Rattle.std.specs.Prelude.{MatchOption, ◌↔◌, All, IsTrue, bytes_eq, codes, option_map, slice_index_or, unwrap_or}

@@ -178,12 +178,12 @@ all_walked (Some dir) word words on p all =
 
 -- ---- what they ask
 
-rows_ask : (dir : Option Text) (word : Text) (r : Request) → r.mode ≡ Bmc → IsDepth word r.depth → IsFolder dir r.design r.folder → All (λ s. EndsIn (codes ".wit") s → ⊥) r.streams
+rows_ask : (dir : Option Text) (word : Text) (r : Request) → IsDepth word r.depth → IsFolder dir r.design r.folder → All (λ s. EndsIn (codes ".wit") s → ⊥) r.streams
     → Judges (all_rows dir (r.design ∷ mode_word r.mode ∷ word ∷ r.streams)) r
-rows_ask None word r served depth folder certificates =
-    record { judge = refl; dumptasks = λ e. cc; gen = λ e. cc; word = word; list = refl; depth = depth; served = served; folder = folder; certificates = certificates }
-rows_ask (Some dir) word r served depth folder certificates =
-    record { judge = refl; dumptasks = λ e. cc; gen = λ e. cc; word = word; list = refl; depth = depth; served = served; folder = folder; certificates = certificates }
+rows_ask None word r depth folder certificates =
+    record { judge = refl; dumptasks = λ e. cc; gen = λ e. cc; word = word; list = refl; depth = depth; folder = folder; certificates = certificates }
+rows_ask (Some dir) word r depth folder certificates =
+    record { judge = refl; dumptasks = λ e. cc; gen = λ e. cc; word = word; list = refl; depth = depth; folder = folder; certificates = certificates }
 
 mode_is_plain : (m : Mode) → IsPlain (mode_word m)
 mode_is_plain Bmc = λ e. absurd (omega (arith, e))
@@ -194,15 +194,15 @@ depth_is_plain : (word : Text) (depth : ℕ) → IsDepth word depth → IsPlain 
 depth_is_plain [] depth is = let first = depth_begins [] depth is in absurd (omega (arith, first))
 depth_is_plain (b ∷ bs) depth is = let first = depth_begins (b ∷ bs) depth is in λ e. absurd (omega (arith, first, e))
 
-pub plain_words_ask : (dir : Option Text) (word : Text) (r : Request) → IfSome dir IsPlain → IsPlain r.design → All IsPlain r.streams → r.mode ≡ Bmc → IsDepth word r.depth
+pub plain_words_ask : (dir : Option Text) (word : Text) (r : Request) → IfSome dir IsPlain → IsPlain r.design → All IsPlain r.streams → IsDepth word r.depth
     → IsFolder dir r.design r.folder → All (λ s. EndsIn (codes ".wit") s → ⊥) r.streams
     → Asks (judge_words dir (r.design ∷ mode_word r.mode ∷ word ∷ r.streams)) r
-plain_words_ask dir word r on design streams served depth folder certificates =
+plain_words_ask dir word r on design streams depth folder certificates =
     let list = r.design ∷ mode_word r.mode ∷ word ∷ r.streams in
     let walk = all_walked dir r.design (mode_word r.mode ∷ word ∷ r.streams) on design
     (All-cons IsPlain (mode_word r.mode) (word ∷ r.streams) (mode_is_plain r.mode) (All-cons IsPlain word r.streams (depth_is_plain word r.depth depth) streams)) in
     let passes = walk_level (judge_words dir list) walk.passes walk.ends in
     record {
       taken = leaf_takes (built command) nothing_held (judge_words dir list) refl passes;
-      judges = subst (λ (rows : List Row). Judges rows r) (sym walk.rows) (rows_ask dir word r served depth folder certificates);
+      judges = subst (λ (rows : List Row). Judges rows r) (sym walk.rows) (rows_ask dir word r depth folder certificates);
     }

@@ -1,8 +1,6 @@
 -- What a request is, by the list of words; and the answer, by the matches.
-use Rattle.std.proofs.Common.{◌≡◌, ◌∙◌, ◌<◌, ◌≤◌, ◌-◌, ◌^◌, ℕ, Bool, true, false, List, [], ◌∷◌, Option, Some, None, length, take, drop, refl, sym, ap, subst, arith}
-use Rattle.std.proofs.Common.{not, true≢false}
-use Rattle.std.proofs.lemmas.Slice.Eq.{bytes_eq-Decides}
-use Rattle.std.specs.Prelude.{MatchOption, bytes_eq, codes, option_map, slice_index_or, unwrap_or}
+use Rattle.std.proofs.Common.{◌≡◌, ◌∙◌, ◌<◌, ◌≤◌, ◌-◌, ◌^◌, ℕ, true, List, [], ◌∷◌, Option, Some, None, length, get_or, take, drop, refl, sym, ap, subst, arith}
+use Rattle.std.specs.Prelude.{MatchOption, codes, option_map, slice_index_or, unwrap_or}
 use Rattle.std.specs.Borrow.{Bor}
 use Rattle.std.specs.Fmt.{decimal}
 use Rattle.std.specs.Str.Parse.{digits_value}
@@ -15,7 +13,8 @@ use Rattle.clap.specs.Walk.{Row, all_of, first_of, rows_of, texts}
 use Rattle.clap.specs.Matches.{found_of, matched_of, raw_values}
 use Rattle.clap.specs.declared.parser.matches.ArgMatches.{ArgMatches}
 use Rattle.clap.proofs.WalkLemmas.{raw_values-rows}
-use Rattle.sby_terms.specs.declared.names.Mode.TheVariants.{Bmc}
+use Rattle.sby_terms.specs.declared.names.Mode.{Mode}
+use Rattle.sby_terms.specs.declared.names.Mode.TheVariants.{Bmc, Prove, Cover}
 use Rattle.sby_top.specs.Words.{Asks, IsAsked, IsStem, Judges, Request, command, mode_word}
 use Rattle.sby_top.proofs.WordsAsked.{stem_is_one}
 use Rattle.sby_top.proofs.WordsTaken.{clear_is_taken}
@@ -56,7 +55,7 @@ short_list_judges rows r xs is short j = go xs (some_is (is ∙ j.list)) short
 -- what the words of a list are in a request
 pub record Stands (r : Request) (word design mode depth : List ℕ) (streams : List (List ℕ)) : Type 0 where
   pub design_is : r.design ≡ design
-  pub mode_is : codes "bmc" ≡ mode
+  pub mode_is : mode_word r.mode ≡ mode
   pub word_is : word ≡ depth
   pub streams_are : r.streams ≡ streams
 
@@ -67,13 +66,13 @@ stands rows r xs d is long j =
     ≡ Some ((slice_index_or xs 0 d).now ∷ (slice_index_or xs 1 d).now ∷ (slice_index_or xs 2 d).now ∷ texts (later xs)) =
     sym j.list ∙ sym is ∙ ap Some (three_and_more xs d long) in
     let mode : mode_word r.mode ≡ (slice_index_or xs 1 d).now = cc in
-    record { design_is = cc; mode_is = sym (ap mode_word j.served) ∙ mode; word_is = cc; streams_are = cc }
+    record { design_is = cc; mode_is = mode; word_is = cc; streams_are = cc }
 
 pub list_stands : (rows : List Row) (xs : List (Bor (List ℕ))) (d : Bor (List ℕ)) → Some (texts xs) ≡ all_of (codes "words") rows → 3 ≤ length xs
-    → (slice_index_or xs 1 d).now ≡ codes "bmc"
-    → all_of (codes "words") rows ≡ Some ((slice_index_or xs 0 d).now ∷ mode_word Bmc ∷ (slice_index_or xs 2 d).now ∷ texts (later xs))
-list_stands rows xs d is long mode =
-    sym is ∙ ap Some (three_and_more xs d long ∙ ap (λ m. (slice_index_or xs 0 d).now ∷ m ∷ (slice_index_or xs 2 d).now ∷ texts (later xs)) mode)
+    → (mode : Mode) → (slice_index_or xs 1 d).now ≡ mode_word mode
+    → all_of (codes "words") rows ≡ Some ((slice_index_or xs 0 d).now ∷ mode_word mode ∷ (slice_index_or xs 2 d).now ∷ texts (later xs))
+list_stands rows xs d is long mode same =
+    sym is ∙ ap Some (three_and_more xs d long ∙ ap (λ m. (slice_index_or xs 0 d).now ∷ m ∷ (slice_index_or xs 2 d).now ∷ texts (later xs)) same)
 
 -- ---- the answer
 
@@ -99,13 +98,25 @@ depth_is_one m n a b e =
     let l : n < 2 ^ 64 = omega (arith, b) in
     sym (decimal_is_IsNumeral m k).1 ∙ ap (digits_value 10) e ∙ (decimal_is_IsNumeral n l).1
 
+mode_is_one : (m n : Mode) → mode_word m ≡ mode_word n → m ≡ n
+mode_is_one Bmc Bmc e = refl
+mode_is_one Bmc Prove e = let first : 98 ≡ 112 = ap (λ (w : List ℕ). get_or w 0 0) e in absurd (omega (arith, first))
+mode_is_one Bmc Cover e = let first : 98 ≡ 99 = ap (λ (w : List ℕ). get_or w 0 0) e in absurd (omega (arith, first))
+mode_is_one Prove Bmc e = let first : 112 ≡ 98 = ap (λ (w : List ℕ). get_or w 0 0) e in absurd (omega (arith, first))
+mode_is_one Prove Prove e = refl
+mode_is_one Prove Cover e = let first : 112 ≡ 99 = ap (λ (w : List ℕ). get_or w 0 0) e in absurd (omega (arith, first))
+mode_is_one Cover Bmc e = let first : 99 ≡ 98 = ap (λ (w : List ℕ). get_or w 0 0) e in absurd (omega (arith, first))
+mode_is_one Cover Prove e = let first : 99 ≡ 112 = ap (λ (w : List ℕ). get_or w 0 0) e in absurd (omega (arith, first))
+mode_is_one Cover Cover e = refl
+
 request_is_one : (rows : List Row) (r s : Request) → Judges rows r → Judges rows s → r ≡ s
 request_is_one rows r s j k =
     let list : Some (r.design ∷ mode_word r.mode ∷ j.word ∷ r.streams) ≡ Some (s.design ∷ mode_word s.mode ∷ k.word ∷ s.streams) = sym j.list ∙ k.list in
     let design : r.design ≡ s.design = cc in
     let word : j.word ≡ k.word = cc in
     let streams : r.streams ≡ s.streams = cc in
-    let mode : r.mode ≡ s.mode = j.served ∙ sym k.served in
+    let word_is : mode_word r.mode ≡ mode_word s.mode = cc in
+    let mode : r.mode ≡ s.mode = mode_is_one r.mode s.mode word_is in
     let depth : r.depth ≡ s.depth = depth_is_one r.depth s.depth j.depth.most k.depth.most (sym j.depth.digits ∙ word ∙ k.depth.digits) in
     let stem : j.folder.stem ≡ k.folder.stem = stem_is_one s.design j.folder.stem k.folder.stem (subst (λ (d : List ℕ). IsStem d j.folder.stem) design j.folder.is_stem) k.folder.is_stem in
     let folder : r.folder ≡ s.folder = j.folder.chosen ∙ ap (unwrap_or (first_of (codes "folder") rows)) stem ∙ sym k.folder.chosen in
@@ -117,18 +128,8 @@ answer_is_one words None (Some s) p q = absurd (p s q)
 answer_is_one words (Some r) None p q = absurd (q r p)
 answer_is_one words (Some r) (Some s) p q = ap Some (request_is_one (matches_of command words) r s p.judges q.judges)
 
--- ---- tests
+-- ---- reads past a list
 
 -- what a read past a list gives
 abbrev pub nowhere : Bor (List ℕ)
 nowhere = record { ref_ptr = (0, 0); now = [] }
-
-pub same_mode : (mode : List ℕ) (r : Bool) → r ≡ not (bytes_eq mode (codes "bmc")) → r ≡ false → mode ≡ codes "bmc"
-same_mode mode r test passed = (bytes_eq-Decides mode (codes "bmc")).0 (go (bytes_eq mode (codes "bmc")) (sym test ∙ passed))
-  where
-    go : (b : Bool) → not b ≡ false → b ≡ true
-    go true e = refl
-    go false e = absurd (true≢false e)
-
-pub other_mode : (mode : List ℕ) (r : Bool) → r ≡ not (bytes_eq mode (codes "bmc")) → r ≡ true → codes "bmc" ≡ mode → ⊥
-other_mode mode r test failed is = true≢false (sym failed ∙ test ∙ ap not ((bytes_eq-Decides mode (codes "bmc")).1 (sym is)))

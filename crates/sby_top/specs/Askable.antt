@@ -1,10 +1,8 @@
 -- Which tasks are served so far.
-use Rattle.std.specs.Prelude.{◌≡◌, ◌≤◌}
-use Rattle.sby_terms.specs.declared.names.Mode.TheVariants.{Bmc}
+use Rattle.std.specs.Prelude.{◌≤◌}
 use Rattle.sby_top.specs.Words.{Request}
 
--- the mode is bmc, and the depth is from 1 to 1,000
+-- the depth is from 1 to 1,000
 pub record IsAskable (request : Request) : Type 0 where
-  pub mode : request.mode ≡ Bmc
   pub least : 1 ≤ request.depth
   pub most : request.depth ≤ 1000

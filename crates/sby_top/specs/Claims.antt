@@ -1,9 +1,9 @@
 -- What is claimed of a call, task by task.
-use Rattle.std.specs.Prelude.{◌≡◌, ◌⊎◌, ℕ, ◌≤◌, List, [], ◌∷◌, length, slice_get, Option, Some, None, Contains}
+use Rattle.std.specs.Prelude.{◌≡◌, ◌⊎◌, ℕ, ◌<◌, ◌≤◌, List, [], ◌∷◌, length, slice_get, Some, None, Contains}
 use Rattle.std.specs.List.{concat}
 use Rattle.sby_edge.specs.Cause.{Rose}
-use Rattle.design_meaning.specs.Claims.{NoBreak, Shows}
-use Rattle.design_meaning.specs.Meaning.{asserts}
+use Rattle.design_meaning.specs.Claims.{NoReach, ReachRun, Shows}
+use Rattle.design_meaning.specs.Meaning.{asserts, covers}
 use Rattle.design_meaning.specs.Runs.{CycleOf, IsRunOf, valuations}
 use Rattle.design_core.specs.Shape.{CellOf, DesignOf}
 use Rattle.judge.specs.Finding.{FindingOf}
@@ -15,8 +15,9 @@ use Rattle.design_reader.specs.Grammar.{Reads}
 use Rattle.sby_terms.specs.declared.names.Status.{Status}
 use Rattle.sby_terms.specs.declared.names.Status.TheVariants.{Pass, Fail, Unknown, Error, Timeout, Memory}
 use Rattle.sby_top.specs.Broken.{IsFirstBroken, last_of}
+use Rattle.sby_top.specs.Reached.{unreached_line}
 use Rattle.sby_top.specs.Causes.{HasReason, IsDone}
-use Rattle.sby_top.specs.Headline.{AreLines, ArePrintedOf, Exit, IsCarried, TaskRan}
+use Rattle.sby_top.specs.Headline.{AreLines, ArePrintedOf, Exit, IsCarried, IsReachCarried, IsReachPrinted, TaskRan}
 use Rattle.sby_top.specs.Run.{rc_of_exit}
 use Rattle.sby_top.specs.Served.{IsGot, most_design}
 use Rattle.sby_top.specs.Telling.{GrownBySome, grown}
@@ -69,6 +70,43 @@ pub record IsShownBreak (start finish : World) (request : Request) (end : TaskEn
   pub lines : List (List ℕ)
   pub are_lines : AreLines request end lines
   pub shown : ArePrintedOf design request.folder cell run lines
+  pub printed : HasPrinted start finish lines
+
+-- a run of at most n cycles, all assumed, whose last reaches cover statement k, and the statement's cell
+pub record ReachesIn (d : DesignOf) (n : ℕ) (run : List CycleOf) (k : ℕ) (cell : CellOf) : Type 0 where
+  pub rows : IsRunOf d run
+  pub within : length run ≤ n
+  pub reaches : ReachRun d (length run) (valuations d run) k
+  pub is_cell : slice_get (covers d) k ≡ Some cell
+
+-- a run that reaches cover statement k, which the report carries and these lines show
+pub record IsReachIn (request : Request) (end : TaskEnd) (d : DesignOf) (lines : List (List ℕ)) (k : ℕ) : Type 0 where
+  pub run : List CycleOf
+  pub cell : CellOf
+  pub carried : IsReachCarried d end.reports.items k run
+  pub reaches : ReachesIn d request.depth run k cell
+  pub shown : IsReachPrinted d request.folder cell run lines
+
+-- the design, for each of its cover statements a run that reaches it, and that these were printed
+pub record AreShownReaches (start finish : World) (request : Request) (end : TaskEnd) : Type 0 where
+  pub design : DesignOf
+  pub is_design : IsDesignOf start request design
+  pub lines : List (List ℕ)
+  pub are_lines : AreLines request end lines
+  pub each : (k : ℕ) → k < length (covers design) → IsReachIn request end design lines k
+  pub printed : HasPrinted start finish lines
+
+-- the design and a cover statement that no run of at most so many cycles reaches, and that it was named
+pub record IsNamedUnreached (start finish : World) (request : Request) (end : TaskEnd) : Type 0 where
+  pub design : DesignOf
+  pub is_design : IsDesignOf start request design
+  pub statement : ℕ
+  pub cell : CellOf
+  pub is_cell : slice_get (covers design) statement ≡ Some cell
+  pub unreached : NoReach design request.depth statement
+  pub lines : List (List ℕ)
+  pub are_lines : AreLines request end lines
+  pub named : Contains lines (unreached_line request.folder cell)
   pub printed : HasPrinted start finish lines
 
 -- an end that tells no fault and no want of memory

@@ -1,7 +1,7 @@
 -- A task's end as it is made.
-use Rattle.std.specs.Prelude.{◌≡◌, ◌⊎◌, ◌≤◌, ℕ, List, [], ◌∷◌, string_bytes, replicate, vec_capacity, Option, None, Result, Ok, Err}
+use Rattle.std.specs.Prelude.{◌≡◌, ◌⊎◌, ◌≤◌, ℕ, List, [], ◌∷◌, string_bytes, vec_capacity, Option, None, Result, Ok, Err}
 use Rattle.judge.specs.Finding.{FindingOf}
-use Rattle.race_core.specs.Report.{ReportOf, no_events}
+use Rattle.race_core.specs.Report.{ReportOf}
 use Rattle.sby_terms.specs.declared.names.Status.{Status}
 use Rattle.sby_terms.specs.declared.names.Status.TheVariants.{Pass, Memory}
 use Rattle.sby_top.specs.Headline.{Exit, IsPrinted}
@@ -14,11 +14,10 @@ use Rattle.sby_top.specs.declared.run.Room.{Room}
 use Rattle.sby_top.specs.declared.tell.Stop.{Stop}
 use Rattle.sby_top.specs.declared.tell.Stop.TheVariants.{Memory as MemoryStop, Sink}
 
--- what a task needs room for: its name, what is expected, an empty report of its one job, and a list for that report
+-- what a task needs room for: its name, what is expected, and a list for its one report
 pub record IsRoom (folder : List ℕ) (room : Room) : Type 0 where
   pub name : string_bytes room.name ≡ folder
   pub expect : room.expect ≡ Pass ∷ []
-  pub report : room.report ≡ record { lane = 0; jobs = 1; ends = []; events = replicate 1 no_events }
   pub reports : room.reports.items ≡ []
   pub room_for_one : 1 ≤ vec_capacity room.reports
 

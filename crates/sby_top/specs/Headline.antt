@@ -1,34 +1,34 @@
 -- What is promised of a task that was run.
-use Rattle.std.specs.Prelude.{◌≡◌, ◌≢◌, ◌⊎◌, ℕ, ◌<◌, ◌≤◌, List, [], ◌∷◌, ◌++◌, length, map, slice_get, string_bytes, Option, Some, None}
+use Rattle.std.specs.Prelude.{◌≡◌, ◌≢◌, ◌⊎◌, ℕ, ◌<◌, ◌≤◌, List, [], ◌∷◌, ◌++◌, length, map, slice_get, string_bytes, Option, Some, None, Contains}
 use Rattle.std.specs.List.{concat}
 use Rattle.sby_edge.specs.Cause.{Rose}
 use Rattle.sby_edge.specs.Sink.{AreAll}
 use Rattle.sby_edge.specs.Files.{Store}
-use Rattle.judge.specs.Jobs.{Solvable}
 use Rattle.stream_judge.specs.Fate.{Fate, IsFate, Found, Unknown, Bad}
 use Rattle.judge.specs.Finding.{FindingOf}
 use Rattle.judge.specs.Problem.{AskedOf, IsJobFile}
 use Rattle.judge.specs.declared.problem.ProblemFault.{ProblemFault}
 use Rattle.judge.specs.declared.problem.ProblemFault.TheVariants.{Read as ReadFault, Design as DesignFault, TooMany as TooManyFault}
 use Rattle.race_core.specs.Report.{ReportOf}
-use Rattle.design_meaning.specs.Claims.{NeverBreak, NoBreak, Shows}
+use Rattle.design_meaning.specs.Claims.{NeverBreak, NoBreak, NoReach, ReachRun, Shows}
 use Rattle.design_check.specs.Faults.{IsFlat}
-use Rattle.design_meaning.specs.Meaning.{asserts}
+use Rattle.design_meaning.specs.Meaning.{asserts, covers}
 use Rattle.design_meaning.specs.Runs.{CycleOf, IsRunOf, shown_of, valuations}
 use Rattle.design_core.specs.Shape.{CellOf, DesignOf}
 use Rattle.design_reader.specs.Grammar.{Reads}
 use Rattle.sby_terms.specs.Code.{HasCode}
-use Rattle.sby_terms.specs.Span.{whole}
+use Rattle.sby_terms.specs.Decide.{Decides}
 use Rattle.sby_terms.specs.declared.names.Answer.{Answer}
 use Rattle.sby_terms.specs.declared.names.Event.{Event}
 use Rattle.sby_terms.specs.declared.names.Event.TheVariants.{Quiet, Fault}
 use Rattle.sby_terms.specs.declared.names.JobName.{JobName}
-use Rattle.sby_terms.specs.declared.names.JobName.TheVariants.{Base}
 use Rattle.sby_terms.specs.declared.names.Mode.{Mode}
 use Rattle.sby_terms.specs.declared.names.Mode.TheVariants.{Bmc, Prove, Cover}
 use Rattle.sby_terms.specs.declared.names.Status.{Status}
 use Rattle.sby_terms.specs.declared.names.Status.TheVariants.{Pass, Fail, Error, Memory}
+use Rattle.sby_terms.specs.declared.names.Verdict.{Verdict}
 use Rattle.sby_top.specs.Broken.{AreLinesOf, CarriesRun, IsFirstBroken, broken_line, last_of}
+use Rattle.sby_top.specs.Reached.{CarriesReach, reached_line, unreached_line}
 use Rattle.sby_top.specs.Causes.{IsOutcome}
 use Rattle.sby_top.specs.Lines.{HasLines}
 use Rattle.sby_top.specs.Served.{ArePut, IsAccepted, IsGot, IsRefused, IsStored, jobs_at, jobs_in, most_design, most_stream}
@@ -40,13 +40,6 @@ use Rattle.sby_top.specs.declared.outcome.Early.{Early}
 use Rattle.sby_top.specs.declared.outcome.Early.TheVariants.{Read, Design, TooMany, Streams}
 use Rattle.sby_top.specs.declared.outcome.TaskEnd.{TaskEnd}
 use Rattle.design_trace.specs.Trace.{trace}
-
--- What PASS says of a design at depth n: in bmc no run of at most n cycles breaks an assertion, in prove no run of any length does.
--- Cover isn't served yet.
-abbrev pub PassClaim : Mode → DesignOf → ℕ → Type 0
-PassClaim Bmc d n = NoBreak d 0 n
-PassClaim Prove d n = NeverBreak d
-PassClaim Cover d n = ⊥
 
 -- a task that came to this end has these lines
 abbrev pub AreLines : Request → TaskEnd → List (List ℕ) → Type 0
@@ -76,11 +69,47 @@ pub record IsShown (request : Request) (end : TaskEnd) (d : DesignOf) (n : ℕ) 
   pub is_cell : slice_get (asserts d) assertion ≡ Some cell
   pub printed : (lines : List (List ℕ)) → AreLines request end lines → ArePrintedOf d request.folder cell run lines
 
--- what FAIL says at depth n: in bmc it shows a run that breaks an assertion, in prove there is one
+-- the one report of a task carries this run, in its finding for Cover(k)
+abbrev pub IsReachCarried : DesignOf → List (ReportOf FindingOf) → ℕ → List CycleOf → Type 0
+IsReachCarried d reports k run = (report : ReportOf FindingOf) × (reports ≡ report ∷ []) × CarriesReach (jobs_at Cover d) report.ends k run
+
+-- somewhere in the lines stands that of the reached statement, then the trace of the run
+abbrev pub IsReachPrinted : DesignOf → List ℕ → CellOf → List CycleOf → List (List ℕ) → Type 0
+IsReachPrinted d name cell run lines =
+    (front : List (List ℕ)) × (traced : List (List ℕ)) × (back : List (List ℕ)) × AreLinesOf (trace d (shown_of run)) traced
+    × (lines ≡ front ++ reached_line name cell run ∷ (traced ++ back))
+
+-- The run that reaches cover statement k at depth n: the report carries it; it has at most n cycles, all assumed, of which the last
+-- reaches the statement; and whatever lines the task has, they name that statement and show that run.
+pub record IsReachShown (request : Request) (end : TaskEnd) (d : DesignOf) (n : ℕ) (k : ℕ) : Type 0 where
+  pub run : List CycleOf
+  pub cell : CellOf
+  pub carried : IsReachCarried d end.reports.items k run
+  pub rows : IsRunOf d run
+  pub within : length run ≤ n
+  pub reaches : ReachRun d (length run) (valuations d run) k
+  pub is_cell : slice_get (covers d) k ≡ Some cell
+  pub printed : (lines : List (List ℕ)) → AreLines request end lines → IsReachPrinted d request.folder cell run lines
+
+-- cover statement k, which no run of at most n cycles reaches; and whatever lines the task has, one says so
+pub record IsUnreachedShown (request : Request) (end : TaskEnd) (d : DesignOf) (n : ℕ) (k : ℕ) : Type 0 where
+  pub cell : CellOf
+  pub is_cell : slice_get (covers d) k ≡ Some cell
+  pub none : NoReach d n k
+  pub printed : (lines : List (List ℕ)) → AreLines request end lines → Contains lines (unreached_line request.folder cell)
+
+-- What PASS says of a design at depth n: in bmc no run of at most n cycles breaks an assertion, in prove no run of any length does, and
+-- in cover each statement has a run that reaches it, which is shown.
+abbrev pub PassClaim : Mode → Request → TaskEnd → DesignOf → ℕ → Type 0
+PassClaim Bmc request end d n = NoBreak d 0 n
+PassClaim Prove request end d n = NeverBreak d
+PassClaim Cover request end d n = (k : ℕ) → k < length (covers d) → IsReachShown request end d n k
+
+-- what FAIL says at depth n: in bmc and prove it shows a run that breaks an assertion, in cover it names a statement that isn't reached
 abbrev pub FailClaim : Mode → Request → TaskEnd → DesignOf → ℕ → Type 0
 FailClaim Bmc request end d n = IsShown request end d n
-FailClaim Prove request end d n = Solvable d (Base 0) (whole n)
-FailClaim Cover request end d n = ⊥
+FailClaim Prove request end d n = IsShown request end d n
+FailClaim Cover request end d n = (k : ℕ) × (k < length (covers d)) × IsUnreachedShown request end d n k
 
 -- the text that the design's path gave reads a flat design of which the claim is true
 abbrev pub IsTrueOf : Option Store → Request → List ℕ → (DesignOf → ℕ → Type 0) → Type 0
@@ -138,25 +167,40 @@ fate_event (Some Unknown) = Quiet
 fate_event (Some (Bad kind at)) = Fault
 fate_event None = Quiet
 
--- the fates of the stored streams as certificates for the jobs' files, in the order of the jobs; none for a job without a stream
+-- the fates of the stored streams as certificates for the jobs' files, in the order of the jobs; none for a job without a stream, nor for
+-- a stream that is left out
 abbrev pub AreFates : AskedOf → Store → List JobName → List (List ℕ) → List (Option Fate) → Type 0
 AreFates p store [] paths fates = fates ≡ []
 AreFates p store (job ∷ jobs) [] (None ∷ fates) = AreFates p store jobs [] fates
+AreFates p store (job ∷ jobs) (path ∷ paths) (None ∷ fates) = AreFates p store jobs paths fates
 AreFates p store (job ∷ jobs) (path ∷ paths) (Some fate ∷ fates) =
     ((stream : List ℕ) × (file : List ℕ) × (store path ≡ Some stream) × IsJobFile p job file × IsFate file stream most_stream fate)
     × AreFates p store jobs paths fates
-AreFates p store (job ∷ jobs) paths fates = ⊥
+AreFates p store (job ∷ jobs) [] (Some fate ∷ fates) = ⊥
+AreFates p store (job ∷ jobs) paths [] = ⊥
+
+-- no stream is left out
+abbrev pub AreWhole : List (List ℕ) → List (Option Fate) → Type 0
+AreWhole [] fates = Unit {0}
+AreWhole (path ∷ paths) [] = Unit {0}
+AreWhole (path ∷ paths) (None ∷ fates) = ⊥
+AreWhole (path ∷ paths) (Some fate ∷ fates) = AreWhole paths fates
+
+-- the answers decide a verdict
+abbrev pub IsDecided : Mode → List (Option Answer) → Type 0
+IsDecided mode answers = (verdict : Verdict) × Decides mode answers verdict
 
 abbrev pub early_of : ProblemFault → Early
 early_of (ReadFault f) = Read f
 early_of (DesignFault f) = Design f
 early_of (TooManyFault job) = TooMany job
 
--- the status of the streams' fates, for the files that were put
+-- the status of the streams' fates, for the files that were put; none is left out, unless the others decide
 abbrev pub IsJudgedStatus : Store → Store → Request → Option Early → Status → Type 0
 IsJudgedStatus before after request early status =
     (p : AskedOf) × (fates : List (Option Fate)) × IsAccepted (Some before) request p × (length request.streams ≤ length (jobs_in p))
     × ArePut p request.folder (jobs_in p) (Some before) (Some after) × AreFates p after (jobs_in p) request.streams fates
+    × (AreWhole request.streams fates ⊎ IsDecided request.mode (map fate_answer fates))
     × (early ≡ None) × IsStatusOf request.mode (map fate_answer fates) (map fate_event fates) status
 
 -- What the stores give, without any lane: the refusal of the design's text; that of too many streams; or the status of the
@@ -185,7 +229,7 @@ pub record IsLater (before after : World) : Type 0 where
 
 -- a task was run, from one moment to another
 pub record TaskRan (before after : World) (request : Request) (end : TaskEnd) (exit : Exit) : Type 0 where
-  pub pass : end.status ≡ Pass → IsTrueOf before.told request end.text (PassClaim request.mode)
+  pub pass : end.status ≡ Pass → IsTrueOf before.told request end.text (PassClaim request.mode request end)
   pub fail : end.status ≡ Fail → IsTrueOf before.told request end.text (FailClaim request.mode request end)
   pub named : NamesEvent before after request end
   pub printed : IsPrinted before.taken after.taken before.sink_faults after.sink_faults after.ended request end exit

@@ -4,6 +4,7 @@ pub mod World
 pub mod Texts
 pub mod Counts
 pub mod Broken
+pub mod Reached
 pub mod Lines
 pub mod Telling
 pub mod Status

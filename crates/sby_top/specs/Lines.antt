@@ -20,8 +20,9 @@ use Rattle.sby_terms.specs.declared.names.Status.TheVariants.{Pass, Timeout}
 use Rattle.sby_terms.specs.declared.names.Verdict.{Verdict}
 use Rattle.sby_terms.specs.declared.names.Verdict.TheVariants.{Pass as PassVerdict, Fail as FailVerdict}
 use Rattle.sby_top.specs.Broken.{CarriesRun, HasBrokenLines}
+use Rattle.sby_top.specs.Reached.{HasCoverLines}
 use Rattle.sby_top.specs.Counts.{counts_of}
-use Rattle.sby_top.specs.Status.{AreDecided, IsStatus, answer_of}
+use Rattle.sby_top.specs.Status.{AreDecided, IsStatus, answer_of, told_answers}
 use Rattle.sby_top.specs.Texts.{answer_text, cert_kind_text, cert_text, design_kind_text, design_text, done_text, fault_text, file_text, hold_failed_text, job_text, lane_text, line_of, memory_text, not_served_text, read_failed_text, read_kind_text, read_text, settled_text, start_failed_text, status_text, streams_text, too_many_text, unknown_text}
 use Rattle.sby_top.specs.declared.outcome.Early.{Early}
 use Rattle.sby_top.specs.declared.outcome.Early.TheVariants.{File, Read, Design, TooMany, Streams, Memory as MemoryEarly}
@@ -71,15 +72,17 @@ abbrev pub lane_line : List ℕ → ℕ → JobName → Option (List ℕ) → Li
 lane_line name lane job (Some text) = line_of name (lane_text lane (job_text job) text) ∷ []
 lane_line name lane job None = []
 
--- the lines of the settled jobs, in the order of the jobs
-abbrev pub settled_lines : List ℕ → List JobName → List (JobEnd FindingOf) → List (List ℕ)
-settled_lines name (job ∷ jobs) (end ∷ ends) = settled_line name job (answer_of end) ++ settled_lines name jobs ends
-settled_lines name jobs ends = []
+-- the lines of the settled jobs, in the order of the jobs, by their answers
+abbrev pub settled_lines : List ℕ → List JobName → List (Option Answer) → List (List ℕ)
+settled_lines name (job ∷ jobs) (answer ∷ answers) = settled_line name job answer ++ settled_lines name jobs answers
+settled_lines name (job ∷ jobs) [] = []
+settled_lines name [] answers = []
 
 -- the lines of a lane's unsettled jobs, in the order of the jobs
 abbrev pub lane_lines : List ℕ → ℕ → List JobName → List (JobEnd FindingOf) → List (List ℕ)
 lane_lines name lane (job ∷ jobs) (end ∷ ends) = lane_line name lane job (end_text end) ++ lane_lines name lane jobs ends
-lane_lines name lane jobs ends = []
+lane_lines name lane (job ∷ jobs) [] = []
+lane_lines name lane [] ends = []
 
 -- the lines of unsettled jobs come where there is no verdict
 abbrev pub unless_decided : Option Verdict → List (List ℕ) → List (List ℕ)
@@ -87,21 +90,29 @@ unless_decided None lines = lines
 unless_decided (Some verdict) lines = []
 
 -- FAIL has the lines of the run that the finding for Base carries; PASS has none, nor is there a run without a verdict
-abbrev pub HasVerdictLines : DesignOf → List ℕ → List (JobEnd FindingOf) → Option Verdict → List (List ℕ) → Type 0
-HasVerdictLines d name ends (Some FailVerdict) lines = (run : List CycleOf) × CarriesRun (jobs_at Bmc d) ends run × HasBrokenLines d name run lines
-HasVerdictLines d name ends (Some PassVerdict) lines = lines ≡ []
-HasVerdictLines d name ends None lines = lines ≡ []
+abbrev pub HasRunLines : List JobName → DesignOf → List ℕ → List (JobEnd FindingOf) → Option Verdict → List (List ℕ) → Type 0
+HasRunLines jobs d name ends (Some FailVerdict) lines = (run : List CycleOf) × CarriesRun jobs ends run × HasBrokenLines d name run lines
+HasRunLines jobs d name ends (Some PassVerdict) lines = lines ≡ []
+HasRunLines jobs d name ends None lines = lines ≡ []
 
--- The lines of a design and its jobs in bmc: those of the design that the text reads, of the settled jobs, without a verdict of the
--- unsettled jobs, and of the run where it is FAIL. Prove and cover aren't served yet.
+-- in bmc and prove the lines of the run that fails; in cover, with a verdict or not, those of the cover statements
+abbrev pub HasVerdictLines : Mode → DesignOf → List ℕ → List (JobEnd FindingOf) → Option Verdict → List (List ℕ) → Type 0
+HasVerdictLines Bmc d name ends verdict lines = HasRunLines (jobs_at Bmc d) d name ends verdict lines
+HasVerdictLines Prove d name ends verdict lines = HasRunLines (jobs_at Prove d) d name ends verdict lines
+HasVerdictLines Cover d name ends verdict lines = HasCoverLines d name 0 ends lines
+
+-- the lines of a design and its jobs: those of the design, of the settled jobs, without a verdict of the unsettled jobs, and of the runs
+abbrev pub job_lines : Mode → DesignOf → List ℕ → ℕ → List (JobEnd FindingOf) → Option Verdict → List (List ℕ) → List (List ℕ)
+job_lines mode d name lane ends verdict shown =
+    line_of name (design_text (counts_of d)) ∷ settled_lines name (jobs_at mode d) (told_answers mode (map answer_of ends))
+    ++ unless_decided verdict (lane_lines name lane (jobs_at mode d) ends) ++ shown
+
+-- They are of the design that the text reads, and by the verdict that the answers decide.
 abbrev pub HasJobLines : Mode → List ℕ → List ℕ → ReportOf FindingOf → List (List ℕ) → Type 0
-HasJobLines Bmc name text report body =
-    (d : DesignOf) × (verdict : Option Verdict) × (shown : List (List ℕ)) × Reads text d × AreDecided Bmc (map answer_of report.ends) verdict
-    × HasVerdictLines d name report.ends verdict shown
-    × (body ≡ line_of name (design_text (counts_of d)) ∷ settled_lines name (jobs_at Bmc d) report.ends
-    ++ unless_decided verdict (lane_lines name report.lane (jobs_at Bmc d) report.ends) ++ shown)
-HasJobLines Prove name text report body = ⊥
-HasJobLines Cover name text report body = ⊥
+HasJobLines mode name text report body =
+    (d : DesignOf) × (verdict : Option Verdict) × (shown : List (List ℕ)) × Reads text d × AreDecided mode (map answer_of report.ends) verdict
+    × HasVerdictLines mode d name report.ends verdict shown
+    × (body ≡ job_lines mode d name report.lane report.ends verdict shown)
 
 -- the lines before the last: that of a fault before the lanes; or those of the design and its jobs
 abbrev pub HasBody : Mode → List ℕ → List ℕ → Option Early → List (ReportOf FindingOf) → List (List ℕ) → Type 0

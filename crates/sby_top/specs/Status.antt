@@ -11,6 +11,7 @@ use Rattle.sby_terms.specs.declared.names.Answer.TheVariants.{Sat, Unsat}
 use Rattle.sby_terms.specs.declared.names.Event.{Event}
 use Rattle.sby_terms.specs.declared.names.Event.TheVariants.{Quiet, Fault, Stopped as StoppedEvent, Memory as MemoryEvent}
 use Rattle.sby_terms.specs.declared.names.Mode.{Mode}
+use Rattle.sby_terms.specs.declared.names.Mode.TheVariants.{Bmc, Prove, Cover}
 use Rattle.sby_terms.specs.declared.names.Status.{Status}
 use Rattle.sby_terms.specs.declared.names.Status.TheVariants.{Pass, Fail, Error, Memory}
 use Rattle.sby_terms.specs.declared.names.Verdict.{Verdict}
@@ -49,6 +50,15 @@ event_of MemoryEnd = MemoryEvent
 abbrev pub status_for : Answer → Status
 status_for Unsat = Pass
 status_for Sat = Fail
+
+-- the answers that have a line: all, but in prove none behind Base's where that is Sat
+abbrev pub told_answers : Mode → List (Option Answer) → List (Option Answer)
+told_answers Bmc answers = answers
+told_answers Prove [] = []
+told_answers Prove (None ∷ answers) = None ∷ answers
+told_answers Prove (Some Unsat ∷ answers) = Some Unsat ∷ answers
+told_answers Prove (Some Sat ∷ answers) = Some Sat ∷ []
+told_answers Cover answers = answers
 
 -- the answers decide this verdict, or none
 abbrev pub AreDecided : Mode → List (Option Answer) → Option Verdict → Type 0

@@ -1,5 +1,5 @@
 -- What the steps of a task answer, for the contracts of private functions.
-use Rattle.std.specs.Prelude.{◌≡◌, ℕ, ◌+◌, ◌<◌, Bool, List, [], ◌∷◌, ◌++◌, length, take, string_bytes, Option, Some, None, IfSome, MatchOption, Result, Ok, Err}
+use Rattle.std.specs.Prelude.{◌≡◌, ℕ, ◌+◌, ◌<◌, ◌≤◌, Bool, List, [], ◌∷◌, length, map, replicate, slice_get, take, string_bytes, vec_capacity, Option, Some, None, IfSome, MatchOption, Result, Ok, Err}
 use Rattle.sby_edge.specs.Cause.{Rose}
 use Rattle.sby_edge.specs.Files.{Store}
 use Rattle.sby_edge.specs.declared.outside.Got.{Got}
@@ -9,11 +9,12 @@ use Rattle.judge.specs.Fault.{IsProblemFault}
 use Rattle.judge.specs.Finding.{FindingOf, IsTrueFinding}
 use Rattle.judge.specs.Judging.{Finds, FindsRun, JudgeOf, fate_told}
 use Rattle.stream_judge.specs.Numbers.{number_of}
-use Rattle.judge.specs.Problem.{AskedOf, IsJobFile}
+use Rattle.judge.specs.Problem.{AskedOf, IsJobFile, IsProblem}
 use Rattle.judge.specs.declared.judging.Progress.{Progress}
 use Rattle.judge.specs.declared.judging.Progress.TheVariants.{More, Done, Unknown as UnknownProgress}
 use Rattle.judge.specs.declared.problem.ProblemFault.TheVariants.{Read as ReadFault, Design as DesignFault, TooMany as TooManyFault}
 use Rattle.stream_judge.specs.declared.stream.BadCert.{BadCert}
+use Rattle.race_core.specs.Report.{no_events}
 use Rattle.race_core.specs.declared.end.JobEnd.{JobEnd}
 use Rattle.race_core.specs.declared.end.JobEnd.TheVariants.{Found, Unknown, NotServed, Bad, Stopped}
 use Rattle.design_meaning.specs.Meaning.{Broken}
@@ -21,14 +22,13 @@ use Rattle.design_meaning.specs.Runs.{CycleOf, IsRunOf}
 use Rattle.design_core.specs.Shape.{DesignOf}
 use Rattle.sby_terms.specs.Problem.{ProblemOf}
 use Rattle.sby_terms.specs.declared.names.JobName.{JobName}
-use Rattle.sby_terms.specs.declared.names.JobName.TheVariants.{Base}
 use Rattle.sby_top.specs.Broken.{HasBrokenLines, last_of}
-use Rattle.sby_top.specs.Judged.{EndsWithRun, IsEndOf, IsFateEnd, IsFindingOf}
-use Rattle.sby_top.specs.Lines.{end_text, lane_line, settled_line}
-use Rattle.sby_top.specs.Served.{IsGot, most_stream}
-use Rattle.sby_top.specs.Status.{answer_of}
-use Rattle.sby_top.specs.Texts.{design_text, line_of}
-use Rattle.sby_top.specs.declared.counts.Counts.{Counts}
+use Rattle.sby_top.specs.Judged.{EndsWithRun, IsEndOf, IsFateEnd, IsFindingOf, IsJudged}
+use Rattle.sby_top.specs.Served.{ArePut, IsGot, jobs_in, most_stream}
+use Rattle.sby_top.specs.Status.{answer_of, event_of}
+use Rattle.sby_top.specs.Texts.{job_path}
+use Rattle.sby_top.specs.declared.serve.Served.{Served}
+use Rattle.sby_top.specs.declared.serve.Tables.{Tables}
 use Rattle.sby_top.specs.declared.outcome.Early.{Early}
 use Rattle.sby_top.specs.declared.outcome.Early.TheVariants.{File, Read, Design, TooMany, Streams, Memory}
 
@@ -55,12 +55,25 @@ IsRefusal p Memory = Unit {0}
 IsRefusal p (File path) = ⊥
 IsRefusal p Streams = ⊥
 
--- the first stream was got, or there is none
-abbrev pub IsFirstGot : Option Store → List (List ℕ) → Option (List ℕ) → Type 0
-IsFirstGot told [] None = Unit {0}
-IsFirstGot told (path ∷ paths) (Some bytes) = IsGot told path most_stream bytes
-IsFirstGot told [] (Some bytes) = ⊥
-IsFirstGot told (path ∷ paths) None = ⊥
+-- the stream at a path was got, or there is none
+abbrev pub IsStreamGot : Option Store → Option (List ℕ) → Option (List ℕ) → Type 0
+IsStreamGot told None None = Unit {0}
+IsStreamGot told (Some path) (Some bytes) = IsGot told path most_stream bytes
+IsStreamGot told None (Some bytes) = ⊥
+IsStreamGot told (Some path) None = ⊥
+
+-- the stream at a job's path was judged, or it has none
+abbrev pub IsPathJudged : AskedOf → Option Store → JobName → Option (List ℕ) → JobEnd FindingOf → Type 0
+IsPathJudged p told job None end = end ≡ NotServed
+IsPathJudged p told job (Some path) end = IsJudged p told job path end
+
+-- the call for the file of the job at a place failed, when the files of the jobs before it were put; or memory was wanting
+pub record IsPutFailed (p : AskedOf) (folder : List ℕ) (before after : Option Store) (faults_before faults : ℕ) (blamed : Option (List ℕ)) (early : Early) : Type 0 where
+  pub place : ℕ
+  pub job : JobName
+  pub at : slice_get (jobs_in p) place ≡ Some job
+  pub failed : IsFailedCall faults_before faults blamed (job_path folder job) early
+  pub put : ArePut p folder (take place (jobs_in p)) before after
 
 -- the finding of an end, if it is one, is true
 abbrev pub IsTrueEnd : JobEnd FindingOf → Type 0
@@ -73,10 +86,12 @@ IsLined p job (Found f) = IsFindingOf p job f
 IsLined p job (Stopped reading) = ⊥
 IsLined p job _ = Unit {0}
 
--- of the one job Base
-abbrev pub AreLined : AskedOf → List (JobEnd FindingOf) → Type 0
-AreLined p [] = Unit {0}
-AreLined p (end ∷ ends) = IsLined p (Base 0) end × AreLined p ends
+-- each job has such an end, in the order of the jobs
+abbrev pub AreLined : AskedOf → List JobName → List (JobEnd FindingOf) → Type 0
+AreLined p [] [] = Unit {0}
+AreLined p [] (end ∷ ends) = ⊥
+AreLined p (job ∷ jobs) [] = ⊥
+AreLined p (job ∷ jobs) (end ∷ ends) = IsLined p job end × AreLined p jobs ends
 
 -- a run of this design's lengths, whose last cycle breaks an assertion
 pub record Breaks (d : DesignOf) (run : List CycleOf) : Type 0 where
@@ -117,7 +132,17 @@ abbrev pub IsStreamJudged : AskedOf → JobName → Option (List ℕ) → JobEnd
 IsStreamJudged p job None end = end ≡ NotServed
 IsStreamJudged p job (Some bytes) end = IsBytesJudged p job bytes end
 
--- the lines of a design and of its one job Base, which a lane ended so
-abbrev pub one_job_body : List ℕ → Counts → ℕ → JobEnd FindingOf → List (List ℕ)
-one_job_body name counts lane end =
-    line_of name (design_text counts) ∷ (settled_line name (Base 0) (answer_of end) ++ lane_line name lane (Base 0) (end_text end))
+-- room for so many jobs: an empty report, and empty tables
+pub record IsEmptyTables (jobs : ℕ) (tables : Tables) : Type 0 where
+  pub report : tables.report ≡ record { lane = 0; jobs = jobs; ends = []; events = replicate jobs no_events }
+  pub answers : tables.answers.items ≡ []
+  pub events : tables.events.items ≡ []
+  pub room_for_answers : jobs ≤ vec_capacity tables.answers
+  pub room_for_events : jobs ≤ vec_capacity tables.events
+
+-- a task whose design was accepted and whose streams were judged: what is known of its problem, the ends of its jobs, and their tables
+pub record IsJudgedTask (s : Served) : Type 0 where
+  pub problem : IsProblem s.problem
+  pub lined : AreLined s.problem (jobs_in s.problem) s.report.ends
+  pub answers : s.answers.items ≡ map answer_of s.report.ends
+  pub events : s.events.items ≡ map event_of s.report.ends

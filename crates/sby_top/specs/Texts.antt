@@ -123,6 +123,12 @@ memory_text = codes "out of memory"
 unfoldable pub broken_text : List ℕ → ℕ → List ℕ
 broken_text name cycle = codes "broken: " ++ name ++ codes " at cycle " ++ decimal cycle
 
+unfoldable pub reached_text : List ℕ → ℕ → List ℕ
+reached_text name cycle = codes "reached: " ++ name ++ codes " at cycle " ++ decimal cycle
+
+unfoldable pub unreached_text : List ℕ → List ℕ
+unreached_text name = codes "unreached: " ++ name
+
 unfoldable pub done_text : List ℕ → ℕ → List ℕ
 done_text status rc = codes "DONE (" ++ status ++ codes ", rc=" ++ decimal rc ++ codes ")"
 

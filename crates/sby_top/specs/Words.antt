@@ -84,7 +84,7 @@ pub record IsDepth (word : List ℕ) (depth : ℕ) : Type 0 where
   pub least : 1 ≤ depth
   pub most : depth ≤ 1000
 
--- the matches ask `--judge DESIGN bmc DEPTH [STREAM ..]`, with no other of the three flags and no BTOR2 witness
+-- the matches ask `--judge DESIGN MODE DEPTH [STREAM ..]`, with no other of the three flags and no BTOR2 witness
 pub record Judges (rows : List Row) (r : Request) : Type 0 where
   pub judge : IsGiven (codes "judge") rows
   pub dumptasks : IsGiven (codes "dumptasks") rows → ⊥
@@ -92,7 +92,6 @@ pub record Judges (rows : List Row) (r : Request) : Type 0 where
   pub word : List ℕ
   pub list : all_of (codes "words") rows ≡ Some (r.design ∷ mode_word r.mode ∷ word ∷ r.streams)
   pub depth : IsDepth word r.depth
-  pub served : r.mode ≡ Bmc
   pub folder : IsFolder (first_of (codes "folder") rows) r.design r.folder
   pub certificates : All (λ stream. EndsIn (codes ".wit") stream → ⊥) r.streams
 

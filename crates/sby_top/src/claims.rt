@@ -1,11 +1,11 @@
 // What is claimed of a call of the program, one claim each. Each law stands on what `run_sby` ensures, and its body is empty.
 
 ghost use Rattle.std.specs.Prelude.{◌≡◌, ◌⊎◌, ℕ, List, Contains};
-ghost use Rattle.design_meaning.specs.Claims.{NoBreak};
+ghost use Rattle.design_meaning.specs.Claims.{NeverBreak, NoBreak};
 ghost use Rattle.design_core.specs.Shape.{DesignOf};
-ghost use Rattle.sby_terms.specs.declared.names.Mode.TheVariants.{Bmc};
+ghost use Rattle.sby_terms.specs.declared.names.Mode.TheVariants.{Bmc, Prove, Cover};
 ghost use Rattle.sby_terms.specs.declared.names.Status.TheVariants.{Pass, Fail};
-ghost use Rattle.sby_top.specs.Claims.{IsDesignOf, IsEvent, IsShownBreak, IsTaskOf};
+ghost use Rattle.sby_top.specs.Claims.{AreShownReaches, IsDesignOf, IsEvent, IsNamedUnreached, IsShownBreak, IsTaskOf};
 ghost use Rattle.sby_top.specs.Headline.{Exit, IsPrinted};
 ghost use Rattle.sby_top.specs.Run.{Did, IsNothing, UsageAlone, rc_of_exit};
 ghost use Rattle.sby_top.specs.Served.{IsStored};
@@ -34,6 +34,37 @@ pub fn fail_of_bmc_shows_its_run()
     ensures { (before after start finish : World) (words : List (List ℕ)) (done : Done) (request : Request) (end : TaskEnd)
         → IsTaskOf before after words done start finish request end → end.status ≡ Fail → request.mode ≡ Bmc
         → IsShownBreak start finish request end }
+{}
+
+/// PASS of prove: the text that the design's path gave reads a flat design of which no run breaks an assertion, whatever its length.
+pub fn pass_of_prove_is_true()
+    ensures { (before after start finish : World) (words : List (List ℕ)) (done : Done) (request : Request) (end : TaskEnd)
+        → IsTaskOf before after words done start finish request end → end.status ≡ Pass → request.mode ≡ Prove
+        → (d : DesignOf) × IsDesignOf start request d × NeverBreak d }
+{}
+
+/// FAIL of prove shows a run, as FAIL of bmc does.
+pub fn fail_of_prove_shows_its_run()
+    ensures { (before after start finish : World) (words : List (List ℕ)) (done : Done) (request : Request) (end : TaskEnd)
+        → IsTaskOf before after words done start finish request end → end.status ≡ Fail → request.mode ≡ Prove
+        → IsShownBreak start finish request end }
+{}
+
+/// PASS of cover shows runs: for each cover statement of the flat design that the path's text reads one of at most the depth's cycles,
+/// all of them assumed, whose last reaches the statement. The lines name each statement and show its run, and the sink has them, or a
+/// part of them where a call of it failed.
+pub fn pass_of_cover_shows_its_runs()
+    ensures { (before after start finish : World) (words : List (List ℕ)) (done : Done) (request : Request) (end : TaskEnd)
+        → IsTaskOf before after words done start finish request end → end.status ≡ Pass → request.mode ≡ Cover
+        → AreShownReaches start finish request end }
+{}
+
+/// FAIL of cover names a statement: of the flat design that the path's text reads one that no run of at most the depth's cycles reaches.
+/// The lines name it, and the sink has them, or a part of them where a call of it failed.
+pub fn fail_of_cover_names_a_statement()
+    ensures { (before after start finish : World) (words : List (List ℕ)) (done : Done) (request : Request) (end : TaskEnd)
+        → IsTaskOf before after words done start finish request end → end.status ≡ Fail → request.mode ≡ Cover
+        → IsNamedUnreached start finish request end }
 {}
 
 /// Each other status names its event: UNKNOWN that each job without an answer has an end that tells no fault; ERROR a fault before the

@@ -72,7 +72,8 @@ fn register_bits(cells: &[Cell]) -> u128
     bits
 }
 
-fn is_statement(statement: Statement, kind: Kind) -> bool
+/// Whether a cell's type is this statement's.
+pub fn is_statement(statement: Statement, kind: Kind) -> bool
     ensures { result ≡ is_statement statement kind }
 {
     match kind {

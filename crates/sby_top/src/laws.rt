@@ -4,6 +4,8 @@ ghost use Rattle.std.specs.Prelude.{◌≡◌, ◌≢◌, ◌⊎◌, ◌<◌, �
 ghost use Rattle.cert_stream.specs.Text.{is_blank};
 ghost use Rattle.stream_judge.specs.Cert.{IsCert};
 ghost use Rattle.stream_judge.specs.Fate.{Found, IsFate};
+ghost use Rattle.design_core.specs.Shape.{DesignOf};
+ghost use Rattle.design_reader.specs.Grammar.{Reads};
 ghost use Rattle.judge.specs.Fault.{IsProblemFault};
 ghost use Rattle.judge.specs.declared.problem.ProblemFault.{ProblemFault};
 ghost use Rattle.sby_edge.specs.Files.{Store};
@@ -12,7 +14,7 @@ ghost use Rattle.sby_terms.specs.declared.names.JobName.TheVariants.{Base};
 ghost use Rattle.sby_terms.specs.declared.names.Mode.TheVariants.{Bmc};
 ghost use Rattle.sby_terms.specs.declared.names.Status.TheVariants.{Memory};
 ghost use Rattle.sby_top.specs.Headline.{Exit, IsSmooth, TaskRan};
-ghost use Rattle.sby_top.specs.Served.{IsGot, most_design, most_stream, problem_of};
+ghost use Rattle.sby_top.specs.Served.{IsGot, jobs_at, most_design, most_stream, problem_of};
 ghost use Rattle.sby_top.specs.Status.{status_for};
 ghost use Rattle.sby_top.specs.Texts.{job_path};
 ghost use Rattle.sby_top.specs.Words.{Request};
@@ -23,12 +25,16 @@ use judge::one_file;
 use stream_judge::{certificate_is_found, certificate_is_found_before_more, one_fate};
 
 /// A design that is not refused is judged: over a store that tells, where no call failed and memory was not wanting, and where there is
-/// one stream at most, the task comes to its lane.
+/// a job for each stream, the task comes to its lane; in bmc where there is one stream at most.
 pub fn accepted_design_is_judged()
-    ensures { (before after : World) (request : Request) (end : TaskEnd) (exit : Exit) (store now : Store) (text : List ℕ)
+    ensures bmc { (before after : World) (request : Request) (end : TaskEnd) (exit : Exit) (store now : Store) (text : List ℕ)
         → TaskRan before after request end exit → IsSmooth before after end → before.told ≡ Some store → after.told ≡ Some now → request.mode ≡ Bmc
         → IsGot (Some store) request.design most_design text → ((fault : ProblemFault) → IsProblemFault (problem_of request text) fault → ⊥)
         → length request.streams ≤ 1 → end.early ≡ None }
+    ensures every { (before after : World) (request : Request) (end : TaskEnd) (exit : Exit) (store now : Store) (text : List ℕ) (d : DesignOf)
+        → TaskRan before after request end exit → IsSmooth before after end → before.told ≡ Some store → after.told ≡ Some now
+        → IsGot (Some store) request.design most_design text → ((fault : ProblemFault) → IsProblemFault (problem_of request text) fault → ⊥)
+        → Reads text d → length request.streams ≤ length (jobs_at request.mode d) → end.early ≡ None }
 {}
 
 /// A valid certificate gives its verdict, PASS for Unsat and FAIL for Sat: over a store that tells, where the task came to its lane and

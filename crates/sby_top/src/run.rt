@@ -1,27 +1,25 @@
 // The top call.
 
-ghost use Rattle.std.specs.Prelude.{◌≡◌, ◌⊎◌, ◌≤◌, [], ◌∷◌, IfOk, None, Some, length, map, string_bytes, vec_capacity};
-ghost use Rattle.judge.specs.Problem.{IsProblem};
+ghost use Rattle.std.specs.Prelude.{◌≡◌, ◌⊎◌, ◌≤◌, [], ◌∷◌, IfOk, None, Some, map, string_bytes, vec_capacity};
 ghost use Rattle.sby_edge.specs.Cause.{Rose};
 ghost use Rattle.sby_edge.specs.Sink.{AreAll};
-ghost use Rattle.sby_terms.specs.declared.names.Mode.TheVariants.{Bmc};
 ghost use Rattle.sby_terms.specs.declared.names.Status.TheVariants.{Pass};
 ghost use Rattle.sby_top.specs.Askable.{IsAskable};
 ghost use Rattle.sby_top.specs.End.{IsEnd, IsPrintedAs, IsRoom, ended};
 ghost use Rattle.sby_top.specs.Headline.{Exit, TaskRan};
 ghost use Rattle.sby_top.specs.Run.{Did, IsDoneAs, rc_of_exit};
-ghost use Rattle.sby_top.specs.Steps.{AreLined};
+ghost use Rattle.sby_top.specs.Steps.{IsJudgedTask};
 ghost use Rattle.sby_top.specs.Telling.{GrownBySome, grown};
 ghost use Rattle.sby_top.specs.Texts.{usage_line};
 
 use crate::outcome::{Done, Early, TaskEnd};
 use crate::serve::{Served, serve};
-use crate::status::{early_status, end_status};
+use crate::status::{early_status, verdict_of};
 use crate::tell::{Stop, offer};
 use crate::tell_task::{tell_early, tell_served};
 use crate::text;
 use crate::words::{TaskRequest, asked_of};
-use judge::{Finding, Text};
+use judge::{Finding, Text, base_and_step_show_that_nothing_breaks};
 use race_core::Report;
 use sby_edge::{Clock, Files, Sink, Yard};
 use sby_terms::{Expect, Status, rc_of};
@@ -32,7 +30,6 @@ use std::alloc::{AllocError, Global};
 struct Room {
     name: String,
     expect: Expect,
-    report: Report<Finding>,
     reports: Vec<Report<Finding>>,
 }
 
@@ -43,7 +40,6 @@ impl Room {
         Ok(Room {
             name: String::from_str(alloc, folder)?,
             expect: Expect::new(vec![in alloc; Status::Pass]?),
-            report: Report::new(alloc, 0, 1)?,
             reports: Vec::with_capacity(alloc, 1)?,
         })
     }
@@ -91,7 +87,7 @@ fn finish_early<S: Sink>(
     (end, rc)
 }
 
-// Prints the lines of a task whose one job has an end.
+// Prints the lines of a task whose jobs have ends.
 fn finish_served<S: Sink>(
     alloc: Global,
     out: &mut S,
@@ -102,33 +98,24 @@ fn finish_served<S: Sink>(
     reports: Vec<Report<Finding>>,
 ) -> (TaskEnd, u8)
     requires name { string_bytes name ≡ asked.now.folder }
-    requires mode { asked.now.mode ≡ Bmc }
+    requires mode { served.problem.problem.mode ≡ asked.now.mode }
     requires expect { expect.now ≡ Pass ∷ [] }
-    requires one { length served.report.ends ≡ 1 }
-    requires problem { IsProblem served.problem }
-    requires lined { AreLined served.problem served.report.ends }
+    requires task { IsJudgedTask served }
     requires none { reports.items ≡ [] }
     requires room { 1 ≤ vec_capacity reports }
     ensures end { IsEnd asked.now None served.problem.problem.text (served.report ∷ []) result.0 }
     ensures printed { IsPrintedAs (S.taken out.old) (S.taken out.new) (S.faults out.old) (S.faults out.new) (S.ended out.new) asked.now result.0 result.1 }
     ensures later { S.faults out.old ≤ S.faults out.new }
 {
-    let Served { problem, report } = served;
-    let ends = report.ends();
-    let end = &ends[0];
-    let decided = end_status(asked.mode, end);
+    let (verdict, decided) = verdict_of(asked.mode, &served.answers, &served.events);
     let rc = rc_of(expect, decided);
-    let told = tell_served(
-        alloc,
-        out,
-        name.as_str(),
-        &problem,
-        report.lane(),
-        end,
-        decided,
-        rc,
-    );
+    let told = tell_served(alloc, out, name.as_str(), &served, verdict, decided, rc);
     let (status, rc) = ended(told, decided, rc);
+    let Served {
+        problem,
+        report,
+        ..
+    } = served;
     let mut reports = reports;
     reports.push(report).unwrap();
     let end = TaskEnd {
@@ -163,10 +150,11 @@ fn run_task<F: Files, S: Sink>(
     let Room {
         name,
         expect,
-        report,
         reports,
     } = room;
-    match serve(alloc, files, asked, report) {
+    // PASS of prove stands on this law.
+    base_and_step_show_that_nothing_breaks();
+    match serve(alloc, files, asked) {
         Ok(served) => finish_served(alloc, out, asked, name, &expect, served, reports),
         Err(early) => finish_early(alloc, out, asked, name, &expect, early),
     }
@@ -227,8 +215,8 @@ fn run_usage<S: Sink>(alloc: Global, out: &mut S) -> Done
 /// Does all that the program `sby` does: `words` are its arguments, `files` and `out` the file store and the output that it uses. It
 /// answers the exit status, and what each task came to.
 ///
-/// Served are `[-f] [-d DIR] --judge DESIGN bmc DEPTH [STREAM ..]`; all other words are refused. No children are started, and no
-/// clock is read. Want of memory is told in the answer: status MEMORY, exit status 32.
+/// Served are `[-f] [-d DIR] --judge DESIGN MODE DEPTH [STREAM ..]`, one stream for each job in the order of the jobs; all other words
+/// are refused. No children are started, and no clock is read. Want of memory is told in the answer: status MEMORY, exit status 32.
 pub fn run_sby<R, F: Files, S: Sink, Y: Yard, C: Clock>(
     _rt: &R,
     alloc: Global,

@@ -1,15 +1,16 @@
 // The status of a task.
 
-ghost use Rattle.std.specs.Prelude.{◌≡◌, [], ◌∷◌, List};
+ghost use Rattle.std.specs.Prelude.{◌≡◌, ◌≤◌, [], List, length, map, vec_capacity};
 ghost use Rattle.judge.specs.Finding.{FindingOf};
 ghost use Rattle.race_core.specs.Report.{ReportOf};
 ghost use Rattle.sby_terms.specs.declared.names.Mode.{Mode};
-ghost use Rattle.sby_top.specs.Status.{IsStatus, IsStatusOf, answer_of, event_of};
+ghost use Rattle.sby_terms.specs.Status.{HasStatus};
+ghost use Rattle.sby_top.specs.Status.{AreDecided, IsStatus, answer_of, event_of, told_answers};
 
 use crate::outcome::Early;
 use judge::Finding;
 use race_core::JobEnd;
-use sby_terms::{Answer, Event, Mode, Status, decide, status_of};
+use sby_terms::{Answer, Event, Mode, Status, Verdict, decide, status_of};
 
 /// The answer that a job's end gives.
 pub fn answer_of(end: &JobEnd<Finding>) -> Option<Answer>
@@ -58,10 +59,51 @@ pub fn early_status(early: &Early) -> Status
     }
 }
 
-/// The status of a task with one job, which ended so.
-pub fn end_status(mode: Mode, end: &JobEnd<Finding>) -> Status
-    ensures { IsStatusOf mode (answer_of end.now ∷ []) (event_of end.now ∷ []) result }
+/// The answers that the ends of jobs give, in a table with room for them.
+pub fn answers_of(ends: &[JobEnd<Finding>], table: Vec<Option<Answer>>) -> Vec<Option<Answer>>
+    requires empty { table.items ≡ [] }
+    requires room { length ends.now ≤ vec_capacity table }
+    ensures { result.items ≡ map answer_of ends.now }
 {
-    let decided = decide(mode, &[answer_of(end)]);
-    status_of(decided, &[event_of(end)])
+    let mut answers = table;
+    for end in ends {
+        answers.push(answer_of(end)).unwrap();
+    }
+    answers
+}
+
+/// What the ends of jobs say to the status, in a table with room for it.
+pub fn events_of(ends: &[JobEnd<Finding>], table: Vec<Event>) -> Vec<Event>
+    requires empty { table.items ≡ [] }
+    requires room { length ends.now ≤ vec_capacity table }
+    ensures { result.items ≡ map event_of ends.now }
+{
+    let mut events = table;
+    for end in ends {
+        events.push(event_of(end)).unwrap();
+    }
+    events
+}
+
+/// The verdict that the answers decide, if they do, and the status that it gives with the events.
+pub fn verdict_of(
+    mode: Mode,
+    answers: &[Option<Answer>],
+    events: &[Event],
+) -> (Option<Verdict>, Status)
+    ensures decided { AreDecided mode answers.now result.0 }
+    ensures status { HasStatus result.0 events.now result.1 }
+{
+    let verdict = decide(mode, answers);
+    (verdict, status_of(verdict, events))
+}
+
+/// The answers that have a line: all, but in prove none behind Base's where that is Sat.
+pub fn told_answers(mode: Mode, answers: &[Option<Answer>]) -> &[Option<Answer>]
+    ensures { result.now ≡ told_answers mode answers.now }
+{
+    match (mode, answers) {
+        (Mode::Prove, [Some(Answer::Sat), ..]) => answers.split_at(1).0,
+        (Mode::Bmc | Mode::Prove | Mode::Cover, _) => answers,
+    }
 }

@@ -49,7 +49,8 @@ fn tell_assertion<S: Sink>(
     }
 }
 
-fn tell_trace<S: Sink>(alloc: Global, out: &mut S, flat: &Flat, run: &Run) -> Result<(), Stop>
+/// Offers the lines of a run's trace.
+pub fn tell_trace<S: Sink>(alloc: Global, out: &mut S, flat: &Flat, run: &Run) -> Result<(), Stop>
     requires rows { IsRunOf flat.now run.now }
     requires some { 0 < length run.now }
     ensures { (lines : List (List ℕ)) → AreLinesOf (trace flat.now (shown_of run.now)) lines
@@ -76,8 +77,8 @@ fn tell_broken<S: Sink>(
     tell_trace(alloc, out, flat, run)
 }
 
-// The cycles of a run, all at once.
-fn whole_run(alloc: Global, played: &PlayedRun) -> Result<Run, AllocError>
+/// The cycles of a run, all at once.
+pub fn whole_run(alloc: Global, played: &PlayedRun) -> Result<Run, AllocError>
     ensures { IfOk result (λ run. run ≡ played.now) }
 {
     let mut run = Run::new(alloc);

@@ -1,24 +1,26 @@
 // The lines of a task.
 
-ghost use Rattle.std.specs.Prelude.{◌≡◌, ◌≢◌, [], ◌∷◌, ◌++◌, ℕ, List, IfOk, None, OnErr, option_map, string_bytes};
-ghost use Rattle.sby_top.specs.Lines.{done_line, early_text, end_text, lane_line, line_if, settled_line};
-ghost use Rattle.sby_terms.specs.declared.names.JobName.TheVariants.{Base};
-ghost use Rattle.sby_top.specs.Counts.{counts_of};
-ghost use Rattle.sby_top.specs.Steps.{HasEndLines, IsLined, one_job_body};
-ghost use Rattle.sby_top.specs.Status.{answer_of};
+ghost use Rattle.std.specs.Prelude.{◌≡◌, ◌≢◌, ◌≤◌, [], ◌∷◌, ◌++◌, ℕ, List, IfOk, None, OnErr, length, option_map, string_bytes};
+ghost use Rattle.sby_top.specs.Lines.{HasRunLines, HasVerdictLines, done_line, early_text, end_text, job_lines, lane_line, lane_lines, line_if, settled_line, settled_lines, unless_decided};
+ghost use Rattle.sby_terms.specs.declared.names.Mode.TheVariants.{Cover as CoverMode};
+ghost use Rattle.sby_top.specs.Served.{jobs_in};
+ghost use Rattle.sby_top.specs.Status.{told_answers};
+ghost use Rattle.sby_top.specs.Steps.{AreLined, IsJudgedTask};
 ghost use Rattle.sby_top.specs.Telling.{Tells};
 ghost use Rattle.sby_top.specs.Texts.{answer_text, design_text, job_text, lane_text, line_of, settled_text};
 
 use crate::counts::{Counts, counts_of};
 use crate::outcome::Early;
-use crate::status::answer_of;
+use crate::serve::Served;
+use crate::status::told_answers;
 use crate::tell::{Stop, tell_line, tell_line_if};
+use crate::tell_covers::tell_covers;
 use crate::tell_run::tell_run;
 use crate::{ends, text};
 use judge::{Finding, Problem};
 use race_core::JobEnd;
 use sby_edge::Sink;
-use sby_terms::{Answer, JobName, Status};
+use sby_terms::{Answer, JobName, Mode, Status, Verdict};
 use std::alloc::{AllocError, Global};
 
 fn tell_done<S: Sink>(
@@ -82,17 +84,34 @@ fn tell_settled<S: Sink>(
     out: &mut S,
     name: &str,
     job: JobName,
-    end: &JobEnd<Finding>,
+    answer: Option<Answer>,
 ) -> Result<(), Stop>
-    ensures { Tells (S.taken out.old) (S.taken out.new) (S.faults out.old) (S.faults out.new) (S.ended out.new) (settled_line name.now job (answer_of end.now)) result }
+    ensures { Tells (S.taken out.old) (S.taken out.new) (S.faults out.old) (S.faults out.new) (S.ended out.new) (settled_line name.now job answer) result }
 {
-    match answer_of(end) {
+    match answer {
         Some(answer) => match settled_text(alloc, job, answer) {
             Ok(text) => tell_line(alloc, out, name, text.as_str()),
             Err(_) => Err(Stop::Memory),
         },
         None => Ok(()),
     }
+}
+
+// The lines of the settled jobs, by the answers from that of the first job on.
+fn tell_answers<S: Sink>(
+    alloc: Global,
+    out: &mut S,
+    name: &str,
+    problem: &Problem,
+    answers: &[Option<Answer>],
+) -> Result<(), Stop>
+    requires { length answers.now ≤ length (jobs_in problem.now) }
+    ensures { Tells (S.taken out.old) (S.taken out.new) (S.faults out.old) (S.faults out.new) (S.ended out.new) (settled_lines name.now (jobs_in problem.now) answers.now) result }
+{
+    for place in 0..answers.len() {
+        tell_settled(alloc, out, name, problem.job(place), answers[place])?;
+    }
+    Ok(())
 }
 
 // What is printed of a lane's end, where something is.
@@ -132,71 +151,126 @@ fn tell_lane<S: Sink>(
     }
 }
 
-// The line of a job: that of its answer, or of the lane's end.
-fn tell_end<S: Sink>(
+// The lines of a lane's unsettled jobs.
+fn tell_ends<S: Sink>(
     alloc: Global,
     out: &mut S,
     name: &str,
     lane: u32,
-    job: JobName,
-    end: &JobEnd<Finding>,
+    problem: &Problem,
+    ends: &[JobEnd<Finding>],
 ) -> Result<(), Stop>
+    requires { length ends.now ≤ length (jobs_in problem.now) }
+    ensures { Tells (S.taken out.old) (S.taken out.new) (S.faults out.old) (S.faults out.new) (S.ended out.new) (lane_lines name.now lane (jobs_in problem.now) ends.now) result }
+{
+    for place in 0..ends.len() {
+        tell_lane(alloc, out, name, lane, problem.job(place), &ends[place])?;
+    }
+    Ok(())
+}
+
+// The same where there is no verdict, and no lines where there is one.
+fn tell_undecided<S: Sink>(
+    alloc: Global,
+    out: &mut S,
+    name: &str,
+    served: &Served,
+    verdict: Option<Verdict>,
+) -> Result<(), Stop>
+    requires { IsJudgedTask served.now }
     ensures { Tells (S.taken out.old) (S.taken out.new) (S.faults out.old) (S.faults out.new) (S.ended out.new)
-        (settled_line name.now job (answer_of end.now) ++ lane_line name.now lane job (end_text end.now)) result }
+        (unless_decided verdict (lane_lines name.now served.now.report.lane (jobs_in served.now.problem) served.now.report.ends)) result }
 {
-    tell_settled(alloc, out, name, job, end)?;
-    tell_lane(alloc, out, name, lane, job, end)
+    match verdict {
+        None => tell_ends(
+            alloc,
+            out,
+            name,
+            served.report.lane(),
+            &served.problem,
+            served.report.ends(),
+        ),
+        Some(_) => Ok(()),
+    }
 }
 
-fn tell_body<S: Sink>(
+// The line of each settled job, and without a verdict that of each unsettled one.
+fn tell_jobs<S: Sink>(
     alloc: Global,
     out: &mut S,
     name: &str,
-    counts: &Counts,
-    lane: u32,
-    end: &JobEnd<Finding>,
+    served: &Served,
+    verdict: Option<Verdict>,
 ) -> Result<(), Stop>
-    ensures { Tells (S.taken out.old) (S.taken out.new) (S.faults out.old) (S.faults out.new) (S.ended out.new) (one_job_body name.now counts.now lane end.now) result }
+    requires { IsJudgedTask served.now }
+    ensures { Tells (S.taken out.old) (S.taken out.new) (S.faults out.old) (S.faults out.new) (S.ended out.new)
+        (settled_lines name.now (jobs_in served.now.problem) (told_answers served.now.problem.problem.mode served.now.answers.items)
+        ++ unless_decided verdict (lane_lines name.now served.now.report.lane (jobs_in served.now.problem) served.now.report.ends)) result }
 {
-    tell_design(alloc, out, name, counts)?;
-    tell_end(alloc, out, name, lane, JobName::Base(0), end)
+    let answers = told_answers(served.problem.mode(), &served.answers);
+    tell_answers(alloc, out, name, &served.problem, answers)?;
+    tell_undecided(alloc, out, name, served, verdict)
 }
 
-// The last lines of a task with one job: those of its run, where there is one, and that of its status.
+// The lines of the run that the finding for Base carries, where the verdict is FAIL.
+fn tell_failure<S: Sink>(
+    alloc: Global,
+    out: &mut S,
+    name: &str,
+    problem: &Problem,
+    ends: &[JobEnd<Finding>],
+    verdict: Option<Verdict>,
+) -> Result<(), Stop>
+    requires mode { problem.now.problem.mode ≢ CoverMode }
+    requires lined { AreLined problem.now (jobs_in problem.now) ends.now }
+    ensures { (lines : List (List ℕ)) → HasRunLines (jobs_in problem.now) problem.now.design name.now ends.now verdict lines
+        → Tells (S.taken out.old) (S.taken out.new) (S.faults out.old) (S.faults out.new) (S.ended out.new) lines result }
+{
+    match verdict {
+        Some(Verdict::Fail) => tell_run(alloc, out, name, problem, &ends[0]),
+        Some(Verdict::Pass) | None => Ok(()),
+    }
+}
+
+// The lines of the runs that findings carry.
 fn tell_verdict<S: Sink>(
     alloc: Global,
     out: &mut S,
     name: &str,
-    problem: &Problem,
-    end: &JobEnd<Finding>,
-    status: Status,
-    rc: u8,
+    served: &Served,
+    verdict: Option<Verdict>,
 ) -> Result<(), Stop>
-    requires { IsLined problem.now (Base 0) end.now }
-    ensures { (shown : List (List ℕ)) → HasEndLines problem.now.design name.now end.now shown
-        → Tells (S.taken out.old) (S.taken out.new) (S.faults out.old) (S.faults out.new) (S.ended out.new) (shown ++ done_line name.now status rc ∷ []) result }
+    requires { IsJudgedTask served.now }
+    ensures { (shown : List (List ℕ)) → HasVerdictLines served.now.problem.problem.mode served.now.problem.design name.now served.now.report.ends verdict shown
+        → Tells (S.taken out.old) (S.taken out.new) (S.faults out.old) (S.faults out.new) (S.ended out.new) shown result }
 {
-    tell_run(alloc, out, name, problem, end)?;
-    tell_done(alloc, out, name, status, rc)
+    let problem = &served.problem;
+    let ends = served.report.ends();
+    match problem.mode() {
+        Mode::Bmc | Mode::Prove => tell_failure(alloc, out, name, problem, ends, verdict),
+        Mode::Cover => tell_covers(alloc, out, name, problem, ends),
+    }
 }
 
-/// Offers the lines of a task with one job, which a lane ended so.
+/// Offers the lines of a task whose streams were judged.
 pub fn tell_served<S: Sink>(
     alloc: Global,
     out: &mut S,
     name: &str,
-    problem: &Problem,
-    lane: u32,
-    end: &JobEnd<Finding>,
+    served: &Served,
+    verdict: Option<Verdict>,
     status: Status,
     rc: u8,
 ) -> Result<(), Stop>
-    requires { IsLined problem.now (Base 0) end.now }
-    ensures { (shown : List (List ℕ)) → HasEndLines problem.now.design name.now end.now shown
+    requires { IsJudgedTask served.now }
+    ensures { (shown : List (List ℕ)) → HasVerdictLines served.now.problem.problem.mode served.now.problem.design name.now served.now.report.ends verdict shown
         → Tells (S.taken out.old) (S.taken out.new) (S.faults out.old) (S.faults out.new) (S.ended out.new)
-        (one_job_body name.now (counts_of problem.now.design) lane end.now ++ (shown ++ done_line name.now status rc ∷ [])) result }
+        (job_lines served.now.problem.problem.mode served.now.problem.design name.now served.now.report.lane served.now.report.ends verdict shown
+        ++ done_line name.now status rc ∷ []) result }
 {
-    let counts = counts_of(problem.flat().design());
-    tell_body(alloc, out, name, &counts, lane, end)?;
-    tell_verdict(alloc, out, name, problem, end, status, rc)
+    let counts = counts_of(served.problem.flat().design());
+    tell_design(alloc, out, name, &counts)?;
+    tell_jobs(alloc, out, name, served, verdict)?;
+    tell_verdict(alloc, out, name, served, verdict)?;
+    tell_done(alloc, out, name, status, rc)
 }

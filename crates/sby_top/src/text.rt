@@ -2,7 +2,7 @@
 
 ghost use Rattle.std.specs.Prelude.{◌≡◌, IfOk, string_bytes};
 ghost use Rattle.sby_top.specs.Lines.{kind_numbered};
-ghost use Rattle.sby_top.specs.Texts.{answer_text, broken_text, cert_kind_text, cert_text, design_kind_text, design_text, done_text, fault_text, file_text, hold_failed_text, job_path, path_text, job_text, lane_text, line_of, memory_text, not_served_text, read_failed_text, read_kind_text, read_text, settled_text, start_failed_text, status_text, streams_text, too_many_text, unknown_text, usage_line};
+ghost use Rattle.sby_top.specs.Texts.{answer_text, broken_text, cert_kind_text, cert_text, design_kind_text, design_text, done_text, fault_text, file_text, hold_failed_text, job_path, path_text, job_text, lane_text, line_of, memory_text, not_served_text, reached_text, read_failed_text, read_kind_text, read_text, settled_text, start_failed_text, status_text, streams_text, too_many_text, unknown_text, unreached_text, usage_line};
 
 use crate::counts::Counts;
 use design_check::fault::FaultKind;
@@ -244,6 +244,20 @@ pub fn broken_text(alloc: Global, name: &str, cycle: usize) -> Result<String, Al
     ensures { IfOk result (λ t. string_bytes t ≡ broken_text name.now cycle) }
 {
     format!(in alloc; "broken: {name} at cycle {cycle}")
+}
+
+#[tactic(auto, unfolding(crate::specs::Texts::reached_text))]
+pub fn reached_text(alloc: Global, name: &str, cycle: usize) -> Result<String, AllocError>
+    ensures { IfOk result (λ t. string_bytes t ≡ reached_text name.now cycle) }
+{
+    format!(in alloc; "reached: {name} at cycle {cycle}")
+}
+
+#[tactic(auto, unfolding(crate::specs::Texts::unreached_text))]
+pub fn unreached_text(alloc: Global, name: &str) -> Result<String, AllocError>
+    ensures { IfOk result (λ t. string_bytes t ≡ unreached_text name.now) }
+{
+    format!(in alloc; "unreached: {name}")
 }
 
 #[tactic(auto, unfolding(crate::specs::Texts::done_text))]

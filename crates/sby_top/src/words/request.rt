@@ -3,8 +3,8 @@
 ghost use Rattle.std.specs.Prelude.{◌≡◌, ◌↔◌, ◌∷◌, [], ℕ, List, All, IsTrue, IfOk, MatchOption, map, option_map, codes, string_bytes, string_bytes};
 ghost use Rattle.clap.specs.Matches.{found_of};
 ghost use Rattle.clap.specs.Walk.{rows_of, first_of, texts};
-ghost use Rattle.sby_terms.specs.declared.names.Mode.TheVariants.{Bmc};
-ghost use Rattle.sby_top.specs.Words.{Request, EndsIn, IsDepth, IsFolder, IsGiven, IsStem, Judges};
+ghost use Rattle.sby_terms.specs.declared.names.Mode.{Mode};
+ghost use Rattle.sby_top.specs.Words.{Request, EndsIn, IsDepth, IsFolder, IsGiven, IsStem, Judges, mode_word};
 
 use super::TaskRequest;
 use clap::ArgMatches;
@@ -16,6 +16,7 @@ use std::alloc::{AllocError, Global};
 struct Parts<'m, 'a> {
     folder: &'a str,
     design: &'a str,
+    mode: Mode,
     depth: u32,
     streams: &'m [&'a str],
 }
@@ -26,6 +27,17 @@ fn is_given(matches: &ArgMatches<'_>, id: &str) -> bool
     match matches.get_str(id) {
         Some(text) => text == "true",
         None => false,
+    }
+}
+
+fn mode_of(word: &str) -> Option<Mode>
+    ensures { MatchOption result ((mode : Mode) → word.now ≡ mode_word mode → ⊥) (λ mode. word.now ≡ mode_word mode) }
+{
+    match word {
+        "bmc" => Some(Mode::Bmc),
+        "prove" => Some(Mode::Prove),
+        "cover" => Some(Mode::Cover),
+        _ => None,
     }
 }
 
@@ -85,7 +97,7 @@ fn parts_of<'m, 'a>(matches: &'m ArgMatches<'a>) -> Option<Parts<'m, 'a>>
         (λ p. Judges (rows_of (found_of matches.entry.now)) (record {
           folder = p.folder.now;
           design = p.design.now;
-          mode = Bmc;
+          mode = p.mode;
           depth = p.depth;
           streams = texts p.streams.now;
         })) }
@@ -99,9 +111,12 @@ fn parts_of<'m, 'a>(matches: &'m ArgMatches<'a>) -> Option<Parts<'m, 'a>>
     let [design, mode, word, streams @ ..] = list else {
         return None;
     };
-    if *mode != "bmc" || !are_certificates(streams) {
+    if !are_certificates(streams) {
         return None;
     }
+    let Some(mode) = mode_of(mode) else {
+        return None;
+    };
     let Some(depth) = depth_of(word) else {
         return None;
     };
@@ -111,6 +126,7 @@ fn parts_of<'m, 'a>(matches: &'m ArgMatches<'a>) -> Option<Parts<'m, 'a>>
     Some(Parts {
         folder,
         design,
+        mode,
         depth,
         streams,
     })
@@ -137,7 +153,7 @@ pub fn asked_by(alloc: Global, matches: &ArgMatches<'_>) -> Result<Option<TaskRe
         Some(parts) => Ok(Some(TaskRequest {
             folder: String::from_str(alloc, parts.folder)?,
             design: String::from_str(alloc, parts.design)?,
-            mode: Mode::Bmc,
+            mode: parts.mode,
             depth: parts.depth,
             streams: owned(alloc, parts.streams)?,
         })),
