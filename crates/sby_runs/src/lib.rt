@@ -6,6 +6,8 @@ mod cell_tests;
 #[cfg(test)]
 mod judge_tests;
 #[cfg(test)]
+mod mode_tests;
+#[cfg(test)]
 mod run_tests;
 #[cfg(test)]
 mod tests;

@@ -151,6 +151,28 @@ pub(crate) fn is_judged(
     Ok(prints(&judged(rt, design, depth, stream)?, rc, lines))
 }
 
+// Whether the run of stored streams for a design in a mode prints these lines, and ends with this status.
+pub(crate) fn is_served(
+    rt: &HostRuntime,
+    design: &[&str],
+    asked: [&str; 2],
+    streams: &[&str],
+    rc: u8,
+    lines: &[&str],
+) -> Result<bool, Fail> {
+    let alloc = rt.alloc();
+    let mut files = MemFiles::new(alloc, Vec::new(alloc));
+    put(alloc, &mut files, "t.il", &joined(alloc, design)?)?;
+    let mut words: Vec<&str> = Vec::new(alloc);
+    words.extend_from_slice(&["--judge", "t.il", asked[0], asked[1]])?;
+    for (name, stream) in ["s0", "s1"].iter().zip(streams) {
+        put(alloc, &mut files, name, stream.as_bytes())?;
+        words.push(*name)?;
+    }
+    let printed = run(rt, &mut files, words.as_slice(), Vec::new(alloc))?;
+    Ok(prints(&printed, rc, lines))
+}
+
 #[test]
 fn streams_are_judged(rt: HostRuntime) -> Result<(), Fail> {
     for (depth, stream, rc, last) in [

@@ -14,7 +14,7 @@ fn ask(alloc: Global, words: &[&str]) -> Result<Option<TaskRequest>, AllocError>
     asked_of(alloc, list.as_slice())
 }
 
-const REFUSED: [&[&str]; 22] = [
+const REFUSED: [&[&str]; 21] = [
     &[],
     &["t.sby"],
     &["--help"],
@@ -23,7 +23,6 @@ const REFUSED: [&[&str]; 22] = [
     &["--dumptasks", "t.sby"],
     &["--judge", "--gen", "t.il", "bmc", "1"],
     &["--judge", "t.il", "live", "1"],
-    &["--judge", "t.il", "prove", "1"],
     &["--judge", "t.il", "bmc"],
     &["--judge", "t.il", "bmc", "0"],
     &["--judge", "t.il", "bmc", "01"],
@@ -51,21 +50,46 @@ fn other_words_are_refused(rt: HostRuntime) -> Result<(), Fail> {
     Ok(())
 }
 
-// Words, and the folder, design, depth and streams that they ask for.
+// Words, and the folder, design, mode, depth and streams that they ask for.
 type Row = (
     &'static [&'static str],
     &'static str,
     &'static str,
+    Mode,
     u32,
     &'static [&'static str],
 );
 
-const ASKED: [Row; 6] = [
-    (&["--judge", "t.il", "bmc", "1"], "t", "t.il", 1, &[]),
+const ASKED: [Row; 8] = [
+    (
+        &["--judge", "t.il", "bmc", "1"],
+        "t",
+        "t.il",
+        Mode::Bmc,
+        1,
+        &[],
+    ),
+    (
+        &["--judge", "t.il", "prove", "1"],
+        "t",
+        "t.il",
+        Mode::Prove,
+        1,
+        &[],
+    ),
+    (
+        &["--judge", "t.il", "cover", "1"],
+        "t",
+        "t.il",
+        Mode::Cover,
+        1,
+        &[],
+    ),
     (
         &["-d", "out", "--judge", "a/b.il", "bmc", "3", "x", "y"],
         "out",
         "a/b.il",
+        Mode::Bmc,
         3,
         &["x", "y"],
     ),
@@ -73,6 +97,7 @@ const ASKED: [Row; 6] = [
         &["a/b.rtlil", "-f", "bmc", "--judge", "1000", "x", "-d", "o"],
         "o",
         "a/b.rtlil",
+        Mode::Bmc,
         1000,
         &["x"],
     ),
@@ -80,23 +105,39 @@ const ASKED: [Row; 6] = [
         &["--judge", "a/b.rtlil", "bmc", "20", "t.drup"],
         "a/b",
         "a/b.rtlil",
+        Mode::Bmc,
         20,
         &["t.drup"],
     ),
-    (&["--judge", "-fdo", "t", "bmc", "1"], "o", "t", 1, &[]),
+    (
+        &["--judge", "-fdo", "t", "bmc", "1"],
+        "o",
+        "t",
+        Mode::Bmc,
+        1,
+        &[],
+    ),
     (
         &["--judge", "--", "t.il.il", "bmc", "7"],
         "t.il",
         "t.il.il",
+        Mode::Bmc,
         7,
         &[],
     ),
 ];
 
-fn is_same(asked: &TaskRequest, folder: &str, design: &str, depth: u32, streams: &[&str]) -> bool {
+fn is_same(
+    asked: &TaskRequest,
+    folder: &str,
+    design: &str,
+    mode: Mode,
+    depth: u32,
+    streams: &[&str],
+) -> bool {
     asked.folder.as_str() == folder
         && asked.design.as_str() == design
-        && asked.mode == Mode::Bmc
+        && asked.mode == mode
         && asked.depth == depth
         && asked.streams.len() == streams.len()
         && asked
@@ -107,10 +148,10 @@ fn is_same(asked: &TaskRequest, folder: &str, design: &str, depth: u32, streams:
 }
 
 fn is_asked(alloc: Global, row: Row) -> Result<bool, AllocError> {
-    let (words, folder, design, depth, streams) = row;
+    let (words, folder, design, mode, depth, streams) = row;
     match ask(alloc, words)? {
         None => Ok(false),
-        Some(asked) => Ok(is_same(&asked, folder, design, depth, streams)),
+        Some(asked) => Ok(is_same(&asked, folder, design, mode, depth, streams)),
     }
 }
 
