@@ -5,7 +5,8 @@ use Rattle.cnf_form.specs.Dimacs.{IsDimacs}
 use Rattle.sby_edge.specs.Cause.{Rose}
 use Rattle.cdcl_core.specs.declared.solver.Solved.{Solved}
 use Rattle.cdcl_core.specs.declared.solver.Solved.TheVariants.{Sat, Unsat, Budget, LogFailed}
-use Rattle.cdcl_run.specs.Answer.{IsAnswer, IsEnd, Searches}
+use Rattle.cdcl_run.specs.Answer.{IsAnswer}
+use Rattle.cdcl_run.specs.Searching.{IsEnd, Searches}
 use Rattle.cdcl_run.specs.Output.{OutputOf, Puts, grown}
 use Rattle.cdcl_run.specs.Text.{proof_text}
 use Rattle.cdcl_run.proofs.Putting.{grown-nil, puts_both}

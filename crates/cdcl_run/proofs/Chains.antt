@@ -8,7 +8,7 @@ use Rattle.cdcl_core.specs.Solving.{Takes, SolvedFits}
 use Rattle.cdcl_core.specs.declared.solver.Solved.{Solved}
 use Rattle.cdcl_core.specs.declared.solver.Solved.TheVariants.{Sat, Unsat, Budget, LogFailed}
 use Rattle.cdcl_core.specs.Logged.{Logged, additions}
-use Rattle.cdcl_run.specs.Answer.{Searches}
+use Rattle.cdcl_run.specs.Searching.{Searches}
 use Rattle.cdcl_run.specs.Output.{OutputOf, Puts, Fails}
 use Rattle.cdcl_run.specs.Text.{proof_line, proof_text}
 use Rattle.cdcl_run.proofs.Putting.{puts_both, puts_none}

@@ -5,7 +5,8 @@ use Rattle.cnf_form.specs.Cnf.{LitOf, FormulaOf, Line, Satisfies}
 use Rattle.cnf_form.specs.Dimacs.{IsDimacs}
 use Rattle.cdcl_core.specs.Solving.{valued}
 use Rattle.stream_judge.specs.Cert.{IsIdle, Names, lines, named_by}
-use Rattle.cdcl_run.specs.Answer.{IsProof, IsSatStream, literals_from}
+use Rattle.cdcl_run.specs.Answer.{IsSatStream, literals_from}
+use Rattle.cdcl_run.specs.Searching.{IsProof}
 use Rattle.cdcl_run.specs.Text.{AreValueLines, proof_text, satisfiable_line}
 use Rattle.cdcl_run.proofs.Naming.{bare_values, last_words, literals_in, named_value, names, row_words, satisfies_by, value_lines, values_fed}
 use Rattle.cdcl_run.proofs.Proofs.{full_of, line_first, line_words, proof_leads, proof_lines}
@@ -41,7 +42,15 @@ sat_stream job f ls G values text stream d p sized s v is =
     let named : Names f.vars last lits = subst (Names f.vars last) all (names f.vars small v.rows v.last inside (omega (arith, n, ap length all))) in
     record {
       cert = cert;
-      is = is ∙ ap (λ z. proof_text ls ++ (satisfiable_line ++ z)) fed ∙ ap (λ z. proof_text ls ++ z) (sym (append_assoc satisfiable_line bare (10 ∷ []))) ∙ sym (append_assoc (proof_text ls) (satisfiable_line ++ bare) (10 ∷ []));
+      whole = is ∙ ap (λ z. proof_text ls ++ (satisfiable_line ++ z)) fed ∙ ap (λ z. proof_text ls ++ z) (sym (append_assoc satisfiable_line bare (10 ∷ []))) ∙ sym (append_assoc (proof_text ls) (satisfiable_line ++ bare) (10 ∷ []));
+      formula = f;
+      is_formula = d;
+      proof = ls;
+      values = drop 1 values;
+      each = sym (length-literals_from 1 (drop 1 values)) ∙ n;
+      text = text;
+      lines = v;
+      is = is;
       is_cert = (
         f,
         d,

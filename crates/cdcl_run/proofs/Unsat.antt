@@ -4,7 +4,8 @@ use Rattle.std.specs.Prelude.{codes, map}
 use Rattle.cnf_form.specs.Cnf.{LitOf, FormulaOf, Line, Addition, IsAdmitted}
 use Rattle.cnf_form.specs.Dimacs.{IsDimacs}
 use Rattle.stream_judge.specs.Cert.{Leads}
-use Rattle.cdcl_run.specs.Answer.{IsProof, IsUnsatStream}
+use Rattle.cdcl_run.specs.Answer.{IsUnsatStream}
+use Rattle.cdcl_run.specs.Searching.{IsProof}
 use Rattle.cdcl_run.specs.Text.{proof_text, unsatisfiable_line}
 use Rattle.cdcl_run.proofs.Proofs.{line_words, proof_lines, proof_leads, up_to, proof_text_append}
 
@@ -32,6 +33,6 @@ unsat_stream job f ls G stream d p a is =
           w.admitted,
         ),
       );
-      front = proof_text ls ++ codes "0";
-      last = is ∙ ap (λ z. z ++ unsatisfiable_line) (proof_text_append ls (Addition [] ∷ []) ∙ sym (append_assoc (proof_text ls) (48 ∷ []) (10 ∷ [])));
+      proof = ls;
+      is = is;
     }

@@ -3,3 +3,4 @@ pub mod Output
 pub mod Text
 pub mod Answer
 pub mod Run
+pub mod Searching

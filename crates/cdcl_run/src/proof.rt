@@ -4,7 +4,7 @@ ghost use Rattle.std.specs.Prelude.{◌≡◌, ◌≤◌, ◌++◌, ◌∷◌, [
 ghost use Rattle.cnf_form.specs.Cnf.{Addition};
 ghost use Rattle.cnf_form.specs.Dimacs.{literal_text, clause_text};
 ghost use Rattle.sby_edge.specs.Cause.{Rose, greatest};
-ghost use Rattle.cdcl_run.specs.Answer.{Searches};
+ghost use Rattle.cdcl_run.specs.Searching.{Searches};
 ghost use Rattle.cdcl_run.specs.Output.{Puts};
 
 use crate::output::{put, put_literal};

@@ -1,6 +1,7 @@
 use Rattle.std.proofs.Common.{◌++◌, refl, sym, subst}
 use Rattle.std.specs.Prelude.{drop}
-use Rattle.cdcl_run.specs.Answer.{IsEnd, literals_from}
+use Rattle.cdcl_run.specs.Answer.{literals_from}
+use Rattle.cdcl_run.specs.Searching.{IsEnd}
 use Rattle.cdcl_run.specs.Output.{OutputOf}
 use Rattle.cdcl_run.specs.Text.{AreValueLines, satisfiable_line}
 use Rattle.cdcl_run.proofs.Putting.{puts_both}

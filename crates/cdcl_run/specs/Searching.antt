@@ -1,0 +1,39 @@
+-- What a search puts, and how its stream ends.
+use Rattle.std.specs.Prelude.{◌≡◌, ℕ, ◌^◌, ◌+◌, ◌≤◌, drop, List, [], ◌∷◌, ◌++◌, length}
+use Rattle.cnf_form.specs.Cnf.{LitOf, FormulaOf, Satisfies, IsAdmitted, Line, Addition, Drup}
+use Rattle.cdcl_core.specs.Logged.{AreProper, additions}
+use Rattle.cdcl_core.specs.Solving.{valued}
+use Rattle.cdcl_core.specs.declared.solver.Solved.{Solved}
+use Rattle.cdcl_core.specs.declared.solver.Solved.TheVariants.{Sat, Unsat, Budget, LogFailed}
+use Rattle.cdcl_run.specs.Answer.{literals_from}
+use Rattle.cdcl_run.specs.Output.{OutputOf, Puts, Fails}
+use Rattle.cdcl_run.specs.Text.{proof_text, satisfiable_line, unsatisfiable_line, unknown_line, AreValueLines}
+
+-- the lines of a proof over the variables of a formula, which lead to the present clauses
+pub record IsProof (f : FormulaOf) (proof : List Line) (present : List (List LitOf)) : Type 0 where
+  pub leads : Drup f.clauses proof present
+  pub proper : AreProper f.vars proof
+
+-- what a search put, by its answer
+abbrev pub Searches : FormulaOf → ℕ → OutputOf → OutputOf → Solved → Type 0
+Searches f budget old new (Sat values) =
+    (proof : List Line) × (present : List (List LitOf)) × IsProof f proof present × Puts old new (proof_text proof)
+    × (length values.items ≡ f.vars + 1) × Satisfies (valued values.items) f.clauses
+Searches f budget old new Unsat =
+    (proof : List Line) × (present : List (List LitOf)) × IsProof f proof present × Puts old new (proof_text (proof ++ Addition [] ∷ [])) × IsAdmitted present []
+Searches f budget old new Budget = (proof : List Line) × (additions proof ≡ budget) × Puts old new (proof_text proof)
+Searches f budget old new LogFailed = Fails old new
+
+-- how the stream of an answer ends, and with which exit status
+abbrev pub IsEnd : Solved → List ℕ → ℕ → Type 0
+IsEnd (Sat values) text exit = (exit ≡ 10) × ((lines : List ℕ) × AreValueLines (literals_from 1 (drop 1 values.items)) lines × (text ≡ satisfiable_line ++ lines))
+IsEnd Unsat text exit = (exit ≡ 20) × (text ≡ unsatisfiable_line)
+IsEnd Budget text exit = (exit ≡ 0) × (text ≡ unknown_line)
+IsEnd LogFailed text exit = ⊥
+
+-- values of no more variables than a formula may have
+abbrev pub HasFew : Solved → Type 0
+HasFew (Sat values) = length values.items ≤ 2 ^ 27 + 1
+HasFew Unsat = Unit {0}
+HasFew Budget = Unit {0}
+HasFew LogFailed = Unit {0}
