@@ -7,8 +7,6 @@ use Rattle.std.proofs.lemmas.List.Folds.{concat-append}
 use Rattle.judge.specs.Finding.{Claim, FindingOf, RunShows}
 use Rattle.judge.specs.Jobs.{span_of}
 use Rattle.judge.specs.Problem.{AskedOf, IsProblem}
-use Rattle.race_core.specs.declared.end.JobEnd.{JobEnd}
-use Rattle.race_core.specs.declared.end.JobEnd.TheVariants.{Found, Unknown, NotServed, Bad, ReadFailed, StartFailed, HoldFailed, Skipped, CalledOff, Stopped, Memory as MemoryEnd}
 use Rattle.design_meaning.specs.Meaning.{Broken, Valuation, asserts, is_enabled, says}
 use Rattle.design_meaning.specs.Runs.{CycleOf, shown_of}
 use Rattle.design_core.specs.Shape.{CellOf, DesignOf, WireOf}
@@ -21,7 +19,7 @@ use Rattle.sby_terms.specs.declared.names.JobName.{JobName}
 use Rattle.sby_terms.specs.declared.names.JobName.TheVariants.{Base}
 use Rattle.sby_top.specs.Broken.{AreLinesOf, HasBrokenLines, IsBrokenCell, IsFirstBroken, IsLine, broken_line, last_of}
 use Rattle.sby_top.specs.Judged.{IsFindingOf}
-use Rattle.sby_top.specs.Steps.{Breaks, HasEndLines, HasShownLines, IsLined}
+use Rattle.sby_top.specs.Steps.{Breaks}
 use Rattle.sby_top.specs.Texts.{broken_text}
 use Rattle.design_trace.specs.Trace.{cycle_line, cycles_from, trace, value_text, wire_line, wire_lines}
 
