@@ -1,0 +1,5 @@
+// The tests, by subject.
+
+mod closing;
+mod rows;
+mod tables;
