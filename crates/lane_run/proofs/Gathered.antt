@@ -1,5 +1,5 @@
 -- What the lanes of a race leave.
-use Rattle.std.proofs.Common.{◌≡◌, inl, inr, ℕ, zero, suc, ◌<◌, All, List, [], ◌∷◌, length, map, Some, refl, subst, arith}
+use Rattle.std.proofs.Common.{◌≡◌, inl, inr, ℕ, zero, suc, ◌<◌, All, List, [], ◌∷◌, length, map, Some, refl, ap, subst, ◌∙◌, arith}
 use Rattle.std.specs.Prelude.{slice_get, slice_index_or}
 use Rattle.race_cells.specs.Notes.{NoteOf}
 use Rattle.race_core.specs.Carrying.{KnewBy}
@@ -59,3 +59,15 @@ module _ {X T : Type 0} (report : X → ReportOf T) (notes_of : X → List (Note
       each_at : (i : ℕ) (r : ReportOf T) → slice_get (map report lanes) i ≡ Some r → LaneSoFar For (serves i) terms may_read (length cells) notes r
       each_at i r at = let p = picked report lanes i r at in
           subst (λ (q : ReportOf T). LaneSoFar For (serves i) terms may_read (length cells) notes q) p.3 (each_of i p.0 p.1 (p.2 p.0))
+
+-- what holds of the lanes at each place, before and after, holds of what they leave there
+pub related : {X B R : Type 0} (bay : X → B) (report : X → R) (Rel : B → B → R → Type 0) (was now : List X) (i : ℕ) (b d : B) (q : R)
+    → slice_get (map bay was) i ≡ Some b → slice_get (map bay now) i ≡ Some d → slice_get (map report now) i ≡ Some q
+    → ((x : X) → i < length was → Rel (bay (slice_index_or was i x)) (bay (slice_index_or now i x)) (report (slice_index_or now i x))) → Rel b d q
+related {X} {B} {R} bay report Rel was now i b d q before after told h =
+    let x = picked bay was i b before in
+    let y = picked bay now i d after in
+    let z = picked report now i q told in
+    subst (λ (k : B). Rel k d q) (ap bay (x.2 x.0) ∙ x.3)
+    (subst (λ (k : B). Rel (bay (slice_index_or was i x.0)) k q) (ap bay (y.2 x.0) ∙ y.3)
+    (subst (λ (r : R). Rel (bay (slice_index_or was i x.0)) (bay (slice_index_or now i x.0)) r) (ap report (z.2 x.0) ∙ z.3) (h x.0 x.1)))

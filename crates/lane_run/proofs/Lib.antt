@@ -6,4 +6,6 @@ pub mod Lanes
 pub mod Nones
 pub mod Races
 pub mod Reasons
+pub mod Starts
+pub mod Stops
 pub mod Wholes

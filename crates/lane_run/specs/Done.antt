@@ -1,5 +1,5 @@
 -- What a lane has done of its jobs.
-use Rattle.std.specs.Prelude.{◌≡◌, ◌⊎◌, ℕ, ◌<◌, ◌≤◌, List, ◌∷◌, ◌++◌, length, Some, Contains}
+use Rattle.std.specs.Prelude.{◌≡◌, ◌⊎◌, ℕ, ◌-◌, ◌<◌, ◌≤◌, List, ◌∷◌, ◌++◌, length, Some, IsSomeAnd, Contains}
 use Rattle.sby_edge.specs.Cause.{CountsOf, Rose}
 use Rattle.race_cells.specs.Notes.{NoteOf, known_at}
 use Rattle.race_core.specs.Carrying.{Carries, KnewBy, Looked}
@@ -13,6 +13,7 @@ use Rattle.race_core.specs.declared.event.LaneEvent.{LaneEvent}
 use Rattle.race_core.specs.declared.event.LaneEvent.TheVariants as event
 use Rattle.lane_child.specs.Keeping.{HasReading}
 use Rattle.lane_child.specs.Reading.{IfWon}
+use Rattle.lane_run.specs.declared.task.Limit.{Limit}
 
 -- the last reading of a list
 abbrev pub IsLastReading : {T : Type 0} → ℕ → List (LaneEvent T) → Type 0
@@ -59,3 +60,22 @@ pub record JobFaults {T : Type 0} (before now : CountsOf) (e : JobEnd T) : Type 
 pub record LaneFaults {T : Type 0} (before now : CountsOf) (n : ℕ) (r : ReportOf T) : Type 0 where
   pub later : (before.starts ≤ now.starts) × (before.reads ≤ now.reads) × (before.holds ≤ now.holds)
   pub each : (j : ℕ) → j < n → JobFaults before now (end_at r j)
+
+-- An earlier report's first jobs stand in a later one.
+abbrev pub Stand : {T : Type 0} → ℕ → ReportOf T → ReportOf T → Type 0
+Stand n r r' = (j : ℕ) → j < n → (end_at r' j ≡ end_at r j) × (events_at r' j ≡ events_at r j)
+
+-- A job is stopped by the last reading of its lane's keeper, its own or that of an earlier job. The clock may give that reading, and the
+-- lane's start; it is the limit or more behind the start.
+pub record IsStopped {T : Type 0} (may_read : ℕ → Type 0) (limit : Limit) (j t : ℕ) (r : ReportOf T) : Type 0 where
+  pub job : ℕ
+  pub within : job ≤ j
+  pub last : IsLastReading t (events_at r job).keeper
+  pub behind : (k : ℕ) → job < k → events_at r k ≡ no_events
+  pub reading : may_read t
+  pub start : may_read limit.start
+  pub shows : IsSomeAnd limit.millis (λ millis. (limit.start ≤ t) × (millis ≤ t - limit.start))
+
+-- so is each of the lane's first jobs that ends so
+abbrev pub LaneStops : {T : Type 0} → (ℕ → Type 0) → Limit → ℕ → ReportOf T → Type 0
+LaneStops may_read limit n r = (j t : ℕ) → j < n → end_at r j ≡ end.Stopped t → IsStopped may_read limit j t r

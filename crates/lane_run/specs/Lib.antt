@@ -1,3 +1,4 @@
 pub mod Asked
 pub mod Done
 pub mod Raced
+pub mod Started

@@ -1,6 +1,6 @@
 // A lane: its jobs, in their order.
 
-ghost use Rattle.std.specs.Prelude.{◌≡◌, ◌≢◌, ◌⊎◌, ℕ, ◌+◌, ◌<◌, ◌≤◌, [], ◌∷◌, ◌++◌, Some, length, replicate, set, slice_get, slice_index_or};
+ghost use Rattle.std.specs.Prelude.{◌≡◌, ◌≢◌, ◌⊎◌, ℕ, ◌+◌, ◌<◌, ◌≤◌, List, [], ◌∷◌, ◌++◌, IfSome, Some, length, option_map, replicate, set, slice_get, slice_index_or};
 ghost use Rattle.std.specs.Option.{MatchOption};
 ghost use Rattle.race_cells.specs.Notes.{AreNotesOf};
 ghost use Rattle.race_core.specs.Asking.{name_at, terms_of};
@@ -11,9 +11,12 @@ ghost use Rattle.race_core.specs.Report.{no_events};
 ghost use Rattle.race_core.specs.declared.end.JobEnd.TheVariants as end;
 ghost use Rattle.race_core.specs.declared.event.LaneEvent.TheVariants as event;
 ghost use Rattle.lane_child.specs.Keeping.{Remember};
+ghost use Rattle.lane_child.specs.Starting.{with_starts};
 ghost use Rattle.lane_run.specs.Asked.{IsFor, terms_at};
 ghost use Rattle.race_core.specs.declared.end.JobEnd.{JobEnd};
-ghost use Rattle.lane_run.specs.Done.{JobDone, JobFaults, LaneFaults, LaneSoFar};
+ghost use Rattle.lane_run.specs.Done.{CameLate, JobDone, JobFaults, LaneFaults, LaneSoFar, LaneStops, Stand};
+ghost use Rattle.lane_run.specs.Started.{JobStarts, LaneStarts};
+ghost use Rattle.sby_edge.specs.Child.{StartOf};
 
 use crate::passing::pass_job;
 use crate::task::{Task, other_cell};
@@ -50,6 +53,9 @@ fn do_job<R: Threads + Wait + Sync, L: Launch, M: Makes<T>, T: Settled + Drop + 
     ensures remember { Remember notes.old notes.new }
     ensures looked { keeper.new.events ≢ [] }
     ensures faults { JobFaults (record { starts = L.start_faults bay.old; reads = L.read_faults bay.old; holds = L.hold_faults bay.old }) (record { starts = L.start_faults bay.new; reads = L.read_faults bay.new; holds = L.hold_faults bay.new }) result.end }
+    ensures starts { (starts : List StartOf) × (L.told bay.new ≡ option_map (with_starts starts) (L.told bay.old))
+        × JobStarts (M.words task.now.makes.now report.now.lane) (M.stands task.now.makes.now report.now.lane) (M.ends task.now.makes.now report.now.lane) (M.proves task.now.makes.now report.now.lane)
+        (M.most task.now.makes.now) (name_at task.now.mode place) (L.told bay.old) result.events.events result.end starts }
 {
     let terms = task.terms(place);
     let watch = Watch {
@@ -127,6 +133,10 @@ fn run_job<R: Threads + Wait + Sync, L: Launch, M: Makes<T>, T: Settled + Drop +
     ensures remember { Remember notes.old notes.new }
     ensures same { (report.new.lane ≡ report.old.lane) × (report.new.jobs ≡ report.old.jobs) }
     ensures faults { (e : JobEnd T) × (report.new.ends ≡ report.old.ends ++ e ∷ []) × JobFaults (record { starts = L.start_faults bay.old; reads = L.read_faults bay.old; holds = L.hold_faults bay.old }) (record { starts = L.start_faults bay.new; reads = L.read_faults bay.new; holds = L.hold_faults bay.new }) e }
+    ensures stand { Stand place report.old report.new }
+    ensures starts { (starts : List StartOf) × (L.told bay.new ≡ option_map (with_starts starts) (L.told bay.old))
+        × JobStarts (M.words task.now.makes.now report.old.lane) (M.stands task.now.makes.now report.old.lane) (M.ends task.now.makes.now report.old.lane) (M.proves task.now.makes.now report.old.lane)
+        (M.most task.now.makes.now) (name_at task.now.mode place) (L.told bay.old) (events_at report.new place).reader (end_at report.new place) starts }
 {
     let Ok(reader) = EventList::new(alloc, 1) else {
         return want_lists(task, place, report);
@@ -168,6 +178,10 @@ fn run_next<R: Threads + Wait + Sync, L: Launch, M: Makes<T>, T: Settled + Drop 
     ensures remember { Remember notes.old notes.new }
     ensures same { (report.new.lane ≡ report.old.lane) × (report.new.jobs ≡ report.old.jobs) }
     ensures faults { (e : JobEnd T) × (report.new.ends ≡ report.old.ends ++ e ∷ []) × JobFaults (record { starts = L.start_faults bay.old; reads = L.read_faults bay.old; holds = L.hold_faults bay.old }) (record { starts = L.start_faults bay.new; reads = L.read_faults bay.new; holds = L.hold_faults bay.new }) e }
+    ensures stand { Stand place report.old report.new }
+    ensures starts { (starts : List StartOf) × (L.told bay.new ≡ option_map (with_starts starts) (L.told bay.old))
+        × ((CameLate report.new place × (starts ≡ [])) ⊎ JobStarts (M.words task.now.makes.now report.old.lane) (M.stands task.now.makes.now report.old.lane) (M.ends task.now.makes.now report.old.lane) (M.proves task.now.makes.now report.old.lane)
+        (M.most task.now.makes.now) (name_at task.now.mode place) (L.told bay.old) (events_at report.new place).reader (end_at report.new place) starts) }
 {
     match lasting_end(report.ends()) {
         Some(end) => report.push_end(end),
@@ -178,7 +192,8 @@ fn run_next<R: Threads + Wait + Sync, L: Launch, M: Makes<T>, T: Settled + Drop 
 /// Runs the jobs of a lane in their order. Each is skipped where a finding makes it needless, passed over where the lane's engine
 /// doesn't serve it, or started and run to its end; behind a reading that shows the limit, or want of memory, the later
 /// jobs end the same. The notes then know what the events say; an end that tells of a failed call comes only where the bay's count of
-/// such calls rose. Waits for the children.
+/// such calls rose. A job's child is started at most once, and what it gave is of the script that the bay tells for it. Where there is a
+/// limit, its start is a reading that the clock may give. Waits for the children.
 pub fn run_lane<
     R: Threads + Wait + Sync,
     L: Launch,
@@ -196,6 +211,7 @@ pub fn run_lane<
     requires jobs { report.old.jobs ≡ length task.now.cells.now }
     requires fresh { (report.old.ends ≡ []) × (report.old.events ≡ replicate report.old.jobs no_events) }
     requires notes { AreNotesOf task.now.cells.now notes.old }
+    requires start { IfSome task.now.limit.millis (λ millis. C.may_read task.now.clock.now task.now.limit.start) }
     ensures replays { Replays (λ k. M.is_served task.now.makes.now report.old.lane (name_at task.now.mode k))
         (λ k. terms_of T.job T.answer (terms_at task.now.mode task.now.limit k)) report.old.jobs report.new }
     ensures done { LaneSoFar (IsFor T.problem T.job (M.problem task.now.makes.now) task.now.mode) (λ k. M.is_served task.now.makes.now report.old.lane (name_at task.now.mode k))
@@ -203,6 +219,9 @@ pub fn run_lane<
     ensures remember { Remember notes.old notes.new }
     ensures same { (report.new.lane ≡ report.old.lane) × (report.new.jobs ≡ report.old.jobs) }
     ensures faults { LaneFaults (record { starts = L.start_faults bay.old; reads = L.read_faults bay.old; holds = L.hold_faults bay.old }) (record { starts = L.start_faults bay.new; reads = L.read_faults bay.new; holds = L.hold_faults bay.new }) report.old.jobs report.new }
+    ensures starts { LaneStarts (M.words task.now.makes.now report.old.lane) (M.stands task.now.makes.now report.old.lane) (M.ends task.now.makes.now report.old.lane) (M.proves task.now.makes.now report.old.lane)
+        (M.most task.now.makes.now) task.now.mode (L.told bay.old) (L.told bay.new) report.old.jobs report.new }
+    ensures stopped { LaneStops (C.may_read task.now.clock.now) task.now.limit report.old.jobs report.new }
 {
     for place in 0..report.jobs() {
         run_next(rt, alloc, bay, task, place, report, notes);

@@ -1,12 +1,13 @@
 // The lanes of a task beside each other.
 
-ghost use Rattle.std.specs.Prelude.{◌≡◌, ◌<◌, ◌^◌, ℕ, All, IfOk, Some, length, slice_get, slice_index_or};
+ghost use Rattle.std.specs.Prelude.{◌≡◌, ◌<◌, ◌^◌, ℕ, All, IfOk, IfSome, Some, length, slice_get, slice_index_or};
 ghost use Rattle.race_core.specs.Asking.{name_at, terms_of};
 ghost use Rattle.lane_run.specs.Asked.{IsFor, terms_at};
 ghost use Rattle.race_core.specs.Consistent.{Consistent};
 ghost use Rattle.race_core.specs.Report.{ReportOf};
-ghost use Rattle.lane_run.specs.Done.{LaneFaults};
+ghost use Rattle.lane_run.specs.Done.{LaneFaults, LaneStops};
 ghost use Rattle.lane_run.specs.Raced.{HasDone, IsReady, LanesDone};
+ghost use Rattle.lane_run.specs.Started.{LaneStarts};
 
 use crate::gather::{Raced, gather};
 use crate::lane::run_lane;
@@ -38,11 +39,15 @@ fn run_one<R: Threads + Wait + Sync, L: Launch, M: Makes<T>, T: Settled + Drop +
     lane: &mut Lane<L, T>,
 )
     requires ready { IsReady task.now.cells.now lane.old.report lane.old.notes }
+    requires start { IfSome task.now.limit.millis (λ millis. C.may_read task.now.clock.now task.now.limit.start) }
     ensures done { HasDone (IsFor T.problem T.job (M.problem task.now.makes.now) task.now.mode) (λ i k. M.is_served task.now.makes.now i (name_at task.now.mode k))
         (λ k. terms_of T.job T.answer (terms_at task.now.mode task.now.limit k)) (C.may_read task.now.clock.now) task.now.cells.now lane.new.report lane.new.notes }
     ensures lane { lane.new.report.lane ≡ lane.old.report.lane }
     ensures faults { LaneFaults (record { starts = L.start_faults lane.old.bay; reads = L.read_faults lane.old.bay; holds = L.hold_faults lane.old.bay })
         (record { starts = L.start_faults lane.new.bay; reads = L.read_faults lane.new.bay; holds = L.hold_faults lane.new.bay }) (length task.now.cells.now) lane.new.report }
+    ensures starts { LaneStarts (M.words task.now.makes.now lane.old.report.lane) (M.stands task.now.makes.now lane.old.report.lane) (M.ends task.now.makes.now lane.old.report.lane) (M.proves task.now.makes.now lane.old.report.lane) (M.most task.now.makes.now) task.now.mode
+        (L.told lane.old.bay) (L.told lane.new.bay) (length task.now.cells.now) lane.new.report }
+    ensures stopped { LaneStops (C.may_read task.now.clock.now) task.now.limit (length task.now.cells.now) lane.new.report }
 {
     run_lane(
         rt,
@@ -63,26 +68,36 @@ pub fn run_lanes<
     C: Clock,
 >(rt: &R, alloc: Global, task: &Task<'_, M, T, C>, lanes: &mut [Lane<L, T>])
     requires ready { All (λ l. IsReady task.now.cells.now l.report l.notes) lanes.old }
+    requires start { IfSome task.now.limit.millis (λ millis. C.may_read task.now.clock.now task.now.limit.start) }
     ensures done { All (λ l. HasDone (IsFor T.problem T.job (M.problem task.now.makes.now) task.now.mode) (λ i k. M.is_served task.now.makes.now i (name_at task.now.mode k))
         (λ k. terms_of T.job T.answer (terms_at task.now.mode task.now.limit k)) (C.may_read task.now.clock.now) task.now.cells.now l.report l.notes) lanes.new }
     ensures lanes { (i : ℕ) (d : Lane L T) → i < length lanes.old → (slice_index_or lanes.new i d).report.lane ≡ (slice_index_or lanes.old i d).report.lane }
     ensures faults { (i : ℕ) (d : Lane L T) → i < length lanes.old → LaneFaults (record { starts = L.start_faults (slice_index_or lanes.old i d).bay; reads = L.read_faults (slice_index_or lanes.old i d).bay; holds = L.hold_faults (slice_index_or lanes.old i d).bay })
         (record { starts = L.start_faults (slice_index_or lanes.new i d).bay; reads = L.read_faults (slice_index_or lanes.new i d).bay; holds = L.hold_faults (slice_index_or lanes.new i d).bay }) (length task.now.cells.now) (slice_index_or lanes.new i d).report }
+    ensures starts { (i : ℕ) (d : Lane L T) → i < length lanes.old
+        → LaneStarts (M.words task.now.makes.now (slice_index_or lanes.old i d).report.lane) (M.stands task.now.makes.now (slice_index_or lanes.old i d).report.lane) (M.ends task.now.makes.now (slice_index_or lanes.old i d).report.lane) (M.proves task.now.makes.now (slice_index_or lanes.old i d).report.lane) (M.most task.now.makes.now) task.now.mode
+        (L.told (slice_index_or lanes.old i d).bay) (L.told (slice_index_or lanes.new i d).bay) (length task.now.cells.now) (slice_index_or lanes.new i d).report }
+    ensures stopped { All (λ l. LaneStops (C.may_read task.now.clock.now) task.now.limit (length task.now.cells.now) l.report) lanes.new }
 {
     let count = lanes.len().max(1);
     let run = |_place: usize, lane: &mut Lane<L, T>|
-        requires { IsReady task.now.cells.now lane.now.report lane.now.notes }
+        requires ready { IsReady task.now.cells.now lane.now.report lane.now.notes }
+        requires start { IfSome task.now.limit.millis (λ millis. C.may_read task.now.clock.now task.now.limit.start) }
         ensures done { HasDone (IsFor T.problem T.job (M.problem task.entry.now.makes.now) task.entry.now.mode) (λ i k. M.is_served task.entry.now.makes.now i (name_at task.entry.now.mode k))
             (λ k. terms_of T.job T.answer (terms_at task.entry.now.mode task.entry.now.limit k)) (C.may_read task.entry.now.clock.now) task.entry.now.cells.now lane.new.report lane.new.notes }
         ensures lane { lane.new.report.lane ≡ lane.old.report.lane }
         ensures faults { LaneFaults (record { starts = L.start_faults lane.old.bay; reads = L.read_faults lane.old.bay; holds = L.hold_faults lane.old.bay })
             (record { starts = L.start_faults lane.new.bay; reads = L.read_faults lane.new.bay; holds = L.hold_faults lane.new.bay }) (length task.entry.now.cells.now) lane.new.report }
+        ensures starts { LaneStarts (M.words task.entry.now.makes.now lane.old.report.lane) (M.stands task.entry.now.makes.now lane.old.report.lane) (M.ends task.entry.now.makes.now lane.old.report.lane) (M.proves task.entry.now.makes.now lane.old.report.lane) (M.most task.entry.now.makes.now) task.entry.now.mode
+            (L.told lane.old.bay) (L.told lane.new.bay) (length task.entry.now.cells.now) lane.new.report }
+        ensures stopped { LaneStops (C.may_read task.entry.now.clock.now) task.entry.now.limit (length task.entry.now.cells.now) lane.new.report }
     { run_one(rt, alloc, task, lane) };
     thread::for_each_mut(rt, lanes, count, &run);
 }
 
 /// Races the lanes of a task, one for each bay, beside each other. Want of memory is answered before any child starts. Lanes are
-/// counted from 0, in the order of the bays; a lane's ends tell of failed calls only where the counts of the bay at its place rose.
+/// counted from 0, in the order of the bays; a lane's ends tell of failed calls only where the counts of the bay at its place rose, and
+/// its starts are those that this bay tells. Where there is a limit, its start is a reading that the clock may give.
 pub fn race<
     R: Threads + Wait + Sync,
     L: Launch + Send + Drop,
@@ -98,6 +113,7 @@ pub fn race<
 ) -> Result<Raced<L, T>, AllocError>
     requires jobs { jobs ≡ length task.now.cells.now }
     requires few { length bays.items < 2 ^ 32 }
+    requires start { IfSome task.now.limit.millis (λ millis. C.may_read task.now.clock.now task.now.limit.start) }
     ensures consistent { IfOk result (λ r. Consistent (IsFor T.problem T.job (M.problem task.now.makes.now) task.now.mode) (λ i k. M.is_served task.now.makes.now i (name_at task.now.mode k))
         (λ k. terms_of T.job T.answer (terms_at task.now.mode task.now.limit k)) (length bays.items) (length task.now.cells.now) r.reports.items) }
     ensures done { IfOk result (λ r. LanesDone (IsFor T.problem T.job (M.problem task.now.makes.now) task.now.mode) (λ i k. M.is_served task.now.makes.now i (name_at task.now.mode k))
@@ -105,6 +121,9 @@ pub fn race<
     ensures bays { IfOk result (λ r. length r.bays.items ≡ length bays.items) }
     ensures faults { IfOk result (λ r. (i : ℕ) (b d : L) (q : ReportOf T) → slice_get bays.items i ≡ Some b → slice_get r.bays.items i ≡ Some d → slice_get r.reports.items i ≡ Some q
         → LaneFaults (record { starts = L.start_faults b; reads = L.read_faults b; holds = L.hold_faults b }) (record { starts = L.start_faults d; reads = L.read_faults d; holds = L.hold_faults d }) (length task.now.cells.now) q) }
+    ensures starts { IfOk result (λ r. (i : ℕ) (b d : L) (q : ReportOf T) → slice_get bays.items i ≡ Some b → slice_get r.bays.items i ≡ Some d → slice_get r.reports.items i ≡ Some q
+        → LaneStarts (M.words task.now.makes.now i) (M.stands task.now.makes.now i) (M.ends task.now.makes.now i) (M.proves task.now.makes.now i) (M.most task.now.makes.now) task.now.mode (L.told b) (L.told d) (length task.now.cells.now) q) }
+    ensures stopped { IfOk result (λ r. All (λ q. LaneStops (C.may_read task.now.clock.now) task.now.limit (length task.now.cells.now) q) r.reports.items) }
 {
     let mut lanes = fresh_lanes(alloc, task.cells, jobs, bays)?;
     let mut raced = fresh_raced(alloc, task.cells, lanes.len())?;

@@ -1,14 +1,18 @@
-use Rattle.std.proofs.Common.{ℕ, ◌≤◌, List, sym, subst, arith}
+use Rattle.std.proofs.Common.{◌≡◌, ℕ, ◌≤◌, List, [], inl, option_map, refl, sym, subst, arith}
+use Rattle.sby_edge.specs.Child.{StartOf}
 use Rattle.race_core.specs.Asking.{name_at, terms_of}
 use Rattle.race_core.specs.Carrying.{KnewBy}
 use Rattle.race_core.specs.Consistent.{events_at}
 use Rattle.race_core.specs.declared.event.LaneEvent.{LaneEvent}
 use Rattle.race_core.specs.declared.step.JobTerms.{JobTerms}
+use Rattle.lane_child.specs.Starting.{with_starts}
 use Rattle.lane_run.specs.Asked.{IsFor, terms_at}
 use Rattle.lane_run.specs.Done.{JobDone, KnownIn}
 use Rattle.lane_run.proofs.Jobs.{passed_done, served_done}
 use Rattle.lane_run.proofs.Lanes.{known_for, known_knew, knew_known}
 use Rattle.lane_run.proofs.Faults.{none_failed}
+use Rattle.lane_run.proofs.Starts.{no_more}
+use Rattle.lane_run.specs.Started.{JobStarts}
 use Rattle.lane_run.proofs.lane.do_job.Goals as goal
 
 pub returns-then-serves-clause-done : goal.returns-then-serves-clause-done
@@ -54,3 +58,19 @@ pub returns-else-serves-clause-faults : goal.returns-else-serves-clause-faults
 returns-else-serves-clause-faults g c =
     let L = g.L.Launch in
     none_failed (record { starts = L.start_faults c.args.bay.now; reads = L.read_faults c.args.bay.now; holds = L.hold_faults c.args.bay.now }) c.pass_job.result c.pass_job.ensures.no_start
+
+pub returns-then-serves-clause-starts : goal.returns-then-serves-clause-starts
+returns-then-serves-clause-starts g c =
+    let m = c.args.task.now.makes.now in
+    let L = g.L.Launch in
+    let bay = L.told c.args.bay.now in
+    let bay' = L.told c.run_child.new.bay in
+    let events = c.run_child.result.events.events in
+    subst (λ (l : ℕ). (starts : List StartOf) × (bay' ≡ option_map (with_starts starts) bay)
+    × JobStarts (g.M.Makes.words m l) (g.M.Makes.stands m l) (g.M.Makes.ends m l) (g.M.Makes.proves m l) (g.M.Makes.most m) (name_at c.args.task.now.mode c.args.place) bay events c.run_child.result.end starts) c.lane-then-serves.ensures
+    (subst (λ (x : JobTerms). (starts : List StartOf) × (bay' ≡ option_map (with_starts starts) bay)
+    × JobStarts (g.M.Makes.words m c.lane-then-serves.result) (g.M.Makes.stands m c.lane-then-serves.result) (g.M.Makes.ends m c.lane-then-serves.result) (g.M.Makes.proves m c.lane-then-serves.result) (g.M.Makes.most m) x.job bay events c.run_child.result.end starts)
+    c.terms-terms.ensures c.run_child.ensures.starts)
+
+pub returns-else-serves-clause-starts : goal.returns-else-serves-clause-starts
+returns-else-serves-clause-starts g c = ([], no_more (g.L.Launch.told c.args.bay.now), inl (c.pass_job.ensures.no_start, c.requires.fresh.0, refl))

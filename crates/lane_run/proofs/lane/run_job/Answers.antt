@@ -1,8 +1,8 @@
-use Rattle.std.proofs.Common.{ℕ, ◌+◌, [], ◌∷◌, ◌++◌, refl, sym, ap, subst, ◌∙◌}
+use Rattle.std.proofs.Common.{◌≡◌, ℕ, ◌+◌, ◌<◌, [], ◌∷◌, ◌++◌, length, set, inl, refl, sym, ap, subst, ◌∙◌, arith}
 use Rattle.race_core.specs.Asking.{name_at, terms_of}
 use Rattle.race_core.specs.Carrying.{KnewBy}
 use Rattle.race_core.specs.Consistent.{events_at}
-use Rattle.race_core.specs.Report.{ReportOf}
+use Rattle.race_core.specs.Report.{EventsOf, ReportOf}
 use Rattle.race_core.specs.declared.end.JobEnd.TheVariants as end
 use Rattle.race_core.specs.declared.event.LaneEvent.TheVariants as event
 use Rattle.lane_run.specs.Asked.{IsFor, terms_at}
@@ -10,6 +10,7 @@ use Rattle.lane_run.specs.Done.{LaneSoFar}
 use Rattle.lane_run.proofs.Lanes.{one_done}
 use Rattle.lane_run.proofs.Wholes.{next_fresh, want_done}
 use Rattle.lane_run.proofs.Faults.{none_failed}
+use Rattle.lane_run.proofs.Starts.{in_report, no_more, one_end, one_events, one_stands}
 use Rattle.lane_run.proofs.lane.run_job.Goals as goal
 
 pub returns-in_default-clause-so_far : goal.returns-in_default-clause-so_far
@@ -80,3 +81,68 @@ pub returns-clause-faults : goal.returns-clause-faults
 returns-clause-faults g c =
     let e = c.do_job-end.result.end in
     (e, ap (λ (x : ReportOf g.row.T.Denot). x.ends) (c.push_end.ensures ∙ ap (λ (x : ReportOf g.row.T.Denot). record x { ends = x.ends ++ e ∷ [] }) c.put_events.ensures), c.do_job-end.ensures.faults)
+
+pub returns-in_default-clause-stand : goal.returns-in_default-clause-stand
+returns-in_default-clause-stand g c =
+    one_stands c.args.place c.args.report.now c.want_lists.new.report end.Memory (record { reader = []; keeper = event.KeeperMemory ∷ [] }) c.requires.so_far.ends c.want_lists.ensures.report
+
+pub returns-in_default-clause-starts : goal.returns-in_default-clause-starts
+returns-in_default-clause-starts g c =
+    let t = c.args.task.now in
+    let m = t.makes.now in
+    let n = c.args.place in
+    let r = c.args.report.now in
+    let lane = r.lane in
+    let now = c.want_lists.new.report in
+    let es : EventsOf g.row.T.Denot = record { reader = []; keeper = event.KeeperMemory ∷ [] } in
+    let few : n < length r.events = omega (c.requires.place.1, c.requires.so_far.events, arith) in (
+      [],
+      no_more (g.L.Launch.told c.args.bay.now),
+      in_report (g.M.Makes.words m lane) (g.M.Makes.stands m lane) (g.M.Makes.ends m lane) (g.M.Makes.proves m lane) (g.M.Makes.most m) (name_at t.mode n) (g.L.Launch.told c.args.bay.now) n now end.Memory es []
+          (one_end n r now end.Memory es c.requires.so_far.ends c.want_lists.ensures.report) (one_events n r now end.Memory es c.requires.so_far.ends c.want_lists.ensures.report few) (inl (tt, refl, refl)),
+    )
+
+pub returns-in_default-new-clause-stand : goal.returns-in_default-new-clause-stand
+returns-in_default-new-clause-stand g c =
+    one_stands c.args.place c.args.report.now c.want_lists-in_default-new.new.report end.Memory (record { reader = []; keeper = event.KeeperMemory ∷ [] }) c.requires.so_far.ends c.want_lists-in_default-new.ensures.report
+
+pub returns-in_default-new-clause-starts : goal.returns-in_default-new-clause-starts
+returns-in_default-new-clause-starts g c =
+    let t = c.args.task.now in
+    let m = t.makes.now in
+    let n = c.args.place in
+    let r = c.args.report.now in
+    let lane = r.lane in
+    let now = c.want_lists-in_default-new.new.report in
+    let es : EventsOf g.row.T.Denot = record { reader = []; keeper = event.KeeperMemory ∷ [] } in
+    let few : n < length r.events = omega (c.requires.place.1, c.requires.so_far.events, arith) in (
+      [],
+      no_more (g.L.Launch.told c.args.bay.now),
+      in_report (g.M.Makes.words m lane) (g.M.Makes.stands m lane) (g.M.Makes.ends m lane) (g.M.Makes.proves m lane) (g.M.Makes.most m) (name_at t.mode n) (g.L.Launch.told c.args.bay.now) n now end.Memory es []
+          (one_end n r now end.Memory es c.requires.so_far.ends c.want_lists-in_default-new.ensures.report) (one_events n r now end.Memory es c.requires.so_far.ends c.want_lists-in_default-new.ensures.report few) (inl (tt, refl, refl)),
+    )
+
+pub returns-clause-stand : goal.returns-clause-stand
+returns-clause-stand g c =
+    let e = c.do_job-end.result.end in
+    one_stands c.args.place c.args.report.now c.push_end.new.self e (record { reader = c.do_job-end.result.events.events; keeper = c.do_job-end.new.keeper.events }) c.requires.so_far.ends
+    (c.push_end.ensures ∙ ap (λ (x : ReportOf g.row.T.Denot). record x { ends = x.ends ++ e ∷ [] }) c.put_events.ensures)
+
+pub returns-clause-starts : goal.returns-clause-starts
+returns-clause-starts g c =
+    let t = c.args.task.now in
+    let m = t.makes.now in
+    let n = c.args.place in
+    let r = c.args.report.now in
+    let lane = r.lane in
+    let now = c.push_end.new.self in
+    let e = c.do_job-end.result.end in
+    let es : EventsOf g.row.T.Denot = record { reader = c.do_job-end.result.events.events; keeper = c.do_job-end.new.keeper.events } in
+    let few : n < length r.events = omega (c.requires.place.1, c.requires.so_far.events, arith) in
+    let is : now ≡ record r { events = set r.events n es; ends = r.ends ++ e ∷ [] } = c.push_end.ensures ∙ ap (λ (x : ReportOf g.row.T.Denot). record x { ends = x.ends ++ e ∷ [] }) c.put_events.ensures in
+    let h = c.do_job-end.ensures.starts in (
+      h.0,
+      h.1,
+      in_report (g.M.Makes.words m lane) (g.M.Makes.stands m lane) (g.M.Makes.ends m lane) (g.M.Makes.proves m lane) (g.M.Makes.most m) (name_at t.mode n) (g.L.Launch.told c.args.bay.now) n now e es h.0
+          (one_end n r now e es c.requires.so_far.ends is) (one_events n r now e es c.requires.so_far.ends is few) h.2,
+    )

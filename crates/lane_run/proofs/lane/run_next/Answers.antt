@@ -1,4 +1,4 @@
-use Rattle.std.proofs.Common.{ℕ, ◌+◌, ◌<◌, sym, ap, subst, arith}
+use Rattle.std.proofs.Common.{ℕ, ◌+◌, ◌<◌, [], inl, inr, refl, sym, ap, subst, arith}
 use Rattle.race_core.specs.Asking.{name_at, terms_of}
 use Rattle.race_core.specs.Ends.{IsLast}
 use Rattle.race_core.specs.Report.{ReportOf}
@@ -7,6 +7,7 @@ use Rattle.lane_run.specs.Asked.{IsFor, terms_at}
 use Rattle.lane_run.specs.Done.{LaneSoFar}
 use Rattle.lane_run.proofs.Lanes.{none_last, one_late}
 use Rattle.lane_run.proofs.Faults.{late_failed}
+use Rattle.lane_run.proofs.Starts.{came_late, late_stand, no_more}
 use Rattle.lane_run.proofs.lane.run_next.Goals as goal
 
 pub returns-in-Some-clause-so_far : goal.returns-in-Some-clause-so_far
@@ -39,3 +40,23 @@ returns-in-Some-clause-faults g c =
       ap (λ (y : ReportOf g.row.T.Denot). y.ends) c.push_end.ensures,
       late_failed (record { starts = L.start_faults c.args.bay.now; reads = L.read_faults c.args.bay.now; holds = L.hold_faults c.args.bay.now }) c.in-Some.end x.2,
     )
+
+pub returns-in-Some-clause-stand : goal.returns-in-Some-clause-stand
+returns-in-Some-clause-stand g c = late_stand c.args.place c.args.report.now c.push_end.new.self c.in-Some.end c.requires.so_far.ends c.push_end.ensures
+
+pub returns-in-Some-clause-starts : goal.returns-in-Some-clause-starts
+returns-in-Some-clause-starts g c =
+    let n = c.args.place in
+    let r = c.args.report.now in
+    let x = rw c.ends.ensures at c.in-Some.ensures in
+    let ends = c.requires.so_far.ends in
+    let lt : x.0 < n = omega (x.1, ends, arith) in (
+      [],
+      no_more (g.L.Launch.told c.args.bay.now),
+      inl (came_late n r c.push_end.new.self c.in-Some.end ends c.push_end.ensures x.0 lt x.2 x.3 (c.requires.so_far.left n (omega arith)), refl),
+    )
+
+pub returns-in-None-clause-starts : goal.returns-in-None-clause-starts
+returns-in-None-clause-starts g c =
+    let h = c.run_job.ensures.starts in
+    (h.0, h.1, inr h.2)

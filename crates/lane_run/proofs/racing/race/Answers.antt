@@ -5,10 +5,12 @@ use Rattle.race_core.specs.Consistent.{Consistent}
 use Rattle.race_core.specs.Report.{ReportOf}
 use Rattle.lane_child.specs.Keeping.{Remember}
 use Rattle.lane_run.specs.Asked.{IsFor, terms_at}
-use Rattle.lane_run.specs.Done.{LaneFaults}
+use Rattle.lane_run.specs.Done.{LaneFaults, LaneStops}
 use Rattle.lane_run.specs.Raced.{LanesDone}
+use Rattle.lane_run.specs.Started.{LaneStarts}
 use Rattle.lane_run.specs.declared.racing.Lane.{Lane}
-use Rattle.lane_run.proofs.Gathered.{lanes_gathered, picked}
+use Rattle.std.proofs.lemmas.List.Elements.{All-map}
+use Rattle.lane_run.proofs.Gathered.{lanes_gathered, picked, related}
 use Rattle.lane_run.proofs.Joins.{map_length}
 use Rattle.lane_run.proofs.Races.{lanes_consistent}
 use Rattle.lane_run.proofs.racing.race.Goals as goal
@@ -86,3 +88,36 @@ returns-clause-faults g c = λ i b d q was is told.
     subst (λ (k : g.row.L.Denot). LaneFaults (record { starts = g.L.Launch.start_faults k; reads = g.L.Launch.read_faults k; holds = g.L.Launch.hold_faults k }) (record { starts = g.L.Launch.start_faults d; reads = g.L.Launch.read_faults d; holds = g.L.Launch.hold_faults d }) n q) (ap bay (x.2 x.0) ∙ x.3)
     (subst (λ (k : g.row.L.Denot). LaneFaults (record { starts = g.L.Launch.start_faults (slice_index_or c.as_mut_slice.result.now i x.0).bay; reads = g.L.Launch.read_faults (slice_index_or c.as_mut_slice.result.now i x.0).bay; holds = g.L.Launch.hold_faults (slice_index_or c.as_mut_slice.result.now i x.0).bay }) (record { starts = g.L.Launch.start_faults k; reads = g.L.Launch.read_faults k; holds = g.L.Launch.hold_faults k }) n q) (ap bay (y.2 x.0) ∙ y.3)
     (subst (λ (r : ReportOf g.row.T.Denot). LaneFaults (record { starts = g.L.Launch.start_faults (slice_index_or c.as_mut_slice.result.now i x.0).bay; reads = g.L.Launch.read_faults (slice_index_or c.as_mut_slice.result.now i x.0).bay; holds = g.L.Launch.hold_faults (slice_index_or c.as_mut_slice.result.now i x.0).bay }) (record { starts = g.L.Launch.start_faults (slice_index_or now i x.0).bay; reads = g.L.Launch.read_faults (slice_index_or now i x.0).bay; holds = g.L.Launch.hold_faults (slice_index_or now i x.0).bay }) n r) (ap report (z.2 x.0) ∙ z.3) faults))
+
+pub returns-clause-starts : goal.returns-clause-starts
+returns-clause-starts g c = λ i b d q was is told.
+    let now = c.run_lanes.new.lanes in
+    let many : c.in_ok-lanes.lanes.len ≡ length now = omega arith in
+    let whole : take c.in_ok-lanes.lanes.len (now ++ drop (length now) c.in_ok-lanes.lanes.items) ≡ now = take_whole now (drop (length now) c.in_ok-lanes.lanes.items) c.in_ok-lanes.lanes.len many in
+    let bay = λ (l : Lane g.row.L.Denot g.row.T.Denot). l.bay in
+    let report = λ (l : Lane g.row.L.Denot g.row.T.Denot). l.report in
+    let bays = c.gather.ensures.bays ∙ ap (λ (ls : List (Lane g.row.L.Denot g.row.T.Denot)). map bay ls) whole in
+    let reports = c.gather.ensures.reports ∙ ap (λ (ls : List (Lane g.row.L.Denot g.row.T.Denot)). map report ls) whole in
+    let before = ap (λ (ls : List (Lane g.row.L.Denot g.row.T.Denot)). map bay ls) c.as_mut_slice.ensures.value ∙ c.in_ok-lanes.ensures.bays in
+    let m = c.args.task.now.makes.now in
+    let n = length c.args.task.now.cells.now in
+    let told_of = g.L.Launch.told in
+    let old = c.as_mut_slice.result.now in
+    related bay report (λ (k h : g.row.L.Denot) (r : ReportOf g.row.T.Denot). LaneStarts (g.M.Makes.words m i) (g.M.Makes.stands m i) (g.M.Makes.ends m i) (g.M.Makes.proves m i) (g.M.Makes.most m) c.args.task.now.mode (told_of k) (told_of h) n r)
+    old now i b d q (ap (λ (l : List g.row.L.Denot). slice_get l i) before ∙ was) (ap (λ (l : List g.row.L.Denot). slice_get l i) (sym bays) ∙ is) (ap (λ (l : List (ReportOf g.row.T.Denot)). slice_get l i) (sym reports) ∙ told)
+    (λ x lt.
+    let at : (slice_index_or old i x).report.lane ≡ i = ap (λ (l : List (Lane g.row.L.Denot g.row.T.Denot)). (slice_index_or l i x).report.lane) c.as_mut_slice.ensures.value
+    ∙ c.in_ok-lanes.ensures.places i x (subst (λ (l : List (Lane g.row.L.Denot g.row.T.Denot)). i < length l) c.as_mut_slice.ensures.value lt) in
+    subst (λ (lane : ℕ). LaneStarts (g.M.Makes.words m lane) (g.M.Makes.stands m lane) (g.M.Makes.ends m lane) (g.M.Makes.proves m lane) (g.M.Makes.most m) c.args.task.now.mode (told_of (slice_index_or old i x).bay) (told_of (slice_index_or now i x).bay) n (slice_index_or now i x).report) at
+    (c.run_lanes.ensures.starts i x lt))
+
+pub returns-clause-stopped : goal.returns-clause-stopped
+returns-clause-stopped g c =
+    let t = c.args.task.now in
+    let now = c.run_lanes.new.lanes in
+    let many : c.in_ok-lanes.lanes.len ≡ length now = omega arith in
+    let whole : take c.in_ok-lanes.lanes.len (now ++ drop (length now) c.in_ok-lanes.lanes.items) ≡ now = take_whole now (drop (length now) c.in_ok-lanes.lanes.items) c.in_ok-lanes.lanes.len many in
+    let report = λ (l : Lane g.row.L.Denot g.row.T.Denot). l.report in
+    let reports = c.gather.ensures.reports ∙ ap (λ (ls : List (Lane g.row.L.Denot g.row.T.Denot)). map report ls) whole in
+    let Stops = λ (r : ReportOf g.row.T.Denot). LaneStops (g.C.Clock.may_read t.clock.now) t.limit (length t.cells.now) r in
+    subst (λ (rs : List (ReportOf g.row.T.Denot)). All Stops rs) (sym reports) (All-map Stops report now c.run_lanes.ensures.stopped)
