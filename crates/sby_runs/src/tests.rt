@@ -151,7 +151,17 @@ pub(crate) fn is_judged(
     Ok(prints(&judged(rt, design, depth, stream)?, rc, lines))
 }
 
-// Whether the run of stored streams for a design in a mode prints these lines, and ends with this status.
+// A store with the design and the streams `s0` and `s1`, or the first of them, or none.
+fn store_of(alloc: Global, design: &[&str], streams: &[&str]) -> Result<MemFiles, FileFail> {
+    let mut files = MemFiles::new(alloc, Vec::new(alloc));
+    put(alloc, &mut files, "t.il", &joined(alloc, design)?)?;
+    for (name, stream) in ["s0", "s1"].iter().zip(streams) {
+        put(alloc, &mut files, name, stream.as_bytes())?;
+    }
+    Ok(files)
+}
+
+// Whether the run of at most two stored streams for a design in a mode prints these lines, and ends with this status.
 pub(crate) fn is_served(
     rt: &HostRuntime,
     design: &[&str],
@@ -161,15 +171,10 @@ pub(crate) fn is_served(
     lines: &[&str],
 ) -> Result<bool, Fail> {
     let alloc = rt.alloc();
-    let mut files = MemFiles::new(alloc, Vec::new(alloc));
-    put(alloc, &mut files, "t.il", &joined(alloc, design)?)?;
-    let mut words: Vec<&str> = Vec::new(alloc);
-    words.extend_from_slice(&["--judge", "t.il", asked[0], asked[1]])?;
-    for (name, stream) in ["s0", "s1"].iter().zip(streams) {
-        put(alloc, &mut files, name, stream.as_bytes())?;
-        words.push(*name)?;
-    }
-    let printed = run(rt, &mut files, words.as_slice(), Vec::new(alloc))?;
+    let mut files = store_of(alloc, design, streams)?;
+    let words = ["--judge", "t.il", asked[0], asked[1], "s0", "s1"];
+    let count = 4 + streams.len().min(2);
+    let printed = run(rt, &mut files, &words[..count], Vec::new(alloc))?;
     Ok(prints(&printed, rc, lines))
 }
 
