@@ -13,10 +13,11 @@ struct Refuted {
 
 impl Settled for Refuted {
     ghost use Rattle.std.specs.Prelude.{[], refl};
+    ghost use Rattle.sby_terms.specs.Span.{whole};
     ghost use Rattle.sby_terms.specs.declared.names.Mode.TheVariants.{Bmc};
     ghost use Rattle.sby_terms.specs.declared.names.Answer.TheVariants.{Sat};
 
-    ghost problem = { λ _. record { text = []; mode = Bmc; depth = 1 } };
+    ghost problem = { λ _. record { text = []; mode = Bmc; span = whole 1 } };
 
     ghost job = { λ r. r.job };
 

@@ -57,6 +57,12 @@ pub enum Engine {
     Drup(Words),
     /// A program that writes BTOR2 witnesses.
     Btor(Words),
+    /// A program that writes a hinted proof.
+    Lrat(Words),
+    /// A program that writes its answer, and a proof file in text.
+    Proof(Words),
+    /// A program that writes its answer, and a proof file in binary.
+    ProofBinary(Words),
 }
 
 impl Engine {
@@ -73,6 +79,18 @@ impl Engine {
             Engine::Btor(words) => {
                 let words = words.copy()?;
                 Ok(Engine::Btor(words))
+            }
+            Engine::Lrat(words) => {
+                let words = words.copy()?;
+                Ok(Engine::Lrat(words))
+            }
+            Engine::Proof(words) => {
+                let words = words.copy()?;
+                Ok(Engine::Proof(words))
+            }
+            Engine::ProofBinary(words) => {
+                let words = words.copy()?;
+                Ok(Engine::ProofBinary(words))
             }
         }
     }

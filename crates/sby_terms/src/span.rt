@@ -4,7 +4,7 @@ ghost use Rattle.std.specs.Prelude.{◌≡◌, ◌↔◌, ◌<◌, ◌≤◌, �
 ghost use Rattle.sby_terms.specs.Span.{IsSpan, first_of, last_of, slices_of, whole};
 
 /// A task looks at most at this many cycles.
-pub const MAX_DEPTH: u32 = 1000;
+pub const MAX_DEPTH: u32 = 100_000;
 
 /// A stream has at most this many bytes.
 pub const MAX_STREAM: u64 = 1 << 32;

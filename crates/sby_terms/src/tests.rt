@@ -28,7 +28,11 @@ fn engines_are_copied(rt: HostRuntime) -> Result<(), Fail> {
     let words = Words::new(vec![in rt.alloc(); word]?);
     match Engine::Drup(words).copy()? {
         Engine::Sat(_) => assert!(rt; false),
-        Engine::Drup(words) | Engine::Btor(words) => {
+        Engine::Drup(words)
+        | Engine::Btor(words)
+        | Engine::Lrat(words)
+        | Engine::Proof(words)
+        | Engine::ProofBinary(words) => {
             assert_eq!(rt; words.as_slice().len(), 1);
             for word in words.into_words().as_slice() {
                 assert_eq!(rt; word.as_str(), "solver");
@@ -41,8 +45,8 @@ fn engines_are_copied(rt: HostRuntime) -> Result<(), Fail> {
 #[test]
 fn numbers_and_spans(rt: HostRuntime) {
     for (word, number) in [
-        (b"1000".as_slice(), Some(1000)),
-        (b"1001", None),
+        (b"100000".as_slice(), Some(100_000)),
+        (b"100001", None),
         (b"0", None),
         (b"01", None),
         (b"+1", None),
@@ -71,10 +75,11 @@ struct Refuted {
 
 impl Settled for Refuted {
     ghost use Rattle.std.specs.Prelude.{[], refl};
+    ghost use Rattle.sby_terms.specs.Span.{whole};
     ghost use Rattle.sby_terms.specs.declared.names.Mode.TheVariants.{Bmc};
     ghost use Rattle.sby_terms.specs.declared.names.Answer.TheVariants.{Unsat};
 
-    ghost problem = { λ _. record { text = []; mode = Bmc; depth = 1 } };
+    ghost problem = { λ _. record { text = []; mode = Bmc; span = whole 1 } };
 
     ghost job = { λ r. r.job };
 
