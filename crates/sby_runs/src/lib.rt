@@ -1,8 +1,10 @@
-//! Whole runs of the top call over files and output in memory, and its words: tests alone.
+//! Whole runs of the top call over files and output in memory, its words, and the judge fed by hand: tests alone.
 #![tactic(auto)]
 
 #[cfg(test)]
 mod cell_tests;
+#[cfg(test)]
+mod judge_tests;
 #[cfg(test)]
 mod mode_tests;
 #[cfg(test)]

@@ -28,7 +28,7 @@ const REFUSED: [&[&str]; 21] = [
     &["--judge", "t.il", "bmc", "01"],
     &["--judge", "t.il", "bmc", "+1"],
     &["--judge", "t.il", "bmc", "1x"],
-    &["--judge", "t.il", "bmc", "1001"],
+    &["--judge", "t.il", "bmc", "100001"],
     &["--judge", ".il", "bmc", "1"],
     &["-d", "out", "--judge", ".rtlil", "bmc", "1"],
     &["-d", "", "--judge", "t.il", "bmc", "1"],
@@ -94,11 +94,11 @@ const ASKED: [Row; 8] = [
         &["x", "y"],
     ),
     (
-        &["a/b.rtlil", "-f", "bmc", "--judge", "1000", "x", "-d", "o"],
+        &["a/b.rtlil", "-f", "bmc", "--judge", "100000", "x", "-d", "o"],
         "o",
         "a/b.rtlil",
         Mode::Bmc,
-        1000,
+        100_000,
         &["x"],
     ),
     (

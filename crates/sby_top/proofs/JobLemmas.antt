@@ -24,7 +24,7 @@ use Rattle.sby_terms.specs.declared.names.Answer.{Answer}
 use Rattle.sby_top.specs.Broken.{CarriesRun}
 use Rattle.sby_top.specs.Judged.{AreJudged, IsEndOf, IsFindingOf}
 use Rattle.sby_top.specs.Status.{answer_of}
-use Rattle.sby_top.specs.Served.{ArePut, jobs_at, jobs_in, with_file}
+use Rattle.sby_top.specs.Served.{ArePut, IsWhole, jobs_at, jobs_in, with_file}
 use Rattle.sby_top.specs.Steps.{AreLined, IsLined, IsPathJudged}
 
 -- ---- the jobs
@@ -35,11 +35,11 @@ jobs_same Prove n d = refl
 jobs_same CoverMode n d = refl
 
 -- the jobs don't depend on the depth
-pub jobs_are : (p : AskedOf) → jobs_in p ≡ jobs_at p.problem.mode p.design
-jobs_are p = jobs_same p.problem.mode p.problem.depth p.design
+pub jobs_are : (p : AskedOf) → IsWhole p → jobs_in p ≡ jobs_at p.problem.mode p.design
+jobs_are p one = ap (λ s. jobs_of_mode p.problem.mode s p.design) one ∙ jobs_same p.problem.mode p.problem.span.depth p.design
 
-pub jobs_by : (p : AskedOf) (mode : Mode) → p.problem.mode ≡ mode → jobs_in p ≡ jobs_at mode p.design
-jobs_by p mode is = jobs_are p ∙ ap (λ m. jobs_at m p.design) is
+pub jobs_by : (p : AskedOf) (mode : Mode) → IsWhole p → p.problem.mode ≡ mode → jobs_in p ≡ jobs_at mode p.design
+jobs_by p mode one is = jobs_are p one ∙ ap (λ m. jobs_at m p.design) is
 
 -- a job for each cover statement
 pub cover_count : (d : DesignOf) → length (jobs_at CoverMode d) ≡ length (covers d)
@@ -64,8 +64,8 @@ few_at Bmc d is = omega arith
 few_at Prove d is = omega arith
 few_at CoverMode d is = omega (arith, cover_count d, few_covers d is)
 
-pub few_jobs : (p : AskedOf) → IsProblem p → length (jobs_in p) ≤ 2 ^ 27
-few_jobs p is = omega (arith, ap length (jobs_are p), few_at p.problem.mode p.design is.design)
+pub few_jobs : (p : AskedOf) → IsWhole p → IsProblem p → length (jobs_in p) ≤ 2 ^ 27
+few_jobs p one is = omega (arith, ap length (jobs_are p one), few_at p.problem.mode p.design is.design)
 
 -- ---- lists by their places
 
@@ -101,8 +101,8 @@ base_first Prove d apart = refl
 base_first CoverMode d apart = absurd (apart refl)
 
 -- Base is the first job of bmc and prove
-pub base_at : (p : AskedOf) → (p.problem.mode ≡ CoverMode → ⊥) → slice_get (jobs_in p) 0 ≡ Some (Base 0)
-base_at p apart = subst (λ js. slice_get js 0 ≡ Some (Base 0)) (sym (jobs_are p)) (base_first p.problem.mode p.design apart)
+pub base_at : (p : AskedOf) → IsWhole p → (p.problem.mode ≡ CoverMode → ⊥) → slice_get (jobs_in p) 0 ≡ Some (Base 0)
+base_at p one apart = subst (λ js. slice_get js 0 ≡ Some (Base 0)) (sym (jobs_are p one)) (base_first p.problem.mode p.design apart)
 
 -- a finding for Base, which carries a run, stands there
 pub carried_first : (mode : Mode) (d : DesignOf) (ends : List (JobEnd FindingOf)) (run : List CycleOf) → CarriesRun (jobs_at mode d) ends run → (f : FindingOf) × (slice_get ends 0 ≡ Some (Found f)) × (f.run ≡ Some run)
@@ -234,11 +234,11 @@ answered_at p jobs ends k job answer lined at is = answered_by p jobs ends k job
 
 -- ---- cover statements
 
-pub statement_below : (p : AskedOf) (ends : List (JobEnd FindingOf)) (k : ℕ) → p.problem.mode ≡ CoverMode → AreLined p (jobs_in p) ends → k < length ends → k < length (covers p.design)
-statement_below p ends k mode lined lt = omega (arith, lt, lined_count p (jobs_in p) ends lined, ap length (jobs_by p CoverMode mode), cover_count p.design)
+pub statement_below : (p : AskedOf) (ends : List (JobEnd FindingOf)) (k : ℕ) → IsWhole p → p.problem.mode ≡ CoverMode → AreLined p (jobs_in p) ends → k < length ends → k < length (covers p.design)
+statement_below p ends k one mode lined lt = omega (arith, lt, lined_count p (jobs_in p) ends lined, ap length (jobs_by p CoverMode one mode), cover_count p.design)
 
-pub statement_lined : (p : AskedOf) (ends : List (JobEnd FindingOf)) (k : ℕ) (end : JobEnd FindingOf) → p.problem.mode ≡ CoverMode → AreLined p (jobs_in p) ends → k < length ends → end ≡ get_or ends k end
+pub statement_lined : (p : AskedOf) (ends : List (JobEnd FindingOf)) (k : ℕ) (end : JobEnd FindingOf) → IsWhole p → p.problem.mode ≡ CoverMode → AreLined p (jobs_in p) ends → k < length ends → end ≡ get_or ends k end
     → IsLined p (Cover k) end
-statement_lined p ends k end mode lined lt is =
+statement_lined p ends k end one mode lined lt is =
     lined_at p (jobs_in p) ends k (Cover k) end lined
-    (subst (λ js. slice_get js k ≡ Some (Cover k)) (sym (jobs_by p CoverMode mode)) (cover_at p.design k (statement_below p ends k mode lined lt))) (slice_get_read ends (length ends) k end refl lt is)
+    (subst (λ js. slice_get js k ≡ Some (Cover k)) (sym (jobs_by p CoverMode one mode)) (cover_at p.design k (statement_below p ends k one mode lined lt))) (slice_get_read ends (length ends) k end refl lt is)

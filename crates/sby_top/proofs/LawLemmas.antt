@@ -27,7 +27,7 @@ use Rattle.sby_top.specs.declared.outcome.Early.{Early}
 use Rattle.sby_top.specs.declared.outcome.TaskEnd.{TaskEnd}
 use Rattle.sby_top.proofs.PlainLemmas.{done_judged}
 use Rattle.sby_top.proofs.JobLemmas.{jobs_by}
-use Rattle.sby_top.proofs.ServeLemmas.{accepted_mode, one_job_in}
+use Rattle.sby_top.proofs.ServeLemmas.{accepted_mode, accepted_whole, one_job_in}
 use Rattle.sby_top.proofs.StatusLemmas.{answer_gives, nothing_decides}
 
 -- the judge's laws
@@ -79,7 +79,7 @@ judged_gives : OneFate → OneFile → (store now : Store) (request : Request) (
     → IsJudgedStatus store now request early status → status ≡ status_for answer
 judged_gives one_fate one_file store now request early status path stream file answer bmc streams has stands valid judged =
     let p = judged.0 in
-    let jobs : jobs_in p ≡ (Base 0) ∷ [] = one_job_in p (accepted_mode (Some store) request p bmc judged.2) in
+    let jobs : jobs_in p ≡ (Base 0) ∷ [] = one_job_in p (accepted_whole (Some store) request p judged.2) (accepted_mode (Some store) request p bmc judged.2) in
     let put : ArePut p request.folder ((Base 0) ∷ []) (Some store) (Some now) = subst (λ js. ArePut p request.folder js (Some store) (Some now)) jobs judged.4 in
     let fates : AreFates p now ((Base 0) ∷ []) (path ∷ []) judged.1 = subst (λ js. AreFates p now js (path ∷ []) judged.1) jobs (subst (λ ps. AreFates p now (jobs_in p) ps judged.1) streams judged.5) in
     let whole : AreWhole (path ∷ []) judged.1 ⊎ IsDecided Bmc (map fate_answer judged.1) =
@@ -124,7 +124,7 @@ pub comes_to_lane : (before after : World) (request : Request) (end : TaskEnd) (
     → IsGot (Some store) request.design most_design text → ((fault : ProblemFault) → IsProblemFault (problem_of request text) fault → ⊥) → length request.streams ≤ 1 → end.early ≡ None
 comes_to_lane before after request end exit store now text ran smooth told_before told_after bmc got accepted few =
     comes_with_jobs before after request end exit store now text ran smooth told_before told_after got accepted (λ p is.
-    let one : length (jobs_in p) ≡ 1 = ap length (one_job_in p (accepted_mode (Some store) request p bmc is)) in omega (arith, one, few))
+    let one : length (jobs_in p) ≡ 1 = ap length (one_job_in p (accepted_whole (Some store) request p is) (accepted_mode (Some store) request p bmc is)) in omega (arith, one, few))
 
 -- in every mode the jobs are those of the design that the text reads
 pub comes_in_every_mode : (before after : World) (request : Request) (end : TaskEnd) (exit : Exit) (store now : Store) (text : List ℕ) (d : DesignOf)
@@ -134,6 +134,6 @@ pub comes_in_every_mode : (before after : World) (request : Request) (end : Task
 comes_in_every_mode before after request end exit store now text d ran smooth told_before told_after got accepted reads few =
     comes_with_jobs before after request end exit store now text ran smooth told_before told_after got accepted (λ p is.
     let here : Reads p.problem.text d = subst (λ t. Reads t d) (one_text store request.design most_design text p.problem.text got is.got) reads in
-    let same : length (jobs_in p) ≡ length (jobs_at request.mode p.design) = ap length (jobs_by p request.mode (ap (λ q. q.mode) is.asked)) in
+    let same : length (jobs_in p) ≡ length (jobs_at request.mode p.design) = ap length (jobs_by p request.mode (accepted_whole (Some store) request p is) (ap (λ q. q.mode) is.asked)) in
     let only : length (jobs_at request.mode d) ≡ length (jobs_at request.mode p.design) = ap (λ x. length (jobs_at request.mode x)) (is.problem.only d here) in
     omega (arith, same, only, few))

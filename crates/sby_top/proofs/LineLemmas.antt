@@ -29,7 +29,8 @@ use Rattle.sby_top.specs.Headline.{Code, Cut}
 use Rattle.sby_top.specs.Lines.{HasLines, HasRunLines, HasVerdictLines, done_line, early_text, end_text, job_lines, lane_line, lane_lines, line_if, settled_line, settled_lines, unless_decided}
 use Rattle.sby_top.specs.Judged.{IsFindingOf}
 use Rattle.sby_top.specs.Reached.{HasCoverLines, HasStatementLines}
-use Rattle.sby_top.specs.Served.{jobs_at, jobs_in}
+use Rattle.sby_terms.specs.Span.{first_of, last_of}
+use Rattle.sby_top.specs.Served.{IsWhole, jobs_at, jobs_in}
 use Rattle.sby_top.specs.Steps.{AreLined, HasEndLines, HasShownLines, IsJudgedTask, IsLined}
 use Rattle.sby_top.specs.Status.{AreDecided, IsStatus, answer_of, event_of, told_answers}
 use Rattle.sby_top.specs.Telling.{Tells}
@@ -101,20 +102,20 @@ run_lines_by Bmc d name ends verdict lines apart has = has
 run_lines_by Prove d name ends verdict lines apart has = has
 run_lines_by CoverMode d name ends verdict lines apart has = absurd (apart refl)
 
-pub run_lines : (p : AskedOf) (name : List ℕ) (ends : List (JobEnd FindingOf)) (verdict : Option Verdict) (lines : List (List ℕ)) → (p.problem.mode ≡ CoverMode → ⊥)
+pub run_lines : (p : AskedOf) (name : List ℕ) (ends : List (JobEnd FindingOf)) (verdict : Option Verdict) (lines : List (List ℕ)) → IsWhole p → (p.problem.mode ≡ CoverMode → ⊥)
     → HasVerdictLines p.problem.mode p.design name ends verdict lines → HasRunLines (jobs_in p) p.design name ends verdict lines
-run_lines p name ends verdict lines apart has =
-    subst (λ js. HasRunLines js p.design name ends verdict lines) (sym (jobs_are p)) (run_lines_by p.problem.mode p.design name ends verdict lines apart has)
+run_lines p name ends verdict lines one apart has =
+    subst (λ js. HasRunLines js p.design name ends verdict lines) (sym (jobs_are p one)) (run_lines_by p.problem.mode p.design name ends verdict lines apart has)
 
 pub cover_lines_of : (p : AskedOf) (name : List ℕ) (ends : List (JobEnd FindingOf)) (verdict : Option Verdict) (lines : List (List ℕ)) → p.problem.mode ≡ CoverMode
     → HasVerdictLines p.problem.mode p.design name ends verdict lines → HasCoverLines p.design name 0 ends lines
 cover_lines_of p name ends verdict lines is has = subst (λ m. HasVerdictLines m p.design name ends verdict lines) is has
 
 -- FAIL has the lines of the run that Base's end carries
-pub failure_lines : (p : AskedOf) (name : List ℕ) (ends : List (JobEnd FindingOf)) (end : JobEnd FindingOf) (lines : List (List ℕ)) → slice_get ends 0 ≡ Some end
+pub failure_lines : (p : AskedOf) (name : List ℕ) (ends : List (JobEnd FindingOf)) (end : JobEnd FindingOf) (lines : List (List ℕ)) → IsWhole p → slice_get ends 0 ≡ Some end
     → HasRunLines (jobs_in p) p.design name ends (Some FailVerdict) lines → HasEndLines p.design name end lines
-failure_lines p name ends end lines at has =
-    let carried = carried_first p.problem.mode p.design ends has.0 (subst (λ js. CarriesRun js ends has.0) (jobs_are p) has.1) in
+failure_lines p name ends end lines one at has =
+    let carried = carried_first p.problem.mode p.design ends has.0 (subst (λ js. CarriesRun js ends has.0) (jobs_are p one) has.1) in
     let same : Found carried.0 ≡ end = let e : Some (Found carried.0) ≡ Some end = sym carried.1 ∙ at in cc in
     subst (λ e. HasEndLines p.design name e lines) same (subst (λ r. HasShownLines p.design name r lines) (sym carried.2) has.2)
 
@@ -124,13 +125,14 @@ failure_lines p name ends end lines at has =
 pub carries_run : (p : AskedOf) (f : FindingOf) (run : Option (List CycleOf)) → IsProblem p → IsFindingOf p (Base 0) f → f.answer ≡ Sat → f.run ≡ run → (shown : List CycleOf) × (f.run ≡ Some shown)
 carries_run p f (Some run) problem of sat is = (run, is)
 carries_run p f None problem of sat is =
-    let shows : RunShows p.design 0 p.problem.depth f.run = finding_claims p (Base 0) f Sat of sat p.design problem.reads in absurd (subst (RunShows p.design 0 p.problem.depth) is shows)
+    let shows : RunShows p.design (first_of p.problem.span 0) (last_of p.problem.span 0) f.run = finding_claims p (Base 0) f Sat of sat p.design problem.reads in
+    absurd (subst (RunShows p.design (first_of p.problem.span 0) (last_of p.problem.span 0)) is shows)
 
 fail_lines : (p : AskedOf) (jobs : List JobName) (name : List ℕ) (ends : List (JobEnd FindingOf)) → IsProblem p → slice_get jobs 0 ≡ Some (Base 0) → IsAnsweredAt p ends 0 (Base 0) Sat
     → (lines : List (List ℕ)) × HasRunLines jobs p.design name ends (Some FailVerdict) lines
 fail_lines p jobs name ends problem at base =
     let run = carries_run p base.finding base.finding.run problem base.of base.answers refl in
-    let lines = broken_lines p.design name run.0 (shown_breaks p.design 0 p.problem.depth run.0 (run_shows p base.finding run.0 problem base.of run.1)) in
+    let lines = broken_lines p.design name run.0 (shown_breaks p.design (first_of p.problem.span 0) (last_of p.problem.span 0) run.0 (run_shows p base.finding run.0 problem base.of run.1)) in
     (lines.0, (run.0, (0, base.finding, at, base.at, run.1), lines.1))
 
 -- in a mode with the job Base
@@ -151,13 +153,13 @@ lines_by Prove p name ends verdict is problem lined decided =
 lines_by CoverMode p name ends verdict is problem lined decided =
     cover_lines p.design name 0 ends (omega (arith, lined_count p (jobs_at CoverMode p.design) ends lined, cover_count p.design))
 
-pub lined_at_mode : (p : AskedOf) (ends : List (JobEnd FindingOf)) → AreLined p (jobs_in p) ends → AreLined p (jobs_at p.problem.mode p.design) ends
-lined_at_mode p ends lined = subst (λ js. AreLined p js ends) (jobs_are p) lined
+pub lined_at_mode : (p : AskedOf) (ends : List (JobEnd FindingOf)) → IsWhole p → AreLined p (jobs_in p) ends → AreLined p (jobs_at p.problem.mode p.design) ends
+lined_at_mode p ends one lined = subst (λ js. AreLined p js ends) (jobs_are p one) lined
 
 -- the lines of the runs of a task whose streams were judged
-pub verdict_lines : (p : AskedOf) (name : List ℕ) (ends : List (JobEnd FindingOf)) (verdict : Option Verdict) → IsProblem p → AreLined p (jobs_in p) ends → AreDecided p.problem.mode (map answer_of ends) verdict
+pub verdict_lines : (p : AskedOf) (name : List ℕ) (ends : List (JobEnd FindingOf)) (verdict : Option Verdict) → IsProblem p → IsWhole p → AreLined p (jobs_in p) ends → AreDecided p.problem.mode (map answer_of ends) verdict
     → (lines : List (List ℕ)) × HasVerdictLines p.problem.mode p.design name ends verdict lines
-verdict_lines p name ends verdict problem lined decided = lines_by p.problem.mode p name ends verdict refl problem (lined_at_mode p ends lined) decided
+verdict_lines p name ends verdict problem one lined decided = lines_by p.problem.mode p name ends verdict refl problem (lined_at_mode p ends one lined) decided
 
 -- ---- lines that were told
 
@@ -269,6 +271,7 @@ served_has_lines p name report verdict shown status rc problem lined has decided
 -- what a served task is told by: its status by its verdict
 pub record IsToldBy (p : AskedOf) (report : ReportOf FindingOf) (verdict : Option Verdict) (decided : Status) : Type 0 where
   pub problem : IsProblem p
+  pub whole : IsWhole p
   pub lined : AreLined p (jobs_in p) report.ends
   pub is_verdict : AreDecided p.problem.mode (map answer_of report.ends) verdict
   pub is_status : HasStatus verdict (map event_of report.ends) decided
@@ -286,7 +289,7 @@ pub served_printed : {T : Type 0} {d : Option ℕ} (before now : Option (List �
     → expect ≡ Pass ∷ [] → HasCode expect decided rc → (end.status, code) ≡ ended told decided rc → IsPrintedAs before now f g d request end code
 served_printed before now f g request end p report name told verdict decided rc code expect mode folder is reports text_is by tells pass coded ends =
     let coded_pass : HasCode (Pass ∷ []) decided rc = subst (λ e. HasCode e decided rc) pass coded in
-    let shown = verdict_lines p name report.ends verdict by.problem by.lined by.is_verdict in
+    let shown = verdict_lines p name report.ends verdict by.problem by.whole by.lined by.is_verdict in
     let lines : List (List ℕ) = all_lines p name report verdict shown.0 decided rc in
     let has : HasLines p.problem.mode name p.problem.text None (report ∷ []) lines = served_has_lines p name report verdict shown.0 decided rc by.problem by.lined shown.1 by.is_verdict by.is_status coded_pass in
     printed_as before now f g request end lines told decided rc code (tells shown.0 shown.1)
@@ -303,16 +306,16 @@ told_job_lines s name verdict =
     settled_lines name (jobs_in s.problem) (told_answers s.problem.problem.mode s.answers.items) ++ unless_decided verdict (lane_lines name s.report.lane (jobs_in s.problem) s.report.ends)
 
 -- the lines as they are told, one part after the other
-pub lines_joined : (s : Served) (name : List ℕ) (verdict : Option Verdict) (shown : List (List ℕ)) (last : List ℕ) → s.answers.items ≡ map answer_of s.report.ends
+pub lines_joined : (s : Served) (name : List ℕ) (verdict : Option Verdict) (shown : List (List ℕ)) (last : List ℕ) → IsWhole s.problem → s.answers.items ≡ map answer_of s.report.ends
     → job_lines s.problem.problem.mode s.problem.design name s.report.lane s.report.ends verdict shown ++ last ∷ []
     ≡ (line_of name (design_text (counts_of s.problem.design)) ∷ []) ++ (told_job_lines s name verdict ++ (shown ++ last ∷ []))
-lines_joined s name verdict shown last answers =
+lines_joined s name verdict shown last one answers =
     let settled : List (List ℕ) = settled_lines name (jobs_in s.problem) (told_answers s.problem.problem.mode s.answers.items) in
     let unsettled : List (List ℕ) = unless_decided verdict (lane_lines name s.report.lane (jobs_in s.problem) s.report.ends) in
     let first : settled_lines name (jobs_at s.problem.problem.mode s.problem.design) (told_answers s.problem.problem.mode (map answer_of s.report.ends)) ≡ settled =
-    ap₂ (λ js xs. settled_lines name js (told_answers s.problem.problem.mode xs)) (sym (jobs_are s.problem)) (sym answers) in
+    ap₂ (λ js xs. settled_lines name js (told_answers s.problem.problem.mode xs)) (sym (jobs_are s.problem one)) (sym answers) in
     let next : unless_decided verdict (lane_lines name s.report.lane (jobs_at s.problem.problem.mode s.problem.design) s.report.ends) ≡ unsettled =
-    ap (λ js. unless_decided verdict (lane_lines name s.report.lane js s.report.ends)) (sym (jobs_are s.problem)) in
+    ap (λ js. unless_decided verdict (lane_lines name s.report.lane js s.report.ends)) (sym (jobs_are s.problem one)) in
     ap₂ (λ a b. line_of name (design_text (counts_of s.problem.design)) ∷ (((a ++ b) ++ shown) ++ last ∷ [])) first next
     ∙ ap (λ ls. line_of name (design_text (counts_of s.problem.design)) ∷ ls) (append_assoc (settled ++ unsettled) shown (last ∷ []))
 
@@ -321,6 +324,7 @@ pub told_by : (s : Served) (mode : Mode) (answers : List (Option Answer)) (event
     → answers ≡ s.answers.items → events ≡ s.events.items → AreDecided mode answers verdict → HasStatus verdict events status → IsToldBy s.problem s.report verdict status
 told_by s mode answers events verdict status task same are_answers are_events decided has = record {
   problem = task.problem;
+  whole = task.whole;
   lined = task.lined;
   is_verdict = subst (λ m. AreDecided m (map answer_of s.report.ends) verdict) same (subst (λ xs. AreDecided mode xs verdict) (are_answers ∙ task.answers) decided);
   is_status = subst (λ es. HasStatus verdict es status) (are_events ∙ task.events) has;

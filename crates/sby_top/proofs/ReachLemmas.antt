@@ -17,13 +17,13 @@ use Rattle.sby_top.specs.Steps.{IsLined}
 use Rattle.sby_top.proofs.BrokenLemmas.{finding_claims, trace_lines}
 
 reaching_run : (p : AskedOf) (k : ℕ) (f : FindingOf) (run : List CycleOf) (answer : Answer) → IsProblem p → IsFindingOf p (Cover k) f → f.run ≡ Some run → f.answer ≡ answer
-    → RunReaches p.design p.problem.depth k (Some run)
-reaching_run p k f run Sat problem of is answers = subst (RunReaches p.design p.problem.depth k) is (finding_claims p (Cover k) f Sat of answers p.design problem.reads)
+    → RunReaches p.design p.problem.span.depth k (Some run)
+reaching_run p k f run Sat problem of is answers = subst (RunReaches p.design p.problem.span.depth k) is (finding_claims p (Cover k) f Sat of answers p.design problem.reads)
 reaching_run p k f run Unsat problem of is answers = let none : f.run ≡ None = (finding_claims p (Cover k) f Unsat of answers p.design problem.reads).1 in cc
 
 -- the run of a finding for a cover statement reaches it
 pub run_reaches : (p : AskedOf) (flat : DesignOf) (k : ℕ) (f : FindingOf) (run : List CycleOf) → flat ≡ p.design → IsProblem p → IsFindingOf p (Cover k) f → f.run ≡ Some run
-    → RunReaches flat p.problem.depth k (Some run)
+    → RunReaches flat p.problem.span.depth k (Some run)
 run_reaches p flat k f run same problem of is = rw same (reaching_run p k f run f.answer problem of is refl)
 
 pub reach_rows : (p : AskedOf) (flat : DesignOf) (k : ℕ) (end : JobEnd FindingOf) (f : FindingOf) (run : List CycleOf) → flat ≡ p.design → IsProblem p → IsLined p (Cover k) end → end ≡ Found f → f.run ≡ Some run

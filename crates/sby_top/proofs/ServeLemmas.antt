@@ -21,7 +21,7 @@ use Rattle.race_core.specs.declared.end.JobEnd.{JobEnd}
 use Rattle.sby_top.specs.Causes.{HasReason, IsDone}
 use Rattle.sby_top.specs.Steps.{got_items, IsFailedCall, IsPathJudged, IsPutFailed, IsRefusal, IsStreamGot, IsStreamJudged}
 use Rattle.sby_top.specs.Judged.{AreJudged, EndsWithRun, Has, IsFateEnd, IsReport}
-use Rattle.sby_top.specs.Served.{ArePut, IsAccepted, IsGot, IsServed, IsStored, jobs_in, most_design, most_stream, problem_of}
+use Rattle.sby_top.specs.Served.{ArePut, IsAccepted, IsGot, IsServed, IsStored, IsWhole, jobs_in, most_design, most_stream, problem_of}
 use Rattle.sby_top.specs.Words.{Request}
 use Rattle.sby_top.specs.declared.outcome.Early.{Early}
 use Rattle.sby_top.specs.declared.outcome.Early.TheVariants.{File, Read, Design, TooMany, Streams, Memory}
@@ -41,8 +41,12 @@ got_from None path most (Long v) fits h = omega (arith, fits)
 got_from (Some store) path most got fits h = got_at (store path) most got h
 
 -- the jobs of bmc
-pub one_job_in : (p : AskedOf) → p.problem.mode ≡ Bmc → jobs_in p ≡ (Base 0) ∷ []
-one_job_in p is = ap (λ m. jobs_of_mode m (whole p.problem.depth) p.design) is
+pub one_job_in : (p : AskedOf) → IsWhole p → p.problem.mode ≡ Bmc → jobs_in p ≡ (Base 0) ∷ []
+one_job_in p one is = ap (λ s. jobs_of_mode p.problem.mode s p.design) one ∙ ap (λ m. jobs_of_mode m (whole p.problem.span.depth) p.design) is
+
+-- an accepted problem looks at all cycles below its depth
+pub accepted_whole : (told : Option Store) (request : Request) (p : AskedOf) → IsAccepted told request p → IsWhole p
+accepted_whole told request p a = let same : p.problem.span ≡ whole request.depth = ap (λ q. q.span) a.asked in rw same refl
 
 pub accepted_mode : (told : Option Store) (request : Request) (p : AskedOf) → request.mode ≡ Bmc → IsAccepted told request p → p.problem.mode ≡ Bmc
 accepted_mode told request p mode a = ap (λ q. q.mode) a.asked ∙ mode

@@ -19,7 +19,8 @@ use Rattle.design_meaning.specs.Runs.{CycleOf, valuations}
 use Rattle.design_core.specs.Shape.{CellOf, DesignOf}
 use Rattle.sby_terms.specs.Decide.{Decides}
 use Rattle.sby_terms.specs.Problem.{ProblemOf}
-use Rattle.sby_terms.specs.Span.{whole}
+use Rattle.sby_terms.specs.Span.{first_of, last_of, whole}
+use Rattle.sby_terms.specs.declared.span.Span.{Span}
 use Rattle.sby_terms.specs.declared.names.Answer.TheVariants.{Sat, Unsat}
 use Rattle.sby_terms.specs.declared.names.JobName.TheVariants.{Base, Step, Cover}
 use Rattle.sby_terms.specs.declared.names.Mode.{Mode}
@@ -69,13 +70,13 @@ task_done request before after end report done early reports =
       early = early;
       reports = reports;
       text_is = done.2;
-      lined = subst (λ js. AreLined p js report.ends) (jobs_by p request.mode (ap (λ (q : ProblemOf). q.mode) done.1.0.asked)) (judged_lined p after (jobs_in p) request.streams report.ends done.4.ends);
+      lined = subst (λ js. AreLined p js report.ends) (jobs_by p request.mode (accepted_whole before request p done.1.0) (ap (λ (q : ProblemOf). q.mode) done.1.0.asked)) (judged_lined p after (jobs_in p) request.streams report.ends done.4.ends);
     }
 
 -- what is said of the design of the problem
-says_truly : (request : Request) (told : Option Store) (text : List ℕ) (p : AskedOf) (claim : DesignOf → ℕ → Type 0) → IsAccepted told request p → text ≡ p.problem.text → claim p.design p.problem.depth → IsTrueOf told request text claim
+says_truly : (request : Request) (told : Option Store) (text : List ℕ) (p : AskedOf) (claim : DesignOf → ℕ → Type 0) → IsAccepted told request p → text ≡ p.problem.text → claim p.design p.problem.span.depth → IsTrueOf told request text claim
 says_truly request told text p claim accepted is said =
-    let depth : p.problem.depth ≡ request.depth = ap (λ (q : ProblemOf). q.depth) accepted.asked in
+    let depth : p.problem.span.depth ≡ request.depth = ap (λ (q : ProblemOf). q.span.depth) accepted.asked in
     (rw is accepted.got, (p.design, rw is accepted.problem.reads, accepted.problem.flat, subst (claim p.design) depth said))
 
 -- the lines of such a task, by its mode and its problem's text
@@ -125,9 +126,9 @@ shows_lines mode p name report f run cell lines apart problem sat at carries bro
 -- a task whose finding for Base is Sat, with this run, shows it
 shows_run : (request : Request) (told : Option Store) (end : TaskEnd) (p : AskedOf) (report : ReportOf FindingOf) (f : FindingOf) (run : List CycleOf) → (request.mode ≡ CoverMode → ⊥) → IsTaskDone request told end report p
     → slice_get (jobs_at request.mode p.design) 0 ≡ Some (Base 0) → slice_get (map answer_of report.ends) 0 ≡ Some (Some Sat) → slice_get report.ends 0 ≡ Some (Found f) → f.run ≡ Some run
-    → RunShows p.design 0 p.problem.depth (Some run) → IsShown request end p.design p.problem.depth
+    → RunShows p.design 0 p.problem.span.depth (Some run) → IsShown request end p.design p.problem.span.depth
 shows_run request told end p report f run apart task base sat at carries shows =
-    let breaks = shown_breaks p.design 0 p.problem.depth run shows in
+    let breaks = shown_breaks p.design 0 p.problem.span.depth run shows in
     let first = first_exists p.design (last_of p.design run) breaks.broken.0 breaks.broken.1 in
     let cell = broken_cell p.design run first.0 first.1 in
     let shown = shows.3.1 in
@@ -149,11 +150,11 @@ shows_run request told end p report f run apart task base sat at carries shows =
     }
 
 fails_at_base : (request : Request) (told : Option Store) (end : TaskEnd) (report : ReportOf FindingOf) (p : AskedOf) → (request.mode ≡ CoverMode → ⊥) → IsTaskDone request told end report p
-    → slice_get (jobs_at request.mode p.design) 0 ≡ Some (Base 0) → slice_get (map answer_of report.ends) 0 ≡ Some (Some Sat) → IsShown request end p.design p.problem.depth
+    → slice_get (jobs_at request.mode p.design) 0 ≡ Some (Base 0) → slice_get (map answer_of report.ends) 0 ≡ Some (Some Sat) → IsShown request end p.design p.problem.span.depth
 fails_at_base request told end report p apart task base sat =
     let found = answered_at p (jobs_at request.mode p.design) report.ends 0 (Base 0) Sat task.lined base sat in
     let run = carries_run p found.finding found.finding.run task.accepted.problem found.of found.answers refl in
-    shows_run request told end p report found.finding run.0 apart task base sat found.at run.1 (run_shows p found.finding run.0 task.accepted.problem found.of run.1)
+    shows_run request told end p report found.finding run.0 apart task base sat found.at run.1 (subst (λ (s : Span). RunShows p.design (first_of s 0) (last_of s 0) (Some run.0)) (accepted_whole told request p task.accepted) (run_shows p found.finding run.0 task.accepted.problem found.of run.1))
 
 -- ---- cover statements
 
@@ -218,20 +219,20 @@ unreached_printed p name k f cell lines at carries among =
     (Contains-append_right among.0 (unreached_line name cell ∷ among.2) (unreached_line name cell) (Contains-head (unreached_line name cell) among.2))
 
 -- a finding for a statement that is Sat carries a run
-carries_reach : (p : AskedOf) (k : ℕ) (f : FindingOf) (run : Option (List CycleOf)) → IsProblem p → f.run ≡ run → RunReaches p.design p.problem.depth k f.run → (shown : List CycleOf) × (f.run ≡ Some shown)
+carries_reach : (p : AskedOf) (k : ℕ) (f : FindingOf) (run : Option (List CycleOf)) → IsProblem p → f.run ≡ run → RunReaches p.design p.problem.span.depth k f.run → (shown : List CycleOf) × (f.run ≡ Some shown)
 carries_reach p k f (Some run) problem is reaches = (run, is)
-carries_reach p k f None problem is reaches = absurd (subst (RunReaches p.design p.problem.depth k) is reaches)
+carries_reach p k f None problem is reaches = absurd (subst (RunReaches p.design p.problem.span.depth k) is reaches)
 
 abbrev CoverLines : Request → TaskEnd → AskedOf → ReportOf FindingOf → Type 0
 CoverLines request end p report = (lines : List (List ℕ)) → AreLines request end lines → HasLines CoverMode request.folder p.problem.text None (report ∷ []) lines
 
 reaches_at : (request : Request) (end : TaskEnd) (report : ReportOf FindingOf) (p : AskedOf) (k : ℕ) → IsProblem p → end.reports.items ≡ report ∷ [] → CoverLines request end p report
-    → k < length (covers p.design) → IsAnsweredAt p report.ends k (Cover k) Sat → IsReachShown request end p.design p.problem.depth k
+    → k < length (covers p.design) → IsAnsweredAt p report.ends k (Cover k) Sat → IsReachShown request end p.design p.problem.span.depth k
 reaches_at request end report p k problem reports lines_are lt found =
     let f = found.finding in
-    let reaches : RunReaches p.design p.problem.depth k f.run = finding_claims p (Cover k) f Sat found.of found.answers p.design problem.reads in
+    let reaches : RunReaches p.design p.problem.span.depth k f.run = finding_claims p (Cover k) f Sat found.of found.answers p.design problem.reads in
     let run = carries_reach p k f f.run problem refl reaches in
-    let claim : RunReaches p.design p.problem.depth k (Some run.0) = subst (RunReaches p.design p.problem.depth k) run.1 reaches in
+    let claim : RunReaches p.design p.problem.span.depth k (Some run.0) = subst (RunReaches p.design p.problem.span.depth k) run.1 reaches in
     let cell = cell_at (covers p.design) k lt in
     record {
       run = run.0;
@@ -245,7 +246,7 @@ reaches_at request end report p k problem reports lines_are lt found =
     }
 
 unreached_at : (request : Request) (end : TaskEnd) (report : ReportOf FindingOf) (p : AskedOf) (k : ℕ) → IsProblem p → CoverLines request end p report
-    → k < length (covers p.design) → IsAnsweredAt p report.ends k (Cover k) Unsat → IsUnreachedShown request end p.design p.problem.depth k
+    → k < length (covers p.design) → IsAnsweredAt p report.ends k (Cover k) Unsat → IsUnreachedShown request end p.design p.problem.span.depth k
 unreached_at request end report p k problem lines_are lt found =
     let f = found.finding in
     let claim = finding_claims p (Cover k) f Unsat found.of found.answers p.design problem.reads in
@@ -262,16 +263,16 @@ unreached_at request end report p k problem lines_are lt found =
 never_breaks : NothingBreaks → (d : DesignOf) (n : ℕ) → 0 < n → NoBreak d 0 n → (Solvable d Step (whole n) → ⊥) → NeverBreak d
 never_breaks law d n some none step = law d n some (λ s. none s.0 s.1 s.2 s.3 s.4 s.5) step
 
-passes_by : NothingBreaks → (mode : Mode) (request : Request) (end : TaskEnd) (report : ReportOf FindingOf) (p : AskedOf) → 0 < p.problem.depth → IsProblem p → end.reports.items ≡ report ∷ []
+passes_by : NothingBreaks → (mode : Mode) (request : Request) (end : TaskEnd) (report : ReportOf FindingOf) (p : AskedOf) → 0 < p.problem.span.depth → IsProblem p → end.reports.items ≡ report ∷ []
     → AreLined p (jobs_at mode p.design) report.ends → ((lines : List (List ℕ)) → AreLines request end lines → HasLines mode request.folder p.problem.text None (report ∷ []) lines)
-    → Decides mode (map answer_of report.ends) PassVerdict → PassClaim mode request end p.design p.problem.depth
+    → Decides mode (map answer_of report.ends) PassVerdict → PassClaim mode request end p.design p.problem.span.depth
 passes_by law Bmc request end report p some problem reports lined lines_are decides =
     let base = answered_at p (jobs_at Bmc p.design) report.ends 0 (Base 0) Unsat lined refl decides in
     (finding_claims p (Base 0) base.finding Unsat base.of base.answers p.design problem.reads).0
 passes_by law Prove request end report p some problem reports lined lines_are decides =
     let base = answered_at p (jobs_at Prove p.design) report.ends 0 (Base 0) Unsat lined refl decides.0 in
     let step = answered_at p (jobs_at Prove p.design) report.ends 1 Step Unsat lined refl decides.1 in
-    never_breaks law p.design p.problem.depth some (finding_claims p (Base 0) base.finding Unsat base.of base.answers p.design problem.reads).0
+    never_breaks law p.design p.problem.span.depth some (finding_claims p (Base 0) base.finding Unsat base.of base.answers p.design problem.reads).0
     (finding_claims p Step step.finding Unsat step.of step.answers p.design problem.reads).0
 passes_by law CoverMode request end report p some problem reports lined lines_are decides = λ k lt.
     let long : k < length (map answer_of report.ends) = omega (arith, lt, length-map report.ends answer_of, lined_count p (jobs_at CoverMode p.design) report.ends lined, cover_count p.design) in
@@ -279,7 +280,7 @@ passes_by law CoverMode request end report p some problem reports lined lines_ar
     reaches_at request end report p k problem reports lines_are lt (answered_at p (jobs_at CoverMode p.design) report.ends k (Cover k) Sat lined (cover_at p.design k lt) sat)
 
 fails_cover : (request : Request) (end : TaskEnd) (report : ReportOf FindingOf) (p : AskedOf) → IsProblem p → AreLined p (jobs_at CoverMode p.design) report.ends → CoverLines request end p report
-    → Contains (map answer_of report.ends) (Some Unsat) → FailClaim CoverMode request end p.design p.problem.depth
+    → Contains (map answer_of report.ends) (Some Unsat) → FailClaim CoverMode request end p.design p.problem.span.depth
 fails_cover request end report p problem lined lines_are decides =
     let at = place-from_Contains (map answer_of report.ends) (Some Unsat) decides in
     let within = slice_get_within (map answer_of report.ends) at.0 (Some Unsat) at.1 in
@@ -287,7 +288,7 @@ fails_cover request end report p problem lined lines_are decides =
     (at.0, lt, unreached_at request end report p at.0 problem lines_are lt (answered_at p (jobs_at CoverMode p.design) report.ends at.0 (Cover at.0) Unsat lined (cover_at p.design at.0 lt) at.1))
 
 fails_by : (mode : Mode) (request : Request) (told : Option Store) (end : TaskEnd) (report : ReportOf FindingOf) (p : AskedOf) → request.mode ≡ mode → IsTaskDone request told end report p
-    → Decides mode (map answer_of report.ends) FailVerdict → FailClaim mode request end p.design p.problem.depth
+    → Decides mode (map answer_of report.ends) FailVerdict → FailClaim mode request end p.design p.problem.span.depth
 fails_by Bmc request told end report p mode task decides =
     fails_at_base request told end report p (λ e. let no : Bmc ≡ CoverMode = sym mode ∙ e in cc) task (subst (λ m. slice_get (jobs_at m p.design) 0 ≡ Some (Base 0)) (sym mode) refl) decides
 fails_by Prove request told end report p mode task decides =
@@ -301,8 +302,8 @@ fails_by CoverMode request told end report p mode task decides =
 done_passes : NothingBreaks → (request : Request) (told : Option Store) (end : TaskEnd) (report : ReportOf FindingOf) (p : AskedOf) → IsAskable request → IsTaskDone request told end report p
     → IsStatusOf request.mode (map answer_of report.ends) (map event_of report.ends) Pass → IsTrueOf told request end.text (PassClaim request.mode request end)
 done_passes law request told end report p askable task is =
-    let depth : p.problem.depth ≡ request.depth = ap (λ (q : ProblemOf). q.depth) task.accepted.asked in
-    let some : 0 < p.problem.depth = omega (arith, depth, askable.least) in
+    let depth : p.problem.span.depth ≡ request.depth = ap (λ (q : ProblemOf). q.span.depth) task.accepted.asked in
+    let some : 0 < p.problem.span.depth = omega (arith, depth, askable.least) in
     says_truly request told end.text p (PassClaim request.mode request end) task.accepted task.text_is
     (passes_by law request.mode request end report p some task.accepted.problem task.reports task.lined (λ lines are. lines_of request told end report p lines task are)
     (pass_decides request.mode (map answer_of report.ends) (map event_of report.ends) is))

@@ -25,9 +25,9 @@ depth_begins word depth is =
 abbrev pub Decimal : Type 0
 Decimal = (most n : ℕ) (word : List ℕ) → most ≤ 18446744073709551615 → (number_upto most word ≡ Some n) ↔ ((word ≡ decimal n) × (1 ≤ n) × (n ≤ most))
 
-pub depth_is : (word : List ℕ) (r : Option ℕ) → Decimal → r ≡ number_upto 1000 word → MatchOption r ((depth : ℕ) → IsDepth word depth → ⊥) (IsDepth word)
-depth_is word None law e = λ depth is. let some = (law 1000 depth word (lit≤ tt)).1 (is.digits, is.least, is.most) in let f : None ≡ Some depth = e ∙ some in cc
-depth_is word (Some n) law e = let parts = (law 1000 n word (lit≤ tt)).0 (sym e) in record { digits = parts.0; least = parts.1; most = parts.2 }
+pub depth_is : (word : List ℕ) (r : Option ℕ) → Decimal → r ≡ number_upto 100000 word → MatchOption r ((depth : ℕ) → IsDepth word depth → ⊥) (IsDepth word)
+depth_is word None law e = λ depth is. let some = (law 100000 depth word (lit≤ tt)).1 (is.digits, is.least, is.most) in let f : None ≡ Some depth = e ∙ some in cc
+depth_is word (Some n) law e = let parts = (law 100000 n word (lit≤ tt)).0 (sym e) in record { digits = parts.0; least = parts.1; most = parts.2 }
 
 -- ---- texts
 

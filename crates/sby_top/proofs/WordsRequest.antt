@@ -92,7 +92,7 @@ not_taken app words is refused r asks = refused (ap (λ (a : App). takes a words
 
 -- ---- one request
 
-depth_is_one : (m n : ℕ) → m ≤ 1000 → n ≤ 1000 → decimal m ≡ decimal n → m ≡ n
+depth_is_one : (m n : ℕ) → m ≤ 100000 → n ≤ 100000 → decimal m ≡ decimal n → m ≡ n
 depth_is_one m n a b e =
     let k : m < 2 ^ 64 = omega (arith, a) in
     let l : n < 2 ^ 64 = omega (arith, b) in

@@ -27,7 +27,7 @@ IsGot (Some store) path most bytes = (content : List ℕ) × (store path ≡ Som
 
 -- the problem that is asked about a text
 abbrev pub problem_of : Request → List ℕ → ProblemOf
-problem_of request text = record { text = text; mode = request.mode; depth = request.depth }
+problem_of request text = record { text = text; mode = request.mode; span = whole request.depth }
 
 -- the text that the design's path gave is refused by this fault
 abbrev pub IsRefused : Option Store → Request → ProblemFault → Type 0
@@ -38,6 +38,10 @@ pub record IsAccepted (told : Option Store) (request : Request) (p : AskedOf) : 
   pub got : IsGot told request.design most_design p.problem.text
   pub asked : p.problem ≡ problem_of request p.problem.text
   pub problem : IsProblem p
+
+-- a problem looks at all cycles below its depth, as one slice
+abbrev pub IsWhole : AskedOf → Type 0
+IsWhole p = p.problem.span ≡ whole p.problem.span.depth
 
 -- the jobs of a mode over one slice from cycle 0, whatever the depth
 abbrev pub jobs_at : Mode → DesignOf → List JobName

@@ -24,7 +24,7 @@ use Rattle.sby_terms.specs.Problem.{ProblemOf}
 use Rattle.sby_terms.specs.declared.names.JobName.{JobName}
 use Rattle.sby_top.specs.Broken.{HasBrokenLines, last_of}
 use Rattle.sby_top.specs.Judged.{EndsWithRun, IsEndOf, IsFateEnd, IsFindingOf, IsJudged}
-use Rattle.sby_top.specs.Served.{ArePut, IsGot, jobs_in, most_stream}
+use Rattle.sby_top.specs.Served.{ArePut, IsGot, IsWhole, jobs_in, most_stream}
 use Rattle.sby_top.specs.Status.{answer_of, event_of}
 use Rattle.sby_top.specs.Texts.{job_path}
 use Rattle.sby_top.specs.declared.serve.Served.{Served}
@@ -143,6 +143,7 @@ pub record IsEmptyTables (jobs : ℕ) (tables : Tables) : Type 0 where
 -- a task whose design was accepted and whose streams were judged: what is known of its problem, the ends of its jobs, and their tables
 pub record IsJudgedTask (s : Served) : Type 0 where
   pub problem : IsProblem s.problem
+  pub whole : IsWhole s.problem
   pub lined : AreLined s.problem (jobs_in s.problem) s.report.ends
   pub answers : s.answers.items ≡ map answer_of s.report.ends
   pub events : s.events.items ≡ map event_of s.report.ends

@@ -78,11 +78,11 @@ mode_word Bmc = codes "bmc"
 mode_word Prove = codes "prove"
 mode_word Cover = codes "cover"
 
--- DEPTH: decimal digits without a leading 0, from 1 to 1,000
+-- DEPTH: decimal digits without a leading 0, from 1 to 100,000
 pub record IsDepth (word : List ℕ) (depth : ℕ) : Type 0 where
   pub digits : word ≡ decimal depth
   pub least : 1 ≤ depth
-  pub most : depth ≤ 1000
+  pub most : depth ≤ 100000
 
 -- the matches ask `--judge DESIGN MODE DEPTH [STREAM ..]`, with no other of the three flags and no BTOR2 witness
 pub record Judges (rows : List Row) (r : Request) : Type 0 where

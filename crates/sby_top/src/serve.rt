@@ -6,7 +6,7 @@ ghost use Rattle.sby_terms.specs.declared.names.JobName.{JobName};
 ghost use Rattle.sby_top.specs.Causes.{HasReason, IsDone};
 ghost use Rattle.sby_top.specs.Judged.{AreJudged};
 ghost use Rattle.sby_top.specs.Steps.{got_items, AreLined, IsEmptyTables, IsFailedCall, IsJudgedTask, IsPathJudged, IsPutFailed, IsRefusal, IsStreamGot};
-ghost use Rattle.sby_top.specs.Served.{ArePut, IsGot, IsServed, IsStored, jobs_in, problem_of, with_file};
+ghost use Rattle.sby_top.specs.Served.{ArePut, IsGot, IsServed, IsStored, IsWhole, jobs_in, problem_of, with_file};
 ghost use Rattle.sby_edge.specs.Files.{put_at};
 ghost use Rattle.sby_top.specs.Headline.{early_of};
 ghost use Rattle.judge.specs.Fault.{IsProblemFault};
@@ -22,7 +22,7 @@ use crate::words::TaskRequest;
 use judge::{Finding, Problem, ProblemFault};
 use race_core::{JobEnd, Report};
 use sby_edge::{Fail, Files, Got};
-use sby_terms::{Answer, Event, JobName, MAX_STREAM};
+use sby_terms::{Answer, Event, JobName, MAX_STREAM, Span};
 use std::alloc::{AllocError, Global};
 
 const MOST_DESIGN: u64 = 1 << 26;
@@ -107,7 +107,7 @@ fn problem_of(alloc: Global, text: Vec<u8>, asked: &TaskRequest) -> Result<Probl
     ensures ok { IfOk result (λ p. (p.problem ≡ problem_of asked.now text.items) × IsProblem p) }
     ensures err { IfErr result (IsRefusal (problem_of asked.now text.items)) }
 {
-    match Problem::new(alloc, text, asked.mode, asked.depth) {
+    match Problem::new(alloc, text, asked.mode, Span::whole(asked.depth)) {
         Ok(Ok(problem)) => Ok(problem),
         Ok(Err(fault)) => Err(refusal(fault)),
         Err(_) => Err(Early::Memory),
@@ -133,6 +133,7 @@ fn accept<F: Files>(alloc: Global, files: &mut F, asked: &TaskRequest) -> Result
 
 // How many jobs there are. A design has at most 2^27 cells.
 fn job_count(problem: &Problem) -> u32
+    requires { IsWhole problem.now }
     ensures { result ≡ length (jobs_in problem.now) }
 {
     // A flat design is one, of so few cells.
@@ -265,6 +266,7 @@ fn served_of(
     events: Vec<Event>,
 ) -> Served
     requires problem { IsProblem problem }
+    requires whole { IsWhole problem }
     requires lined { AreLined problem (jobs_in problem) report.ends }
     requires answers { (answers.items ≡ []) × (length report.ends ≤ vec_capacity answers) }
     requires events { (events.items ≡ []) × (length report.ends ≤ vec_capacity events) }

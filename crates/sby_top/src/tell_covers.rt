@@ -7,7 +7,7 @@ ghost use Rattle.design_meaning.specs.Runs.{IsRunOf};
 ghost use Rattle.sby_terms.specs.declared.names.JobName.TheVariants.{Cover};
 ghost use Rattle.sby_terms.specs.declared.names.Mode.TheVariants.{Cover as CoverMode};
 ghost use Rattle.sby_top.specs.Reached.{HasCoverLines, HasReachLines, HasStatementLines, reached_line, unreached_line};
-ghost use Rattle.sby_top.specs.Served.{jobs_in};
+ghost use Rattle.sby_top.specs.Served.{IsWhole, jobs_in};
 ghost use Rattle.sby_top.specs.Steps.{AreLined, IsLined};
 ghost use Rattle.sby_top.specs.Telling.{Tells};
 
@@ -147,6 +147,7 @@ pub fn tell_covers<S: Sink>(
     ends: &[JobEnd<Finding>],
 ) -> Result<(), Stop>
     requires mode { problem.now.problem.mode ≡ CoverMode }
+    requires whole { IsWhole problem.now }
     requires lined { AreLined problem.now (jobs_in problem.now) ends.now }
     ensures { (lines : List (List ℕ)) → HasCoverLines problem.now.design name.now 0 ends.now lines
         → Tells (S.taken out.old) (S.taken out.new) (S.faults out.old) (S.faults out.new) (S.ended out.new) lines result }

@@ -3,7 +3,7 @@
 ghost use Rattle.std.specs.Prelude.{◌≡◌, ◌≢◌, ◌≤◌, [], ◌∷◌, ◌++◌, ℕ, List, IfOk, None, OnErr, length, option_map, string_bytes};
 ghost use Rattle.sby_top.specs.Lines.{HasRunLines, HasVerdictLines, done_line, early_text, end_text, job_lines, lane_line, lane_lines, line_if, settled_line, settled_lines, unless_decided};
 ghost use Rattle.sby_terms.specs.declared.names.Mode.TheVariants.{Cover as CoverMode};
-ghost use Rattle.sby_top.specs.Served.{jobs_in};
+ghost use Rattle.sby_top.specs.Served.{IsWhole, jobs_in};
 ghost use Rattle.sby_top.specs.Status.{told_answers};
 ghost use Rattle.sby_top.specs.Steps.{AreLined, IsJudgedTask};
 ghost use Rattle.sby_top.specs.Telling.{Tells};
@@ -222,6 +222,7 @@ fn tell_failure<S: Sink>(
     verdict: Option<Verdict>,
 ) -> Result<(), Stop>
     requires mode { problem.now.problem.mode ≢ CoverMode }
+    requires whole { IsWhole problem.now }
     requires lined { AreLined problem.now (jobs_in problem.now) ends.now }
     ensures { (lines : List (List ℕ)) → HasRunLines (jobs_in problem.now) problem.now.design name.now ends.now verdict lines
         → Tells (S.taken out.old) (S.taken out.new) (S.faults out.old) (S.faults out.new) (S.ended out.new) lines result }

@@ -35,5 +35,5 @@ pub returns-clause-later : goal.returns-clause-later
 returns-clause-later g c =
     let mode : c.asked.inside.mode ≡ c.args.served.problem.problem.mode = ap (λ (a : Request). a.mode) c.asked.view_is ∙ sym c.requires.mode in
     let by = told_by c.args.served c.asked.inside.mode _ _ c.verdict_of-verdict.result.0 c.verdict_of-verdict.result.1 c.requires.task mode c.deref.ensures.value c.deref-2.ensures.value c.verdict_of-verdict.ensures.decided c.verdict_of-verdict.ensures.status in
-    let shown = verdict_lines c.args.served.problem c.as_str.result.now c.args.served.report.ends c.verdict_of-verdict.result.0 by.problem by.lined by.is_verdict in
+    let shown = verdict_lines c.args.served.problem c.as_str.result.now c.args.served.report.ends c.verdict_of-verdict.result.0 by.problem by.whole by.lined by.is_verdict in
     (c.tell_served-told.ensures shown.0 shown.1).later

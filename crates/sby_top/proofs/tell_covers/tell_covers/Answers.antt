@@ -5,10 +5,10 @@ use Rattle.sby_top.proofs.TellLemmas.{told_more, told_stopped}
 use Rattle.sby_top.proofs.tell_covers.tell_covers.Goals as goal
 
 pub tell_statement-requires-clause-statement : goal.tell_statement-requires-clause-statement
-tell_statement-requires-clause-statement g c = statement_below c.args.problem.now c.args.ends.now c.loop-number.number c.requires.mode c.requires.lined c.loop-number-test.true
+tell_statement-requires-clause-statement g c = statement_below c.args.problem.now c.args.ends.now c.loop-number.number c.requires.whole c.requires.mode c.requires.lined c.loop-number-test.true
 
 pub tell_statement-requires-clause-lined : goal.tell_statement-requires-clause-lined
-tell_statement-requires-clause-lined g c = statement_lined c.args.problem.now c.args.ends.now c.loop-number.number _ c.requires.mode c.requires.lined c.loop-number-test.true c.index-ends-number.is
+tell_statement-requires-clause-lined g c = statement_lined c.args.problem.now c.args.ends.now c.loop-number.number _ c.requires.whole c.requires.mode c.requires.lined c.loop-number-test.true c.index-ends-number.is
 
 pub returns-in_err-tell_statement : goal.returns-in_err-tell_statement
 returns-in_err-tell_statement g c = let p = err_from_is_err_and c.from_residual.result c.from_residual.ensures.1 in
