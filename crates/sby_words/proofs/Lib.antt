@@ -1,1 +1,5 @@
 pub mod WordsTaken
+pub mod FolderLemmas
+pub mod ListLemmas
+
+

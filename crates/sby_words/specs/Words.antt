@@ -18,38 +18,38 @@ mode_word Prove = codes "prove"
 mode_word Cover = codes "cover"
 
 -- the word is a number within these bounds: decimal digits without a leading 0
-pub record IsNumber (least most : ℕ) (word : List ℕ) (n : ℕ) : Type 0 where
+pub record IsNumber (from upto : ℕ) (word : List ℕ) (n : ℕ) : Type 0 where
   pub digits : word ≡ decimal n
-  pub least : least ≤ n
-  pub most : n ≤ most
+  pub least : from ≤ n
+  pub most : n ≤ upto
 
 -- DIR and the list say `DESIGN MODE DEPTH [STREAM ..]`, with no BTOR2 witness among the streams
 pub record Judges (directory : Option (List ℕ)) (list : List (List ℕ)) (r : JudgeRequest) : Type 0 where
   pub word : List ℕ
-  pub list : list ≡ r.design ∷ mode_word r.mode ∷ word ∷ r.streams
+  pub parts : list ≡ r.design ∷ mode_word r.mode ∷ word ∷ r.streams
   pub depth : IsNumber 1 100000 word r.depth
   pub folder : IsFolder directory r.design r.folder
   pub certificates : All (λ stream. EndsIn (codes ".wit") stream → ⊥) r.streams
 
 -- DIR and the list say `FILE.sby [TASK ..]`
 pub record Runs (directory : Option (List ℕ)) (list : List (List ℕ)) (r : TaskRequest) : Type 0 where
-  pub list : list ≡ r.file ∷ r.names
+  pub parts : list ≡ r.file ∷ r.names
   pub stem : HasStem r.file
-  pub directory : r.directory ≡ directory
+  pub option : r.directory ≡ directory
   pub placed : IfSome directory IsNamed
 
 -- DIR and the list say `FILE.sby` of `--dumptasks`. This form has no `-d DIR`: no folder is made, and of the two options `-f` alone is one that each form takes.
 pub record Lists (directory : Option (List ℕ)) (list : List (List ℕ)) (file : List ℕ) : Type 0 where
-  pub list : list ≡ file ∷ []
+  pub parts : list ≡ file ∷ []
   pub stem : HasStem file
-  pub directory : directory ≡ None
+  pub option : directory ≡ None
 
 -- DIR and the list say `N` of `--gen`
 pub record Generates (directory : Option (List ℕ)) (list : List (List ℕ)) (r : GenRequest) : Type 0 where
   pub word : List ℕ
-  pub list : list ≡ word ∷ []
+  pub parts : list ≡ word ∷ []
   pub size : IsNumber 2 10000 word r.size
-  pub directory : r.directory ≡ directory
+  pub option : r.directory ≡ directory
   pub placed : IfSome directory IsNamed
 
 -- DIR and the list say what is asked
@@ -67,10 +67,10 @@ form_of (AskNames file) = Names
 form_of (AskGen r) = Gen
 
 -- which flags of the forms stand among the words
-pub record HasFlags (rows : List Row) (judge dumptasks gen : Bool) : Type 0 where
-  pub judge : IsTrue judge ↔ IsGiven (codes "judge") rows
-  pub dumptasks : IsTrue dumptasks ↔ IsGiven (codes "dumptasks") rows
-  pub gen : IsTrue gen ↔ IsGiven (codes "gen") rows
+pub record HasFlags (rows : List Row) (judging listing generating : Bool) : Type 0 where
+  pub judge : IsTrue judging ↔ IsGiven (codes "judge") rows
+  pub dumptasks : IsTrue listing ↔ IsGiven (codes "dumptasks") rows
+  pub gen : IsTrue generating ↔ IsGiven (codes "gen") rows
 
 -- the form's flag stands among the words, and that of no other form; a run has none
 abbrev pub HasForm : List Row → Form → Type 0

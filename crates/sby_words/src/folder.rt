@@ -51,7 +51,7 @@ pub fn has_stem(file: &str) -> bool
 
 /// Whether DIR names a folder, where it is given.
 pub fn is_placed(directory: Option<&str>) -> bool
-    ensures { IsTrue result ↔ IfSome (option_map (λ s. s.now) directory) IsNamed }
+    ensures { IsTrue result ↔ IfSome (option_map (λ s. s.now) directory.entry) IsNamed }
 {
     match directory {
         Some(text) => !text.is_empty(),
@@ -66,7 +66,7 @@ pub fn folder_of(
     directory: Option<&str>,
     task: &str,
 ) -> Result<String, AllocError>
-    ensures { IfOk result (λ folder. string_bytes folder ≡ task_folder stem.now (option_map (λ s. s.now) directory) task.now) }
+    ensures { IfOk result (λ folder. string_bytes folder ≡ task_folder stem.now (option_map (λ s. s.now) directory.entry) task.now) }
 {
     let front = directory.unwrap_or(stem);
     if task.is_empty() {

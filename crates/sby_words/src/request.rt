@@ -155,9 +155,9 @@ fn names_file<'a>(directory: Option<&'a str>, list: &[&'a str]) -> Option<&'a st
 
 fn gen_size(directory: Option<&str>, list: &[&str]) -> Option<u32>
     ensures { MatchOption result
-        ((r : GenRequest) → Generates (option_map (λ s. s.now) directory) (texts list.now) r → ⊥)
-        (λ size. Generates (option_map (λ s. s.now) directory) (texts list.now) (record {
-          directory = option_map (λ s. s.now) directory;
+        ((r : GenRequest) → Generates (option_map (λ s. s.now) directory.entry) (texts list.now) r → ⊥)
+        (λ size. Generates (option_map (λ s. s.now) directory.entry) (texts list.now) (record {
+          directory = option_map (λ s. s.now) directory.entry;
           size = size;
         })) }
 {
@@ -181,7 +181,7 @@ fn owned(alloc: Global, list: &[&str]) -> Result<Vec<String>, AllocError>
 }
 
 fn owned_directory(alloc: Global, directory: Option<&str>) -> Result<Option<String>, AllocError>
-    ensures { IfOk result (λ r. option_map string_bytes r ≡ option_map (λ s. s.now) directory) }
+    ensures { IfOk result (λ r. option_map string_bytes r ≡ option_map (λ s. s.now) directory.entry) }
 {
     match directory {
         Some(text) => Ok(Some(String::from_str(alloc, text)?)),
@@ -194,7 +194,7 @@ fn judge_asked(
     directory: Option<&str>,
     list: &[&str],
 ) -> Result<Option<Asked>, AllocError>
-    ensures { IfOk result (λ asked. IsSaid form.Judge (option_map (λ s. s.now) directory) (texts list.now) (option_map request_of asked)) }
+    ensures { IfOk result (λ asked. IsSaid form.Judge (option_map (λ s. s.now) directory.entry) (texts list.now) (option_map request_of asked)) }
 {
     let Some(parts) = judge_parts(directory, list) else {
         return Ok(None);
@@ -213,7 +213,7 @@ fn tasks_asked(
     directory: Option<&str>,
     list: &[&str],
 ) -> Result<Option<Asked>, AllocError>
-    ensures { IfOk result (λ asked. IsSaid form.Tasks (option_map (λ s. s.now) directory) (texts list.now) (option_map request_of asked)) }
+    ensures { IfOk result (λ asked. IsSaid form.Tasks (option_map (λ s. s.now) directory.entry) (texts list.now) (option_map request_of asked)) }
 {
     let Some(parts) = task_parts(directory, list) else {
         return Ok(None);
@@ -230,7 +230,7 @@ fn names_asked(
     directory: Option<&str>,
     list: &[&str],
 ) -> Result<Option<Asked>, AllocError>
-    ensures { IfOk result (λ asked. IsSaid form.Names (option_map (λ s. s.now) directory) (texts list.now) (option_map request_of asked)) }
+    ensures { IfOk result (λ asked. IsSaid form.Names (option_map (λ s. s.now) directory.entry) (texts list.now) (option_map request_of asked)) }
 {
     let Some(file) = names_file(directory, list) else {
         return Ok(None);
@@ -243,7 +243,7 @@ fn gen_asked(
     directory: Option<&str>,
     list: &[&str],
 ) -> Result<Option<Asked>, AllocError>
-    ensures { IfOk result (λ asked. IsSaid form.Gen (option_map (λ s. s.now) directory) (texts list.now) (option_map request_of asked)) }
+    ensures { IfOk result (λ asked. IsSaid form.Gen (option_map (λ s. s.now) directory.entry) (texts list.now) (option_map request_of asked)) }
 {
     let Some(size) = gen_size(directory, list) else {
         return Ok(None);
