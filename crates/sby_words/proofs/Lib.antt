@@ -1,5 +1,4 @@
 pub mod WordsTaken
 pub mod FolderLemmas
 pub mod ListLemmas
-
-
+pub mod AskedLemmas

@@ -13,7 +13,8 @@ use Rattle.clap.specs.Walk.{texts}
 use Rattle.sby_terms.specs.Number.{number_upto}
 use Rattle.sby_terms.specs.declared.names.Mode.{Mode}
 use Rattle.sby_terms.specs.declared.names.Mode.TheVariants.{Bmc, Prove, Cover}
-use Rattle.sby_words.specs.Words.{IsNumber, mode_word}
+use Rattle.sby_words.specs.Requests.{JudgeRequest}
+use Rattle.sby_words.specs.Words.{IsNumber, Judges, mode_word}
 
 -- ---- numbers
 
@@ -87,15 +88,22 @@ three_and_more (x ∷ []) d long = absurd (omega (arith, long))
 three_and_more (x ∷ y ∷ []) d long = absurd (omega (arith, long))
 three_and_more (x ∷ y ∷ z ∷ rest) d long = ap (λ (t : List (Bor (List ℕ))). x.now ∷ y.now ∷ z.now ∷ texts t) (sym (take_all (length (x ∷ y ∷ z ∷ rest) - 3) rest (omega arith)))
 
-pub one_and_more : (xs : List (Bor (List ℕ))) (d : Bor (List ℕ)) → 1 ≤ length xs → texts xs ≡ (slice_index_or xs 0 d).now ∷ texts (later 1 xs)
-one_and_more [] d long = absurd (omega (arith, long))
-one_and_more (x ∷ rest) d long = ap (λ (t : List (Bor (List ℕ))). x.now ∷ texts t) (sym (take_all (length (x ∷ rest) - 1) rest (omega arith)))
+-- what the parts of `--judge` are in a request
+pub record Stands (r : JudgeRequest) (said design mode depth : List ℕ) (streams : List (List ℕ)) : Type 0 where
+  pub design_is : r.design ≡ design
+  pub mode_is : mode_word r.mode ≡ mode
+  pub word_is : said ≡ depth
+  pub streams_are : r.streams ≡ streams
 
-pub just_one : (xs : List (Bor (List ℕ))) (d : Bor (List ℕ)) → length xs ≡ 1 → texts xs ≡ (slice_index_or xs 0 d).now ∷ []
-just_one [] d e = absurd (omega (arith, e))
-just_one (x ∷ []) d e = refl
-just_one (x ∷ y ∷ rest) d e = absurd (omega (arith, e))
+pub stands : (directory : Option (List ℕ)) (r : JudgeRequest) (xs : List (Bor (List ℕ))) (d : Bor (List ℕ)) → 3 ≤ length xs
+    → (j : Judges directory (texts xs) r) → Stands r j.word (slice_index_or xs 0 d).now (slice_index_or xs 1 d).now (slice_index_or xs 2 d).now (texts (later 3 xs))
+stands directory r xs d long j =
+    let same : r.design ∷ mode_word r.mode ∷ j.word ∷ r.streams
+    ≡ (slice_index_or xs 0 d).now ∷ (slice_index_or xs 1 d).now ∷ (slice_index_or xs 2 d).now ∷ texts (later 3 xs) =
+    sym j.parts ∙ three_and_more xs d long in
+    let mode : mode_word r.mode ≡ (slice_index_or xs 1 d).now = cc in
+    record { design_is = cc; mode_is = mode; word_is = cc; streams_are = cc }
 
--- a list is as long as its texts
-pub long_as : (xs : List (Bor (List ℕ))) (ts : List (List ℕ)) → texts xs ≡ ts → length xs ≡ length ts
-long_as xs ts e = sym (length-map (λ (s : Bor (List ℕ)). s.now) xs) ∙ ap length e
+pub judge_list : (xs : List (Bor (List ℕ))) (d : Bor (List ℕ)) → 3 ≤ length xs → (mode : Mode) → (slice_index_or xs 1 d).now ≡ mode_word mode
+    → texts xs ≡ (slice_index_or xs 0 d).now ∷ mode_word mode ∷ (slice_index_or xs 2 d).now ∷ texts (later 3 xs)
+judge_list xs d long mode same = three_and_more xs d long ∙ ap (λ m. (slice_index_or xs 0 d).now ∷ m ∷ (slice_index_or xs 2 d).now ∷ texts (later 3 xs)) same
