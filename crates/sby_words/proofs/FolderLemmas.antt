@@ -50,3 +50,9 @@ empty_is_no_folder directory design stem chosen folder is which empty asked =
     chosen_text : (o : Option (Bor (List ℕ))) (d : Bor (List ℕ)) → unwrap_or (option_map (λ b. b.now) o) d.now ≡ (unwrap_or o d).now
     chosen_text None d = refl
     chosen_text (Some b) d = refl
+
+pub stem_is_one : (file s t : List ℕ) → IsStem file s → IsStem file t → s ≡ t
+stem_is_one file s t (inl a) (inl b) = append_cancel_right s t (codes ".sby") (sym a ∙ b)
+stem_is_one file s t (inl a) (inr b) = absurd (b.1 (s, a))
+stem_is_one file s t (inr a) (inl b) = absurd (a.1 (t, b))
+stem_is_one file s t (inr a) (inr b) = sym a.0 ∙ b.0

@@ -18,15 +18,6 @@ use Rattle.sby_words.specs.Words.{IsNumber, Judges, mode_word}
 
 -- ---- numbers
 
--- what the reader of numbers answers of a word
-abbrev pub Decimal : Type 0
-Decimal = (most n : ℕ) (word : List ℕ) → most ≤ 18446744073709551615 → (number_upto most word ≡ Some n) ↔ ((word ≡ decimal n) × (1 ≤ n) × (n ≤ most))
-
-pub number_is : (most : ℕ) (word : List ℕ) (r : Option ℕ) → most ≤ 18446744073709551615 → Decimal → r ≡ number_upto most word
-    → MatchOption r ((n : ℕ) → IsNumber 1 most word n → ⊥) (IsNumber 1 most word)
-number_is most word None small law e = λ n is. let some = (law most n word small).1 (is.digits, is.least, is.most) in let f : None ≡ Some n = e ∙ some in cc
-number_is most word (Some n) small law e = let parts = (law most n word small).0 (sym e) in record { digits = parts.0; least = parts.1; most = parts.2 }
-
 pub number_is_one : (least most : ℕ) (word : List ℕ) (m n : ℕ) → most < 2 ^ 64 → IsNumber least most word m → IsNumber least most word n → m ≡ n
 number_is_one least most word m n small a b =
     let k : m < 2 ^ 64 = omega (arith, a.most, small) in

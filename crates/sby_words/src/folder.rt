@@ -42,6 +42,11 @@ pub fn stem_of(file: &str) -> &str
     }
 }
 
+/// A law: a path has one stem.
+pub fn files_have_one_stem()
+    ensures { (file s t : List ℕ) → IsStem file s → IsStem file t → s ≡ t }
+{}
+
 /// Whether the stem of a task file names a folder.
 pub fn has_stem(file: &str) -> bool
     ensures { IsTrue result ↔ HasStem file.now }

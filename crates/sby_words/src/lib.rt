@@ -9,5 +9,5 @@ mod request;
 mod words;
 
 pub use asked::{Asked, GenWords, JudgeWords, TaskWords};
-pub use folder::{folder_of, stem_of};
+pub use folder::{files_have_one_stem, folder_of, stem_of};
 pub use words::{asked_of, plain_words_are_asked, words_have_one_request};

@@ -19,6 +19,7 @@ use std::alloc::{AllocError, Global};
 
 /// The sizes of generated task files.
 const MIN_SIZE: u32 = 2;
+
 const MAX_SIZE: u32 = 10_000;
 
 /// The parts of `--judge`, where they stand in the words.
