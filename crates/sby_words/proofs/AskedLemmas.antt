@@ -1,6 +1,6 @@
 -- What the matches ask, and that it is one thing.
 use Rattle.std.proofs.Common.{◌≡◌, ◌∙◌, ◌<◌, ◌^◌, ℕ, true, false, List, [], ◌∷◌, Option, Some, None, refl, sym, ap, subst, arith, true≢false}
-use Rattle.std.specs.Prelude.{◌↔◌, IsTrue, MatchOption, codes, option_map, unwrap_or}
+use Rattle.std.specs.Prelude.{◌↔◌, IsTrue, codes, option_map, unwrap_or}
 use Rattle.std.specs.Borrow.{Bor}
 use Rattle.clap.specs.Faults.{fault_of}
 use Rattle.clap.specs.Simple.{App, is_simple, matches_of}
@@ -9,7 +9,6 @@ use Rattle.clap.specs.Walk.{Row, all_of, first_of, rows_of, texts}
 use Rattle.clap.specs.Matches.{first_value, found_of, matched_of, raw_values}
 use Rattle.clap.specs.declared.parser.matches.ArgMatches.{ArgMatches}
 use Rattle.clap.proofs.WalkLemmas.{first_value-rows, raw_values-rows}
-use Rattle.sby_terms.specs.declared.names.Mode.{Mode}
 use Rattle.sby_words.specs.declared.form.Form.{Form}
 use Rattle.sby_words.specs.declared.form.Form.TheVariants.{Judge, Tasks, Names, Gen}
 use Rattle.sby_words.specs.Command.{command}

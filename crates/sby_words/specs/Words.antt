@@ -38,7 +38,7 @@ pub record Runs (directory : Option (List ℕ)) (list : List (List ℕ)) (r : Ta
   pub option : r.directory ≡ directory
   pub placed : IfSome directory IsNamed
 
--- DIR and the list say `FILE.sby` of `--dumptasks`. This form has no `-d DIR`: no folder is made, and of the two options `-f` alone is one that each form takes.
+-- DIR and the list say `FILE.sby` of `--dumptasks`. It has no `-d DIR`: it names no folder, and `-f` alone is an option of every form.
 pub record Lists (directory : Option (List ℕ)) (list : List (List ℕ)) (file : List ℕ) : Type 0 where
   pub parts : list ≡ file ∷ []
   pub stem : HasStem file

@@ -1,4 +1,4 @@
-use Rattle.std.proofs.Common.{◌∙◌, sym, subst, true≢false, codes, option_map, Option, List, ℕ}
+use Rattle.std.proofs.Common.{◌∙◌, sym, subst, true≢false, codes, option_map, List, ℕ}
 use Rattle.std.specs.Prelude.{All}
 use Rattle.std.specs.List.{slice_index_or}
 use Rattle.sby_words.specs.Folders.{EndsIn, IsFolder}
