@@ -1,0 +1,5 @@
+pub mod Command
+pub mod Requests
+pub mod Folders
+pub mod Words
+pub mod Answers
