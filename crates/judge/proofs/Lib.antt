@@ -1,6 +1,7 @@
 pub mod Induction
 pub mod Cycles
 pub mod Problems
+pub mod Slices
 pub mod Carrying
 pub mod Encodes
 pub mod Truth
