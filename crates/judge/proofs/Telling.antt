@@ -106,12 +106,12 @@ never_more (Ok (Ok Unknown)) o reading fate = cc
 never_more (Ok (Err b)) o reading fate = cc
 never_more (Err e) o reading fate = cc
 
-not_wanting : (w : Bool) → (w ≡ true → ⊥) → w ≡ false
-not_wanting true h = absurd (h refl)
+not_wanting : (w : Bool) → (w ≡ true → false ≡ true) → w ≡ false
+not_wanting true h = sym (h refl)
 not_wanting false h = refl
 
 -- the stream's judge tells the fate of what was taken, or tells it again
-pub ended : (old new : StreamJudgeOf) (bytes : List ℕ) (o : Outcome) → (old.wanting ≡ true → ⊥) → ((p : Outcome) → old.wanting ≡ false → old.outcome ≡ Some p → ◌≡◌ {A = Result Outcome AllocError} (Ok o) (Ok p) × (new ≡ old))
+pub ended : (old new : StreamJudgeOf) (bytes : List ℕ) (o : Outcome) → (old.wanting ≡ true → false ≡ true) → ((p : Outcome) → old.wanting ≡ false → old.outcome ≡ Some p → ◌≡◌ {A = Result Outcome AllocError} (Ok o) (Ok p) × (new ≡ old))
     → (Stands old bytes → StreamEnds old new bytes o) → Heard old bytes → StreamEnds old new bytes o
 ended old new bytes o kept again ends (inl stands) = ends stands
 ended old new bytes o kept again ends (inr (p, over)) =
