@@ -7,3 +7,5 @@ pub mod Encodes
 pub mod Truth
 pub mod Telling
 pub mod Zeros
+pub mod Files
+pub mod Claims
