@@ -6,9 +6,6 @@ use Rattle.sby_top.proofs.judge_stream.feed_all.Goals as goal
 pub feed-requires : goal.feed-requires
 feed-requires c = not_over c.args.judge.now _ c.requires
 
-pub end-requires : goal.end-requires
-end-requires c = not_over c.feed.new.self _ (took_after c.args.judge.now c.feed.new.self _ _ (c.is_more.ensures.0 c.if-is_more.true) (c.in_ok-answer.ensures.feeds [] c.requires))
-
 pub returns-then-is_more : goal.returns-then-is_more
 returns-then-is_more c =
     let none = c.is_more.ensures.0 c.if-is_more.true in
