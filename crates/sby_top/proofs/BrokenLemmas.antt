@@ -13,7 +13,7 @@ use Rattle.design_core.specs.Shape.{CellOf, DesignOf, WireOf}
 use Rattle.design_reader.specs.Grammar.{Reads}
 use Rattle.sby_bits.specs.Rows.{Row}
 use Rattle.sby_terms.specs.Problem.{ProblemOf}
-use Rattle.sby_terms.specs.Span.{first_of, last_of}
+use Rattle.sby_terms.specs.Span.{first_of as before_slice, last_of as slice_end}
 use Rattle.sby_terms.specs.declared.names.Answer.{Answer}
 use Rattle.sby_terms.specs.declared.names.Answer.TheVariants.{Sat, Unsat}
 use Rattle.sby_terms.specs.declared.names.JobName.{JobName}
@@ -173,16 +173,16 @@ shown_breaks d k n run shows = let at = shows.3.1 in record {
   broken = (shows.3.0, at.last (length run - 1) (omega (arith, at.run.window.some)));
 }
 
-run_claim : (p : AskedOf) (f : FindingOf) (run : List CycleOf) (answer : Answer) → IsProblem p → IsFindingOf p (Base 0) f → f.run ≡ Some run → f.answer ≡ answer → RunShows p.design (first_of p.problem.span 0) (last_of p.problem.span 0) (Some run)
-run_claim p f run Sat problem of is answers = subst (RunShows p.design (first_of p.problem.span 0) (last_of p.problem.span 0)) is (finding_claims p (Base 0) f Sat of answers p.design problem.reads)
+run_claim : (p : AskedOf) (f : FindingOf) (run : List CycleOf) (answer : Answer) → IsProblem p → IsFindingOf p (Base 0) f → f.run ≡ Some run → f.answer ≡ answer → RunShows p.design (before_slice p.problem.span 0) (slice_end p.problem.span 0) (Some run)
+run_claim p f run Sat problem of is answers = subst (RunShows p.design (before_slice p.problem.span 0) (slice_end p.problem.span 0)) is (finding_claims p (Base 0) f Sat of answers p.design problem.reads)
 run_claim p f run Unsat problem of is answers = let none : f.run ≡ None = (finding_claims p (Base 0) f Unsat of answers p.design problem.reads).1 in cc
 
 -- the run of a finding for the job Base shows a broken assertion
-pub run_shows : (p : AskedOf) (f : FindingOf) (run : List CycleOf) → IsProblem p → IsFindingOf p (Base 0) f → f.run ≡ Some run → RunShows p.design (first_of p.problem.span 0) (last_of p.problem.span 0) (Some run)
+pub run_shows : (p : AskedOf) (f : FindingOf) (run : List CycleOf) → IsProblem p → IsFindingOf p (Base 0) f → f.run ≡ Some run → RunShows p.design (before_slice p.problem.span 0) (slice_end p.problem.span 0) (Some run)
 run_shows p f run problem of is = run_claim p f run f.answer problem of is refl
 
 pub finding_breaks : (p : AskedOf) (flat : DesignOf) (f : FindingOf) (run : List CycleOf) → flat ≡ p.design → IsProblem p → IsFindingOf p (Base 0) f → f.run ≡ Some run → Breaks flat run
-finding_breaks p flat f run same problem of is = rw same (shown_breaks p.design (first_of p.problem.span 0) (last_of p.problem.span 0) run (run_shows p f run problem of is))
+finding_breaks p flat f run same problem of is = rw same (shown_breaks p.design (before_slice p.problem.span 0) (slice_end p.problem.span 0) run (run_shows p f run problem of is))
 
 -- ---- the cycles of a run
 

@@ -29,7 +29,7 @@ use Rattle.sby_top.specs.Headline.{Code, Cut}
 use Rattle.sby_top.specs.Lines.{HasLines, HasRunLines, HasVerdictLines, done_line, early_text, end_text, job_lines, lane_line, lane_lines, line_if, settled_line, settled_lines, unless_decided}
 use Rattle.sby_top.specs.Judged.{IsFindingOf}
 use Rattle.sby_top.specs.Reached.{HasCoverLines, HasStatementLines}
-use Rattle.sby_terms.specs.Span.{first_of, last_of}
+use Rattle.sby_terms.specs.Span.{first_of as before_slice, last_of as slice_end}
 use Rattle.sby_top.specs.Served.{IsWhole, jobs_at, jobs_in}
 use Rattle.sby_top.specs.Steps.{AreLined, HasEndLines, HasShownLines, IsJudgedTask, IsLined}
 use Rattle.sby_top.specs.Status.{AreDecided, IsStatus, answer_of, event_of, told_answers}
@@ -125,14 +125,14 @@ failure_lines p name ends end lines one at has =
 pub carries_run : (p : AskedOf) (f : FindingOf) (run : Option (List CycleOf)) → IsProblem p → IsFindingOf p (Base 0) f → f.answer ≡ Sat → f.run ≡ run → (shown : List CycleOf) × (f.run ≡ Some shown)
 carries_run p f (Some run) problem of sat is = (run, is)
 carries_run p f None problem of sat is =
-    let shows : RunShows p.design (first_of p.problem.span 0) (last_of p.problem.span 0) f.run = finding_claims p (Base 0) f Sat of sat p.design problem.reads in
-    absurd (subst (RunShows p.design (first_of p.problem.span 0) (last_of p.problem.span 0)) is shows)
+    let shows : RunShows p.design (before_slice p.problem.span 0) (slice_end p.problem.span 0) f.run = finding_claims p (Base 0) f Sat of sat p.design problem.reads in
+    absurd (subst (RunShows p.design (before_slice p.problem.span 0) (slice_end p.problem.span 0)) is shows)
 
 fail_lines : (p : AskedOf) (jobs : List JobName) (name : List ℕ) (ends : List (JobEnd FindingOf)) → IsProblem p → slice_get jobs 0 ≡ Some (Base 0) → IsAnsweredAt p ends 0 (Base 0) Sat
     → (lines : List (List ℕ)) × HasRunLines jobs p.design name ends (Some FailVerdict) lines
 fail_lines p jobs name ends problem at base =
     let run = carries_run p base.finding base.finding.run problem base.of base.answers refl in
-    let lines = broken_lines p.design name run.0 (shown_breaks p.design (first_of p.problem.span 0) (last_of p.problem.span 0) run.0 (run_shows p base.finding run.0 problem base.of run.1)) in
+    let lines = broken_lines p.design name run.0 (shown_breaks p.design (before_slice p.problem.span 0) (slice_end p.problem.span 0) run.0 (run_shows p base.finding run.0 problem base.of run.1)) in
     (lines.0, (run.0, (0, base.finding, at, base.at, run.1), lines.1))
 
 -- in a mode with the job Base

@@ -19,7 +19,7 @@ use Rattle.design_meaning.specs.Runs.{CycleOf, valuations}
 use Rattle.design_core.specs.Shape.{CellOf, DesignOf}
 use Rattle.sby_terms.specs.Decide.{Decides}
 use Rattle.sby_terms.specs.Problem.{ProblemOf}
-use Rattle.sby_terms.specs.Span.{first_of, last_of, whole}
+use Rattle.sby_terms.specs.Span.{first_of as before_slice, last_of as slice_end, whole}
 use Rattle.sby_terms.specs.declared.span.Span.{Span}
 use Rattle.sby_terms.specs.declared.names.Answer.TheVariants.{Sat, Unsat}
 use Rattle.sby_terms.specs.declared.names.JobName.TheVariants.{Base, Step, Cover}
@@ -34,7 +34,7 @@ use Rattle.sby_top.specs.Causes.{IsOutcome, IsDone}
 use Rattle.sby_top.specs.Headline.{AreLines, ArePrintedOf, FailClaim, IsReachPrinted, IsReachShown, IsShown, IsTrueOf, IsUnreachedShown, NamesEvent, PassClaim}
 use Rattle.sby_top.specs.Lines.{HasLines, HasRunLines, HasVerdictLines, done_line, lane_lines, settled_lines, unless_decided}
 use Rattle.sby_top.specs.Reached.{HasCoverLines, HasReachLines, HasStatementLines, unreached_line}
-use Rattle.sby_top.specs.Served.{IsAccepted, jobs_at, jobs_in}
+use Rattle.sby_top.specs.Served.{IsAccepted, IsWhole, jobs_at, jobs_in}
 use Rattle.sby_top.specs.Status.{IsStatus, IsStatusOf, answer_of, event_of, told_answers}
 use Rattle.sby_top.specs.Steps.{AreLined}
 use Rattle.sby_top.specs.Counts.{counts_of}
@@ -48,6 +48,7 @@ use Rattle.sby_top.proofs.BrokenLemmas.{broken_cell, finding_claims, first_exist
 use Rattle.sby_top.proofs.JobLemmas.{IsAnsweredAt, answered_at, carried_first, cover_at, cover_count, jobs_by, judged_lined, lined_count}
 use Rattle.sby_top.proofs.LineLemmas.{carries_run, run_lines_by}
 use Rattle.sby_top.proofs.ReachLemmas.{cell_at}
+use Rattle.sby_top.proofs.ServeLemmas.{accepted_whole}
 use Rattle.sby_top.proofs.StatusLemmas.{base_fails, fail_decides, pass_decides}
 
 -- the law of k-induction
@@ -154,7 +155,7 @@ fails_at_base : (request : Request) (told : Option Store) (end : TaskEnd) (repor
 fails_at_base request told end report p apart task base sat =
     let found = answered_at p (jobs_at request.mode p.design) report.ends 0 (Base 0) Sat task.lined base sat in
     let run = carries_run p found.finding found.finding.run task.accepted.problem found.of found.answers refl in
-    shows_run request told end p report found.finding run.0 apart task base sat found.at run.1 (subst (λ (s : Span). RunShows p.design (first_of s 0) (last_of s 0) (Some run.0)) (accepted_whole told request p task.accepted) (run_shows p found.finding run.0 task.accepted.problem found.of run.1))
+    shows_run request told end p report found.finding run.0 apart task base sat found.at run.1 (subst (λ (s : Span). RunShows p.design (before_slice s 0) (slice_end s 0) (Some run.0)) (accepted_whole told request p task.accepted) (run_shows p found.finding run.0 task.accepted.problem found.of run.1))
 
 -- ---- cover statements
 
@@ -263,18 +264,22 @@ unreached_at request end report p k problem lines_are lt found =
 never_breaks : NothingBreaks → (d : DesignOf) (n : ℕ) → 0 < n → NoBreak d 0 n → (Solvable d Step (whole n) → ⊥) → NeverBreak d
 never_breaks law d n some none step = law d n some (λ s. none s.0 s.1 s.2 s.3 s.4 s.5) step
 
-passes_by : NothingBreaks → (mode : Mode) (request : Request) (end : TaskEnd) (report : ReportOf FindingOf) (p : AskedOf) → 0 < p.problem.span.depth → IsProblem p → end.reports.items ≡ report ∷ []
+-- no run breaks an assertion below the depth, where the one slice says so
+none_below : (p : AskedOf) → IsWhole p → NoBreak p.design (before_slice p.problem.span 0) (slice_end p.problem.span 0) → NoBreak p.design 0 p.problem.span.depth
+none_below p one none = subst (λ (s : Span). NoBreak p.design (before_slice s 0) (slice_end s 0)) one none
+
+passes_by : NothingBreaks → (mode : Mode) (request : Request) (end : TaskEnd) (report : ReportOf FindingOf) (p : AskedOf) → IsWhole p → 0 < p.problem.span.depth → IsProblem p → end.reports.items ≡ report ∷ []
     → AreLined p (jobs_at mode p.design) report.ends → ((lines : List (List ℕ)) → AreLines request end lines → HasLines mode request.folder p.problem.text None (report ∷ []) lines)
     → Decides mode (map answer_of report.ends) PassVerdict → PassClaim mode request end p.design p.problem.span.depth
-passes_by law Bmc request end report p some problem reports lined lines_are decides =
+passes_by law Bmc request end report p one some problem reports lined lines_are decides =
     let base = answered_at p (jobs_at Bmc p.design) report.ends 0 (Base 0) Unsat lined refl decides in
-    (finding_claims p (Base 0) base.finding Unsat base.of base.answers p.design problem.reads).0
-passes_by law Prove request end report p some problem reports lined lines_are decides =
+    none_below p one (finding_claims p (Base 0) base.finding Unsat base.of base.answers p.design problem.reads).0
+passes_by law Prove request end report p one some problem reports lined lines_are decides =
     let base = answered_at p (jobs_at Prove p.design) report.ends 0 (Base 0) Unsat lined refl decides.0 in
     let step = answered_at p (jobs_at Prove p.design) report.ends 1 Step Unsat lined refl decides.1 in
-    never_breaks law p.design p.problem.span.depth some (finding_claims p (Base 0) base.finding Unsat base.of base.answers p.design problem.reads).0
-    (finding_claims p Step step.finding Unsat step.of step.answers p.design problem.reads).0
-passes_by law CoverMode request end report p some problem reports lined lines_are decides = λ k lt.
+    never_breaks law p.design p.problem.span.depth some (none_below p one (finding_claims p (Base 0) base.finding Unsat base.of base.answers p.design problem.reads).0)
+    (subst (λ (s : Span). Solvable p.design Step s → ⊥) one (finding_claims p Step step.finding Unsat step.of step.answers p.design problem.reads).0)
+passes_by law CoverMode request end report p one some problem reports lined lines_are decides = λ k lt.
     let long : k < length (map answer_of report.ends) = omega (arith, lt, length-map report.ends answer_of, lined_count p (jobs_at CoverMode p.design) report.ends lined, cover_count p.design) in
     let sat : slice_get (map answer_of report.ends) k ≡ Some (Some Sat) = slice_get-get_or (map answer_of report.ends) k None long ∙ ap Some (decides k None long) in
     reaches_at request end report p k problem reports lines_are lt (answered_at p (jobs_at CoverMode p.design) report.ends k (Cover k) Sat lined (cover_at p.design k lt) sat)
@@ -305,7 +310,7 @@ done_passes law request told end report p askable task is =
     let depth : p.problem.span.depth ≡ request.depth = ap (λ (q : ProblemOf). q.span.depth) task.accepted.asked in
     let some : 0 < p.problem.span.depth = omega (arith, depth, askable.least) in
     says_truly request told end.text p (PassClaim request.mode request end) task.accepted task.text_is
-    (passes_by law request.mode request end report p some task.accepted.problem task.reports task.lined (λ lines are. lines_of request told end report p lines task are)
+    (passes_by law request.mode request end report p (accepted_whole told request p task.accepted) some task.accepted.problem task.reports task.lined (λ lines are. lines_of request told end report p lines task are)
     (pass_decides request.mode (map answer_of report.ends) (map event_of report.ends) is))
 
 done_fails : (request : Request) (told : Option Store) (end : TaskEnd) (report : ReportOf FindingOf) (p : AskedOf) → IsTaskDone request told end report p

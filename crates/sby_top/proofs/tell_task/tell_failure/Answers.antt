@@ -22,5 +22,5 @@ pub returns-in-Some-Fail : goal.returns-in-Some-Fail
 returns-in-Some-Fail g c = λ lines has.
     let lt : 0 < length c.args.ends.now = omega (arith, lined_count c.args.problem.now (jobs_in c.args.problem.now) c.args.ends.now c.requires.lined, slice_get_within (jobs_in c.args.problem.now) 0 (Base 0) (base_at c.args.problem.now c.requires.whole c.requires.mode)) in
     let fails : c.args.verdict ≡ Some Fail = c.in-Some-Fail.is ∙ ap Some (rw c.in-Some-Fail.is at c.in-Some-Fail.field-0-is) in
-    c.tell_run.ensures lines (failure_lines c.args.problem.now c.args.name.now c.args.ends.now c.index-ends-0.result lines (item_at c.args.ends.now 0 c.index-ends-0.result c.index-ends-0.is lt)
+    c.tell_run.ensures lines (failure_lines c.args.problem.now c.args.name.now c.args.ends.now c.index-ends-0.result lines c.requires.whole (item_at c.args.ends.now 0 c.index-ends-0.result c.index-ends-0.is lt)
     (subst (λ v. HasRunLines (jobs_in c.args.problem.now) c.args.problem.now.design c.args.name.now c.args.ends.now v lines) fails has))
