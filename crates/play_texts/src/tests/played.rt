@@ -1,7 +1,7 @@
 // Designs, played cycle by cycle.
 
-ghost use Rattle.std.specs.Prelude.{◌≡◌, ◌≢◌, ◌→◌, All, IsSome, IsTrue};
-ghost use Rattle.model_play.specs.declared.player.Stage.TheVariants.{New, Stepped};
+ghost use Rattle.std.specs.Prelude.{◌≡◌, All, IsSome, IsTrue};
+ghost use Rattle.model_play.specs.declared.player.Stage.TheVariants.{Stepped};
 
 use design_check::check::check;
 use design_check::flat::Flat;

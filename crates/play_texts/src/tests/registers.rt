@@ -98,8 +98,7 @@ fn text_of(alloc: Global, register: &Register, level: u8) -> Result<String, Fail
         text.push_str(&enable)?;
     }
     if let Some(port) = register.reset {
-        let reset = format!(
-            in alloc;
+        let reset = format!(in alloc;
             "parameter \\{port}_POLARITY {level} parameter \\{port}_VALUE 2'01 connect \\{port} \\rst\n"
         )?;
         text.push_str(&reset)?;
@@ -130,7 +129,12 @@ fn registers_take_their_lines(rt: HostRuntime) -> Result<(), Fail> {
         for ((level, inputs), wanted) in RUNS.into_iter().zip(register.shown) {
             let text = text_of(alloc, &register, level)?;
             let played = play(alloc, &text, &inputs)?;
-            assert_eq!(rt; shown(alloc, &played)?.as_str(), wanted, "{}", register.kind);
+            assert_eq!(rt;
+                shown(alloc, &played)?.as_str(),
+                wanted,
+                "{}",
+                register.kind
+            );
         }
     }
     Ok(())

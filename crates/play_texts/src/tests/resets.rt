@@ -6,8 +6,7 @@ use std::test::Fail;
 
 // A register that starts with 1 and keeps it but for a reset to 0, whose negation is asserted and whose reset is assumed.
 fn text_of(alloc: Global, kind: &str, port: &str) -> Result<String, Fail> {
-    Ok(format!(
-        in alloc;
+    Ok(format!(in alloc;
         "module \\t wire input 1 \\clk wire input 2 \\rst attribute \\init 1'1 wire \\q wire \\d
         cell $not $n
           parameter \\A_SIGNED 0 parameter \\A_WIDTH 1 parameter \\Y_WIDTH 1
@@ -53,7 +52,11 @@ fn resets_are_read(rt: HostRuntime) -> Result<(), Fail> {
     let alloc = rt.alloc();
     for (kind, port, inputs, rows, said) in RUNS {
         let played = play(alloc, &text_of(alloc, kind, port)?, inputs)?;
-        assert_eq!(rt; trace(alloc, &played)?.as_slice(), rows.as_bytes(), "{kind}");
+        assert_eq!(rt;
+            trace(alloc, &played)?.as_slice(),
+            rows.as_bytes(),
+            "{kind}"
+        );
         assert_eq!(rt; played.said.as_str(), said, "{kind}");
     }
     Ok(())

@@ -89,7 +89,12 @@ cycle 3
 
 // Designs, their inputs cycle by cycle, the rows of the run, and what statements say.
 const RUNS: [(&str, &[&str], &str, &str); 3] = [
-    (COUNTED, &["0", "1", "1", "0", "1"], COUNTED_RUN, "3: 0 broken\n"),
+    (
+        COUNTED,
+        &["0", "1", "1", "0", "1"],
+        COUNTED_RUN,
+        "3: 0 broken\n",
+    ),
     (
         COVERED,
         &["1", "0", "0", "1"],
