@@ -3,6 +3,7 @@
 ghost use Rattle.std.specs.Prelude.{◌≡◌, ◌+◌, ◌*◌, ◌^◌, ◌<◌, ◌≤◌, ◌++◌, All, IfOk, OnOk, length, slice_get, Some};
 ghost use Rattle.std.specs.List.{sum_by};
 ghost use Rattle.cnf_form.specs.Cnf.{Assignment, LitWithin};
+ghost use Rattle.gate_graph.specs.Circuit.{GatesOf};
 ghost use Rattle.gate_rows.specs.Literals.{Builds, IsFull, MeansRow, row_of};
 ghost use Rattle.cell_table.specs.Cells.{bmux_fn, mux_fn, slice_fn};
 ghost use Rattle.model_core.specs.Meaning.{is_set, node_fn};
@@ -17,7 +18,7 @@ use cnf_form::Lit;
 use gate_graph::{GateFault, Gates};
 use model_core::model::WordModel;
 use model_core::op::Op;
-use std::alloc::Global;
+use std::alloc::{AllocError, Global};
 
 // The row that a node gives, of so many literals.
 fn node_row(
@@ -141,6 +142,25 @@ fn concat(alloc: Global, gates: &mut Gates, a: &[Lit], b: &[Lit]) -> Result<Vec<
     Ok(word)
 }
 
+// Gives the output of a node that copies its operand the literals there. It takes no row of its own: connects, and what a job doesn't
+// rest on, are such nodes.
+fn copy_node(
+    model: &WordModel,
+    node: usize,
+    words: &mut Words,
+    table: &mut [Lit],
+) -> Result<(), AllocError>
+    requires model { IsModel model.now }
+    requires node { node < length model.now.nodes }
+    requires op { (n : NodeOf) → slice_get model.now.nodes node ≡ Some n → n.op ≡ Op.Copy }
+    requires size { length table.old ≡ model.now.size }
+    ensures { OnOk result ((g : GatesOf) (n : NodeOf) → All (LitWithin g.formula.vars) table.old → slice_get model.now.nodes node ≡ Some n → IsGiven g n table.old table.new) }
+{
+    read_row(&mut words.a, table, model.a(node))?;
+    write_row(table, model.y(node), words.a.as_slice());
+    Ok(())
+}
+
 // Gives a node's output its literals.
 fn run_node(
     alloc: Global,
@@ -157,6 +177,10 @@ fn run_node(
     ensures builds { (n : NodeOf) → slice_get model.now.nodes node ≡ Some n → Builds gates.old gates.new (node_gates n) }
     ensures too_many { result ≡ Err GateFault.TooMany → (n : NodeOf) → slice_get model.now.nodes node ≡ Some n → IsFull gates.old gates.new (node_gates n) }
 {
+    if let Op::Copy = model.op(node) {
+        copy_node(model, node, words, table)?;
+        return Ok(());
+    }
     read_row(&mut words.a, table, model.a(node))?;
     read_row(&mut words.b, table, model.b(node))?;
     read_row(&mut words.s, table, model.s(node))?;
