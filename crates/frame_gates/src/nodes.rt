@@ -40,20 +40,20 @@ fn node_row(
 {
     match op {
         Op::Copy => copy(alloc, gates, a),
-        Op::Unary(kind, signed) => gate_cells::unary(alloc, gates, kind, a, signed, y),
-        Op::Binary(kind, signed) => gate_cells::binary(alloc, gates, kind, a, b, signed, y),
-        Op::Reduce(kind) => gate_cells::reduce(alloc, gates, kind, a, y),
-        Op::Logic(kind) => gate_cells::logic(alloc, gates, kind, a, b, y),
-        Op::Compare(kind, signed) => gate_cells::compare(alloc, gates, kind, a, b, signed, y),
-        Op::ShiftLeft(signed) => gate_cells::shift_left(alloc, gates, a, b, signed, y),
-        Op::ShiftRight(signed) => gate_cells::shift_right(alloc, gates, a, b, signed, y),
-        Op::ShiftSign(signed) => gate_cells::shift_sign(alloc, gates, a, b, signed, y),
+        Op::Unary(kind, signed) => gate_words::unary(alloc, gates, kind, a, signed, y),
+        Op::Binary(kind, signed) => gate_words::binary(alloc, gates, kind, a, b, signed, y),
+        Op::Reduce(kind) => gate_words::reduce(alloc, gates, kind, a, y),
+        Op::Logic(kind) => gate_words::logic(alloc, gates, kind, a, b, y),
+        Op::Compare(kind, signed) => gate_words::compare(alloc, gates, kind, a, b, signed, y),
+        Op::ShiftLeft(signed) => gate_words::shift_left(alloc, gates, a, b, signed, y),
+        Op::ShiftRight(signed) => gate_words::shift_right(alloc, gates, a, b, signed, y),
+        Op::ShiftSign(signed) => gate_words::shift_sign(alloc, gates, a, b, signed, y),
         Op::ShiftAny(signed, by_signed) => {
-            gate_cells::shift_any(alloc, gates, a, b, signed, by_signed, y)
+            gate_words::shift_any(alloc, gates, a, b, signed, by_signed, y)
         }
-        Op::Divide(kind, signed) => gate_cells::divide(alloc, gates, kind, a, b, signed, y),
+        Op::Divide(kind, signed) => gate_words::divide(alloc, gates, kind, a, b, signed, y),
         Op::Mux => mux(alloc, gates, a, b, s),
-        Op::Pmux => gate_cells::pmux(alloc, gates, a, b, s),
+        Op::Pmux => gate_words::pmux(alloc, gates, a, b, s),
         Op::Bmux => bmux(alloc, gates, a, s, y),
         Op::Slice(offset) => slice(alloc, gates, a, offset, y),
         Op::Concat => concat(alloc, gates, a, b),
@@ -68,7 +68,7 @@ fn copy(alloc: Global, gates: &mut Gates, a: &[Lit]) -> Result<Vec<Lit>, GateFau
     ensures builds { Builds gates.old gates.new 0 }
     ensures too_many { result ≡ Err GateFault.TooMany → ⊥ }
 {
-    let word = gate_cells::slice(alloc, a, 0, a.len() as u32)?;
+    let word = gate_words::slice(alloc, a, 0, a.len() as u32)?;
     Ok(word)
 }
 
@@ -89,7 +89,7 @@ fn mux(
     ensures builds { Builds gates.old gates.new (length a.now) }
     ensures too_many { result ≡ Err GateFault.TooMany → IsFull gates.old gates.new (length a.now) }
 {
-    let word = gate_cells::mux(alloc, gates, a, b, s[0])?;
+    let word = gate_words::mux(alloc, gates, a, b, s[0])?;
     Ok(word)
 }
 
@@ -108,7 +108,7 @@ fn bmux(
     ensures builds { Builds gates.old gates.new (length a.now) }
     ensures too_many { result ≡ Err GateFault.TooMany → IsFull gates.old gates.new (length a.now) }
 {
-    let word = gate_cells::bmux(alloc, gates, a, s)?;
+    let word = gate_words::bmux(alloc, gates, a, s)?;
     Ok(word)
 }
 
@@ -126,7 +126,7 @@ fn slice(
     ensures builds { Builds gates.old gates.new 0 }
     ensures too_many { result ≡ Err GateFault.TooMany → ⊥ }
 {
-    let word = gate_cells::slice(alloc, a, offset, y)?;
+    let word = gate_words::slice(alloc, a, offset, y)?;
     Ok(word)
 }
 
@@ -138,7 +138,7 @@ fn concat(alloc: Global, gates: &mut Gates, a: &[Lit], b: &[Lit]) -> Result<Vec<
     ensures builds { Builds gates.old gates.new 0 }
     ensures too_many { result ≡ Err GateFault.TooMany → ⊥ }
 {
-    let word = gate_cells::concat(alloc, a, b)?;
+    let word = gate_words::concat(alloc, a, b)?;
     Ok(word)
 }
 
