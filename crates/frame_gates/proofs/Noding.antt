@@ -6,12 +6,14 @@ use Rattle.std.proofs.lemmas.List.Sums.{sum_by_more, sum_by_more_le}
 use Rattle.std.proofs.lemmas.Option.{get_or_from_slice_get, slice_get_within}
 use Rattle.cnf_form.specs.Cnf.{LitOf, Assignment, LitWithin, lit_in}
 use Rattle.gate_graph.specs.Circuit.{GatesOf, Continues}
+use Rattle.gate_graph.specs.Laws.{Continues-refl}
 use Rattle.gate_rows.specs.Literals.{MeansRow, row_of}
 use Rattle.sby_bits.specs.Rows.{Row}
 use Rattle.model_core.specs.Shape.{NodeOf, RegisterOf, ModelOf, IsDistinct, IsRegister, states}
 use Rattle.model_core.specs.Meaning.{is_active, next_row, node_fn, row_at}
 use Rattle.model_core.specs.Served.{HasWidths, IsModel, IsNode}
 use Rattle.model_core.specs.declared.op.Op.{Op}
+use Rattle.model_core.specs.declared.op.Op.TheVariants.{Copy as CopyOp}
 use Rattle.model_core.specs.declared.model.Control.{Control}
 use Rattle.frame_gates.specs.Costs.{node_gates, op_gates}
 use Rattle.frame_gates.specs.Frames.{cycle_of, lit_at, lits_at}
@@ -102,6 +104,28 @@ module _ (m : ModelOf) (is : IsModel m) (node : ℕ) (h : node < length m.nodes)
       let r5 = subst (λ (q : List LitOf). MeansRow k (λ x. node_fn n.op (length n.y) (row_of x (lits_at table n.a)) (row_of x (lits_at table n.b)) (row_of x q)) row) (rs ∙ ap (lits_at table) fs) r4 in
       let t1 = subst (λ (q : List ℕ). IsWritten q row (length q) table new) fy t in
       given_row g k n table new row c w (l ∙ ap length fy) t1 r5
+
+-- a node that copies its operand
+module _ (m : ModelOf) (is : IsModel m) (node : ℕ) (n : NodeOf) (table row : List LitOf) (pa py : List ℕ) (at : slice_get m.nodes node ≡ Some n) (o : n.op ≡ CopyOp) (ea : pa ≡ n.a) (ey : py ≡ n.y)
+    (r : row ≡ lits_at table pa) where
+  copy_row : length row ≡ length n.y
+  copy_row =
+      let w = subst (λ (k : Op). HasWidths k (length n.a) (length n.b) (length n.s) (length n.y)) o (all_at IsNode m.nodes node n is.nodes at) in
+      lits_long table row pa n.a r ea ∙ sym w.1
+
+  pub copy_long : length row ≡ length py
+  copy_long = copy_row ∙ sym (ap length ey)
+
+  pub copy_given : (g : GatesOf) (new : List LitOf) → All (λ p. p < length table) pa → IsWritten py row (length py) table new → All (LitWithin g.formula.vars) table → IsGiven g n table new
+  copy_given g new below t within =
+      let e : row ≡ lits_at table n.a = r ∙ ap (lits_at table) ea in
+      let means : MeansRow g (λ x. row_of x (lits_at table n.a)) row = record {
+        as_many = λ x. sym (length_map (lit_in x) row) ∙ ap (λ (ls : List LitOf). length (row_of x ls)) e;
+        within = read_within g.formula.vars table row pa below within r;
+        means = λ x s. ap (row_of x) e;
+      } in
+      given_row g g n table new row (Continues-refl g) within copy_row (subst (λ (q : List ℕ). IsWritten q row (length q) table new) ey t)
+      (subst (λ (k : Op). MeansRow g (λ x. node_fn k (length n.y) (row_of x (lits_at table n.a)) (row_of x (lits_at table n.b)) (row_of x (lits_at table n.s))) row) (sym o) means)
 
 -- a register at its place
 module _ (m : ModelOf) (is : IsModel m) (i : ℕ) (h : i < length m.registers) (table : List LitOf) (size : length table ≡ m.size) where

@@ -1,7 +1,7 @@
 -- The most variables that the parts of a frame take.
 use Rattle.std.specs.Prelude.{ℕ, ◌+◌, ◌*◌, length}
 use Rattle.std.specs.List.{sum_by}
-use Rattle.gate_cells.specs.Words.{unary_gates, binary_gates, square}
+use Rattle.gate_words.specs.Words.{unary_gates, binary_gates, square}
 use Rattle.model_core.specs.Shape.{NodeOf, ModelOf}
 use Rattle.model_core.specs.declared.op.Op.{Op}
 use Rattle.model_core.specs.declared.op.Op.TheVariants as op

@@ -3,6 +3,7 @@
 ghost use Rattle.std.specs.Prelude.{◌≡◌, ◌+◌, ◌*◌, ◌^◌, ◌<◌, ◌≤◌, ◌++◌, All, IfOk, OnOk, length, slice_get, Some};
 ghost use Rattle.std.specs.List.{sum_by};
 ghost use Rattle.cnf_form.specs.Cnf.{Assignment, LitWithin};
+ghost use Rattle.gate_graph.specs.Circuit.{GatesOf};
 ghost use Rattle.gate_rows.specs.Literals.{Builds, IsFull, MeansRow, row_of};
 ghost use Rattle.cell_table.specs.Cells.{bmux_fn, mux_fn, slice_fn};
 ghost use Rattle.model_core.specs.Meaning.{is_set, node_fn};
@@ -17,7 +18,7 @@ use cnf_form::Lit;
 use gate_graph::{GateFault, Gates};
 use model_core::model::WordModel;
 use model_core::op::Op;
-use std::alloc::Global;
+use std::alloc::{AllocError, Global};
 
 // The row that a node gives, of so many literals.
 fn node_row(
@@ -39,20 +40,20 @@ fn node_row(
 {
     match op {
         Op::Copy => copy(alloc, gates, a),
-        Op::Unary(kind, signed) => gate_cells::unary(alloc, gates, kind, a, signed, y),
-        Op::Binary(kind, signed) => gate_cells::binary(alloc, gates, kind, a, b, signed, y),
-        Op::Reduce(kind) => gate_cells::reduce(alloc, gates, kind, a, y),
-        Op::Logic(kind) => gate_cells::logic(alloc, gates, kind, a, b, y),
-        Op::Compare(kind, signed) => gate_cells::compare(alloc, gates, kind, a, b, signed, y),
-        Op::ShiftLeft(signed) => gate_cells::shift_left(alloc, gates, a, b, signed, y),
-        Op::ShiftRight(signed) => gate_cells::shift_right(alloc, gates, a, b, signed, y),
-        Op::ShiftSign(signed) => gate_cells::shift_sign(alloc, gates, a, b, signed, y),
+        Op::Unary(kind, signed) => gate_words::unary(alloc, gates, kind, a, signed, y),
+        Op::Binary(kind, signed) => gate_words::binary(alloc, gates, kind, a, b, signed, y),
+        Op::Reduce(kind) => gate_words::reduce(alloc, gates, kind, a, y),
+        Op::Logic(kind) => gate_words::logic(alloc, gates, kind, a, b, y),
+        Op::Compare(kind, signed) => gate_words::compare(alloc, gates, kind, a, b, signed, y),
+        Op::ShiftLeft(signed) => gate_words::shift_left(alloc, gates, a, b, signed, y),
+        Op::ShiftRight(signed) => gate_words::shift_right(alloc, gates, a, b, signed, y),
+        Op::ShiftSign(signed) => gate_words::shift_sign(alloc, gates, a, b, signed, y),
         Op::ShiftAny(signed, by_signed) => {
-            gate_cells::shift_any(alloc, gates, a, b, signed, by_signed, y)
+            gate_words::shift_any(alloc, gates, a, b, signed, by_signed, y)
         }
-        Op::Divide(kind, signed) => gate_cells::divide(alloc, gates, kind, a, b, signed, y),
+        Op::Divide(kind, signed) => gate_words::divide(alloc, gates, kind, a, b, signed, y),
         Op::Mux => mux(alloc, gates, a, b, s),
-        Op::Pmux => gate_cells::pmux(alloc, gates, a, b, s),
+        Op::Pmux => gate_words::pmux(alloc, gates, a, b, s),
         Op::Bmux => bmux(alloc, gates, a, s, y),
         Op::Slice(offset) => slice(alloc, gates, a, offset, y),
         Op::Concat => concat(alloc, gates, a, b),
@@ -67,7 +68,7 @@ fn copy(alloc: Global, gates: &mut Gates, a: &[Lit]) -> Result<Vec<Lit>, GateFau
     ensures builds { Builds gates.old gates.new 0 }
     ensures too_many { result ≡ Err GateFault.TooMany → ⊥ }
 {
-    let word = gate_cells::slice(alloc, a, 0, a.len() as u32)?;
+    let word = gate_words::slice(alloc, a, 0, a.len() as u32)?;
     Ok(word)
 }
 
@@ -88,7 +89,7 @@ fn mux(
     ensures builds { Builds gates.old gates.new (length a.now) }
     ensures too_many { result ≡ Err GateFault.TooMany → IsFull gates.old gates.new (length a.now) }
 {
-    let word = gate_cells::mux(alloc, gates, a, b, s[0])?;
+    let word = gate_words::mux(alloc, gates, a, b, s[0])?;
     Ok(word)
 }
 
@@ -107,7 +108,7 @@ fn bmux(
     ensures builds { Builds gates.old gates.new (length a.now) }
     ensures too_many { result ≡ Err GateFault.TooMany → IsFull gates.old gates.new (length a.now) }
 {
-    let word = gate_cells::bmux(alloc, gates, a, s)?;
+    let word = gate_words::bmux(alloc, gates, a, s)?;
     Ok(word)
 }
 
@@ -125,7 +126,7 @@ fn slice(
     ensures builds { Builds gates.old gates.new 0 }
     ensures too_many { result ≡ Err GateFault.TooMany → ⊥ }
 {
-    let word = gate_cells::slice(alloc, a, offset, y)?;
+    let word = gate_words::slice(alloc, a, offset, y)?;
     Ok(word)
 }
 
@@ -137,8 +138,27 @@ fn concat(alloc: Global, gates: &mut Gates, a: &[Lit], b: &[Lit]) -> Result<Vec<
     ensures builds { Builds gates.old gates.new 0 }
     ensures too_many { result ≡ Err GateFault.TooMany → ⊥ }
 {
-    let word = gate_cells::concat(alloc, a, b)?;
+    let word = gate_words::concat(alloc, a, b)?;
     Ok(word)
+}
+
+// Gives the output of a node that copies its operand the literals there. It takes no row of its own: connects, and what a job doesn't
+// rest on, are such nodes.
+fn copy_node(
+    model: &WordModel,
+    node: usize,
+    words: &mut Words,
+    table: &mut [Lit],
+) -> Result<(), AllocError>
+    requires model { IsModel model.now }
+    requires node { node < length model.now.nodes }
+    requires op { (n : NodeOf) → slice_get model.now.nodes node ≡ Some n → n.op ≡ Op.Copy }
+    requires size { length table.old ≡ model.now.size }
+    ensures { OnOk result ((g : GatesOf) (n : NodeOf) → All (LitWithin g.formula.vars) table.old → slice_get model.now.nodes node ≡ Some n → IsGiven g n table.old table.new) }
+{
+    read_row(&mut words.a, table, model.a(node))?;
+    write_row(table, model.y(node), words.a.as_slice());
+    Ok(())
 }
 
 // Gives a node's output its literals.
@@ -157,6 +177,10 @@ fn run_node(
     ensures builds { (n : NodeOf) → slice_get model.now.nodes node ≡ Some n → Builds gates.old gates.new (node_gates n) }
     ensures too_many { result ≡ Err GateFault.TooMany → (n : NodeOf) → slice_get model.now.nodes node ≡ Some n → IsFull gates.old gates.new (node_gates n) }
 {
+    if let Op::Copy = model.op(node) {
+        copy_node(model, node, words, table)?;
+        return Ok(());
+    }
     read_row(&mut words.a, table, model.a(node))?;
     read_row(&mut words.b, table, model.b(node))?;
     read_row(&mut words.s, table, model.s(node))?;

@@ -47,8 +47,8 @@ fn reset_first(
     ensures too_many { result ≡ Err GateFault.TooMany → IsFull gates.old gates.new (2 * length words.now.a.items) }
 {
     let (q, d, value) = (words.a.as_slice(), words.b.as_slice(), words.s.as_slice());
-    let kept = gate_cells::mux(alloc, gates, q, d, enable)?;
-    let next = gate_cells::mux(alloc, gates, kept.as_slice(), value, reset)?;
+    let kept = gate_words::mux(alloc, gates, q, d, enable)?;
+    let next = gate_words::mux(alloc, gates, kept.as_slice(), value, reset)?;
     Ok(next)
 }
 
@@ -73,8 +73,8 @@ fn enable_first(
     ensures too_many { result ≡ Err GateFault.TooMany → IsFull gates.old gates.new (2 * length words.now.a.items) }
 {
     let (q, d, value) = (words.a.as_slice(), words.b.as_slice(), words.s.as_slice());
-    let taken = gate_cells::mux(alloc, gates, d, value, reset)?;
-    let next = gate_cells::mux(alloc, gates, q, taken.as_slice(), enable)?;
+    let taken = gate_words::mux(alloc, gates, d, value, reset)?;
+    let next = gate_words::mux(alloc, gates, q, taken.as_slice(), enable)?;
     Ok(next)
 }
 

@@ -9,3 +9,4 @@ pub mod Making
 pub mod Ordering
 pub mod Equal
 pub mod Reaching
+pub mod Linking

@@ -9,8 +9,8 @@ ghost use Rattle.gate_graph.specs.Kept.{AreKept, HasRoom, IsFull, IsNew, IsRefus
 
 use crate::clauses::push_clauses;
 use crate::gate::{Asked, Gate, fold};
+use crate::kept::Kept;
 use cnf_form::{Clauses, Formula, Lit, MAX_VARS};
-use indexmap::IndexMap;
 use std::alloc::{AllocError, Global};
 use std::marker::Model;
 
@@ -47,7 +47,7 @@ pub struct Gates {
     formula: Formula,
     inputs: Vec<u32>,
     // The gates that were made, each with its literal.
-    kept: IndexMap<Gate, Lit>,
+    kept: Kept,
     // Whether memory ran out.
     spent: bool,
 }
@@ -58,9 +58,9 @@ impl Model for Gates {
 
     ghost Value = { GatesOf };
 
-    ghost view = { λ g. gates_of g.vars g.most g.formula.clauses g.inputs.items g.kept.entries g.spent };
+    ghost view = { λ g. gates_of g.vars g.most g.formula.clauses g.inputs.items g.kept g.spent };
 
-    ghost invariant = { λ g. IsKept g.vars g.most g.formula g.inputs.items g.kept.entries };
+    ghost invariant = { λ g. IsKept g.vars g.most g.formula g.inputs.items g.kept };
 }
 
 impl Gates {
@@ -87,12 +87,13 @@ impl Gates {
     {
         let mut formula = Formula::new(alloc, MAX_VARS);
         formula.push(&[Lit::new(1, false)])?;
+        let kept = Kept::new(alloc)?;
         Ok(Gates {
             vars: 1,
             most,
             formula,
             inputs: Vec::new(alloc),
-            kept: IndexMap::new(alloc),
+            kept,
             spent: false,
         })
     }
@@ -298,7 +299,7 @@ impl Gates {
         ensures found { IfSome result (λ l. Contains self.now.kept (key.now, l)) }
         ensures missing { IfNone result (IsNew self.now key.now) }
     {
-        self.kept.get(key).copied()
+        self.kept.get(key)
     }
 
     // One more variable, with the clauses that say what it is.
@@ -310,14 +311,17 @@ impl Gates {
         ensures made { IfOk result (λ l. (l ≡ lit_of (self.old.formula.vars + 1) true) × (self.new ≡ with_gate self.old key)) }
         ensures memory { IfErr result (λ e. (e ≡ GateFault.Memory) × (self.new ≡ out_of_memory self.old)) }
     {
-        // Until all of it is there; room in the table comes first, so that no clause has to be taken back.
+        // Until all of it is there.
         self.spent = true;
         let l = Lit::new(self.vars + 1, false);
-        self.kept.reserve(1)?;
-        push_clauses(&mut self.formula, &key, l)?;
-        let Ok(_) = self.kept.insert(key, l) else {
-            unreachable!()
-        };
+        self.kept.push(key, l)?;
+        match push_clauses(&mut self.formula, &key, l) {
+            Ok(()) => {}
+            Err(_) => {
+                self.kept.pop();
+                return Err(GateFault::Memory);
+            }
+        }
         self.vars += 1;
         self.spent = false;
         Ok(l)

@@ -4,6 +4,7 @@
 mod clauses;
 mod gate;
 mod gates;
+mod kept;
 mod laws;
 
 pub use gate::{Asked, Gate};

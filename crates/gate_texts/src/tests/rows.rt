@@ -7,8 +7,8 @@ use super::closing::{inputs, is_row};
 use super::tables::{digits, word_of};
 use cell_table::kind::{Binary, Compare, Divide, Kind};
 use cnf_form::Lit;
-use gate_cells::{bmux, concat, mux, pmux, slice};
 use gate_graph::{GateFault, Gates};
+use gate_words::{bmux, concat, mux, pmux, slice};
 use std::alloc::{AllocError, Global};
 use std::test::Fail;
 

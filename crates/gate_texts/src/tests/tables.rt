@@ -6,10 +6,10 @@ ghost use Rattle.cnf_form.specs.Cnf.{LitWithin};
 use super::closing::{inputs, is_row};
 use cell_table::kind::{Binary, Compare, Divide, Kind, Logic, Reduce, Unary};
 use cnf_form::Lit;
-use gate_cells::{
+use gate_graph::{GateFault, Gates};
+use gate_words::{
     binary, compare, divide, logic, reduce, shift_any, shift_left, shift_right, shift_sign, unary,
 };
-use gate_graph::{GateFault, Gates};
 use std::alloc::{AllocError, Global};
 use std::test::Fail;
 

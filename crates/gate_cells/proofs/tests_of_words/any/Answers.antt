@@ -1,8 +1,0 @@
-use Rattle.std.proofs.Common.{◌≡◌, true, false, ◌&&◌, ◌||◌}
-use Rattle.cell_table.specs.Cells.{either_one}
-use Rattle.sby_bits.specs.Words.{some_bit, odd_bits, every_bit}
-use Rattle.gate_cells.proofs.Folding.{chain_bit, some_is, odd_is, every_is}
-use Rattle.gate_cells.proofs.tests_of_words.any.Goals as goal
-
-pub returns-clause-bit : goal.returns-clause-bit
-returns-clause-bit c = chain_bit c.args.gates.now c.chain.new.gates (◌||◌) c.constant-zero.result c.args.a.now c.in_ok-lit.lit false some_bit c.chain.ensures.builds.continues c.constant-zero.ensures.means c.in_ok-lit.ensures.bit some_is

@@ -1,0 +1,5 @@
+//! Tests of the player over whole texts.
+#![tactic(auto)]
+
+#[cfg(test)]
+mod tests;
