@@ -18,3 +18,4 @@ pub mod SeenLines
 pub mod BlockLines
 pub mod FaultLines
 pub mod FaultOrder
+pub mod MarkCounts

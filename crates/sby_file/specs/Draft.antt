@@ -1,11 +1,11 @@
 -- What the lines of a task say, one after the other.
 use Rattle.std.specs.Prelude.{◌≡◌, ℕ, Bool, true, false, cond, leb, List, [], ◌∷◌, ◌++◌, length, Option, Some, None, Result, Ok, Err, is_some, codes, bytes_eq, MatchResult}
 use Rattle.sby_terms.specs.declared.engine.Engine.{Engine}
-use Rattle.sby_file.specs.Values.{mode_of, number_of, statuses_of, switch_of}
+use Rattle.sby_file.specs.Values.{mode_of, number_of, count_of, statuses_of, switch_of}
 use Rattle.sby_file.specs.Engines.{engine_of}
 use Rattle.sby_file.specs.declared.draft.Draft.{Draft}
 use Rattle.sby_file.specs.declared.draft.OptionName.{OptionName}
-use Rattle.sby_file.specs.declared.draft.OptionName.TheVariants.{Mode, Depth, Timeout, Expect, Wait, Multiclock, Unknown}
+use Rattle.sby_file.specs.declared.draft.OptionName.TheVariants.{Mode, Skip, Depth, Stride, Timeout, Expect, Wait, Multiclock, Unknown}
 use Rattle.sby_file.specs.declared.task_fault.TaskKind.{TaskKind}
 use Rattle.sby_file.specs.declared.task_fault.TaskKind.TheVariants as kind
 
@@ -15,14 +15,16 @@ Becomes answer left next = MatchResult answer (λ _. next ≡ Ok left) (λ k. ne
 
 -- nothing is said yet
 abbrev pub blank : Draft
-blank = record { mode = None; depth = None; timeout = None; expect = None; wait = None; multiclock = None; engines = []; script = None }
+blank = record { mode = None; skip = None; depth = None; stride = None; timeout = None; expect = None; wait = None; multiclock = None; engines = []; script = None }
 
 abbrev pub option_name : List ℕ → OptionName
 option_name word =
     cond (bytes_eq word (codes "mode")) Mode
+    (cond (bytes_eq word (codes "skip")) Skip
     (cond (bytes_eq word (codes "depth")) Depth
+    (cond (bytes_eq word (codes "stride")) Stride
     (cond (bytes_eq word (codes "timeout")) Timeout
-    (cond (bytes_eq word (codes "expect")) Expect (cond (bytes_eq word (codes "wait")) Wait (cond (bytes_eq word (codes "multiclock")) Multiclock Unknown)))))
+    (cond (bytes_eq word (codes "expect")) Expect (cond (bytes_eq word (codes "wait")) Wait (cond (bytes_eq word (codes "multiclock")) Multiclock Unknown)))))))
 
 -- the value of an option
 abbrev pub valued : {A : Type 0} → Option A → (A → Draft) → Result Draft TaskKind
@@ -41,7 +43,9 @@ off_only (Some false) = Some false
 
 abbrev pub option_after : Draft → OptionName → List (List ℕ) → Result Draft TaskKind
 option_after d Mode value = once (is_some d.mode) (mode_of value) (λ v. record d { mode = Some v })
-option_after d Depth value = once (is_some d.depth) (number_of 1000 value) (λ v. record d { depth = Some v })
+option_after d Skip value = once (is_some d.skip) (count_of 99999 value) (λ v. record d { skip = Some v })
+option_after d Depth value = once (is_some d.depth) (number_of 100000 value) (λ v. record d { depth = Some v })
+option_after d Stride value = once (is_some d.stride) (number_of 100000 value) (λ v. record d { stride = Some v })
 option_after d Timeout value = once (is_some d.timeout) (number_of 1000000 value) (λ v. record d { timeout = Some v })
 option_after d Expect value = once (is_some d.expect) (statuses_of value) (λ v. record d { expect = Some v })
 option_after d Wait value = once (is_some d.wait) (switch_of value) (λ v. record d { wait = Some v })

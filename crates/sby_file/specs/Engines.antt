@@ -3,10 +3,11 @@ use Rattle.std.specs.Prelude.{ℕ, cond, List, [], ◌∷◌, Option, Some, None
 use Rattle.sby_terms.specs.declared.engine.Engine.{Engine}
 use Rattle.sby_terms.specs.declared.engine.Engine.TheVariants as engine
 use Rattle.sby_file.specs.Values.{number_of}
+use Rattle.sby_file.specs.Marks.{are_marked}
 use Rattle.sby_file.specs.declared.engines.EngineName.{EngineName}
-use Rattle.sby_file.specs.declared.engines.EngineName.TheVariants.{Sat, Drup, Btor, LeftOut, Unknown}
+use Rattle.sby_file.specs.declared.engines.EngineName.TheVariants.{Sat, Drup, Btor, Lrat, Proof, ProofBinary, LeftOut, Unknown}
 use Rattle.sby_file.specs.declared.task_fault.TaskKind.{TaskKind}
-use Rattle.sby_file.specs.declared.task_fault.TaskKind.TheVariants.{BadValue, LeftOutEngine, UnknownEngine}
+use Rattle.sby_file.specs.declared.task_fault.TaskKind.TheVariants.{BadValue, LeftOutEngine, UnknownEngine, Marks}
 
 -- the engine of this name; five are left out by name
 abbrev pub engine_name : List ℕ → EngineName
@@ -14,10 +15,13 @@ engine_name word =
     cond (bytes_eq word (codes "sat")) Sat
     (cond (bytes_eq word (codes "drup")) Drup
     (cond (bytes_eq word (codes "btor")) Btor
+    (cond (bytes_eq word (codes "lrat")) Lrat
+    (cond (bytes_eq word (codes "proof")) Proof
+    (cond (bytes_eq word (codes "proofb")) ProofBinary
     (cond (bytes_eq word (codes "smtbmc")) LeftOut
     (cond (bytes_eq word (codes "abc")) LeftOut
     (cond (bytes_eq word (codes "aiger")) LeftOut
-    (cond (bytes_eq word (codes "itp")) LeftOut (cond (bytes_eq word (codes "none")) LeftOut Unknown)))))))
+    (cond (bytes_eq word (codes "itp")) LeftOut (cond (bytes_eq word (codes "none")) LeftOut Unknown))))))))))
 
 abbrev pub with_conflicts : Option ℕ → Result Engine TaskKind
 with_conflicts None = Err BadValue
@@ -33,10 +37,18 @@ abbrev pub program_of : (List (List ℕ) → Engine) → List (List ℕ) → Res
 program_of make [] = Err BadValue
 program_of make (program ∷ arguments) = Ok (make (program ∷ arguments))
 
+-- the same where the marks of both paths stand once each
+abbrev pub marked_of : (List (List ℕ) → Engine) → List (List ℕ) → Result Engine TaskKind
+marked_of make [] = Err BadValue
+marked_of make (program ∷ arguments) = cond (are_marked (program ∷ arguments)) (Ok (make (program ∷ arguments))) (Err Marks)
+
 abbrev pub engine_from : EngineName → List (List ℕ) → Result Engine TaskKind
 engine_from Sat arguments = sat_of arguments
 engine_from Drup arguments = program_of engine.Drup arguments
 engine_from Btor arguments = program_of engine.Btor arguments
+engine_from Lrat arguments = program_of engine.Lrat arguments
+engine_from Proof arguments = marked_of engine.Proof arguments
+engine_from ProofBinary arguments = marked_of engine.ProofBinary arguments
 engine_from LeftOut arguments = Err LeftOutEngine
 engine_from Unknown arguments = Err UnknownEngine
 

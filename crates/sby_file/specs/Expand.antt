@@ -1,6 +1,7 @@
 -- The tasks of a file.
 use Rattle.std.specs.Prelude.{◌≡◌, ℕ, true, false, cond, eqb, List, [], ◌∷◌, length, Option, Some, None, Result, Ok, Err, unwrap_or, bytes_eq}
 use Rattle.sby_terms.specs.declared.names.Mode.{Mode}
+use Rattle.sby_terms.specs.declared.span.Span.{Span}
 use Rattle.sby_terms.specs.declared.names.Status.{Status}
 use Rattle.sby_terms.specs.declared.names.Status.TheVariants.{Pass}
 use Rattle.sby_file.specs.Names.{has}
@@ -9,6 +10,7 @@ use Rattle.sby_file.specs.Scope.{kept}
 use Rattle.sby_file.specs.Draft.{blank}
 use Rattle.sby_file.specs.Files.{path_in, bytes_in}
 use Rattle.sby_file.specs.Task.{row_after}
+use Rattle.sby_file.specs.Cycles.{span_of}
 use Rattle.sby_file.specs.declared.config.Row.{Row}
 use Rattle.sby_file.specs.declared.config.StoredFile.{StoredFile}
 use Rattle.sby_file.specs.declared.draft.Draft.{Draft}
@@ -46,12 +48,12 @@ expected (Some statuses) = statuses
 abbrev pub no_line : TaskKind → Result Task TaskFault
 no_line k = Err (record { line = 0; kind = k })
 
-abbrev pub with_design : List StoredFile → List Row → List ℕ → Draft → Mode → Option (List ℕ) → Result Task TaskFault
-with_design files rows name d mode None = no_line kind.Script
-with_design files rows name d mode (Some design) = Ok (record {
+abbrev pub with_span : List StoredFile → List Row → List ℕ → Draft → Mode → List ℕ → Option Span → Result Task TaskFault
+with_span files rows name d mode design None = no_line kind.Slices
+with_span files rows name d mode design (Some span) = Ok (record {
   name = name;
   mode = mode;
-  depth = unwrap_or d.depth 20;
+  span = span;
   timeout = d.timeout;
   expect = expected d.expect;
   wait = unwrap_or d.wait false;
@@ -60,11 +62,15 @@ with_design files rows name d mode (Some design) = Ok (record {
   design_bytes = bytes_in files design;
 })
 
+abbrev pub with_design : List StoredFile → List Row → List ℕ → Draft → Mode → Option (List ℕ) → Result Task TaskFault
+with_design files rows name d mode None = no_line kind.Script
+with_design files rows name d mode (Some design) = with_span files rows name d mode design (span_of mode d.skip d.depth d.stride)
+
 abbrev pub with_mode : List StoredFile → List Row → List ℕ → Draft → Option Mode → Result Task TaskFault
 with_mode files rows name d None = no_line kind.NoMode
 with_mode files rows name d (Some mode) = cond (eqb (length d.engines) 0) (no_line kind.NoEngine) (with_design files rows name d mode d.script)
 
--- the task, where a mode, an engine and a script are given
+-- the task, where a mode, an engine and a script are given, and the cycles are such that a task may have
 abbrev pub finished : List StoredFile → List Row → List ℕ → Draft → Result Task TaskFault
 finished files rows name d = with_mode files rows name d d.mode
 

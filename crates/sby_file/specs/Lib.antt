@@ -9,11 +9,13 @@ pub mod Meant
 pub mod Config
 pub mod Sby
 pub mod Values
+pub mod Marks
 pub mod Engines
 pub mod Draft
 pub mod Scope
 pub mod Files
 pub mod Task
+pub mod Cycles
 pub mod Expand
 pub mod Comments
 pub mod Paths

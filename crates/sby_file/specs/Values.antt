@@ -16,6 +16,15 @@ number_of most [] = None
 number_of most (word ∷ []) = number_upto most word
 number_of most (word ∷ next ∷ words) = None
 
+-- the number that a value of one word writes, from 0 to `most`
+abbrev pub word_count : ℕ → List ℕ → Option ℕ
+word_count most word = cond (bytes_eq word (codes "0")) (Some 0) (number_upto most word)
+
+abbrev pub count_of : ℕ → List (List ℕ) → Option ℕ
+count_of most [] = None
+count_of most (word ∷ []) = word_count most word
+count_of most (word ∷ next ∷ words) = None
+
 abbrev pub word_mode : List ℕ → Option Mode
 word_mode word =
     cond (bytes_eq word (codes "bmc")) (Some Bmc) (cond (bytes_eq word (codes "prove")) (Some Prove) (cond (bytes_eq word (codes "cover")) (Some Cover) None))

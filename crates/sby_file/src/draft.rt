@@ -6,7 +6,7 @@ ghost use Rattle.sby_file.specs.Draft.{Becomes, blank, option_name, option_after
 use crate::config::Name;
 use crate::engines::{Engines, engine_of};
 use crate::task_fault::TaskKind;
-use crate::values::{mode_of, number_of, statuses_of, switch_of};
+use crate::values::{count_of, mode_of, number_of, statuses_of, switch_of};
 use sby_terms::{Expect, MAX_DEPTH, Mode};
 use std::alloc::{AllocError, Global};
 
@@ -18,7 +18,9 @@ const MAX_ENGINES: usize = 64;
 #[derive(Clone, Copy, Debug, PartialEq, Eq)]
 pub enum OptionName {
     Mode,
+    Skip,
     Depth,
+    Stride,
     Timeout,
     Expect,
     Wait,
@@ -31,7 +33,9 @@ fn option_name(word: &str) -> OptionName
 {
     match word {
         "mode" => OptionName::Mode,
+        "skip" => OptionName::Skip,
         "depth" => OptionName::Depth,
+        "stride" => OptionName::Stride,
         "timeout" => OptionName::Timeout,
         "expect" => OptionName::Expect,
         "wait" => OptionName::Wait,
@@ -44,7 +48,9 @@ fn option_name(word: &str) -> OptionName
 #[derive(Drop)]
 pub struct Draft {
     pub mode: Option<Mode>,
+    pub skip: Option<u32>,
     pub depth: Option<u32>,
+    pub stride: Option<u32>,
     pub timeout: Option<u32>,
     pub expect: Option<Expect>,
     pub wait: Option<bool>,
@@ -59,7 +65,9 @@ impl Draft {
     {
         Draft {
             mode: None,
+            skip: None,
             depth: None,
+            stride: None,
             timeout: None,
             expect: None,
             wait: None,
@@ -94,6 +102,36 @@ impl Draft {
             None => Err(TaskKind::BadValue),
             Some(depth) => {
                 self.depth = Some(depth);
+                Ok(())
+            }
+        }
+    }
+
+    fn set_skip(&mut self, value: &[String]) -> Result<(), TaskKind>
+        ensures { Becomes result self.new (option_after self.old OptionName.Skip (map string_bytes value.now)) }
+    {
+        if self.skip.is_some() {
+            return Err(TaskKind::DoubleOption);
+        }
+        match count_of(MAX_DEPTH - 1, value) {
+            None => Err(TaskKind::BadValue),
+            Some(skip) => {
+                self.skip = Some(skip);
+                Ok(())
+            }
+        }
+    }
+
+    fn set_stride(&mut self, value: &[String]) -> Result<(), TaskKind>
+        ensures { Becomes result self.new (option_after self.old OptionName.Stride (map string_bytes value.now)) }
+    {
+        if self.stride.is_some() {
+            return Err(TaskKind::DoubleOption);
+        }
+        match number_of(MAX_DEPTH, value) {
+            None => Err(TaskKind::BadValue),
+            Some(stride) => {
+                self.stride = Some(stride);
                 Ok(())
             }
         }
@@ -175,7 +213,9 @@ impl Draft {
             [] => Ok(Err(TaskKind::UnknownOption)),
             [name, value @ ..] => match option_name(name.as_str()) {
                 OptionName::Mode => Ok(self.set_mode(value)),
+                OptionName::Skip => Ok(self.set_skip(value)),
                 OptionName::Depth => Ok(self.set_depth(value)),
+                OptionName::Stride => Ok(self.set_stride(value)),
                 OptionName::Timeout => Ok(self.set_timeout(value)),
                 OptionName::Expect => self.set_expect(alloc, value),
                 OptionName::Wait => Ok(self.set_wait(value)),

@@ -1,9 +1,10 @@
 // Engine lines.
 
 ghost use Rattle.std.specs.Prelude.{◌≡◌, List, map, string_bytes, IfOk, [], ◌∷◌, ◌++◌, length, ◌==◌};
-ghost use Rattle.sby_file.specs.Engines.{engine_name, sat_of, program_of, engine_of};
+ghost use Rattle.sby_file.specs.Engines.{engine_name, sat_of, program_of, marked_of, engine_of};
 
 use crate::config::copied_words;
+use crate::marks::are_marked;
 use crate::task_fault::TaskKind;
 use crate::values::number_of;
 use sby_terms::Engine;
@@ -19,6 +20,9 @@ pub enum EngineName {
     Sat,
     Drup,
     Btor,
+    Lrat,
+    Proof,
+    ProofBinary,
     /// An engine that hands over no certificate.
     LeftOut,
     Unknown,
@@ -31,6 +35,9 @@ fn engine_name(word: &str) -> EngineName
         "sat" => EngineName::Sat,
         "drup" => EngineName::Drup,
         "btor" => EngineName::Btor,
+        "lrat" => EngineName::Lrat,
+        "proof" => EngineName::Proof,
+        "proofb" => EngineName::ProofBinary,
         "smtbmc" | "abc" | "aiger" | "itp" | "none" => EngineName::LeftOut,
         _ => EngineName::Unknown,
     }
@@ -63,11 +70,23 @@ pub fn engine_of(alloc: Global, words: &[String]) -> Result<Result<Engine, TaskK
             EngineName::Sat => Ok(sat_of(arguments)),
             EngineName::LeftOut => Ok(Err(TaskKind::LeftOutEngine)),
             EngineName::Unknown => Ok(Err(TaskKind::UnknownEngine)),
-            EngineName::Drup | EngineName::Btor if arguments.is_empty() => {
+            EngineName::Drup
+            | EngineName::Btor
+            | EngineName::Lrat
+            | EngineName::Proof
+            | EngineName::ProofBinary
+                if arguments.is_empty() =>
+            {
                 Ok(Err(TaskKind::BadValue))
+            }
+            EngineName::Proof | EngineName::ProofBinary if !are_marked(arguments) => {
+                Ok(Err(TaskKind::Marks))
             }
             EngineName::Drup => Ok(Ok(Engine::Drup(copied_words(alloc, arguments)?))),
             EngineName::Btor => Ok(Ok(Engine::Btor(copied_words(alloc, arguments)?))),
+            EngineName::Lrat => Ok(Ok(Engine::Lrat(copied_words(alloc, arguments)?))),
+            EngineName::Proof => Ok(Ok(Engine::Proof(copied_words(alloc, arguments)?))),
+            EngineName::ProofBinary => Ok(Ok(Engine::ProofBinary(copied_words(alloc, arguments)?))),
         },
     }
 }

@@ -4,10 +4,11 @@ ghost use Rattle.std.specs.Prelude.{◌≡◌, ◌∷◌, List, None, Ok, map, s
 ghost use Rattle.std.specs.Option.{option_copied};
 ghost use Rattle.sby_file.specs.Names.{has};
 ghost use Rattle.sby_file.specs.Draft.{blank};
-ghost use Rattle.sby_file.specs.Expand.{drafted, finished, design_path, tags_of, expected, names_asked, asked_text, IsAsked, task_of, expansion};
+ghost use Rattle.sby_file.specs.Expand.{drafted, finished, no_line, design_path, tags_of, expected, names_asked, asked_text, IsAsked, task_of, expansion};
 ghost use Rattle.sby_file.specs.Scope.{kept};
 
 use crate::config::{Config, Name, Row, StoredFile};
+use crate::cycles::span_of;
 use crate::draft::Draft;
 use crate::engines::Engines;
 use crate::files::{bytes_in, path_in};
@@ -16,10 +17,8 @@ use crate::names::Names;
 use crate::scope::kept;
 use crate::task::read_row;
 use crate::task_fault::{TaskFault, TaskKind};
-use sby_terms::{Expect, Mode, Status, Words};
+use sby_terms::{Expect, Mode, Span, Status, Words};
 use std::alloc::{AllocError, Global};
-
-const DEFAULT_DEPTH: u32 = 20;
 
 /// A task of a file.
 #[derive(Drop, Debug)]
@@ -27,8 +26,8 @@ pub struct Task {
     /// Empty where the file has no tasks.
     pub name: Name,
     pub mode: Mode,
-    /// From 1 to 1,000.
-    pub depth: u32,
+    /// Its depth is at most 100,000. In prove and cover it is all cycles below the depth, as one slice.
+    pub span: Span,
     /// In seconds, from 1 to 1,000,000.
     pub timeout: Option<u32>,
     pub expect: Expect,
@@ -89,6 +88,13 @@ fn expected(alloc: Global, expect: Option<Expect>) -> Result<Expect, AllocError>
     }
 }
 
+// A fault that is no line's.
+fn no_line(kind: TaskKind) -> Result<Result<Task, TaskFault>, AllocError>
+    ensures { IfOk result (λ task. task ≡ no_line kind) }
+{
+    Ok(Err(TaskFault { line: 0, kind }))
+}
+
 // The task of a draft, where nothing is missing.
 fn finished(
     alloc: Global,
@@ -101,7 +107,9 @@ fn finished(
 {
     let Draft {
         mode,
+        skip,
         depth,
+        stride,
         timeout,
         expect,
         wait,
@@ -110,22 +118,16 @@ fn finished(
         script,
     } = draft;
     let Some(mode) = mode else {
-        return Ok(Err(TaskFault {
-            line: 0,
-            kind: TaskKind::NoMode,
-        }));
+        return no_line(TaskKind::NoMode);
     };
     if engines.is_empty() {
-        return Ok(Err(TaskFault {
-            line: 0,
-            kind: TaskKind::NoEngine,
-        }));
+        return no_line(TaskKind::NoEngine);
     }
     let Some(design) = script else {
-        return Ok(Err(TaskFault {
-            line: 0,
-            kind: TaskKind::Script,
-        }));
+        return no_line(TaskKind::Script);
+    };
+    let Some(span) = span_of(mode, skip, depth, stride) else {
+        return no_line(TaskKind::Slices);
     };
     let design_bytes = match bytes_in(files, design.as_str()) {
         Some(bytes) => Some(bytes.copy()?),
@@ -136,7 +138,7 @@ fn finished(
     Ok(Ok(Task {
         name,
         mode,
-        depth: depth.unwrap_or(DEFAULT_DEPTH),
+        span,
         timeout,
         expect,
         wait: wait.unwrap_or(false),
@@ -226,10 +228,7 @@ pub fn expand(
     ensures { IfOk result (λ task. task ≡ expansion config.now (option_copied asked.entry)) }
 {
     match asked_task(alloc, config, asked)? {
-        None => Ok(Err(TaskFault {
-            line: 0,
-            kind: TaskKind::UnknownTask,
-        })),
+        None => no_line(TaskKind::UnknownTask),
         Some(found) => {
             let task = expand_asked(alloc, config, found)?;
             Ok(task)

@@ -2,6 +2,7 @@
 #![tactic(auto)]
 
 mod config;
+mod cycles;
 mod declaration;
 mod draft;
 mod engines;
@@ -11,6 +12,7 @@ mod files;
 mod headers;
 pub mod laws;
 mod line;
+mod marks;
 mod names;
 mod prefix;
 mod reader;

@@ -27,6 +27,10 @@ pub enum TaskKind {
     Script,
     #[error("no file has this name")]
     MissingFile,
+    #[error("skip or stride in another mode than bmc, no cycle left, or more slices than the limit")]
+    Slices,
+    #[error("the marks of both paths don't stand once each")]
+    Marks,
 }
 
 /// The first line at fault, from 1, or 0 where the fault is no line's.

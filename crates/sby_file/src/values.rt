@@ -1,7 +1,7 @@
 // The values of options.
 
 ghost use Rattle.std.specs.Prelude.{◌≡◌, ◌<◌, ◌≤◌, ◌+◌, ◌∷◌, Some, IfOk, IfSome, List, length, map, string_bytes};
-ghost use Rattle.sby_file.specs.Values.{number_of, word_mode, mode_of, word_switch, switch_of, status_of, piece_status, pieces_of, statuses_from, statuses_of, words_text, later_pieces, pieces_left};
+ghost use Rattle.sby_file.specs.Values.{number_of, count_of, word_count, word_mode, mode_of, word_switch, switch_of, status_of, piece_status, pieces_of, statuses_from, statuses_of, words_text, later_pieces, pieces_left};
 
 use crate::text::words;
 use memchr::memchr;
@@ -14,6 +14,26 @@ pub fn number_of(most: u32, value: &[String]) -> Option<u32>
 {
     match value {
         [word] => number_upto(most, word.as_bytes()),
+        _ => None,
+    }
+}
+
+fn word_count(most: u32, word: &str) -> Option<u32>
+    ensures { result ≡ word_count most word.now }
+{
+    if word == "0" {
+        Some(0)
+    } else {
+        number_upto(most, word.as_bytes())
+    }
+}
+
+/// A value of one word that is a number from 0 to `most`.
+pub fn count_of(most: u32, value: &[String]) -> Option<u32>
+    ensures { result ≡ count_of most (map string_bytes value.now) }
+{
+    match value {
+        [word] => word_count(most, word.as_str()),
         _ => None,
     }
 }
