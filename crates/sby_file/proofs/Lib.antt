@@ -19,3 +19,7 @@ pub mod BlockLines
 pub mod FaultLines
 pub mod FaultOrder
 pub mod MarkCounts
+pub mod Spans
+pub mod CyclesSaid
+pub mod EngineLines
+pub mod Refusals

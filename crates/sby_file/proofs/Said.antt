@@ -5,6 +5,7 @@ use Rattle.std.proofs.lemmas.List.{append-nil, append_assoc, map-append}
 use Rattle.std.specs.Prelude.{Contains, unwrap_or}
 use Rattle.sby_terms.specs.declared.engine.Engine.{Engine}
 use Rattle.sby_terms.specs.declared.names.Mode as modes
+use Rattle.sby_terms.specs.declared.span.Span.{Span}
 use Rattle.sby_terms.specs.declared.names.Status.{Status}
 use Rattle.sby_terms.specs.declared.names.Status.TheVariants.{Pass}
 use Rattle.sby_file.specs.Names.{has}
@@ -15,7 +16,8 @@ use Rattle.sby_file.specs.Engines.{engine_of}
 use Rattle.sby_file.specs.Draft.{blank, option_name, option_after}
 use Rattle.sby_file.specs.Files.{bytes_in}
 use Rattle.sby_file.specs.Task.{row_after, is_found}
-use Rattle.sby_file.specs.Expand.{design_path, at_number, drafted, expected, with_design, with_mode, finish, task_of, expanded, asked_text, Expand}
+use Rattle.sby_file.specs.Expand.{design_path, at_number, drafted, expected, with_span, with_design, with_mode, finish, task_of, expanded, asked_text, Expand}
+use Rattle.sby_file.specs.Cycles.{span_of}
 use Rattle.sby_file.specs.Said.{AreKept, IsOption, IsUnset, IsSet, HasDesign, is_engines, engine_lines, is_script, script_lines}
 use Rattle.sby_file.specs.declared.config.Row.{Row}
 use Rattle.sby_file.specs.declared.config.StoredFile.{StoredFile}
@@ -28,7 +30,7 @@ use Rattle.sby_file.specs.declared.section.Section.TheVariants.{Nowhere, Tasks, 
 use Rattle.sby_file.specs.declared.task_fault.TaskFault.{TaskFault}
 use Rattle.sby_file.specs.declared.task_fault.TaskKind.{TaskKind}
 use Rattle.sby_file.proofs.Designs.{design_is}
-use Rattle.sby_file.proofs.RowsSaid.{RowSays, option_line, engine_line, script_line, other_line, row_says, OptionSays, spelled, is_spelled, ok_same, err_ok, none_some, some_same, mode_says, depth_says, timeout_says, expect_says, wait_says, beside_options}
+use Rattle.sby_file.proofs.RowsSaid.{RowSays, option_line, engine_line, script_line, other_line, row_says, OptionSays, spelled, is_spelled, ok_same, err_ok, none_some, some_same, mode_says, timeout_says, expect_says, wait_says, beside_options}
 
 drafted_err : (files : List StoredFile) (all rows : List Row) (f : TaskFault) → drafted files all (Err f) rows ≡ Err f
 drafted_err files all [] f = refl
@@ -40,7 +42,7 @@ head_is row rows other (suc k, lt, at) = inr (k, omega arith, at)
 
 module _ (files : List StoredFile) (all : List Row) where
   -- the first line is read, and then the others
-  first_read : (d : Draft) (row : Row) (rows : List Row) (e : Draft) → drafted files all (Ok d) (row ∷ rows) ≡ Ok e → (m : Draft) × RowSays files all d row m × (drafted files all (Ok m) rows ≡ Ok e)
+  pub first_read : (d : Draft) (row : Row) (rows : List Row) (e : Draft) → drafted files all (Ok d) (row ∷ rows) ≡ Ok e → (m : Draft) × RowSays files all d row m × (drafted files all (Ok m) rows ≡ Ok e)
   first_read d row rows e h = by (row_after files all d row) refl h
     where
       by : (r : Result Draft TaskKind) → row_after files all d row ≡ r → drafted files all (at_number row.number r) rows ≡ Ok e → (m : Draft) × RowSays files all d row m × (drafted files all (Ok m) rows ≡ Ok e)
@@ -224,24 +226,27 @@ module _ (files : List StoredFile) (all : List Row) where
             (skipped_script row rows p.0 ∙ r.0, r.1)
       ]
 
-record Finishes (files : List StoredFile) (rows : List Row) (name : List ℕ) (d : Draft) (t : Task) : Type 0 where
-  mode : d.mode ≡ Some t.mode
-  depth : t.depth ≡ unwrap_or d.depth 20
-  timeout : t.timeout ≡ d.timeout
-  expect : t.expect ≡ expected d.expect
-  wait : t.wait ≡ unwrap_or d.wait false
-  engines : t.engines ≡ d.engines
-  named : t.name ≡ name
-  script : (design : List ℕ) × (d.script ≡ Some design) × (t.design_bytes ≡ bytes_in files design) × (t.design_path ≡ design_path (bytes_in files design) rows design)
+pub record Finishes (files : List StoredFile) (rows : List Row) (name : List ℕ) (d : Draft) (t : Task) : Type 0 where
+  pub mode : d.mode ≡ Some t.mode
+  pub span : span_of t.mode d.skip d.depth d.stride ≡ Some t.span
+  pub timeout : t.timeout ≡ d.timeout
+  pub expect : t.expect ≡ expected d.expect
+  pub wait : t.wait ≡ unwrap_or d.wait false
+  pub engines : t.engines ≡ d.engines
+  pub named : t.name ≡ name
+  pub script : (design : List ℕ) × (d.script ≡ Some design) × (t.design_bytes ≡ bytes_in files design) × (t.design_path ≡ design_path (bytes_in files design) rows design)
 
 module _ (files : List StoredFile) (rows : List Row) (name : List ℕ) (d : Draft) (t : Task) where
-  by_script : (mode : modes.Mode) (script : Option (List ℕ)) → d.mode ≡ Some mode → d.script ≡ script → with_design files rows name d mode script ≡ Ok t → Finishes files rows name d t
-  by_script mode None m k h = absurd (err_ok t _ h)
-  by_script mode (Some design) m k h =
+  by_span : (mode : modes.Mode) (design : List ℕ) → d.mode ≡ Some mode → d.script ≡ Some design → (o : Option Span) → span_of mode d.skip d.depth d.stride ≡ o
+      → with_span files rows name d mode design o ≡ Ok t → Finishes files rows name d t
+  by_span mode design m k None e h = absurd (err_ok t _ h)
+  by_span mode design m k (Some span) e h =
       let is = ok_same _ t h in
       record {
         mode = m ∙ ap (λ (x : Task). Some x.mode) is;
-        depth = ap (λ (x : Task). x.depth) (sym is);
+        span =
+            ap (λ (x : modes.Mode). span_of x d.skip d.depth d.stride) (ap (λ (x : Task). x.mode) (sym is))
+            ∙ e ∙ ap (λ (x : Task). Some x.span) is;
         timeout = ap (λ (x : Task). x.timeout) (sym is);
         expect = ap (λ (x : Task). x.expect) (sym is);
         wait = ap (λ (x : Task). x.wait) (sym is);
@@ -249,6 +254,10 @@ module _ (files : List StoredFile) (rows : List Row) (name : List ℕ) (d : Draf
         named = ap (λ (x : Task). x.name) (sym is);
         script = (design, k, ap (λ (x : Task). x.design_bytes) (sym is), ap (λ (x : Task). x.design_path) (sym is));
       }
+
+  by_script : (mode : modes.Mode) (script : Option (List ℕ)) → d.mode ≡ Some mode → d.script ≡ script → with_design files rows name d mode script ≡ Ok t → Finishes files rows name d t
+  by_script mode None m k h = absurd (err_ok t _ h)
+  by_script mode (Some design) m k h = by_span mode design m k (span_of mode d.skip d.depth d.stride) refl h
 
   by_mode : (mode : Option modes.Mode) → d.mode ≡ mode → with_mode files rows name d mode ≡ Ok t → Finishes files rows name d t
   by_mode None m h = absurd (err_ok t _ h)
@@ -262,7 +271,7 @@ finished_from files rows name (Err f) t h = absurd (err_ok t _ h)
 finished_from files rows name (Ok d) t h = (d, refl, by_mode files rows name d t d.mode refl h)
 
 -- the draft of a task
-drafted_from : (c : ConfigOf) (asked : Option (List ℕ)) (t : Task) (rows : List Row) → Expand c asked t → AreKept c asked rows → (d : Draft) × (drafted c.files rows (Ok blank) rows ≡ Ok d) × Finishes c.files rows (asked_text asked) d t
+pub drafted_from : (c : ConfigOf) (asked : Option (List ℕ)) (t : Task) (rows : List Row) → Expand c asked t → AreKept c asked rows → (d : Draft) × (drafted c.files rows (Ok blank) rows ≡ Ok d) × Finishes c.files rows (asked_text asked) d t
 drafted_from c asked t rows h (names, is, e) =
     let task : task_of c.files (kept (has names) true c.rows) (asked_text asked) ≡ Ok t = ap (expanded c (asked_text asked)) (sym is) ∙ h in
     let here : task_of c.files rows (asked_text asked) ≡ Ok t = ap (λ (l : List Row). task_of c.files l (asked_text asked)) e ∙ task in
@@ -282,15 +291,6 @@ module _ (c : ConfigOf) (asked : Option (List ℕ)) (t : Task) (rows : List Row)
   mode_said = elim (answer c.files rows option.Mode (λ i. cc) refl (λ x. x.mode) mode_of mode_says (λ x e. refl) (λ x s. refl) rows blank d said refl) as (λ _. IsSet (codes "mode") (λ value. mode_of value ≡ Some t.mode) rows) [
     | inl none ↦ absurd (none_some t.mode (sym none.1 ∙ ends.mode))
     | inr some ↦ subst (λ (m : modes.Mode). IsSet (codes "mode") (λ value. mode_of value ≡ Some m) rows) (some_same some.0 t.mode (sym some.1 ∙ ends.mode)) some.2
-  ]
-
-  abbrev Depth : Type 0
-  Depth = IsSet (codes "depth") (λ value. number_of 1000 value ≡ Some t.depth) rows ⊎ (IsUnset (codes "depth") rows × (t.depth ≡ 20))
-
-  pub depth_said : Depth
-  depth_said = elim (answer c.files rows option.Depth (λ i. cc) refl (λ x. x.depth) (λ value. number_of 1000 value) depth_says (λ x e. refl) (λ x s. refl) rows blank d said refl) as (λ _. Depth) [
-    | inl none ↦ inr (none.0, ends.depth ∙ ap (λ (o : Option ℕ). unwrap_or o 20) none.1)
-    | inr some ↦ inl (subst (λ (n : ℕ). IsSet (codes "depth") (λ value. number_of 1000 value ≡ Some n) rows) (sym (ends.depth ∙ ap (λ (o : Option ℕ). unwrap_or o 20) some.1)) some.2)
   ]
 
   abbrev Timeout : Type 0

@@ -1,7 +1,13 @@
 -- What the lines that are kept for a task say of it.
-use Rattle.std.specs.Prelude.{◌≡◌, ◌⊎◌, ℕ, Bool, true, false, List, [], ◌∷◌, ◌++◌, map, Option, Some, None, Contains}
+use Rattle.std.specs.Prelude.{◌≡◌, ◌≢◌, ◌⊎◌, ℕ, ◌<◌, ◌≤◌, codes, Bool, true, false, List, [], ◌∷◌, ◌++◌, map, Option, Some, None, Contains}
 use Rattle.std.specs.List.{filter}
+use Rattle.sby_terms.specs.Span.{slices_of}
+use Rattle.sby_terms.specs.declared.names.Mode.{Mode}
+use Rattle.sby_terms.specs.declared.names.Mode.TheVariants.{Bmc}
+use Rattle.sby_terms.specs.declared.span.Span.{Span}
 use Rattle.sby_file.specs.Names.{has}
+use Rattle.sby_file.specs.Marks.{HasMarks}
+use Rattle.sby_file.specs.Values.{count_of, number_of}
 use Rattle.sby_file.specs.Paths.{IsLastPart}
 use Rattle.sby_file.specs.Config.{ConfigOf}
 use Rattle.sby_file.specs.Scope.{kept}
@@ -29,6 +35,26 @@ abbrev pub IsSet : List ℕ → (List (List ℕ) → Type 0) → List Row → Ty
 IsSet name Is rows =
     (before : List Row) × (row : Row) × (after : List Row) × (value : List (List ℕ)) × (rows ≡ before ++ row ∷ after) × IsOption name value row × IsUnset name before × IsUnset name after
     × Is value
+
+-- some line sets the option of this name
+abbrev pub HasOption : List ℕ → List Row → Type 0
+HasOption name rows = (row : Row) × (value : List (List ℕ)) × Contains rows row × IsOption name value row
+
+-- the cycles that the options give: none is skipped, the depth is 20, and there is no stride where nothing is said
+pub record SaysSpan (rows : List Row) (span : Span) : Type 0 where
+  pub skip : IsSet (codes "skip") (λ value. count_of 99999 value ≡ Some span.skip) rows ⊎ (IsUnset (codes "skip") rows × (span.skip ≡ 0))
+  pub depth : IsSet (codes "depth") (λ value. number_of 100000 value ≡ Some span.depth) rows ⊎ (IsUnset (codes "depth") rows × (span.depth ≡ 20))
+  pub stride :
+      ((n : ℕ) × (span.stride ≡ Some n) × IsSet (codes "stride") (λ value. number_of 100000 value ≡ Some n) rows) ⊎ (IsUnset (codes "stride") rows × (span.stride ≡ None))
+
+-- no task has such cycles: skip or stride stands in another mode than bmc, no cycle is left, or there are more than 1,000 slices
+abbrev pub AreRefused : List Row → Mode → Span → Type 0
+AreRefused rows mode span = ((mode ≢ Bmc) × (HasOption (codes "skip") rows ⊎ HasOption (codes "stride") rows)) ⊎ ((span.depth ≤ span.skip) ⊎ (1000 < slices_of span))
+
+-- an engine line whose program writes a proof file, and whose words don't have both marks exactly once
+abbrev pub LacksMarks : List (List ℕ) → Type 0
+LacksMarks words =
+    (program : List ℕ) × (arguments : List (List ℕ)) × ((words ≡ codes "proof" ∷ program ∷ arguments) ⊎ (words ≡ codes "proofb" ∷ program ∷ arguments)) × (HasMarks (program ∷ arguments) → ⊥)
 
 abbrev pub is_engines : Section → Bool
 is_engines Engines = true

@@ -1,11 +1,12 @@
-use Rattle.sby_file.proofs.Said.{name_said, mode_said, depth_said, timeout_said, expect_said, wait_said, engines_said}
+use Rattle.sby_file.proofs.Said.{name_said, mode_said, timeout_said, expect_said, wait_said, engines_said}
+use Rattle.sby_file.proofs.CyclesSaid.{span_said}
 use Rattle.sby_file.proofs.laws.kept_lines_say_the_task.Goals as goal
 
 pub returns-clause-mode : goal.returns-clause-mode
 returns-clause-mode c = mode_said
 
-pub returns-clause-depth : goal.returns-clause-depth
-returns-clause-depth c = depth_said
+pub returns-clause-span : goal.returns-clause-span
+returns-clause-span c = span_said
 
 pub returns-clause-timeout : goal.returns-clause-timeout
 returns-clause-timeout c = timeout_said
