@@ -23,3 +23,4 @@ pub mod Spans
 pub mod CyclesSaid
 pub mod EngineLines
 pub mod Refusals
+pub mod Served

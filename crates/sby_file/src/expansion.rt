@@ -1,9 +1,11 @@
 // Expanding a task.
 
-ghost use Rattle.std.specs.Prelude.{◌≡◌, ◌∷◌, List, None, Ok, map, string_bytes, IfOk, ℕ, MatchOption, true};
+ghost use Rattle.std.specs.Prelude.{◌≡◌, ◌∷◌, List, None, Ok, map, string_bytes, IfOk, ℕ, MatchOption, true, All};
 ghost use Rattle.std.specs.Option.{option_copied};
 ghost use Rattle.sby_file.specs.Names.{has};
 ghost use Rattle.sby_file.specs.Draft.{blank};
+ghost use Rattle.sby_file.specs.Cycles.{IsTaskSpan};
+ghost use Rattle.sby_file.specs.Marks.{IsMarked};
 ghost use Rattle.sby_file.specs.Expand.{drafted, finished, no_line, design_path, tags_of, expected, names_asked, asked_text, IsAsked, task_of, expansion};
 ghost use Rattle.sby_file.specs.Scope.{kept};
 
@@ -225,7 +227,9 @@ pub fn expand(
     config: &Config,
     asked: Option<&str>,
 ) -> Result<Result<Task, TaskFault>, AllocError>
-    ensures { IfOk result (λ task. task ≡ expansion config.now (option_copied asked.entry)) }
+    ensures task { IfOk result (λ task. task ≡ expansion config.now (option_copied asked.entry)) }
+    ensures span { IfOk result (λ answer. IfOk answer (λ task. IsTaskSpan task.mode task.span)) }
+    ensures marks { IfOk result (λ answer. IfOk answer (λ task. All IsMarked task.engines)) }
 {
     match asked_task(alloc, config, asked)? {
         None => no_line(TaskKind::UnknownTask),
