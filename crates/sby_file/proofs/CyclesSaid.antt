@@ -1,9 +1,9 @@
 -- What the options that are kept for a task say of the cycles at which it looks.
-use Rattle.std.proofs.Common.{◌≡◌, ◌≢◌, ◌⊎◌, ℕ, ◌<◌, ◌≤◌, Bool, true, false, List, [], ◌∷◌, ◌++◌, Option, Some, None, Ok, refl, sym, ◌∙◌, ap, subst, inl, inr, arith, codes, ◌&&◌}
+use Rattle.std.proofs.Common.{◌≡◌, ◌≢◌, ◌⊎◌, ℕ, ◌≤◌, true, false, List, ◌∷◌, Option, Some, None, Ok, refl, sym, ◌∙◌, ap, subst, inl, inr, arith, codes, ◌&&◌}
 use Rattle.std.proofs.lemmas.Bool.{false≢true, and_cases}
 use Rattle.std.proofs.lemmas.List.Elements.{Contains-append_right}
-use Rattle.std.specs.Prelude.{Contains, not, ◌||◌, is_some, unwrap_or}
-use Rattle.sby_terms.specs.Span.{IsStride, whole}
+use Rattle.std.specs.Prelude.{Contains, is_some, unwrap_or}
+use Rattle.sby_terms.specs.Span.{IsStride}
 use Rattle.sby_terms.specs.declared.names.Mode.{Mode}
 use Rattle.sby_terms.specs.declared.names.Mode.TheVariants.{Bmc, Prove, Cover}
 use Rattle.sby_terms.specs.declared.span.Span.{Span}
@@ -13,7 +13,7 @@ use Rattle.sby_file.specs.Values.{mode_of, count_of, number_of}
 use Rattle.sby_file.specs.Draft.{blank}
 use Rattle.sby_file.specs.Expand.{drafted, asked_text, Expand}
 use Rattle.sby_file.specs.Cycles.{said_span, may_slice, fits, span_of, IsTaskSpan}
-use Rattle.sby_file.specs.Said.{AreKept, IsOption, IsUnset, IsSet, HasOption, SaysSpan, AreRefused}
+use Rattle.sby_file.specs.Said.{AreKept, IsUnset, IsSet, HasOption, SaysSpan, AreRefused}
 use Rattle.sby_file.specs.declared.config.Row.{Row}
 use Rattle.sby_file.specs.declared.config.StoredFile.{StoredFile}
 use Rattle.sby_file.specs.declared.draft.Draft.{Draft}

@@ -1,21 +1,19 @@
 -- Why a task is refused.
-use Rattle.std.proofs.Common.{◌≡◌, ◌⊎◌, ℕ, Bool, true, false, cond, List, [], ◌∷◌, ◌++◌, length, Option, Some, None, Result, Ok, Err, refl, sym, ◌∙◌, ap, subst, inl, inr, arith, codes, eqb, leb, zero, suc}
+use Rattle.std.proofs.Common.{◌≡◌, ℕ, Bool, true, false, List, [], ◌∷◌, length, Option, Some, None, Result, Ok, Err, refl, sym, ◌∙◌, ap, subst, inl, inr, arith, codes, eqb, leb, zero, suc}
 use Rattle.std.proofs.lemmas.Bool.{cases_Bool}
 use Rattle.std.proofs.lemmas.List.Elements.{All-nil, All-push}
 use Rattle.std.specs.Prelude.{Contains, All, bytes_eq, is_some}
 use Rattle.sby_terms.specs.declared.engine.Engine.{Engine}
 use Rattle.sby_terms.specs.declared.names.Mode.{Mode}
 use Rattle.sby_terms.specs.declared.span.Span.{Span}
-use Rattle.sby_file.specs.Names.{has}
 use Rattle.sby_file.specs.Config.{ConfigOf}
-use Rattle.sby_file.specs.Scope.{kept}
 use Rattle.sby_file.specs.Values.{mode_of, count_of, number_of, statuses_of, switch_of}
 use Rattle.sby_file.specs.Engines.{engine_of}
 use Rattle.sby_file.specs.Marks.{IsMarked}
 use Rattle.sby_file.specs.Cycles.{said_span, span_of}
-use Rattle.sby_file.specs.Draft.{blank, option_name, option_after, option_row, once, off_only, with_engine, engine_row, read_command, script_row}
-use Rattle.sby_file.specs.Task.{is_found, seek, found, script_after, section_after, row_after}
-use Rattle.sby_file.specs.Expand.{at_number, drafted, no_line, with_span, with_design, with_mode, finished, finish, task_of, expanded, asked_text, expansion, Expand}
+use Rattle.sby_file.specs.Draft.{blank, option_name, option_after, once, off_only, with_engine, read_command, script_row}
+use Rattle.sby_file.specs.Task.{is_found, seek, found, section_after, row_after}
+use Rattle.sby_file.specs.Expand.{at_number, drafted, no_line, with_span, with_design, with_mode, finish, task_of, expanded, asked_text, expansion, Expand}
 use Rattle.sby_file.specs.Said.{AreKept, IsSet, SaysSpan, AreRefused, LacksMarks}
 use Rattle.sby_file.specs.declared.config.Row.{Row}
 use Rattle.sby_file.specs.declared.config.StoredFile.{StoredFile}
@@ -28,7 +26,7 @@ use Rattle.sby_file.specs.declared.section.Section.TheVariants.{Nowhere, Tasks, 
 use Rattle.sby_file.specs.declared.task_fault.TaskFault.{TaskFault}
 use Rattle.sby_file.specs.declared.task_fault.TaskKind.{TaskKind}
 use Rattle.sby_file.specs.declared.task_fault.TaskKind.TheVariants as kind
-use Rattle.sby_file.proofs.RowsSaid.{RowSays, option_line, engine_line, script_line, other_line, beside_options, ok_same, err_ok}
+use Rattle.sby_file.proofs.RowsSaid.{RowSays, option_line, engine_line, script_line, other_line, beside_options, ok_same}
 use Rattle.sby_file.proofs.Said.{first_read, drafted_from}
 use Rattle.sby_file.proofs.CyclesSaid.{mode_given, says_span, span_refused}
 use Rattle.sby_file.proofs.EngineLines.{IsPlain, ok_err, err_same, engine_fault, engine_served, engine_marked}

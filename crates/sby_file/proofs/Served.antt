@@ -1,5 +1,5 @@
 -- What the task that is answered is sure to have.
-use Rattle.std.proofs.Common.{◌≡◌, ℕ, true, List, Option, Some, None, Result, Ok, Err, refl, sym, ◌∙◌}
+use Rattle.std.proofs.Common.{◌≡◌, ℕ, true, List, Option, Some, None, Result, Ok, Err, refl, sym}
 use Rattle.std.specs.Prelude.{All, IfOk}
 use Rattle.sby_file.specs.Names.{has}
 use Rattle.sby_file.specs.Config.{ConfigOf}

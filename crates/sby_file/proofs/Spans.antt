@@ -1,5 +1,5 @@
 -- The numbers of options, and the cycles that they give.
-use Rattle.std.proofs.Common.{◌≡◌, ◌⊎◌, ℕ, ◌+◌, ◌-◌, ◌*◌, ◌<◌, ◌≤◌, Bool, true, false, cond, ◌&&◌, List, [], ◌∷◌, Option, Some, None, refl, sym, ◌∙◌, inl, inr, arith, eqb, leb, ltb}
+use Rattle.std.proofs.Common.{◌≡◌, ◌⊎◌, ℕ, ◌-◌, ◌*◌, ◌<◌, ◌≤◌, Bool, true, false, cond, ◌&&◌, List, [], ◌∷◌, Option, Some, None, refl, sym, inl, inr, arith, eqb, leb, ltb}
 use Rattle.std.proofs.lemmas.Bool.{false≢true, and_cases, leb-true, leb-false, ltb-true, ltb-false, eqb-false}
 use Rattle.std.proofs.lemmas.Nat.{div_below, le-div}
 use Rattle.std.proofs.lemmas.Str.Parse.{digits_value-take-le}

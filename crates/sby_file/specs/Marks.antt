@@ -1,5 +1,5 @@
 -- The marks on an engine line whose program writes a proof file.
-use Rattle.std.specs.Prelude.{◌≡◌, ◌≢◌, ℕ, ◌+◌, Bool, cond, ◌&&◌, eqb, List, [], ◌∷◌, length, take, drop, Option, Some, slice_get, codes, bytes_eq}
+use Rattle.std.specs.Prelude.{◌≡◌, ℕ, ◌+◌, Bool, cond, ◌&&◌, eqb, List, [], ◌∷◌, length, take, drop, Some, slice_get, codes, bytes_eq}
 use Rattle.sby_terms.specs.declared.engine.Engine.{Engine}
 use Rattle.sby_terms.specs.declared.engine.Engine.TheVariants.{Sat, Drup, Btor, Lrat, Proof, ProofBinary}
 

@@ -75,10 +75,7 @@ pub fn engine_of(alloc: Global, words: &[String]) -> Result<Result<Engine, TaskK
             | EngineName::Lrat
             | EngineName::Proof
             | EngineName::ProofBinary
-                if arguments.is_empty() =>
-            {
-                Ok(Err(TaskKind::BadValue))
-            }
+                if arguments.is_empty() => { Ok(Err(TaskKind::BadValue)) }
             EngineName::Proof | EngineName::ProofBinary if !are_marked(arguments) => {
                 Ok(Err(TaskKind::Marks))
             }

@@ -1,4 +1,4 @@
-use Rattle.std.proofs.Common.{◌≡◌, ◌+◌, ◌-◌, drop, take, length, cond, ap, sym, ◌∙◌, true, false, arith}
+use Rattle.std.proofs.Common.{◌≡◌, ◌+◌, ◌-◌, drop, take, length, cond, ap, sym, ◌∙◌, arith}
 use Rattle.std.proofs.lemmas.Grind.{common_steps}
 use Rattle.sby_file.specs.Marks.{begins}
 use Rattle.sby_file.proofs.MarkCounts.{count_more}
