@@ -98,9 +98,9 @@ fn a_design_may_stand_in_the_file(rt: HostRuntime) -> Result<(), Fail> {
             assert_eq!(rt; task.mode, Mode::Bmc);
             assert_eq!(rt; task.span, Span::whole(20));
             assert_eq!(rt; task.design_path.as_str(), "a#b.il");
-            match task.design_bytes {
+            match &task.design_bytes {
                 None => panic!(rt; "no design"),
-                Some(bytes) => assert!(rt; bytes.as_slice() == b" # kept\r\n"),
+                Some(bytes) => assert!(rt; bytes.as_slice() == b" # kept\r\n".as_slice()),
             }
         }
     }
