@@ -1,6 +1,7 @@
 // Task files, whole and at fault.
 
-use sby_file::{SbyFault, SbyKind, TaskFault, TaskKind, expand, read};
+use sby_file::{SbyFault, SbyKind, read};
+use sby_task::{TaskFault, TaskKind, expand};
 use sby_terms::{Mode, Span, Status};
 use std::process::Abort;
 use std::test::Fail;
