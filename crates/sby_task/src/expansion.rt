@@ -3,6 +3,7 @@
 ghost use Rattle.std.specs.Prelude.{◌≡◌, ◌∷◌, List, None, Ok, map, string_bytes, IfOk, ℕ, MatchOption, true, All};
 ghost use Rattle.std.specs.Option.{option_copied};
 ghost use Rattle.sby_file.specs.Names.{has};
+ghost use Rattle.sby_task.specs.Files.{bytes_in};
 ghost use Rattle.sby_task.specs.Draft.{blank};
 ghost use Rattle.sby_task.specs.Cycles.{IsTaskSpan};
 ghost use Rattle.sby_task.specs.Marks.{IsMarked};
@@ -56,6 +57,16 @@ fn read_rows(
         }
     }
     Ok(Ok(draft))
+}
+
+// The text of a design that stands in the file.
+fn stored_design(files: &[StoredFile], design: &str) -> Result<Option<Bytes>, AllocError>
+    ensures { IfOk result (λ bytes. bytes ≡ bytes_in files.now design.now) }
+{
+    match bytes_in(files, design) {
+        Some(bytes) => Ok(Some(bytes.copy()?)),
+        None => Ok(None),
+    }
 }
 
 fn design_path(
@@ -129,10 +140,7 @@ fn finished(
     let Some(span) = span_of(mode, skip, depth, stride) else {
         return no_line(TaskKind::Slices);
     };
-    let design_bytes = match bytes_in(files, design.as_str()) {
-        Some(bytes) => Some(bytes.copy()?),
-        None => None,
-    };
+    let design_bytes = stored_design(files, design.as_str())?;
     let design_path = design_path(alloc, &design_bytes, rows, design)?;
     let expect = expected(alloc, expect)?;
     Ok(Ok(Task {
