@@ -1,6 +1,6 @@
 // What the reports of a task come to.
 
-ghost use Rattle.std.specs.Prelude.{◌≡◌, ℕ, IfOk, IfNone, IfSome, Some, length, slice_get};
+ghost use Rattle.std.specs.Prelude.{◌≡◌, ◌<◌, ℕ, true, false, IfOk, IfNone, IfSome, Some, length, slice_get};
 ghost use Rattle.judge.specs.Jobs.{jobs_in};
 ghost use Rattle.sby_terms.specs.Span.{IsSpan};
 ghost use Rattle.sby_terms.specs.declared.names.Answer.TheVariants.{Sat};
@@ -62,13 +62,21 @@ impl Collected {
     }
 }
 
+fn is_sat(answers: &[Option<Answer>], place: usize) -> bool
+    requires { place < length answers.now }
+    ensures yes { result ≡ true → slice_get answers.now place ≡ Some (Some Sat) }
+    ensures no { result ≡ false → slice_get answers.now place ≡ Some (Some Sat) → ⊥ }
+{
+    matches!(answers[place], Some(Answer::Sat))
+}
+
 /// The place of the first answer Sat.
 pub fn first_sat(answers: &[Option<Answer>]) -> Option<usize>
     ensures some { IfSome result (IsFirstSat answers.now) }
     ensures none { IfNone result ((k : ℕ) → slice_get answers.now k ≡ Some (Some Sat) → ⊥) }
 {
     for place in 0..answers.len() {
-        if answers[place] == Some(Answer::Sat) {
+        if is_sat(answers, place) {
             return Some(place);
         }
     }

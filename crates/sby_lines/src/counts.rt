@@ -6,7 +6,7 @@ ghost use Rattle.std.specs.List.{filter, sum_by};
 ghost use Rattle.design_core.specs.Asked.{output_of};
 ghost use Rattle.design_core.specs.Table.{role_of};
 ghost use Rattle.design_meaning.specs.Meaning.{is_register};
-ghost use Rattle.design_core.specs.Shape.{CellOf};
+ghost use Rattle.design_core.specs.Shape.{CellOf, IsDesign};
 ghost use Rattle.sby_lines.specs.Counts.{counts_of, is_statement};
 
 use cell_table::kind::{Kind, Statement};
@@ -97,7 +97,8 @@ fn statements(cells: &[Cell], statement: Statement) -> usize
 
 /// What the design line counts of a design.
 pub fn counts_of(design: &Design) -> Counts
-    ensures { result ≡ counts_of design.now }
+    ensures counts { result ≡ counts_of design.now }
+    ensures design { IsDesign design.now }
 {
     let cells = design.cells();
     Counts {

@@ -6,7 +6,7 @@ ghost use Rattle.race_core.specs.Asking.{name_at};
 ghost use Rattle.race_core.specs.Collect.{HasFinding};
 ghost use Rattle.race_core.specs.Report.{ReportOf};
 ghost use Rattle.sby_lines.specs.Printed.{AreInPlace, HasNoFinding, HasNoStop, IsFirstFinding, IsFirstStop, IsFound};
-ghost use Rattle.sby_lines.specs.Told.{IsPrintedFinding, IsStopReading, WinnersHaveFindings, job_of};
+ghost use Rattle.sby_lines.specs.Told.{IsPrintedFinding, IsStopReading, IsStoppedIn, WinnersHaveFindings, job_of};
 
 use judge::Finding;
 use race_core::{JobEnd, Report, job_at, printing_lane};
@@ -66,16 +66,29 @@ pub fn printed_finding(reports: &[Report<Finding>], mode: Mode, place: u32) -> O
     }
 }
 
+// The reading that stopped a lane in the job at a place, where that is unsettled.
+fn stop_at(report: &Report<Finding>, answers: &[Option<Answer>], place: usize) -> Option<u64>
+    requires answer { place < length answers.now }
+    requires end { place < length report.now.ends }
+    ensures some { IfSome result (IsStoppedIn answers.now report.now place) }
+    ensures none { IfNone result ((t : ℕ) → IsStoppedIn answers.now report.now place t → ⊥) }
+{
+    match (&answers[place], &report.ends()[place]) {
+        (None, JobEnd::Stopped(reading)) => Some(*reading),
+        _ => None,
+    }
+}
+
 // The reading that stopped a lane in an unsettled job, by the first such job.
 fn stopped_in(report: &Report<Finding>, answers: &[Option<Answer>]) -> Option<u64>
     requires { length report.now.ends ≡ length answers.now }
     ensures some { IfSome result (IsFirstStop answers.now report.now) }
     ensures none { IfNone result (HasNoStop answers.now report.now) }
 {
-    let ends = report.ends();
-    for place in 0..ends.len() {
-        if let (None, JobEnd::Stopped(reading)) = (&answers[place], &ends[place]) {
-            return Some(*reading);
+    for place in 0..answers.len() {
+        let reading = stop_at(report, answers, place);
+        if reading.is_some() {
+            return reading;
         }
     }
     None
@@ -89,9 +102,8 @@ pub fn stop_reading(reports: &[Report<Finding>], answers: &[Option<Answer>]) -> 
     ensures none { IfNone result ((r : ReportOf FindingOf) → Contains reports.now r → HasNoStop answers.now r) }
 {
     for report in reports {
-        let reading = stopped_in(report, answers);
-        if reading.is_some() {
-            return reading;
+        if let Some(reading) = stopped_in(report, answers) {
+            return Some(reading);
         }
     }
     None

@@ -1,6 +1,6 @@
 // The lines of a run that breaks an assertion.
 
-ghost use Rattle.std.specs.Prelude.{◌≡◌, ◌≢◌, ◌-◌, ◌<◌, [], ◌∷◌, ℕ, List, Option, IfOk, Some, length, string_bytes};
+ghost use Rattle.std.specs.Prelude.{◌≡◌, ◌≢◌, ◌-◌, ◌<◌, ◌^◌, [], ◌∷◌, ℕ, List, Option, IfOk, Some, length, string_bytes};
 ghost use Rattle.design_meaning.specs.Runs.{CycleOf, IsRunOf, shown_of};
 ghost use Rattle.design_core.specs.Shape.{CellOf};
 ghost use Rattle.judge.specs.Finding.{FindingOf};
@@ -11,7 +11,7 @@ ghost use Rattle.sby_lines.specs.Broken.{AreLinesOf, Breaks, HasBrokenLines, IsB
 ghost use Rattle.sby_lines.specs.Lines.{HasRunLines};
 ghost use Rattle.sby_lines.specs.Telling.{Tells};
 ghost use Rattle.sby_lines.specs.Texts.{broken_text};
-ghost use Rattle.sby_lines.specs.Told.{AreReported, IsCollected, IsPrintedFinding, asked_by, came};
+ghost use Rattle.sby_lines.specs.Told.{AreReported, IsCollected, IsFirstSat, IsPrintedFinding, asked_by, came};
 ghost use Rattle.design_trace.specs.Trace.{trace};
 
 use crate::collected::{Collected, first_sat};
@@ -24,7 +24,7 @@ use design_meaning::run::Run;
 use judge::{Finding, PlayedRun};
 use race_core::Report;
 use sby_edge::Sink;
-use sby_terms::Verdict;
+use sby_terms::{Answer, Verdict};
 use std::alloc::{AllocError, Global};
 
 // What is printed of the assertion that a run breaks: the first one in file order that is broken in its last cycle.
@@ -153,6 +153,29 @@ fn tell_shown<S: Sink>(
     }
 }
 
+// The lines of the run that is printed for the first job with answer Sat.
+fn tell_failing<S: Sink>(
+    alloc: Global,
+    out: &mut S,
+    heading: &Heading<'_>,
+    flat: &Flat,
+    reports: &[Report<Finding>],
+    answers: &[Option<Answer>],
+) -> Result<(), Stop>
+    requires mode { heading.now.mode ≢ Cover }
+    requires reports { AreReported heading.now.mode heading.now.span flat.now reports.now }
+    requires count { length answers.now ≡ length (jobs_in heading.now.mode heading.now.span flat.now) }
+    requires few { length answers.now < 2 ^ 32 }
+    ensures { (place : ℕ) (f : FindingOf) (run : List CycleOf) (lines : List (List ℕ)) → IsFirstSat answers.now place
+        → IsPrintedFinding heading.now.mode reports.now place f → f.run ≡ Some run → HasBrokenLines flat.now heading.now.name.now run lines
+        → Tells (S.taken out.old) (S.taken out.new) (S.faults out.old) (S.faults out.new) (S.ended out.new) lines result }
+{
+    match first_sat(answers) {
+        Some(place) => tell_shown(alloc, out, heading, flat, reports, place as u32),
+        None => Ok(()),
+    }
+}
+
 /// Offers the lines of the run that FAIL shows, where that is the verdict of bmc or prove.
 pub fn tell_failure<S: Sink>(
     alloc: Global,
@@ -169,15 +192,8 @@ pub fn tell_failure<S: Sink>(
         → HasRunLines (asked_by heading.now expect) (came flat.now reports.now start) collected.now.answers.items collected.now.verdict lines
         → Tells (S.taken out.old) (S.taken out.new) (S.faults out.old) (S.faults out.new) (S.ended out.new) lines result }
 {
-    match (collected.verdict, first_sat(&collected.answers)) {
-        (Some(Verdict::Fail), Some(place)) => tell_shown(
-            alloc,
-            out,
-            heading,
-            flat,
-            reports,
-            place as u32,
-        ),
-        _ => Ok(()),
+    match collected.verdict {
+        Some(Verdict::Fail) => tell_failing(alloc, out, heading, flat, reports, &collected.answers),
+        Some(Verdict::Pass) | None => Ok(()),
     }
 }
