@@ -5,3 +5,5 @@ pub mod ShownLemmas
 pub mod SatLemmas
 pub mod PrintedLemmas
 pub mod BrokenLemmas
+pub mod CoverLemmas
+pub mod TaskLemmas

@@ -11,6 +11,7 @@ use Rattle.design_reader.specs.Grammar.{Reads}
 use Rattle.race_core.specs.Asking.{name_at}
 use Rattle.race_core.specs.Carrying.{Carries}
 use Rattle.race_core.specs.Collect.{AreCollected, CarriedIn, HasFinding, HasWon, IsAnswer, IsLowest, IsPrinting, SettledIn}
+use Rattle.race_core.specs.Consistent.{end_at}
 use Rattle.race_core.specs.Report.{ReportOf}
 use Rattle.race_core.specs.Told.{Decided}
 use Rattle.race_core.specs.declared.end.JobEnd.{JobEnd}
@@ -24,6 +25,8 @@ use Rattle.sby_terms.specs.declared.names.JobName.{JobName}
 use Rattle.sby_terms.specs.declared.names.JobName.TheVariants.{Base, Step, Cover}
 use Rattle.sby_terms.specs.declared.names.Mode.{Mode}
 use Rattle.sby_terms.specs.declared.names.Mode.TheVariants.{Bmc, Prove, Cover as CoverMode}
+use Rattle.sby_terms.specs.declared.names.Verdict.{Verdict}
+use Rattle.sby_terms.specs.declared.names.Verdict.TheVariants.{Pass, Fail}
 use Rattle.sby_terms.specs.declared.span.Span.{Span}
 use Rattle.sby_lines.specs.Broken.{Breaks}
 use Rattle.sby_lines.specs.Printed.{AreInPlace}
@@ -108,9 +111,8 @@ carried_claims mode span d reports r f are c carried =
 pub printed_claims : (mode : Mode) (span : Span) (d : DesignOf) (reports : List (ReportOf FindingOf)) (place : ℕ) (f : FindingOf) → AreReported mode span d reports → IsPrintedFinding mode reports place f
     → Claim d span (name_at mode place) f.answer f.run
 printed_claims mode span d reports place f are is =
-    let c = printed_carried mode reports place f is in
     subst (λ j. Claim d span j f.answer f.run) is.first.of_job
-    (carried_claims mode span d reports is.report f are is.in_reports c.2.1)
+    (carried_claims mode span d reports is.report f are is.in_reports (is.first.end, at_contains is.report.ends is.first.place is.first.end is.first.at, is.first.carried))
 
 shows_breaks : (d : DesignOf) (k n : ℕ) (run : List CycleOf) → RunShows d k n (Some run) → Breaks d run
 shows_breaks d k n run shows = let at = shows.3.1 in record {
@@ -188,3 +190,33 @@ first_same answers a b x y = elim (cases_order a b) [
     | inr past ↦ absurd (x.1 b past y.0)
   ]
 ]
+
+-- the reading that stopped is one
+pub one_stop : (reports : List (ReportOf FindingOf)) (answers : List (Option Answer)) (a b : ℕ) → AreInPlace reports → IsStopReading reports answers a → IsStopReading reports answers b → a ≡ b
+one_stop reports answers a b places x y =
+    let lane : x.lane ≡ y.lane = one_lowest _ reports x.lane y.lane x.lowest y.lowest in
+    let same : x.report ≡ y.report = one_report reports x.report y.report places x.in_reports y.in_reports (x.of_lane ∙ lane ∙ sym y.of_lane) in
+    let own : IsStoppedIn answers y.report x.place a = subst (λ r. IsStoppedIn answers r x.place a) same x.stopped in
+    elim (cases_order x.place y.place) [
+      | inl here ↦
+          let e : Stopped a ≡ Stopped b = sym own.1 ∙ ap (end_at y.report) here ∙ y.stopped.1 in cc
+      | inr other ↦ elim other [
+        | inl below ↦ absurd (y.first x.place a below own)
+        | inr past ↦ absurd (x.first y.place b past (subst (λ r. IsStoppedIn answers r y.place b) (sym same) y.stopped))
+      ]
+    ]
+
+not_both : (mode : Mode) (answers : List (Option Answer)) → Decides mode answers Pass → Decides mode answers Fail → ⊥
+not_both Bmc answers x y = let e : Some (Some Unsat) ≡ Some (Some Sat) = sym x ∙ y in cc
+not_both Prove answers x y = let e : Some (Some Unsat) ≡ Some (Some Sat) = sym x.0 ∙ y in cc
+not_both CoverMode answers x y = let e : Some Unsat ≡ Some Sat = sym y.2 ∙ x y.0 (Some Unsat) y.1 in cc
+
+-- the verdict is one
+pub one_verdict : (mode : Mode) (answers : List (Option Answer)) (v w : Option Verdict) → Decided mode answers v → Decided mode answers w → v ≡ w
+one_verdict mode answers None None x y = refl
+one_verdict mode answers None (Some w) x y = absurd (x w y)
+one_verdict mode answers (Some v) None x y = absurd (y v x)
+one_verdict mode answers (Some Pass) (Some Pass) x y = refl
+one_verdict mode answers (Some Fail) (Some Fail) x y = refl
+one_verdict mode answers (Some Pass) (Some Fail) x y = absurd (not_both mode answers x y)
+one_verdict mode answers (Some Fail) (Some Pass) x y = absurd (not_both mode answers y x)

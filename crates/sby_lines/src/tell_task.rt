@@ -1,6 +1,6 @@
 // The lines of a task.
 
-ghost use Rattle.std.specs.Prelude.{◌≡◌, ◌<◌, ◌^◌, [], ◌∷◌, ◌++◌, ℕ, All, IfOk, List, Option, length, string_bytes};
+ghost use Rattle.std.specs.Prelude.{◌≡◌, ◌<◌, ◌^◌, [], ◌∷◌, ◌++◌, ℕ, All, IfOk, List, Option, Some, length, string_bytes};
 ghost use Rattle.judge.specs.Jobs.{jobs_in};
 ghost use Rattle.sby_terms.specs.Span.{IsSpan, slices_of};
 ghost use Rattle.sby_terms.specs.declared.names.Status.{Status};
@@ -12,7 +12,7 @@ ghost use Rattle.sby_lines.specs.Lines.{HasJobLines, HasStopLines, HasVerdictLin
 ghost use Rattle.sby_lines.specs.Printed.{AreInPlace};
 ghost use Rattle.sby_lines.specs.Telling.{Tells};
 ghost use Rattle.sby_lines.specs.Texts.{design_text, line_of, not_written_text, stopped_text, trace_path};
-ghost use Rattle.sby_lines.specs.Told.{AreReported, IsCollected, asked_by, came};
+ghost use Rattle.sby_lines.specs.Told.{AreReported, IsCollected, IsStopReading, asked_by, came};
 
 use crate::collected::{Collected, told_answers};
 use crate::counts::counts_of;
@@ -28,7 +28,7 @@ use design_check::flat::Flat;
 use judge::Finding;
 use race_core::Report;
 use sby_edge::Sink;
-use sby_terms::{Mode, Status};
+use sby_terms::{Answer, Mode, Status};
 use std::alloc::{AllocError, Global};
 
 /// Offers the last line of a task.
@@ -122,7 +122,7 @@ fn tell_head<S: Sink>(
     tell_answers(alloc, out, heading, heading.span.slices(), answers)
 }
 
-fn tell_reading<S: Sink>(
+fn tell_stopped<S: Sink>(
     alloc: Global,
     out: &mut S,
     name: &str,
@@ -135,6 +135,44 @@ fn tell_reading<S: Sink>(
     match text::stopped_text(alloc, reading, start, limit) {
         Ok(text) => tell_line(alloc, out, name, text.as_str()),
         Err(_) => Err(Stop::Memory),
+    }
+}
+
+fn tell_reading<S: Sink>(
+    alloc: Global,
+    out: &mut S,
+    heading: &Heading<'_>,
+    reading: u64,
+    start: Option<u64>,
+) -> Result<(), Stop>
+    ensures { (from limit : ℕ) → start ≡ Some from → heading.now.limit ≡ Some limit
+        → Tells (S.taken out.old) (S.taken out.new) (S.faults out.old) (S.faults out.new) (S.ended out.new) (line_of heading.now.name.now (stopped_text reading from limit) ∷ []) result }
+{
+    match (start, heading.limit) {
+        (Some(start), Some(limit)) => {
+            tell_stopped(alloc, out, heading.name, reading, start, limit)
+        }
+        _ => Ok(()),
+    }
+}
+
+// The line of the stop of the lowest lane that was stopped.
+fn tell_lowest_stop<S: Sink>(
+    alloc: Global,
+    out: &mut S,
+    heading: &Heading<'_>,
+    reports: &[Report<Finding>],
+    start: Option<u64>,
+    answers: &[Option<Answer>],
+) -> Result<(), Stop>
+    requires places { AreInPlace reports.now }
+    requires ends { All (λ r. length r.ends ≡ length answers.now) reports.now }
+    ensures { (reading from limit : ℕ) → IsStopReading reports.now answers.now reading → start ≡ Some from → heading.now.limit ≡ Some limit
+        → Tells (S.taken out.old) (S.taken out.new) (S.faults out.old) (S.faults out.new) (S.ended out.new) (line_of heading.now.name.now (stopped_text reading from limit) ∷ []) result }
+{
+    match stop_reading(reports, answers) {
+        Some(reading) => tell_reading(alloc, out, heading, reading, start),
+        None => Ok(()),
     }
 }
 
@@ -153,23 +191,11 @@ fn tell_stop<S: Sink>(
         → HasStopLines (asked_by heading.now expect) (came d reports.now start) collected.now.answers.items collected.now.status lines
         → Tells (S.taken out.old) (S.taken out.new) (S.faults out.old) (S.faults out.new) (S.ended out.new) lines result }
 {
-    if collected.status != Status::Timeout {
-        return Ok(());
-    }
-    match (
-        stop_reading(reports, &collected.answers),
-        start,
-        heading.limit,
-    ) {
-        (Some(reading), Some(start), Some(limit)) => tell_reading(
-            alloc,
-            out,
-            heading.name,
-            reading,
-            start,
-            limit,
-        ),
-        _ => Ok(()),
+    match collected.status {
+        Status::Timeout => {
+            tell_lowest_stop(alloc, out, heading, reports, start, &collected.answers)
+        }
+        Status::Pass | Status::Fail | Status::Unknown | Status::Error | Status::Memory => Ok(()),
     }
 }
 

@@ -8,7 +8,7 @@ returns-in-Some-clause-some c = first_stop c.args.reports.now c.args.answers.now
 
 pub loop-report-preserved : goal.loop-report-preserved
 loop-report-preserved c = none_more c.args.reports.now c.args.answers.now c.loop-report.report-index c.report-item.result c.loop-report.invariant
-    (item_at c.args.reports.now c.loop-report.report-index c.report-item.result c.report-item.is c.loop-report-test.true) c.in-None.ensures.none
+    (item_at c.args.reports.now c.loop-report.report-index c.report-item.result c.report-item.is c.loop-report-test.true) c.in_default.ensures.none
 
 pub returns-clause-none : goal.returns-clause-none
 returns-clause-none c = none_stopped c.args.reports.now c.args.answers.now c.loop-report.report-index c.loop-report.invariant c.loop-report-test.false
