@@ -176,9 +176,13 @@ pub record HasJobLines (request : Request) (c : CameTo) (status : Status) (lines
       ++ (unless_decided verdict (race_lines request.name (slices_of request.span) (jobs_for request c.design) answers c.reports)
       ++ shown))))
 
--- a line for each trace file that couldn't be put
+-- the line of a trace file that couldn't be put
+abbrev pub unput_line : List ℕ → Mode → ℕ → List ℕ
+unput_line name mode number = line_of name (not_written_text (trace_path name mode number))
+
+-- one for each of them
 abbrev pub unput_lines : Request → List ℕ → List (List ℕ)
-unput_lines request unput = map (λ number. line_of request.name (not_written_text (trace_path request.name request.mode number))) unput
+unput_lines request unput = map (unput_line request.name request.mode) unput
 
 -- the last line
 abbrev pub done_line : List ℕ → Status → ℕ → List ℕ
