@@ -7,3 +7,5 @@ pub mod PrintedLemmas
 pub mod BrokenLemmas
 pub mod CoverLemmas
 pub mod TaskLemmas
+pub mod ExistLemmas
+pub mod LinesExist

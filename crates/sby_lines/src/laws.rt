@@ -1,0 +1,24 @@
+// What holds of the lines of a task. Each law stands over the definitions alone, and its body is empty.
+
+ghost use Rattle.std.specs.Prelude.{ℕ, List, Contains};
+ghost use Rattle.judge.specs.Finding.{FindingOf};
+ghost use Rattle.race_core.specs.Asking.{name_at};
+ghost use Rattle.race_core.specs.Collect.{HasFinding};
+ghost use Rattle.race_core.specs.Report.{ReportOf};
+ghost use Rattle.sby_terms.specs.declared.names.Mode.{Mode};
+ghost use Rattle.sby_lines.specs.Printed.{AreInPlace};
+ghost use Rattle.sby_terms.specs.declared.names.Status.{Status};
+ghost use Rattle.sby_lines.specs.Lines.{HasJobLines};
+ghost use Rattle.sby_lines.specs.Told.{AreLimited, AreReported, CameTo, IsPrintedFinding, IsRaceStatus, Request, WinnersHaveFindings, job_of};
+
+/// Where a report carries a finding for the job at a place, one is printed.
+pub fn printed_finding_exists()
+    ensures { (mode : Mode) (reports : List (ReportOf FindingOf)) (place : ℕ) → AreInPlace reports → WinnersHaveFindings mode reports → (r : ReportOf FindingOf) → Contains reports r
+        → HasFinding job_of (name_at mode place) r → (f : FindingOf) × IsPrintedFinding mode reports place f }
+{}
+
+/// The lines of a design and its jobs exist, whatever its lanes reported.
+pub fn job_lines_exist()
+    ensures { (request : Request) (c : CameTo) (status : Status) → AreReported request.mode request.span c.design c.reports → AreLimited c.start request.limit c.reports
+        → IsRaceStatus request c status → (lines : List (List ℕ)) × HasJobLines request c status lines }
+{}
