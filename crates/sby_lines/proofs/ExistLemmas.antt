@@ -52,8 +52,8 @@ test_at {X} P test xs k = by (slice_get xs k) refl
     by : (o : Option X) → slice_get xs k ≡ o → At P xs k ⊎ (At P xs k → ⊥)
     by None is = inr (λ h. let e : None ≡ Some h.0 = sym is ∙ h.1 in cc)
     by (Some x) is = elim (test x) [
-      | inl yes ↦ inl (x, is, yes)
-      | inr no ↦ inr (λ h. let e : Some x ≡ Some h.0 = sym is ∙ h.1 in let same : h.0 ≡ x = cc in no (subst P same h.2))
+      | inl holds ↦ inl (x, is, holds)
+      | inr fails ↦ inr (λ h. let e : Some x ≡ Some h.0 = sym is ∙ h.1 in let same : h.0 ≡ x = cc in fails (subst P same h.2))
     ]
 
 -- ---- the lowest lane
@@ -63,13 +63,16 @@ module _ (reports : List (ReportOf FindingOf)) (places : AreInPlace reports) (P 
   lowest_of = elim (first_below (At P reports) (test_at P test reports) (length reports)) [
     | inl first ↦
         let r = first.2.0 in
-        inl (first.0, (
-          (r, at_contains reports first.0 r first.2.1, places first.0 r first.2.1, first.2.2),
-          λ q c has. elim (cases_lt c.0 first.0) [
-            | inl below ↦ absurd (first.3 c.0 below (q, contains_at reports q c, has))
-            | inr past ↦ let lane : q.lane ≡ c.0 = places c.0 q (contains_at reports q c) in omega (arith, lane, past)
-          ],
-        ))
+        inl (
+          first.0,
+          (
+            (r, at_contains reports first.0 r first.2.1, places first.0 r first.2.1, first.2.2),
+            λ q c has. elim (cases_lt c.0 first.0) [
+              | inl below ↦ absurd (first.3 c.0 below (q, contains_at reports q c, has))
+              | inr past ↦ let lane : q.lane ≡ c.0 = places c.0 q (contains_at reports q c) in omega (arith, lane, past)
+            ],
+          ),
+        )
     | inr none ↦ inr (λ q c has. none c.0 c.1 (q, contains_at reports q c, has))
   ]
 
@@ -138,14 +141,17 @@ is_for job MemoryEnd = inr (λ h. h.1)
 -- the first finding for a job, or none
 pub first_finding : (ends : List (JobEnd FindingOf)) (job : JobName) → ((f : FindingOf) × IsFirstFinding ends job f) ⊎ HasNoFinding ends job
 first_finding ends job = elim (first_below (At (For job) ends) (test_at (For job) (is_for job) ends) (length ends)) [
-  | inl first ↦ inl (first.2.2.0, record {
+  | inl first ↦ inl (
+    first.2.2.0,
+    record {
       place = first.0;
       end = first.2.0;
       at = first.2.1;
       carried = first.2.2.1;
       of_job = first.2.2.2;
       none_before = λ j e f lt at c is. first.3 j lt (e, at, (f, c, is));
-    })
+    },
+  )
   | inr none ↦ inr (λ j e f at c is. none j (slice_get_within ends j e at) (e, at, (f, c, is)))
 ]
 
@@ -237,10 +243,12 @@ module _ (reports : List (ReportOf FindingOf)) (answers : List (Option Answer)) 
   pub stop_of : (r : ReportOf FindingOf) (k t : ℕ) → Contains reports r → IsStoppedIn answers r k t → (reading : ℕ) × IsStopReading reports answers reading
   stop_of r k t c stopped = elim (first_below (At HasStop reports) (test_at HasStop has_stop reports) (length reports)) [
     | inl first ↦
-        let at = first.2 in
-        (at.2.0, first_stop reports answers first.0 at.0 at.2.0 places
-        (λ i q lt here j u is. elim (first_in answers q) [ inl some ↦ first.3 i lt (q, here, some) | inr none ↦ none j u is ])
-        at.1 at.2.1)
+        let at = first.2 in (
+          at.2.0,
+          first_stop reports answers first.0 at.0 at.2.0 places
+              (λ i q lt here j u is. elim (first_in answers q) [ inl some ↦ first.3 i lt (q, here, some) | inr none ↦ none j u is ])
+              at.1 at.2.1,
+        )
     | inr none ↦ elim (first_in answers r) [
       | inl some ↦ absurd (none c.0 c.1 (r, contains_at reports r c, some))
       | inr without ↦ absurd (without k t stopped)

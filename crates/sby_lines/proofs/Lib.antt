@@ -9,3 +9,4 @@ pub mod CoverLemmas
 pub mod TaskLemmas
 pub mod ExistLemmas
 pub mod LinesExist
+pub mod ShowLemmas

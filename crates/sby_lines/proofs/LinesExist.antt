@@ -36,8 +36,8 @@ use Rattle.sby_lines.specs.Reached.{HasReachLines, reached_line, unreached_line}
 use Rattle.sby_lines.specs.Told.{AreLimited, AreReported, CameTo, IsFirstSat, IsPrintedFinding, IsRaceStatus, IsStoppedIn, Request, answer_of, job_of, jobs_for}
 use Rattle.sby_lines.proofs.BrokenLemmas.{broken_lines, trace_lines}
 use Rattle.sby_lines.proofs.ExistLemmas.{FirstBelow, first_below, printed_of, sat_test, stop_of}
-use Rattle.sby_lines.proofs.PlaceLemmas.{cover_length}
-use Rattle.sby_lines.proofs.ShownLemmas.{findings_agree, printed_breaks, printed_carried, printed_claims}
+use Rattle.sby_lines.proofs.PlaceLemmas.{at_contains, cover_length}
+use Rattle.sby_lines.proofs.ShownLemmas.{findings_agree, printed_breaks, printed_claims}
 
 stopped_by : (e : JobEnd FindingOf) → told_by e ≡ told.Stopped → (t : ℕ) × (e ≡ end.Stopped t)
 stopped_by (end.Stopped t) is = (t, refl)
@@ -65,20 +65,17 @@ module _ (request : Request) (c : CameTo) (are : AreReported request.mode reques
     (collected : AreCollected job_of answer_of request.mode (length (jobs_for request c.design)) c.reports answers) where
   -- ---- findings
 
+  printed_settled : (place : ℕ) (f : FindingOf) → IsPrintedFinding request.mode c.reports place f → SettledIn job_of c.reports (name_at request.mode place) f
+  printed_settled place f is = (is.report, is.in_reports, (is.first.end, at_contains is.report.ends is.first.place is.first.end is.first.at, is.first.carried), is.first.of_job)
+
   -- a settled job has a printed finding, with its answer
   pub settled_finding : (place : ℕ) (answer : Answer) → slice_get answers place ≡ Some (Some answer) → (f : FindingOf) × IsPrintedFinding request.mode c.reports place f × (f.answer ≡ answer)
   settled_finding place answer at =
       let own : IsAnswer answer_of (λ f. SettledIn job_of c.reports (name_at request.mode place) f) (Some answer) = collected.entry place (Some answer) at in
       let s : SettledIn job_of c.reports (name_at request.mode place) own.0 = own.1 in
       let printed = printed_of request.mode c.reports place are.places are.winners s.0 s.1 (own.0, s.2, s.3) in
-      let k = printed_carried request.mode c.reports place printed.0 printed.1 in
-      let first = printed.1.first in
-      let settled : SettledIn job_of c.reports (name_at request.mode place) k.2.0 = (k.0, k.1, k.2.1, k.2.2) in
-      (printed.0, printed.1, same_finding place printed.0 printed.1 ∙ findings_agree request.mode request.span c.design c.reports are (name_at request.mode place) k.2.0 own.0 settled s ∙ own.2)
-    where
-      same_finding : (place : ℕ) (f : FindingOf) (is : IsPrintedFinding request.mode c.reports place f) → f.answer ≡ (printed_carried request.mode c.reports place f is).2.0.answer
-      unfolding printed_carried
-      same_finding place f is = refl
+      let other = printed_settled place printed.0 printed.1 in
+      (printed.0, printed.1, findings_agree request.mode request.span c.design c.reports are (name_at request.mode place) printed.0 own.0 other s ∙ own.2)
 
   -- ---- the stop
 
@@ -161,23 +158,25 @@ module _ (request : Request) (c : CameTo) (are : AreReported request.mode reques
   shown_lines : (mode : Mode) → request.mode ≡ mode → (decided : Option Verdict) → Decided mode answers decided → (lines : List (List ℕ)) × HasVerdictLines mode request c answers decided lines
   shown_lines Bmc is decided decides = run_lines Bmc is (λ e. cc) decided decides
   shown_lines Prove is decided decides = run_lines Prove is (λ e. cc) decided decides
-  shown_lines CoverMode is decided decides = cover_from 0 answers is (λ j o at. at)
+  shown_lines CoverMode is decided decides = cover_from 0 answers is (λ j o at. let same : j ≡ 0 + j = omega arith in subst (λ n. slice_get answers n ≡ Some o) same at)
 
   pub job_lines : AreLimited c.start request.limit c.reports → (s : Status) → IsStatus job_of request.mode c.reports answers s → (lines : List (List ℕ)) × HasJobLines request c s lines
   job_lines limited s has =
       let stop = stop_lines limited has.decided has.events s has.come has.has_status in
-      let shown = shown_lines request.mode refl has.decided has.decides in
-      (_, record {
-        answers = answers;
-        verdict = has.decided;
-        stop = stop.0;
-        shown = shown.0;
-        are_answers = collected;
-        decided = has.decides;
-        stopped = stop.1;
-        runs = shown.1;
-        all = refl;
-      })
+      let shown = shown_lines request.mode refl has.decided has.decides in (
+        _,
+        record {
+          answers = answers;
+          verdict = has.decided;
+          stop = stop.0;
+          shown = shown.0;
+          are_answers = collected;
+          decided = has.decides;
+          stopped = stop.1;
+          runs = shown.1;
+          all = refl;
+        },
+      )
 
 pub lines_exist : (request : Request) (c : CameTo) (s : Status) → AreReported request.mode request.span c.design c.reports → AreLimited c.start request.limit c.reports → IsRaceStatus request c s
     → (lines : List (List ℕ)) × HasJobLines request c s lines

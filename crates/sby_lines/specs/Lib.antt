@@ -6,4 +6,5 @@ pub mod Told
 pub mod Jobs
 pub mod Printed
 pub mod Lines
+pub mod Shown
 pub mod Telling

@@ -1,15 +1,19 @@
 // What holds of the lines of a task. Each law stands over the definitions alone, and its body is empty.
 
-ghost use Rattle.std.specs.Prelude.{ℕ, List, Contains};
+ghost use Rattle.std.specs.Prelude.{◌≡◌, ◌≢◌, ℕ, List, Option, Some, Contains, slice_get};
 ghost use Rattle.judge.specs.Finding.{FindingOf};
 ghost use Rattle.race_core.specs.Asking.{name_at};
 ghost use Rattle.race_core.specs.Collect.{HasFinding};
 ghost use Rattle.race_core.specs.Report.{ReportOf};
 ghost use Rattle.sby_terms.specs.declared.names.Mode.{Mode};
+ghost use Rattle.sby_lines.specs.Shown.{ShowsBreak, ShowsStatement};
 ghost use Rattle.sby_lines.specs.Printed.{AreInPlace};
+ghost use Rattle.sby_terms.specs.declared.names.Answer.{Answer};
+ghost use Rattle.sby_terms.specs.declared.names.Mode.TheVariants.{Cover};
 ghost use Rattle.sby_terms.specs.declared.names.Status.{Status};
+ghost use Rattle.sby_terms.specs.declared.names.Status.TheVariants.{Fail};
 ghost use Rattle.sby_lines.specs.Lines.{HasJobLines};
-ghost use Rattle.sby_lines.specs.Told.{AreLimited, AreReported, CameTo, IsPrintedFinding, IsRaceStatus, Request, WinnersHaveFindings, job_of};
+ghost use Rattle.sby_lines.specs.Told.{AreAnswers, AreLimited, AreReported, CameTo, IsPrintedFinding, IsRaceStatus, Request, WinnersHaveFindings, job_of};
 
 /// Where a report carries a finding for the job at a place, one is printed.
 pub fn printed_finding_exists()
@@ -21,4 +25,17 @@ pub fn printed_finding_exists()
 pub fn job_lines_exist()
     ensures { (request : Request) (c : CameTo) (status : Status) → AreReported request.mode request.span c.design c.reports → AreLimited c.start request.limit c.reports
         → IsRaceStatus request c status → (lines : List (List ℕ)) × HasJobLines request c status lines }
+{}
+
+/// FAIL of bmc and prove shows its run: the lines name the first assertion that it breaks, and have its trace.
+pub fn fail_shows_its_run()
+    ensures { (request : Request) (c : CameTo) (lines : List (List ℕ)) → AreReported request.mode request.span c.design c.reports → request.mode ≢ Cover
+        → IsRaceStatus request c Fail → HasJobLines request c Fail lines → (answers : List (Option Answer)) × AreAnswers request c answers × ShowsBreak request c answers lines }
+{}
+
+/// Each settled job of cover shows its statement: that it is reached, and by which run; or that it isn't.
+pub fn settled_statement_is_shown()
+    ensures { (request : Request) (c : CameTo) (status : Status) (answers : List (Option Answer)) (lines : List (List ℕ)) (place : ℕ) (answer : Answer)
+        → AreReported request.mode request.span c.design c.reports → request.mode ≡ Cover → AreAnswers request c answers → HasJobLines request c status lines
+        → slice_get answers place ≡ Some (Some answer) → ShowsStatement request c place answer lines }
 {}
