@@ -6,8 +6,7 @@ use Rattle.judge.specs.Finding.{FindingOf}
 use Rattle.design_core.specs.Shape.{CellOf}
 use Rattle.design_meaning.specs.Meaning.{covers}
 use Rattle.design_meaning.specs.Runs.{CycleOf}
-use Rattle.race_core.specs.Collect.{AreCollected}
-use Rattle.sby_terms.specs.Span.{slices_of}
+use Rattle.race_core.specs.Told.{Decided}
 use Rattle.sby_terms.specs.Status.{HasStatus}
 use Rattle.sby_terms.specs.declared.names.Answer.{Answer}
 use Rattle.sby_terms.specs.declared.names.Event.{Event}
@@ -21,11 +20,11 @@ use Rattle.sby_lines.specs.Broken.{broken_line}
 use Rattle.sby_lines.specs.Reached.{HasReachLines, reached_line, unreached_line}
 use Rattle.sby_lines.specs.Lines.{HasCoverLines, HasJobLines, HasRunLines, HasStatementLines, HasVerdictLines}
 use Rattle.sby_lines.specs.Shown.{IsTraced, ShowsBreak, ShowsStatement}
-use Rattle.sby_lines.specs.Told.{AreAnswers, AreReported, CameTo, IsRaceStatus, Request}
+use Rattle.sby_lines.specs.Told.{AreAnswers, AreReported, CameTo, IsRaceStatus, Request, jobs_for}
 use Rattle.sby_lines.proofs.LinesExist.{settled_finding}
 use Rattle.sby_lines.proofs.PlaceLemmas.{at_contains}
 use Rattle.sby_lines.proofs.ShownLemmas.{answers_same, one_printed}
-use Rattle.sby_lines.proofs.TaskLemmas.{JobParts, job_parts}
+use Rattle.sby_lines.proofs.TaskLemmas.{JobParts, job_parts, shown_last}
 
 fail_decided : (decided : Option Verdict) (events : List Event) → HasStatus decided events FailStatus → decided ≡ Some Fail
 fail_decided None events has = absurd has
@@ -37,9 +36,6 @@ run_lines_apart Bmc request c answers verdict lines apart has = has
 run_lines_apart Prove request c answers verdict lines apart has = has
 run_lines_apart CoverMode request c answers verdict lines apart has = absurd (apart refl)
 
-last_of_four : {X : Type 0} (a b d e : List X) → a ++ (b ++ (d ++ e)) ≡ (a ++ (b ++ d)) ++ e
-last_of_four a b d e = ap (λ xs. a ++ xs) (sym (append_assoc b d e)) ∙ sym (append_assoc a (b ++ d) e)
-
 -- FAIL of bmc and prove shows its run
 pub fail_shows : (request : Request) (c : CameTo) (lines : List (List ℕ)) → AreReported request.mode request.span c.design c.reports → request.mode ≢ CoverMode → IsRaceStatus request c FailStatus
     → HasJobLines request c FailStatus lines → (answers : List (Option Answer)) × AreAnswers request c answers × ShowsBreak request c answers lines
@@ -50,6 +46,7 @@ fail_shows request c lines are apart is has =
     let h : HasRunLines request c answers (Some Fail) p.shown = subst (λ v. HasRunLines request c answers v p.shown) (fail_decided s.decided s.events s.has_status) runs in
     let b = h.6 in
     let line = broken_line request.name b.cell h.2 in
+    let all = shown_last request c FailStatus answers s.decided lines p in
     let shown : p.shown ≡ line ∷ (b.traced ++ []) = b.all ∙ ap (λ ts. line ∷ ts) (sym (append-nil b.traced)) in (
       answers,
       is.1,
@@ -62,7 +59,7 @@ fail_shows request c lines are apart is has =
         printed = h.4;
         carries = h.5;
         broken = b.is_broken;
-        traced = (_, b.traced, [], b.is_trace, p.all ∙ last_of_four _ p.stop _ p.shown ∙ ap (λ xs. _ ++ xs) shown);
+        traced = (all.0, b.traced, [], b.is_trace, all.1 ∙ ap (λ xs. all.0 ++ xs) shown);
       },
     )
 
@@ -99,33 +96,23 @@ unreached_part request c cell front first back lines has all =
 pub statement_shows : (request : Request) (c : CameTo) (status : Status) (answers : List (Option Answer)) (lines : List (List ℕ)) (place : ℕ) (answer : Answer) → AreReported request.mode request.span c.design c.reports
     → request.mode ≡ CoverMode → AreAnswers request c answers → HasJobLines request c status lines → slice_get answers place ≡ Some (Some answer) → ShowsStatement request c place answer lines
 statement_shows request c status answers lines place answer are is collected has at =
-    let same : has.answers ≡ answers = answers_same request.mode request.span c.design c.reports are _ has.answers answers has.are_answers collected in
-    let runs : HasVerdictLines CoverMode request c has.answers has.verdict has.shown = subst (λ m. HasVerdictLines m request c has.answers has.verdict has.shown) is has.runs in
-    let part : Among request c (0 + place) (Some answer) has.shown = cover_part request c 0 has.answers has.shown place (Some answer) runs (subst (λ xs. slice_get xs place ≡ Some (Some answer)) (sym same) at) in
+    let same : has.answers ≡ answers = answers_same request.mode request.span c.design c.reports are (length (jobs_for request c.design)) has.answers answers has.are_answers collected in
+    let decided : Decided request.mode answers has.verdict = subst (λ xs. Decided request.mode xs has.verdict) same has.decided in
+    let p : JobParts request c status answers has.verdict lines = job_parts request c status answers has.verdict lines are collected decided has in
+    let runs : HasVerdictLines CoverMode request c answers has.verdict p.shown = subst (λ m. HasVerdictLines m request c answers has.verdict p.shown) is p.runs in
+    let part : Among request c (0 + place) (Some answer) p.shown = cover_part request c 0 answers p.shown place (Some answer) runs at in
     let start : 0 + place ≡ place = omega arith in
     let own : HasStatementLines request c place (Some answer) part.1 = subst (λ n. HasStatementLines request c n (Some answer) part.1) start part.3 in
     let f = settled_finding request c are answers collected place answer at in
-    let given = f.2 in
     let one : f.0 ≡ own.0 = one_printed request.mode c.reports place f.0 own.0 are.places f.1 own.2 in
-    by request c status answers lines place answer has part own (ap (λ (x : FindingOf). x.answer) (sym one) ∙ given)
-  where
-    whole : (request : Request) (c : CameTo) (status : Status) (lines : List (List ℕ)) (has : HasJobLines request c status lines) → (front : List (List ℕ)) × (lines ≡ front ++ has.shown)
-    whole request c status lines has = (_, has.all ∙ five _ _ _ _ _ has.shown)
-      where
-        five : {X : Type 0} (x : X) (a b d e s : List X) → x ∷ (a ++ (b ++ (d ++ (e ++ s)))) ≡ (x ∷ (a ++ (b ++ (d ++ e)))) ++ s
-        five x a b d e s = ap (λ xs. x ∷ xs) (ap (λ xs. a ++ (b ++ xs)) (sym (append_assoc d e s)) ∙ ap (λ xs. a ++ xs) (sym (append_assoc b (d ++ e) s)) ∙ sym (append_assoc a (b ++ (d ++ e)) s))
-
-    by : (request : Request) (c : CameTo) (status : Status) (answers : List (Option Answer)) (lines : List (List ℕ)) (place : ℕ) (answer : Answer) (has : HasJobLines request c status lines) (part : Among request c (0 + place) (Some answer) has.shown)
-        (own : HasStatementLines request c place (Some answer) part.1) → own.0.answer ≡ answer → ShowsStatement request c place answer lines
-    by request c status answers lines place answer has part own answered =
-        let all = whole request c status lines has in
-        let total : lines ≡ (all.0 ++ part.0) ++ (part.1 ++ part.2) = all.1 ∙ ap (λ xs. all.0 ++ xs) part.4 ∙ sym (append_assoc all.0 part.0 (part.1 ++ part.2)) in
-        record {
-          finding = own.0;
-          cell = own.1;
-          printed = own.2;
-          answers = answered;
-          is_cell = own.3;
-          reached = λ run e. reached_part request c own.1 run (all.0 ++ part.0) part.1 part.2 lines (subst (λ o. HasReachLines c.design request.name own.1 o part.1) e own.4) total;
-          unreached = λ e. unreached_part request c own.1 (all.0 ++ part.0) part.1 part.2 lines (subst (λ o. HasReachLines c.design request.name own.1 o part.1) e own.4) total;
-        }
+    let all = shown_last request c status answers has.verdict lines p in
+    let total : lines ≡ (all.0 ++ part.0) ++ (part.1 ++ part.2) = all.1 ∙ ap (λ xs. all.0 ++ xs) part.4 ∙ sym (append_assoc all.0 part.0 (part.1 ++ part.2)) in
+    record {
+      finding = own.0;
+      cell = own.1;
+      printed = own.2;
+      answers = ap (λ (x : FindingOf). x.answer) (sym one) ∙ f.2;
+      is_cell = own.3;
+      reached = λ run e. reached_part request c own.1 run (all.0 ++ part.0) part.1 part.2 lines (subst (λ o. HasReachLines c.design request.name own.1 o part.1) e own.4) total;
+      unreached = λ e. unreached_part request c own.1 (all.0 ++ part.0) part.1 part.2 lines (subst (λ o. HasReachLines c.design request.name own.1 o part.1) e own.4) total;
+    }

@@ -83,6 +83,14 @@ job_parts request c status answers verdict lines are collected decided has =
     let one : has.verdict ≡ verdict = one_verdict request.mode answers has.verdict verdict (subst (λ xs. Decided request.mode xs has.verdict) same has.decided) decided in
     subst (λ v. JobParts request c status answers v lines) one (subst (λ xs. JobParts request c status xs has.verdict lines) same (own_parts request c status lines has))
 
+-- the lines of runs are the last
+pub shown_last : (request : Request) (c : CameTo) (status : Status) (answers : List (Option Answer)) (verdict : Option Verdict) (lines : List (List ℕ)) (p : JobParts request c status answers verdict lines)
+    → (front : List (List ℕ)) × (lines ≡ front ++ p.shown)
+shown_last request c status answers verdict lines p =
+    let head = line_of request.name (design_text (counts_of c.design)) ∷ (skipped_lines request ++ settled_lines request.name (slices_of request.span) (jobs_for request c.design) (told_answers request.mode answers)) in
+    let undecided = unless_decided verdict (race_lines request.name (slices_of request.span) (jobs_for request c.design) answers c.reports) in
+    (head ++ (p.stop ++ undecided), p.all ∙ ap (λ xs. head ++ xs) (sym (append_assoc p.stop undecided p.shown)) ∙ sym (append_assoc head (p.stop ++ undecided) p.shown))
+
 -- one line for each number
 pub mapped_next : {X Y : Type 0} (f : X → Y) (xs : List X) (i : ℕ) (x : X) → slice_get xs i ≡ Some x → map f (drop i xs) ≡ (f x ∷ []) ++ map f (drop (i + 1) xs)
 mapped_next f xs i x at = ap (map f) (drop_at xs i x at)
