@@ -1,6 +1,6 @@
 -- The lines of cover statements, one after the other.
 use Rattle.std.proofs.Common.{◌≡◌, ℕ, ◌+◌, List, ◌++◌, subst, drop}
-use Rattle.std.specs.Prelude.{Option, Some, Result, Ok, Err, slice_get}
+use Rattle.std.specs.Prelude.{Option, Some, Ok, Err, slice_get}
 use Rattle.sby_terms.specs.declared.names.Answer.{Answer}
 use Rattle.sby_lines.specs.Lines.{HasCoverLines, HasStatementLines}
 use Rattle.sby_lines.specs.Telling.{Tells}

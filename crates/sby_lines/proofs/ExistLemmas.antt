@@ -1,12 +1,12 @@
 -- The lines of a task exist: finding what is printed, and where.
-use Rattle.std.proofs.Common.{◌≡◌, ℕ, zero, suc, ◌+◌, ◌<◌, ◌≤◌, List, [], ◌∷◌, ◌++◌, refl, ap, sym, ◌∙◌, subst, inl, inr, ◌⊎◌, length, arith}
-use Rattle.std.specs.Prelude.{◌≢◌, Bool, true, false, Option, Some, None, Contains, slice_get, slice_index_or}
+use Rattle.std.proofs.Common.{◌≡◌, ℕ, zero, suc, ◌<◌, List, refl, ap, sym, ◌∙◌, subst, inl, inr, ◌⊎◌, length, arith}
+use Rattle.std.specs.Prelude.{true, false, Option, Some, None, Contains, slice_get}
 use Rattle.std.proofs.lemmas.Bool.{cases_eq, cases_lt}
-use Rattle.std.proofs.lemmas.Option.{slice_get-get_or, slice_get_within}
+use Rattle.std.proofs.lemmas.Option.{slice_get_within}
 use Rattle.judge.specs.Finding.{FindingOf}
 use Rattle.race_core.specs.Asking.{name_at}
 use Rattle.race_core.specs.Carrying.{Carries}
-use Rattle.race_core.specs.Collect.{CarriedIn, HasFinding, HasWon, IsLowest, IsPrinting}
+use Rattle.race_core.specs.Collect.{HasFinding, HasWon, IsLowest, IsPrinting}
 use Rattle.race_core.specs.Consistent.{end_at, events_at}
 use Rattle.race_core.specs.Report.{ReportOf}
 use Rattle.race_core.specs.declared.end.JobEnd.{JobEnd}
@@ -21,7 +21,7 @@ use Rattle.sby_terms.specs.declared.names.Mode.{Mode}
 use Rattle.sby_lines.specs.Printed.{AreInPlace, HasNoFinding, HasNoStop, IsFirstStop}
 use Rattle.sby_lines.specs.Told.{IsFirstFinding, IsPrintedFinding, IsStopReading, IsStoppedIn, WinnersHaveFindings, job_of}
 use Rattle.sby_lines.proofs.PlaceLemmas.{at_contains, contains_at}
-use Rattle.sby_lines.proofs.PrintedLemmas.{first_stop, is_printed, none_more, none_printed, none_stopped, not_without}
+use Rattle.sby_lines.proofs.PrintedLemmas.{first_stop, is_printed, none_printed, not_without}
 
 -- ---- the first place
 

@@ -1,41 +1,40 @@
 -- The lines of a task's design and jobs exist.
-use Rattle.std.proofs.Common.{◌≡◌, ℕ, zero, suc, ◌+◌, ◌<◌, ◌≤◌, List, [], ◌∷◌, ◌++◌, refl, ap, sym, ◌∙◌, subst, inl, inr, ◌⊎◌, length, arith}
+use Rattle.std.proofs.Common.{◌≡◌, ℕ, zero, suc, ◌+◌, ◌<◌, List, [], ◌∷◌, ◌++◌, refl, ap, sym, ◌∙◌, subst, inl, inr, length, arith}
 use Rattle.std.specs.Prelude.{◌≢◌, Option, Some, None, Contains, slice_get}
 use Rattle.std.proofs.lemmas.Option.{slice_get_within}
 use Rattle.judge.specs.Finding.{Claim, FindingOf, RunShows}
-use Rattle.judge.specs.Jobs.{jobs_in}
 use Rattle.design_core.specs.Shape.{CellOf, DesignOf}
 use Rattle.design_meaning.specs.Meaning.{covers}
-use Rattle.design_meaning.specs.Runs.{CycleOf, shown_of}
+use Rattle.design_meaning.specs.Runs.{CycleOf}
 use Rattle.race_core.specs.Asking.{name_at}
-use Rattle.race_core.specs.Collect.{AreCollected, HasFinding, IsAnswer, IsStatus, SettledIn}
+use Rattle.race_core.specs.Collect.{AreCollected, IsAnswer, IsStatus, SettledIn}
 use Rattle.race_core.specs.Consistent.{end_at}
 use Rattle.race_core.specs.Report.{ReportOf}
 use Rattle.race_core.specs.Told.{Decided, told_by}
 use Rattle.race_core.specs.declared.end.JobEnd.{JobEnd}
 use Rattle.race_core.specs.declared.end.JobEnd.TheVariants as end
 use Rattle.sby_terms.specs.Decide.{Decides}
-use Rattle.sby_terms.specs.Span.{first_of, last_of}
+use Rattle.design_reader.specs.Grammar.{Reads}
+use Rattle.sby_terms.specs.Code.{HasCode}
+use Rattle.sby_lines.specs.declared.early.Early.{Early}
+use Rattle.sby_terms.specs.Span.{first_of, last_of, slices_of}
 use Rattle.sby_terms.specs.Status.{HasStatus}
 use Rattle.sby_terms.specs.declared.names.Answer.{Answer}
-use Rattle.sby_terms.specs.declared.names.Answer.TheVariants.{Sat, Unsat}
+use Rattle.sby_terms.specs.declared.names.Answer.TheVariants.{Sat}
 use Rattle.sby_terms.specs.declared.names.Event.{Event}
 use Rattle.sby_terms.specs.declared.names.Event.TheVariants as told
-use Rattle.sby_terms.specs.declared.names.JobName.{JobName}
-use Rattle.sby_terms.specs.declared.names.JobName.TheVariants.{Base, Step, Cover}
+use Rattle.sby_terms.specs.declared.names.JobName.TheVariants.{Base}
 use Rattle.sby_terms.specs.declared.names.Mode.{Mode}
 use Rattle.sby_terms.specs.declared.names.Mode.TheVariants.{Bmc, Prove, Cover as CoverMode}
 use Rattle.sby_terms.specs.declared.names.Status.{Status}
 use Rattle.sby_terms.specs.declared.names.Status.TheVariants as status
 use Rattle.sby_terms.specs.declared.names.Verdict.{Verdict}
 use Rattle.sby_terms.specs.declared.names.Verdict.TheVariants.{Pass, Fail}
-use Rattle.sby_terms.specs.declared.span.Span.{Span}
-use Rattle.sby_lines.specs.Broken.{Breaks, HasBrokenLines}
-use Rattle.sby_lines.specs.Lines.{HasCoverLines, HasJobLines, HasRunLines, HasStatementLines, HasStopLines, HasVerdictLines}
+use Rattle.sby_lines.specs.Lines.{HasCoverLines, HasJobLines, HasLines, HasRunLines, HasStatementLines, HasStopLines, HasVerdictLines, IsStatus as IsTaskStatus, early_text, line_if, unput_lines}
 use Rattle.sby_lines.specs.Reached.{HasReachLines, reached_line, unreached_line}
-use Rattle.sby_lines.specs.Told.{AreLimited, AreReported, CameTo, IsFirstSat, IsPrintedFinding, IsRaceStatus, IsStoppedIn, Request, answer_of, job_of, jobs_for}
+use Rattle.sby_lines.specs.Told.{AreLimited, AreReported, CameTo, came, IsFirstSat, IsPrintedFinding, IsRaceStatus, IsStoppedIn, Request, answer_of, job_of, jobs_for}
 use Rattle.sby_lines.proofs.BrokenLemmas.{broken_lines, trace_lines}
-use Rattle.sby_lines.proofs.ExistLemmas.{FirstBelow, first_below, printed_of, sat_test, stop_of}
+use Rattle.sby_lines.proofs.ExistLemmas.{first_below, printed_of, sat_test, stop_of}
 use Rattle.sby_lines.proofs.PlaceLemmas.{at_contains, cover_length}
 use Rattle.sby_lines.proofs.ShownLemmas.{findings_agree, printed_breaks, printed_claims}
 
@@ -181,3 +180,38 @@ module _ (request : Request) (c : CameTo) (are : AreReported request.mode reques
 pub lines_exist : (request : Request) (c : CameTo) (s : Status) → AreReported request.mode request.span c.design c.reports → AreLimited c.start request.limit c.reports → IsRaceStatus request c s
     → (lines : List (List ℕ)) × HasJobLines request c s lines
 lines_exist request c s are limited is = job_lines request c are is.0 is.1 limited s is.2
+
+-- all lines of a task
+pub task_lines : (request : Request) (text : List ℕ) (early : Option Early) (design : DesignOf) (reports : List (ReportOf FindingOf)) (start : Option ℕ) (unput : List ℕ) (s : Status) (rc : ℕ)
+    → (early ≡ None → Reads text design × AreReported request.mode request.span design reports × AreLimited start request.limit reports) → IsTaskStatus request early (came design reports start) s
+    → HasCode request.expect s rc → (lines : List (List ℕ)) × HasLines request text early reports start unput lines
+task_lines request text (Some early) design reports start unput s rc plain is coded = (
+  _,
+  record {
+    design = design;
+    status = s;
+    rc = rc;
+    body = line_if request.name (early_text (slices_of request.span) early);
+    reads = λ e. cc;
+    is_status = is;
+    is_rc = coded;
+    is_body = refl;
+    all = refl;
+  },
+)
+task_lines request text None design reports start unput s rc plain is coded =
+    let p = plain refl in
+    let lines = lines_exist request (came design reports start) s p.1 p.2 is in (
+      _,
+      record {
+        design = design;
+        status = s;
+        rc = rc;
+        body = lines.0 ++ unput_lines request unput;
+        reads = λ e. p.0;
+        is_status = is;
+        is_rc = coded;
+        is_body = (lines.0, lines.1, refl);
+        all = refl;
+      },
+    )

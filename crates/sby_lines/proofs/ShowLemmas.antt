@@ -1,10 +1,9 @@
 -- What the lines of a task show of runs.
-use Rattle.std.proofs.Common.{◌≡◌, ℕ, zero, suc, ◌+◌, ◌<◌, List, [], ◌∷◌, ◌++◌, refl, ap, sym, ◌∙◌, subst, length, append_assoc, append-nil, arith}
+use Rattle.std.proofs.Common.{◌≡◌, ℕ, zero, suc, ◌+◌, List, [], ◌∷◌, ◌++◌, refl, ap, sym, ◌∙◌, subst, length, append_assoc, append-nil, arith}
 use Rattle.std.specs.Prelude.{◌≢◌, Option, Some, None, Contains, slice_get}
-use Rattle.std.proofs.lemmas.List.Elements.{Contains-append_left, Contains-append_right}
+use Rattle.std.proofs.lemmas.List.Elements.{Contains-append_right}
 use Rattle.judge.specs.Finding.{FindingOf}
 use Rattle.design_core.specs.Shape.{CellOf}
-use Rattle.design_meaning.specs.Meaning.{covers}
 use Rattle.design_meaning.specs.Runs.{CycleOf}
 use Rattle.race_core.specs.Told.{Decided}
 use Rattle.sby_terms.specs.Status.{HasStatus}

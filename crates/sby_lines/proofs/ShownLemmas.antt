@@ -1,12 +1,12 @@
 -- What is printed of findings: one finding for a job, and one run.
-use Rattle.std.proofs.Common.{◌≡◌, ℕ, zero, suc, ◌+◌, ◌-◌, ◌<◌, ◌≤◌, List, [], ◌∷◌, refl, ap, sym, ◌∙◌, subst, inl, inr, ◌⊎◌, length, arith}
-use Rattle.std.specs.Prelude.{◌≢◌, All, Bool, true, false, Option, Some, None, Contains, slice_get, slice_index_or}
+use Rattle.std.proofs.Common.{◌≡◌, ℕ, zero, suc, ◌-◌, ◌<◌, ◌≤◌, List, [], ◌∷◌, refl, ap, sym, ◌∙◌, subst, inl, inr, length, arith}
+use Rattle.std.specs.Prelude.{◌≢◌, Option, Some, None, Contains, slice_get}
 use Rattle.std.proofs.lemmas.Bool.{cases_order}
-use Rattle.judge.specs.Finding.{Claim, FindingOf, IsTrueFinding, RunShows, RunReaches}
+use Rattle.judge.specs.Finding.{Claim, FindingOf, RunShows}
 use Rattle.judge.specs.Jobs.{jobs_in, span_of}
 use Rattle.judge.specs.Agree.{agree_law}
 use Rattle.design_core.specs.Shape.{DesignOf}
-use Rattle.design_meaning.specs.Runs.{CycleOf, IsRunOf}
+use Rattle.design_meaning.specs.Runs.{CycleOf}
 use Rattle.design_reader.specs.Grammar.{Reads}
 use Rattle.race_core.specs.Asking.{name_at}
 use Rattle.race_core.specs.Carrying.{Carries}

@@ -1,8 +1,7 @@
 -- The lines of a task, part by part.
-use Rattle.std.proofs.Common.{◌≡◌, ℕ, ◌+◌, ◌<◌, ◌≤◌, List, [], ◌∷◌, ◌++◌, refl, ap, sym, ◌∙◌, subst, inl, inr, ◌⊎◌, length, drop, map, append_assoc, append-nil, arith}
-use Rattle.std.specs.Prelude.{Option, Some, None, Result, Ok, Err, slice_get}
+use Rattle.std.proofs.Common.{◌≡◌, ℕ, ◌+◌, ◌≤◌, List, [], ◌∷◌, ◌++◌, refl, ap, sym, ◌∙◌, subst, inl, inr, ◌⊎◌, length, drop, map, append_assoc, arith}
+use Rattle.std.specs.Prelude.{Option, Some, Ok, slice_get}
 use Rattle.std.proofs.lemmas.List.{drop_all}
-use Rattle.judge.specs.Jobs.{jobs_in}
 use Rattle.race_core.specs.Collect.{AreCollected}
 use Rattle.race_core.specs.Told.{Decided}
 use Rattle.sby_terms.specs.Span.{slices_of}
@@ -13,7 +12,7 @@ use Rattle.sby_terms.specs.declared.names.Status.{Status}
 use Rattle.sby_terms.specs.declared.names.Verdict.{Verdict}
 use Rattle.sby_lines.specs.Counts.{counts_of}
 use Rattle.sby_lines.specs.Lines.{HasCoverLines, HasJobLines, HasRunLines, HasStopLines, HasVerdictLines, race_lines, settled_lines, skipped_lines, told_answers, unless_decided}
-use Rattle.sby_lines.specs.Telling.{Tells, grown}
+use Rattle.sby_lines.specs.Telling.{Tells}
 use Rattle.sby_lines.specs.Texts.{design_text, line_of}
 use Rattle.sby_lines.specs.Told.{AreReported, CameTo, Request, answer_of, job_of, jobs_for}
 use Rattle.sby_lines.proofs.PlaceLemmas.{drop_at}

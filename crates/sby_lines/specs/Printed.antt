@@ -1,8 +1,7 @@
 -- Steps of finding what is printed.
-use Rattle.std.specs.Prelude.{◌≡◌, ℕ, ◌<◌, List, Option, Some, slice_get, Contains}
+use Rattle.std.specs.Prelude.{◌≡◌, ℕ, ◌<◌, List, Option, Some, slice_get}
 use Rattle.judge.specs.Finding.{FindingOf}
 use Rattle.race_core.specs.Carrying.{Carries}
-use Rattle.race_core.specs.Collect.{NoneBefore}
 use Rattle.race_core.specs.Report.{ReportOf}
 use Rattle.race_core.specs.declared.end.JobEnd.{JobEnd}
 use Rattle.sby_terms.specs.declared.names.Answer.{Answer}

@@ -15,12 +15,10 @@ use Rattle.sby_terms.specs.declared.names.Status.{Status}
 use Rattle.sby_terms.specs.declared.names.Status.TheVariants.{Pass, Fail, Unknown, Error, Timeout, Memory}
 use Rattle.sby_file.specs.declared.fault.SbyKind.{SbyKind}
 use Rattle.sby_file.specs.declared.fault.SbyKind.TheVariants as sby
-use Rattle.sby_file.specs.declared.task_fault.TaskKind.{TaskKind}
-use Rattle.sby_file.specs.declared.task_fault.TaskKind.TheVariants as task
-use Rattle.sby_terms.specs.Span.{slices_of}
+use Rattle.sby_task.specs.declared.task_fault.TaskKind.{TaskKind}
+use Rattle.sby_task.specs.declared.task_fault.TaskKind.TheVariants as task
 use Rattle.sby_terms.specs.declared.names.Mode.{Mode}
 use Rattle.sby_terms.specs.declared.names.Mode.TheVariants.{Bmc, Prove, Cover as CoverMode}
-use Rattle.sby_terms.specs.declared.span.Span.{Span}
 use Rattle.sby_lines.specs.declared.counts.Counts.{Counts}
 
 -- the usage line

@@ -19,7 +19,6 @@ use Rattle.sby_terms.specs.declared.names.Answer.TheVariants.{Sat}
 use Rattle.sby_terms.specs.declared.names.JobName.{JobName}
 use Rattle.sby_terms.specs.declared.names.Mode.{Mode}
 use Rattle.sby_terms.specs.declared.names.Status.{Status}
-use Rattle.sby_terms.specs.declared.names.Verdict.{Verdict}
 use Rattle.sby_terms.specs.declared.span.Span.{Span}
 use Rattle.sby_lines.specs.declared.collected.Collected.{Collected}
 use Rattle.sby_lines.specs.declared.heading.Heading.{Heading}

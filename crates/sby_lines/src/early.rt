@@ -2,7 +2,8 @@
 
 use design_check::check::DesignFault;
 use design_reader::ReadFault;
-use sby_file::{SbyFault, TaskFault};
+use sby_file::SbyFault;
+use sby_task::TaskFault;
 use sby_terms::JobName;
 
 /// A fault before the lanes of a task.

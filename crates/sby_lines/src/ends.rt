@@ -1,12 +1,14 @@
 // The texts of faults and ends.
 
 ghost use Rattle.std.specs.Prelude.{◌≡◌, ◌≢◌, IfOk, OnErr, None, Some, option_map, string_bytes};
-ghost use Rattle.sby_lines.specs.Lines.{early_text, end_text};
+ghost use Rattle.sby_lines.specs.Lines.{IsStatus, early_text, end_text};
+ghost use Rattle.sby_lines.specs.Told.{CameTo, Request};
 
 use crate::early::Early;
 use crate::text;
 use judge::Finding;
 use race_core::JobEnd;
+use sby_terms::Status;
 use std::alloc::{AllocError, Global};
 
 fn fault_text(alloc: Global, slices: u32, early: &Early) -> Result<String, AllocError>
@@ -75,4 +77,20 @@ pub fn end_text(alloc: Global, end: &JobEnd<Finding>) -> Result<Option<String>, 
     }
     let text = told_text(alloc, end)?;
     Ok(Some(text))
+}
+
+/// The status of a task with a fault before its lanes.
+pub fn early_status(early: &Early) -> Status
+    ensures { (request : Request) (c : CameTo) → IsStatus request (Some early.now) c result }
+{
+    match early {
+        Early::Memory => Status::Memory,
+        Early::File(_)
+        | Early::Sby(_)
+        | Early::Task(_)
+        | Early::Read(_)
+        | Early::Design(_)
+        | Early::TooMany(_)
+        | Early::Streams => Status::Error,
+    }
 }

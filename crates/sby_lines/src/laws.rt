@@ -1,6 +1,6 @@
 // What holds of the lines of a task. Each law stands over the definitions alone, and its body is empty.
 
-ghost use Rattle.std.specs.Prelude.{◌≡◌, ◌≢◌, ℕ, List, Option, Some, Contains, slice_get};
+ghost use Rattle.std.specs.Prelude.{◌≡◌, ◌≢◌, ℕ, List, Option, None, Some, Contains, slice_get};
 ghost use Rattle.judge.specs.Finding.{FindingOf};
 ghost use Rattle.race_core.specs.Asking.{name_at};
 ghost use Rattle.race_core.specs.Collect.{HasFinding};
@@ -8,12 +8,16 @@ ghost use Rattle.race_core.specs.Report.{ReportOf};
 ghost use Rattle.sby_terms.specs.declared.names.Mode.{Mode};
 ghost use Rattle.sby_lines.specs.Shown.{ShowsBreak, ShowsStatement};
 ghost use Rattle.sby_lines.specs.Printed.{AreInPlace};
+ghost use Rattle.design_core.specs.Shape.{DesignOf};
+ghost use Rattle.design_reader.specs.Grammar.{Reads};
+ghost use Rattle.sby_terms.specs.Code.{HasCode};
+ghost use Rattle.sby_lines.specs.declared.early.Early.{Early};
 ghost use Rattle.sby_terms.specs.declared.names.Answer.{Answer};
 ghost use Rattle.sby_terms.specs.declared.names.Mode.TheVariants.{Cover};
 ghost use Rattle.sby_terms.specs.declared.names.Status.{Status};
 ghost use Rattle.sby_terms.specs.declared.names.Status.TheVariants.{Fail};
-ghost use Rattle.sby_lines.specs.Lines.{HasJobLines};
-ghost use Rattle.sby_lines.specs.Told.{AreAnswers, AreLimited, AreReported, CameTo, IsPrintedFinding, IsRaceStatus, Request, WinnersHaveFindings, job_of};
+ghost use Rattle.sby_lines.specs.Lines.{HasJobLines, HasLines, IsStatus};
+ghost use Rattle.sby_lines.specs.Told.{AreAnswers, AreLimited, AreReported, CameTo, came, IsPrintedFinding, IsRaceStatus, Request, WinnersHaveFindings, job_of};
 
 /// Where a report carries a finding for the job at a place, one is printed.
 pub fn printed_finding_exists()
@@ -25,6 +29,14 @@ pub fn printed_finding_exists()
 pub fn job_lines_exist()
     ensures { (request : Request) (c : CameTo) (status : Status) → AreReported request.mode request.span c.design c.reports → AreLimited c.start request.limit c.reports
         → IsRaceStatus request c status → (lines : List (List ℕ)) × HasJobLines request c status lines }
+{}
+
+/// All lines of a task exist, with a fault before its lanes or without.
+pub fn lines_exist()
+    ensures { (request : Request) (text : List ℕ) (early : Option Early) (design : DesignOf) (reports : List (ReportOf FindingOf)) (start : Option ℕ) (unput : List ℕ)
+        (status : Status) (rc : ℕ) → (early ≡ None → Reads text design × AreReported request.mode request.span design reports × AreLimited start request.limit reports)
+        → IsStatus request early (came design reports start) status → HasCode request.expect status rc
+        → (lines : List (List ℕ)) × HasLines request text early reports start unput lines }
 {}
 
 /// FAIL of bmc and prove shows its run: the lines name the first assertion that it breaks, and have its trace.

@@ -17,9 +17,11 @@ mod text;
 
 pub use collected::{Collected, first_sat};
 pub use early::Early;
+pub use ends::early_status;
 pub use heading::Heading;
 pub use laws::{
-    fail_shows_its_run, job_lines_exist, printed_finding_exists, settled_statement_is_shown,
+    fail_shows_its_run, job_lines_exist, lines_exist, printed_finding_exists,
+    settled_statement_is_shown,
 };
 pub use printed::{printed_finding, stop_reading};
 pub use tell::{Stop, offer, tell_name};

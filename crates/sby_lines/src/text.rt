@@ -7,7 +7,8 @@ ghost use Rattle.sby_lines.specs.Texts.{answer_text, broken_text, cert_kind_text
 use crate::counts::Counts;
 use design_check::fault::FaultKind;
 use design_reader::ReadFaultKind;
-use sby_file::{SbyKind, TaskKind};
+use sby_file::SbyKind;
+use sby_task::TaskKind;
 use sby_terms::{Answer, JobName, Mode, Status};
 use std::alloc::{AllocError, Global};
 use stream_judge::CertKind;

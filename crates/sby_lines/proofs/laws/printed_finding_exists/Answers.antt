@@ -1,4 +1,4 @@
-use Rattle.sby_lines.proofs.ExistLemmas.{printed_of, stop_of}
+use Rattle.sby_lines.proofs.ExistLemmas.{printed_of}
 use Rattle.sby_lines.proofs.laws.printed_finding_exists.Goals as goal
 
 pub returns : goal.returns

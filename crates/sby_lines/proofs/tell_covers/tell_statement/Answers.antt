@@ -1,4 +1,4 @@
-use Rattle.std.proofs.Common.{◌≡◌, Some, refl, sym, subst, arith}
+use Rattle.std.proofs.Common.{◌≡◌, refl, sym, subst, arith}
 use Rattle.judge.specs.Finding.{FindingOf}
 use Rattle.sby_lines.specs.Lines.{HasStatementLines}
 use Rattle.sby_lines.specs.Reached.{HasReachLines}

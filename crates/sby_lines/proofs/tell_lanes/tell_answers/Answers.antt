@@ -1,4 +1,4 @@
-use Rattle.std.proofs.Common.{◌≡◌, ◌∙◌, Some, ap, sym, length, arith}
+use Rattle.std.proofs.Common.{◌≡◌, ◌∙◌, Some, ap, sym, arith}
 use Rattle.std.specs.Prelude.{slice_get}
 use Rattle.std.proofs.lemmas.Option.{slice_get-get_or}
 use Rattle.std.proofs.lemmas.Result.{err_from_is_err_and}

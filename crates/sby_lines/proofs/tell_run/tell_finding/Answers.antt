@@ -1,4 +1,4 @@
-use Rattle.std.proofs.Common.{◌≡◌, ◌∙◌, Some, sym, subst}
+use Rattle.std.proofs.Common.{◌≡◌, ◌∙◌, sym, subst}
 use Rattle.sby_lines.specs.Broken.{HasBrokenLines}
 use Rattle.sby_lines.proofs.ShownLemmas.{some_same}
 use Rattle.sby_lines.proofs.tell_run.tell_finding.Goals as goal

@@ -1,4 +1,4 @@
-use Rattle.std.proofs.Common.{◌≡◌, sym, subst}
+use Rattle.std.proofs.Common.{◌≡◌}
 use Rattle.sby_lines.proofs.ShownLemmas.{one_stop}
 use Rattle.sby_lines.proofs.tell_task.tell_lowest_stop.Goals as goal
 
