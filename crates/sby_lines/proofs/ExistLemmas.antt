@@ -18,8 +18,8 @@ use Rattle.sby_terms.specs.declared.names.Answer.TheVariants.{Sat, Unsat}
 use Rattle.sby_terms.specs.declared.names.JobName.{JobName}
 use Rattle.sby_terms.specs.declared.names.JobName.TheVariants.{Base, Step, Cover}
 use Rattle.sby_terms.specs.declared.names.Mode.{Mode}
-use Rattle.sby_lines.specs.Printed.{AreInPlace, HasNoFinding, HasNoStop, IsFirstStop}
-use Rattle.sby_lines.specs.Told.{IsFirstFinding, IsPrintedFinding, IsStopReading, IsStoppedIn, WinnersHaveFindings, job_of}
+use Rattle.sby_lines.specs.Printed.{HasNoFinding, HasNoStop, IsFirstStop}
+use Rattle.sby_lines.specs.Told.{AreInPlace, IsFirstFinding, IsPrintedFinding, IsStopReading, IsStoppedIn, WinnersHaveFindings, job_of}
 use Rattle.sby_lines.proofs.PlaceLemmas.{at_contains, contains_at}
 use Rattle.sby_lines.proofs.PrintedLemmas.{first_stop, is_printed, none_printed, not_without}
 

@@ -11,9 +11,9 @@ use Rattle.sby_terms.specs.declared.names.JobName.{JobName}
 use Rattle.sby_terms.specs.declared.names.Mode.{Mode}
 use Rattle.sby_terms.specs.declared.names.Mode.TheVariants.{Bmc, Prove}
 use Rattle.sby_lines.specs.Lines.{told_answers, upto_sat}
-use Rattle.sby_lines.specs.Printed.{AreInPlace, HasNoFinding, HasNoStop, IsFirstStop}
+use Rattle.sby_lines.specs.Printed.{HasNoFinding, HasNoStop, IsFirstStop}
 use Rattle.sby_lines.proofs.PlaceLemmas.{at_contains, contains_at}
-use Rattle.sby_lines.specs.Told.{IsFirstFinding, IsPrintedFinding, IsStopReading, WinnersHaveFindings, job_of}
+use Rattle.sby_lines.specs.Told.{AreInPlace, IsFirstFinding, IsPrintedFinding, IsStopReading, WinnersHaveFindings, job_of}
 
 pub if_some_weaker : {A : Type 0} (o : Option A) (P Q : A → Type 0) → ((x : A) → P x → Q x) → IfSome o P → IfSome o Q
 if_some_weaker None P Q weaker is = tt

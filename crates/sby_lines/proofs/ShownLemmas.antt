@@ -29,10 +29,9 @@ use Rattle.sby_terms.specs.declared.names.Verdict.{Verdict}
 use Rattle.sby_terms.specs.declared.names.Verdict.TheVariants.{Pass, Fail}
 use Rattle.sby_terms.specs.declared.span.Span.{Span}
 use Rattle.sby_lines.specs.Broken.{Breaks}
-use Rattle.sby_lines.specs.Printed.{AreInPlace}
 use Rattle.sby_lines.specs.Reached.{Reaches}
 use Rattle.sby_lines.proofs.PlaceLemmas.{at_contains, contains_at}
-use Rattle.sby_lines.specs.Told.{AreReported, IsFirstFinding, IsFirstSat, IsPrintedFinding, IsStopReading, IsStoppedIn, answer_of, job_of}
+use Rattle.sby_lines.specs.Told.{AreInPlace, AreReported, IsFirstFinding, IsFirstSat, IsPrintedFinding, IsStopReading, IsStoppedIn, answer_of, job_of}
 
 -- ---- reports by their lanes
 

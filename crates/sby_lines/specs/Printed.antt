@@ -6,18 +6,7 @@ use Rattle.race_core.specs.Report.{ReportOf}
 use Rattle.race_core.specs.declared.end.JobEnd.{JobEnd}
 use Rattle.sby_terms.specs.declared.names.Answer.{Answer}
 use Rattle.sby_terms.specs.declared.names.JobName.{JobName}
-use Rattle.sby_lines.specs.Told as told
-use Rattle.sby_lines.specs.Told.{IsStoppedIn, job_of}
-
--- each lane's report stands at its place
-abbrev pub AreInPlace : List (ReportOf FindingOf) → Type 0
-AreInPlace reports = (i : ℕ) (r : ReportOf FindingOf) → slice_get reports i ≡ Some r → r.lane ≡ i
-
-abbrev pub IsFound : JobEnd FindingOf → FindingOf → Type 0
-IsFound end f = Carries end f
-
-abbrev pub IsFirstFinding : List (JobEnd FindingOf) → JobName → FindingOf → Type 0
-IsFirstFinding ends job f = told.IsFirstFinding ends job f
+use Rattle.sby_lines.specs.Told.{IsStoppedIn}
 
 -- the ends carry no finding for the job
 abbrev pub HasNoFinding : List (JobEnd FindingOf) → JobName → Type 0

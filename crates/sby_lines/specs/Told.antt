@@ -110,6 +110,10 @@ came d reports start = record { design = d; reports = reports; start = start }
 abbrev pub problem_in : FindingOf → ProblemOf
 problem_in f = f.problem
 
+-- each lane's report stands at its place
+abbrev pub AreInPlace : List (ReportOf FindingOf) → Type 0
+AreInPlace reports = (i : ℕ) (r : ReportOf FindingOf) → slice_get reports i ≡ Some r → r.lane ≡ i
+
 -- What holds of the reports of every race, and of stored streams: they are those of lanes 0, 1 and so on; each has an end and events
 -- for each job; their findings are true ones of the task; and a lane that won a cell carries a finding for its job.
 pub record AreReported (mode : Mode) (span : Span) (d : DesignOf) (reports : List (ReportOf FindingOf)) : Type 0 where
@@ -117,7 +121,7 @@ pub record AreReported (mode : Mode) (span : Span) (d : DesignOf) (reports : Lis
   pub reads : Reads text d
   pub is_span : IsSpan span
   pub are_true : AreTrue problem_in IsTrueFinding (record { text = text; mode = mode; span = span }) reports
-  pub places : (i : ℕ) (r : ReportOf FindingOf) → slice_get reports i ≡ Some r → r.lane ≡ i
+  pub places : AreInPlace reports
   pub ends : All (λ r. length r.ends ≡ length (jobs_in mode span d)) reports
   pub events : All (λ r. length r.events ≡ length (jobs_in mode span d)) reports
   pub winners : WinnersHaveFindings mode reports

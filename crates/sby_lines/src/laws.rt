@@ -7,7 +7,6 @@ ghost use Rattle.race_core.specs.Collect.{HasFinding};
 ghost use Rattle.race_core.specs.Report.{ReportOf};
 ghost use Rattle.sby_terms.specs.declared.names.Mode.{Mode};
 ghost use Rattle.sby_lines.specs.Shown.{ShowsBreak, ShowsStatement};
-ghost use Rattle.sby_lines.specs.Printed.{AreInPlace};
 ghost use Rattle.design_core.specs.Shape.{DesignOf};
 ghost use Rattle.design_reader.specs.Grammar.{Reads};
 ghost use Rattle.sby_terms.specs.Code.{HasCode};
@@ -17,7 +16,7 @@ ghost use Rattle.sby_terms.specs.declared.names.Mode.TheVariants.{Cover};
 ghost use Rattle.sby_terms.specs.declared.names.Status.{Status};
 ghost use Rattle.sby_terms.specs.declared.names.Status.TheVariants.{Fail};
 ghost use Rattle.sby_lines.specs.Lines.{HasJobLines, HasLines, IsStatus};
-ghost use Rattle.sby_lines.specs.Told.{AreAnswers, AreLimited, AreReported, CameTo, came, IsPrintedFinding, IsRaceStatus, Request, WinnersHaveFindings, job_of};
+ghost use Rattle.sby_lines.specs.Told.{AreInPlace, AreAnswers, AreLimited, AreReported, CameTo, came, IsPrintedFinding, IsRaceStatus, Request, WinnersHaveFindings, job_of};
 
 /// Where a report carries a finding for the job at a place, one is printed.
 pub fn printed_finding_exists()

@@ -3,10 +3,11 @@
 ghost use Rattle.std.specs.Prelude.{◌≡◌, ◌<◌, ℕ, All, Contains, IfNone, IfSome, List, length};
 ghost use Rattle.judge.specs.Finding.{FindingOf};
 ghost use Rattle.race_core.specs.Asking.{name_at};
+ghost use Rattle.race_core.specs.Carrying.{Carries};
 ghost use Rattle.race_core.specs.Collect.{HasFinding};
 ghost use Rattle.race_core.specs.Report.{ReportOf};
-ghost use Rattle.sby_lines.specs.Printed.{AreInPlace, HasNoFinding, HasNoStop, IsFirstFinding, IsFirstStop, IsFound};
-ghost use Rattle.sby_lines.specs.Told.{IsPrintedFinding, IsStopReading, IsStoppedIn, WinnersHaveFindings, job_of};
+ghost use Rattle.sby_lines.specs.Printed.{HasNoFinding, HasNoStop, IsFirstStop};
+ghost use Rattle.sby_lines.specs.Told.{AreInPlace, IsFirstFinding, IsPrintedFinding, IsStopReading, IsStoppedIn, WinnersHaveFindings, job_of};
 
 use judge::Finding;
 use race_core::{JobEnd, Report, job_at, printing_lane};
@@ -14,8 +15,8 @@ use sby_terms::{Answer, JobName, Mode};
 
 // The finding that an end carries.
 fn carried(end: &JobEnd<Finding>) -> Option<&Finding>
-    ensures some { IfSome result (λ f. IsFound end.now f.now) }
-    ensures none { IfNone result ((f : FindingOf) → IsFound end.now f → ⊥) }
+    ensures some { IfSome result (λ f. Carries end.now f.now) }
+    ensures none { IfNone result ((f : FindingOf) → Carries end.now f → ⊥) }
 {
     match end {
         JobEnd::Found(finding) | JobEnd::Skipped(finding) | JobEnd::CalledOff(finding) => Some(
@@ -27,8 +28,8 @@ fn carried(end: &JobEnd<Finding>) -> Option<&Finding>
 
 // The finding for the job that an end carries.
 fn carried_for(end: &JobEnd<Finding>, job: JobName) -> Option<&Finding>
-    ensures some { IfSome result (λ f. IsFound end.now f.now × (f.now.job ≡ job)) }
-    ensures none { IfNone result ((f : FindingOf) → IsFound end.now f → f.job ≡ job → ⊥) }
+    ensures some { IfSome result (λ f. Carries end.now f.now × (f.now.job ≡ job)) }
+    ensures none { IfNone result ((f : FindingOf) → Carries end.now f → f.job ≡ job → ⊥) }
 {
     match carried(end) {
         Some(finding) if finding.job() == job => Some(finding),

@@ -9,10 +9,9 @@ ghost use Rattle.design_core.specs.Shape.{DesignOf};
 ghost use Rattle.sby_lines.specs.Counts.{counts_of};
 ghost use Rattle.sby_lines.specs.Jobs.{HasJobs};
 ghost use Rattle.sby_lines.specs.Lines.{HasJobLines, HasStopLines, HasVerdictLines, done_line, early_text, line_if, race_lines, settled_lines, skipped_lines, told_answers, unless_decided, unput_lines};
-ghost use Rattle.sby_lines.specs.Printed.{AreInPlace};
 ghost use Rattle.sby_lines.specs.Telling.{Tells};
 ghost use Rattle.sby_lines.specs.Texts.{design_text, line_of, not_written_text, stopped_text, trace_path};
-ghost use Rattle.sby_lines.specs.Told.{AreReported, IsCollected, IsStopReading, asked_by, came};
+ghost use Rattle.sby_lines.specs.Told.{AreInPlace, AreReported, IsCollected, IsStopReading, asked_by, came};
 
 use crate::collected::{Collected, told_answers};
 use crate::counts::counts_of;
