@@ -10,3 +10,4 @@ pub mod TaskLemmas
 pub mod ExistLemmas
 pub mod LinesExist
 pub mod ShowLemmas
+pub mod OneLemmas

@@ -30,6 +30,12 @@ pub fn job_lines_exist()
         → IsRaceStatus request c status → (lines : List (List ℕ)) × HasJobLines request c status lines }
 {}
 
+/// There is one list of them.
+pub fn job_lines_are_one()
+    ensures { (request : Request) (c : CameTo) (status : Status) (a b : List (List ℕ)) → AreReported request.mode request.span c.design c.reports
+        → HasJobLines request c status a → HasJobLines request c status b → a ≡ b }
+{}
+
 /// All lines of a task exist, with a fault before its lanes or without.
 pub fn lines_exist()
     ensures { (request : Request) (text : List ℕ) (early : Option Early) (design : DesignOf) (reports : List (ReportOf FindingOf)) (start : Option ℕ) (unput : List ℕ)

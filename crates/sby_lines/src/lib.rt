@@ -20,7 +20,7 @@ pub use early::Early;
 pub use ends::early_status;
 pub use heading::Heading;
 pub use laws::{
-    fail_shows_its_run, job_lines_exist, lines_exist, printed_finding_exists,
+    fail_shows_its_run, job_lines_are_one, job_lines_exist, lines_exist, printed_finding_exists,
     settled_statement_is_shown,
 };
 pub use printed::{printed_finding, stop_reading};
