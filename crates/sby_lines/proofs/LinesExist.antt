@@ -122,9 +122,13 @@ module _ (request : Request) (c : CameTo) (are : AreReported request.mode reques
     | inr none ↦ absurd (none k (omega arith) at)
   ]
 
+  -- where bmc fails, some job has answer Sat
+  bmc_fails : Decides Bmc answers Fail → (k : ℕ) × (slice_get answers k ≡ Some (Some Sat))
+  bmc_fails fails = (0, fails)
+
   -- the first job with answer Sat is a Base
   failing : (mode : Mode) → request.mode ≡ mode → mode ≢ CoverMode → Decides mode answers Fail → (place : ℕ) × (i : ℕ) × IsFirstSat answers place × (name_at request.mode place ≡ Base i)
-  failing Bmc is apart fails = let first = first_sat 0 fails in (first.0, first.0, first.1, ap (λ m. name_at m first.0) is)
+  failing Bmc is apart fails = let some = bmc_fails fails in let first = first_sat some.0 some.1 in (first.0, first.0, first.1, ap (λ m. name_at m first.0) is)
   failing Prove is apart fails = (0, 0, (fails, λ k lt at. omega (arith, lt)), ap (λ m. name_at m 0) is)
   failing CoverMode is apart fails = absurd (apart refl)
 

@@ -1,15 +1,12 @@
 -- A task's design and jobs have one list of lines.
-use Rattle.std.proofs.Common.{◌≡◌, ℕ, zero, suc, ◌+◌, ◌-◌, ◌<◌, List, [], ◌∷◌, ◌++◌, refl, ap, ap₂, sym, ◌∙◌, subst, length, append_assoc, arith}
-use Rattle.std.specs.Prelude.{◌≢◌, All, Option, Some, None, Contains, slice_get}
+use Rattle.std.proofs.Common.{◌≡◌, ℕ, suc, ◌+◌, List, [], ◌∷◌, ◌++◌, refl, ap, ap₂, sym, ◌∙◌, subst, append_assoc, arith}
+use Rattle.std.specs.Prelude.{All, Option, Some, None, Contains}
 use Rattle.std.specs.List.{concat}
 use Rattle.std.proofs.lemmas.List.Elements.{All-head, All-tail}
 use Rattle.judge.specs.Finding.{FindingOf}
 use Rattle.design_core.specs.Shape.{CellOf, DesignOf}
-use Rattle.design_meaning.specs.Meaning.{covers}
 use Rattle.design_meaning.specs.Runs.{CycleOf, shown_of}
 use Rattle.design_trace.specs.Trace.{trace}
-use Rattle.race_core.specs.Collect.{AreCollected}
-use Rattle.race_core.specs.Told.{Decided}
 use Rattle.sby_terms.specs.declared.names.Answer.{Answer}
 use Rattle.sby_terms.specs.declared.names.Mode.{Mode}
 use Rattle.sby_terms.specs.declared.names.Mode.TheVariants.{Bmc, Prove, Cover}
