@@ -1,4 +1,4 @@
-//! Tests of the reader of task files, over whole files.
+//! Tests of task files and their tasks, over whole files.
 #![tactic(auto)]
 
 #[cfg(test)]

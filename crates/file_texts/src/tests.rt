@@ -1,19 +1,22 @@
 // Task files, whole and at fault.
 
-use sby_file::{SbyFault, SbyKind, TaskFault, TaskKind, expand, read};
-use sby_terms::{Mode, Status};
+use sby_file::{SbyFault, SbyKind, read};
+use sby_task::{TaskFault, TaskKind, expand};
+use sby_terms::{Mode, Span, Status};
 use std::process::Abort;
 use std::test::Fail;
 
 const TWO: &str =
     "[tasks]\na quick\nb\n[options]\nmode bmc\nquick: depth 1\n~a: depth 3\nb: expect fail\n[engines]\nsat\n[script]\nread_rtlil t.il\n[files]\nt.il\n";
 
+// A file with CRLF ends, in which a design stands.
+const WINDOWS: &str =
+    "\t[options] # any\r\nmode bmc # note\r\n\r\n[script]\r\nread_rtlil a#b.il\r\n[file a#b.il]\r\n # kept\r\n[engines]\r\nsat";
+
 #[test]
 fn files_are_read(rt: HostRuntime) -> Result<(), Fail> {
-    let windows =
-        "\t[options] # any\r\nmode bmc # note\r\n\r\n[script]\r\nread_rtlil a#b.il\r\n[file a#b.il]\r\n # kept\r\n[engines]\r\nsat";
     let blocks = "[engines]\n~a b:\nsat\nb: sat --conflicts 3\n--\n[tasks]\na b\n";
-    for (text, count) in [(TWO, 2), (windows, 0), (blocks, 1), ("", 0), ("#\n \n", 0)] {
+    for (text, count) in [(TWO, 2), (WINDOWS, 0), (blocks, 1), ("", 0), ("#\n \n", 0)] {
         match read(rt.alloc(), text.as_bytes())? {
             Ok(config) => assert_eq!(rt; config.tasks().len(), count, "{text}"),
             Err(fault) => panic!(rt; "{fault}: {text}"),
@@ -68,7 +71,8 @@ fn tasks_are_expanded(rt: HostRuntime) -> Result<(), Fail> {
             Err(fault) => panic!(rt; "{fault}"),
             Ok(task) => {
                 assert_eq!(rt; task.name.as_str(), name);
-                assert_eq!(rt; (task.mode, task.depth), (Mode::Bmc, depth));
+                assert_eq!(rt; task.mode, Mode::Bmc);
+                assert_eq!(rt; task.span, Span::whole(depth));
                 assert_eq!(rt; task.expect.statuses().len(), 1);
                 assert!(rt; task.expect.statuses().contains(&expected));
                 assert_eq!(rt; task.engines.as_slice().len(), 1);
@@ -85,39 +89,112 @@ const REST: &str =
     "[engines]\nsat --conflicts 1000000000\ndrup solver -q\nbtor pono\n[script]\nread_rtlil t.il\n[files]\nd/t.il\n";
 
 #[test]
-fn the_first_fault_of_a_task_is_named(rt: HostRuntime) -> Result<(), Fail> {
+fn a_design_may_stand_in_the_file(rt: HostRuntime) -> Result<(), Fail> {
+    let Ok(config) = read(rt.alloc(), WINDOWS.as_bytes())? else {
+        panic!(rt; "no tasks");
+    };
+    match expand(rt.alloc(), &config, None)? {
+        Err(fault) => panic!(rt; "{fault}"),
+        Ok(task) => {
+            assert_eq!(rt; task.mode, Mode::Bmc);
+            assert_eq!(rt; task.span, Span::whole(20));
+            assert_eq!(rt; task.design_path.as_str(), "a#b.il");
+            match &task.design_bytes {
+                None => panic!(rt; "no design"),
+                Some(bytes) => assert!(rt; bytes.as_slice() == b" # kept\r\n".as_slice()),
+            }
+        }
+    }
+    Ok(())
+}
+
+#[test]
+fn the_first_fault_of_an_option_is_named(rt: HostRuntime) -> Result<(), Fail> {
     for (options, line, kind) in [
         ("", 0, None),
         (
-            "depth 1000 # note\ntimeout 1000000\nexpect pass, FAIL\nwait on\nmulticlock off\n",
+            "depth 100000 # note\ntimeout 1000000\nexpect pass, FAIL\nwait on\nmulticlock off\n",
             0,
             None,
         ),
         ("width 3\n", 3, Some(TaskKind::UnknownOption)),
         ("depth 1\ndepth 2\n", 4, Some(TaskKind::DoubleOption)),
-        ("depth 1001\n", 3, Some(TaskKind::BadValue)),
+        ("depth 100001\n", 3, Some(TaskKind::BadValue)),
         ("depth 0\n", 3, Some(TaskKind::BadValue)),
         ("timeout 1000001\n", 3, Some(TaskKind::BadValue)),
         ("expect pass fail\n", 3, Some(TaskKind::BadValue)),
         ("expect pass,\n", 3, Some(TaskKind::BadValue)),
         ("multiclock on\n", 3, Some(TaskKind::BadValue)),
+        ("skip 0\n", 0, Some(TaskKind::Slices)),
+        ("stride 1\n", 0, Some(TaskKind::Slices)),
         ("[engines x\n", 3, Some(TaskKind::UnknownOption)),
     ] {
         let text = format!(in rt.alloc(); "[options]\nmode prove\n{options}{REST}")?;
         expands_to(&rt, text.as_str(), line, kind)?;
     }
+    Ok(())
+}
+
+#[test]
+fn the_first_fault_of_slices_is_named(rt: HostRuntime) -> Result<(), Fail> {
+    for (options, line, kind) in [
+        ("depth 5\nskip 2\nstride 2\n", 0, None),
+        ("depth 6\nskip 4\n", 0, None),
+        ("depth 4\nskip 4\n", 0, Some(TaskKind::Slices)),
+        ("skip 0\nstride 100000\n", 0, None),
+        ("skip 99999\n", 0, Some(TaskKind::Slices)),
+        ("skip 99999\ndepth 100000\n", 0, None),
+        ("skip 100000\n", 3, Some(TaskKind::BadValue)),
+        ("skip 00\n", 3, Some(TaskKind::BadValue)),
+        ("skip 1\nskip 1\n", 4, Some(TaskKind::DoubleOption)),
+        ("stride 0\n", 3, Some(TaskKind::BadValue)),
+        ("stride 100001\n", 3, Some(TaskKind::BadValue)),
+        ("depth 1000\nstride 1\n", 0, None),
+        ("depth 1001\nstride 1\n", 0, Some(TaskKind::Slices)),
+        ("depth 100000\nskip 1\nstride 100\n", 0, None),
+    ] {
+        let text = format!(in rt.alloc(); "[options]\nmode bmc\n{options}{REST}")?;
+        expands_to(&rt, text.as_str(), line, kind)?;
+    }
+    Ok(())
+}
+
+#[test]
+fn the_first_fault_of_an_engine_is_named(rt: HostRuntime) -> Result<(), Fail> {
+    for (engine, kind) in [
+        ("abc pdr", Some(TaskKind::LeftOutEngine)),
+        ("z3", Some(TaskKind::UnknownEngine)),
+        ("drup", Some(TaskKind::BadValue)),
+        ("sat --conflicts 1000000001", Some(TaskKind::BadValue)),
+        ("lrat", Some(TaskKind::BadValue)),
+        ("lrat solver -q", None),
+        ("proof", Some(TaskKind::BadValue)),
+        ("proof solver {cnf} {proof}", None),
+        ("proof solver {cnf} {cnf} {proof}", Some(TaskKind::Marks)),
+        ("proof solver {cnf}", Some(TaskKind::Marks)),
+        ("proofb", Some(TaskKind::BadValue)),
+        ("proofb sh{cnf} -o{proof}.out", None),
+        ("proofb {proof}{cnf}", None),
+        ("proofb solver {proof}", Some(TaskKind::Marks)),
+        ("proofb solver {cnf} a{proof}{proof}", Some(TaskKind::Marks)),
+        ("proofb solver { cnf } {proof}", Some(TaskKind::Marks)),
+    ] {
+        let text = format!(in rt.alloc(); "[engines]\n{engine}\n")?;
+        let (line, first) = match kind {
+            None => (0, TaskKind::NoMode),
+            Some(kind) => (2, kind),
+        };
+        expands_to(&rt, text.as_str(), line, Some(first))?;
+    }
+    Ok(())
+}
+
+#[test]
+fn the_first_fault_of_a_task_is_named(rt: HostRuntime) -> Result<(), Fail> {
     for (text, line, kind) in [
         ("", 0, TaskKind::NoMode),
         ("[options]\nmode cover\n", 0, TaskKind::NoEngine),
         ("[options]\nmode bmc\n[engines]\nsat\n", 0, TaskKind::Script),
-        ("[engines]\nabc pdr\n", 2, TaskKind::LeftOutEngine),
-        ("[engines]\nz3\n", 2, TaskKind::UnknownEngine),
-        ("[engines]\ndrup\n", 2, TaskKind::BadValue),
-        (
-            "[engines]\nsat --conflicts 1000000001\n",
-            2,
-            TaskKind::BadValue,
-        ),
         ("[script]\nprep\n", 2, TaskKind::Script),
         (
             "[script]\nread_rtlil a\nread_rtlil a\n[files]\na\n",

@@ -1,7 +1,7 @@
 //! The generated design, a ring of enabled registers, and the task file that runs it.
 #![tactic(auto)]
 
-ghost use Rattle.std.specs.Prelude.{◌≡◌, ◌++◌, ◌<◌, ◌≤◌, OnOk, IfOk, string_bytes};
+ghost use Rattle.std.specs.Prelude.{◌≡◌, ◌+◌, ◌-◌, ◌%◌, ◌++◌, ◌<◌, ◌≤◌, OnOk, IfOk, string_bytes};
 ghost use Rattle.gen_design.specs.Ring.{text_of, wires, register, both, not_both, assertion, cells, design_lines, task_lines};
 
 use std::alloc::{AllocError, Global};
@@ -21,13 +21,21 @@ fn put_wires(text: &mut String, i: u32) -> Result<(), AllocError>
     )
 }
 
+// The register before register `i` of a ring of `n`: a sum of both can need more than 32 bits.
+fn register_before(n: u32, i: u32) -> u32
+    requires { i < n }
+    ensures { result ≡ (i + n - 1) % n }
+{
+    let before = (u64::from(i) + u64::from(n) - 1) % u64::from(n);
+    before as u32
+}
+
 // Appends register `i` of a ring of `n`, which takes what the one before it holds.
 fn put_register(text: &mut String, n: u32, i: u32) -> Result<(), AllocError>
-    requires small { n ≤ 10000 }
-    requires inside { i < n }
+    requires { i < n }
     ensures { OnOk result (string_bytes text.new ≡ string_bytes text.old ++ text_of (register n i)) }
 {
-    let before = (i + n - 1) % n;
+    let before = register_before(n, i);
     write!(
         text,
         r"  cell $dffe $r{i}
@@ -45,8 +53,7 @@ fn put_register(text: &mut String, n: u32, i: u32) -> Result<(), AllocError>
 
 // Appends the gate that sees register `i` and the one after it both at 1.
 fn put_both(text: &mut String, n: u32, i: u32) -> Result<(), AllocError>
-    requires small { n ≤ 10000 }
-    requires inside { i < n }
+    requires { i < n }
     ensures { OnOk result (string_bytes text.new ≡ string_bytes text.old ++ text_of (both n i)) }
 {
     let after = (i + 1) % n;
@@ -89,8 +96,7 @@ fn put_assertion(text: &mut String, i: u32) -> Result<(), AllocError>
 
 // Appends the cells of register `i` of a ring of `n`.
 fn put_cells(text: &mut String, n: u32, i: u32) -> Result<(), AllocError>
-    requires small { n ≤ 10000 }
-    requires inside { i < n }
+    requires { i < n }
     ensures { OnOk result (string_bytes text.new ≡ string_bytes text.old ++ text_of (cells n i)) }
 {
     put_register(text, n, i)?;
@@ -100,7 +106,6 @@ fn put_cells(text: &mut String, n: u32, i: u32) -> Result<(), AllocError>
 
 // Appends the text of a ring of `n`.
 fn put_design(text: &mut String, n: u32) -> Result<(), AllocError>
-    requires { n ≤ 10000 }
     ensures { OnOk result (string_bytes text.new ≡ string_bytes text.old ++ text_of (design_lines n)) }
 {
     text.push_str("module \\gen\n  wire input 1 \\clk\n  wire input 2 \\en\n")?;
@@ -114,15 +119,14 @@ fn put_design(text: &mut String, n: u32) -> Result<(), AllocError>
     Ok(())
 }
 
-/// The RTLIL text of the design `\gen`, a ring of `n` enabled registers, `n` from 2 to 10,000. One register
+/// The RTLIL text of the design `\gen`, a ring of `n` enabled registers, `n` from 2 on. One register
 /// starts at 1; each assertion says that a register and the next aren't both at 1.
 ///
 /// # Errors
 ///
 /// Only where memory is wanting.
 pub fn design(alloc: Global, n: u32) -> Result<Vec<u8>, AllocError>
-    requires low { 2 ≤ n }
-    requires high { n ≤ 10000 }
+    requires { 2 ≤ n }
     ensures { IfOk result (λ text. text.items ≡ text_of (design_lines n)) }
 {
     let mut text = String::new(alloc);
@@ -130,15 +134,14 @@ pub fn design(alloc: Global, n: u32) -> Result<Vec<u8>, AllocError>
     Ok(text.into_bytes())
 }
 
-/// The task file that proves [`design`]`(n)` by k-induction in two lanes, at a depth of 4, `n` from 2 to 10,000. It holds
+/// The task file that proves [`design`]`(n)` by k-induction in two lanes, at a depth of 4, `n` from 2 on. It holds
 /// the design's text, as the file `gen.il`.
 ///
 /// # Errors
 ///
 /// Only where memory is wanting.
 pub fn task_file(alloc: Global, n: u32) -> Result<Vec<u8>, AllocError>
-    requires low { 2 ≤ n }
-    requires high { n ≤ 10000 }
+    requires { 2 ≤ n }
     ensures { IfOk result (λ text. text.items ≡ text_of (task_lines n)) }
 {
     let mut text = String::new(alloc);

@@ -1,12 +1,12 @@
 -- Where a block is open, and whether it is closed, by lines in their places.
-use Rattle.std.proofs.Common.{◌≡◌, ◌≢◌, ◌⊎◌, ◌∙◌, ℕ, zero, suc, ◌+◌, ◌<◌, Bool, true, false, cond, ◌&&◌, List, [], ◌∷◌, ◌++◌, refl, sym, ap, subst, inl, inr, arith, length}
-use Rattle.std.specs.Prelude.{◌↔◌, ◌||◌, not, Contains}
-use Rattle.std.proofs.lemmas.Bool.{cases_Bool, false≢true}
+use Rattle.std.proofs.Common.{◌≡◌, ◌≢◌, ◌⊎◌, ◌∙◌, ℕ, zero, suc, Bool, true, false, List, [], ◌∷◌, ◌++◌, refl, sym, ap, subst, inl, inr, arith}
+use Rattle.std.specs.Prelude.{◌↔◌}
+use Rattle.std.proofs.lemmas.Bool.{cases_Bool}
 use Rattle.std.proofs.lemmas.List.Elements.{Contains-append_right}
-use Rattle.sby_file.specs.Section.{section_named, name_of, is_scoped}
+use Rattle.sby_file.specs.Section.{is_scoped}
 use Rattle.sby_file.specs.Prefix.{is_block_end, opens_block}
-use Rattle.sby_file.specs.Faults.{Seen, seen_after, seen_task, seen_scoped, seen_content, is_closed}
-use Rattle.sby_file.specs.Lines.{IsScopedLine, EndsBlock, NoneEnds, OpensBlock, LeaveBlockOpen, IsEndLine, NoneStarts, CloseBlock}
+use Rattle.sby_file.specs.Faults.{Seen, seen_after, seen_scoped, seen_content, is_closed}
+use Rattle.sby_file.specs.Lines.{EndsBlock, NoneEnds, OpensBlock, LeaveBlockOpen, NoneStarts, CloseBlock}
 use Rattle.sby_file.specs.declared.section.Section.{Section}
 use Rattle.sby_file.specs.declared.section.Section.TheVariants.{Nowhere, Tasks, Options, Engines, Script, Files, File, Unknown}
 use Rattle.sby_file.specs.declared.line.Line.{Line}

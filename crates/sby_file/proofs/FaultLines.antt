@@ -1,5 +1,5 @@
 -- The faults of a text are those of its lines, kind by kind.
-use Rattle.std.proofs.Common.{◌≡◌, ◌≢◌, ◌⊎◌, ◌∙◌, ℕ, zero, suc, ◌+◌, ◌<◌, ◌≤◌, ◌^◌, Bool, true, false, cond, ◌&&◌, List, [], ◌∷◌, ◌++◌, map, refl, sym, ap, subst, inl, inr, arith, length, take, eqb, leb, ltb, eqb-true}
+use Rattle.std.proofs.Common.{◌≡◌, ◌⊎◌, ◌∙◌, ℕ, zero, suc, ◌<◌, ◌≤◌, ◌^◌, Bool, true, false, ◌&&◌, List, [], ◌∷◌, ◌++◌, refl, sym, ap, subst, inl, inr, arith, length, take, eqb, leb, ltb}
 use Rattle.std.specs.Prelude.{◌↔◌, ◌||◌, not, Contains}
 use Rattle.std.specs.List.{list_all}
 use Rattle.std.proofs.lemmas.Bool.{cases_Bool, false≢true, leb-true, le-leb}
@@ -10,8 +10,8 @@ use Rattle.sby_file.specs.Section.{section_named, name_of, is_scoped}
 use Rattle.sby_file.specs.Prefix.{is_name, is_block_end, opens_block, prefix_length, are_known, mark_name}
 use Rattle.sby_file.specs.Placed.{placed}
 use Rattle.sby_file.specs.Faults.{Declared, Seen, nothing_seen, had, when, header_faults, task_faults, prefix_faults, scoped_faults, stray, content_faults, line_faults, seen_after, at_line, faults_from, faults_of, lines_faults, declared, declared_names, has_tasks, is_closed}
-use Rattle.sby_file.specs.Lines.{IsHeader, IsTaskLine, IsScopedLine, LeaveBlockOpen, CloseBlock, SomeLine}
-use Rattle.sby_file.specs.Faulty.{StandsOnce, task_names, HasPrefix, IsFaulty, HasFault}
+use Rattle.sby_file.specs.Lines.{IsHeader, IsScopedLine, LeaveBlockOpen, SomeLine}
+use Rattle.sby_file.specs.Faulty.{StandsOnce, IsFaulty, HasFault}
 use Rattle.sby_file.specs.declared.section.Section.{Section}
 use Rattle.sby_file.specs.declared.section.Section.TheVariants.{Nowhere, Tasks, Options, Engines, Script, Files, File, Unknown}
 use Rattle.sby_file.specs.declared.line.Line.{Line}
@@ -21,7 +21,7 @@ use Rattle.sby_file.specs.declared.fault.SbyFault.{SbyFault}
 use Rattle.sby_file.specs.declared.fault.SbyKind.{SbyKind}
 use Rattle.sby_file.specs.declared.fault.SbyKind.TheVariants.{NotText, StrayLine, UnknownSection, DoubleSection, DoubleTask, PrefixWithoutTasks, UnknownTask, DoubleFile, Limit}
 use Rattle.sby_file.proofs.SeenLines.{seen_all, had_forth, had_back, file_forth, file_back, tasks_seen, task_forth, task_back, has_contains, contains_has}
-use Rattle.sby_file.proofs.BlockLines.{inside_forth, inside_back, closed_forth, closed_back, scoped_seen}
+use Rattle.sby_file.proofs.BlockLines.{inside_forth, inside_back, closed_forth, closed_back}
 
 -- ---- lists of kinds
 in_one : {X : Type 0} (y x : X) → Contains (y ∷ []) x → y ≡ x

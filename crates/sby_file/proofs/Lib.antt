@@ -4,16 +4,7 @@ pub mod Prefixes
 pub mod NameLemmas
 pub mod Declarations
 pub mod Reading
-pub mod Pieces
-pub mod Statuses
-pub mod Scopes
-pub mod Tasks
 pub mod Comments
-pub mod Paths
-pub mod Blocks
-pub mod RowsSaid
-pub mod Designs
-pub mod Said
 pub mod SeenLines
 pub mod BlockLines
 pub mod FaultLines

@@ -4,7 +4,7 @@ use Rattle.std.proofs.lemmas.Bool.Decides.{nat_tests}
 use Rattle.std.specs.Prelude.{◌^◌}
 use Rattle.sby_file.specs.Names.{has}
 use Rattle.sby_file.specs.Meant.{meant}
-use Rattle.sby_file.specs.Faults.{first, faults_of, lines_faults, faults_from, line_faults, at_line, seen_after, Seen, Declared, declared, has_tasks, declared_names, when}
+use Rattle.sby_file.specs.Faults.{first, faults_of, lines_faults, faults_from, line_faults, at_line, seen_after, Seen, Declared, declared, has_tasks, declared_names}
 use Rattle.sby_file.specs.Config.{ConfigOf, with_lines, with_line}
 use Rattle.sby_file.specs.declared.walk.Placed.{Placed}
 use Rattle.sby_file.specs.declared.fault.SbyFault.{SbyFault}

@@ -1,15 +1,14 @@
 -- What the lines so far have, as their readers keep it, is what some line of them says.
-use Rattle.std.proofs.Common.{◌≡◌, ◌≢◌, ◌⊎◌, ◌∙◌, ℕ, zero, suc, ◌+◌, ◌<◌, Bool, true, false, cond, ◌&&◌, List, [], ◌∷◌, ◌++◌, refl, sym, ap, subst, inl, inr, arith, length}
-use Rattle.std.specs.Prelude.{◌↔◌, ◌||◌, not, Contains, bytes_eq}
-use Rattle.std.proofs.lemmas.Bool.{cases_Bool, false≢true}
+use Rattle.std.proofs.Common.{◌≡◌, ◌⊎◌, ◌∙◌, ℕ, zero, suc, true, false, List, [], ◌∷◌, ◌++◌, refl, sym, ap, subst, inl, inr, arith}
+use Rattle.std.specs.Prelude.{◌↔◌, Contains, bytes_eq}
+use Rattle.std.proofs.lemmas.Bool.{cases_Bool}
 use Rattle.std.proofs.lemmas.List.{append_assoc, append-nil}
-use Rattle.std.proofs.lemmas.List.Elements.{Contains-append_left, Contains-append_right, Contains-append_cases}
+use Rattle.std.proofs.lemmas.List.Elements.{Contains-append_right}
 use Rattle.std.proofs.lemmas.Slice.Eq.{bytes_eq-Decides}
 use Rattle.sby_file.specs.Names.{has, with_name}
-use Rattle.sby_file.specs.Section.{section_named, name_of, is_file, is_scoped}
-use Rattle.sby_file.specs.Prefix.{is_block_end, opens_block}
-use Rattle.sby_file.specs.Faults.{Seen, had, with_header, seen_after, seen_header, seen_task, seen_scoped, seen_content, line_names}
-use Rattle.sby_file.specs.Lines.{IsHeader, IsTaskLine, IsScopedLine, EndsBlock, NoneEnds, OpensBlock, LeaveBlockOpen, SomeLine}
+use Rattle.sby_file.specs.Section.{section_named, name_of}
+use Rattle.sby_file.specs.Faults.{Seen, had, with_header, seen_after, seen_header, seen_task, seen_content, line_names}
+use Rattle.sby_file.specs.Lines.{IsHeader, IsTaskLine, SomeLine}
 use Rattle.sby_file.specs.Faulty.{StandsOnce, first_words, task_names}
 use Rattle.sby_file.specs.declared.headers.Headers.{Headers}
 use Rattle.sby_file.specs.declared.section.Section.{Section}

@@ -1,12 +1,12 @@
 -- What is wrong with a line of a task file, kind by kind, by the lines before it and behind it.
-use Rattle.std.specs.Prelude.{◌≡◌, ◌⊎◌, ℕ, ◌<◌, ◌≤◌, Bool, true, false, List, [], ◌∷◌, ◌++◌, length, take, Contains}
+use Rattle.std.specs.Prelude.{◌≡◌, ◌⊎◌, ℕ, ◌<◌, ◌≤◌, true, false, List, [], ◌∷◌, ◌++◌, length, take, Contains}
 use Rattle.sby_file.specs.Section.{name_of}
 use Rattle.sby_file.specs.Prefix.{is_name, is_block_end, opens_block, prefix_length, mark_name}
 use Rattle.sby_file.specs.Faults.{declared_names, has_tasks, line_names}
 use Rattle.sby_file.specs.Lines.{IsHeader, IsTaskLine, IsScopedLine, LeaveBlockOpen, CloseBlock, SomeLine}
 use Rattle.sby_file.specs.declared.section.Section.{Section}
 use Rattle.sby_file.specs.declared.section.Section.TheVariants.{Nowhere, Tasks, Options, Engines, Script, Files, File, Unknown}
-use Rattle.sby_file.specs.declared.line.Line.TheVariants.{NotText as NotTextLine, Header, Content}
+use Rattle.sby_file.specs.declared.line.Line.TheVariants.{NotText as NotTextLine, Content}
 use Rattle.sby_file.specs.declared.walk.Placed.{Placed}
 use Rattle.sby_file.specs.declared.fault.SbyFault.{SbyFault}
 use Rattle.sby_file.specs.declared.fault.SbyKind.{SbyKind}

@@ -8,16 +8,6 @@ pub mod Faults
 pub mod Meant
 pub mod Config
 pub mod Sby
-pub mod Values
-pub mod Engines
-pub mod Draft
-pub mod Scope
-pub mod Files
-pub mod Task
-pub mod Expand
 pub mod Comments
-pub mod Paths
-pub mod Blocks
-pub mod Said
 pub mod Lines
 pub mod Faulty

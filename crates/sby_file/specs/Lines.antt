@@ -1,10 +1,9 @@
 -- Lines in their places: which of them are headers, lines of `[tasks]`, and lines of sections with prefixes; and where a block is open.
-use Rattle.std.specs.Prelude.{◌≡◌, ◌≢◌, ◌⊎◌, ℕ, Bool, true, false, List, [], ◌∷◌, ◌++◌, Contains}
+use Rattle.std.specs.Prelude.{◌≡◌, ◌≢◌, ◌⊎◌, ℕ, true, false, List, ◌∷◌, ◌++◌, Contains}
 use Rattle.sby_file.specs.Section.{section_named, is_scoped}
 use Rattle.sby_file.specs.Prefix.{is_block_end, opens_block}
 use Rattle.sby_file.specs.declared.section.Section.{Section}
 use Rattle.sby_file.specs.declared.section.Section.TheVariants.{Tasks}
-use Rattle.sby_file.specs.declared.line.Line.{Line}
 use Rattle.sby_file.specs.declared.line.Line.TheVariants.{Header, Content}
 use Rattle.sby_file.specs.declared.walk.Placed.{Placed}
 

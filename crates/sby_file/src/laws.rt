@@ -1,74 +1,19 @@
 //! What the definitions mean in the format's terms: each function's contract is a law, and its body is empty.
 
-ghost use Rattle.std.specs.Prelude.{◌≡◌, ◌↔◌, ◌<◌, ◌≤◌, ◌^◌, ◌⊎◌, ◌++◌, Contains, length, ◌∷◌, [], ℕ, Bool, true, false, List, Option, Some, None, Ok, codes, map, unwrap_or};
-ghost use Rattle.sby_terms.specs.declared.names.Status.{Status};
-ghost use Rattle.sby_file.specs.Blocks.{IsKept};
+ghost use Rattle.std.specs.Prelude.{◌≡◌, ◌↔◌, ◌<◌, ◌≤◌, ◌^◌, ◌++◌, Contains, length, ◌∷◌, [], ℕ, List, Some};
 ghost use Rattle.sby_file.specs.Comments.{HasComment, MayComment};
-ghost use Rattle.sby_file.specs.Config.{ConfigOf};
-ghost use Rattle.sby_file.specs.Engines.{engine_of};
-ghost use Rattle.sby_file.specs.Expand.{Expand};
 ghost use Rattle.sby_file.specs.Faults.{faults_of, first};
 ghost use Rattle.sby_file.specs.Faulty.{HasFault, IsNoLater};
 ghost use Rattle.sby_file.specs.Placed.{placed};
 ghost use Rattle.sby_file.specs.declared.fault.SbyFault.{SbyFault};
 ghost use Rattle.sby_file.specs.declared.fault.SbyKind.{SbyKind};
-ghost use Rattle.sby_file.specs.Files.{part_of};
-ghost use Rattle.sby_file.specs.Paths.{IsLastPart};
-ghost use Rattle.sby_file.specs.Said.{AreKept, HasDesign, IsSet, IsUnset, engine_lines, script_lines};
-ghost use Rattle.sby_file.specs.Scope.{kept, rest_of};
 ghost use Rattle.sby_file.specs.Text.{uncommented};
-ghost use Rattle.sby_file.specs.Values.{mode_of, number_of, statuses_of, switch_of};
-ghost use Rattle.sby_file.specs.declared.config.Row.{Row};
-ghost use Rattle.sby_file.specs.declared.expansion.Task.{Task};
 
 /// A line without its comment is what stands before the first `#` that begins one, white space before it too, or the whole line
 /// where none does.
 pub fn comments_end_lines()
     ensures whole { (text : List ℕ) → (HasComment text → ⊥) → uncommented text ≡ text }
     ensures cut { (front back : List ℕ) → MayComment front → (HasComment front → ⊥) → uncommented (front ++ 35 ∷ back) ≡ front }
-{}
-
-/// A path's name is its part behind the last `/`.
-pub fn paths_end_in_names()
-    ensures { (path part : List ℕ) → (part_of path ≡ part) ↔ IsLastPart path part }
-{}
-
-/// The lines that hold for a task of these names, line by line: a line is kept, without its prefix, where its prefix holds and the
-/// last line before it that opens or ends a block, if there is one, ends it or holds. A line that opens or ends a block isn't kept.
-pub fn lines_that_hold_are_kept()
-    ensures none { (is_here : List ℕ → Bool) → kept is_here true [] ≡ [] }
-    ensures kept { (is_here : List ℕ → Bool) (before : List Row) (row : Row) → IsKept is_here before row
-        → kept is_here true (before ++ row ∷ []) ≡ kept is_here true before ++ rest_of row ∷ [] }
-    ensures dropped { (is_here : List ℕ → Bool) (before : List Row) (row : Row) → (IsKept is_here before row → ⊥)
-        → kept is_here true (before ++ row ∷ []) ≡ kept is_here true before }
-{}
-
-/// A task has the name that is asked for. Its options are what one line sets of those that are kept for it, or the default where
-/// none does, and its engines are those of the kept lines of `[engines]`, in file order.
-pub fn kept_lines_say_the_task()
-    ensures name { (c : ConfigOf) (asked : Option (List ℕ)) (t : Task) (rows : List Row) → Expand c asked t → AreKept c asked rows
-        → t.name ≡ unwrap_or asked [] }
-    ensures mode { (c : ConfigOf) (asked : Option (List ℕ)) (t : Task) (rows : List Row) → Expand c asked t → AreKept c asked rows
-        → IsSet (codes "mode") (λ value. mode_of value ≡ Some t.mode) rows }
-    ensures depth { (c : ConfigOf) (asked : Option (List ℕ)) (t : Task) (rows : List Row) → Expand c asked t → AreKept c asked rows
-        → IsSet (codes "depth") (λ value. number_of 1000 value ≡ Some t.depth) rows ⊎ (IsUnset (codes "depth") rows × (t.depth ≡ 20)) }
-    ensures timeout { (c : ConfigOf) (asked : Option (List ℕ)) (t : Task) (rows : List Row) → Expand c asked t → AreKept c asked rows
-        → ((n : ℕ) × (t.timeout ≡ Some n) × IsSet (codes "timeout") (λ value. number_of 1000000 value ≡ Some n) rows)
-        ⊎ (IsUnset (codes "timeout") rows × (t.timeout ≡ None)) }
-    ensures expect { (c : ConfigOf) (asked : Option (List ℕ)) (t : Task) (rows : List Row) → Expand c asked t → AreKept c asked rows
-        → IsSet (codes "expect") (λ value. statuses_of value ≡ Some t.expect) rows
-        ⊎ (IsUnset (codes "expect") rows × (t.expect ≡ Status.Pass ∷ [])) }
-    ensures wait { (c : ConfigOf) (asked : Option (List ℕ)) (t : Task) (rows : List Row) → Expand c asked t → AreKept c asked rows
-        → IsSet (codes "wait") (λ value. switch_of value ≡ Some t.wait) rows ⊎ (IsUnset (codes "wait") rows × (t.wait ≡ false)) }
-    ensures engines { (c : ConfigOf) (asked : Option (List ℕ)) (t : Task) (rows : List Row) → Expand c asked t → AreKept c asked rows
-        → map engine_of (engine_lines rows) ≡ map Ok t.engines }
-{}
-
-/// Of the lines that are kept for a task one is of the script, and names the design: a file that stands in the text, or else that of
-/// the last line of `[files]` with that name.
-pub fn script_names_the_design()
-    ensures { (c : ConfigOf) (asked : Option (List ℕ)) (t : Task) (rows : List Row) → Expand c asked t → AreKept c asked rows
-        → (name : List ℕ) × (script_lines rows ≡ (codes "read_rtlil" ∷ name ∷ []) ∷ []) × HasDesign c.files rows name t }
 {}
 
 /// The faults of a text of at most 2^24 bytes are those of its lines: each kind, line by line, by what stands before it and behind it.

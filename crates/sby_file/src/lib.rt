@@ -1,32 +1,25 @@
-//! Task files.
+//! Task files: their lines, and what they hold.
 #![tactic(auto)]
 
 mod config;
 mod declaration;
-mod draft;
-mod engines;
-mod expansion;
 mod fault;
-mod files;
 mod headers;
 pub mod laws;
 mod line;
 mod names;
 mod prefix;
 mod reader;
-mod scope;
 mod section;
 mod seen;
-mod task;
-mod task_fault;
 mod text;
-mod values;
 mod walk;
 
-pub use config::{Config, Name};
-pub use engines::Engines;
-pub use expansion::{Task, expand};
+pub use config::{Config, Name, Row, StoredFile, copied_words};
 pub use fault::{SbyFault, SbyKind};
 pub use line::Bytes;
+pub use names::Names;
+pub use prefix::{is_block_end, is_negated, mark_name, opens_block, prefix_length};
 pub use reader::read;
-pub use task_fault::{TaskFault, TaskKind};
+pub use section::Section;
+pub use text::words;

@@ -1,6 +1,0 @@
-use Rattle.std.proofs.Common.{◌≡◌, drop}
-use Rattle.sby_file.specs.Files.{bytes_in}
-use Rattle.sby_file.proofs.files.bytes_in.Given as goal
-
-abbrev pub invariant-loop-file : goal.invariant-loop-file
-invariant-loop-file l = bytes_in (drop l.file-index l.files) l.name ≡ bytes_in l.files l.name

@@ -1,5 +1,0 @@
-use Rattle.sby_file.proofs.Paths.{last_part}
-use Rattle.sby_file.proofs.laws.paths_end_in_names.Goals as goal
-
-pub returns : goal.returns
-returns c = last_part

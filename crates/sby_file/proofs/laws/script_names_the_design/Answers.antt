@@ -1,5 +1,0 @@
-use Rattle.sby_file.proofs.Said.{design_said}
-use Rattle.sby_file.proofs.laws.script_names_the_design.Goals as goal
-
-pub returns : goal.returns
-returns c = design_said

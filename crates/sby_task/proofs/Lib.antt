@@ -1,0 +1,15 @@
+pub mod Pieces
+pub mod Statuses
+pub mod Scopes
+pub mod Tasks
+pub mod Paths
+pub mod Blocks
+pub mod RowsSaid
+pub mod Designs
+pub mod Said
+pub mod MarkCounts
+pub mod Spans
+pub mod CyclesSaid
+pub mod EngineLines
+pub mod Refusals
+pub mod Served

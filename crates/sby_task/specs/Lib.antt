@@ -1,0 +1,12 @@
+pub mod Values
+pub mod Marks
+pub mod Engines
+pub mod Draft
+pub mod Scope
+pub mod Files
+pub mod Task
+pub mod Cycles
+pub mod Expand
+pub mod Paths
+pub mod Blocks
+pub mod Said
