@@ -1,0 +1,13 @@
+pub mod TellLemmas
+pub mod PlaceLemmas
+pub mod LineLemmas
+pub mod ShownLemmas
+pub mod SatLemmas
+pub mod PrintedLemmas
+pub mod BrokenLemmas
+pub mod CoverLemmas
+pub mod TaskLemmas
+pub mod ExistLemmas
+pub mod LinesExist
+pub mod ShowLemmas
+pub mod OneLemmas

@@ -1,0 +1,10 @@
+pub mod Texts
+pub mod Counts
+pub mod Broken
+pub mod Reached
+pub mod Told
+pub mod Jobs
+pub mod Printed
+pub mod Lines
+pub mod Shown
+pub mod Telling

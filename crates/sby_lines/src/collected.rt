@@ -1,0 +1,97 @@
+// What the reports of a task come to.
+
+ghost use Rattle.std.specs.Prelude.{◌≡◌, ◌<◌, ℕ, true, false, IfOk, IfNone, IfSome, Some, length, slice_get};
+ghost use Rattle.judge.specs.Jobs.{jobs_in};
+ghost use Rattle.sby_terms.specs.Span.{IsSpan};
+ghost use Rattle.sby_terms.specs.declared.names.Answer.TheVariants.{Sat};
+ghost use Rattle.sby_lines.specs.Lines.{told_answers};
+ghost use Rattle.sby_lines.specs.Told.{AreReported, IsCollected, IsFirstSat};
+
+use crate::counts::counts_of;
+use design_check::flat::Flat;
+use judge::Finding;
+use race_core::{Outcome, Report, collect};
+use sby_terms::{Answer, Mode, Span, Status, Verdict, decide};
+use std::alloc::{AllocError, Global};
+
+/// What the reports of a task come to.
+#[derive(Drop)]
+pub struct Collected {
+    /// The answer of each job that is settled.
+    pub answers: Vec<Option<Answer>>,
+    /// The verdict that they decide.
+    pub verdict: Option<Verdict>,
+    pub status: Status,
+}
+
+// How many jobs there are.
+fn job_count(mode: Mode, span: &Span, flat: &Flat) -> u32
+    requires { IsSpan span.now }
+    ensures { result ≡ length (jobs_in mode span.now flat.now) }
+{
+    match mode {
+        Mode::Bmc => span.slices(),
+        Mode::Prove => 2,
+        Mode::Cover => counts_of(flat.design()).covers as u32,
+    }
+}
+
+impl Collected {
+    /// Collects the reports of a task.
+    pub fn new(
+        alloc: Global,
+        mode: Mode,
+        span: &Span,
+        flat: &Flat,
+        reports: &[Report<Finding>],
+    ) -> Result<Collected, AllocError>
+        requires { AreReported mode span.now flat.now reports.now }
+        ensures { IfOk result (IsCollected mode span.now flat.now reports.now) }
+    {
+        let Outcome {
+            answers,
+            lanes: _,
+            status,
+        } = collect(alloc, reports, mode, job_count(mode, span, flat))?;
+        let verdict = decide(mode, &answers);
+        Ok(Collected {
+            answers,
+            verdict,
+            status,
+        })
+    }
+}
+
+fn is_sat(answers: &[Option<Answer>], place: usize) -> bool
+    requires { place < length answers.now }
+    ensures yes { result ≡ true → slice_get answers.now place ≡ Some (Some Sat) }
+    ensures no { result ≡ false → slice_get answers.now place ≡ Some (Some Sat) → ⊥ }
+{
+    matches!(answers[place], Some(Answer::Sat))
+}
+
+/// The place of the first answer Sat.
+pub fn first_sat(answers: &[Option<Answer>]) -> Option<usize>
+    ensures some { IfSome result (IsFirstSat answers.now) }
+    ensures none { IfNone result ((k : ℕ) → slice_get answers.now k ≡ Some (Some Sat) → ⊥) }
+{
+    for place in 0..answers.len() {
+        if is_sat(answers, place) {
+            return Some(place);
+        }
+    }
+    None
+}
+
+/// The answers that have a line: in bmc and prove none behind the first that is Sat.
+pub fn told_answers(mode: Mode, answers: &[Option<Answer>]) -> &[Option<Answer>]
+    ensures { result.now ≡ told_answers mode answers.now }
+{
+    match mode {
+        Mode::Bmc | Mode::Prove => match first_sat(answers) {
+            Some(place) => answers.split_at(place + 1).0,
+            None => answers,
+        },
+        Mode::Cover => answers,
+    }
+}

@@ -1,0 +1,96 @@
+// The texts of faults and ends.
+
+ghost use Rattle.std.specs.Prelude.{◌≡◌, ◌≢◌, IfOk, OnErr, None, Some, option_map, string_bytes};
+ghost use Rattle.sby_lines.specs.Lines.{IsStatus, early_text, end_text};
+ghost use Rattle.sby_lines.specs.Told.{CameTo, Request};
+
+use crate::early::Early;
+use crate::text;
+use judge::Finding;
+use race_core::JobEnd;
+use sby_terms::Status;
+use std::alloc::{AllocError, Global};
+
+fn fault_text(alloc: Global, slices: u32, early: &Early) -> Result<String, AllocError>
+    requires { early_text slices early.now ≢ None }
+    ensures { IfOk result (λ t. early_text slices early.now ≡ Some (string_bytes t)) }
+{
+    match early {
+        Early::File(path) => text::file_text(alloc, path),
+        Early::Sby(fault) => text::sby_text(alloc, fault.line, text::sby_kind_text(fault.kind)),
+        Early::Task(fault) => text::sby_text(alloc, fault.line, text::task_kind_text(fault.kind)),
+        Early::Read(fault) => text::read_text(alloc, fault.byte, text::read_kind_text(fault.kind)),
+        Early::Design(fault) => {
+            text::fault_text(alloc, text::design_kind_text(fault.kind()), fault.name())
+        }
+        Early::TooMany(job) => {
+            let job = text::job_text(alloc, slices, *job)?;
+            text::too_many_text(alloc, job.as_str())
+        }
+        Early::Streams => text::streams_text(alloc),
+        Early::Memory => unreachable!(),
+    }
+}
+
+/// What is printed of a fault before the lanes of a task with so many slices. Want of memory has no text.
+pub fn early_text(alloc: Global, slices: u32, early: &Early) -> Result<Option<String>, AllocError>
+    ensures ok { IfOk result (λ t. option_map string_bytes t ≡ early_text slices early.now) }
+    ensures err { OnErr result (early_text slices early.now ≢ None) }
+{
+    if matches!(early, Early::Memory) {
+        return Ok(None);
+    }
+    let text = fault_text(alloc, slices, early)?;
+    Ok(Some(text))
+}
+
+fn told_text(alloc: Global, end: &JobEnd<Finding>) -> Result<String, AllocError>
+    requires { end_text end.now ≢ None }
+    ensures { IfOk result (λ t. end_text end.now ≡ Some (string_bytes t)) }
+{
+    match end {
+        JobEnd::Unknown => text::unknown_text(alloc),
+        JobEnd::NotServed => text::not_served_text(alloc),
+        JobEnd::Bad { no, at } => {
+            text::cert_text(alloc, text::cert_kind_text(text::kind_numbered(*no)), *at)
+        }
+        JobEnd::ReadFailed => text::read_failed_text(alloc),
+        JobEnd::StartFailed => text::start_failed_text(alloc),
+        JobEnd::HoldFailed => text::hold_failed_text(alloc),
+        JobEnd::Memory => text::memory_text(alloc),
+        JobEnd::Found(_) | JobEnd::Skipped(_) | JobEnd::CalledOff(_) | JobEnd::Stopped(_) => {
+            unreachable!()
+        }
+    }
+}
+
+/// What is printed of an unsettled job's end. A lane that was stopped or called off has no text.
+pub fn end_text(alloc: Global, end: &JobEnd<Finding>) -> Result<Option<String>, AllocError>
+    ensures ok { IfOk result (λ t. option_map string_bytes t ≡ end_text end.now) }
+    ensures err { OnErr result (end_text end.now ≢ None) }
+{
+    if matches!(
+        end,
+        JobEnd::Found(_) | JobEnd::Skipped(_) | JobEnd::CalledOff(_) | JobEnd::Stopped(_)
+    ) {
+        return Ok(None);
+    }
+    let text = told_text(alloc, end)?;
+    Ok(Some(text))
+}
+
+/// The status of a task with a fault before its lanes.
+pub fn early_status(early: &Early) -> Status
+    ensures { (request : Request) (c : CameTo) → IsStatus request (Some early.now) c result }
+{
+    match early {
+        Early::Memory => Status::Memory,
+        Early::File(_)
+        | Early::Sby(_)
+        | Early::Task(_)
+        | Early::Read(_)
+        | Early::Design(_)
+        | Early::TooMany(_)
+        | Early::Streams => Status::Error,
+    }
+}
