@@ -1,11 +1,12 @@
 -- What each byte of a binary proof does to the little that is kept of the bytes before it.
 use Rattle.std.specs.Prelude.{◌≡◌, ◌≤◌, ℕ, ◌+◌, ◌*◌, Bool, true, false, cond, eqb, leb, List, [], ◌∷◌, ◌++◌, length, Option, Some, None}
 use Rattle.cnf_form.specs.Cnf.{LitOf}
+use Rattle.cnf_form.specs.Coding.{lit_from}
 use Rattle.cert_stream.specs.Telling.{Saying, IsClause, IsDelete}
 use Rattle.cert_stream.specs.declared.mode.WireFault.{WireFault}
 use Rattle.cert_stream.specs.declared.mode.WireFaultKind.{WireFaultKind}
 use Rattle.cert_stream.specs.declared.mode.WireFaultKind.TheVariants.{BadLine}
-use Rattle.proof_stream.specs.Numbers.{GroupsRead, Goes, Whole, Unfit, group_next, literal_numbered}
+use Rattle.proof_stream.specs.Numbers.{GroupsRead, Goes, Whole, Unfit, group_next}
 use Rattle.proof_stream.specs.declared.spot.LineKind.{LineKind}
 use Rattle.proof_stream.specs.declared.spot.LineKind.TheVariants.{Clause, Deletion}
 use Rattle.proof_stream.specs.declared.spot.Groups.{Groups}
@@ -48,7 +49,7 @@ groups value weight place = record { value = value; weight = weight; place = pla
 -- a group of a literal that begins at `place`
 abbrev pub literal_read : BinaryOf → LineKind → ℕ → GroupsRead → BinaryTurn
 literal_read w kind place (Goes v u) = quietly w (InNumber kind (groups v u place))
-literal_read w kind place (Whole n) = record { to = record w { spot = Gap kind; lits = w.lits ++ literal_numbered n ∷ [] }; event = None }
+literal_read w kind place (Whole n) = record { to = record w { spot = Gap kind; lits = w.lits ++ lit_from n ∷ [] }; event = None }
 literal_read w kind place (Unfit k) = breaks w k place
 
 abbrev pub group_read : BinaryOf → LineKind → Groups → ℕ → BinaryTurn

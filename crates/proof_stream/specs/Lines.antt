@@ -1,13 +1,14 @@
 -- What the lines of a proof file say.
 use Rattle.std.specs.Prelude.{◌≡◌, ℕ, Bool, true, false, cond, eqb, leb, List, [], ◌∷◌, ◌++◌, length, slice_index, Option, Some, None}
 use Rattle.cnf_form.specs.Cnf.{LitOf}
+use Rattle.cnf_form.specs.Coding.{lit_from}
 use Rattle.cert_stream.specs.Text.{AreBlank}
 use Rattle.cert_stream.specs.Places.{AreLines}
 use Rattle.cert_stream.specs.Stream.{bad, sayings}
 use Rattle.cert_stream.specs.Telling.{Saying, IsClause, IsDelete, IsValue, IsValuesEnd, IsUnknown, IsFault}
 use Rattle.cert_stream.specs.declared.mode.WireFaultKind.TheVariants.{BadLine}
 use Rattle.proof_stream.specs.Text.{is_claim}
-use Rattle.proof_stream.specs.Numbers.{NumberOf, Goes, Whole, Unfit, groups_read, literal_numbered, numbers_from}
+use Rattle.proof_stream.specs.Numbers.{NumberOf, Goes, Whole, Unfit, groups_read, numbers_from}
 use Rattle.proof_stream.specs.Binary.{line_said}
 use Rattle.proof_stream.specs.declared.spot.LineKind.{LineKind}
 use Rattle.proof_stream.specs.declared.spot.LineKind.TheVariants.{Clause, Deletion}
@@ -59,7 +60,7 @@ numbers_say vars unended (Some l) (n ∷ ns) =
     cond (eqb (slice_index n.groups 0) 0) (line_said l.kind l.place l.lits ∷ numbers_say vars unended None ns)
     (elim (groups_read vars (leb vars (length l.lits)) 0 1 n.groups) [
       | Goes v w ↦ unended
-      | Whole k ↦ numbers_say vars unended (Some (record l { lits = l.lits ++ literal_numbered k ∷ [] })) ns
+      | Whole k ↦ numbers_say vars unended (Some (record l { lits = l.lits ++ lit_from k ∷ [] })) ns
       | Unfit kind ↦ bad kind n.place
     ])
 

@@ -1,6 +1,5 @@
 -- Numbers of a binary proof: groups of seven bits, the low group first; the top bit of a byte says that a group follows.
-use Rattle.std.specs.Prelude.{ℕ, ◌+◌, ◌-◌, ◌*◌, ◌/◌, ◌%◌, Bool, true, false, cond, ◌&&◌, ◌||◌, eqb, leb, List, [], ◌∷◌, ◌++◌, length}
-use Rattle.cnf_form.specs.Cnf.{LitOf}
+use Rattle.std.specs.Prelude.{ℕ, ◌+◌, ◌-◌, ◌*◌, Bool, true, false, cond, ◌&&◌, ◌||◌, eqb, leb, List, [], ◌∷◌, ◌++◌, length}
 use Rattle.cert_stream.specs.declared.mode.WireFaultKind.{WireFaultKind}
 use Rattle.cert_stream.specs.declared.mode.WireFaultKind.TheVariants.{BadLiteral, LineTooLong}
 
@@ -30,9 +29,6 @@ seven b = cond (leb 128 b) (b - 128) b
 -- a literal: twice its variable, from 1 to `vars`, and 1 more if it is negated
 abbrev pub is_literal : ℕ → ℕ → Bool
 is_literal vars n = leb 2 n && leb n (2 * vars + 1)
-
-abbrev pub literal_numbered : ℕ → LitOf
-literal_numbered n = record { var = n / 2; negated = eqb (n % 2) 1 }
 
 -- what groups make so far, and the weight of the next, goes on to a literal of at most five groups
 abbrev pub may_go_on : ℕ → ℕ → ℕ → Bool

@@ -1,11 +1,12 @@
 // A binary proof.
 
-ghost use Rattle.std.specs.Prelude.{◌≡◌, ℕ, ◌+◌, ◌<◌, ◌≤◌, ◌*◌, ◌^◌, Bool, true, false, List, [], length, Option, Some, None, IfOk};
+ghost use Rattle.std.specs.Prelude.{◌≡◌, ℕ, cond, ◌+◌, ◌<◌, ◌≤◌, ◌*◌, ◌^◌, Bool, true, false, List, [], length, Option, Some, None, IfOk};
 ghost use Rattle.cnf_form.specs.Cnf.{ClauseWithin};
 ghost use Rattle.cnf_form.specs.declared.literal.TheConstants.{MAX_VARS};
 ghost use Rattle.cert_stream.specs.Telling.{Gets, Saying, answer, is_stopped};
-ghost use Rattle.proof_stream.specs.Numbers.{is_literal, literal_numbered, may_go_on, seven, with_group};
-ghost use Rattle.proof_stream.specs.Binary.{BinaryOf, BinaryTurn, IsSpotWithin, binary_fresh, binary_told, binary_turn, breaks, gap_read, group_read, head_read, line_said, opens, spot_end, spot_fault, spot_read};
+ghost use Rattle.cnf_form.specs.Coding.{lit_from};
+ghost use Rattle.proof_stream.specs.Numbers.{Goes, Whole, is_literal, may_go_on, seven, with_group};
+ghost use Rattle.proof_stream.specs.Binary.{BinaryOf, BinaryTurn, IsSpotWithin, binary_fresh, binary_told, binary_turn, breaks, gap_read, group_read, head_read, line_said, literal_read, opens, spot_end, spot_fault, spot_read};
 ghost use Rattle.proof_stream.specs.File.{FileOf, InBinary, after, fault, said};
 
 use crate::spot::{Groups, LineKind, Spot};
@@ -62,6 +63,39 @@ fn may_go_on(vars: u32, n: u64, weight: u64) -> bool
     weight <= LAST_WEIGHT && (is_literal(vars, n) || n <= 1 && n + weight <= 2 * vars as u64 + 1)
 }
 
+// The literal that is twice its variable, and one more where it is negated.
+fn literal(vars: u32, n: u64) -> Lit
+    requires vars { vars ≤ MAX_VARS }
+    requires within { is_literal vars n ≡ true }
+    ensures { result ≡ lit_from n }
+{
+    Lit::new((n / 2) as u32, n % 2 == 1)
+}
+
+// Whether a group with this value behind it may be the last one of a literal, or one that another follows.
+fn fits(vars: u32, n: u64, weight: u64, goes_on: bool) -> bool
+    requires vars { vars ≤ MAX_VARS }
+    requires small { n + weight < 2 ^ 63 }
+    ensures { result ≡ cond goes_on (may_go_on vars n weight) (is_literal vars n) }
+{
+    if goes_on {
+        may_go_on(vars, n, weight)
+    } else {
+        is_literal(vars, n)
+    }
+}
+
+// The value with one group more.
+#[tactic(auto, using(crate::proofs::Bounds::group_bound))]
+fn with_group(value: u64, weight: u64, b: u8) -> u64
+    requires value { value ≤ 2 ^ 29 }
+    requires weight { weight ≤ 268435456 }
+    ensures group { result ≡ with_group value weight b }
+    ensures small { result < 2 ^ 36 }
+{
+    value + seven(b) * weight
+}
+
 impl BinaryWire {
     pub(crate) fn new(alloc: Global, vars: u32) -> Self
         requires { vars ≤ MAX_VARS }
@@ -100,28 +134,41 @@ impl BinaryWire {
         }
     }
 
+    fn push(&mut self, kind: LineKind, n: u64) -> Result<(), AllocError>
+        requires { is_literal self.old.vars n ≡ true }
+        ensures { IfOk result (λ _. self.new ≡ (literal_read self.old kind 0 (Whole n)).to) }
+    {
+        self.lits.push(literal(self.vars, n))?;
+        self.spot = Spot::Gap(kind);
+        Ok(())
+    }
+
+    fn go_on(&mut self, kind: LineKind, groups: Groups)
+        requires value { groups.value ≤ 2 * self.old.vars + 1 }
+        requires weight { groups.weight ≤ 268435456 }
+        ensures { self.new ≡ (literal_read self.old kind groups.place (Goes groups.value groups.weight)).to }
+    {
+        self.spot = Spot::InNumber(kind, groups);
+    }
+
     fn read_group(&mut self, kind: LineKind, groups: Groups, b: u8) -> Result<(), AllocError>
         requires value { groups.value ≤ 2 * self.old.vars + 1 }
         requires weight { groups.weight ≤ 268435456 }
         ensures { IfOk result (λ _. self.new ≡ (group_read self.old kind groups b).to) }
     {
-        let value = groups.value + seven(b) * groups.weight;
+        let vars = self.vars;
+        let place = groups.place;
+        let value = with_group(groups.value, groups.weight, b);
         let weight = 128 * groups.weight;
-        let fits = if b >= 128 {
-            may_go_on(self.vars, value, weight)
+        let goes_on = b >= 128;
+        if !fits(vars, value, weight, goes_on) {
+            self.fail(WireFaultKind::BadLiteral, place);
+        } else if self.lits.len() >= vars as usize {
+            self.fail(WireFaultKind::LineTooLong, place);
+        } else if goes_on {
+            self.go_on(kind, Groups { value, weight, place });
         } else {
-            is_literal(self.vars, value)
-        };
-        if !fits {
-            self.fail(WireFaultKind::BadLiteral, groups.place);
-        } else if self.lits.len() >= self.vars as usize {
-            self.fail(WireFaultKind::LineTooLong, groups.place);
-        } else if b >= 128 {
-            let place = groups.place;
-            self.spot = Spot::InNumber(kind, Groups { value, weight, place });
-        } else {
-            self.lits.push(Lit::new((value / 2) as u32, value % 2 == 1))?;
-            self.spot = Spot::Gap(kind);
+            self.push(kind, value)?;
         }
         Ok(())
     }

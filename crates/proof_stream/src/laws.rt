@@ -20,7 +20,7 @@ pub fn pieces_say_the_same()
 {}
 
 /// A fault stays, whatever follows.
-#[tactic(auto, using(crate::proofs::Cutting::fault_stays))]
+#[tactic(auto, using(crate::proofs::Faults::fault_stays))]
 pub fn faults_stay()
     ensures { (r : FileOf) (bytes : List ℕ) (f : WireFault) → fault r ≡ Some f → fault (after r bytes) ≡ Some f }
 {}

@@ -43,6 +43,22 @@ fn starts_behind(starts: bool, b: u8) -> bool
     b == b'\n' || starts && (b == b' ' || b == b'\t' || b == b'\r')
 }
 
+// Whether the byte begins a line of s or v.
+fn claims(starts: bool, b: u8) -> bool
+    ensures { result ≡ (starts && is_claim b) }
+{
+    starts && is_claim(b)
+}
+
+fn is_stopped(fed: Result<Fed, WireFault>) -> bool
+    ensures { result ≡ is_stopped fed }
+{
+    match fed {
+        Ok(Fed::Stopped) => true,
+        Ok(Fed::More) | Err(_) => false,
+    }
+}
+
 // Passes over bytes up to the first line of s or v, and answers how many.
 fn pass(starts: &mut bool, bytes: &[u8]) -> usize
     ensures within { result ≤ length bytes.now }
@@ -53,7 +69,7 @@ fn pass(starts: &mut bool, bytes: &[u8]) -> usize
     let mut i = 0;
     while i < bytes.len() {
         let b = bytes[i];
-        if *starts && is_claim(b) {
+        if claims(*starts, b) {
             return i;
         }
         *starts = starts_behind(*starts, b);
@@ -101,7 +117,8 @@ impl TextWire {
         ensures count { self.new.wire.taken ≤ self.old.wire.taken + length piece.now }
     {
         let count = pass(&mut self.starts, piece);
-        if let Ok(Fed::Stopped) = self.wire.feed(&piece[..count], receiver)? {
+        let fed = self.wire.feed(&piece[..count], receiver)?;
+        if is_stopped(fed) {
             return Ok(true);
         }
         if count < piece.len() {
