@@ -1,5 +1,5 @@
 -- Bytes of a text without a line of s or v are read as a stream's.
-use Rattle.std.proofs.Common.{◌≡◌, ◌⊎◌, ℕ, ◌+◌, ◌<◌, ◌≤◌, Bool, true, false, ◌&&◌, leb, List, [], ◌∷◌, ◌++◌, length, take, drop, get_or, Option, Some, None, refl, ap, sym, ◌∙◌, inl, inr, arith, append_assoc, subst, cond, take-append-drop}
+use Rattle.std.proofs.Common.{◌≡◌, ◌⊎◌, ℕ, ◌+◌, ◌<◌, ◌≤◌, Bool, true, false, ◌&&◌, leb, List, [], ◌∷◌, ◌++◌, length, take, drop, get_or, Option, Some, None, refl, ap, sym, ◌∙◌, inl, inr, arith, append_assoc, subst, cond, is_some, take-append-drop}
 use Rattle.std.proofs.lemmas.List.{append-nil, drop_more, drop_all, take_more}
 use Rattle.std.proofs.lemmas.Bool.{cases_Bool, leb-true, leb-false}
 use Rattle.cert_stream.specs.Machine.{WireOf, turn}
@@ -128,3 +128,18 @@ module _ (t : TextOf) (w : WireOf) (s : Bool) (r : Option WireFault) (e : text w
 
 pub gets_same : {A : Type 0} (gets : A → Saying → A → Type 0) (stops : A → Bool) (x y : A) (ss ts : List Saying) (b d : Bool) → ss ≡ ts → b ≡ d → Gets gets stops x ts y b → Gets gets stops x ss y d
 gets_same gets stops x y ss ts b d e f h = subst (λ k. Gets gets stops x ss y k) f (subst (λ k. Gets gets stops x k y b) (sym e) h)
+
+-- a text that refused a line takes a piece
+said_behind : (w : WireOf) (s : Bool) (r : Option WireFault) (piece : List ℕ) → is_some r ≡ true → said (InText (text w s r)) piece ≡ []
+said_behind w s None piece e = absurd (let k = e in cc)
+said_behind w s (Some f) piece e = said_refused w s f piece
+
+after_behind : (w : WireOf) (s : Bool) (r : Option WireFault) (piece : List ℕ) → is_some r ≡ true → after (InText (text w s r)) piece ≡ InText (text w s r)
+after_behind w s None piece e = absurd (let k = e in cc)
+after_behind w s (Some f) piece e = after_refused w s f piece
+
+pub refused_told : {A : Type 0} (gets : A → Saying → A → Type 0) (stops : A → Bool) (x : A) (t : TextOf) (piece : List ℕ) → is_some t.refused ≡ true → Gets gets stops x (said (InText t) piece) x false
+refused_told gets stops x t piece e = gets_same gets stops x x (said (InText t) piece) [] false false (said_behind t.wire t.starts t.refused piece e) refl (refl, refl)
+
+pub refused_kept : (t : TextOf) (piece : List ℕ) → is_some t.refused ≡ true → (let r : FileOf = InText t in r) ≡ after (InText t) piece
+refused_kept t piece e = sym (after_behind t.wire t.starts t.refused piece e)

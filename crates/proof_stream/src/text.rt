@@ -103,7 +103,7 @@ impl TextWire {
     }
 
     // Takes the part of a piece that a stream may have too, and answers whether the receiver stopped.
-    fn take<R: Receiver>(
+    fn take_open<R: Receiver>(
         &mut self,
         piece: &[u8],
         receiver: &mut R,
@@ -114,7 +114,7 @@ impl TextWire {
         ensures told { IfOk result (λ stopped. Gets R.gets R.stops receiver.old (said (InText self.old) piece.now) receiver.new stopped) }
         ensures kept { IfOk result (λ stopped. stopped ≡ false → (let r : FileOf = InText self.new in r) ≡ after (InText self.old) piece.now) }
         ensures vars { IfOk result (λ _. R.vars receiver.new ≡ self.new.wire.vars) }
-        ensures count { self.new.wire.taken ≤ self.old.wire.taken + length piece.now }
+        ensures count { IfOk result (λ _. self.new.wire.taken ≤ self.old.wire.taken + length piece.now) }
     {
         let count = pass(&mut self.starts, piece);
         let fed = self.wire.feed(&piece[..count], receiver)?;
@@ -130,6 +130,26 @@ impl TextWire {
         Ok(false)
     }
 
+    // Takes a piece, of which nothing is read behind a refused line.
+    #[tactic(auto, using(crate::proofs::Passing::refused_told, crate::proofs::Passing::refused_kept))]
+    fn take<R: Receiver>(
+        &mut self,
+        piece: &[u8],
+        receiver: &mut R,
+    ) -> Result<bool, AllocError>
+        requires vars { R.vars receiver.old ≡ self.old.wire.vars }
+        requires count { self.old.wire.taken + length piece.now < 2 ^ 64 }
+        ensures told { IfOk result (λ stopped. Gets R.gets R.stops receiver.old (said (InText self.old) piece.now) receiver.new stopped) }
+        ensures kept { IfOk result (λ stopped. stopped ≡ false → (let r : FileOf = InText self.new in r) ≡ after (InText self.old) piece.now) }
+        ensures vars { IfOk result (λ _. R.vars receiver.new ≡ self.new.wire.vars) }
+        ensures count { IfOk result (λ _. self.new.wire.taken ≤ self.old.wire.taken + length piece.now) }
+    {
+        if self.refused.is_some() {
+            return Ok(false);
+        }
+        self.take_open(piece, receiver)
+    }
+
     pub(crate) fn feed<R: Receiver>(
         &mut self,
         piece: &[u8],
@@ -141,9 +161,9 @@ impl TextWire {
         ensures kept { IfOk result (λ fed. is_stopped fed ≡ false → (let r : FileOf = InText self.new in r) ≡ after (InText self.old) piece.now) }
         ensures vars { IfOk result (λ _. R.vars receiver.new ≡ self.new.wire.vars) }
         ensures answer { IfOk result (λ fed. is_stopped fed ≡ false → fed ≡ answer (fault (after (InText self.old) piece.now))) }
-        ensures count { self.new.wire.taken ≤ self.old.wire.taken + length piece.now }
+        ensures count { IfOk result (λ _. self.new.wire.taken ≤ self.old.wire.taken + length piece.now) }
     {
-        if self.refused.is_none() && self.take(piece, receiver)? {
+        if self.take(piece, receiver)? {
             return Ok(Ok(Fed::Stopped));
         }
         match self.fault() {

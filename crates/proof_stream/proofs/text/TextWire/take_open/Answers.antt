@@ -1,7 +1,7 @@
 use Rattle.std.proofs.Common.{arith, ap, sym, ◌∙◌}
 use Rattle.proof_stream.specs.Text.{TextOf}
 use Rattle.proof_stream.proofs.Passing.{gets_same, piece_said, piece_whole, piece_part}
-use Rattle.proof_stream.proofs.text.TextWire.take.Goals as goal
+use Rattle.proof_stream.proofs.text.TextWire.take_open.Goals as goal
 
 pub returns-then-is_stopped-clause-told : goal.returns-then-is_stopped-clause-told
 returns-then-is_stopped-clause-told g c =
