@@ -1,5 +1,5 @@
 -- Bounds on groups.
-use Rattle.std.proofs.Common.{ℕ, ◌+◌, ◌*◌, ◌<◌, ◌≤◌, ◌^◌, arith}
+use Rattle.std.proofs.Common.{ℕ, ◌*◌, ◌<◌, ◌≤◌, arith}
 use Rattle.std.proofs.lemmas.Nat.{mul-le}
 
 pub group_bound : (seven weight : ℕ) → seven < 128 → weight ≤ 268435456 → seven * weight ≤ 34091302912

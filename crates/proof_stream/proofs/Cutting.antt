@@ -1,6 +1,5 @@
 -- Where a file is cut.
 use Rattle.std.proofs.Common.{◌≡◌, ℕ, List, [], ◌∷◌, ◌++◌, refl, ap, sym, ◌∙◌, append_assoc}
-use Rattle.cert_stream.specs.Telling.{Saying}
 use Rattle.proof_stream.specs.File.{FileOf, StandsFor, after, fresh, next, said, says}
 use Rattle.proof_stream.specs.declared.spot.Form.{Form}
 

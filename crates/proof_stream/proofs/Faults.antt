@@ -1,5 +1,5 @@
 -- A fault stays.
-use Rattle.std.proofs.Common.{◌≡◌, ℕ, true, false, ◌&&◌, List, [], ◌∷◌, Some, None, refl, ap, sym, ◌∙◌, inl, inr}
+use Rattle.std.proofs.Common.{◌≡◌, ℕ, ◌&&◌, List, [], ◌∷◌, Some, None, refl, ap, inl, inr}
 use Rattle.std.specs.Prelude.{Option}
 use Rattle.std.proofs.lemmas.Bool.{cases_Bool}
 use Rattle.cert_stream.specs.Machine.{WireOf, fault_of, turn}
@@ -7,8 +7,8 @@ use Rattle.cert_stream.specs.declared.mode.Mode.{Mode}
 use Rattle.cert_stream.specs.declared.mode.Mode.TheVariants.{Start, Skip, Head, StatusHead, StatusGap, Spelled, Whole, InList, Closed, Bad, Lost}
 use Rattle.cert_stream.specs.declared.mode.WireFault.{WireFault}
 use Rattle.cert_stream.proofs.Faults.{bad_next}
-use Rattle.proof_stream.specs.Text.{TextOf, fault_or, is_claim, text_fault, text_next}
-use Rattle.proof_stream.specs.Binary.{BinaryOf, binary_turn, spot_fault, spot_read}
+use Rattle.proof_stream.specs.Text.{fault_or, is_claim, text_fault, text_next}
+use Rattle.proof_stream.specs.Binary.{BinaryOf, binary_turn, spot_fault}
 use Rattle.proof_stream.specs.File.{FileOf, InText, InBinary, after, fault, next}
 use Rattle.proof_stream.specs.declared.spot.Spot.{Spot}
 use Rattle.proof_stream.specs.declared.spot.Spot.TheVariants.{Between, Gap, InNumber, Bad as BadSpot}

@@ -4,3 +4,8 @@ pub mod Turning
 pub mod Pieces
 pub mod Passing
 pub mod Faults
+pub mod Spoken
+pub mod Heads
+pub mod Texts
+pub mod Binaries
+pub mod Files

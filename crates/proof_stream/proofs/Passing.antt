@@ -1,5 +1,5 @@
 -- Bytes of a text without a line of s or v are read as a stream's.
-use Rattle.std.proofs.Common.{◌≡◌, ◌⊎◌, ℕ, ◌+◌, ◌<◌, ◌≤◌, Bool, true, false, ◌&&◌, leb, List, [], ◌∷◌, ◌++◌, length, take, drop, get_or, Option, Some, None, refl, ap, sym, ◌∙◌, inl, inr, arith, append_assoc, subst, cond, is_some, take-append-drop}
+use Rattle.std.proofs.Common.{◌≡◌, ◌⊎◌, ℕ, ◌+◌, ◌<◌, ◌≤◌, Bool, true, false, ◌&&◌, leb, List, [], ◌∷◌, ◌++◌, length, take, drop, get_or, Option, Some, None, refl, ap, sym, ◌∙◌, inl, inr, append_assoc, subst, cond, is_some, take-append-drop}
 use Rattle.std.proofs.lemmas.List.{append-nil, drop_more, drop_all, take_more}
 use Rattle.std.proofs.lemmas.Bool.{cases_Bool, leb-true, leb-false}
 use Rattle.cert_stream.specs.Machine.{WireOf, turn}
@@ -95,8 +95,7 @@ pub pass_step : (s t : Bool) (bytes : List ℕ) (i : ℕ) → i < length bytes �
     → Passes s (take (i + 1) bytes) × (starts_behind t (get_or bytes i 0) ≡ starts_after s (take (i + 1) bytes))
 pass_step s t bytes i l h e n =
     let m : take (i + 1) bytes ≡ take i bytes ++ get_or bytes i 0 ∷ [] = take_more bytes i 0 l in
-    let k : (starts_after s (take i bytes) && is_claim (get_or bytes i 0)) ≡ false = subst (λ z. (z && is_claim (get_or bytes i 0)) ≡ false) e n in
-    (
+    let k : (starts_after s (take i bytes) && is_claim (get_or bytes i 0)) ≡ false = subst (λ z. (z && is_claim (get_or bytes i 0)) ≡ false) e n in (
       subst (Passes s) (sym m) (passes_snoc s (take i bytes) (get_or bytes i 0) h k),
       ap (λ z. starts_behind z (get_or bytes i 0)) e ∙ sym (starts_snoc s (take i bytes) (get_or bytes i 0)) ∙ ap (starts_after s) (sym m),
     )

@@ -1,10 +1,9 @@
 -- What one byte of a binary proof leaves.
-use Rattle.std.proofs.Common.{◌≡◌, ℕ, Bool, true, false, eqb, refl, sym, ap, ◌∙◌, inl, inr}
+use Rattle.std.proofs.Common.{◌≡◌, ℕ, eqb, refl, ap, ◌∙◌, inl, inr}
 use Rattle.std.proofs.lemmas.Bool.{cases_Bool}
 use Rattle.std.specs.Prelude.{Option}
-use Rattle.cert_stream.specs.declared.mode.WireFault.{WireFault}
 use Rattle.proof_stream.specs.Numbers.{GroupsRead, Goes, Whole, Unfit}
-use Rattle.proof_stream.specs.Binary.{BinaryOf, BinaryTurn, binary_turn, gap_read, group_read, head_read, literal_read, spot_read}
+use Rattle.proof_stream.specs.Binary.{BinaryOf, BinaryTurn, gap_read, head_read, literal_read, spot_read}
 use Rattle.proof_stream.specs.declared.spot.LineKind.{LineKind}
 use Rattle.proof_stream.specs.declared.spot.Spot.{Spot}
 use Rattle.proof_stream.specs.declared.spot.Spot.TheVariants.{Between, Gap, InNumber, Bad}

@@ -1,5 +1,5 @@
 -- What each byte of a binary proof does to the little that is kept of the bytes before it.
-use Rattle.std.specs.Prelude.{◌≡◌, ◌≤◌, ℕ, ◌+◌, ◌*◌, Bool, true, false, cond, eqb, leb, List, [], ◌∷◌, ◌++◌, length, Option, Some, None}
+use Rattle.std.specs.Prelude.{◌≤◌, ℕ, ◌+◌, ◌*◌, cond, eqb, leb, List, [], ◌∷◌, ◌++◌, length, Option, Some, None}
 use Rattle.cnf_form.specs.Cnf.{LitOf}
 use Rattle.cnf_form.specs.Coding.{lit_from}
 use Rattle.cert_stream.specs.Telling.{Saying, IsClause, IsDelete}

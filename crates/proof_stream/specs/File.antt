@@ -1,5 +1,5 @@
 -- What the bytes of a proof file say, and what is kept of them.
-use Rattle.std.specs.Prelude.{◌≡◌, ℕ, Bool, cond, List, [], ◌∷◌, ◌++◌, Option, Some, None}
+use Rattle.std.specs.Prelude.{◌≡◌, ℕ, Bool, cond, List, [], ◌∷◌, ◌++◌, Option}
 use Rattle.cert_stream.specs.Telling.{Saying, fault_said}
 use Rattle.cert_stream.specs.declared.mode.WireFault.{WireFault}
 use Rattle.proof_stream.specs.Text.{TextOf, text_fault, text_fresh, text_next, text_says}

@@ -1,5 +1,5 @@
 -- What each byte of a proof file in text does to the little that is kept of the bytes before it.
-use Rattle.std.specs.Prelude.{ℕ, Bool, true, false, cond, ◌&&◌, ◌||◌, eqb, List, [], ◌∷◌, Option, Some, None}
+use Rattle.std.specs.Prelude.{ℕ, Bool, true, cond, ◌&&◌, ◌||◌, eqb, List, [], Option, Some, None}
 use Rattle.cert_stream.specs.Machine.{WireOf, fault_of, turn}
 use Rattle.cert_stream.specs.Telling.{Saying, fresh, told_by}
 use Rattle.cert_stream.specs.Text.{is_blank}

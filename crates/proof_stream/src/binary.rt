@@ -166,7 +166,14 @@ impl BinaryWire {
         } else if self.lits.len() >= vars as usize {
             self.fail(WireFaultKind::LineTooLong, place);
         } else if goes_on {
-            self.go_on(kind, Groups { value, weight, place });
+            self.go_on(
+                kind,
+                Groups {
+                    value,
+                    weight,
+                    place,
+                },
+            );
         } else {
             self.push(kind, value)?;
         }
@@ -181,7 +188,11 @@ impl BinaryWire {
             return Ok(Some(kind));
         }
         let place = self.taken;
-        let groups = Groups { value: 0, weight: 1, place };
+        let groups = Groups {
+            value: 0,
+            weight: 1,
+            place,
+        };
         self.read_group(kind, groups, b)?;
         Ok(None)
     }
@@ -238,11 +249,7 @@ impl BinaryWire {
     }
 
     // Takes a piece, and answers whether the receiver stopped.
-    fn take<R: Receiver>(
-        &mut self,
-        piece: &[u8],
-        receiver: &mut R,
-    ) -> Result<bool, AllocError>
+    fn take<R: Receiver>(&mut self, piece: &[u8], receiver: &mut R) -> Result<bool, AllocError>
         requires vars { R.vars receiver.old ≡ self.old.vars }
         requires count { self.old.taken + length piece.now < 2 ^ 64 }
         ensures told { IfOk result (λ stopped. Gets R.gets R.stops receiver.old (said (InBinary self.old) piece.now) receiver.new stopped) }

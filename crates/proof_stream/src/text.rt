@@ -103,11 +103,7 @@ impl TextWire {
     }
 
     // Takes the part of a piece that a stream may have too, and answers whether the receiver stopped.
-    fn take_open<R: Receiver>(
-        &mut self,
-        piece: &[u8],
-        receiver: &mut R,
-    ) -> Result<bool, AllocError>
+    fn take_open<R: Receiver>(&mut self, piece: &[u8], receiver: &mut R) -> Result<bool, AllocError>
         requires open { self.old.refused ≡ None }
         requires vars { R.vars receiver.old ≡ self.old.wire.vars }
         requires count { self.old.wire.taken + length piece.now < 2 ^ 64 }
@@ -132,11 +128,7 @@ impl TextWire {
 
     // Takes a piece, of which nothing is read behind a refused line.
     #[tactic(auto, using(crate::proofs::Passing::refused_told, crate::proofs::Passing::refused_kept))]
-    fn take<R: Receiver>(
-        &mut self,
-        piece: &[u8],
-        receiver: &mut R,
-    ) -> Result<bool, AllocError>
+    fn take<R: Receiver>(&mut self, piece: &[u8], receiver: &mut R) -> Result<bool, AllocError>
         requires vars { R.vars receiver.old ≡ self.old.wire.vars }
         requires count { self.old.wire.taken + length piece.now < 2 ^ 64 }
         ensures told { IfOk result (λ stopped. Gets R.gets R.stops receiver.old (said (InText self.old) piece.now) receiver.new stopped) }
