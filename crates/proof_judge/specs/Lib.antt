@@ -1,0 +1,4 @@
+-- Definitions.
+pub mod Fate
+pub mod Leading
+pub mod Judging

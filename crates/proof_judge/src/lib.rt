@@ -1,0 +1,9 @@
+//! A proof file judged piece by piece: whether its lines, with a last empty clause, are a proof that a formula can't be satisfied.
+#![tactic(auto)]
+
+mod judging;
+mod laws;
+mod proof;
+
+pub use judging::ProofJudge;
+pub use laws::{fate_so_far_is_the_fate, fates_stay, found_is_unsatisfiable, one_fate};
