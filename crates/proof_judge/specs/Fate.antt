@@ -1,5 +1,5 @@
 -- What a proof file comes to: a proof, or why it is none.
-use Rattle.std.specs.Prelude.{◌≡◌, ◌≢◌, ◌⊎◌, ℕ, ◌<◌, ◌≤◌, true, false, cond, eqb, List, [], ◌∷◌, ◌++◌, length, take, Option, Some, None}
+use Rattle.std.specs.Prelude.{◌≡◌, ◌≢◌, ◌⊎◌, ℕ, ◌<◌, ◌≤◌, true, false, List, [], ◌∷◌, ◌++◌, length, take, Option, Some, None}
 use Rattle.cnf_form.specs.Cnf.{LitOf, FormulaOf, IsAdmitted, Deletes}
 use Rattle.cnf_form.specs.Dimacs.{IsDimacs}
 use Rattle.cert_stream.specs.Telling.{Saying, IsClause, IsDelete, IsValue, IsValuesEnd, IsUnknown, IsFault}
@@ -23,11 +23,11 @@ ComesTo F (IsValuesEnd ∷ ss) fate = ComesTo F ss fate
 ComesTo F (IsUnknown ∷ ss) fate = ComesTo F ss fate
 ComesTo F (IsFault f ∷ ss) fate = fate ≡ Some (Bad (cert_kind f.kind) f.byte)
 
--- what is bad at the file's end, byte number n, is an early end
+-- what is bad only by the file's end, byte number n, is an early end
 abbrev pub at_end : ℕ → Fate → Fate
 at_end n (Found answer) = Found answer
 at_end n Unknown = Unknown
-at_end n (Bad kind byte) = cond (eqb byte n) (Bad EarlyEnd n) (Bad kind byte)
+at_end n (Bad kind byte) = Bad EarlyEnd n
 
 -- the file's end tries a last empty clause
 abbrev pub tried : ℕ → List Saying → List Saying
@@ -43,11 +43,14 @@ pub record FateSoFar (f : FormulaOf) (form : Form) (bytes : List ℕ) (most : �
   pub beyond : most < length bytes
       → (ss : List Saying) × (x : Option Fate) × FileSays form f.vars false (take most bytes) ss × ComesTo f.clauses ss x × (fate ≡ Some (fate_or x (Bad TooLong most)))
 
--- and where the file ends with them
-pub record FateOf (f : FormulaOf) (form : Form) (bytes : List ℕ) (most : ℕ) (fate : Fate) : Type 0 where
-  pub within : length bytes ≤ most
-      → (ss : List Saying) × (x : Fate) × FileSays form f.vars true bytes ss × ComesTo f.clauses (tried (length bytes) ss) (Some x) × (fate ≡ at_end (length bytes) x)
-  pub beyond : most < length bytes → FateSoFar f form bytes most (Some fate)
+-- what the file's end makes of them
+abbrev pub EndComesTo : FormulaOf → Form → List ℕ → Fate → Type 0
+EndComesTo f form bytes fate =
+    (ss : List Saying) × (x : Fate) × FileSays form f.vars true bytes ss × ComesTo f.clauses (tried (length bytes) ss) (Some x) × (fate ≡ at_end (length bytes) x)
+
+-- what they come to where the file ends with them: a fate so far, or else that of the end
+abbrev pub FateOf : FormulaOf → Form → List ℕ → ℕ → Fate → Type 0
+FateOf f form bytes most fate = FateSoFar f form bytes most (Some fate) ⊎ (FateSoFar f form bytes most None × EndComesTo f form bytes fate)
 
 -- the fate so far of the bytes of a proof file, for the formula that the bytes of a job's file are
 abbrev pub IsProofFateSoFar : List ℕ → Form → List ℕ → ℕ → Option Fate → Type 0

@@ -58,6 +58,11 @@ TakesPiece most room w old piece v new =
     ((length piece ≤ room) × Heard w old piece v new)
     ⊎ ((p : ProofOf) × (room < length piece) × Heard w old (take room piece) v p × (new ≡ outcome_or p p.outcome (Bad (record { kind = TooLong; at = most }))))
 
+-- an empty clause is heard where there is no outcome yet
+abbrev pub Tries : ProofOf → Option Outcome → ℕ → ProofOf → Type 0
+Tries old None place new = Leads old (IsClause [] place ∷ []) new
+Tries old (Some o) place new = new ≡ old
+
 -- the file's end is heard, and then a last empty clause at it, which has an outcome
 pub record HeardEnd (w : FileOf) (old new : ProofOf) (o : Outcome) : Type 0 where
   pub leads : Leads old ((end_says w ++ fault_said (end_fault w)) ++ IsClause [] (taken_of w) ∷ []) new

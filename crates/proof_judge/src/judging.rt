@@ -144,16 +144,16 @@ fn take_piece(
     Ok(())
 }
 
-// What is bad at the file's end is an early end.
+// What is bad only by the file's end is an early end.
 fn at_end(outcome: Outcome, count: u64) -> Outcome
     ensures { fate_of result ≡ at_end count (fate_of outcome) }
 {
     match outcome {
-        Outcome::Bad(bad) if bad.at == count => Outcome::Bad(BadCert {
+        Outcome::Refuted | Outcome::Satisfied | Outcome::Unknown => outcome,
+        Outcome::Bad(_) => Outcome::Bad(BadCert {
             kind: CertKind::EarlyEnd,
             at: count,
         }),
-        _ => outcome,
     }
 }
 

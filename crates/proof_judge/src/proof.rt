@@ -1,11 +1,11 @@
 // A proof as far as it was said.
 
-ghost use Rattle.std.specs.Prelude.{◌≡◌, ◌≤◌, ◌<◌, ◌+◌, ◌^◌, ◌∷◌, ◌++◌, [], List, length, Option, Some, None, IfOk, is_some};
+ghost use Rattle.std.specs.Prelude.{◌≡◌, ◌≤◌, ◌<◌, ◌+◌, ◌^◌, ◌++◌, List, length, Option, Some, None, IfOk, is_some};
 ghost use Rattle.cnf_form.specs.Cnf.{FormulaOf};
-ghost use Rattle.cert_stream.specs.Telling.{IsClause, fault_said};
+ghost use Rattle.cert_stream.specs.Telling.{fault_said};
 ghost use Rattle.stream_judge.specs.Fate.{cert_kind};
 ghost use Rattle.proof_stream.specs.File.{FileOf, end_fault, end_says, taken_of, vars_of};
-ghost use Rattle.proof_judge.specs.Leading.{Heard, HeardEnd, Hears, Leads, ProofOf, concluded, outcome_or, with_outcome};
+ghost use Rattle.proof_judge.specs.Leading.{Heard, HeardEnd, Hears, Leads, ProofOf, Tries, concluded, outcome_or, with_outcome};
 
 use cert_stream::{Fed, Receiver, WireFault, WireFaultKind};
 use cnf_form::{Formula, Lit};
@@ -159,7 +159,7 @@ impl<'a> Proof<'a> {
 
     // Takes an empty clause where there is no outcome yet, and answers the outcome.
     fn hear_empty(&mut self, place: u64) -> Result<Outcome, AllocError>
-        ensures leads { IfOk result (λ _. Leads self.old (IsClause [] place ∷ []) self.new) }
+        ensures tries { IfOk result (λ _. Tries self.old self.old.outcome place self.new) }
         ensures outcome { IfOk result (λ o. self.new.outcome ≡ Some o) }
     {
         if let Some(outcome) = self.outcome {
@@ -186,6 +186,7 @@ impl<'a> Proof<'a> {
     {
         let count = wire.taken();
         self.hear_lines(wire)?;
-        self.hear_empty(count)
+        let outcome = self.hear_empty(count)?;
+        Ok(outcome)
     }
 }

@@ -15,7 +15,7 @@ use Rattle.proof_stream.specs.declared.spot.Spot.TheVariants.{Between, Gap, InNu
 use Rattle.proof_stream.proofs.Passing.{text}
 
 module _ (f : WireFault) where
-  mode_bad : (m : Mode) → fault_of m ≡ Some f → m ≡ Bad f
+  pub mode_bad : (m : Mode) → fault_of m ≡ Some f → m ≡ Bad f
   mode_bad (Start a) e = absurd (let k = e in cc)
   mode_bad (Skip a) e = absurd (let k = e in cc)
   mode_bad (Head a) e = absurd (let k = e in cc)
@@ -28,7 +28,7 @@ module _ (f : WireFault) where
   mode_bad (Bad g) e = let k : g ≡ f = cc in ap Bad k
   mode_bad Lost e = absurd (let k = e in cc)
 
-  spot_bad : (s : Spot) → spot_fault s ≡ Some f → s ≡ BadSpot f
+  pub spot_bad : (s : Spot) → spot_fault s ≡ Some f → s ≡ BadSpot f
   spot_bad Between e = absurd (let k = e in cc)
   spot_bad (Gap a) e = absurd (let k = e in cc)
   spot_bad (InNumber a b) e = absurd (let k = e in cc)
@@ -54,7 +54,7 @@ module _ (f : WireFault) where
   binary_stays : (w : BinaryOf) (b : ℕ) → spot_fault w.spot ≡ Some f → spot_fault (binary_turn w b).to.spot ≡ Some f
   binary_stays w b e = let k : w.spot ≡ BadSpot f = spot_bad w.spot e in rw k refl
 
-  next_stays : (r : FileOf) (b : ℕ) → fault r ≡ Some f → fault (next r b) ≡ Some f
+  pub next_stays : (r : FileOf) (b : ℕ) → fault r ≡ Some f → fault (next r b) ≡ Some f
   next_stays (InText t) b e = text_stays t.wire t.starts t.refused b e
   next_stays (InBinary w) b e = binary_stays w b e
 
