@@ -1,8 +1,8 @@
 -- Fates: one, and for good.
-use Rattle.std.proofs.Common.{◌≡◌, ◌⊎◌, ℕ, suc, ◌-◌, ◌+◌, ◌<◌, ◌≤◌, Bool, true, false, List, [], ◌∷◌, ◌++◌, length, take, Option, Some, None, refl, sym, ap, ◌∙◌, subst, inl, inr, arith}
+use Rattle.std.proofs.Common.{◌≡◌, ℕ, ◌-◌, ◌+◌, ◌≤◌, true, false, List, [], ◌∷◌, ◌++◌, length, take, Option, Some, None, refl, sym, ap, ◌∙◌, subst, inl, inr, arith}
 use Rattle.std.specs.Prelude.{Contains}
 use Rattle.std.proofs.lemmas.List.{take-append-le, length-append}
-use Rattle.cnf_form.specs.Cnf.{LitOf, FormulaOf, Assignment, IsAdmitted, IsUnsatisfiable, Satisfies}
+use Rattle.cnf_form.specs.Cnf.{FormulaOf, IsUnsatisfiable}
 use Rattle.cnf_form.specs.Dimacs.{IsDimacs}
 use Rattle.cnf_form.proofs.Reading.{IsDimacs-one}
 use Rattle.cnf_form.proofs.Rup.{Admitted-true, Satisfies-push}
@@ -10,7 +10,7 @@ use Rattle.cnf_form.proofs.Members.{Contains-empty}
 use Rattle.cnf_form.proofs.Removal.{Deletes-within}
 use Rattle.cert_stream.specs.Telling.{Saying, IsClause, IsDelete, IsValue, IsValuesEnd, IsUnknown, IsFault}
 use Rattle.sby_terms.specs.declared.names.Answer.TheVariants.{Unsat}
-use Rattle.stream_judge.specs.declared.stream.CertKind.TheVariants.{TooLong, EarlyEnd}
+use Rattle.stream_judge.specs.declared.stream.CertKind.TheVariants.{TooLong}
 use Rattle.stream_judge.specs.Fate.{Fate, Found, Unknown, Bad}
 use Rattle.stream_judge.proofs.Coming.{sides}
 use Rattle.stream_judge.proofs.Fates.{take_front}
@@ -162,7 +162,7 @@ module _ (f : FormulaOf) (form : Form) (most : ℕ) where
 
   pub refuted_at_end : (bytes : List ℕ) → FateOf f form bytes most (Found Unsat) → IsUnsatisfiable f.clauses
   refuted_at_end bytes (inl h) = refuted_so_far bytes h
-  refuted_at_end bytes (inr (h, ss, x, s, k, e)) =
+  refuted_at_end bytes (inr (h, (ss, x, s, k, e))) =
       refuted f.clauses (tried (length bytes) ss) (subst (λ z. ComesTo f.clauses (tried (length bytes) ss) (Some z)) (found_at_end (length bytes) x e) k)
 
 -- of the formula that a job's file is

@@ -1,19 +1,17 @@
 -- What is said goes on with more bytes, and with the file's end.
-use Rattle.std.proofs.Common.{◌≡◌, ℕ, Bool, true, false, ◌&&◌, eqb, List, [], ◌∷◌, ◌++◌, Option, Some, None, refl, sym, ap, ◌∙◌, subst, inl, inr, append_assoc}
+use Rattle.std.proofs.Common.{◌≡◌, ℕ, Bool, false, ◌&&◌, eqb, List, [], ◌∷◌, ◌++◌, Option, Some, None, refl, sym, ap, ◌∙◌, subst, inl, inr, append_assoc}
 use Rattle.std.proofs.lemmas.Bool.{cases_Bool}
 use Rattle.std.proofs.lemmas.List.{append-nil}
 use Rattle.cnf_form.specs.Cnf.{LitOf}
 use Rattle.cert_stream.specs.Machine.{WireOf, fault_of, turn}
 use Rattle.cert_stream.specs.Telling.{Saying, fault_said, told_by}
-use Rattle.cert_stream.specs.declared.mode.Event.{Event}
 use Rattle.cert_stream.specs.declared.mode.Mode.{Mode}
 use Rattle.cert_stream.specs.declared.mode.Mode.TheVariants.{Bad}
 use Rattle.cert_stream.specs.declared.mode.WireFault.{WireFault}
-use Rattle.proof_stream.specs.Text.{TextOf, fault_or, is_claim, text_says}
-use Rattle.proof_stream.specs.Binary.{BinaryOf, binary_told, binary_turn, spot_end, spot_fault}
+use Rattle.proof_stream.specs.Text.{fault_or, is_claim, text_says}
+use Rattle.proof_stream.specs.Binary.{BinaryOf, binary_told, binary_turn, spot_fault}
 use Rattle.proof_stream.specs.File.{FileOf, InText, InBinary, after, end_fault, end_says, fault, next, said, says, spoken}
-use Rattle.proof_stream.specs.declared.spot.Spot.{Spot}
-use Rattle.proof_stream.specs.declared.spot.Spot.TheVariants.{Between, Gap, InNumber, Bad as BadSpot}
+use Rattle.proof_stream.specs.declared.spot.Spot.TheVariants.{Bad as BadSpot}
 use Rattle.proof_stream.proofs.Cutting.{after_append, said_append}
 use Rattle.proof_stream.proofs.Faults.{fault_stays, mode_bad, next_stays, spot_bad}
 use Rattle.proof_stream.proofs.Passing.{text}
@@ -72,5 +70,5 @@ pub spoken_more : (r : FileOf) (bytes rest : List ℕ) → (more : List Saying) 
 spoken_more r bytes rest =
     let v : FileOf = after r bytes in
     let k = on_by (fault v) (said r bytes) (said v rest) (fault_said (fault (after v rest)))
-        (λ f e. ap (λ z. z ++ fault_said (fault (after v rest))) (said_quiet f v rest e) ∙ ap fault_said (fault_stays v rest f e)) in
+    (λ f e. ap (λ z. z ++ fault_said (fault (after v rest))) (said_quiet f v rest e) ∙ ap fault_said (fault_stays v rest f e)) in
     (k.0, ap (λ z. z ++ fault_said (fault (after r (bytes ++ rest)))) (said_append r bytes rest) ∙ ap (λ (z : FileOf). (said r bytes ++ said v rest) ++ fault_said (fault z)) (after_append r bytes rest) ∙ k.1)

@@ -1,3 +1,4 @@
 pub mod Leading
 pub mod Going
 pub mod Fates
+pub mod Taking

@@ -1,5 +1,5 @@
 -- What sayings make of a proof.
-use Rattle.std.specs.Prelude.{◌≡◌, ◌⊎◌, ℕ, ◌+◌, ◌<◌, ◌≤◌, false, List, [], ◌∷◌, ◌++◌, length, take, Option, Some, None, Result, Ok, Err}
+use Rattle.std.specs.Prelude.{◌≡◌, ◌⊎◌, ℕ, ◌<◌, ◌≤◌, List, [], ◌∷◌, ◌++◌, length, take, Option, Some, None, Result, Ok, Err}
 use Rattle.cnf_form.specs.Cnf.{LitOf, FormulaOf}
 use Rattle.cert_stream.specs.Telling.{Saying, IsClause, fault_said}
 use Rattle.cert_stream.specs.declared.feeding.Fed.{Fed}
