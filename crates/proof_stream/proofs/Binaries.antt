@@ -30,7 +30,7 @@ read_append vars full x y v w (b ∷ p) q h = by (λ a c k. read_append vars ful
     by again (Unfit k) h = absurd (let e = h in cc)
 
 -- whether a group is the last one of its number
-abbrev step_by : Bool → Bool → Bool → Bool → ℕ → ℕ → GroupsRead
+abbrev pub step_by : Bool → Bool → Bool → Bool → ℕ → ℕ → GroupsRead
 step_by more goes whole full n u = cond more (cond goes (if_room full (Goes n u)) (Unfit BadLiteral)) (cond whole (if_room full (Whole n)) (Unfit BadLiteral))
 
 goes_by : (more goes whole full : Bool) (n u v w : ℕ) → step_by more goes whole full n u ≡ Goes v w → more ≡ true
@@ -99,7 +99,7 @@ module _ (vars total : ℕ) (ended : Bool) where
         → spoken ended (binary at place (InNumber kind (groups v w start)) lits) bytes ≡ numbers_say vars cut (line kind place lits) (numbers_from start (c ∷ q) bytes)
 
   -- a number that isn't 0, in a line
-  number_says : (kind : LineKind) (place : ℕ) (lits : List LitOf) (n : NumberOf) (ns : List NumberOf) (r : GroupsRead) → eqb (slice_index n.groups 0) 0 ≡ false → groups_read vars (room lits) 0 1 n.groups ≡ r
+  pub number_says : (kind : LineKind) (place : ℕ) (lits : List LitOf) (n : NumberOf) (ns : List NumberOf) (r : GroupsRead) → eqb (slice_index n.groups 0) 0 ≡ false → groups_read vars (room lits) 0 1 n.groups ≡ r
       → numbers_say vars cut (line kind place lits) (n ∷ ns) ≡ elim r [ Goes v w ↦ cut | Whole k ↦ numbers_say vars cut (line kind place (lits ++ lit_from k ∷ [])) ns | Unfit k ↦ bad k n.place ]
   number_says kind place lits n ns r z h = rw (z, h) refl
 

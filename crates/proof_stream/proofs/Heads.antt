@@ -24,7 +24,7 @@ starts_append : (s : Bool) (a b : List ℕ) → starts_after s (a ++ b) ≡ star
 starts_append s [] b = refl
 starts_append s (c ∷ a) b = starts_append (starts_behind s c) a b
 
-blank_behind : (b : ℕ) → is_blank b ≡ true → starts_behind true b ≡ true
+pub blank_behind : (b : ℕ) → is_blank b ≡ true → starts_behind true b ≡ true
 blank_behind b t = elim (cases_Bool (eqb b 10)) [ inl e ↦ rw e refl | inr e ↦ rw (e, t) refl ]
 
 starts_blank : (blanks : List ℕ) → AreBlank blanks → starts_after true blanks ≡ true

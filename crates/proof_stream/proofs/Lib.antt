@@ -9,3 +9,4 @@ pub mod Heads
 pub mod Texts
 pub mod Binaries
 pub mod Files
+pub mod Spelling

@@ -6,3 +6,4 @@ pub mod Binary
 pub mod File
 pub mod Lines
 pub mod Reading
+pub mod Spelling

@@ -5,7 +5,9 @@ ghost use Rattle.cert_stream.specs.Telling.{Saying};
 ghost use Rattle.cert_stream.specs.declared.mode.WireFault.{WireFault};
 ghost use Rattle.proof_stream.specs.File.{FileOf, StandsFor, after, fault, fresh, said, spoken};
 ghost use Rattle.proof_stream.specs.Lines.{FileSays};
+ghost use Rattle.proof_stream.specs.Spelling.{AreSaid, ProofLine, Spelt};
 ghost use Rattle.proof_stream.specs.declared.spot.Form.{Form};
+ghost use Rattle.proof_stream.specs.declared.spot.Form.TheVariants.{Text, Binary};
 
 /// What stands for the bytes so far stands, after a piece, for these with the piece behind them.
 #[tactic(auto, using(crate::proofs::Cutting::stands_append))]
@@ -30,4 +32,12 @@ pub fn faults_stay()
 pub fn files_say_lines()
     ensures says { (form : Form) (vars : ℕ) (ended : Bool) (bytes : List ℕ) → FileSays form vars ended bytes (spoken ended (fresh form vars) bytes) }
     ensures once { (form : Form) (vars : ℕ) (ended : Bool) (bytes : List ℕ) (ss : List Saying) → FileSays form vars ended bytes ss → ss ≡ spoken ended (fresh form vars) bytes }
+{}
+
+/// A binary proof and the text that spells it say the same lines, and nothing else, but for their places.
+#[tactic(auto, using(crate::proofs::Spelling::spelt_says))]
+pub fn spelt_files_say_the_same()
+    ensures { (vars : ℕ) (b t : List ℕ) → Spelt vars b t
+        → (lines : List ProofLine) × ((ended : Bool) (ss : List Saying) → FileSays Binary vars ended b ss → AreSaid lines ss)
+        × ((ended : Bool) (ss : List Saying) → FileSays Text vars ended t ss → AreSaid lines ss) }
 {}
