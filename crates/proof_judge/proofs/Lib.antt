@@ -2,3 +2,4 @@ pub mod Leading
 pub mod Going
 pub mod Fates
 pub mod Taking
+pub mod Spelling

@@ -2,3 +2,4 @@
 pub mod Fate
 pub mod Leading
 pub mod Judging
+pub mod Same

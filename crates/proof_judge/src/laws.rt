@@ -1,12 +1,15 @@
 // Laws of the fates of proof files.
 
-ghost use Rattle.std.specs.Prelude.{◌≡◌, ◌++◌, ℕ, List, Option, Some};
+ghost use Rattle.std.specs.Prelude.{◌≡◌, ◌≤◌, ◌++◌, ℕ, List, length, Option, Some};
 ghost use Rattle.cnf_form.specs.Cnf.{FormulaOf, IsUnsatisfiable};
 ghost use Rattle.cnf_form.specs.Dimacs.{IsDimacs};
 ghost use Rattle.sby_terms.specs.declared.names.Answer.TheVariants.{Unsat};
 ghost use Rattle.stream_judge.specs.Fate.{Fate, Found};
+ghost use Rattle.proof_stream.specs.Spelling.{Spelt};
 ghost use Rattle.proof_stream.specs.declared.spot.Form.{Form};
+ghost use Rattle.proof_stream.specs.declared.spot.Form.TheVariants.{Binary, Text};
 ghost use Rattle.proof_judge.specs.Fate.{IsProofFate, IsProofFateSoFar};
+ghost use Rattle.proof_judge.specs.Same.{IsSameFate};
 
 /// A fate that stands in the first bytes stays, whatever bytes follow, and is the file's: so it doesn't matter how a file is cut into
 /// pieces.
@@ -34,4 +37,10 @@ pub fn one_fate()
 pub fn found_is_unsatisfiable()
     ensures { (job : List ℕ) (form : Form) (bytes : List ℕ) (most : ℕ) (f : FormulaOf) → IsDimacs job f → IsProofFate job form bytes most (Found Unsat)
         → IsUnsatisfiable f.clauses }
+{}
+
+/// A binary proof and the text that spells it, all of whose bytes are taken, have the same fate but for byte numbers.
+pub fn spelt_files_have_the_same_fate()
+    ensures { (job b t : List ℕ) (most : ℕ) (f : FormulaOf) (x y : Fate) → IsDimacs job f → Spelt f.vars b t → length b ≤ most → length t ≤ most
+        → IsProofFate job Binary b most x → IsProofFate job Text t most y → IsSameFate x y }
 {}

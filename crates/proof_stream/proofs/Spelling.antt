@@ -1,11 +1,11 @@
 -- A binary proof and its text say the same lines.
-use Rattle.std.proofs.Common.{◌≡◌, ◌⊎◌, ℕ, ◌+◌, ◌*◌, ◌<◌, ◌≤◌, Bool, true, false, ◌&&◌, ◌||◌, eqb, leb, List, [], ◌∷◌, ◌++◌, length, Option, Some, None, refl, ap, sym, ◌∙◌, inl, inr, arith, append_assoc, cond, subst, length-append}
+use Rattle.std.proofs.Common.{◌≡◌, ◌⊎◌, ℕ, ◌+◌, ◌*◌, ◌<◌, ◌≤◌, Bool, true, false, eqb, leb, List, [], ◌∷◌, ◌++◌, length, Option, Some, None, refl, ap, sym, ◌∙◌, inl, inr, arith, append_assoc, cond, subst, length-append}
 use Rattle.std.specs.Prelude.{codes, flat_map, map, slice_index}
-use Rattle.std.proofs.lemmas.Bool.{cases_Bool, eqb-true, eqb-false, le-leb, leb-true, leb-false, lt-leb}
+use Rattle.std.proofs.lemmas.Bool.{cases_Bool, eqb-true, le-leb, leb-true, leb-false, lt-leb}
 use Rattle.std.proofs.lemmas.Nat.{mul-le}
 use Rattle.std.proofs.lemmas.List.{append-nil}
-use Rattle.cnf_form.specs.Cnf.{LitOf, LitWithin, index_of}
-use Rattle.cnf_form.specs.Coding.{lit_from, lit_from-index_of}
+use Rattle.cnf_form.specs.Cnf.{LitOf, index_of}
+use Rattle.cnf_form.specs.Coding.{lit_from-index_of}
 use Rattle.cert_stream.specs.Text.{NoFeed, Word, is_blank, lines_of, literal_of, words_from}
 use Rattle.cert_stream.specs.Scan.{Reads, scan}
 use Rattle.cert_stream.specs.declared.mode.Part.TheVariants.{Gap, Digits}
@@ -18,10 +18,10 @@ use Rattle.cert_stream.proofs.Streams.{fed_says, some_line}
 use Rattle.cert_stream.proofs.Wording.{has_word, words_blank, words_visible}
 use Rattle.proof_stream.specs.Text.{is_claim, starts_behind}
 use Rattle.proof_stream.specs.Passing.{Passes, starts_after}
-use Rattle.proof_stream.specs.Numbers.{NumberOf, GroupsRead, Goes, Whole, Unfit, group_next, groups_read, is_literal, may_go_on, number, numbers_from, seven, with_group}
+use Rattle.proof_stream.specs.Numbers.{Goes, Whole, Unfit, group_next, groups_read, is_literal, may_go_on, number, numbers_from, seven, with_group}
 use Rattle.proof_stream.specs.Binary.{line_said}
 use Rattle.proof_stream.specs.Lines.{FileSays, LineOf, TextSays, Plain, Refused, numbers_say}
-use Rattle.proof_stream.specs.Spelling.{AreGroups, AreNumbers, AreSaid, IsBinaryProof, IsNumber, IsTextProof, ProofLine, Spelt, groups_value, letter, list_kind}
+use Rattle.proof_stream.specs.Spelling.{AreGroups, AreNumbers, AreSaid, IsBinaryProof, IsTextProof, ProofLine, Spelt, groups_value, letter, list_kind}
 use Rattle.proof_stream.specs.declared.spot.LineKind.{LineKind}
 use Rattle.proof_stream.specs.declared.spot.LineKind.TheVariants.{Clause, Deletion}
 use Rattle.proof_stream.specs.declared.spot.Form.TheVariants.{Text, Binary}
@@ -145,11 +145,11 @@ module _ (vars total : ℕ) (ended : Bool) where
       let again = literals_say kind place k.0 (lits ++ m ∷ []) c tail rest h (omega (arith, l, len)) in (
         again.0,
         ap (λ x. numbers_say vars cut (line kind place lits) (numbers_from at [] x)) (ap (λ x. x ++ 0 ∷ rest) e ∙ append_assoc front tail (0 ∷ rest))
-        ∙ ap (numbers_say vars cut (line kind place lits)) k.1
-        ∙ number_says vars total ended kind place lits (number at front true) (numbers_from k.0 [] (tail ++ 0 ∷ rest)) (Whole (index_of m)) z r
-        ∙ ap (λ x. numbers_say vars cut (line kind place (lits ++ x ∷ [])) (numbers_from k.0 [] (tail ++ 0 ∷ rest))) (lit_from-index_of m)
-        ∙ again.1
-        ∙ ap (λ x. line_said kind place x ∷ numbers_say vars cut None (numbers_from again.0 [] rest)) (append_assoc lits (m ∷ []) c),
+            ∙ ap (numbers_say vars cut (line kind place lits)) k.1
+            ∙ number_says vars total ended kind place lits (number at front true) (numbers_from k.0 [] (tail ++ 0 ∷ rest)) (Whole (index_of m)) z r
+            ∙ ap (λ x. numbers_say vars cut (line kind place (lits ++ x ∷ [])) (numbers_from k.0 [] (tail ++ 0 ∷ rest))) (lit_from-index_of m)
+            ∙ again.1
+            ∙ ap (λ x. line_said kind place x ∷ numbers_say vars cut None (numbers_from again.0 [] rest)) (append_assoc lits (m ∷ []) c),
       )
 
   head_says : (kind : LineKind) (at : ℕ) (x : List ℕ) → numbers_say vars cut None (numbers_from at [] (letter kind ∷ x)) ≡ numbers_say vars cut (line kind at []) (numbers_from (at + 0 + 1) [] x)
@@ -193,9 +193,9 @@ module _ (vars : ℕ) where
         place,
         later,
         ap (λ z. lines_say vars false false at (lines_of z)) (ap (λ z. z ++ tail) e ∙ append_assoc text (10 ∷ rest) tail)
-        ∙ ap (lines_say vars false false at) (fed_lines text (rest ++ tail) f)
-        ∙ fed_says vars false false at text (lines_of (rest ++ tail)) w.0 w.1 w.2
-        ∙ line_by l.kind (bad BadLine (at + length text)) (lines_say vars false true behind (lines_of (rest ++ tail))) later place l.lits (words_from true at [] text) i,
+            ∙ ap (lines_say vars false false at) (fed_lines text (rest ++ tail) f)
+            ∙ fed_says vars false false at text (lines_of (rest ++ tail)) w.0 w.1 w.2
+            ∙ line_by l.kind (bad BadLine (at + length text)) (lines_say vars false true behind (lines_of (rest ++ tail))) later place l.lits (words_from true at [] text) i,
         text_said ls behind rest tail h k,
       )
 
