@@ -3,3 +3,4 @@ pub mod Going
 pub mod Fates
 pub mod Taking
 pub mod Spelling
+pub mod Certificates

@@ -55,10 +55,10 @@ same_comes [] ss ts x y e f F G w h k =
 same_comes (l ∷ ls) ss ts x y (p, s, e, a) (q, t, f, b) F G w h k =
     same_line l.kind l.lits p q F G s t x y w (same_comes ls s t x y a b) (subst (λ (z : List Saying). ComesTo F z x) e h) (subst (λ (z : List Saying). ComesTo G z y) f k)
 
-abbrev empty : ProofLine
+abbrev pub empty : ProofLine
 empty = record { kind = Clause; lits = [] }
 
-said_tried : (ls : List ProofLine) (ss : List Saying) (n : ℕ) → AreSaid ls ss → AreSaid (ls ++ empty ∷ []) (tried n ss)
+pub said_tried : (ls : List ProofLine) (ss : List Saying) (n : ℕ) → AreSaid ls ss → AreSaid (ls ++ empty ∷ []) (tried n ss)
 said_tried [] ss n e = (n, [], ap (tried n) e, refl)
 said_tried (l ∷ ls) ss n (p, s, e, a) = (p, tried n s, ap (tried n) e, said_tried ls s n a)
 
@@ -72,12 +72,12 @@ same_end n m (Bad kind byte) w (other, e) = (m, ap (at_end m) e)
 
 module _ (f : FormulaOf) (ls : List ProofLine) (most : ℕ) where
   -- what a file comes to whose sayings are these lines
-  abbrev Comes : ℕ → Fate → Type 0
+  abbrev pub Comes : ℕ → Fate → Type 0
   Comes n x =
       ((ss : List Saying) × AreSaid ls ss × ComesTo f.clauses ss (Some x))
       ⊎ ((ss : List Saying) × AreSaid ls ss × ComesTo f.clauses ss None × (ts : List Saying) × (v : Fate) × AreSaid ls ts × ComesTo f.clauses (tried n ts) (Some v) × (x ≡ at_end n v))
 
-  comes_of : (form : Form) (bytes : List ℕ) (x : Fate) → ((ended : Bool) (ss : List Saying) → FileSays form f.vars ended bytes ss → AreSaid ls ss) → length bytes ≤ most → FateOf f form bytes most x
+  pub comes_of : (form : Form) (bytes : List ℕ) (x : Fate) → ((ended : Bool) (ss : List Saying) → FileSays form f.vars ended bytes ss → AreSaid ls ss) → length bytes ≤ most → FateOf f form bytes most x
       → Comes (length bytes) x
   comes_of form bytes x s l (inl h) = let w = h.within l in inl (w.0, s false w.0 w.1, w.2)
   comes_of form bytes x s l (inr (h, (ts, v, t, k, e))) = let w = h.within l in inr (w.0, s false w.0 w.1, w.2, ts, v, s true ts t, k, e)

@@ -1,9 +1,11 @@
 // Laws of the fates of proof files.
 
-ghost use Rattle.std.specs.Prelude.{◌≡◌, ◌≤◌, ◌++◌, ℕ, List, length, Option, Some};
+ghost use Rattle.std.specs.Prelude.{◌≡◌, ◌⊎◌, ◌≤◌, ◌∷◌, ◌++◌, [], ℕ, true, List, length, take, Option, Some};
 ghost use Rattle.cnf_form.specs.Cnf.{FormulaOf, IsUnsatisfiable};
 ghost use Rattle.cnf_form.specs.Dimacs.{IsDimacs};
 ghost use Rattle.sby_terms.specs.declared.names.Answer.TheVariants.{Unsat};
+ghost use Rattle.cert_stream.specs.Text.{is_blank};
+ghost use Rattle.stream_judge.specs.Cert.{IsCert};
 ghost use Rattle.stream_judge.specs.Fate.{Fate, Found};
 ghost use Rattle.proof_stream.specs.Spelling.{Spelt};
 ghost use Rattle.proof_stream.specs.declared.spot.Form.{Form};
@@ -43,4 +45,16 @@ pub fn found_is_unsatisfiable()
 pub fn spelt_files_have_the_same_fate()
     ensures { (job b t : List ℕ) (most : ℕ) (f : FormulaOf) (x y : Fate) → IsDimacs job f → Spelt f.vars b t → length b ≤ most → length t ≤ most
         → IsProofFate job Binary b most x → IsProofFate job Text t most y → IsSameFate x y }
+{}
+
+/// A text of whole lines that is found to be a proof begins, with a last line 0, with a certificate of a stream.
+pub fn found_proof_begins_certificate()
+    ensures { (job b t : List ℕ) (most : ℕ) (f : FormulaOf) → IsDimacs job f → Spelt f.vars b t → length t ≤ most → IsProofFate job Text t most (Found Unsat)
+        → (n : ℕ) × (n ≤ length (t ++ 48 ∷ 10 ∷ [])) × IsCert job (take n (t ++ 48 ∷ 10 ∷ [])) Unsat }
+{}
+
+/// And where it begins so with a certificate whose 0 counts, since white space or a line feed follows, it is found to be a proof.
+pub fn certificate_is_found_proof()
+    ensures { (job b t cert rest : List ℕ) (c most : ℕ) (f : FormulaOf) → IsDimacs job f → Spelt f.vars b t → length t ≤ most → IsCert job cert Unsat
+        → (is_blank c ≡ true) ⊎ (c ≡ 10) → t ++ 48 ∷ 10 ∷ [] ≡ cert ++ c ∷ rest → IsProofFate job Text t most (Found Unsat) }
 {}

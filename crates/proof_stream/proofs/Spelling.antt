@@ -184,7 +184,7 @@ module _ (vars : ℕ) where
   abbrev Blank : List ℕ → Type 0
   Blank tail = (at : ℕ) → lines_say vars false false at (lines_of tail) ≡ []
 
-  text_said : (ls : List ProofLine) (at : ℕ) (bytes tail : List ℕ) → IsTextProof vars at bytes ls → Blank tail → AreSaid ls (lines_say vars false false at (lines_of (bytes ++ tail)))
+  pub text_said : (ls : List ProofLine) (at : ℕ) (bytes tail : List ℕ) → IsTextProof vars at bytes ls → Blank tail → AreSaid ls (lines_say vars false false at (lines_of (bytes ++ tail)))
   text_said [] at bytes tail e k = ap (λ z. lines_say vars false false at (lines_of (z ++ tail))) e ∙ k at
   text_said (l ∷ ls) at bytes tail (text, rest, place, e, f, i, h) k =
       let w = some_line (rest ++ tail) in
@@ -272,7 +272,7 @@ module _ (vars : ℕ) where
   says_tail ls t tail ss h k p (Plain n e) = subst (AreSaid ls) (sym e) (text_said vars ls 0 t tail h k)
   says_tail ls t tail ss h k p (Refused front b rest g i c n e) = absurd (passes_none (t ++ tail) (passes_lines ls 0 t tail h p) (front, b, rest, g, i, c))
 
-  text_lines : (ls : List ProofLine) (t : List ℕ) → IsTextProof vars 0 t ls → (ended : Bool) (ss : List Saying) → FileSays Text vars ended t ss → AreSaid ls ss
+  pub text_lines : (ls : List ProofLine) (t : List ℕ) → IsTextProof vars 0 t ls → (ended : Bool) (ss : List Saying) → FileSays Text vars ended t ss → AreSaid ls ss
   text_lines ls t h true ss s = says_tail ls t (10 ∷ []) ss h (λ at. refl) (refl, tt) s
   text_lines ls t h false ss s = says_tail ls t [] ss h (λ at. refl) tt (subst (λ z. TextSays vars z ss) (sym (append-nil t)) s)
 
