@@ -1,5 +1,5 @@
 -- Proofs and certificates.
-use Rattle.std.proofs.Common.{◌≡◌, ◌⊎◌, ℕ, ◌+◌, ◌-◌, ◌<◌, ◌≤◌, true, false, List, [], ◌∷◌, ◌++◌, length, take, Option, Some, None, refl, sym, ap, ◌∙◌, subst, inl, inr, arith, append_assoc, length-append}
+use Rattle.std.proofs.Common.{◌≡◌, ◌⊎◌, ℕ, ◌+◌, ◌-◌, ◌<◌, ◌≤◌, true, false, List, [], ◌∷◌, ◌++◌, length, take, Some, None, refl, sym, ap, ◌∙◌, subst, inl, inr, arith, append_assoc, length-append}
 use Rattle.std.proofs.lemmas.List.{append-nil}
 use Rattle.cnf_form.specs.Cnf.{LitOf, FormulaOf, Assignment}
 use Rattle.cnf_form.specs.Dimacs.{IsDimacs}
@@ -18,14 +18,13 @@ use Rattle.stream_judge.proofs.Following.{fate_followed}
 use Rattle.stream_judge.proofs.Deletions.{Clauses}
 use Rattle.proof_stream.specs.Binary.{line_said}
 use Rattle.proof_stream.specs.File.{fresh, spoken}
-use Rattle.proof_stream.specs.Lines.{FileSays}
 use Rattle.proof_stream.specs.Spelling.{AreSaid, IsTextProof, ProofLine, Spelt}
 use Rattle.proof_stream.specs.declared.spot.LineKind.{LineKind}
 use Rattle.proof_stream.specs.declared.spot.LineKind.TheVariants.{Clause, Deletion}
 use Rattle.proof_stream.specs.declared.spot.Form.TheVariants.{Text}
 use Rattle.proof_stream.proofs.Files.{file_spoken}
 use Rattle.proof_stream.proofs.Spelling.{text_lines, text_said}
-use Rattle.proof_judge.specs.Fate.{ComesTo, EndComesTo, FateOf, FateSoFar, IsProofFate, at_end, tried}
+use Rattle.proof_judge.specs.Fate.{ComesTo, FateOf, IsProofFate, at_end, tried}
 use Rattle.proof_judge.proofs.Fates.{comes_more}
 use Rattle.proof_judge.proofs.Spelling.{Comes, comes_of, empty, said_tried}
 

@@ -1,11 +1,11 @@
 -- A binary proof and its text come to the same.
-use Rattle.std.proofs.Common.{◌≡◌, ◌⊎◌, ℕ, ◌≤◌, true, false, List, [], ◌∷◌, ◌++◌, length, Option, Some, None, refl, sym, ap, ◌∙◌, subst, inl, inr, Bool}
+use Rattle.std.proofs.Common.{◌≡◌, ◌⊎◌, ℕ, ◌≤◌, true, false, List, [], ◌∷◌, ◌++◌, length, Option, Some, None, refl, sym, ap, subst, inl, inr, Bool}
 use Rattle.cnf_form.specs.Cnf.{LitOf, FormulaOf}
 use Rattle.cnf_form.specs.Dimacs.{IsDimacs}
 use Rattle.cnf_form.proofs.Reading.{IsDimacs-one}
-use Rattle.cert_stream.specs.Telling.{Saying, IsClause}
+use Rattle.cert_stream.specs.Telling.{Saying}
 use Rattle.sby_terms.specs.declared.names.Answer.TheVariants.{Unsat}
-use Rattle.stream_judge.specs.declared.stream.CertKind.TheVariants.{NotRup, EarlyEnd}
+use Rattle.stream_judge.specs.declared.stream.CertKind.TheVariants.{NotRup}
 use Rattle.stream_judge.specs.Fate.{Fate, Found, Unknown, Bad}
 use Rattle.stream_judge.proofs.Deletions.{Clauses, Alike, alike_itself, alike_admitted, admitted_alike, alike_more, alike_deleted}
 use Rattle.proof_stream.specs.Binary.{line_said}
@@ -16,7 +16,7 @@ use Rattle.proof_stream.specs.declared.spot.LineKind.TheVariants.{Clause, Deleti
 use Rattle.proof_stream.specs.declared.spot.Form.{Form}
 use Rattle.proof_stream.specs.declared.spot.Form.TheVariants.{Binary, Text}
 use Rattle.proof_stream.proofs.Spelling.{spelt_says}
-use Rattle.proof_judge.specs.Fate.{ComesTo, EndComesTo, FateOf, FateSoFar, IsProofFate, at_end, tried}
+use Rattle.proof_judge.specs.Fate.{ComesTo, FateOf, IsProofFate, at_end, tried}
 use Rattle.proof_judge.specs.Same.{IsSameFate}
 
 abbrev AreSame : Option Fate → Option Fate → Type 0

@@ -6,4 +6,7 @@ mod laws;
 mod proof;
 
 pub use judging::ProofJudge;
-pub use laws::{certificate_is_found_proof, fate_so_far_is_the_fate, fates_stay, found_is_unsatisfiable, found_proof_begins_certificate, one_fate, spelt_files_have_the_same_fate};
+pub use laws::{
+    certificate_is_found_proof, fate_so_far_is_the_fate, fates_stay, found_is_unsatisfiable,
+    found_proof_begins_certificate, one_fate, spelt_files_have_the_same_fate,
+};
