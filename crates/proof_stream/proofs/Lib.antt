@@ -10,3 +10,4 @@ pub mod Texts
 pub mod Binaries
 pub mod Files
 pub mod Spelling
+pub mod Grouping

@@ -37,12 +37,12 @@ numbers_groups place p (b ∷ c ∷ bs) rest (g, h) =
     (k.0, rw g (k.1 ∙ ap (λ z. number place z true ∷ numbers_from k.0 [] rest) (append_assoc p (b ∷ []) (c ∷ bs))))
 
 -- the weights of the groups behind the first
-abbrev Weighed : ℕ → List ℕ → Type 0
+abbrev pub Weighed : ℕ → List ℕ → Type 0
 Weighed w [] = Unit {0}
 Weighed w (b ∷ []) = Unit {0}
 Weighed w (b ∷ c ∷ bs) = (128 * w ≤ 268435456) × Weighed (128 * w) (c ∷ bs)
 
-weighed : (bytes : List ℕ) → length bytes ≤ 5 → Weighed 1 bytes
+pub weighed : (bytes : List ℕ) → length bytes ≤ 5 → Weighed 1 bytes
 weighed [] l = tt
 weighed (a ∷ []) l = tt
 weighed (a ∷ b ∷ []) l = (omega arith, tt)
@@ -73,7 +73,7 @@ module _ (vars n : ℕ) (low : 2 ≤ n) (high : n ≤ 2 * vars + 1) where
   literal_now : (k : ℕ) → 2 ≤ k → k ≤ n → is_literal vars k ≡ true
   literal_now k a b = let e = le-leb 2 k a in let f = le-leb k (2 * vars + 1) (omega (arith, b, high)) in rw (e, f) refl
 
-  goes_now : (k w : ℕ) (bytes : List ℕ) → w ≤ 268435456 → k + groups_value w bytes ≡ n → may_go_on vars k w ≡ true
+  pub goes_now : (k w : ℕ) (bytes : List ℕ) → w ≤ 268435456 → k + groups_value w bytes ≡ n → may_go_on vars k w ≡ true
   goes_now k w bytes l e =
       let f = le-leb w 268435456 l in
       elim (cases_Bool (leb 2 k)) [

@@ -7,3 +7,4 @@ pub mod File
 pub mod Lines
 pub mod Reading
 pub mod Spelling
+pub mod Grouping

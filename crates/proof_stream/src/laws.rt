@@ -5,6 +5,8 @@ ghost use Rattle.cert_stream.specs.Telling.{Saying};
 ghost use Rattle.cert_stream.specs.declared.mode.WireFault.{WireFault};
 ghost use Rattle.proof_stream.specs.File.{FileOf, StandsFor, after, fault, fresh, said, spoken};
 ghost use Rattle.proof_stream.specs.Lines.{FileSays};
+ghost use Rattle.proof_stream.specs.Numbers.{groups_read};
+ghost use Rattle.proof_stream.specs.Grouping.{IsRead};
 ghost use Rattle.proof_stream.specs.Spelling.{AreSaid, ProofLine, Spelt};
 ghost use Rattle.proof_stream.specs.declared.spot.Form.{Form};
 ghost use Rattle.proof_stream.specs.declared.spot.Form.TheVariants.{Text, Binary};
@@ -40,4 +42,11 @@ pub fn spelt_files_say_the_same()
     ensures { (vars : ℕ) (b t : List ℕ) → Spelt vars b t
         → (lines : List ProofLine) × ((ended : Bool) (ss : List Saying) → FileSays Binary vars ended b ss → AreSaid lines ss)
         × ((ended : Bool) (ss : List Saying) → FileSays Text vars ended t ss → AreSaid lines ss) }
+{}
+
+/// Groups, read one after the other, are read as what they are: a literal, the beginning of one, or none; in a full line none may
+/// begin.
+#[tactic(auto, using(crate::proofs::Grouping::groups_are))]
+pub fn groups_are_read()
+    ensures { (vars : ℕ) (full : Bool) (bytes : List ℕ) → IsRead vars full bytes (groups_read vars full 0 1 bytes) }
 {}
