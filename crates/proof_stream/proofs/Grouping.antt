@@ -1,10 +1,10 @@
 -- Groups are read as what they are.
-use Rattle.std.proofs.Common.{◌≡◌, ◌⊎◌, ℕ, ◌+◌, ◌*◌, ◌<◌, ◌≤◌, Bool, true, false, ◌&&◌, ◌||◌, leb, List, [], ◌∷◌, ◌++◌, length, refl, ap, sym, ◌∙◌, inl, inr, arith, append_assoc, cond, subst, length-append}
-use Rattle.std.proofs.lemmas.Bool.{cases_Bool, le-leb, leb-true}
+use Rattle.std.proofs.Common.{◌≡◌, ◌⊎◌, ℕ, ◌+◌, ◌*◌, ◌≤◌, Bool, true, false, ◌&&◌, ◌||◌, leb, List, [], ◌∷◌, ◌++◌, length, refl, ap, sym, ◌∙◌, inl, inr, arith, append_assoc, subst, length-append}
+use Rattle.std.proofs.lemmas.Bool.{le-leb, leb-true}
 use Rattle.std.proofs.lemmas.List.{append-nil}
-use Rattle.cert_stream.specs.declared.mode.WireFaultKind.TheVariants.{BadLiteral, LineTooLong}
-use Rattle.proof_stream.specs.Numbers.{GroupsRead, Goes, Whole, Unfit, group_next, groups_read, is_literal, may_go_on, seven, with_group}
-use Rattle.proof_stream.specs.Spelling.{AreGroups, IsNumber, groups_value}
+use Rattle.cert_stream.specs.declared.mode.WireFaultKind.TheVariants.{LineTooLong}
+use Rattle.proof_stream.specs.Numbers.{Goes, Whole, Unfit, groups_read, is_literal, may_go_on, seven, with_group}
+use Rattle.proof_stream.specs.Spelling.{AreGroups, groups_value}
 use Rattle.proof_stream.specs.Grouping.{BeginsLiteral, IsLiteral, IsRead}
 use Rattle.proof_stream.proofs.Binaries.{step_by}
 use Rattle.proof_stream.proofs.Spelling.{Weighed, goes_now, weighed}

@@ -10,6 +10,7 @@ mod text;
 
 pub use file::ProofWire;
 pub use laws::{
-    faults_stay, files_say_lines, groups_are_read, pieces_join, pieces_say_the_same, spelt_files_say_the_same,
+    faults_stay, files_say_lines, groups_are_read, pieces_join, pieces_say_the_same,
+    spelt_files_say_the_same,
 };
 pub use spot::{Form, Groups, LineKind, Spot};
