@@ -1,10 +1,10 @@
 -- Proofs and certificates.
-use Rattle.std.proofs.Common.{◌≡◌, ◌⊎◌, ℕ, ◌+◌, ◌-◌, ◌<◌, ◌≤◌, true, false, List, [], ◌∷◌, ◌++◌, length, take, Some, None, refl, sym, ap, ◌∙◌, subst, inl, inr, arith, append_assoc, length-append}
+use Rattle.std.proofs.Common.{◌≡◌, ◌⊎◌, ℕ, ◌+◌, ◌-◌, ◌≤◌, true, false, List, [], ◌∷◌, ◌++◌, length, take, drop, take-append-drop, Some, None, refl, sym, ap, ◌∙◌, subst, inl, inr, arith, append_assoc}
 use Rattle.std.proofs.lemmas.List.{append-nil}
 use Rattle.cnf_form.specs.Cnf.{LitOf, FormulaOf, Assignment}
 use Rattle.cnf_form.specs.Dimacs.{IsDimacs}
 use Rattle.cnf_form.proofs.Reading.{IsDimacs-one}
-use Rattle.cert_stream.specs.Text.{is_blank, lines_of}
+use Rattle.cert_stream.specs.Text.{lines_of}
 use Rattle.cert_stream.specs.Stream.{lines_say, sayings}
 use Rattle.cert_stream.specs.Telling.{Saying, IsClause, IsDelete, IsValue, IsValuesEnd, IsUnknown, IsFault}
 use Rattle.sby_terms.specs.declared.names.Answer.TheVariants.{Unsat}
@@ -14,7 +14,7 @@ use Rattle.stream_judge.specs.Values.{unnamed}
 use Rattle.stream_judge.proofs.Accepting.{cert_fate}
 use Rattle.stream_judge.proofs.Certs.{fate_cert}
 use Rattle.stream_judge.proofs.Fates.{fate_at_end as stream_at_end}
-use Rattle.stream_judge.proofs.Following.{fate_followed}
+use Rattle.proof_judge.proofs.Prefixes.{prefix_found}
 use Rattle.stream_judge.proofs.Deletions.{Clauses}
 use Rattle.proof_stream.specs.Binary.{line_said}
 use Rattle.proof_stream.specs.File.{fresh, spoken}
@@ -117,13 +117,16 @@ module _ (f : FormulaOf) (ls : List ProofLine) (t : List ℕ) (most : ℕ) (h : 
       let g = fate_cert f whole (length whole) Unsat (stream_at_end f (length whole) whole (Found Unsat) s) in
       (g.0, g.1, g.3)
 
-  pub cert_found : (cert rest : List ℕ) (c : ℕ) → IsCertOf f cert Unsat → (is_blank c ≡ true) ⊎ (c ≡ 10) → whole ≡ cert ++ c ∷ rest → FateOf f Text t most (Found Unsat)
-  cert_found cert rest c w s e =
-      let len : length whole ≡ length cert + length (c ∷ rest) = ap length e ∙ length-append cert (c ∷ rest) in
-      let short : length cert < length whole = omega (arith, len) in
-      let g : StreamFate f cert (length whole) (Found Unsat) = cert_fate f cert (length whole) Unsat w (omega (arith, short)) in
-      let so_far : StreamSoFar f whole (length whole) (Some (Found Unsat)) = subst (λ z. StreamSoFar f z (length whole) (Some (Found Unsat))) (sym e) (fate_followed f Unsat cert rest c (length whole) s short g) in
-      let m = so_far.within (omega arith) in
+  cert_says : (cert : List ℕ) → StreamFate f cert (length cert) (Found Unsat) → StreamFinds f.clauses f.clauses unnamed (sayings f.vars true cert)
+  cert_says cert g = elim (g.within (omega arith)) [ inl k ↦ k | inr (k, e) ↦ absurd (let z = e in cc) ]
+
+  pub cert_found : (cert rest : List ℕ) → IsCertOf f cert Unsat → whole ≡ cert ++ rest → FateOf f Text t most (Found Unsat)
+  cert_found cert rest w e =
+      let g = cert_says cert (cert_fate f cert (length cert) Unsat w (omega arith)) in
+      let v : AreSaid (ls ++ empty ∷ []) (sayings f.vars false (cert ++ rest)) = subst (λ z. AreSaid (ls ++ empty ∷ []) (sayings f.vars false z)) e whole_said in
+      let m : StreamFinds f.clauses f.clauses unnamed (sayings f.vars false whole) =
+      subst (λ z. StreamFinds f.clauses f.clauses unnamed (sayings f.vars false z)) (sym e)
+      (prefix_found f.clauses f.clauses unnamed f.vars cert rest (ls ++ empty ∷ []) v (t ++ 48 ∷ []) (sym e ∙ sym (append_assoc t (48 ∷ []) (10 ∷ []))) g) in
       let ss : List Saying = spoken false (fresh Text f.vars) t in
       let ts : List Saying = spoken true (fresh Text f.vars) t in
       let a : AreSaid ls ss = text_lines f.vars ls t h false ss (file_spoken Text f.vars false t) in
@@ -141,7 +144,11 @@ file_found_cert job b t most f d (ls, h, i) l w =
     let k = found_cert f ls t most i l (subst (λ (z : FormulaOf). FateOf z Text t most (Found Unsat)) (IsDimacs-one job w.0 f w.1 d) w.2) in
     (k.0, k.1, (f, d, k.2))
 
-pub file_cert_found : (job b t cert rest : List ℕ) (c most : ℕ) (f : FormulaOf) → IsDimacs job f → Spelt f.vars b t → length t ≤ most → IsCert job cert Unsat
-    → (is_blank c ≡ true) ⊎ (c ≡ 10) → t ++ 48 ∷ 10 ∷ [] ≡ cert ++ c ∷ rest → IsProofFate job Text t most (Found Unsat)
-file_cert_found job b t cert rest c most f d (ls, h, i) l w s e =
-    (f, d, cert_found f ls t most i l cert rest c (subst (λ (z : FormulaOf). IsCertOf z cert Unsat) (IsDimacs-one job w.0 f w.1 d) w.2) s e)
+pub file_cert_found : (job b t : List ℕ) (n most : ℕ) (f : FormulaOf) → IsDimacs job f → Spelt f.vars b t → length t ≤ most → IsCert job (take n (t ++ 48 ∷ 10 ∷ [])) Unsat
+    → IsProofFate job Text t most (Found Unsat)
+file_cert_found job b t n most f d (ls, h, i) l w = (
+  f,
+  d,
+  cert_found f ls t most i l (take n (t ++ 48 ∷ 10 ∷ [])) (drop n (t ++ 48 ∷ 10 ∷ [])) (subst (λ (z : FormulaOf). IsCertOf z (take n (t ++ 48 ∷ 10 ∷ [])) Unsat) (IsDimacs-one job w.0 f w.1 d) w.2)
+      (sym (take-append-drop n (t ++ 48 ∷ 10 ∷ []))),
+)

@@ -3,4 +3,5 @@ pub mod Going
 pub mod Fates
 pub mod Taking
 pub mod Spelling
+pub mod Prefixes
 pub mod Certificates

@@ -1,10 +1,9 @@
 // Laws of the fates of proof files.
 
-ghost use Rattle.std.specs.Prelude.{◌≡◌, ◌⊎◌, ◌≤◌, ◌∷◌, ◌++◌, [], ℕ, true, List, length, take, Option, Some};
+ghost use Rattle.std.specs.Prelude.{◌≡◌, ◌≤◌, ◌∷◌, ◌++◌, [], ℕ, List, length, take, Option, Some};
 ghost use Rattle.cnf_form.specs.Cnf.{FormulaOf, IsUnsatisfiable};
 ghost use Rattle.cnf_form.specs.Dimacs.{IsDimacs};
 ghost use Rattle.sby_terms.specs.declared.names.Answer.TheVariants.{Unsat};
-ghost use Rattle.cert_stream.specs.Text.{is_blank};
 ghost use Rattle.stream_judge.specs.Cert.{IsCert};
 ghost use Rattle.stream_judge.specs.Fate.{Fate, Found};
 ghost use Rattle.proof_stream.specs.Spelling.{Spelt};
@@ -53,8 +52,8 @@ pub fn found_proof_begins_certificate()
         → (n : ℕ) × (n ≤ length (t ++ 48 ∷ 10 ∷ [])) × IsCert job (take n (t ++ 48 ∷ 10 ∷ [])) Unsat }
 {}
 
-/// And where it begins so with a certificate whose 0 counts, since white space or a line feed follows, it is found to be a proof.
+/// And where it begins so with a certificate, it is found to be a proof.
 pub fn certificate_is_found_proof()
-    ensures { (job b t cert rest : List ℕ) (c most : ℕ) (f : FormulaOf) → IsDimacs job f → Spelt f.vars b t → length t ≤ most → IsCert job cert Unsat
-        → (is_blank c ≡ true) ⊎ (c ≡ 10) → t ++ 48 ∷ 10 ∷ [] ≡ cert ++ c ∷ rest → IsProofFate job Text t most (Found Unsat) }
+    ensures { (job b t : List ℕ) (n most : ℕ) (f : FormulaOf) → IsDimacs job f → Spelt f.vars b t → length t ≤ most
+        → IsCert job (take n (t ++ 48 ∷ 10 ∷ [])) Unsat → IsProofFate job Text t most (Found Unsat) }
 {}
