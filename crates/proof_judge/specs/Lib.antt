@@ -1,0 +1,5 @@
+-- Definitions.
+pub mod Fate
+pub mod Leading
+pub mod Judging
+pub mod Same

@@ -1,0 +1,13 @@
+pub mod Cutting
+pub mod Bounds
+pub mod Turning
+pub mod Pieces
+pub mod Passing
+pub mod Faults
+pub mod Spoken
+pub mod Heads
+pub mod Texts
+pub mod Binaries
+pub mod Files
+pub mod Spelling
+pub mod Grouping

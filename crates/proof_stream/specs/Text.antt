@@ -1,0 +1,55 @@
+-- What each byte of a proof file in text does to the little that is kept of the bytes before it.
+use Rattle.std.specs.Prelude.{ℕ, Bool, true, cond, ◌&&◌, ◌||◌, eqb, List, [], Option, Some, None}
+use Rattle.cert_stream.specs.Machine.{WireOf, fault_of, turn}
+use Rattle.cert_stream.specs.Telling.{Saying, fresh, told_by}
+use Rattle.cert_stream.specs.Text.{is_blank}
+use Rattle.cert_stream.specs.declared.mode.WireFault.{WireFault}
+use Rattle.cert_stream.specs.declared.mode.WireFaultKind.TheVariants.{BadLine}
+
+-- what is kept: what a stream keeps, whether the line has no visible byte so far, and the fault at a line of a kind that streams alone have
+pub record TextOf : Type 0 where
+  pub wire : WireOf
+  pub starts : Bool
+  pub refused : Option WireFault
+
+-- s and v, which begin such a line
+abbrev pub is_claim : ℕ → Bool
+is_claim b = eqb b 115 || eqb b 118
+
+-- whether the line has no visible byte behind this one
+abbrev pub starts_behind : Bool → ℕ → Bool
+starts_behind starts b = eqb b 10 || (starts && is_blank b)
+
+abbrev pub text_fresh : ℕ → TextOf
+text_fresh vars = record { wire = fresh vars; starts = true; refused = None }
+
+-- the line is refused at its first visible byte
+abbrev pub text_refused : TextOf → TextOf
+text_refused t = record t { refused = Some (record { kind = BadLine; byte = t.wire.taken }) }
+
+-- another byte is read as a stream's
+abbrev pub text_read : TextOf → ℕ → TextOf
+text_read t b = record { wire = (turn t.wire b).to; starts = starts_behind t.starts b; refused = None }
+
+abbrev pub text_next_by : Option WireFault → TextOf → ℕ → TextOf
+text_next_by None t b = cond (t.starts && is_claim b) (text_refused t) (text_read t b)
+text_next_by (Some f) t b = t
+
+-- what a byte makes of it, and what it says
+abbrev pub text_next : TextOf → ℕ → TextOf
+text_next t b = text_next_by t.refused t b
+
+abbrev pub text_says_by : Option WireFault → TextOf → ℕ → List Saying
+text_says_by None t b = cond (t.starts && is_claim b) [] (told_by (turn t.wire b).to (turn t.wire b).event)
+text_says_by (Some f) t b = []
+
+abbrev pub text_says : TextOf → ℕ → List Saying
+text_says t b = text_says_by t.refused t b
+
+abbrev pub fault_or : Option WireFault → Option WireFault → Option WireFault
+fault_or None other = other
+fault_or (Some f) other = Some f
+
+-- where no file goes on
+abbrev pub text_fault : TextOf → Option WireFault
+text_fault t = fault_or (fault_of t.wire.mode) t.refused
