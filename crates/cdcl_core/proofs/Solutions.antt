@@ -16,7 +16,7 @@ use Rattle.cdcl_core.specs.Solving.{Takes, IsSearch, IsFound, IsRefuted, IsBroke
 use Rattle.cdcl_core.proofs.Driven.{all_push}
 
 -- a line more is taken
-takes_more : {A : Type 0} (takes : A → Line → A → Type 0) (a b c : A) (ls : List Line) (l : Line) → Takes takes a ls b → takes b l c → Takes takes a (ls ++ l ∷ []) c
+pub takes_more : {A : Type 0} (takes : A → Line → A → Type 0) (a b c : A) (ls : List Line) (l : Line) → Takes takes a ls b → takes b l c → Takes takes a (ls ++ l ∷ []) c
 takes_more takes a b c [] l e h = (c, subst (λ z. takes z l c) e h, refl)
 takes_more takes a b c (m ∷ ls) l w h = (w.0, w.1, takes_more takes w.0 b c ls l w.2 h)
 

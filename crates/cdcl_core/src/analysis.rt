@@ -13,12 +13,14 @@ use std::alloc::{AllocError, Global};
 use unit_propagation::Propagator;
 
 // The true literals that a conflict rests on, as far as it was gone through: those that are marked. `lower` has the negations
-// of those that were true when the last level began, `current` those that became true on it, resolved ones among them.
+// of those that were true when the last level began, `current` those that became true on it, resolved ones among them. `used` has
+// the numbers of the clauses that it went through.
 #[derive(Drop)]
 pub(crate) struct Analysis {
     seen: Vec<bool>,
     lower: Vec<Lit>,
     current: Vec<Lit>,
+    used: Vec<u32>,
     pub(crate) clause: Vec<Lit>,
     ghost lower_places: { All (λ l. 2 * l.var + 1 < length seen.items) lower.items },
     ghost current_places: { All (λ l. 2 * l.var + 1 < length seen.items) current.items },
@@ -37,6 +39,7 @@ impl Analysis {
             seen,
             lower: Vec::new(alloc),
             current: Vec::new(alloc),
+            used: Vec::new(alloc),
             clause: Vec::new(alloc),
         })
     }
@@ -56,6 +59,11 @@ impl Analysis {
     // The others, negated.
     pub fn lower(&self) -> &[Lit] {
         self.lower.as_slice()
+    }
+
+    // The numbers of the clauses that it went through.
+    pub fn used(&self) -> &[u32] {
+        self.used.as_slice()
     }
 
     // Marks the negation of a literal, which was true when the last level began.
@@ -200,6 +208,8 @@ impl Analysis {
             return Ok(false);
         };
         let first = *first;
+        self.used.clear();
+        self.used.push(k)?;
         if !self.note(core, first, root, base)? {
             return Ok(false);
         }
@@ -230,6 +240,7 @@ impl Analysis {
         let Some(clause) = core.clause(k) else {
             return Ok(false);
         };
+        self.used.push(k)?;
         self.seen[l.index()] = false;
         self.note_others(core, clause, l, root, base)
     }

@@ -5,9 +5,12 @@ mod analysis;
 mod choose;
 mod laws;
 mod learn;
+mod learnts;
+mod load;
 mod log;
 mod order;
 mod pace;
+mod reduce;
 mod search;
 mod solver;
 

@@ -2,7 +2,7 @@ use Rattle.std.proofs.Common.{◌≡◌, [], take}
 use Rattle.std.specs.Prelude.{None}
 use Rattle.unit_propagation.specs.Propagator.{clauses_of}
 use Rattle.cdcl_core.specs.Levels.{IsDriven, IsPending}
-use Rattle.cdcl_core.proofs.solver.put_all.Given as goal
+use Rattle.cdcl_core.proofs.load.put_all.Given as goal
 
 abbrev pub invariant-loop-place : goal.invariant-loop-place
 invariant-loop-place l = record {

@@ -1,7 +1,7 @@
 use Rattle.std.proofs.Common.{◌≡◌, ◌+◌, ◌∷◌, [], ◌++◌, take, ◌∙◌, ap, sym, arith}
 use Rattle.std.proofs.lemmas.Option.{get_or_from_slice_get}
 use Rattle.cnf_form.proofs.Members.{take_one_more}
-use Rattle.cdcl_core.proofs.solver.put_all.Goals as goal
+use Rattle.cdcl_core.proofs.load.put_all.Goals as goal
 
 pub loop-place-preserved : goal.loop-place-preserved
 loop-place-preserved c =

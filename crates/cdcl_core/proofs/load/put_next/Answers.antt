@@ -4,7 +4,7 @@ use Rattle.cnf_form.specs.Cnf.{LitOf, ClauseWithin}
 use Rattle.unit_propagation.specs.Propagator.{clauses_of, IsPut}
 use Rattle.cdcl_core.specs.Levels.{IsPending}
 use Rattle.cdcl_core.proofs.Driven.{clauses_push, driven_put, driven_after, pending_put, pending_after}
-use Rattle.cdcl_core.proofs.solver.put_next.Goals as goal
+use Rattle.cdcl_core.proofs.load.put_next.Goals as goal
 
 pub returns-clause-clauses : goal.returns-clause-clauses
 returns-clause-clauses c =
