@@ -76,10 +76,10 @@ fn put_again(fresh: &mut Propagator, core: &Propagator, k: u32) -> Result<(), Al
     ensures driven { OnOk result (IsDriven fresh.new) }
     ensures pending { OnOk result (IsPending fresh.new None) }
 {
-    match core.clause(k) {
-        None => Ok(()),
-        Some(clause) => put_next(fresh, clause),
+    if let Some(clause) = core.clause(k) {
+        put_next(fresh, clause)?;
     }
+    Ok(())
 }
 
 // The same clauses again, with the numbers of those that were taken out given away.
