@@ -13,8 +13,8 @@ use Rattle.unit_propagation.specs.Propagator.{PropagatorOf, clauses_of, slot_at}
 use Rattle.unit_propagation.proofs.Slots.{clauses_of-contains}
 use Rattle.cdcl_core.specs.Levels.{IsDriven}
 use Rattle.cdcl_core.specs.Logged.{IsProper, clause_of, deleted}
-use Rattle.cdcl_core.specs.Solving.{IsSearch}
-use Rattle.cdcl_core.specs.Reducing.{IsBegun, IsCounted, Reduces, Breaks}
+use Rattle.cdcl_core.specs.Solving.{IsCounted}
+use Rattle.cdcl_core.specs.Reducing.{IsBegun, Reduces, Breaks}
 use Rattle.cdcl_core.proofs.Solutions.{takes_more}
 
 -- the clauses of one more slot

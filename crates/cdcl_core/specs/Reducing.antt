@@ -5,16 +5,11 @@ use Rattle.unit_propagation.specs.Propagator.{PropagatorOf, clauses_of, slot_at}
 use Rattle.cdcl_core.specs.declared.reduce.Deleting.{Deleting}
 use Rattle.cdcl_core.specs.declared.reduce.Deleting.TheVariants.{Kept, Deleted, Refused}
 use Rattle.cdcl_core.specs.Logged.{IsProper}
-use Rattle.cdcl_core.specs.Solving.{IsSearch}
+use Rattle.cdcl_core.specs.Solving.{IsCounted}
 
 -- the clauses stand at the first numbers, in order
 abbrev pub IsBegun : List (List LitOf) → List (Option (List LitOf)) → Type 0
 IsBegun F slots = (j : ℕ) (d : List LitOf) → j < length F → slot_at slots j ≡ Some (slice_index_or F j d)
-
--- lines were logged, so many deletions among them
-pub record IsCounted {A : Type 0} (takes : A → Line → A → Type 0) (f : FormulaOf) (before now : A) (present : List (List LitOf)) (count deleted : ℕ) : Type 0 where
-  pub search : IsSearch takes f before now present count
-  pub deletions : search.deletions ≡ deleted
 
 -- the lines that were logged lead on from each search that led here
 pub record Reduces {A : Type 0} (takes : A → Line → A → Type 0) (f : FormulaOf) (old new : List (List LitOf)) (now next : A) (count before after : ℕ) : Type 0 where

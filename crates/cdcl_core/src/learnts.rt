@@ -146,8 +146,9 @@ impl Learnts {
         let mut glues = Vec::new(alloc);
         let mut used = Vec::new(alloc);
         self.learnt = 0;
-        for number in self.first..core.len() {
-            let place = number - self.first;
+        let first = self.first;
+        for number in first..core.len() {
+            let place = number - first;
             if place >= self.glues.len() || place >= self.used.len() {
                 break;
             }

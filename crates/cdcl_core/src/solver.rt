@@ -11,7 +11,7 @@ ghost use Rattle.cdcl_core.specs.Logged.{IsNew, Logged};
 ghost use Rattle.cdcl_core.specs.declared.search.Found.TheVariants.{Assigned};
 ghost use Rattle.cdcl_core.specs.Analysis.{IsIdle, IsLearnt};
 ghost use Rattle.cdcl_core.specs.Reducing.{IsBegun, Reduces, Breaks};
-ghost use Rattle.cdcl_core.specs.Solving.{SolvedFits, TurnFits, StepFits, GoesOn, IsSearch, valued};
+ghost use Rattle.cdcl_core.specs.Solving.{SolvedFits, TurnFits, StepFits, GoesOn, IsCounted, valued};
 
 use crate::analysis::Analysis;
 use crate::learn::{assert_learnt, negate_trail};
@@ -220,9 +220,9 @@ fn next_turn<L: Log>(
     ensures idle { OnOk result (IsIdle core.new.vars tools.new.analysis.seen.items tools.new.analysis.lower.items tools.new.analysis.current.items) }
     ensures driven { OnOk result (IsDriven core.new) }
     ensures goes_on { IfOk result (GoesOn core.new) }
-    ensures fits { IfOk result (λ t. (budget count : ℕ) (before : L) → count < budget
-        → IsSearch L.takes formula.now before log.old (clauses_of core.old.slots) count
-        → TurnFits L.takes L.fails formula.now budget count before log.new core.new t) }
+    ensures fits { IfOk result (λ t. (budget count deleted : ℕ) (before : L) → count < budget
+        → IsCounted L.takes formula.now before log.old (clauses_of core.old.slots) count deleted
+        → TurnFits L.takes L.fails formula.now budget count deleted before log.new core.new t) }
     ensures later { L.faults log.old ≤ L.faults log.new }
     ensures cause { result ≡ Ok (Turn.Answered Solved.LogFailed) → Rose (L.faults log.old) (L.faults log.new) }
 {
