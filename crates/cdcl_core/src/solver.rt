@@ -298,7 +298,8 @@ fn search<L: Log>(
     let mut pending = None;
     let mut deleted = 0;
     for count in 0..budget {
-        let Some(more) = reduce_if_due(alloc, formula, core, tools, log, pending, count, deleted)? else {
+        let Some(more) = reduce_if_due(alloc, formula, core, tools, log, pending, count, deleted)?
+        else {
             return Ok(Solved::LogFailed);
         };
         deleted = more;

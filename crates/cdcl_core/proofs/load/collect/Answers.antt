@@ -1,6 +1,5 @@
 use Rattle.std.proofs.Common.{◌≡◌, ◌∷◌, [], ◌++◌, take, ◌∙◌, ap, sym, subst, rules}
 use Rattle.unit_propagation.specs.Propagator.{clauses_of, slot_at}
-
 use Rattle.cdcl_core.proofs.Reductions.{begun_take, take_slot}
 use Rattle.cdcl_core.proofs.load.collect.Goals as goal
 
