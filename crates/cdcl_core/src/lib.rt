@@ -12,6 +12,7 @@ mod order;
 mod pace;
 mod reduce;
 mod search;
+mod shortening;
 mod solver;
 
 pub use crate::laws::logged_lines_are_a_proof;

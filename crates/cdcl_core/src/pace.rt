@@ -69,6 +69,12 @@ impl Pace {
         glue
     }
 
+    // Whether a true literal became so on a level on which a literal of the clause became false whose glue was taken last.
+    pub fn has_level(&self, core: &Propagator, l: Lit) -> bool {
+        let level = level_of(core, l);
+        level < self.stamps.len() && self.stamps[level] == self.clock
+    }
+
     // Counts a conflict, and the clause that is learnt from it. Its glue.
     pub fn count(&mut self, core: &Propagator, clause: &[Lit]) -> u32 {
         let glue = self.glue(core, clause);

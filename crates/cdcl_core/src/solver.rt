@@ -1,15 +1,15 @@
 // The solver.
 
-ghost use Rattle.std.specs.Prelude.{◌≡◌, ◌⊎◌, ◌+◌, ◌<◌, ◌≤◌, ◌++◌, ◌∷◌, [], ℕ, true, false, List, length, Contains, IfOk, IfSome, IfNone, OnOk, Ok, Some, None};
+ghost use Rattle.std.specs.Prelude.{◌≡◌, ◌⊎◌, ◌+◌, ◌*◌, ◌<◌, ◌≤◌, ◌++◌, ◌∷◌, [], ℕ, true, false, List, length, Contains, IfOk, IfSome, IfNone, OnOk, Ok, Some, None};
 ghost use Rattle.cnf_form.specs.Cnf.{LitOf, Satisfies, lit_in, Addition, ClauseWithin};
 ghost use Rattle.cnf_form.specs.declared.literal.TheConstants.{MAX_VARS};
 ghost use Rattle.unit_propagation.specs.Propagation.{ContainsAll};
 ghost use Rattle.unit_propagation.specs.Propagator.{clauses_of};
 ghost use Rattle.sby_edge.specs.Cause.{Rose};
-ghost use Rattle.cdcl_core.specs.Levels.{IsDriven, IsPending, FoundFits, base_of};
+ghost use Rattle.cdcl_core.specs.Levels.{IsDriven, IsPending, FoundFits, base_of, end_of};
 ghost use Rattle.cdcl_core.specs.Logged.{IsNew, Logged};
 ghost use Rattle.cdcl_core.specs.declared.search.Found.TheVariants.{Assigned};
-ghost use Rattle.cdcl_core.specs.Analysis.{IsIdle, IsLearnt};
+ghost use Rattle.cdcl_core.specs.Analysis.{IsIdle, IsListed, Supports, IsLearnt};
 ghost use Rattle.cdcl_core.specs.Reducing.{IsBegun, Reduces, Breaks};
 ghost use Rattle.cdcl_core.specs.Solving.{SolvedFits, TurnFits, StepFits, GoesOn, IsCounted, valued};
 
@@ -22,6 +22,7 @@ use crate::order::Order;
 use crate::pace::Pace;
 use crate::reduce::reduce;
 use crate::search::{Found, find};
+use crate::shortening::Shortening;
 use cnf_form::{Formula, Lit, MAX_VARS};
 use std::alloc::{AllocError, Global};
 use unit_propagation::Propagator;
@@ -49,6 +50,7 @@ enum Turn {
 #[derive(Drop)]
 struct Tools {
     analysis: Analysis,
+    shortening: Shortening,
     order: Order,
     pace: Pace,
     learnts: Learnts,
@@ -64,6 +66,7 @@ impl Tools {
         let pace = Pace::new(alloc, vars)?;
         Ok(Tools {
             analysis,
+            shortening: Shortening::new(alloc, vars)?,
             order,
             pace,
             learnts: Learnts::new(alloc, formula),
@@ -109,11 +112,40 @@ fn bump_all(analysis: &Analysis, order: &mut Order) {
     order.age();
 }
 
+// The clause that is learnt where the conflict rests on this literal alone of the last level, if so. Its first literal.
+fn shorten(
+    core: &Propagator,
+    analysis: &mut Analysis,
+    shortening: &mut Shortening,
+    pace: &mut Pace,
+    found: Option<Lit>,
+    root: usize,
+    base: usize,
+) -> Result<Option<Lit>, AllocError>
+    requires sized { length analysis.old.seen.items ≡ 2 * core.now.vars + 2 }
+    requires listed { IsListed core.now.trail base analysis.old.seen.items analysis.old.lower.items analysis.old.current.items }
+    requires driven { IsDriven core.now }
+    requires root { root ≡ end_of core.now 0 }
+    requires supports { IfSome found (λ l. Supports (clauses_of core.now.slots) core.now.trail root analysis.old.seen.items) }
+    requires on { IfSome found (λ l. Contains core.now.trail l) }
+    ensures sized { length analysis.new.seen.items ≡ 2 * core.now.vars + 2 }
+    ensures listed { IsListed core.now.trail base analysis.new.seen.items analysis.new.lower.items analysis.new.current.items }
+    ensures learnt { IfOk result (λ o. IfSome o (λ first. IsLearnt core.now base analysis.new.clause.items first)) }
+{
+    let Some(l) = found else {
+        return Ok(None);
+    };
+    shortening.run(core, pace, analysis, root)?;
+    analysis.finish(core, l, shortening.implied(), root, base)
+}
+
 // The clause that is learnt from a falsified one. Its first literal.
 fn first_of(
     core: &Propagator,
     analysis: &mut Analysis,
+    shortening: &mut Shortening,
     order: &mut Order,
+    pace: &mut Pace,
     k: u32,
 ) -> Result<Lit, AllocError>
     requires idle { IsIdle core.now.vars analysis.old.seen.items analysis.old.lower.items analysis.old.current.items }
@@ -125,10 +157,11 @@ fn first_of(
 {
     let base = core.limit(core.levels() - 1);
     let root = core.limit(0);
-    let found = analysis.analyse(core, k, root, base)?;
+    let found = analysis.find(core, k, root, base)?;
     bump_all(analysis, order);
+    let learnt = shorten(core, analysis, shortening, pace, found, root, base)?;
     analysis.reset();
-    match found {
+    match learnt {
         Some(first) => Ok(first),
         None => negate_trail(core, k, base, &mut analysis.clause),
     }
@@ -138,7 +171,9 @@ fn first_of(
 fn learn_from(
     core: &Propagator,
     analysis: &mut Analysis,
+    shortening: &mut Shortening,
     order: &mut Order,
+    pace: &mut Pace,
     k: u32,
 ) -> Result<Lit, AllocError>
     requires idle { IsIdle core.now.vars analysis.old.seen.items analysis.old.lower.items analysis.old.current.items }
@@ -149,7 +184,7 @@ fn learn_from(
     ensures learnt { IfOk result (λ first. IsLearnt core.now (base_of core.now) analysis.new.clause.items first) }
     ensures new { OnOk result (IsNew (clauses_of core.now.slots) analysis.new.clause.items) }
 {
-    let first = first_of(core, analysis, order, k)?;
+    let first = first_of(core, analysis, shortening, order, pace, k)?;
     core.levels_are_complete();
     Ok(first)
 }
@@ -188,7 +223,14 @@ fn learn_one<L: Log>(
     ensures later { L.faults log.old ≤ L.faults log.new }
     ensures cause { result ≡ Ok (Turn.Answered Solved.LogFailed) → Rose (L.faults log.old) (L.faults log.new) }
 {
-    let first = learn_from(core, &mut tools.analysis, &mut tools.order, k)?;
+    let first = learn_from(
+        core,
+        &mut tools.analysis,
+        &mut tools.shortening,
+        &mut tools.order,
+        &mut tools.pace,
+        k,
+    )?;
     let used = tools.analysis.used();
     tools.learnts.use_all(core, &mut tools.pace, used);
     let clause = tools.analysis.clause();
