@@ -1,6 +1,6 @@
 use Rattle.std.proofs.Common.{◌≤◌, length, rules, arith}
 use Rattle.unit_propagation.specs.Propagator.{clauses_of}
-use Rattle.cdcl_core.specs.Analysis.{Supports, IsFirst, IsBuilt}
+use Rattle.cdcl_core.specs.Analysis.{IsFirst}
 use Rattle.cdcl_core.proofs.Analyses.{learnt_built, supports_more}
 use Rattle.cdcl_core.proofs.analysis.Analysis.finish.Goals as goal
 
