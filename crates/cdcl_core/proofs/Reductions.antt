@@ -4,16 +4,15 @@ use Rattle.std.specs.Prelude.{Contains, Option, Some, None}
 use Rattle.std.proofs.lemmas.Bool.{cases_lt}
 use Rattle.std.proofs.lemmas.List.{get_or-set_other, get_or_past, get_or_append_left, get_or-map, get_or_default}
 use Rattle.std.proofs.lemmas.List.Elements.{All-push}
-use Rattle.cnf_form.specs.Cnf.{LitOf, negate, FormulaOf, SameClause, Conflict, IsReason, Removes, first, later, Deletes, Closure, Line, Deletion}
+use Rattle.cnf_form.specs.Cnf.{LitOf, negate, FormulaOf, SameClause, Removes, first, later, Deletes, Closure, Line, Deletion}
 use Rattle.cnf_form.proofs.Members.{Contains-empty, take_one_more}
 use Rattle.cnf_form.proofs.Rup.{Closure-least}
 use Rattle.cnf_form.proofs.Removal.{Closure-monotone, Deletes-closure}
-use Rattle.unit_propagation.specs.Propagation.{ContainsAll, IsDerived, IsFixpoint}
+use Rattle.unit_propagation.specs.Propagation.{ContainsAll, IsFixpoint}
 use Rattle.unit_propagation.specs.Propagator.{PropagatorOf, clauses_of, slot_at}
 use Rattle.unit_propagation.proofs.Slots.{clauses_of-contains}
 use Rattle.cdcl_core.specs.Levels.{IsDriven}
 use Rattle.cdcl_core.specs.Logged.{IsProper, clause_of, deleted}
-use Rattle.cdcl_core.specs.Solving.{IsCounted}
 use Rattle.cdcl_core.specs.Reducing.{IsBegun, Reduces, Breaks}
 use Rattle.cdcl_core.proofs.Solutions.{takes_more}
 

@@ -1,4 +1,4 @@
-use Rattle.std.proofs.Common.{◌∷◌, [], ◌++◌, ◌∙◌, ap, sym, subst}
+use Rattle.std.proofs.Common.{◌∷◌, [], ◌++◌, ◌∙◌, ap, sym}
 use Rattle.unit_propagation.specs.Propagator.{clauses_of}
 use Rattle.cdcl_core.proofs.Driven.{clauses_push}
 use Rattle.cdcl_core.proofs.load.put_again.Goals as goal
