@@ -10,14 +10,14 @@ use Rattle.std.proofs.lemmas.Map.Steps.{length-le_from_distinct_below}
 use Rattle.std.proofs.lemmas.Map.Keys.{IsDistinct-from_apart}
 use Rattle.cnf_form.specs.Cnf.{LitOf, negate, index_of, LitWithin, Closure, propagated, negated_units}
 use Rattle.cnf_form.proofs.Literals.{lit_cases, negate-negate}
-use Rattle.cnf_form.proofs.Members.{Contains-empty, Contains-one, Contains-head, Contains-tail, Contains-cases, Contains-map, Contains-map_from, take_one_more}
+use Rattle.cnf_form.proofs.Members.{Contains-empty, Contains-one, Contains-head, Contains-map, Contains-map_from, take_one_more}
 use Rattle.unit_propagation.specs.Marks.{is_marked, IsDistinct}
 use Rattle.std.proofs.lemmas.List.{take_all}
 use Rattle.unit_propagation.proofs.Slots.{clauses_of-contains}
 use Rattle.unit_propagation.specs.Propagation.{ContainsAll, IsConsistent, IsDerived}
 use Rattle.unit_propagation.specs.Propagator.{PropagatorOf, clauses_of}
 use Rattle.cdcl_core.specs.Levels.{IsDriven, IsPending, end_of, base_of}
-use Rattle.cdcl_core.specs.Analysis.{IsListed, IsNoted, Supports, IsFirst, IsLearnt}
+use Rattle.cdcl_core.specs.Analysis.{IsListed, IsNoted, Supports, IsFirst, IsBuilt, IsLearnt}
 use Rattle.cdcl_core.proofs.Marks.{unmark_other, of_prefix}
 use Rattle.cdcl_core.proofs.Driven.{end_inside, end_past}
 
@@ -52,12 +52,15 @@ negated_derived F c m h =
     propagated (negate m ∷ []) (negate m) (Contains-append_right F (negated_units c) _ (Contains-map (λ x. negate x ∷ []) m c h)) (Contains-head (negate m) [])
     (λ x k d. absurd (d (sym (Contains-one (negate m) x k))))
 
+-- a conflict rests on more literals too
+pub supports_more : (F : List (List LitOf)) (t : List LitOf) (root : ℕ) (seen seen' : List Bool) → ((l : LitOf) → is_marked seen l ≡ true → is_marked seen' l ≡ true) → Supports F t root seen → Supports F t root seen'
+supports_more F t root seen seen' keeps w = record { conflict = λ G all d marked. w.conflict G all d (λ x q. marked x (keeps x q)) }
+
 -- the clause that an analysis ends with
-pub learnt_first : (p : PropagatorOf) (base root : ℕ) (seen : List Bool) (lower current : List LitOf) (l : LitOf) → IsDriven p → root ≡ end_of p 0 → IsListed p.trail base seen lower current
-    → Supports (clauses_of p.slots) p.trail root seen → IsFirst p.trail base seen current l → length (negate l ∷ lower) ≤ p.vars → IsLearnt p base (negate l ∷ lower) (negate l)
-learnt_first p base root seen lower current l v e listed w f short =
+pub learnt_built : (p : PropagatorOf) (base root : ℕ) (seen : List Bool) (lower current : List LitOf) (l : LitOf) (c : List LitOf) → IsDriven p → root ≡ end_of p 0 → IsListed p.trail base seen lower current
+    → Supports (clauses_of p.slots) p.trail root seen → IsFirst p.trail base seen current l → IsBuilt seen lower l c → length c ≤ p.vars → IsLearnt p base c (negate l)
+learnt_built p base root seen lower current l c v e listed w f built short =
     let F = clauses_of p.slots in
-    let c = negate l ∷ lower in
     let G = F ++ negated_units c in
     let all : ContainsAll F G = record { each = λ d k. Contains-append_left F (negated_units c) d k } in
     let r = v.root in
@@ -66,15 +69,15 @@ learnt_first p base root seen lower current l v e listed w f short =
     let false_one : (m : LitOf) → Contains lower m → LitWithin p.vars m = λ m k. let q = v.within (negate m) (of_prefix p.trail base (negate m) (listed.lower_false m k)) in (q.0, q.1) in
     record {
       admitted = w.conflict G all level0 (λ x k. elim (listed.listed x k) [
-        | inl i ↦ back x (Contains-tail (negate l) (negate x) lower i)
-        | inr i ↦ back x (subst (λ z. Contains c (negate z)) (sym (f.only x i k)) (Contains-head (negate l) lower))
+        | inl i ↦ back x (built.marked (negate x) i (subst (λ z. is_marked seen z ≡ true) (sym (negate-negate x)) k))
+        | inr i ↦ back x (subst (λ z. Contains c (negate z)) (sym (f.only x i k)) built.first)
       ]);
-      contains = Contains-head (negate l) lower;
-      others = λ m k n. elim (Contains-cases (negate l) m lower k) [ inl q ↦ absurd (n (sym q)) | inr q ↦ listed.lower_false m q ];
+      contains = built.first;
+      others = λ m k n. elim (built.only m k) [ inl q ↦ absurd (n q) | inr q ↦ listed.lower_false m q ];
       on = subst (Contains p.trail) (sym (negate-negate l)) f.on;
       late = λ k. f.late (subst (Contains (take base p.trail)) (negate-negate l) k);
-      within = All-of c (LitWithin p.vars) (λ m k. elim (Contains-cases (negate l) m lower k) [
-        | inl q ↦ let s = v.within l f.on in subst (LitWithin p.vars) q (s.0, s.1)
+      within = All-of c (LitWithin p.vars) (λ m k. elim (built.only m k) [
+        | inl q ↦ let s = v.within l f.on in subst (LitWithin p.vars) (sym q) (s.0, s.1)
         | inr q ↦ false_one m q
       ]);
       short = short;

@@ -4,3 +4,4 @@ mod Driven
 mod Backjumps
 mod Answering
 mod Solutions
+mod Reductions

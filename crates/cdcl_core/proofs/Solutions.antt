@@ -1,6 +1,6 @@
 -- What was logged, and what answers it gives.
 use Rattle.std.proofs.Common.{◌≡◌, ◌⊎◌, inl, inr, ℕ, ◌+◌, ◌*◌, ◌<◌, ◌≤◌, Bool, List, [], ◌∷◌, ◌++◌, length, refl, sym, ◌∙◌, ap, subst, arith}
-use Rattle.std.specs.Prelude.{Contains, Result, Ok, Err, IfOk, OnOk}
+use Rattle.std.specs.Prelude.{Result, Ok, Err, IfOk}
 use Rattle.std.proofs.lemmas.List.Elements.{All-nil, All-push}
 use Rattle.std.specs.declared.alloc.AllocError.{AllocError}
 use Rattle.cnf_form.specs.Cnf.{LitOf, FormulaOf, Satisfies, IsAdmitted, Deletes, Line, Addition, Deletion, Drup}
@@ -12,11 +12,10 @@ use Rattle.cdcl_core.specs.declared.solver.Solved.{Solved}
 use Rattle.cdcl_core.specs.declared.solver.Solved.TheVariants.{Unsat, LogFailed}
 use Rattle.cdcl_core.specs.declared.solver.Turn.{Turn}
 use Rattle.cdcl_core.specs.declared.solver.Turn.TheVariants.{Answered, Learnt}
-use Rattle.cdcl_core.specs.Solving.{Takes, IsSearch, IsFound, IsRefuted, IsBroken, SolvedFits, TurnFits, StepFits, valued}
-use Rattle.cdcl_core.proofs.Driven.{all_push}
+use Rattle.cdcl_core.specs.Solving.{Takes, IsSearch, IsCounted, IsFound, IsRefuted, IsBroken, SolvedFits, TurnFits, StepFits, valued}
 
 -- a line more is taken
-takes_more : {A : Type 0} (takes : A → Line → A → Type 0) (a b c : A) (ls : List Line) (l : Line) → Takes takes a ls b → takes b l c → Takes takes a (ls ++ l ∷ []) c
+pub takes_more : {A : Type 0} (takes : A → Line → A → Type 0) (a b c : A) (ls : List Line) (l : Line) → Takes takes a ls b → takes b l c → Takes takes a (ls ++ l ∷ []) c
 takes_more takes a b c [] l e h = (c, subst (λ z. takes z l c) e h, refl)
 takes_more takes a b c (m ∷ ls) l w h = (w.0, w.1, takes_more takes w.0 b c ls l w.2 h)
 
@@ -57,19 +56,27 @@ logged_count none = (refl, refl)
 logged_count (added ls G n d c w a new) = let h = logged_count w in let e = additions_push ls c in (e.0 ∙ ap (λ z. z + 1) h.0, e.1 ∙ h.1)
 logged_count (deleted ls G H n d c w a few) = let h = logged_count w in let e = deletions_push ls c in (e.0 ∙ h.0, e.1 ∙ ap (λ z. z + 1) h.1)
 
-pub search_none : {A : Type 0} (takes : A → Line → A → Type 0) (f : FormulaOf) (a : A) → IsSearch takes f a a f.clauses 0
-search_none takes f a = record { lines = []; deletions = 0; taken = refl; logged = none; proper = All-nil (λ l. IsProper f.vars (clause_of l)) }
+pub counted_none : {A : Type 0} (takes : A → Line → A → Type 0) (f : FormulaOf) (a : A) → IsCounted takes f a a f.clauses 0 0
+counted_none takes f a = record {
+  search = record { lines = []; deletions = 0; taken = refl; logged = none; proper = All-nil (λ l. IsProper f.vars (clause_of l)) };
+  deletions = refl;
+}
 
 -- a clause was logged
-pub search_more : {A : Type 0} (takes : A → Line → A → Type 0) (f : FormulaOf) (a b now : A) (G H : List (List LitOf)) (n : ℕ) (c : List LitOf) → IsSearch takes f a b G n → IsAdmitted G c → IsNew G c → IsProper f.vars c → H ≡ G ++ c ∷ []
-    → takes b (Addition c) now → IsSearch takes f a now H (n + 1)
-search_more takes f a b now G H n c s h new fits e t = subst (λ z. IsSearch takes f a now z (n + 1)) (sym e) (record {
-  lines = s.lines ++ Addition c ∷ [];
-  deletions = s.deletions;
-  taken = takes_more takes a b now s.lines (Addition c) s.taken t;
-  logged = added s.lines G n s.deletions c s.logged h new;
-  proper = All-push (λ l. IsProper f.vars (clause_of l)) s.lines (Addition c) s.proper fits;
-})
+counted_more : {A : Type 0} (takes : A → Line → A → Type 0) (f : FormulaOf) (a b now : A) (G H : List (List LitOf)) (n d : ℕ) (c : List LitOf) → IsCounted takes f a b G n d → IsAdmitted G c → IsNew G c → IsProper f.vars c → H ≡ G ++ c ∷ []
+    → takes b (Addition c) now → IsCounted takes f a now H (n + 1) d
+counted_more takes f a b now G H n d c w h new fits e t =
+    let s = w.search in
+    subst (λ z. IsCounted takes f a now z (n + 1) d) (sym e) (record {
+      search = record {
+        lines = s.lines ++ Addition c ∷ [];
+        deletions = s.deletions;
+        taken = takes_more takes a b now s.lines (Addition c) s.taken t;
+        logged = added s.lines G n s.deletions c s.logged h new;
+        proper = All-push (λ l. IsProper f.vars (clause_of l)) s.lines (Addition c) s.proper fits;
+      };
+      deletions = w.deletions;
+    })
 
 -- the answers
 pub found : {A : Type 0} (takes : A → Line → A → Type 0) (f : FormulaOf) (budget n : ℕ) (a b : A) (G : List (List LitOf)) (values : List Bool) → n < budget → IsSearch takes f a b G n → length values ≡ f.vars + 1 → ContainsAll f.clauses G
@@ -100,16 +107,10 @@ end_fits takes fails f budget n a b now G s took failed which h w admits = elim 
 ]
 
 -- what a clause that is learnt comes to
-pub step_keeps : {A : Type 0} (takes : A → Line → A → Type 0) (fails : A → A → Type 0) (old new : PropagatorOf) (b now : A) (r : Result Turn AllocError) → IfOk r (StepFits takes fails old new b now)
-    → OnOk r (ContainsAll (clauses_of old.slots) (clauses_of new.slots))
-step_keeps takes fails old new b now (Err e) w = tt
-step_keeps takes fails old new b now (Ok (Answered s)) w = record { each = λ c k. subst (λ z. Contains z c) (sym w.2) k }
-step_keeps takes fails old new b now (Ok (Learnt k)) w = subst (ContainsAll (clauses_of old.slots)) (sym w.4) (all_push (clauses_of old.slots) w.0)
-
 pub step_fits : {A : Type 0} (takes : A → Line → A → Type 0) (fails : A → A → Type 0) (f : FormulaOf) (old new : PropagatorOf) (F : List (List LitOf)) (b now : A) (r : Result Turn AllocError) → old.vars ≡ f.vars → clauses_of old.slots ≡ F
     → IfOk r (StepFits takes fails old new b now)
-    → IfOk r (λ t. (budget count : ℕ) (before : A) → count < budget → IsSearch takes f before b F count → TurnFits takes fails f budget count before now new t)
+    → IfOk r (λ t. (budget count deleted : ℕ) (before : A) → count < budget → IsCounted takes f before b F count deleted → TurnFits takes fails f budget count deleted before now new t)
 step_fits takes fails f old new F b now (Err e) v is w = tt
-step_fits takes fails f old new F b now (Ok (Answered s)) v is w = λ budget count before h k. subst (SolvedFits takes fails f budget before now) (sym w.0) (broken takes fails f budget count before b now F h k w.1)
-step_fits takes fails f old new F b now (Ok (Learnt o)) v is w = λ budget count before h k.
-    search_more takes f before b now F (clauses_of new.slots) count w.0 k (subst (λ z. IsAdmitted z w.0) is w.1) (subst (λ z. IsNew z w.0) is w.2) (subst (λ z. IsProper z w.0) v w.3) (w.4 ∙ ap (λ z. z ++ w.0 ∷ []) is) w.5
+step_fits takes fails f old new F b now (Ok (Answered s)) v is w = λ budget count deleted before h k. subst (SolvedFits takes fails f budget before now) (sym w.0) (broken takes fails f budget count before b now F h k.search w.1)
+step_fits takes fails f old new F b now (Ok (Learnt o)) v is w = λ budget count deleted before h k.
+    counted_more takes f before b now F (clauses_of new.slots) count deleted w.0 k (subst (λ z. IsAdmitted z w.0) is w.1) (subst (λ z. IsNew z w.0) is w.2) (subst (λ z. IsProper z w.0) v w.3) (w.4 ∙ ap (λ z. z ++ w.0 ∷ []) is) w.5

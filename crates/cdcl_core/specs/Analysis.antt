@@ -29,6 +29,12 @@ IsNoted t root seen m = (is_marked seen (negate m) ≡ true) ⊎ Contains (take 
 pub record Supports (F : List (List LitOf)) (t : List LitOf) (root : ℕ) (seen : List Bool) : Type 0 where
   pub conflict : (G : List (List LitOf)) → ContainsAll F G → IsDerived G (take root t) → ((l : LitOf) → is_marked seen l ≡ true → Closure G l) → Conflict G
 
+-- the negation of the literal, and of the listed literals those whose negations are marked
+pub record IsBuilt (seen : List Bool) (lower : List LitOf) (l : LitOf) (c : List LitOf) : Type 0 where
+  pub first : Contains c (negate l)
+  pub marked : (m : LitOf) → Contains lower m → is_marked seen (negate m) ≡ true → Contains c m
+  pub only : (m : LitOf) → Contains c m → (m ≡ negate l) ⊎ Contains lower m
+
 -- A clause that is to be learnt, of which the first literal alone became false on the last level, which begins at base.
 pub record IsLearnt (p : PropagatorOf) (base : ℕ) (c : List LitOf) (first : LitOf) : Type 0 where
   pub admitted : IsAdmitted (clauses_of p.slots) c

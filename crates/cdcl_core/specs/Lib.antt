@@ -2,3 +2,4 @@ pub mod Logged
 pub mod Levels
 pub mod Analysis
 pub mod Solving
+pub mod Reducing

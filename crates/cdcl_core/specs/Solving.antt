@@ -26,6 +26,11 @@ pub record IsSearch {A : Type 0} (takes : A → Line → A → Type 0) (f : Form
   pub logged : Logged f.clauses lines present count deletions
   pub proper : AreProper f.vars lines
 
+-- lines were logged, so many deletions among them
+pub record IsCounted {A : Type 0} (takes : A → Line → A → Type 0) (f : FormulaOf) (before now : A) (present : List (List LitOf)) (count deleted : ℕ) : Type 0 where
+  pub search : IsSearch takes f before now present count
+  pub deletions : search.deletions ≡ deleted
+
 -- values that satisfy the formula, found before the budget was spent
 pub record IsFound {A : Type 0} (takes : A → Line → A → Type 0) (f : FormulaOf) (budget : ℕ) (before now : A) (values : List Bool) : Type 0 where
   pub present : List (List LitOf)
@@ -67,10 +72,10 @@ SolvedFits takes fails f budget before now Unsat = IsRefuted takes f budget befo
 SolvedFits takes fails f budget before now Budget = IsSpent takes f budget before now
 SolvedFits takes fails f budget before now LogFailed = IsBroken takes fails f budget before now
 
--- what one conflict comes to, after count of them: an answer, or one more clause that was logged and put
-abbrev pub TurnFits : {A : Type 0} → (A → Line → A → Type 0) → (A → A → Type 0) → FormulaOf → ℕ → ℕ → A → A → PropagatorOf → Turn → Type 0
-TurnFits takes fails f budget count before now p (Answered s) = SolvedFits takes fails f budget before now s
-TurnFits takes fails f budget count before now p (Learnt k) = IsSearch takes f before now (clauses_of p.slots) (count + 1)
+-- what one conflict comes to, after count of them and so many deletions: an answer, or one more clause that was logged and put
+abbrev pub TurnFits : {A : Type 0} → (A → Line → A → Type 0) → (A → A → Type 0) → FormulaOf → ℕ → ℕ → ℕ → A → A → PropagatorOf → Turn → Type 0
+TurnFits takes fails f budget count deleted before now p (Answered s) = SolvedFits takes fails f budget before now s
+TurnFits takes fails f budget count deleted before now p (Learnt k) = IsCounted takes f before now (clauses_of p.slots) (count + 1) deleted
 
 -- what is done at a falsified clause: the log fails, or a clause is logged and put
 abbrev pub StepFits : {A : Type 0} → (A → Line → A → Type 0) → (A → A → Type 0) → PropagatorOf → PropagatorOf → A → A → Turn → Type 0

@@ -6,19 +6,21 @@ ghost use Rattle.cnf_form.specs.declared.literal.TheConstants.{MAX_VARS};
 ghost use Rattle.unit_propagation.specs.Marks.{is_marked};
 ghost use Rattle.unit_propagation.specs.Propagator.{clauses_of};
 ghost use Rattle.cdcl_core.specs.Levels.{IsDriven, end_of};
-ghost use Rattle.cdcl_core.specs.Analysis.{IsClear, IsListed, IsNoted, Supports, IsFirst, IsLearnt};
+ghost use Rattle.cdcl_core.specs.Analysis.{IsClear, IsListed, IsNoted, Supports, IsFirst, IsBuilt, IsLearnt};
 
 use cnf_form::{Lit, MAX_VARS};
 use std::alloc::{AllocError, Global};
 use unit_propagation::Propagator;
 
 // The true literals that a conflict rests on, as far as it was gone through: those that are marked. `lower` has the negations
-// of those that were true when the last level began, `current` those that became true on it, resolved ones among them.
+// of those that were true when the last level began, `current` those that became true on it, resolved ones among them. `used` has
+// the numbers of the clauses that it went through.
 #[derive(Drop)]
 pub(crate) struct Analysis {
     seen: Vec<bool>,
     lower: Vec<Lit>,
     current: Vec<Lit>,
+    used: Vec<u32>,
     pub(crate) clause: Vec<Lit>,
     ghost lower_places: { All (λ l. 2 * l.var + 1 < length seen.items) lower.items },
     ghost current_places: { All (λ l. 2 * l.var + 1 < length seen.items) current.items },
@@ -37,6 +39,7 @@ impl Analysis {
             seen,
             lower: Vec::new(alloc),
             current: Vec::new(alloc),
+            used: Vec::new(alloc),
             clause: Vec::new(alloc),
         })
     }
@@ -56,6 +59,19 @@ impl Analysis {
     // The others, negated.
     pub fn lower(&self) -> &[Lit] {
         self.lower.as_slice()
+    }
+
+    // The numbers of the clauses that it went through.
+    pub fn used(&self) -> &[u32] {
+        self.used.as_slice()
+    }
+
+    // Whether a literal is marked.
+    pub fn has(&self, l: Lit) -> bool {
+        match self.seen.get(l.index()) {
+            Some(seen) => *seen,
+            None => false,
+        }
     }
 
     // Marks the negation of a literal, which was true when the last level began.
@@ -200,6 +216,8 @@ impl Analysis {
             return Ok(false);
         };
         let first = *first;
+        self.used.clear();
+        self.used.push(k)?;
         if !self.note(core, first, root, base)? {
             return Ok(false);
         }
@@ -230,6 +248,7 @@ impl Analysis {
         let Some(clause) = core.clause(k) else {
             return Ok(false);
         };
+        self.used.push(k)?;
         self.seen[l.index()] = false;
         self.note_others(core, clause, l, root, base)
     }
@@ -292,16 +311,142 @@ impl Analysis {
         Ok(None)
     }
 
+    // Whether the negation of a literal is marked, or true at level 0.
+    fn is_noted(&self, core: &Propagator, m: Lit, root: usize) -> bool
+        requires below { m.var ≤ core.now.vars }
+        requires sized { length self.now.seen.items ≡ 2 * core.now.vars + 2 }
+        ensures { IsTrue result → IsNoted core.now.trail root self.now.seen.items m }
+    {
+        let l = m.negate();
+        if self.seen[l.index()] {
+            return true;
+        }
+        if !core.is_true(l) {
+            return false;
+        }
+        if core.place(l) < root {
+            return true;
+        }
+        false
+    }
+
+    // Whether this literal is in the clause, and all others are noted.
+    fn has_others(&self, core: &Propagator, clause: &[Lit], but: Lit, root: usize) -> bool
+        requires within { ClauseWithin core.now.vars clause.now }
+        requires sized { length self.now.seen.items ≡ 2 * core.now.vars + 2 }
+        ensures found { IsTrue result → Contains clause.now but }
+        ensures noted { IsTrue result → (m : LitOf) → Contains clause.now m → m ≢ but
+            → IsNoted core.now.trail root self.now.seen.items m }
+    {
+        let mut found = false;
+        for m in clause {
+            let m = *m;
+            if m == but {
+                found = true;
+            } else if !self.is_noted(core, m, root) {
+                return false;
+            }
+        }
+        found
+    }
+
+    // Takes the mark of a literal back. Whether it follows from what is marked still.
+    fn drop_implied(&mut self, core: &Propagator, l: Lit, root: usize) -> bool
+        requires below { l.var ≤ core.now.vars }
+        requires sized { length self.old.seen.items ≡ 2 * core.now.vars + 2 }
+        ensures sized { length self.new.seen.items ≡ 2 * core.now.vars + 2 }
+        ensures listed { (base : ℕ) → IsListed core.now.trail base self.old.seen.items self.old.lower.items self.old.current.items
+            → IsListed core.now.trail base self.new.seen.items self.new.lower.items self.new.current.items }
+        ensures supports { IsTrue result
+            → Supports (clauses_of core.now.slots) core.now.trail root self.old.seen.items
+            → Supports (clauses_of core.now.slots) core.now.trail root self.new.seen.items }
+    {
+        let k = core.reason(l);
+        if k as usize >= core.len() {
+            return false;
+        }
+        let Some(clause) = core.clause(k) else {
+            return false;
+        };
+        self.seen[l.index()] = false;
+        self.has_others(core, clause, l, root)
+    }
+
+    // Marks these literals too.
+    fn mark_all(
+        &mut self,
+        core: &Propagator,
+        implied: &[Lit],
+        root: usize,
+        base: usize,
+    ) -> Result<(), AllocError>
+        requires sized { length self.old.seen.items ≡ 2 * core.now.vars + 2 }
+        ensures sized { length self.new.seen.items ≡ 2 * core.now.vars + 2 }
+        ensures listed { IsListed core.now.trail base self.old.seen.items self.old.lower.items self.old.current.items
+            → IsListed core.now.trail base self.new.seen.items self.new.lower.items self.new.current.items }
+        ensures keeps { (l : LitOf) → is_marked self.old.seen.items l ≡ true → is_marked self.new.seen.items l ≡ true }
+    {
+        for l in implied {
+            let l = *l;
+            if l.var() <= core.vars() {
+                self.note(core, l.negate(), root, base)?;
+            }
+        }
+        Ok(())
+    }
+
+    // Takes the marks of these literals back, from the last on, each of which is to follow from what is marked before it. Whether
+    // they do.
+    fn drop_all(&mut self, core: &Propagator, implied: &[Lit], root: usize) -> bool
+        requires sized { length self.old.seen.items ≡ 2 * core.now.vars + 2 }
+        ensures sized { length self.new.seen.items ≡ 2 * core.now.vars + 2 }
+        ensures listed { (base : ℕ) → IsListed core.now.trail base self.old.seen.items self.old.lower.items self.old.current.items
+            → IsListed core.now.trail base self.new.seen.items self.new.lower.items self.new.current.items }
+        ensures supports { IsTrue result
+            → Supports (clauses_of core.now.slots) core.now.trail root self.old.seen.items
+            → Supports (clauses_of core.now.slots) core.now.trail root self.new.seen.items }
+    {
+        for taken in 0..implied.len() {
+            let l = implied[implied.len() - 1 - taken];
+            if l.var() > core.vars() {
+                return false;
+            }
+            if !self.drop_implied(core, l, root) {
+                return false;
+            }
+        }
+        true
+    }
+
+    // Pushes a literal whose negation is marked.
+    fn push_marked(&mut self, m: Lit) -> Result<(), AllocError>
+        requires { 2 * m.var + 1 < length self.old.seen.items }
+        ensures seen { self.new.seen ≡ self.old.seen }
+        ensures lower { self.new.lower ≡ self.old.lower }
+        ensures current { self.new.current ≡ self.old.current }
+        ensures keeps { (x : LitOf) → Contains self.old.clause.items x → Contains self.new.clause.items x }
+        ensures only { (x : LitOf) → Contains self.new.clause.items x → Contains self.old.clause.items x ⊎ (m ≡ x) }
+        ensures marked { OnOk result (is_marked self.old.seen.items (negate m) ≡ true → Contains self.new.clause.items m) }
+    {
+        if self.seen[m.negate().index()] {
+            self.clause.push(m)?;
+        }
+        Ok(())
+    }
+
     // The clause of the negations of this literal and of what is marked before the last level.
     fn build(&mut self, l: Lit) -> Result<(), AllocError>
         ensures seen { self.new.seen ≡ self.old.seen }
         ensures lower { self.new.lower ≡ self.old.lower }
         ensures current { self.new.current ≡ self.old.current }
-        ensures clause { OnOk result (self.new.clause.items ≡ negate l ∷ self.old.lower.items) }
+        ensures clause { OnOk result (IsBuilt self.old.seen.items self.old.lower.items l self.new.clause.items) }
     {
         self.clause.clear();
         self.clause.push(l.negate())?;
-        self.clause.extend_from_slice(&self.lower)?;
+        for k in 0..self.lower.len() {
+            let m = self.lower[k];
+            self.push_marked(m)?;
+        }
         Ok(())
     }
 
@@ -326,8 +471,8 @@ impl Analysis {
         self.lower.clear();
     }
 
-    // Finds the clause that is learnt from a falsified one, as far as the reasons lead to it: its first literal.
-    pub fn analyse(
+    // Goes through what a falsified clause rests on until one literal of the last level alone is left: that literal.
+    pub fn find(
         &mut self,
         core: &Propagator,
         k: u32,
@@ -337,18 +482,44 @@ impl Analysis {
         requires clause { k < length core.now.slots }
         requires sized { length self.old.seen.items ≡ 2 * core.now.vars + 2 }
         requires listed { IsListed core.now.trail base self.old.seen.items self.old.lower.items self.old.current.items }
-        requires driven { IsDriven core.now }
-        requires root { root ≡ end_of core.now 0 }
         ensures sized { length self.new.seen.items ≡ 2 * core.now.vars + 2 }
         ensures listed { IsListed core.now.trail base self.new.seen.items self.new.lower.items self.new.current.items }
-        ensures learnt { IfOk result (λ o. IfSome o (λ first. IsLearnt core.now base self.new.clause.items first)) }
+        ensures supports { IfOk result (λ o. IfSome o (λ l. Supports (clauses_of core.now.slots) core.now.trail root self.new.seen.items)) }
+        ensures on { IfOk result (λ o. IfSome o (λ l. Contains core.now.trail l)) }
     {
         if !self.begin(core, k, root, base)? {
             return Ok(None);
         }
-        let Some(l) = self.walk(core, root, base)? else {
+        self.walk(core, root, base)
+    }
+
+    // The clause that is learnt, without these literals, which follow from its others: its first literal.
+    pub fn finish(
+        &mut self,
+        core: &Propagator,
+        l: Lit,
+        implied: &[Lit],
+        root: usize,
+        base: usize,
+    ) -> Result<Option<Lit>, AllocError>
+        requires sized { length self.old.seen.items ≡ 2 * core.now.vars + 2 }
+        requires listed { IsListed core.now.trail base self.old.seen.items self.old.lower.items self.old.current.items }
+        requires driven { IsDriven core.now }
+        requires root { root ≡ end_of core.now 0 }
+        requires supports { Supports (clauses_of core.now.slots) core.now.trail root self.old.seen.items }
+        requires on { Contains core.now.trail l }
+        requires below { l.var ≤ core.now.vars }
+        ensures sized { length self.new.seen.items ≡ 2 * core.now.vars + 2 }
+        ensures listed { IsListed core.now.trail base self.new.seen.items self.new.lower.items self.new.current.items }
+        ensures learnt { IfOk result (λ o. IfSome o (λ first. IsLearnt core.now base self.new.clause.items first)) }
+    {
+        self.mark_all(core, implied, root, base)?;
+        if !self.drop_all(core, implied, root) {
             return Ok(None);
-        };
+        }
+        if !self.is_first(core, l, base) {
+            return Ok(None);
+        }
         self.build(l)?;
         if self.clause.len() > core.vars() as usize {
             return Ok(None);

@@ -99,6 +99,7 @@ pub(crate) fn restart(core: &mut Propagator, order: &mut Order) -> Result<(), Al
     requires conflict { core.old.conflict ≡ false }
     ensures vars { core.new.vars ≡ core.old.vars }
     ensures slots { core.new.slots ≡ core.old.slots }
+    ensures level { OnOk result (core.new.limits ≡ []) }
     ensures driven { IsDriven core.new }
     ensures conflict { core.new.conflict ≡ false }
 {

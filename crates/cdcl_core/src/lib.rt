@@ -5,10 +5,14 @@ mod analysis;
 mod choose;
 mod laws;
 mod learn;
+mod learnts;
+mod load;
 mod log;
 mod order;
 mod pace;
+mod reduce;
 mod search;
+mod shortening;
 mod solver;
 
 pub use crate::laws::logged_lines_are_a_proof;

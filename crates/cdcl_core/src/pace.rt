@@ -55,9 +55,10 @@ impl Pace {
         })
     }
 
-    fn glue(&mut self, core: &Propagator, clause: &[Lit]) -> u64 {
+    // On how many levels the literals of a clause became false.
+    pub fn glue(&mut self, core: &Propagator, clause: &[Lit]) -> u32 {
         self.clock = self.clock.saturating_add(1);
-        let mut glue: u64 = 0;
+        let mut glue: u32 = 0;
         for l in clause {
             let level = level_of(core, l.negate());
             if level < self.stamps.len() && self.stamps[level] != self.clock {
@@ -68,12 +69,20 @@ impl Pace {
         glue
     }
 
-    // Counts a conflict, and the clause that is learnt from it.
-    pub fn count(&mut self, core: &Propagator, clause: &[Lit]) {
-        let glue = self.glue(core, clause).saturating_mul(1 << 32);
+    // Whether a true literal became so on a level on which a literal of the clause became false whose glue was taken last.
+    pub fn has_level(&self, core: &Propagator, l: Lit) -> bool {
+        let level = level_of(core, l);
+        level < self.stamps.len() && self.stamps[level] == self.clock
+    }
+
+    // Counts a conflict, and the clause that is learnt from it. Its glue.
+    pub fn count(&mut self, core: &Propagator, clause: &[Lit]) -> u32 {
+        let glue = self.glue(core, clause);
+        let scaled = glue as u64 * (1 << 32);
         self.since = self.since.saturating_add(1);
-        self.fast = (self.fast - self.fast / 32).saturating_add(glue / 32);
-        self.slow = (self.slow - self.slow / 8192).saturating_add(glue / 8192);
+        self.fast = (self.fast - self.fast / 32).saturating_add(scaled / 32);
+        self.slow = (self.slow - self.slow / 8192).saturating_add(scaled / 8192);
+        glue
     }
 
     // Whether the search is to begin anew.

@@ -1,23 +1,28 @@
 // The solver.
 
-ghost use Rattle.std.specs.Prelude.{◌≡◌, ◌⊎◌, ◌+◌, ◌<◌, ◌≤◌, ◌++◌, ◌∷◌, [], ℕ, true, false, List, length, Contains, IfOk, OnOk, Ok, Some, None};
+ghost use Rattle.std.specs.Prelude.{◌≡◌, ◌⊎◌, ◌+◌, ◌*◌, ◌<◌, ◌≤◌, ◌++◌, ◌∷◌, [], ℕ, true, false, List, length, Contains, IfOk, IfSome, IfNone, OnOk, Ok, Some, None};
 ghost use Rattle.cnf_form.specs.Cnf.{LitOf, Satisfies, lit_in, Addition, ClauseWithin};
 ghost use Rattle.cnf_form.specs.declared.literal.TheConstants.{MAX_VARS};
 ghost use Rattle.unit_propagation.specs.Propagation.{ContainsAll};
 ghost use Rattle.unit_propagation.specs.Propagator.{clauses_of};
 ghost use Rattle.sby_edge.specs.Cause.{Rose};
-ghost use Rattle.cdcl_core.specs.Levels.{IsDriven, IsPending, FoundFits, base_of};
+ghost use Rattle.cdcl_core.specs.Levels.{IsDriven, IsPending, FoundFits, base_of, end_of};
 ghost use Rattle.cdcl_core.specs.Logged.{IsNew, Logged};
 ghost use Rattle.cdcl_core.specs.declared.search.Found.TheVariants.{Assigned};
-ghost use Rattle.cdcl_core.specs.Analysis.{IsIdle, IsLearnt};
-ghost use Rattle.cdcl_core.specs.Solving.{SolvedFits, TurnFits, StepFits, GoesOn, IsSearch, valued};
+ghost use Rattle.cdcl_core.specs.Analysis.{IsIdle, IsListed, Supports, IsLearnt};
+ghost use Rattle.cdcl_core.specs.Reducing.{IsBegun, Reduces, Breaks};
+ghost use Rattle.cdcl_core.specs.Solving.{SolvedFits, TurnFits, StepFits, GoesOn, IsCounted, valued};
 
 use crate::analysis::Analysis;
 use crate::learn::{assert_learnt, negate_trail};
+use crate::learnts::Learnts;
+use crate::load::load;
 use crate::log::Log;
 use crate::order::Order;
 use crate::pace::Pace;
+use crate::reduce::reduce;
 use crate::search::{Found, find};
+use crate::shortening::Shortening;
 use cnf_form::{Formula, Lit, MAX_VARS};
 use std::alloc::{AllocError, Global};
 use unit_propagation::Propagator;
@@ -45,73 +50,28 @@ enum Turn {
 #[derive(Drop)]
 struct Tools {
     analysis: Analysis,
+    shortening: Shortening,
     order: Order,
     pace: Pace,
+    learnts: Learnts,
 }
 
 impl Tools {
-    fn new(alloc: Global, vars: u32) -> Result<Self, AllocError>
-        requires { vars ≤ MAX_VARS }
-        ensures { IfOk result (λ t. IsIdle vars t.analysis.seen.items t.analysis.lower.items t.analysis.current.items) }
+    fn new(alloc: Global, formula: &Formula) -> Result<Self, AllocError>
+        ensures { IfOk result (λ t. IsIdle formula.now.vars t.analysis.seen.items t.analysis.lower.items t.analysis.current.items) }
     {
+        let vars = formula.vars();
         let analysis = Analysis::new(alloc, vars)?;
         let order = Order::new(alloc, vars)?;
         let pace = Pace::new(alloc, vars)?;
         Ok(Tools {
             analysis,
+            shortening: Shortening::new(alloc, vars)?,
             order,
             pace,
+            learnts: Learnts::new(alloc, formula),
         })
     }
-}
-
-// Puts a clause of the formula at level 0.
-fn put_next(core: &mut Propagator, clause: &[Lit]) -> Result<(), AllocError>
-    requires level { core.old.limits ≡ [] }
-    requires driven { IsDriven core.old }
-    requires pending { IsPending core.old None }
-    requires within { ClauseWithin core.old.vars clause.now }
-    ensures vars { OnOk result (core.new.vars ≡ core.old.vars) }
-    ensures clauses { OnOk result (clauses_of core.new.slots ≡ clauses_of core.old.slots ++ clause.now ∷ []) }
-    ensures level { OnOk result (core.new.limits ≡ []) }
-    ensures driven { OnOk result (IsDriven core.new) }
-    ensures pending { OnOk result (IsPending core.new None) }
-{
-    core.levels_are_complete();
-    core.put(clause)?;
-    core.clauses_are_within();
-    Ok(())
-}
-
-// Puts the clauses of the formula.
-fn put_all(core: &mut Propagator, formula: &Formula) -> Result<(), AllocError>
-    requires vars { core.old.vars ≡ formula.now.vars }
-    requires slots { core.old.slots ≡ [] }
-    requires level { core.old.limits ≡ [] }
-    requires driven { IsDriven core.old }
-    requires pending { IsPending core.old None }
-    ensures vars { OnOk result (core.new.vars ≡ formula.now.vars) }
-    ensures clauses { OnOk result (clauses_of core.new.slots ≡ formula.now.clauses) }
-    ensures driven { OnOk result (IsDriven core.new) }
-    ensures pending { OnOk result (IsPending core.new None) }
-{
-    let clauses = formula.clauses();
-    for place in 0..clauses.len() {
-        put_next(core, clauses.get(place))?;
-    }
-    Ok(())
-}
-
-// The clauses of the formula, with what follows from them.
-fn load(alloc: Global, formula: &Formula) -> Result<Propagator, AllocError>
-    ensures vars { IfOk result (λ p. p.vars ≡ formula.now.vars) }
-    ensures clauses { IfOk result (λ p. clauses_of p.slots ≡ formula.now.clauses) }
-    ensures driven { IfOk result (λ p. IsDriven p) }
-    ensures pending { IfOk result (λ p. IsPending p None) }
-{
-    let mut core = Propagator::new(alloc, formula.vars())?;
-    put_all(&mut core, formula)?;
-    Ok(core)
 }
 
 // The values of all variables, that of each at its number.
@@ -152,11 +112,40 @@ fn bump_all(analysis: &Analysis, order: &mut Order) {
     order.age();
 }
 
+// The clause that is learnt where the conflict rests on this literal alone of the last level, if so. Its first literal.
+fn shorten(
+    core: &Propagator,
+    analysis: &mut Analysis,
+    shortening: &mut Shortening,
+    pace: &mut Pace,
+    found: Option<Lit>,
+    root: usize,
+    base: usize,
+) -> Result<Option<Lit>, AllocError>
+    requires sized { length analysis.old.seen.items ≡ 2 * core.now.vars + 2 }
+    requires listed { IsListed core.now.trail base analysis.old.seen.items analysis.old.lower.items analysis.old.current.items }
+    requires driven { IsDriven core.now }
+    requires root { root ≡ end_of core.now 0 }
+    requires supports { IfSome found (λ l. Supports (clauses_of core.now.slots) core.now.trail root analysis.old.seen.items) }
+    requires on { IfSome found (λ l. Contains core.now.trail l) }
+    ensures sized { length analysis.new.seen.items ≡ 2 * core.now.vars + 2 }
+    ensures listed { IsListed core.now.trail base analysis.new.seen.items analysis.new.lower.items analysis.new.current.items }
+    ensures learnt { IfOk result (λ o. IfSome o (λ first. IsLearnt core.now base analysis.new.clause.items first)) }
+{
+    let Some(l) = found else {
+        return Ok(None);
+    };
+    shortening.run(core, pace, analysis, root)?;
+    analysis.finish(core, l, shortening.implied(), root, base)
+}
+
 // The clause that is learnt from a falsified one. Its first literal.
 fn first_of(
     core: &Propagator,
     analysis: &mut Analysis,
+    shortening: &mut Shortening,
     order: &mut Order,
+    pace: &mut Pace,
     k: u32,
 ) -> Result<Lit, AllocError>
     requires idle { IsIdle core.now.vars analysis.old.seen.items analysis.old.lower.items analysis.old.current.items }
@@ -168,10 +157,11 @@ fn first_of(
 {
     let base = core.limit(core.levels() - 1);
     let root = core.limit(0);
-    let found = analysis.analyse(core, k, root, base)?;
+    let found = analysis.find(core, k, root, base)?;
     bump_all(analysis, order);
+    let learnt = shorten(core, analysis, shortening, pace, found, root, base)?;
     analysis.reset();
-    match found {
+    match learnt {
         Some(first) => Ok(first),
         None => negate_trail(core, k, base, &mut analysis.clause),
     }
@@ -181,7 +171,9 @@ fn first_of(
 fn learn_from(
     core: &Propagator,
     analysis: &mut Analysis,
+    shortening: &mut Shortening,
     order: &mut Order,
+    pace: &mut Pace,
     k: u32,
 ) -> Result<Lit, AllocError>
     requires idle { IsIdle core.now.vars analysis.old.seen.items analysis.old.lower.items analysis.old.current.items }
@@ -192,7 +184,7 @@ fn learn_from(
     ensures learnt { IfOk result (λ first. IsLearnt core.now (base_of core.now) analysis.new.clause.items first) }
     ensures new { OnOk result (IsNew (clauses_of core.now.slots) analysis.new.clause.items) }
 {
-    let first = first_of(core, analysis, order, k)?;
+    let first = first_of(core, analysis, shortening, order, pace, k)?;
     core.levels_are_complete();
     Ok(first)
 }
@@ -223,6 +215,7 @@ fn learn_one<L: Log>(
     requires levels { 0 < length core.old.limits }
     requires conflict { IsPending core.old (Some k) }
     ensures vars { core.new.vars ≡ core.old.vars }
+    ensures begun { OnOk result ((F : List (List LitOf)) → IsBegun F core.old.slots → IsBegun F core.new.slots) }
     ensures idle { OnOk result (IsIdle core.new.vars tools.new.analysis.seen.items tools.new.analysis.lower.items tools.new.analysis.current.items) }
     ensures driven { OnOk result (IsDriven core.new) }
     ensures goes_on { IfOk result (GoesOn core.new) }
@@ -230,13 +223,23 @@ fn learn_one<L: Log>(
     ensures later { L.faults log.old ≤ L.faults log.new }
     ensures cause { result ≡ Ok (Turn.Answered Solved.LogFailed) → Rose (L.faults log.old) (L.faults log.new) }
 {
-    let first = learn_from(core, &mut tools.analysis, &mut tools.order, k)?;
+    let first = learn_from(
+        core,
+        &mut tools.analysis,
+        &mut tools.shortening,
+        &mut tools.order,
+        &mut tools.pace,
+        k,
+    )?;
+    let used = tools.analysis.used();
+    tools.learnts.use_all(core, &mut tools.pace, used);
     let clause = tools.analysis.clause();
-    tools.pace.count(core, clause);
+    let glue = tools.pace.count(core, clause);
     if log.clause(clause).is_err() {
         return Ok(Turn::Answered(Solved::LogFailed));
     }
     let falsified = assert_learnt(core, &mut tools.order, clause, first)?;
+    tools.learnts.push(glue, clause.len())?;
     Ok(Turn::Learnt(falsified))
 }
 
@@ -255,13 +258,13 @@ fn next_turn<L: Log>(
     requires driven { IsDriven core.old }
     requires pending { IsPending core.old pending }
     ensures vars { core.new.vars ≡ core.old.vars }
-    ensures keeps { OnOk result (ContainsAll (clauses_of core.old.slots) (clauses_of core.new.slots)) }
+    ensures begun { OnOk result ((F : List (List LitOf)) → IsBegun F core.old.slots → IsBegun F core.new.slots) }
     ensures idle { OnOk result (IsIdle core.new.vars tools.new.analysis.seen.items tools.new.analysis.lower.items tools.new.analysis.current.items) }
     ensures driven { OnOk result (IsDriven core.new) }
     ensures goes_on { IfOk result (GoesOn core.new) }
-    ensures fits { IfOk result (λ t. (budget count : ℕ) (before : L) → count < budget
-        → IsSearch L.takes formula.now before log.old (clauses_of core.old.slots) count
-        → TurnFits L.takes L.fails formula.now budget count before log.new core.new t) }
+    ensures fits { IfOk result (λ t. (budget count deleted : ℕ) (before : L) → count < budget
+        → IsCounted L.takes formula.now before log.old (clauses_of core.old.slots) count deleted
+        → TurnFits L.takes L.fails formula.now budget count deleted before log.new core.new t) }
     ensures later { L.faults log.old ≤ L.faults log.new }
     ensures cause { result ≡ Ok (Turn.Answered Solved.LogFailed) → Rose (L.faults log.old) (L.faults log.new) }
 {
@@ -276,6 +279,46 @@ fn next_turn<L: Log>(
     }
 }
 
+// Deletes learnt clauses where it is time to and none is falsified. The number of deletions, unless the log failed.
+fn reduce_if_due<L: Log>(
+    alloc: Global,
+    formula: &Formula,
+    core: &mut Propagator,
+    tools: &mut Tools,
+    log: &mut L,
+    pending: Option<u32>,
+    count: u64,
+    deleted: u64,
+) -> Result<Option<u64>, AllocError>
+    requires vars { core.old.vars ≡ formula.now.vars }
+    requires begun { IsBegun formula.now.clauses core.old.slots }
+    requires driven { IsDriven core.old }
+    requires pending { IsPending core.old pending }
+    ensures vars { core.new.vars ≡ core.old.vars }
+    ensures analysis { tools.new.analysis ≡ tools.old.analysis }
+    ensures begun { IsBegun formula.now.clauses core.new.slots }
+    ensures driven { IsDriven core.new }
+    ensures pending { IsPending core.new pending }
+    ensures reduces { IfOk result (λ o. IfSome o (λ d. Reduces L.takes formula.now (clauses_of core.old.slots) (clauses_of core.new.slots) log.old log.new count deleted d)) }
+    ensures breaks { IfOk result (λ o. IfNone o (Breaks L.takes L.fails formula.now (clauses_of core.old.slots) log.old log.new count deleted)) }
+    ensures later { L.faults log.old ≤ L.faults log.new }
+    ensures cause { result ≡ Ok None → Rose (L.faults log.old) (L.faults log.new) }
+{
+    if pending.is_some() || core.conflict() || !tools.learnts.is_due(count) {
+        return Ok(Some(deleted));
+    }
+    reduce(
+        alloc,
+        formula,
+        core,
+        &mut tools.order,
+        &mut tools.learnts,
+        log,
+        count,
+        deleted,
+    )
+}
+
 // Goes on until there is an answer.
 fn search<L: Log>(
     alloc: Global,
@@ -287,6 +330,7 @@ fn search<L: Log>(
 ) -> Result<Solved, AllocError>
     requires vars { core.old.vars ≡ formula.now.vars }
     requires clauses { clauses_of core.old.slots ≡ formula.now.clauses }
+    requires begun { IsBegun formula.now.clauses core.old.slots }
     requires idle { IsIdle core.old.vars tools.old.analysis.seen.items tools.old.analysis.lower.items tools.old.analysis.current.items }
     requires driven { IsDriven core.old }
     requires pending { IsPending core.old None }
@@ -294,7 +338,13 @@ fn search<L: Log>(
     ensures cause { result ≡ Ok Solved.LogFailed → Rose (L.faults log.old) (L.faults log.new) }
 {
     let mut pending = None;
-    for _ in 0..budget {
+    let mut deleted = 0;
+    for count in 0..budget {
+        let Some(more) = reduce_if_due(alloc, formula, core, tools, log, pending, count, deleted)?
+        else {
+            return Ok(Solved::LogFailed);
+        };
+        deleted = more;
         match next_turn(alloc, formula, core, tools, log, pending)? {
             Turn::Answered(solved) => return Ok(solved),
             Turn::Learnt(falsified) => pending = falsified,
@@ -317,6 +367,6 @@ pub fn solve<L: Log>(
     ensures cause { result ≡ Ok Solved.LogFailed → Rose (L.faults log.old) (L.faults log.new) }
 {
     let mut core = load(alloc, formula)?;
-    let mut tools = Tools::new(alloc, formula.vars())?;
+    let mut tools = Tools::new(alloc, formula)?;
     search(alloc, formula, budget, &mut core, &mut tools, log)
 }

@@ -1,13 +1,12 @@
-use Rattle.std.proofs.Common.{◌≡◌, [], take}
-use Rattle.std.specs.Prelude.{None}
-use Rattle.unit_propagation.specs.Propagator.{clauses_of}
+use Rattle.std.proofs.Common.{◌≡◌, [], take, map}
+use Rattle.std.specs.Prelude.{None, Some}
 use Rattle.cdcl_core.specs.Levels.{IsDriven, IsPending}
-use Rattle.cdcl_core.proofs.solver.put_all.Given as goal
+use Rattle.cdcl_core.proofs.load.put_all.Given as goal
 
 abbrev pub invariant-loop-place : goal.invariant-loop-place
 invariant-loop-place l = record {
   vars : l.core.vars ≡ l.formula.vars;
-  clauses : clauses_of l.core.slots ≡ take l.place l.clauses;
+  slots : l.core.slots ≡ map Some (take l.place l.clauses);
   none : l.core.limits ≡ [];
   driven : IsDriven l.core;
   pending : IsPending l.core None;

@@ -1,7 +1,9 @@
-use Rattle.std.proofs.Common.{◌≡◌, ◌+◌, ◌∷◌, [], ◌++◌, take, ◌∙◌, ap, sym, arith}
+use Rattle.std.proofs.Common.{◌≡◌, ◌+◌, ◌∷◌, [], ◌++◌, take, map, ◌∙◌, ap, sym, arith}
+use Rattle.std.specs.Prelude.{Some}
 use Rattle.std.proofs.lemmas.Option.{get_or_from_slice_get}
 use Rattle.cnf_form.proofs.Members.{take_one_more}
-use Rattle.cdcl_core.proofs.solver.put_all.Goals as goal
+use Rattle.cdcl_core.proofs.Reductions.{map_push}
+use Rattle.cdcl_core.proofs.load.put_all.Goals as goal
 
 pub loop-place-preserved : goal.loop-place-preserved
 loop-place-preserved c =
@@ -14,7 +16,7 @@ loop-place-preserved c =
     let one : take (n + 1) F ≡ take n F ++ cl ∷ [] = take_one_more F n cl (omega arith) (sym (get_or_from_slice_get F n cl cl g.clause)) in
     record {
       vars = e.vars ∙ i.vars;
-      clauses = e.clauses ∙ ap (λ z. z ++ cl ∷ []) i.clauses ∙ sym one;
+      slots = e.slots ∙ ap (λ z. z ++ Some cl ∷ []) i.slots ∙ sym (ap (map Some) one ∙ map_push (take n F) cl);
       none = e.level;
       driven = e.driven;
       pending = e.pending;

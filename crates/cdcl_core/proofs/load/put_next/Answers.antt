@@ -1,16 +1,10 @@
-use Rattle.std.proofs.Common.{List, ◌∙◌, ap, subst, inl, inr}
+use Rattle.std.proofs.Common.{List, subst, inl, inr}
 use Rattle.std.specs.Prelude.{Contains, None}
 use Rattle.cnf_form.specs.Cnf.{LitOf, ClauseWithin}
 use Rattle.unit_propagation.specs.Propagator.{clauses_of, IsPut}
 use Rattle.cdcl_core.specs.Levels.{IsPending}
-use Rattle.cdcl_core.proofs.Driven.{clauses_push, driven_put, driven_after, pending_put, pending_after}
-use Rattle.cdcl_core.proofs.solver.put_next.Goals as goal
-
-pub returns-clause-clauses : goal.returns-clause-clauses
-returns-clause-clauses c =
-    let e = c.in_ok-put.ensures in
-    let put : IsPut c.args.core.now c.args.clause.now c.put.new.self = e.ok in
-    ap clauses_of put.slots ∙ clauses_push c.args.core.now.slots c.args.clause.now
+use Rattle.cdcl_core.proofs.Driven.{driven_put, driven_after, pending_put, pending_after}
+use Rattle.cdcl_core.proofs.load.put_next.Goals as goal
 
 pub returns-clause-driven : goal.returns-clause-driven
 returns-clause-driven c =

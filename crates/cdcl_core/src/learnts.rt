@@ -1,0 +1,165 @@
+// Which learnt clauses are worth keeping: those of which few levels made the literals false, and those that conflicts rested on
+// lately. Nothing is promised of it.
+
+use crate::pace::Pace;
+use crate::reduce::is_satisfied;
+use cnf_form::Formula;
+use std::alloc::{AllocError, Global};
+use unit_propagation::Propagator;
+
+// So many conflicts come before the first reduction.
+const FIRST_INTERVAL: u64 = 2000;
+
+// So many conflicts more come before each later one.
+const INTERVAL_STEP: u64 = 300;
+
+// A clause of this glue or less is kept.
+const GOOD_GLUE: u32 = 3;
+
+// A clause that may be deleted. The greatest is the worst.
+#[derive(Clone, Copy, PartialEq, Eq, PartialOrd, Ord)]
+struct Candidate {
+    glue: u32,
+    length: usize,
+    number: u32,
+}
+
+// What is known of the learnt clauses: the number of the first, and the glue of each from there on, and whether a conflict rested
+// on it since the last reduction. The sums are of literals: of the formula, and of the clauses learnt since the last collection.
+#[derive(Drop)]
+pub(crate) struct Learnts {
+    first: usize,
+    glues: Vec<u32>,
+    used: Vec<bool>,
+    given: usize,
+    learnt: usize,
+    due: u64,
+    interval: u64,
+}
+
+impl Learnts {
+    pub fn new(alloc: Global, formula: &Formula) -> Self {
+        let clauses = formula.clauses();
+        let mut given: usize = 0;
+        for place in 0..clauses.len() {
+            given = given.saturating_add(clauses.get(place).len());
+        }
+        Learnts {
+            first: clauses.len(),
+            glues: Vec::new(alloc),
+            used: Vec::new(alloc),
+            given,
+            learnt: 0,
+            due: FIRST_INTERVAL,
+            interval: FIRST_INTERVAL,
+        }
+    }
+
+    // One more clause, of so many literals.
+    pub fn push(&mut self, glue: u32, length: usize) -> Result<(), AllocError> {
+        self.glues.push(glue)?;
+        self.used.push(true)?;
+        self.learnt = self.learnt.saturating_add(length);
+        Ok(())
+    }
+
+    // Conflicts rested on these clauses: the glue of one may have fallen.
+    pub fn use_all(&mut self, core: &Propagator, pace: &mut Pace, numbers: &[u32]) {
+        for number in numbers {
+            let place = (*number as usize).wrapping_sub(self.first);
+            if place >= self.used.len() || place >= self.glues.len() || self.used[place] {
+                continue;
+            }
+            self.used[place] = true;
+            if self.glues[place] <= GOOD_GLUE || *number as usize >= core.len() {
+                continue;
+            }
+            if let Some(clause) = core.clause(*number) {
+                self.glues[place] = self.glues[place].min(pace.glue(core, clause));
+            }
+        }
+    }
+
+    // Whether clauses are to be deleted after so many conflicts.
+    pub fn is_due(&mut self, conflicts: u64) -> bool {
+        if conflicts < self.due {
+            return false;
+        }
+        self.interval = self.interval.saturating_add(INTERVAL_STEP);
+        self.due = conflicts.saturating_add(self.interval);
+        true
+    }
+
+    fn candidate(&self, core: &Propagator, place: usize) -> Option<Candidate> {
+        let number = self.first.saturating_add(place);
+        if number >= core.len() || place >= self.glues.len() || place >= self.used.len() {
+            return None;
+        }
+        let glue = self.glues[place];
+        if self.used[place] || glue <= GOOD_GLUE {
+            return None;
+        }
+        let number = number as u32;
+        let clause = core.clause(number)?;
+        if clause.len() <= 2 || is_satisfied(core, clause) {
+            return None;
+        }
+        Some(Candidate {
+            glue,
+            length: clause.len(),
+            number,
+        })
+    }
+
+    // The worse half of the clauses that may be deleted, the worst first.
+    pub fn worst(&mut self, alloc: Global, core: &Propagator) -> Result<Vec<u32>, AllocError> {
+        let mut candidates = Vec::new(alloc);
+        for place in 0..self.used.len() {
+            if let Some(candidate) = self.candidate(core, place) {
+                candidates.push(candidate)?;
+            }
+            self.used[place] = false;
+        }
+        candidates.sort_unstable();
+        let mut worst = Vec::new(alloc);
+        for _ in 0..candidates.len() / 2 {
+            if let Some(candidate) = candidates.pop() {
+                worst.push(candidate.number)?;
+            }
+        }
+        Ok(worst)
+    }
+
+    // Whether a third of all literals or more are those of deleted clauses.
+    pub fn is_sparse(&self, core: &Propagator) -> bool {
+        let mut left: usize = 0;
+        for number in self.first..core.len() {
+            if let Some(clause) = core.clause(number as u32) {
+                left = left.saturating_add(clause.len());
+            }
+        }
+        self.learnt.saturating_sub(left) > self.given.saturating_add(left) / 2
+    }
+
+    // The clauses that are left get new numbers, in the same order.
+    pub fn renumber(&mut self, alloc: Global, core: &Propagator) -> Result<(), AllocError> {
+        let mut glues = Vec::new(alloc);
+        let mut used = Vec::new(alloc);
+        self.learnt = 0;
+        let first = self.first;
+        for number in first..core.len() {
+            let place = number - first;
+            if place >= self.glues.len() || place >= self.used.len() {
+                break;
+            }
+            if let Some(clause) = core.clause(number as u32) {
+                glues.push(self.glues[place])?;
+                used.push(self.used[place])?;
+                self.learnt = self.learnt.saturating_add(clause.len());
+            }
+        }
+        self.glues = glues;
+        self.used = used;
+        Ok(())
+    }
+}
