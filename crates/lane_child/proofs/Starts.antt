@@ -1,26 +1,25 @@
 -- What a start, and the life behind it, leave to the bay.
-use Rattle.std.proofs.Common.{◌≡◌, ◌⊎◌, inl, inr, ℕ, zero, suc, ◌+◌, List, [], ◌∷◌, ◌++◌, length, Option, None, Some, IsSomeAnd, Result, Ok, Err, option_map, refl, sym, ap, subst, ◌∙◌, arith}
+use Rattle.std.proofs.Common.{◌≡◌, ◌⊎◌, inl, inr, ℕ, List, [], ◌∷◌, ◌++◌, length, Option, None, Some, IsSomeAnd, Result, Ok, Err, option_map, refl, sym, ap, subst, ◌∙◌, arith}
 use Rattle.std.proofs.lemmas.List.{append-nil}
 use Rattle.sby_edge.specs.declared.outside.Fail.{Fail}
 use Rattle.sby_edge.specs.declared.outside.Fail.TheVariants.{Memory as FailMemory}
 use Rattle.sby_edge.specs.Child.{BayOf, PipeOf, StartOf, finished, gave, pipe_of, started, up_to, with_given}
 use Rattle.sby_edge.specs.Script.{ScriptOf, GateOf}
 use Rattle.sby_terms.specs.declared.names.JobName.{JobName}
-use Rattle.sby_terms.specs.Problem.{ProblemOf}
 use Rattle.race_core.specs.Ends.{HasEnd}
 use Rattle.race_core.specs.Parts.{reader_from}
 use Rattle.race_core.specs.declared.end.JobEnd.{JobEnd}
 use Rattle.race_core.specs.declared.end.JobEnd.TheVariants as end
 use Rattle.race_core.specs.declared.event.Judged.{Judged}
-use Rattle.race_core.specs.declared.event.Judged.TheVariants.{More, Found, Unknown, Bad}
+use Rattle.race_core.specs.declared.event.Judged.TheVariants.{Found}
 use Rattle.race_core.specs.declared.event.LaneEvent.{LaneEvent}
 use Rattle.race_core.specs.declared.part.By.TheVariants as by
 use Rattle.race_core.specs.declared.part.Reader.{Reader}
 use Rattle.race_core.specs.declared.part.Reader.TheVariants as reader
 use Rattle.lane_child.specs.Judging.{Within}
-use Rattle.lane_child.specs.Reading.{Comes, IsProof, NoneLeft, Took, TookSome, bytes_filed, bytes_read}
+use Rattle.lane_child.specs.Reading.{Comes, IsProof, NoneLeft, TookSome, bytes_read}
 use Rattle.lane_child.specs.Sides.{RanFrom}
-use Rattle.lane_child.specs.Starting.{HasRun, IsFront, IsFrontOf, NoStart, ReadsScript, Starts, start_of, with_starts}
+use Rattle.lane_child.specs.Starting.{IsFront, NoStart, ReadsScript, Starts, start_of, with_starts}
 use Rattle.lane_child.proofs.Readers.{comes_within}
 
 -- what an ended output comes to, it comes to where something else says that it ended
@@ -119,7 +118,7 @@ finished_bay job words bay now n at given = ap (λ (l : List StartOf). record ba
 
 module _ {T : Type 0} (st en pr : List ℕ → Judged T → Type 0) (job : JobName) (words : List (List ℕ)) (most : ℕ) (events : List (LaneEvent T)) where
   life_untold : (bay' : Option BayOf) → RanFrom st en pr job most None bay' None events → Life st en pr job words most None bay' events
-  life_untold bay' (now, output, proof, told, took, read, filed, is_proof, comes) = record {
+  life_untold bay' (now, output, proof, told, took, read, filed, is_proof, comes, closed) = record {
     told = told;
     reads = record {
       output = output;
@@ -130,6 +129,7 @@ module _ {T : Type 0} (st en pr : List ℕ → Judged T → Type 0) (job : JobNa
       filed = filed;
       is_proof = at is_proof;
       comes = comes_ended st en pr (NoneLeft now) ([] ≡ []) output proof (reader_from reader.Fresh events) (λ _. refl) comes;
+      closed = λ some. refl;
     };
   }
     where
@@ -139,8 +139,8 @@ module _ {T : Type 0} (st en pr : List ℕ → Judged T → Type 0) (job : JobNa
 
   life_told : (bay : BayOf) (bay' : Option BayOf) → RanFrom st en pr job most (Some (record bay { starts = bay.starts ++ record { job = job; words = words; given = None } ∷ [] })) bay' (Some (pipe_of (bay.scripts job) (length bay.starts))) events
       → Life st en pr job words most (Some bay) bay' events
-  life_told bay bay' (None, output, proof, told, took, read, filed, is_proof, comes) = absurd took
-  life_told bay bay' (Some now, output, proof, told, took, read, filed, is_proof, comes) =
+  life_told bay bay' (None, output, proof, told, took, read, filed, is_proof, comes, closed) = absurd took
+  life_told bay bay' (Some now, output, proof, told, took, read, filed, is_proof, comes, closed) =
       let place = place_taken (bay.scripts job) (length bay.starts) now output took in
       record {
         told = told ∙ ap Some (finished_bay job words bay now (bytes_read events) place.0 (place.1 ∙ sym read));
@@ -153,6 +153,7 @@ module _ {T : Type 0} (st en pr : List ℕ → Judged T → Type 0) (job : JobNa
           filed = filed;
           is_proof = at is_proof;
           comes = comes;
+          closed = closed;
         };
       }
     where
@@ -180,6 +181,7 @@ reads_within st st' en en' pr pr' bay job most events hs he hp h = record {
   filed = h.filed;
   is_proof = h.is_proof;
   comes = comes_within st st' en en' pr pr' (h.rest ≡ []) h.output h.proof (reader_from reader.Fresh events) hs he hp h.comes;
+  closed = h.closed;
 }
 
 -- so are the starts

@@ -16,7 +16,7 @@ use Rattle.race_core.specs.declared.part.Reason.{Reason}
 use Rattle.race_core.specs.declared.part.Reason.TheVariants as reason
 use Rattle.lane_child.specs.Judging.{Within}
 use Rattle.lane_child.specs.Keeping.{EndsChild, Keeps, TakesTurns}
-use Rattle.lane_child.specs.Reading.{Comes, HasRead, IsProof, NoneLeft, Proves, ReadSoFar, Settles, Took, bytes_filed, bytes_read}
+use Rattle.lane_child.specs.Reading.{Comes, HasRead, IsProof, NoneLeft, Proves, ReadSoFar, Settles, Took, bytes_filed, bytes_read, empty_reads}
 
 -- A reader's work on a fresh pipe with a fresh list. Its part is that of its list, and what its output comes to; it asks for the proof
 -- file only where the subject waits for it; that a read failed only where the pipe counted a fault.
@@ -74,3 +74,4 @@ RanFrom stands ends proves job most bay bay' pipe events =
     × (bytes_read events ≡ length output) × (bytes_filed events ≡ length proof)
     × ((proof ≡ []) ⊎ IsProof bay' job most proof)
     × Comes stands ends proves (NoneLeft now) output proof (reader_from reader.Fresh events)
+    × (0 < empty_reads events → NoneLeft now)

@@ -49,6 +49,7 @@ reads_before st en pr starts bay job most events h = record {
   filed = h.filed;
   is_proof = proof_before starts bay job most h.proof h.is_proof;
   comes = h.comes;
+  closed = h.closed;
 }
 
 -- so a job's starts are the same to a bay with fewer

@@ -1,6 +1,5 @@
-use Rattle.std.proofs.Common.{[], subst, map, string_bytes}
-use Rattle.race_core.specs.declared.event.LaneEvent.{LaneEvent}
-use Rattle.lane_child.specs.Keeping.{IsOfCell, Keeps}
+use Rattle.std.proofs.Common.{[], map, string_bytes}
+use Rattle.lane_child.specs.Keeping.{IsOfCell}
 use Rattle.lane_child.specs.Starting.{ReadsScript}
 use Rattle.lane_child.proofs.Keepers.{keeps_then}
 use Rattle.lane_child.proofs.Starts.{no_starts, none_for_end, none_for_want, reads_within, starts_within}
