@@ -57,8 +57,8 @@ abbrev pub Finishes : {T : Type 0} → (List ℕ → Judged T → Type 0) → Op
 Finishes {T} proves bay job most why part now filed = (between : Reader T) × Asks proves bay job most why part between filed × Settles between now
 
 -- the bay after one more start
-abbrev pub with_start : JobName → List (List ℕ) → BayOf → BayOf
-with_start job words bay = record bay { starts = bay.starts ++ record { job = job; words = words; given = None } ∷ [] }
+abbrev pub with_start : JobName → List (List ℕ) → List ℕ → BayOf → BayOf
+with_start job words bytes bay = record bay { starts = bay.starts ++ record { job = job; words = words; bytes = bytes; given = None } ∷ [] }
 
 -- the pipe of the next start
 abbrev pub next_pipe : JobName → BayOf → PipeOf

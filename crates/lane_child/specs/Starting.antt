@@ -66,13 +66,14 @@ pub record ReadsScript {T : Type 0} (stands ends proves : List ℕ → Judged T 
 abbrev pub with_starts : List StartOf → BayOf → BayOf
 with_starts starts bay = record bay { starts = bay.starts ++ starts }
 
--- a start of the job with these words, whose pipe gave so many bytes, if it was finished
-abbrev pub start_of : JobName → List (List ℕ) → Option ℕ → StartOf
-start_of job words given = record { job = job; words = words; given = given }
+-- a start of the job with these words and these bytes of the job, whose pipe gave so many bytes, if it was finished
+abbrev pub start_of : JobName → List (List ℕ) → List ℕ → Option ℕ → StartOf
+start_of job words file file given = record { job = job; words = words; bytes = file; given = given }
 
--- The starts of a job: none; or one that failed; or one with these words whose child ran, and gave as many bytes as the reader's list tells.
-abbrev pub Starts : {T : Type 0} → JobName → List (List ℕ) → Type 0 → List (LaneEvent T) → JobEnd T → List StartOf → Type 0
-Starts job words ran events e starts =
+-- The starts of a job: none; or one with these words and this file that failed; or one whose child ran, and gave as many bytes as the
+-- reader's list tells.
+abbrev pub Starts : {T : Type 0} → JobName → List (List ℕ) → List ℕ → Type 0 → List (LaneEvent T) → JobEnd T → List StartOf → Type 0
+Starts job words file ran events e starts =
     (NoStart e × (events ≡ []) × (starts ≡ []))
-    ⊎ (((e ≡ end.StartFailed) × (events ≡ []) × (starts ≡ start_of job words None ∷ []))
-    ⊎ (HasRun e × ran × (starts ≡ start_of job words (Some (bytes_read events)) ∷ [])))
+    ⊎ (((e ≡ end.StartFailed) × (events ≡ []) × (starts ≡ start_of job words file None ∷ []))
+    ⊎ (HasRun e × ran × (starts ≡ start_of job words file (Some (bytes_read events)) ∷ [])))

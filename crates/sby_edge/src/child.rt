@@ -91,7 +91,7 @@ pub trait Launch {
         words: &[String],
         bytes: &[u8],
     ) -> Result<(Self::Pipe, Self::Hold), Fail>
-        ensures told { told self.new ≡ option_map (started result job (map string_bytes words.now)) (told self.old) }
+        ensures told { told self.new ≡ option_map (started result job (map string_bytes words.now) bytes.now) (told self.old) }
         ensures pipe { IfOk result (λ child. Self.Pipe.told child.0
             ≡ option_map (λ bay. pipe_of (bay.scripts job) (length bay.starts)) (told self.old)) }
         ensures exit { IfOk result (λ child. Self.Hold.exit child.1 ≡ option_map (λ bay. (bay.scripts job).exit) (told self.old)) }
