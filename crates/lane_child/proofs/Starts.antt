@@ -188,8 +188,9 @@ reads_within st st' en en' pr pr' bay job most events hs he hp h = record {
 pub starts_within : {T : Type 0} (job : JobName) (words words' : List (List ℕ)) (file file' : List ℕ) (A B : Type 0) (events : List (LaneEvent T)) (e : JobEnd T) (starts : List StartOf)
     → words ≡ words' → file ≡ file' → (A → B) → Starts job words file A events e starts → Starts job words' file' B events e starts
 starts_within job words words' file file' A B events e starts is bytes t (inl h) = inl h
-starts_within job words words' file file' A B events e starts is bytes t (inr (inl h)) = inr (inl (h.0, h.1, subst (λ (w : List (List ℕ)). starts ≡ start_of job w None ∷ []) is h.2))
-starts_within job words words' file file' A B events e starts is bytes t (inr (inr h)) = inr (inr (h.0, t h.1, subst (λ (w : List (List ℕ)). starts ≡ start_of job w (Some (bytes_read events)) ∷ []) is h.2))
+starts_within job words words' file file' A B events e starts is bytes t (inr (inl h)) = inr (inl (h.0, h.1, subst (λ (w : List (List ℕ)). starts ≡ start_of job w file' None ∷ []) is (subst (λ (b : List ℕ). starts ≡ start_of job words b None ∷ []) bytes h.2)))
+starts_within job words words' file file' A B events e starts is bytes t (inr (inr h)) = inr (inr (h.0, t h.1, subst (λ (w : List (List ℕ)). starts ≡ start_of job w file' (Some (bytes_read events)) ∷ []) is
+    (subst (λ (b : List ℕ). starts ≡ start_of job words b (Some (bytes_read events)) ∷ []) bytes h.2)))
 
 -- no start more
 pub no_starts : (bay : Option BayOf) → bay ≡ option_map (with_starts []) bay

@@ -68,7 +68,7 @@ with_starts starts bay = record bay { starts = bay.starts ++ starts }
 
 -- a start of the job with these words and these bytes of the job, whose pipe gave so many bytes, if it was finished
 abbrev pub start_of : JobName → List (List ℕ) → List ℕ → Option ℕ → StartOf
-start_of job words file file given = record { job = job; words = words; bytes = file; given = given }
+start_of job words file given = record { job = job; words = words; bytes = file; given = given }
 
 -- The starts of a job: none; or one with these words and this file that failed; or one whose child ran, and gave as many bytes as the
 -- reader's list tells.
