@@ -137,7 +137,7 @@ pub fn encode(
 ) -> Result<Result<Encoded, TooMany>, AllocError>
     requires span { IsSpan span }
     requires job { IsJob model.now job span }
-    requires high { span.depth ≤ 1000 }
+    requires high { span.depth ≤ 100000 }
     ensures solvable { IfOk result (λ r. IfOk r (λ e. CanBeSatisfied e.formula ↔ Solvable model.now job span)) }
     ensures too_many { IfOk result (λ r. IfErr r (λ _. CanPass model.now (frames job span))) }
     ensures asks { IfOk result (λ r. IfErr r (λ _. AsksNothing model.now job → ⊥)) }

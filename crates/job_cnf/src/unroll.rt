@@ -86,7 +86,7 @@ fn stage_at(job: JobName, span: Span, t: u32) -> Stage
 fn frames_of(job: JobName, span: Span) -> u32
     requires span { IsSpan span }
     requires slice { (i : ℕ) → job ≡ (JobName.Base i) → i < slices_of span }
-    requires depth { span.depth ≤ 1000 }
+    requires depth { span.depth ≤ 100000 }
     ensures { result ≡ frames job span }
 {
     match job {
@@ -273,7 +273,7 @@ pub fn unroll(
 ) -> Result<Unrolled, GateFault>
     requires span { IsSpan span }
     requires job { IsJob model.now job span }
-    requires high { span.depth ≤ 1000 }
+    requires high { span.depth ≤ 100000 }
     ensures unrolled { IfOk result (λ u. IsUnrolled model.now job span u.gates u.starts.items u.frames.items) }
     ensures too_many { result ≡ Err GateFault.TooMany → CanPass model.now (frames job span) }
 {

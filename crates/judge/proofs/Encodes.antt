@@ -1,5 +1,5 @@
 -- The model of a design, and its jobs as they are encoded.
-use Rattle.std.proofs.Common.{◌≡◌, ℕ, zero, suc, ◌+◌, ◌*◌, ◌^◌, ◌<◌, ◌≤◌, List, [], ◌∷◌, ◌++◌, length, map, take, All, Some, get_or, refl, sym, ap, subst, ◌∙◌, arith}
+use Rattle.std.proofs.Common.{◌≡◌, ℕ, zero, suc, ◌+◌, ◌-◌, ◌*◌, ◌^◌, ◌<◌, ◌≤◌, List, [], ◌∷◌, ◌++◌, length, map, take, All, Some, get_or, refl, sym, ap, subst, ◌∙◌, arith}
 use Rattle.std.specs.Prelude.{◌↔◌, slice_get}
 use Rattle.std.proofs.Math.Nat.{mul-le-mul_left}
 use Rattle.std.proofs.lemmas.List.{length-map, map-append, take_more}
@@ -21,7 +21,7 @@ use Rattle.model_core.specs.Choices.{AreChoicesFor}
 use Rattle.model_core.specs.Shape.{ModelOf, states}
 use Rattle.model_laws.specs.Cost.{cost}
 use Rattle.sby_terms.specs.Problem.{ProblemOf}
-use Rattle.sby_terms.specs.Span.{whole}
+use Rattle.sby_terms.specs.Span.{IsSpan, slices_of}
 use Rattle.sby_terms.specs.declared.names.JobName.{JobName}
 use Rattle.sby_terms.specs.declared.names.JobName.TheVariants.{Base, Step, Cover}
 use Rattle.sby_terms.specs.declared.names.Mode.{Mode}
@@ -29,8 +29,9 @@ use Rattle.sby_terms.specs.declared.names.Mode.TheVariants.{Bmc, Prove, Cover as
 use Rattle.sby_terms.specs.declared.span.Span.{Span}
 use Rattle.judge.proofs.Carrying.{asks-from, solvable-from, solvable-to}
 use Rattle.judge.proofs.Problems.{numbered}
+use Rattle.judge.proofs.Slices.{slice-some, slices-some}
 use Rattle.judge.specs.Fault.{IsProblemFault}
-use Rattle.judge.specs.Jobs.{jobs_in, jobs_of}
+use Rattle.judge.specs.Jobs.{AsksNothing, IsSpanFor, jobs_in, jobs_of, span_of}
 use Rattle.judge.specs.Problem.{IsEncodedJob}
 use Rattle.judge.specs.Stored.{AreEncoded, IsBuiltFor, IsStored, IsTooMany, JobOf, asked_by, names_in}
 use Rattle.judge.specs.declared.problem.ProblemFault.TheVariants.{TooMany}
@@ -41,11 +42,12 @@ module _ (d : DesignOf) (m : ModelOf) (built : IsBuiltFor d m) where
       omega
       (arith, built.model.covers, built.design.few_cells, length-filter (λ (c : CellOf). is_cover c.kind) d.cells, count_by-le-length (λ (c : CellOf). is_cover c.kind) d.cells)
 
-  pub encoded_job : (job : JobName) (span : Span) (e : EncodedOf) → CanBeSatisfied e.formula ↔ SolvableOf m job span → Propagates e → HasOriginsInBits m job span e
+  pub encoded_job : (job : JobName) (span : Span) (e : EncodedOf) → CanBeSatisfied e.formula ↔ SolvableOf m job span → (1 ≤ e.formula.vars) × (e.formula.vars ≤ 2 ^ 27) → Propagates e → HasOriginsInBits m job span e
       → (AsksNothingOf m job → e.formula ≡ empty_job) → ((job ≡ Step → ⊥) → (x : Assignment) → AreChoicesFor m (decoded e x))
       → ((job ≡ Step → ⊥) → (x : Assignment) → Satisfies x e.formula.clauses → IsDecoded m job span (decoded e x)) → IsEncodedJob d m job span e
-  encoded_job job span e speaks propagates origins empty choices decodes = record {
+  encoded_job job span e speaks vars propagates origins empty choices decodes = record {
     speaks = (λ s. solvable-to d m built.model job span (speaks.0 s), λ s. speaks.1 (solvable-from d m built.model built.design job span s));
+    vars = vars;
     propagates = propagates;
     origins = origins;
     empty = λ none. empty (asks-from d m built.model job none);
@@ -53,18 +55,21 @@ module _ (d : DesignOf) (m : ModelOf) (built : IsBuiltFor d m) where
     decodes = decodes;
   }
 
-  -- a job of a mode is one of the model
-  pub job_fits : (mode : Mode) (depth i : ℕ) (job : JobName) → slice_get (jobs_in mode (whole depth) d) i ≡ Some job → IsJobOf m job (whole depth)
-  job_fits Bmc depth zero job at = let h : Base 0 ≡ job = cc in subst (λ (j : JobName). IsJobOf m j (whole depth)) h (omega arith)
-  job_fits Bmc depth (suc i) job at = absurd cc
-  job_fits Prove depth zero job at = let h : Base 0 ≡ job = cc in subst (λ (j : JobName). IsJobOf m j (whole depth)) h (omega arith)
-  job_fits Prove depth (suc zero) job at = let h : Step ≡ job = cc in subst (λ (j : JobName). IsJobOf m j (whole depth)) h tt
-  job_fits Prove depth (suc (suc i)) job at = absurd cc
-  job_fits CoverMode depth i job at =
+  -- a job of a mode is one of the model, over the span
+  pub job_fits : (mode : Mode) (span : Span) (i : ℕ) (job : JobName) → slice_get (jobs_in mode span d) i ≡ Some job → IsJobOf m job span
+  job_fits Bmc span i job at =
+      let h : job ≡ Base (0 + i) = numbered Base (slices_of span) 0 i job at in
+      let room : i < length (map Base (range_with_len 0 (slices_of span))) = slice_get_within (map Base (range_with_len 0 (slices_of span))) i job at in
+      let below : 0 + i < slices_of span = omega (arith, room, length-map-range_with_len Base 0 (slices_of span)) in
+      subst (λ (j : JobName). IsJobOf m j span) (sym h) below
+  job_fits Prove span zero job at = let h : Base 0 ≡ job = cc in subst (λ (j : JobName). IsJobOf m j span) h (slices-some (span.depth - span.skip) span.stride)
+  job_fits Prove span (suc zero) job at = let h : Step ≡ job = cc in subst (λ (j : JobName). IsJobOf m j span) h tt
+  job_fits Prove span (suc (suc i)) job at = absurd cc
+  job_fits CoverMode span i job at =
       let h : job ≡ Cover (0 + i) = numbered Cover (length (covers d)) 0 i job at in
       let room : i < length (map Cover (range_with_len 0 (length (covers d)))) = slice_get_within (map Cover (range_with_len 0 (length (covers d)))) i job at in
       let below : 0 + i < length m.covers = omega (arith, room, length-map-range_with_len Cover 0 (length (covers d)), built.model.covers) in
-      subst (λ (j : JobName). IsJobOf m j (whole depth)) (sym h) below
+      subst (λ (j : JobName). IsJobOf m j span) (sym h) below
 
   -- so many frames that the variables of the model can pass the bound pass it by the design's cost
   pub past_cost : (n : ℕ) → 0 < n → CanPass m n → 2 ^ 27 < n * cost d
@@ -77,16 +82,17 @@ module _ (d : DesignOf) (m : ModelOf) (built : IsBuiltFor d m) where
       spread : (s f n : ℕ) → 1 + s + suc n * f ≤ suc n * (1 + s + f)
       spread s f n = omega arith
 
-  frames_some : (job : JobName) (depth : ℕ) → 1 ≤ depth → 0 < frames job (whole depth)
-  frames_some (Base i) depth le = omega (arith, le)
-  frames_some Step depth le = omega (arith, le)
-  frames_some (Cover k) depth le = omega (arith, le)
+  frames_some : (job : JobName) (span : Span) → IsSpan span → IsJobOf m job span → 0 < frames job span
+  frames_some (Base i) span is fits = omega (arith, slice-some span i is fits)
+  frames_some Step span is fits = omega arith
+  frames_some (Cover k) span is fits = omega (arith, is.some)
 
   -- a job that has too many variables is a fault of the problem
-  pub too_many : (p : ProblemOf) (job : JobName) → 1 ≤ p.depth → Reads p.text d → IsFlat d → IsTooMany d m (whole p.depth) (jobs_of p d) job → IsProblemFault p (TooMany job)
-  too_many p job least reads flat h =
-      let n = frames job (whole p.depth) in
-      (d, reads, flat, h.0, h.1, past_cost n (frames_some job p.depth least) h.2, (built.built.0, m, built.built.1, built.built.2, h.2))
+  pub too_many : (p : ProblemOf) (job : JobName) → IsSpan (span_of p) → Reads p.text d → IsFlat d → IsTooMany d m (span_of p) (jobs_of p d) job → IsProblemFault p (TooMany job)
+  too_many p job is reads flat h =
+      let n = frames job (span_of p) in
+      let some : 0 < n = frames_some job (span_of p) is (job_fits p.mode (span_of p) h.0.0 job h.0.1) in
+      (d, reads, flat, h.0, h.1, past_cost n some h.2, (built.built.0, m, built.built.1, built.built.2, h.2, h.3))
 
 module _ (d : DesignOf) (m : ModelOf) (span : Span) (names : List JobName) where
   pub encoded_none : AreEncoded d m span (take 0 names) []
@@ -110,11 +116,31 @@ mapped_at f [] i y at = absurd cc
 mapped_at f (x ∷ xs) zero y at = (x, refl, cc)
 mapped_at f (x ∷ xs) (suc i) y at = mapped_at f xs i y at
 
+at-take : {X : Type 0} (xs : List X) (i j : ℕ) → j < i → slice_get (take i xs) j ≡ slice_get xs j
+at-take xs zero j lt = absurd (omega (arith, lt))
+at-take [] (suc i) j lt = refl
+at-take (x ∷ xs) (suc i) zero lt = refl
+at-take (x ∷ xs) (suc i) (suc j) lt = at-take xs i j (omega (arith, lt))
+
+-- jobs of which all so far are encoded, and the next has too many variables
+pub refused_next : (d : DesignOf) (m : ModelOf) (span : Span) (names : List JobName) (i : ℕ) (job : JobName) (jobs : List JobOf) → slice_get names i ≡ Some job → (AsksNothing d job → ⊥) → CanPass m (frames job span)
+    → AreEncoded d m span (take i names) jobs → IsTooMany d m span names job
+refused_next d m span names i job jobs at asks passes h = ((i, at), asks, passes, (i, at, earlier))
+  where
+    earlier : (j : ℕ) (name : JobName) → j < i → slice_get names j ≡ Some name → (e : EncodedOf) × IsEncodedJob d m name span e
+    earlier j name lt here =
+        let taken : slice_get (take i names) j ≡ Some name = at-take names i j lt ∙ here in
+        let named : slice_get (names_in jobs) j ≡ Some name = subst (λ (ns : List JobName). slice_get ns j ≡ Some name) (sym h.named) taken in
+        let r = mapped_at (λ (k : JobOf). k.name) jobs j name named in
+        let is = All-contains (λ (k : JobOf). IsEncodedJob d m k.name span k.encoded) jobs r.0 h.each (Contains-from_place jobs j r.0 r.1) in
+        (r.0.encoded, subst (λ (n : JobName). IsEncodedJob d m n span r.0.encoded) r.2 is)
+
 -- the problem of a design that is read and flat, whose jobs are all encoded
-pub stored : (text : List ℕ) (mode : Mode) (depth : ℕ) (d : DesignOf) (m : ModelOf) (jobs : List JobOf) → Reads text d → ((e : DesignOf) → Reads text e → e ≡ d) → IsFlat d → IsBuiltFor d m
-    → AreEncoded d m (whole depth) (jobs_in mode (whole depth) d) jobs → IsStored (asked_by text mode depth d m jobs) jobs
-stored text mode depth d m jobs reads only flat built h = record {
+pub stored : (text : List ℕ) (mode : Mode) (span : Span) (d : DesignOf) (m : ModelOf) (jobs : List JobOf) → IsSpanFor mode span → Reads text d → ((e : DesignOf) → Reads text e → e ≡ d) → IsFlat d
+    → IsBuiltFor d m → AreEncoded d m span (jobs_in mode span d) jobs → IsStored (asked_by text mode span d m jobs) jobs
+stored text mode span d m jobs fits reads only flat built h = record {
   problem = record {
+    span = fits;
     reads = reads;
     only = only;
     design = built.design;
@@ -129,8 +155,8 @@ stored text mode depth d m jobs reads only flat built h = record {
         let s = mapped_at (λ (j : JobOf). j.name) jobs w.0 job at in
         let same : s.0 ≡ r.0 = let a = s.1 in let b = r.1 in cc in
         let name : r.0.name ≡ job = ap (λ (j : JobOf). j.name) (sym same) ∙ s.2 in
-        let is = All-contains (λ (j : JobOf). IsEncodedJob d m j.name (whole depth) j.encoded) jobs r.0 h.each (Contains-from_place jobs w.0 r.0 r.1) in
-        subst (λ (k : EncodedOf). IsEncodedJob d m job (whole depth) k) r.2 (subst (λ (n : JobName). IsEncodedJob d m n (whole depth) r.0.encoded) name is);
+        let is = All-contains (λ (j : JobOf). IsEncodedJob d m j.name span j.encoded) jobs r.0 h.each (Contains-from_place jobs w.0 r.0 r.1) in
+        subst (λ (k : EncodedOf). IsEncodedJob d m job span k) r.2 (subst (λ (n : JobName). IsEncodedJob d m n span r.0.encoded) name is);
   };
   names = h.named;
 }

@@ -1,8 +1,11 @@
 pub mod Induction
 pub mod Cycles
 pub mod Problems
+pub mod Slices
 pub mod Carrying
 pub mod Encodes
 pub mod Truth
 pub mod Telling
 pub mod Zeros
+pub mod Files
+pub mod Claims

@@ -26,6 +26,11 @@ numbered make zero a i job e = cc
 numbered make (suc n) a zero job e = let h : make a ≡ job = cc in sym h ∙ ap make (omega arith)
 numbered make (suc n) a (suc i) job e = numbered make n (a + 1) i job e ∙ ap make (omega arith)
 
+pub numbered-at : (make : ℕ → JobName) (n a i k : ℕ) → i < n → a + i ≡ k → slice_get (map make (range_with_len a n)) i ≡ Some (make k)
+numbered-at make zero a i k lt e = absurd (omega (arith, lt))
+numbered-at make (suc n) a zero k lt e = ap (λ (j : ℕ). Some (make j)) (omega (arith, e))
+numbered-at make (suc n) a (suc i) k lt e = numbered-at make n (a + 1) i k (omega (arith, lt)) (omega (arith, e))
+
 -- each job has its place
 pub place_found : (mode : Mode) (s : Span) (d : DesignOf) (i : ℕ) (job : JobName) → slice_get (jobs_in mode s d) i ≡ Some job → i ≡ place_of job
 place_found Bmc s d i job e = let h : place_of job ≡ 0 + i = ap place_of (numbered Base (slices_of s) 0 i job e) in omega (arith, h)

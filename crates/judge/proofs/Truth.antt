@@ -40,11 +40,11 @@ never d (Base i) span unsolved = (λ m vs a lt le s. unsolved (m, vs, a, lt, le,
 never d Step span unsolved = (unsolved, refl)
 never d (Cover k) span unsolved = (λ m vs le r. unsolved (m, vs, le, r), refl)
 
-abbrev problem : List ℕ → Mode → ℕ → ProblemOf
-problem text mode n = record { text = text; mode = mode; depth = n }
+abbrev problem : List ℕ → Mode → Span → ProblemOf
+problem text mode span = record { text = text; mode = mode; span = span }
 
-same_problem : (p : ProblemOf) (text : List ℕ) (mode : Mode) (n : ℕ) → text ≡ p.text → mode ≡ p.mode → n ≡ p.depth → problem text mode n ≡ p
-same_problem p text mode n e f g = rw (e, f, g) refl
+same_problem : (p : ProblemOf) (text : List ℕ) (mode : Mode) (span : Span) → text ≡ p.text → mode ≡ p.mode → span ≡ p.span → problem text mode span ≡ p
+same_problem p text mode span e f g = rw (e, f, g) refl
 
 abbrev unsat : ProblemOf → JobName → FindingOf
 unsat p job = record { problem = p; job = job; answer = Unsat; run = None }
@@ -65,9 +65,9 @@ claimed p f h e c =
     }
 
 -- the finding of a formula that can't be satisfied
-pub unsat_found : (p : AskedOf) (job : JobName) (text : List ℕ) (mode : Mode) (n : ℕ) → IsProblem p → ((f : FormulaOf) × IsFormulaOf p job f × IsUnsatisfiable f.clauses)
-    → text ≡ p.problem.text → mode ≡ p.problem.mode → n ≡ p.problem.depth → IsTrueFinding (unsat (problem text mode n) job)
-unsat_found p job text mode n h w e f g = claimed p (unsat (problem text mode n) job) h (same_problem p.problem text mode n e f g) (never p.design job (span_of p.problem) unsolved)
+pub unsat_found : (p : AskedOf) (job : JobName) (text : List ℕ) (mode : Mode) (span : Span) → IsProblem p → ((f : FormulaOf) × IsFormulaOf p job f × IsUnsatisfiable f.clauses)
+    → text ≡ p.problem.text → mode ≡ p.problem.mode → span ≡ p.problem.span → IsTrueFinding (unsat (problem text mode span) job)
+unsat_found p job text mode span h w e f g = claimed p (unsat (problem text mode span) job) h (same_problem p.problem text mode span e f g) (never p.design job (span_of p.problem) unsolved)
   where
     unsolved : Solvable p.design job (span_of p.problem) → ⊥
     unsolved s =
@@ -76,9 +76,9 @@ unsat_found p job text mode n h w e f g = claimed p (unsat (problem text mode n)
         w.2 x.0 (subst (λ (z : FormulaOf). Satisfies x.0 z.clauses) (sym b.2) x.1)
 
 -- and of one for which what is shown bears the claim out
-pub sat_found : (p : AskedOf) (job : JobName) (run : Option (List CycleOf)) (text : List ℕ) (mode : Mode) (n : ℕ) → IsProblem p → Claim p.design (span_of p.problem) job Sat run
-    → text ≡ p.problem.text → mode ≡ p.problem.mode → n ≡ p.problem.depth → IsTrueFinding (sat (problem text mode n) job run)
-sat_found p job run text mode n h c e f g = claimed p (sat (problem text mode n) job run) h (same_problem p.problem text mode n e f g) c
+pub sat_found : (p : AskedOf) (job : JobName) (run : Option (List CycleOf)) (text : List ℕ) (mode : Mode) (span : Span) → IsProblem p → Claim p.design (span_of p.problem) job Sat run
+    → text ≡ p.problem.text → mode ≡ p.problem.mode → span ≡ p.problem.span → IsTrueFinding (sat (problem text mode span) job run)
+sat_found p job run text mode span h c e f g = claimed p (sat (problem text mode span) job run) h (same_problem p.problem text mode span e f g) c
 
 -- Step can be solved where values satisfy its formula
 step_shown : (p : AskedOf) (e : EncodedOf) (x : Assignment) → IsProblem p → IsEncodedOf p Step e → Satisfies x e.formula.clauses → Claim p.design (span_of p.problem) Step Sat None

@@ -1,11 +1,11 @@
 -- The jobs of a problem, and what it means that one can be solved.
-use Rattle.std.specs.Prelude.{◌≡◌, ℕ, suc, ◌<◌, ◌≤◌, List, [], ◌∷◌, length, map}
+use Rattle.std.specs.Prelude.{◌≡◌, ◌≢◌, ℕ, suc, ◌<◌, ◌≤◌, List, [], ◌∷◌, length, map}
 use Rattle.std.specs.List.{range_with_len}
 use Rattle.design_core.specs.Shape.{DesignOf}
 use Rattle.design_meaning.specs.Claims.{Shows, ReachRun}
 use Rattle.design_meaning.specs.Meaning.{Valuation, Window, Assumed, Broken, asserts, covers}
 use Rattle.sby_terms.specs.Problem.{ProblemOf}
-use Rattle.sby_terms.specs.Span.{first_of, last_of, slices_of, whole}
+use Rattle.sby_terms.specs.Span.{IsSpan, first_of, last_of, slices_of, whole}
 use Rattle.sby_terms.specs.declared.names.JobName.{JobName}
 use Rattle.sby_terms.specs.declared.names.JobName.TheVariants.{Base, Step, Cover}
 use Rattle.sby_terms.specs.declared.names.Mode.{Mode}
@@ -14,7 +14,13 @@ use Rattle.sby_terms.specs.declared.span.Span.{Span}
 
 -- the cycles at which a problem looks
 abbrev pub span_of : ProblemOf → Span
-span_of p = whole p.depth
+span_of p = p.span
+
+-- a span that a problem of a mode may have: of at most 100,000 cycles, and outside bmc without skipped cycles and slices
+pub record IsSpanFor (mode : Mode) (span : Span) : Type 0 where
+  pub is_span : IsSpan span
+  pub most : span.depth ≤ 100000
+  pub one : mode ≢ Bmc → span ≡ whole span.depth
 
 -- the jobs of a mode, in order: of bmc one for each slice
 abbrev pub jobs_in : Mode → Span → DesignOf → List JobName

@@ -1,5 +1,5 @@
 -- A judge, and what its answers tell.
-use Rattle.std.specs.Prelude.{◌≡◌, ℕ, Bool, true, false, List, Option, Some, None, MatchOption, Result, Ok, Err}
+use Rattle.std.specs.Prelude.{◌≡◌, ◌⊎◌, ℕ, Bool, true, false, List, Option, Some, None, MatchOption, Result, Ok, Err}
 use Rattle.std.specs.declared.alloc.AllocError.{AllocError}
 use Rattle.cnf_form.specs.Cnf.{Assignment, FormulaOf, IsUnsatisfiable, Satisfies}
 use Rattle.design_meaning.specs.Runs.{CycleOf}
@@ -8,7 +8,7 @@ use Rattle.sby_terms.specs.declared.names.Answer.TheVariants.{Sat}
 use Rattle.sby_terms.specs.declared.names.JobName.{JobName}
 use Rattle.sby_terms.specs.declared.names.JobName.TheVariants.{Step}
 use Rattle.stream_judge.specs.Fate.{Fate, Found, Unknown, Bad, IsFate, IsFateSoFar}
-use Rattle.stream_judge.specs.Judging.{Stands, JudgeOf as StreamJudgeOf}
+use Rattle.stream_judge.specs.Judging.{IsOver, Stands, JudgeOf as StreamJudgeOf}
 use Rattle.stream_judge.specs.declared.stream.BadCert.{BadCert}
 use Rattle.stream_judge.specs.declared.stream.Outcome.{Outcome}
 use Rattle.stream_judge.specs.declared.stream.Outcome.TheVariants.{Refuted, Satisfied, Unknown as UnknownOutcome, Bad as BadOutcome}
@@ -28,19 +28,29 @@ pub record JudgeOf : Type 0 where
   pub stream : StreamJudgeOf
   pub state : State
 
--- the stream is judged for the job's formula, and some bytes of it were taken
-pub record IsReading (j : JudgeOf) : Type 0 where
+-- the stream is judged for the job's formula
+pub record IsForJob (j : JudgeOf) : Type 0 where
   pub formula : IsFormulaOf j.asked j.job j.stream.formula
   pub most : j.stream.most ≡ j.most
-  pub taken : (bytes : List ℕ) × Stands j.stream bytes
 
-abbrev pub IsJudge : JudgeOf → Type 0
-IsJudge j = j.state ≡ Reading → IsReading j
+-- the bytes were taken; the stream may have ended with them
+abbrev pub Heard : StreamJudgeOf → List ℕ → Type 0
+Heard stream bytes = Stands stream bytes ⊎ ((o : Outcome) × IsOver stream bytes o)
+
+-- some bytes were taken, and more may be, or they came to an outcome
+pub record IsJudge (j : JudgeOf) : Type 0 where
+  pub reading : j.state ≡ Reading → IsForJob j × ((bytes : List ℕ) × Stands j.stream bytes)
+  pub over : j.state ≡ Over → IsForJob j × ((bytes : List ℕ) × Heard j.stream bytes)
 
 -- the judge reads, and has taken these bytes of a stream
 pub record Took (j : JudgeOf) (bytes : List ℕ) : Type 0 where
   pub state : j.state ≡ Reading
   pub stands : Stands j.stream bytes
+
+-- the judge is over, and has taken these bytes
+pub record TookAll (j : JudgeOf) (bytes : List ℕ) : Type 0 where
+  pub state : j.state ≡ Over
+  pub heard : Heard j.stream bytes
 
 -- the same problem, job and number of bytes
 abbrev pub IsSameJudge : JudgeOf → JudgeOf → Type 0
@@ -105,6 +115,7 @@ pub record Feeds (old new : JudgeOf) (bytes : List ℕ) (r : Result Progress Bad
   pub same : IsSameJudge old new
   pub state : new.state ≡ state_behind r
   pub stands : new.state ≡ Reading → Took new bytes
+  pub over : new.state ≡ Over → TookAll new bytes
   pub finds : Finds old.asked old.job r
   pub run : FindsRun old false bytes r
   pub fate : (file : List ℕ) → IsJobFile old.asked old.job file → IsFateSoFar file bytes old.most (fate_told r)
@@ -113,6 +124,7 @@ pub record Feeds (old new : JudgeOf) (bytes : List ℕ) (r : Result Progress Bad
 pub record Ends (old new : JudgeOf) (bytes : List ℕ) (r : Result Progress BadCert) : Type 0 where
   pub same : IsSameJudge old new
   pub state : new.state ≡ state_behind r
+  pub over : new.state ≡ Over → TookAll new bytes
   pub finds : Finds old.asked old.job r
   pub run : FindsRun old true bytes r
   pub fate : (file : List ℕ) → IsJobFile old.asked old.job file → MatchOption (fate_told r) ⊥ (IsFate file bytes old.most)

@@ -1,5 +1,5 @@
 -- A problem: a text, the design that it reads, its model, and each of its jobs as a formula.
-use Rattle.std.specs.Prelude.{◌≡◌, ◌↔◌, ℕ, List, length, Some, slice_get}
+use Rattle.std.specs.Prelude.{◌≡◌, ◌↔◌, ◌<◌, ◌≤◌, ◌^◌, ℕ, List, length, Some, slice_get}
 use Rattle.cnf_form.specs.Cnf.{Assignment, FormulaOf, Satisfies}
 use Rattle.cnf_form.specs.Dimacs.{IsDimacs, dimacs_text}
 use Rattle.cone_cnf.specs.Asking.{HasOriginsInBits}
@@ -18,7 +18,7 @@ use Rattle.sby_terms.specs.Problem.{ProblemOf}
 use Rattle.sby_terms.specs.declared.names.JobName.{JobName}
 use Rattle.sby_terms.specs.declared.names.JobName.TheVariants.{Step}
 use Rattle.sby_terms.specs.declared.span.Span.{Span}
-use Rattle.judge.specs.Jobs.{AsksNothing, Solvable, jobs_of, span_of}
+use Rattle.judge.specs.Jobs.{AsksNothing, IsSpanFor, Solvable, jobs_of, span_of}
 
 -- what is asked, the design, its model, and each job as it is encoded, in the order of the jobs
 pub record AskedOf : Type 0 where
@@ -47,20 +47,29 @@ IsFormulaOf p job f = (e : EncodedOf) × IsEncodedOf p job e × (f ≡ e.formula
 abbrev pub IsJobFile : AskedOf → JobName → List ℕ → Type 0
 IsJobFile p job bytes = (f : FormulaOf) × IsFormulaOf p job f × (bytes ≡ dimacs_text f) × IsDimacs bytes f
 
--- What is promised of an encoded job: its formula can be satisfied exactly where the job can be solved; where some variables are
--- fixed, each of which stands for a bit that the job leaves free, unit propagation comes to a conflict or fixes all others; over no
--- statement the formula is one variable and the empty clause; and, but for Step, each assignment tells choices for a run of the
--- model, and one that satisfies the formula those for a run that shows the job's goal.
+-- What is promised of an encoded job: its formula can be satisfied exactly where the job can be solved, and has from 1 to 2 ^ 27
+-- variables; where some variables are fixed, each of which stands for a bit that the job leaves free, unit propagation comes to a
+-- conflict or fixes all others; over no statement the formula is one variable and the empty clause; and, but for Step, each
+-- assignment tells choices for a run of the model, and one that satisfies the formula those for a run that shows the job's goal.
 pub record IsEncodedJob (d : DesignOf) (m : ModelOf) (job : JobName) (span : Span) (e : EncodedOf) : Type 0 where
   pub speaks : CanBeSatisfied e.formula ↔ Solvable d job span
+  pub vars : (1 ≤ e.formula.vars) × (e.formula.vars ≤ 2 ^ 27)
   pub propagates : Propagates e
   pub origins : HasOriginsInBits m job span e
   pub empty : AsksNothing d job → e.formula ≡ empty_job
   pub choices : (job ≡ Step → ⊥) → (x : Assignment) → AreChoicesFor m (decoded e x)
   pub decodes : (job ≡ Step → ⊥) → (x : Assignment) → Satisfies x e.formula.clauses → IsDecoded m job span (decoded e x)
 
--- the text reads the design and no other, which is flat; the model is the design's, made of its parts; and each job is encoded
+-- each job before this one is encoded
+abbrev pub AreEncodedBefore : DesignOf → ModelOf → Span → List JobName → JobName → Type 0
+AreEncodedBefore d m span jobs job =
+    (i : ℕ) × (slice_get jobs i ≡ Some job)
+    × ((j : ℕ) (earlier : JobName) → j < i → slice_get jobs j ≡ Some earlier → (e : EncodedOf) × IsEncodedJob d m earlier span e)
+
+-- the span is one that the mode may have; the text reads the design and no other, which is flat; the model is the design's, made of its
+-- parts; and each job is encoded
 pub record IsProblem (p : AskedOf) : Type 0 where
+  pub span : IsSpanFor p.problem.mode (span_of p.problem)
   pub reads : Reads p.problem.text p.design
   pub only : (d : DesignOf) → Reads p.problem.text d → d ≡ p.design
   pub design : IsDesign p.design

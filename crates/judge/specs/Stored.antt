@@ -14,7 +14,7 @@ use Rattle.sby_terms.specs.declared.names.JobName.{JobName}
 use Rattle.sby_terms.specs.declared.names.Mode.{Mode}
 use Rattle.sby_terms.specs.declared.span.Span.{Span}
 use Rattle.judge.specs.Jobs.{AsksNothing, jobs_of}
-use Rattle.judge.specs.Problem.{AskedOf, IsEncodedJob, IsProblem}
+use Rattle.judge.specs.Problem.{AreEncodedBefore, AskedOf, IsEncodedJob, IsProblem}
 
 -- an encoded job by its name
 pub record JobOf : Type 0 where
@@ -25,8 +25,8 @@ abbrev pub names_in : List JobOf → List JobName
 names_in jobs = map (λ (j : JobOf). j.name) jobs
 
 -- what is asked, from what is kept
-abbrev pub asked_by : List ℕ → Mode → ℕ → DesignOf → ModelOf → List JobOf → AskedOf
-asked_by text mode depth d m jobs = record { problem = record { text = text; mode = mode; depth = depth }; design = d; model = m; encoded = map (λ (j : JobOf). j.encoded) jobs }
+abbrev pub asked_by : List ℕ → Mode → Span → DesignOf → ModelOf → List JobOf → AskedOf
+asked_by text mode span d m jobs = record { problem = record { text = text; mode = mode; span = span }; design = d; model = m; encoded = map (λ (j : JobOf). j.encoded) jobs }
 
 -- it is a problem, and the jobs have their names
 pub record IsStored (p : AskedOf) (jobs : List JobOf) : Type 0 where
@@ -46,6 +46,6 @@ pub record AreEncoded (d : DesignOf) (m : ModelOf) (span : Span) (names : List J
   pub named : names_in jobs ≡ names
   pub each : All (λ (j : JobOf). IsEncodedJob d m j.name span j.encoded) jobs
 
--- one of these jobs asks something, and has too many variables
+-- one of these jobs asks something, and has too many variables; those before it are encoded
 abbrev pub IsTooMany : DesignOf → ModelOf → Span → List JobName → JobName → Type 0
-IsTooMany d m span names job = ((i : ℕ) × (slice_get names i ≡ Some job)) × (AsksNothing d job → ⊥) × CanPass m (frames job span)
+IsTooMany d m span names job = ((i : ℕ) × (slice_get names i ≡ Some job)) × (AsksNothing d job → ⊥) × CanPass m (frames job span) × AreEncodedBefore d m span names job

@@ -9,7 +9,7 @@ ghost use Rattle.job_cnf.specs.Jobs.{IsJob, frames};
 ghost use Rattle.judge.specs.Jobs.{AsksNothing, jobs_in};
 ghost use Rattle.judge.specs.Problem.{IsEncodedJob};
 ghost use Rattle.judge.specs.Stored.{AreEncoded, IsBuiltFor, IsTooMany};
-ghost use Rattle.sby_terms.specs.Span.{whole};
+ghost use Rattle.sby_terms.specs.Span.{IsSpan};
 
 use cnf_form::write_dimacs;
 use cone_cnf::{Encoded, TooMany, encode};
@@ -84,13 +84,17 @@ pub(crate) fn model_of(alloc: Global, flat: &Flat) -> Result<WordModel, AllocErr
     Ok(model)
 }
 
-// The jobs of a mode, in order, where there are so many cover statements.
-fn names_of(alloc: Global, mode: Mode, covers: u32) -> Result<Vec<JobName>, AllocError>
-    ensures { (depth : ℕ) (d : DesignOf) → length (covers_in d) ≡ covers → IfOk result (λ names. names.items ≡ jobs_in mode (whole depth) d) }
+// The jobs of a mode over a span, in order, where there are so many cover statements.
+fn names_of(alloc: Global, mode: Mode, span: Span, covers: u32) -> Result<Vec<JobName>, AllocError>
+    requires { IsSpan span }
+    ensures { (d : DesignOf) → length (covers_in d) ≡ covers → IfOk result (λ names. names.items ≡ jobs_in mode span d) }
 {
     match mode {
         Mode::Bmc => {
-            let names = vec![in alloc; JobName::Base(0)]?;
+            let mut names = Vec::new(alloc);
+            for i in 0..span.slices() {
+                names.push(JobName::Base(i))?;
+            }
             Ok(names)
         }
         Mode::Prove => {
@@ -113,18 +117,18 @@ fn encode_job(
     flat: &Flat,
     model: &WordModel,
     name: JobName,
-    depth: u32,
+    span: Span,
 ) -> Result<Result<Job, TooMany>, AllocError>
     requires built { IsBuiltFor flat.now model.now }
-    requires least { 1 ≤ depth }
-    requires most { depth ≤ 1000 }
-    requires job { IsJob model.now name (whole depth) }
+    requires span { IsSpan span }
+    requires most { span.depth ≤ 100000 }
+    requires job { IsJob model.now name span }
     ensures name { IfOk result (λ r. IfOk r (λ job. job.name ≡ name)) }
-    ensures encoded { IfOk result (λ r. IfOk r (λ job. IsEncodedJob flat.now model.now name (whole depth) job.encoded)) }
-    ensures too_many { IfOk result (λ r. IfErr r (λ _. CanPass model.now (frames name (whole depth)))) }
+    ensures encoded { IfOk result (λ r. IfOk r (λ job. IsEncodedJob flat.now model.now name span job.encoded)) }
+    ensures too_many { IfOk result (λ r. IfErr r (λ _. CanPass model.now (frames name span))) }
     ensures asks { IfOk result (λ r. IfErr r (λ _. AsksNothing flat.now name → ⊥)) }
 {
-    match encode(alloc, model, name, Span::whole(depth))? {
+    match encode(alloc, model, name, span)? {
         Ok(encoded) => {
             let job = Job::new(alloc, name, encoded)?;
             Ok(Ok(job))
@@ -139,19 +143,19 @@ pub(crate) fn encode_all(
     flat: &Flat,
     model: &WordModel,
     mode: Mode,
-    depth: u32,
+    span: Span,
 ) -> Result<Result<Vec<Job>, JobName>, AllocError>
     requires built { IsBuiltFor flat.now model.now }
-    requires least { 1 ≤ depth }
-    requires most { depth ≤ 1000 }
-    ensures jobs { IfOk result (λ r. IfOk r (λ jobs. AreEncoded flat.now model.now (whole depth) (jobs_in mode (whole depth) flat.now) jobs.items)) }
-    ensures refused { IfOk result (λ r. IfErr r (λ job. IsTooMany flat.now model.now (whole depth) (jobs_in mode (whole depth) flat.now) job)) }
+    requires span { IsSpan span }
+    requires most { span.depth ≤ 100000 }
+    ensures jobs { IfOk result (λ r. IfOk r (λ jobs. AreEncoded flat.now model.now span (jobs_in mode span flat.now) jobs.items)) }
+    ensures refused { IfOk result (λ r. IfErr r (λ job. IsTooMany flat.now model.now span (jobs_in mode span flat.now) job)) }
 {
     let covers = model.covers().len() as u32;
-    let names = names_of(alloc, mode, covers)?;
+    let names = names_of(alloc, mode, span, covers)?;
     let mut jobs = Vec::new(alloc);
     for name in &names {
-        match encode_job(alloc, flat, model, *name, depth)? {
+        match encode_job(alloc, flat, model, *name, span)? {
             Ok(job) => jobs.push(job)?,
             Err(TooMany) => return Ok(Err(*name)),
         }

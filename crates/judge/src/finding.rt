@@ -15,7 +15,7 @@ ghost use Rattle.judge.specs.Problem.{IsEncodedOf, IsFormulaOf, IsJob};
 use crate::problem::Problem;
 use crate::run::PlayedRun;
 use crate::text::Text;
-use sby_terms::{Answer, JobName, Mode, Settled};
+use sby_terms::{Answer, JobName, Mode, Settled, Span};
 use std::alloc::{AllocError, Global};
 use std::marker::Model;
 
@@ -27,7 +27,7 @@ use std::marker::Model;
 pub struct Finding {
     text: Text,
     mode: Mode,
-    depth: u32,
+    span: Span,
     job: JobName,
     answer: Answer,
     run: Option<PlayedRun>,
@@ -38,9 +38,9 @@ impl Model for Finding {
 
     ghost Value = { FindingOf };
 
-    ghost view = { λ a. record { problem = record { text = a.text; mode = a.mode; depth = a.depth }; job = a.job; answer = a.answer; run = a.run } };
+    ghost view = { λ a. record { problem = record { text = a.text; mode = a.mode; span = a.span }; job = a.job; answer = a.answer; run = a.run } };
 
-    ghost invariant = { λ a. IsTrueFinding (record { problem = record { text = a.text; mode = a.mode; depth = a.depth }; job = a.job; answer = a.answer; run = a.run }) };
+    ghost invariant = { λ a. IsTrueFinding (record { problem = record { text = a.text; mode = a.mode; span = a.span }; job = a.job; answer = a.answer; run = a.run }) };
 }
 
 impl Finding {
@@ -69,13 +69,13 @@ impl Finding {
         self.run.as_ref()
     }
 
-    /// Whether it is of this problem and job: of its text, mode and depth.
+    /// Whether it is of this problem and job: of its text, mode and span.
     pub fn is_of(&self, problem: &Problem, job: JobName) -> bool
         ensures { IsTrue result ↔ ((self.now.problem ≡ problem.now.problem) × (self.now.job ≡ job)) }
     {
         self.text.as_slice() == problem.text()
             && self.mode == problem.mode()
-            && self.depth == problem.depth()
+            && self.span == problem.span()
             && self.job == job
     }
 }
@@ -90,7 +90,7 @@ pub(crate) fn unsat(problem: &Problem, job: JobName) -> Result<Finding, AllocErr
     Ok(Finding {
         text,
         mode: problem.mode(),
-        depth: problem.depth(),
+        span: problem.span(),
         job,
         answer: Answer::Unsat,
         run: None,
@@ -137,7 +137,7 @@ pub(crate) fn sat(
     Ok(Finding {
         text,
         mode: problem.mode(),
-        depth: problem.depth(),
+        span: problem.span(),
         job,
         answer: Answer::Sat,
         run,
@@ -185,7 +185,7 @@ impl Settled for Finding {
         Ok(Finding {
             text,
             mode: self.mode,
-            depth: self.depth,
+            span: self.span,
             job: self.job,
             answer: self.answer,
             run,

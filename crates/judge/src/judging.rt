@@ -3,7 +3,7 @@
 ghost use Rattle.std.specs.Prelude.{◌≡◌, ◌≢◌, ◌≤◌, ◌^◌, ◌++◌, List, ℕ, [], IfOk, IsErr, OnErr, Ok, Err};
 ghost use Rattle.job_cnf.specs.Decoding.{values_of};
 ghost use Rattle.job_cnf.specs.Encoding.{EncodedOf};
-ghost use Rattle.judge.specs.Judging.{Ends, Feeds, Finds, FindsPlayed, IsTrueOutcome, Took, fate_told, state_told};
+ghost use Rattle.judge.specs.Judging.{Ends, Feeds, Finds, FindsPlayed, IsTrueOutcome, Took, TookAll, fate_told, state_told};
 ghost use Rattle.judge.specs.Problem.{IsEncodedOf, IsJob};
 ghost use Rattle.stream_judge.specs.Outcomes.{fate_told as outcome_told};
 ghost use Rattle.stream_judge.specs.declared.stream.BadCert.{BadCert};
@@ -119,10 +119,10 @@ impl<'a> Judge<'a> {
         told
     }
 
-    /// The stream ends. Answers its fate, and never More.
+    /// The stream ends. Answers its fate, and never More; where Done or Unknown was answered, that again.
     pub fn end(&mut self) -> Result<Result<Progress, BadCert>, AllocError>
-        requires { self.old.state ≢ State.Over }
         ensures ends { (bytes : List ℕ) → Took self.old bytes → IfOk result (λ r. Ends self.old self.new bytes r) }
+        ensures again { (bytes : List ℕ) → TookAll self.old bytes → IfOk result (λ r. Ends self.old self.new bytes r) }
         ensures refused { (b : BadCert) → self.old.state ≡ State.Refused b → (result ≡ Ok (Err b)) × (self.new ≡ self.old) }
         ensures wanting { self.old.state ≡ State.Wanting → IsErr result }
         ensures err { OnErr result (self.new.state ≡ State.Wanting) }
@@ -130,8 +130,7 @@ impl<'a> Judge<'a> {
         match self.state {
             State::Refused(bad) => return Ok(Err(bad)),
             State::Wanting => return Err(AllocError),
-            State::Over => unreachable!(),
-            State::Reading => {}
+            State::Reading | State::Over => {}
         }
         let Ok(outcome) = self.stream.end() else {
             self.state = State::Wanting;

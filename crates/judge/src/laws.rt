@@ -1,28 +1,34 @@
 // Laws of problems, and of what their findings say.
 
-ghost use Rattle.std.specs.Prelude.{◌≡◌, ◌<◌, ◌≤◌, ◌++◌, ℕ, suc, Bool, false, Contains, List, length, Some, slice_get};
+ghost use Rattle.std.specs.Prelude.{◌≡◌, ◌↔◌, ◌<◌, ◌≤◌, ◌++◌, ◌∷◌, [], ℕ, suc, Bool, false, Contains, List, codes, length, Some, slice_get};
 ghost use Rattle.cnf_form.specs.Cnf.{FormulaOf};
+ghost use Rattle.cnf_form.specs.Dimacs.{IsDimacs};
 ghost use Rattle.cone_cnf.specs.Asking.{HasOriginsInBits};
 ghost use Rattle.design_core.specs.Places.{place_of};
 ghost use Rattle.design_core.specs.Shape.{CellOf, DesignOf};
 ghost use Rattle.design_core.specs.Table.{role_of};
-ghost use Rattle.design_meaning.specs.Claims.{NeverBreak, ReachRun, Shows};
+ghost use Rattle.design_meaning.specs.Claims.{NeverBreak, NoBreak, ReachRun, Shows};
 ghost use Rattle.design_meaning.specs.Meaning.{Broken, Frame, IsCell, Reached, Run, bit_in};
 ghost use Rattle.design_meaning.specs.Runs.{CycleOf, valuations};
 ghost use Rattle.design_meaning.specs.States.{StateBit, input_bits, state_bits, state_in, state_of};
+ghost use Rattle.design_reader.specs.Grammar.{Reads};
 ghost use Rattle.design_signals.specs.declared.sig_bit.SigBit.{SigBit};
-ghost use Rattle.job_cnf.specs.Encoding.{EncodedOf};
+ghost use Rattle.job_cnf.specs.Encoding.{CanBeSatisfied, EncodedOf};
 ghost use Rattle.job_cnf.specs.Encoding.Origin.{First, Input};
 ghost use Rattle.model_core.specs.Choices.{AreChoicesFor, ChoicesOf, Plays};
 ghost use Rattle.model_core.specs.Meaning.{Cycle};
 ghost use Rattle.model_core.specs.Shape.{states};
 ghost use Rattle.model_laws.specs.Reads.{IsReadOtherwise, IsStateRead};
-ghost use Rattle.sby_terms.specs.Span.{first_of, last_of, whole};
+ghost use Rattle.sby_terms.specs.Span.{IsSpan, first_of, last_of, slices_of, whole};
+ghost use Rattle.sby_terms.specs.declared.names.Answer.TheVariants.{Sat, Unsat};
 ghost use Rattle.sby_terms.specs.declared.names.JobName.{JobName};
 ghost use Rattle.sby_terms.specs.declared.names.JobName.TheVariants.{Base, Cover, Step};
+ghost use Rattle.sby_terms.specs.declared.names.Mode.TheVariants.{Bmc};
+ghost use Rattle.sby_terms.specs.declared.span.Span.{Span};
 ghost use Rattle.word_model.specs.Layout.{state_place, valued};
 ghost use Rattle.word_model.specs.Registers.{BeginsWith};
-ghost use Rattle.judge.specs.Jobs.{Solvable, span_of};
+ghost use Rattle.judge.specs.Finding.{FindingOf, IsTrueFinding};
+ghost use Rattle.judge.specs.Jobs.{AsksNothing, Solvable, jobs_in, span_of};
 ghost use Rattle.judge.specs.Played.{IsStreamsRun};
 ghost use Rattle.judge.specs.Problem.{AskedOf, IsEncodedOf, IsFormulaOf, IsJobFile, IsProblem};
 
@@ -30,6 +36,21 @@ ghost use Rattle.judge.specs.Problem.{AskedOf, IsEncodedOf, IsFormulaOf, IsJobFi
 pub fn one_file()
     ensures formula { (p : AskedOf) (job : JobName) (f g : FormulaOf) → IsFormulaOf p job f → IsFormulaOf p job g → f ≡ g }
     ensures file { (p : AskedOf) (job : JobName) (a b : List ℕ) → IsJobFile p job a → IsJobFile p job b → a ≡ b }
+{}
+
+/// A job's file is a formula that can be satisfied exactly where the job can be solved. Where the job asks nothing, its lines are
+/// `p cnf 1 1` and `0`.
+pub fn files_tell_what_jobs_ask()
+    ensures solvable { (p : AskedOf) (job : JobName) (bytes : List ℕ) (f : FormulaOf) → IsProblem p → IsJobFile p job bytes → IsDimacs bytes f
+        → CanBeSatisfied f ↔ Solvable p.design job (span_of p.problem) }
+    ensures empty { (p : AskedOf) (job : JobName) (bytes : List ℕ) → IsProblem p → IsJobFile p job bytes → AsksNothing p.design job
+        → bytes ≡ codes "p cnf 1 1" ++ 10 ∷ 48 ∷ 10 ∷ [] }
+{}
+
+/// A finding tells of each design that its text reads whether its job can be solved: Sat says that it can, Unsat that it can't.
+pub fn findings_tell_what_can_be_solved()
+    ensures sat { (f : FindingOf) (d : DesignOf) → IsTrueFinding f → Reads f.problem.text d → f.answer ≡ Sat → Solvable d f.job (span_of f.problem) }
+    ensures unsat { (f : FindingOf) (d : DesignOf) → IsTrueFinding f → Reads f.problem.text d → f.answer ≡ Unsat → Solvable d f.job (span_of f.problem) → ⊥ }
 {}
 
 /// A stream's run of a job shows what the job asks for, in its last cycle: of Base(i) a broken assertion in a cycle of slice i, of Cover(k)
@@ -79,6 +100,16 @@ pub fn played_run_is_zero_where_nothing_reads()
     ensures starts { (p : AskedOf) (job : JobName) (ended : Bool) (bytes : List ℕ) (most : ℕ) (run : List CycleOf) → IsProblem p → IsStreamsRun p job ended bytes most run → (job ≡ Step → ⊥)
         → (i k : ℕ) (c : CellOf) (s : StateBit) → IsCell p.design i c → slice_get (state_of (i, c)) k ≡ Some s → ((x : Bool) → BeginsWith (role_of c.kind) p.design i k x → ⊥)
         → (IsStateRead p.design s → ⊥) → state_in (valuations p.design run 0) s ≡ false }
+{}
+
+/// Bmc over a span: none of its jobs can be solved exactly where no run of more cycles than are skipped, and of at most `depth`, breaks an
+/// assertion in its last. Each slice is within the span, and the slices cover it.
+pub fn slices_show_that_nothing_breaks()
+    ensures jobs { (d : DesignOf) (span : Span) → IsSpan span
+        → ((job : JobName) → Contains (jobs_in Bmc span d) job → Solvable d job span → ⊥) ↔ NoBreak d span.skip span.depth }
+    ensures slices { (d : DesignOf) (span : Span) → IsSpan span
+        → ((i : ℕ) → i < slices_of span → NoBreak d (first_of span i) (last_of span i)) ↔ NoBreak d span.skip span.depth }
+    ensures within { (span : Span) (i : ℕ) → (span.skip ≤ first_of span i) × (last_of span i ≤ span.depth) }
 {}
 
 /// k-induction: where neither Base nor Step of one depth, over one slice from cycle 0, can be solved, no run breaks an assertion, whatever its

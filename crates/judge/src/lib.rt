@@ -13,8 +13,9 @@ pub use finding::Finding;
 pub use judging::{Judge, Progress, State};
 pub use laws::{
     base_and_step_show_that_nothing_breaks, every_choice_has_a_run_of_the_design,
-    free_variables_are_read, one_file, one_played_run, played_run_ends_at_first_goal,
-    played_run_is_zero_where_nothing_reads,
+    files_tell_what_jobs_ask, findings_tell_what_can_be_solved, free_variables_are_read, one_file,
+    one_played_run, played_run_ends_at_first_goal, played_run_is_zero_where_nothing_reads,
+    slices_show_that_nothing_breaks,
 };
 pub use problem::{Problem, ProblemFault};
 pub use run::PlayedRun;

@@ -10,7 +10,7 @@ ghost use Rattle.judge.specs.Places.{place_of};
 ghost use Rattle.judge.specs.Played.{IsPlayed};
 ghost use Rattle.judge.specs.Problem.{AskedOf, IsEncodedOf, IsJob, IsJobFile, IsProblem};
 ghost use Rattle.judge.specs.Stored.{AreEncoded, IsBuiltFor, IsTooMany};
-ghost use Rattle.sby_terms.specs.Span.{whole};
+ghost use Rattle.sby_terms.specs.Span.{IsSpan, whole};
 
 use crate::encoding::{Job, encode_all, model_of};
 use crate::run::PlayedRun;
@@ -21,17 +21,17 @@ use design_check::flat::Flat;
 use design_reader::{ReadFault, read};
 use model_core::model::WordModel;
 use model_play::whole::play;
-use sby_terms::{JobName, Mode};
+use sby_terms::{JobName, Mode, Span};
 use std::alloc::{AllocError, Global};
 use std::marker::Model;
 
-/// What is asked: a design's text, a mode and a depth; with the design that the text reads, its model, and its jobs as they are
-/// encoded.
+/// What is asked: a design's text, a mode and the cycles to look at; with the design that the text reads, its model, and its jobs as
+/// they are encoded.
 #[derive(Drop)]
 pub struct Problem {
     text: Text,
     mode: Mode,
-    depth: u32,
+    span: Span,
     flat: Flat,
     model: WordModel,
     jobs: Vec<Job>,
@@ -44,9 +44,9 @@ impl Model for Problem {
 
     ghost use Rattle.judge.specs.Stored.{IsStored, asked_by};
 
-    ghost view = { λ a. asked_by a.text a.mode a.depth a.flat a.model a.jobs.items };
+    ghost view = { λ a. asked_by a.text a.mode a.span a.flat a.model a.jobs.items };
 
-    ghost invariant = { λ a. IsStored (asked_by a.text a.mode a.depth a.flat a.model a.jobs.items) a.jobs.items };
+    ghost invariant = { λ a. IsStored (asked_by a.text a.mode a.span a.flat a.model a.jobs.items) a.jobs.items };
 }
 
 /// Why a problem is refused: the text reads no design, the design has a fault, or a job has too many variables.
@@ -58,19 +58,21 @@ pub enum ProblemFault {
 }
 
 impl Problem {
-    /// The problem of a design's text, at a depth from 1 to 1,000: all jobs of the mode are encoded, in their order. A refusal is
-    /// that of the earliest stage, and drops the text.
+    /// The problem of a design's text, over a span of at most 100,000 cycles; only bmc may skip cycles and have several slices. All
+    /// jobs of the mode are encoded, in their order, of bmc one for each slice. A refusal is that of the earliest stage, and drops the
+    /// text.
     pub fn new(
         alloc: Global,
         text: Vec<u8>,
         mode: Mode,
-        depth: u32,
+        span: Span,
     ) -> Result<Result<Problem, ProblemFault>, AllocError>
-        requires least { 1 ≤ depth }
-        requires most { depth ≤ 1000 }
+        requires span { IsSpan span }
+        requires most { span.depth ≤ 100000 }
+        requires mode { mode ≢ Mode.Bmc → span ≡ whole span.depth }
         ensures problem { IfOk result (λ r. MatchResult r
-            (λ p. (p.problem ≡ record { text = text.items; mode = mode; depth = depth }) × IsProblem p)
-            (IsProblemFault (record { text = text.items; mode = mode; depth = depth }))) }
+            (λ p. (p.problem ≡ record { text = text.items; mode = mode; span = span }) × IsProblem p)
+            (IsProblemFault (record { text = text.items; mode = mode; span = span }))) }
     {
         let design = match read(alloc, text.as_slice())? {
             Ok(design) => design,
@@ -81,7 +83,7 @@ impl Problem {
             Err(fault) => return Ok(Err(ProblemFault::Design(fault))),
         };
         let model = model_of(alloc, &flat)?;
-        let jobs = match encode_all(alloc, &flat, &model, mode, depth)? {
+        let jobs = match encode_all(alloc, &flat, &model, mode, span)? {
             Ok(jobs) => jobs,
             Err(job) => return Ok(Err(ProblemFault::TooMany(job))),
         };
@@ -89,7 +91,7 @@ impl Problem {
         let problem = Problem {
             text,
             mode,
-            depth,
+            span,
             flat,
             model,
             jobs,
@@ -127,11 +129,11 @@ impl Problem {
         self.mode
     }
 
-    /// The depth.
-    pub fn depth(&self) -> u32
-        ensures { result ≡ self.now.problem.depth }
+    /// The cycles to look at.
+    pub fn span(&self) -> Span
+        ensures { result ≡ self.now.problem.span }
     {
-        self.depth
+        self.span
     }
 
     /// The design that the text reads.

@@ -1,7 +1,6 @@
 use Rattle.std.proofs.Common.{take}
-use Rattle.sby_terms.specs.Span.{whole}
 use Rattle.judge.specs.Stored.{AreEncoded}
 use Rattle.judge.proofs.encoding.encode_all.Given as goal
 
 abbrev pub invariant-loop-name : goal.invariant-loop-name
-invariant-loop-name l = AreEncoded l.flat l.model (whole l.depth) (take l.name-index l.name-items) l.jobs.items
+invariant-loop-name l = AreEncoded l.flat l.model l.span (take l.name-index l.name-items) l.jobs.items

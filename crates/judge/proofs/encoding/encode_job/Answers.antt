@@ -5,6 +5,6 @@ pub returns-in_ok-job-in-Ok-clause-encoded : goal.returns-in_ok-job-in-Ok-clause
 returns-in_ok-job-in-Ok-clause-encoded c =
     let is = c.in-Ok.is in
     let told = c.in_ok-encoded.ensures in
-    rw (c.in_ok-job-in-Ok.ensures, ← c.whole.ensures)
-    (encoded_job c.args.flat.now c.args.model.now c.requires.built c.args.name c.whole.result c.in-Ok.encoded (rw is at told.solvable) (rw is at told.propagates) (rw is at told.origins)
+    rw c.in_ok-job-in-Ok.ensures
+    (encoded_job c.args.flat.now c.args.model.now c.requires.built c.args.name c.args.span c.in-Ok.encoded (rw is at told.solvable) (rw is at told.vars) (rw is at told.propagates) (rw is at told.origins)
     (rw is at told.empty) (rw is at told.choices) (rw is at told.decoded))

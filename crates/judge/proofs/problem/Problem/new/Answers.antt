@@ -16,7 +16,7 @@ returns-in-Err-3 c =
     let reads = subst (λ (d : DesignOf). Reads c.args.text.items d) (sym same) read in
     let flat = subst (λ (d : DesignOf). IsFlat d) (sym same) checked.1 in
     record {
-      problem = too_many c.in-Ok-2.flat c.in_ok-model.model c.in_ok-model.ensures (record { text = c.args.text.items; mode = c.args.mode; depth = c.args.depth }) c.in-Err-3.job c.requires.least reads flat
+      problem = too_many c.in-Ok-2.flat c.in_ok-model.model c.in_ok-model.ensures (record { text = c.args.text.items; mode = c.args.mode; span = c.args.span }) c.in-Err-3.job c.requires.span reads flat
           (rw c.in-Err-3.is at c.in_ok-jobs.ensures.refused);
     }
 
@@ -29,5 +29,5 @@ invariant_of-problem c =
     let reads = subst (λ (d : DesignOf). Reads c.args.text.items d) (sym same) read in
     let flat = subst (λ (d : DesignOf). IsFlat d) (sym same) checked.1 in
     let text = c.in_ok-text.ensures in
-    stored _ c.args.mode c.args.depth c.in-Ok-2.flat c.in_ok-model.model _ (subst (λ (bytes : List ℕ). Reads bytes c.in-Ok-2.flat) (sym text) reads)
+    stored _ c.args.mode c.args.span c.in-Ok-2.flat c.in_ok-model.model _ (record { is_span = c.requires.span; most = c.requires.most; one = c.requires.mode }) (subst (λ (bytes : List ℕ). Reads bytes c.in-Ok-2.flat) (sym text) reads)
     (λ e r. only e (subst (λ (bytes : List ℕ). Reads bytes e) text r) ∙ sym same) flat c.in_ok-model.ensures (rw c.in-Ok-3.is at c.in_ok-jobs.ensures.jobs)
