@@ -4,7 +4,7 @@ ghost use Rattle.std.specs.Prelude.{◌≡◌, ℕ, List};
 ghost use base.Fml.{ftrue};
 ghost use base.Stored.{coded_list, coded_ℕ};
 
-use std::marker::{Model, PhantomData};
+use std::marker::{Model, PhantomData, Send};
 
 /// What tells bytes to clauses.
 pub trait Told {
@@ -32,6 +32,8 @@ impl Output {
         }
     }
 }
+
+unsafe impl Send for Output {}
 
 impl Drop for Output {
     fn drop(self) {
