@@ -60,6 +60,7 @@ impl Started {
 }
 
 /// The bay of a lane in a yard of scripts.
+#[derive(Drop)]
 pub struct ScriptBay<'a, R: Wait + SystemClock> {
     rt: &'a R,
     stage: &'a Stage,
