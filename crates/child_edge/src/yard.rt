@@ -14,6 +14,7 @@ use std::process::{Processes, SystemProcess};
 use std::rt::Files as SystemFiles;
 
 /// Starts the children of one lane. Contracts see its counts.
+#[derive(Drop)]
 pub struct RealBay<'a, R> {
     rt: &'a R,
     start_faults: u64,

@@ -10,7 +10,7 @@ use Rattle.race_core.specs.declared.part.By.TheVariants as by
 use Rattle.race_core.specs.declared.part.Reader.{Reader}
 use Rattle.race_core.specs.declared.part.Reader.TheVariants as reader
 use Rattle.lane_child.specs.Judging.{Within}
-use Rattle.lane_child.specs.Reading.{Comes, HasRead, ReadsOn, ReadSoFar}
+use Rattle.lane_child.specs.Reading.{Comes, HasRead, ReadsOn, ReadSoFar, empty_reads}
 
 -- a reader that reads on comes to what its next read is judged as
 pub read_on : {T : Type 0} (r : Reader T) (n : ℕ) (p : Judged T) → ReadsOn r → reader_after (event.Read n p) r ≡ judged (by_of n) p
@@ -39,6 +39,7 @@ pub record AtRead {T : Type 0} (goes_on : Type 0) (stands stands' ends ends' pro
   pub reads : ReadsOn (reader_from reader.Fresh events)
   pub some : 1 ≤ room
   pub buffer : size ≡ 65536
+  pub unended : empty_reads events ≡ 0
 
 -- what it comes to by a later moment of the subject it comes to by an earlier one
 pub comes_within : {T : Type 0} (st st' en en' pr pr' : List ℕ → Judged T → Type 0) (ended : Type 0) (output proof : List ℕ) (part : Reader T)

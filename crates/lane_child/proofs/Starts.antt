@@ -1,26 +1,25 @@
 -- What a start, and the life behind it, leave to the bay.
-use Rattle.std.proofs.Common.{◌≡◌, ◌⊎◌, inl, inr, ℕ, zero, suc, ◌+◌, List, [], ◌∷◌, ◌++◌, length, Option, None, Some, IsSomeAnd, Result, Ok, Err, option_map, refl, sym, ap, subst, ◌∙◌, arith}
+use Rattle.std.proofs.Common.{◌≡◌, ◌⊎◌, inl, inr, ℕ, List, [], ◌∷◌, ◌++◌, length, Option, None, Some, IsSomeAnd, Result, Ok, Err, option_map, refl, sym, ap, subst, ◌∙◌, arith}
 use Rattle.std.proofs.lemmas.List.{append-nil}
 use Rattle.sby_edge.specs.declared.outside.Fail.{Fail}
 use Rattle.sby_edge.specs.declared.outside.Fail.TheVariants.{Memory as FailMemory}
 use Rattle.sby_edge.specs.Child.{BayOf, PipeOf, StartOf, finished, gave, pipe_of, started, up_to, with_given}
 use Rattle.sby_edge.specs.Script.{ScriptOf, GateOf}
 use Rattle.sby_terms.specs.declared.names.JobName.{JobName}
-use Rattle.sby_terms.specs.Problem.{ProblemOf}
 use Rattle.race_core.specs.Ends.{HasEnd}
 use Rattle.race_core.specs.Parts.{reader_from}
 use Rattle.race_core.specs.declared.end.JobEnd.{JobEnd}
 use Rattle.race_core.specs.declared.end.JobEnd.TheVariants as end
 use Rattle.race_core.specs.declared.event.Judged.{Judged}
-use Rattle.race_core.specs.declared.event.Judged.TheVariants.{More, Found, Unknown, Bad}
+use Rattle.race_core.specs.declared.event.Judged.TheVariants.{Found}
 use Rattle.race_core.specs.declared.event.LaneEvent.{LaneEvent}
 use Rattle.race_core.specs.declared.part.By.TheVariants as by
 use Rattle.race_core.specs.declared.part.Reader.{Reader}
 use Rattle.race_core.specs.declared.part.Reader.TheVariants as reader
 use Rattle.lane_child.specs.Judging.{Within}
-use Rattle.lane_child.specs.Reading.{Comes, IsProof, NoneLeft, Took, TookSome, bytes_filed, bytes_read}
+use Rattle.lane_child.specs.Reading.{Comes, IsProof, NoneLeft, TookSome, bytes_read}
 use Rattle.lane_child.specs.Sides.{RanFrom}
-use Rattle.lane_child.specs.Starting.{HasRun, IsFront, IsFrontOf, NoStart, ReadsScript, Starts, start_of, with_starts}
+use Rattle.lane_child.specs.Starting.{IsFront, NoStart, ReadsScript, Starts, start_of, with_starts}
 use Rattle.lane_child.proofs.Readers.{comes_within}
 
 -- what an ended output comes to, it comes to where something else says that it ended
@@ -106,20 +105,20 @@ place_taken script place now output (inl h) = (ap (λ (p : PipeOf). p.place) h.0
 place_taken script place now output (inr h) = (h.0, omega (h.1, arith))
 
 -- A child that was started ran. What its bay told before, after the start, and after its end; and its pipe.
-pub record Life {T : Type 0} (st en pr : List ℕ → Judged T → Type 0) (job : JobName) (words : List (List ℕ)) (most : ℕ) (bay bay' : Option BayOf) (events : List (LaneEvent T)) : Type 0 where
-  pub told : bay' ≡ option_map (with_starts (start_of job words (Some (bytes_read events)) ∷ [])) bay
+pub record Life {T : Type 0} (st en pr : List ℕ → Judged T → Type 0) (job : JobName) (words : List (List ℕ)) (file : List ℕ) (most : ℕ) (bay bay' : Option BayOf) (events : List (LaneEvent T)) : Type 0 where
+  pub told : bay' ≡ option_map (with_starts (start_of job words file (Some (bytes_read events)) ∷ [])) bay
   pub reads : ReadsScript st en pr bay job most events
 
-finished_bay : (job : JobName) (words : List (List ℕ)) (bay : BayOf) (now : PipeOf) (n : ℕ) → now.place ≡ length bay.starts → now.given ≡ n
-    → finished (Some now) (record bay { starts = bay.starts ++ record { job = job; words = words; given = None } ∷ [] }) ≡ with_starts (start_of job words (Some n) ∷ []) bay
-finished_bay job words bay now n at given = ap (λ (l : List StartOf). record bay { starts = l })
-    (subst (λ (p : ℕ). with_given p now.given (bay.starts ++ record { job = job; words = words; given = None } ∷ []) ≡ bay.starts ++ start_of job words (Some n) ∷ []) (sym at)
-    (subst (λ (m : ℕ). with_given (length bay.starts) m (bay.starts ++ record { job = job; words = words; given = None } ∷ []) ≡ bay.starts ++ start_of job words (Some n) ∷ []) (sym given)
-    (given_last n (record { job = job; words = words; given = None }) bay.starts)))
+finished_bay : (job : JobName) (words : List (List ℕ)) (file : List ℕ) (bay : BayOf) (now : PipeOf) (n : ℕ) → now.place ≡ length bay.starts → now.given ≡ n
+    → finished (Some now) (record bay { starts = bay.starts ++ record { job = job; words = words; bytes = file; given = None } ∷ [] }) ≡ with_starts (start_of job words file (Some n) ∷ []) bay
+finished_bay job words file bay now n at given = ap (λ (l : List StartOf). record bay { starts = l })
+    (subst (λ (p : ℕ). with_given p now.given (bay.starts ++ record { job = job; words = words; bytes = file; given = None } ∷ []) ≡ bay.starts ++ start_of job words file (Some n) ∷ []) (sym at)
+    (subst (λ (m : ℕ). with_given (length bay.starts) m (bay.starts ++ record { job = job; words = words; bytes = file; given = None } ∷ []) ≡ bay.starts ++ start_of job words file (Some n) ∷ []) (sym given)
+    (given_last n (record { job = job; words = words; bytes = file; given = None }) bay.starts)))
 
-module _ {T : Type 0} (st en pr : List ℕ → Judged T → Type 0) (job : JobName) (words : List (List ℕ)) (most : ℕ) (events : List (LaneEvent T)) where
-  life_untold : (bay' : Option BayOf) → RanFrom st en pr job most None bay' None events → Life st en pr job words most None bay' events
-  life_untold bay' (now, output, proof, told, took, read, filed, is_proof, comes) = record {
+module _ {T : Type 0} (st en pr : List ℕ → Judged T → Type 0) (job : JobName) (words : List (List ℕ)) (file : List ℕ) (most : ℕ) (events : List (LaneEvent T)) where
+  life_untold : (bay' : Option BayOf) → RanFrom st en pr job most None bay' None events → Life st en pr job words file most None bay' events
+  life_untold bay' (now, output, proof, told, took, read, filed, is_proof, comes, closed) = record {
     told = told;
     reads = record {
       output = output;
@@ -130,6 +129,7 @@ module _ {T : Type 0} (st en pr : List ℕ → Judged T → Type 0) (job : JobNa
       filed = filed;
       is_proof = at is_proof;
       comes = comes_ended st en pr (NoneLeft now) ([] ≡ []) output proof (reader_from reader.Fresh events) (λ _. refl) comes;
+      closed = λ some. refl;
     };
   }
     where
@@ -137,13 +137,13 @@ module _ {T : Type 0} (st en pr : List ℕ → Judged T → Type 0) (job : JobNa
       at (inl none) = inl none
       at (inr is) = inr tt
 
-  life_told : (bay : BayOf) (bay' : Option BayOf) → RanFrom st en pr job most (Some (record bay { starts = bay.starts ++ record { job = job; words = words; given = None } ∷ [] })) bay' (Some (pipe_of (bay.scripts job) (length bay.starts))) events
-      → Life st en pr job words most (Some bay) bay' events
-  life_told bay bay' (None, output, proof, told, took, read, filed, is_proof, comes) = absurd took
-  life_told bay bay' (Some now, output, proof, told, took, read, filed, is_proof, comes) =
+  life_told : (bay : BayOf) (bay' : Option BayOf) → RanFrom st en pr job most (Some (record bay { starts = bay.starts ++ record { job = job; words = words; bytes = file; given = None } ∷ [] })) bay' (Some (pipe_of (bay.scripts job) (length bay.starts))) events
+      → Life st en pr job words file most (Some bay) bay' events
+  life_told bay bay' (None, output, proof, told, took, read, filed, is_proof, comes, closed) = absurd took
+  life_told bay bay' (Some now, output, proof, told, took, read, filed, is_proof, comes, closed) =
       let place = place_taken (bay.scripts job) (length bay.starts) now output took in
       record {
-        told = told ∙ ap Some (finished_bay job words bay now (bytes_read events) place.0 (place.1 ∙ sym read));
+        told = told ∙ ap Some (finished_bay job words file bay now (bytes_read events) place.0 (place.1 ∙ sym read));
         reads = record {
           output = output;
           rest = now.bytes;
@@ -153,6 +153,7 @@ module _ {T : Type 0} (st en pr : List ℕ → Judged T → Type 0) (job : JobNa
           filed = filed;
           is_proof = at is_proof;
           comes = comes;
+          closed = closed;
         };
       }
     where
@@ -161,9 +162,9 @@ module _ {T : Type 0} (st en pr : List ℕ → Judged T → Type 0) (job : JobNa
       at (inr is) = inr (subst (λ (b : Option BayOf). IsProof b job most proof) told is)
 
   -- what is told of a start, and of the life behind it
-  pub life : {X : Type 0} (bay between bay' : Option BayOf) (pipe : Option PipeOf) (x : X) → between ≡ option_map (started (Ok x) job words) bay
+  pub life : {X : Type 0} (bay between bay' : Option BayOf) (pipe : Option PipeOf) (x : X) → between ≡ option_map (started (Ok x) job words file) bay
       → pipe ≡ option_map (λ (b : BayOf). pipe_of (b.scripts job) (length b.starts)) bay
-      → RanFrom st en pr job most between bay' pipe events → Life st en pr job words most bay bay' events
+      → RanFrom st en pr job most between bay' pipe events → Life st en pr job words file most bay bay' events
   life None between bay' pipe x is at h = life_untold bay' (subst (λ (b : Option BayOf). RanFrom st en pr job most b bay' None events) is (subst (λ (p : Option PipeOf). RanFrom st en pr job most between bay' p events) at h))
   life (Some bay) between bay' pipe x is at h =
       life_told bay bay' (subst (λ (b : Option BayOf). RanFrom st en pr job most b bay' (Some (pipe_of (bay.scripts job) (length bay.starts))) events) is (subst (λ (p : Option PipeOf). RanFrom st en pr job most between bay' p events) at h))
@@ -180,32 +181,34 @@ reads_within st st' en en' pr pr' bay job most events hs he hp h = record {
   filed = h.filed;
   is_proof = h.is_proof;
   comes = comes_within st st' en en' pr pr' (h.rest ≡ []) h.output h.proof (reader_from reader.Fresh events) hs he hp h.comes;
+  closed = h.closed;
 }
 
 -- so are the starts
-pub starts_within : {T : Type 0} (job : JobName) (words words' : List (List ℕ)) (A B : Type 0) (events : List (LaneEvent T)) (e : JobEnd T) (starts : List StartOf)
-    → words ≡ words' → (A → B) → Starts job words A events e starts → Starts job words' B events e starts
-starts_within job words words' A B events e starts is t (inl h) = inl h
-starts_within job words words' A B events e starts is t (inr (inl h)) = inr (inl (h.0, h.1, subst (λ (w : List (List ℕ)). starts ≡ start_of job w None ∷ []) is h.2))
-starts_within job words words' A B events e starts is t (inr (inr h)) = inr (inr (h.0, t h.1, subst (λ (w : List (List ℕ)). starts ≡ start_of job w (Some (bytes_read events)) ∷ []) is h.2))
+pub starts_within : {T : Type 0} (job : JobName) (words words' : List (List ℕ)) (file file' : List ℕ) (A B : Type 0) (events : List (LaneEvent T)) (e : JobEnd T) (starts : List StartOf)
+    → words ≡ words' → file ≡ file' → (A → B) → Starts job words file A events e starts → Starts job words' file' B events e starts
+starts_within job words words' file file' A B events e starts is bytes t (inl h) = inl h
+starts_within job words words' file file' A B events e starts is bytes t (inr (inl h)) = inr (inl (h.0, h.1, subst (λ (w : List (List ℕ)). starts ≡ start_of job w file' None ∷ []) is (subst (λ (b : List ℕ). starts ≡ start_of job words b None ∷ []) bytes h.2)))
+starts_within job words words' file file' A B events e starts is bytes t (inr (inr h)) = inr (inr (h.0, t h.1, subst (λ (w : List (List ℕ)). starts ≡ start_of job w file' (Some (bytes_read events)) ∷ []) is
+    (subst (λ (b : List ℕ). starts ≡ start_of job words b (Some (bytes_read events)) ∷ []) bytes h.2)))
 
 -- no start more
 pub no_starts : (bay : Option BayOf) → bay ≡ option_map (with_starts []) bay
 no_starts None = refl
 no_starts (Some bay) = ap (λ (l : List StartOf). Some (record bay { starts = l })) (sym (append-nil bay.starts))
 
-same_bay : {X : Type 0} (r : Result X Fail) (e : Fail) (job : JobName) (words : List (List ℕ)) (bay : Option BayOf) → r ≡ Err e → e ≡ FailMemory → option_map (started r job words) bay ≡ bay
-same_bay r e job words None is memory = refl
-same_bay {X} r e job words (Some bay) is memory = subst (λ (r : Result X Fail). option_map (started r job words) (Some bay) ≡ Some bay) (sym is)
-    (subst (λ (e : Fail). option_map (started {T = X} (Err e) job words) (Some bay) ≡ Some bay) (sym memory) refl)
+same_bay : {X : Type 0} (r : Result X Fail) (e : Fail) (job : JobName) (words : List (List ℕ)) (file : List ℕ) (bay : Option BayOf) → r ≡ Err e → e ≡ FailMemory → option_map (started r job words file) bay ≡ bay
+same_bay r e job words file None is memory = refl
+same_bay {X} r e job words file (Some bay) is memory = subst (λ (r : Result X Fail). option_map (started r job words file) (Some bay) ≡ Some bay) (sym is)
+    (subst (λ (e : Fail). option_map (started {T = X} (Err e) job words file) (Some bay) ≡ Some bay) (sym memory) refl)
 
-pub none_started : {X : Type 0} (r : Result X Fail) (e : Fail) (job : JobName) (words : List (List ℕ)) (bay bay' : Option BayOf) → r ≡ Err e → e ≡ FailMemory → bay' ≡ option_map (started r job words) bay
+pub none_started : {X : Type 0} (r : Result X Fail) (e : Fail) (job : JobName) (words : List (List ℕ)) (file : List ℕ) (bay bay' : Option BayOf) → r ≡ Err e → e ≡ FailMemory → bay' ≡ option_map (started r job words file) bay
     → bay' ≡ option_map (with_starts []) bay
-none_started r e job words bay bay' is memory told = told ∙ (same_bay r e job words bay is memory ∙ no_starts bay)
+none_started r e job words file bay bay' is memory told = told ∙ (same_bay r e job words file bay is memory ∙ no_starts bay)
 
-pub none_for_want : {T : Type 0} (job : JobName) (words : List (List ℕ)) (A : Type 0) (events : List (LaneEvent T)) (e : JobEnd T) → e ≡ end.Memory → events ≡ [] → Starts job words A events e []
-none_for_want {T} job words A events e is none = inl (subst (λ (e : JobEnd T). NoStart e) (sym is) tt, none, refl)
+pub none_for_want : {T : Type 0} (job : JobName) (words : List (List ℕ)) (file : List ℕ) (A : Type 0) (events : List (LaneEvent T)) (e : JobEnd T) → e ≡ end.Memory → events ≡ [] → Starts job words file A events e []
+none_for_want {T} job words file A events e is none = inl (subst (λ (e : JobEnd T). NoStart e) (sym is) tt, none, refl)
 
 -- a job that wasn't asked to start
-pub none_for_end : {T : Type 0} (job : JobName) (words : List (List ℕ)) (A : Type 0) (events : List (LaneEvent T)) (e : JobEnd T) → NoStart e → events ≡ [] → Starts job words A events e []
-none_for_end job words A events e is none = inl (is, none, refl)
+pub none_for_end : {T : Type 0} (job : JobName) (words : List (List ℕ)) (file : List ℕ) (A : Type 0) (events : List (LaneEvent T)) (e : JobEnd T) → NoStart e → events ≡ [] → Starts job words file A events e []
+none_for_end job words file A events e is none = inl (is, none, refl)

@@ -1,5 +1,5 @@
 -- What a job's reader takes of its child's pipe, and comes to by it.
-use Rattle.std.specs.Prelude.{◌≡◌, ◌≢◌, ◌⊎◌, ℕ, ◌+◌, List, [], ◌∷◌, ◌++◌, length, take, Bool, true, false, Option, None, Some, IsSomeAnd}
+use Rattle.std.specs.Prelude.{◌≡◌, ◌≢◌, ◌⊎◌, ℕ, zero, suc, ◌+◌, ◌<◌, List, [], ◌∷◌, ◌++◌, length, take, Bool, true, false, Option, None, Some, IsSomeAnd}
 use Rattle.sby_edge.specs.declared.outside.Got.{Got}
 use Rattle.sby_edge.specs.declared.outside.Got.TheVariants.{All, Long}
 use Rattle.sby_edge.specs.Child.{BayOf, PipeOf}
@@ -39,6 +39,41 @@ read_by event.Gave = 0
 abbrev pub bytes_read : {T : Type 0} → List (LaneEvent T) → ℕ
 bytes_read [] = 0
 bytes_read (e ∷ es) = read_by e + bytes_read es
+
+-- 1 where a read that didn't fail gave no byte, else 0
+abbrev pub no_byte : ℕ → ℕ
+no_byte zero = 1
+no_byte (suc n) = 0
+
+abbrev pub empty_read : {T : Type 0} → ℕ → Judged T → ℕ
+empty_read n judged.More = no_byte n
+empty_read n (judged.Found f) = no_byte n
+empty_read n judged.Unknown = no_byte n
+empty_read n (judged.Bad number at) = no_byte n
+empty_read n judged.Unjudged = no_byte n
+empty_read n judged.Failed = 0
+
+-- how many reads of an event gave no byte
+abbrev pub empty_by : {T : Type 0} → LaneEvent T → ℕ
+empty_by (event.Read n p) = empty_read n p
+empty_by (event.File n p) = 0
+empty_by (event.Settle won) = 0
+empty_by event.ReaderMemory = 0
+empty_by (event.Turns n) = 0
+empty_by (event.Poll p) = 0
+empty_by (event.Clock r) = 0
+empty_by (event.Look c known) = 0
+empty_by event.Kill = 0
+empty_by event.KeeperMemory = 0
+empty_by event.Took = 0
+empty_by event.Start = 0
+empty_by event.Finish = 0
+empty_by event.Gave = 0
+
+-- how many reads of a list gave no byte
+abbrev pub empty_reads : {T : Type 0} → List (LaneEvent T) → ℕ
+empty_reads [] = 0
+empty_reads (e ∷ es) = empty_by e + empty_reads es
 
 -- how many bytes of the proof file an event took
 abbrev pub filed_by : {T : Type 0} → LaneEvent T → ℕ
@@ -135,11 +170,12 @@ abbrev pub EnteredAs : {T : Type 0} → By → Judged T → Reader T → Type 0
 EnteredAs b p part = (part ≡ judged_as b p) ⊎ (part ≡ reader.Short)
 
 -- A moment of a reader's work since its pipe and its list were fresh: what it took of the pipe is the subject's output, as many bytes
--- as its list tells.
+-- as its list tells. A read gave no byte only where none is left.
 pub record ReadSoFar {T : Type 0} (pipe pipe' : Option PipeOf) (output : List ℕ) (events : List (LaneEvent T)) : Type 0 where
   pub took : Took pipe pipe' output
   pub counted : bytes_read events ≡ length output
   pub unfiled : bytes_filed events ≡ 0
+  pub closed : 0 < empty_reads events → NoneLeft pipe'
 
 -- what a proof file comes to
 abbrev pub Proves : {T : Type 0} → (List ℕ → Judged T → Type 0) → List ℕ → Reader T → Type 0

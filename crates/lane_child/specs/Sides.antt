@@ -16,7 +16,7 @@ use Rattle.race_core.specs.declared.part.Reason.{Reason}
 use Rattle.race_core.specs.declared.part.Reason.TheVariants as reason
 use Rattle.lane_child.specs.Judging.{Within}
 use Rattle.lane_child.specs.Keeping.{EndsChild, Keeps, TakesTurns}
-use Rattle.lane_child.specs.Reading.{Comes, HasRead, IsProof, NoneLeft, Proves, ReadSoFar, Settles, Took, bytes_filed, bytes_read}
+use Rattle.lane_child.specs.Reading.{Comes, HasRead, IsProof, NoneLeft, Proves, ReadSoFar, Settles, Took, bytes_filed, bytes_read, empty_reads}
 
 -- A reader's work on a fresh pipe with a fresh list. Its part is that of its list, and what its output comes to; it asks for the proof
 -- file only where the subject waits for it; that a read failed only where the pipe counted a fault.
@@ -57,8 +57,8 @@ abbrev pub Finishes : {T : Type 0} → (List ℕ → Judged T → Type 0) → Op
 Finishes {T} proves bay job most why part now filed = (between : Reader T) × Asks proves bay job most why part between filed × Settles between now
 
 -- the bay after one more start
-abbrev pub with_start : JobName → List (List ℕ) → BayOf → BayOf
-with_start job words bay = record bay { starts = bay.starts ++ record { job = job; words = words; given = None } ∷ [] }
+abbrev pub with_start : JobName → List (List ℕ) → List ℕ → BayOf → BayOf
+with_start job words bytes bay = record bay { starts = bay.starts ++ record { job = job; words = words; bytes = bytes; given = None } ∷ [] }
 
 -- the pipe of the next start
 abbrev pub next_pipe : JobName → BayOf → PipeOf
@@ -74,3 +74,4 @@ RanFrom stands ends proves job most bay bay' pipe events =
     × (bytes_read events ≡ length output) × (bytes_filed events ≡ length proof)
     × ((proof ≡ []) ⊎ IsProof bay' job most proof)
     × Comes stands ends proves (NoneLeft now) output proof (reader_from reader.Fresh events)
+    × (0 < empty_reads events → NoneLeft now)

@@ -1,5 +1,5 @@
 -- What a job leaves to its bay and its list, from the look before its start on.
-use Rattle.std.specs.Prelude.{◌≡◌, ◌⊎◌, ℕ, List, [], ◌∷◌, ◌++◌, length, Option, None, Some, IsSomeAnd}
+use Rattle.std.specs.Prelude.{◌≡◌, ◌⊎◌, ℕ, ◌<◌, List, [], ◌∷◌, ◌++◌, length, Option, None, Some, IsSomeAnd}
 use Rattle.sby_edge.specs.Child.{BayOf, StartOf, up_to}
 use Rattle.sby_edge.specs.Script.{ScriptOf}
 use Rattle.sby_terms.specs.declared.names.JobName.{JobName}
@@ -9,7 +9,7 @@ use Rattle.race_core.specs.declared.end.JobEnd.TheVariants as end
 use Rattle.race_core.specs.declared.event.Judged.{Judged}
 use Rattle.race_core.specs.declared.event.LaneEvent.{LaneEvent}
 use Rattle.race_core.specs.declared.part.Reader.TheVariants as reader
-use Rattle.lane_child.specs.Reading.{Comes, IsProof, bytes_filed, bytes_read}
+use Rattle.lane_child.specs.Reading.{Comes, IsProof, bytes_filed, bytes_read, empty_reads}
 
 -- an end of a job whose child ran
 abbrev pub HasRun : {T : Type 0} → JobEnd T → Type 0
@@ -50,7 +50,7 @@ IsFrontOf None job output rest = Unit {0}
 IsFrontOf (Some bay) job output rest = IsFront (bay.scripts job) output rest
 
 -- A reader took an output, a front of the script's, and perhaps a proof file, as many bytes as its list tells, and came to what these
--- come to. Nothing being left, the output ended.
+-- come to. Nothing being left, the output ended; a read gave no byte only then.
 pub record ReadsScript {T : Type 0} (stands ends proves : List ℕ → Judged T → Type 0) (bay : Option BayOf) (job : JobName) (most : ℕ) (events : List (LaneEvent T)) : Type 0 where
   pub output : List ℕ
   pub rest : List ℕ
@@ -60,18 +60,20 @@ pub record ReadsScript {T : Type 0} (stands ends proves : List ℕ → Judged T 
   pub filed : bytes_filed events ≡ length proof
   pub is_proof : (proof ≡ []) ⊎ IsProof bay job most proof
   pub comes : Comes stands ends proves (rest ≡ []) output proof (reader_from reader.Fresh events)
+  pub closed : 0 < empty_reads events → rest ≡ []
 
 -- the bay with these starts more
 abbrev pub with_starts : List StartOf → BayOf → BayOf
 with_starts starts bay = record bay { starts = bay.starts ++ starts }
 
--- a start of the job with these words, whose pipe gave so many bytes, if it was finished
-abbrev pub start_of : JobName → List (List ℕ) → Option ℕ → StartOf
-start_of job words given = record { job = job; words = words; given = given }
+-- a start of the job with these words and these bytes of the job, whose pipe gave so many bytes, if it was finished
+abbrev pub start_of : JobName → List (List ℕ) → List ℕ → Option ℕ → StartOf
+start_of job words file given = record { job = job; words = words; bytes = file; given = given }
 
--- The starts of a job: none; or one that failed; or one with these words whose child ran, and gave as many bytes as the reader's list tells.
-abbrev pub Starts : {T : Type 0} → JobName → List (List ℕ) → Type 0 → List (LaneEvent T) → JobEnd T → List StartOf → Type 0
-Starts job words ran events e starts =
+-- The starts of a job: none; or one with these words and this file that failed; or one whose child ran, and gave as many bytes as the
+-- reader's list tells.
+abbrev pub Starts : {T : Type 0} → JobName → List (List ℕ) → List ℕ → Type 0 → List (LaneEvent T) → JobEnd T → List StartOf → Type 0
+Starts job words file ran events e starts =
     (NoStart e × (events ≡ []) × (starts ≡ []))
-    ⊎ (((e ≡ end.StartFailed) × (events ≡ []) × (starts ≡ start_of job words None ∷ []))
-    ⊎ (HasRun e × ran × (starts ≡ start_of job words (Some (bytes_read events)) ∷ [])))
+    ⊎ (((e ≡ end.StartFailed) × (events ≡ []) × (starts ≡ start_of job words file None ∷ []))
+    ⊎ (HasRun e × ran × (starts ≡ start_of job words file (Some (bytes_read events)) ∷ [])))

@@ -2,7 +2,7 @@
 
 ghost use Rattle.std.specs.Prelude.{◌≡◌, ◌+◌, ◌<◌};
 ghost use Rattle.lane_child.specs.Keeping.{Adds};
-ghost use Rattle.lane_child.specs.Reading.{bytes_filed, bytes_read, filed_by, read_by};
+ghost use Rattle.lane_child.specs.Reading.{bytes_filed, bytes_read, empty_by, empty_reads, filed_by, read_by};
 ghost use Rattle.race_core.specs.Parts.{Terms, keeper_after, keeper_from, reader_after, reader_from};
 ghost use Rattle.race_core.specs.declared.part.Keeper.{Keeper};
 ghost use Rattle.race_core.specs.declared.part.Reader.{Reader};
@@ -10,7 +10,7 @@ ghost use Rattle.race_core.specs.declared.part.Reader.{Reader};
 use race_core::{EventList, LaneEvent, sharing};
 
 // Adds an event to a list that has the room for it.
-#[tactic(auto, using(crate::proofs::Entries::bytes_with, crate::proofs::Entries::filed_with, crate::proofs::Entries::adds_with))]
+#[tactic(auto, using(crate::proofs::Entries::bytes_with, crate::proofs::Entries::filed_with, crate::proofs::Entries::empty_with, crate::proofs::Entries::adds_with))]
 pub(crate) fn enter<T: Drop>(events: &mut EventList<T>, entry: LaneEvent<T>)
     requires { 0 < events.old.room }
     ensures room { events.new.room + 1 ≡ events.old.room }
@@ -18,6 +18,7 @@ pub(crate) fn enter<T: Drop>(events: &mut EventList<T>, entry: LaneEvent<T>)
     ensures keeper { (a : Terms T) (k : Keeper T) → keeper_from a k events.new.events ≡ keeper_after a entry (keeper_from a k events.old.events) }
     ensures bytes { bytes_read events.new.events ≡ bytes_read events.old.events + read_by entry }
     ensures filed { bytes_filed events.new.events ≡ bytes_filed events.old.events + filed_by entry }
+    ensures empty { empty_reads events.new.events ≡ empty_reads events.old.events + empty_by entry }
     ensures adds { Adds entry events.old.events events.new.events }
 {
     sharing::<T>();

@@ -2,7 +2,7 @@
 
 ghost use Rattle.std.specs.Prelude.{◌≡◌, ◌≢◌, ◌⊎◌, ℕ, ◌+◌, ◌<◌, ◌≤◌, [], Option, Some, IfSome, length, map, option_map, string_bytes, true};
 ghost use Rattle.lane_child.specs.Keeping.{EndsChild, HasKept, IsOfCell, Keeps, Remember, TakesTurns};
-ghost use Rattle.lane_child.specs.Reading.{HasRead, IfWon, IsHolding, IsOver, bytes_filed, bytes_read};
+ghost use Rattle.lane_child.specs.Reading.{HasRead, IfWon, IsHolding, IsOver, bytes_filed, bytes_read, empty_reads};
 ghost use Rattle.lane_child.specs.Starting.{HasRun};
 ghost use Rattle.lane_child.specs.Sides.{Asks, Finishes, RanFrom, kept_by};
 ghost use Rattle.race_cells.specs.Notes.{AreNotesOf, known_at};
@@ -64,6 +64,7 @@ fn ask_proof<L: Launch, S: Subject<T>, T: Settled + Drop>(
     ensures room { IsHolding result → 1 ≤ events.new.room }
     ensures asks { Asks (S.proves subject.old) (L.told bay.old) asked.now.job asked.now.most why.now part result (bytes_filed events.new.events) }
     ensures read { bytes_read events.new.events ≡ bytes_read events.old.events }
+    ensures empty { empty_reads events.new.events ≡ empty_reads events.old.events }
     ensures failed { result ≡ reader.Failed → (part ≡ reader.Failed) ⊎ Rose (L.read_faults bay.old) (L.read_faults bay.new) }
     ensures told { L.told bay.new ≡ L.told bay.old }
     ensures starts { L.start_faults bay.new ≡ L.start_faults bay.old }
@@ -98,6 +99,7 @@ fn finish_reader<L: Launch, S: Subject<T>, T: Settled + Drop>(
     ensures over { IsOver result.part (kept_by lived.why) }
     ensures finishes { Finishes (S.proves lived.subject) (L.told bay.old) asked.now.job asked.now.most lived.why lived.part result.part (bytes_filed result.events.events) }
     ensures read { bytes_read result.events.events ≡ bytes_read lived.events.events }
+    ensures empty { empty_reads result.events.events ≡ empty_reads lived.events.events }
     ensures remember { Remember notes.old notes.new }
     ensures won { IfWon result.part (λ f. known_at notes.new place ≡ Some f) }
     ensures failed { result.part ≡ reader.Failed → (lived.part ≡ reader.Failed) ⊎ Rose (L.read_faults bay.old) (L.read_faults bay.new) }
@@ -147,6 +149,7 @@ fn conclude<L: Launch, S: Subject<T> + Drop, T: Settled + Drop>(
     ensures right { RightReader (reader_from reader.Fresh result.events.events) }
     ensures finishes { Finishes (S.proves lived.subject) (L.told bay.old) asked.now.job asked.now.most lived.why lived.part (reader_from reader.Fresh result.events.events) (bytes_filed result.events.events) }
     ensures read { bytes_read result.events.events ≡ bytes_read lived.events.events }
+    ensures empty { empty_reads result.events.events ≡ empty_reads lived.events.events }
     ensures remember { Remember notes.old notes.new }
     ensures won { IfWon (reader_from reader.Fresh result.events.events) (λ f. known_at notes.new place ≡ Some f) }
     ensures started { HasRun result.end }

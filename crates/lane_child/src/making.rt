@@ -29,6 +29,9 @@ pub trait Makes<T: Settled>: Asks<T> {
     /// The words of the child.
     ghost words: { Self → ℕ → JobName → List (List ℕ) };
 
+    /// The job's file.
+    ghost file: { Self → JobName → List ℕ };
+
     /// What an output that begins with these bytes comes to, these bytes as the whole output, and these as the whole proof file.
     ghost stands: { Self → ℕ → JobName → List ℕ → Judged T → Type 0 };
 
@@ -57,7 +60,8 @@ pub trait Makes<T: Settled>: Asks<T> {
             × Within (Self.Subject.proves c.subject) (proves self.now lane job)) };
 
     /// The job's file.
-    fn bytes(&self, job: JobName) -> &[u8];
+    fn bytes(&self, job: JobName) -> &[u8]
+        ensures { result.now ≡ file self.now job };
 
     fn most(&self) -> u64
         ensures { result ≡ most self.now };

@@ -3,7 +3,7 @@
 
 ghost use Rattle.std.specs.Prelude.{◌≡◌, ◌≢◌, ◌⊎◌, ℕ, ◌+◌, ◌<◌, ◌≤◌, List, [], Some, IfOk, length, true};
 ghost use Rattle.lane_child.specs.Keeping.{Remember};
-ghost use Rattle.lane_child.specs.Reading.{FiledAs, IfWon, IsHolding, IsProof, Proves, Settles, got_bytes, bytes_filed, bytes_read};
+ghost use Rattle.lane_child.specs.Reading.{FiledAs, IfWon, IsHolding, IsProof, Proves, Settles, got_bytes, bytes_filed, bytes_read, empty_reads};
 ghost use Rattle.race_cells.specs.Notes.{AreNotesOf, known_at};
 ghost use Rattle.race_core.specs.Parts.{reader_from};
 ghost use Rattle.race_core.specs.declared.event.Judged.TheVariants as judged;
@@ -38,6 +38,7 @@ fn enter_memory<T: Drop>(events: &mut EventList<T>) -> Reader<T>
     ensures short { result ≡ reader.Short }
     ensures part { result ≡ reader_from reader.Fresh events.new.events }
     ensures read { bytes_read events.new.events ≡ bytes_read events.old.events }
+    ensures empty { empty_reads events.new.events ≡ empty_reads events.old.events }
     ensures filed { bytes_filed events.new.events ≡ bytes_filed events.old.events }
 {
     enter(events, LaneEvent::ReaderMemory);
@@ -65,6 +66,7 @@ pub(crate) fn settle<T: Settled + Drop>(
     ensures remember { Remember notes.old notes.new }
     ensures won { IfWon result (λ f. known_at notes.new place ≡ Some f) }
     ensures read { bytes_read events.new.events ≡ bytes_read events.old.events }
+    ensures empty { empty_reads events.new.events ≡ empty_reads events.old.events }
     ensures filed { bytes_filed events.new.events ≡ bytes_filed events.old.events }
 {
     let Reader::Holding { value, by } = part else {
@@ -99,6 +101,7 @@ fn enter_file<T: Settled + Drop>(
     ensures room { (result ≡ reader.Short) ⊎ (1 ≤ events.new.room) }
     ensures entered { FiledAs progress result }
     ensures read { bytes_read events.new.events ≡ bytes_read events.old.events }
+    ensures empty { empty_reads events.new.events ≡ empty_reads events.old.events }
     ensures filed { bytes_filed events.new.events ≡ bytes_filed events.old.events + bytes }
 {
     let by = By::File;
@@ -130,6 +133,7 @@ fn enter_unjudged<T: Drop>(events: &mut EventList<T>, bytes: u64) -> Reader<T>
     ensures part { result ≡ reader_from reader.Fresh events.new.events }
     ensures short { result ≡ reader.Short }
     ensures read { bytes_read events.new.events ≡ bytes_read events.old.events }
+    ensures empty { empty_reads events.new.events ≡ empty_reads events.old.events }
     ensures filed { bytes_filed events.new.events ≡ bytes_filed events.old.events + bytes }
 {
     enter(
@@ -166,6 +170,7 @@ fn judge_proof<S: Subject<T>, T: Settled + Drop>(
     ensures room { (result ≡ reader.Short) ⊎ (1 ≤ events.new.room) }
     ensures proves { Proves (S.proves subject.old) proof.now result }
     ensures read { bytes_read events.new.events ≡ bytes_read events.old.events }
+    ensures empty { empty_reads events.new.events ≡ empty_reads events.old.events }
     ensures filed { bytes_filed events.new.events ≡ bytes_filed events.old.events + length proof.now }
     ensures unfailed { result ≢ reader.Failed }
 {
@@ -191,6 +196,7 @@ pub(crate) fn read_proof<L: Launch, S: Subject<T>, T: Settled + Drop>(
     ensures proof { (proof : List ℕ) × ((proof ≡ []) ⊎ IsProof (L.told bay.old) asked.now.job asked.now.most proof)
         × (bytes_filed events.new.events ≡ length proof) × Proves (S.proves subject.old) proof result }
     ensures read { bytes_read events.new.events ≡ bytes_read events.old.events }
+    ensures empty { empty_reads events.new.events ≡ empty_reads events.old.events }
     ensures failed { result ≡ reader.Failed → Rose (L.read_faults bay.old) (L.read_faults bay.new) }
     ensures told { L.told bay.new ≡ L.told bay.old }
     ensures counts { (L.start_faults bay.new ≡ L.start_faults bay.old) × (L.hold_faults bay.new ≡ L.hold_faults bay.old) × (L.read_faults bay.old ≤ L.read_faults bay.new) }

@@ -2,7 +2,7 @@
 
 ghost use Rattle.std.specs.Prelude.{◌≡◌, ◌⊎◌, ◌+◌, ◌<◌, ◌≤◌, ◌^◌, [], ◌++◌, length, vec_len, IfOk, Option};
 ghost use Rattle.lane_child.specs.Judging.{Says, Within};
-ghost use Rattle.lane_child.specs.Reading.{Comes, EnteredAs, HasRead, NoneLeft, ReadSoFar, ReadsOn, bytes_filed, bytes_read};
+ghost use Rattle.lane_child.specs.Reading.{Comes, EnteredAs, HasRead, NoneLeft, ReadSoFar, ReadsOn, bytes_filed, bytes_read, empty_read, empty_reads, no_byte};
 ghost use Rattle.race_core.specs.Parts.{by_of, reader_of, reader_from};
 ghost use Rattle.race_core.specs.declared.event.Judged.TheVariants as judged;
 ghost use Rattle.race_core.specs.declared.part.Reader.TheVariants as reader;
@@ -37,6 +37,7 @@ fn enter_found<T: Settled + Drop>(events: &mut EventList<T>, bytes: u64, value: 
     ensures entered { EnteredAs (by_of bytes) (judged.Found value) result }
     ensures bytes { bytes_read events.new.events ≡ bytes_read events.old.events + bytes }
     ensures filed { bytes_filed events.new.events ≡ bytes_filed events.old.events }
+    ensures empty { empty_reads events.new.events ≡ empty_reads events.old.events + no_byte bytes }
     ensures room { 1 ≤ events.new.room }
 {
     let by = by_bytes(bytes);
@@ -64,6 +65,7 @@ fn enter_unjudged<T: Drop>(events: &mut EventList<T>, bytes: u64) -> Reader<T>
     ensures entered { result ≡ reader.Short }
     ensures bytes { bytes_read events.new.events ≡ bytes_read events.old.events + bytes }
     ensures filed { bytes_filed events.new.events ≡ bytes_filed events.old.events }
+    ensures empty { empty_reads events.new.events ≡ empty_reads events.old.events + no_byte bytes }
     ensures room { 1 ≤ events.new.room }
 {
     enter(
@@ -91,6 +93,8 @@ fn enter_read<T: Settled + Drop>(
     ensures entered { EnteredAs (by_of bytes) progress result }
     ensures bytes { bytes_read events.new.events ≡ bytes_read events.old.events + bytes }
     ensures filed { bytes_filed events.new.events ≡ bytes_filed events.old.events }
+    ensures empty { empty_reads events.new.events ≡ empty_reads events.old.events + empty_read bytes progress }
+    ensures unended { ReadsOn result → empty_read bytes progress ≡ 0 }
     ensures room { 1 ≤ events.new.room }
 {
     let by = by_bytes(bytes);
@@ -125,7 +129,9 @@ fn read_once<P: Pipe, S: Subject<T>, T: Settled + Drop>(
     requires room { 3 ≤ events.old.room }
     requires reads { ReadsOn (reader_from reader.Fresh events.old.events) }
     requires goes_on { S.goes_on subject.old }
+    requires unended { empty_reads events.old.events ≡ 0 }
     ensures part { result ≡ reader_from reader.Fresh events.new.events }
+    ensures unended { ReadsOn result → empty_reads events.new.events ≡ 0 }
     ensures ended { ReadsOn result ⊎ HasRead result }
     ensures room { 1 ≤ events.new.room }
     ensures goes_on { ReadsOn result → S.goes_on subject.new × Within (S.stands subject.new) (S.stands subject.old) × Within (S.ends subject.new) (S.ends subject.old) }
@@ -169,7 +175,9 @@ fn read_within<P: Pipe, S: Subject<T>, T: Settled + Drop>(
     requires room { 1 ≤ events.old.room }
     requires reads { ReadsOn (reader_from reader.Fresh events.old.events) }
     requires goes_on { S.goes_on subject.old }
+    requires unended { empty_reads events.old.events ≡ 0 }
     ensures part { result ≡ reader_from reader.Fresh events.new.events }
+    ensures unended { ReadsOn result → empty_reads events.new.events ≡ 0 }
     ensures ended { ReadsOn result ⊎ HasRead result }
     ensures room { (result ≡ reader.Short) ⊎ (1 ≤ events.new.room) }
     ensures goes_on { ReadsOn result → S.goes_on subject.new × Within (S.stands subject.new) (S.stands subject.old) × Within (S.ends subject.new) (S.ends subject.old) }

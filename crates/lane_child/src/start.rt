@@ -167,7 +167,7 @@ fn start_child<
     ensures won { IfWon (reader_from reader.Fresh result.events.events) (λ f. known_at notes.new watch.now.terms.now.cell ≡ Some f) }
     ensures found { (f : T) → HasEnd (reader_from reader.Fresh result.events.events) (end.Found f) → (T.problem f ≡ J.problem watch.now.asks.now) × (T.job f ≡ watch.now.terms.now.job) }
     ensures starts { (starts : List StartOf) × (L.told bay.new ≡ option_map (with_starts starts) (L.told bay.old))
-        × Starts watch.now.terms.now.job (map string_bytes child.words.items)
+        × Starts watch.now.terms.now.job (map string_bytes child.words.items) bytes.now
         (ReadsScript (S.stands child.subject) (S.ends child.subject) (S.proves child.subject) (L.told bay.old) watch.now.terms.now.job most result.events.events)
         result.events.events result.end starts }
     ensures start_failed { result.end ≡ end.StartFailed → Rose (L.start_faults bay.old) (L.start_faults bay.new) }
@@ -216,7 +216,7 @@ fn start_child<
 }
 
 /// Runs a job that the lane serves: it is skipped where a look before its start shows a finding that makes it needless; else its child
-/// is made and started, with these words, once, and runs to its end. Waits for the child.
+/// is made and started, with these words and the job's file, once, and runs to its end. Waits for the child.
 pub fn run_child<
     R: Threads + Wait + Sync,
     L: Launch,
@@ -246,7 +246,7 @@ pub fn run_child<
     ensures won { IfWon (reader_from reader.Fresh result.events.events) (λ f. known_at notes.new watch.now.terms.now.cell ≡ Some f) }
     ensures found { (f : T) → HasEnd (reader_from reader.Fresh result.events.events) (end.Found f) → (T.problem f ≡ M.problem watch.now.asks.now) × (T.job f ≡ watch.now.terms.now.job) }
     ensures starts { (starts : List StartOf) × (L.told bay.new ≡ option_map (with_starts starts) (L.told bay.old))
-        × Starts watch.now.terms.now.job (M.words watch.now.asks.now lane watch.now.terms.now.job)
+        × Starts watch.now.terms.now.job (M.words watch.now.asks.now lane watch.now.terms.now.job) (M.file watch.now.asks.now watch.now.terms.now.job)
         (ReadsScript (M.stands watch.now.asks.now lane watch.now.terms.now.job) (M.ends watch.now.asks.now lane watch.now.terms.now.job) (M.proves watch.now.asks.now lane watch.now.terms.now.job)
         (L.told bay.old) watch.now.terms.now.job (M.most watch.now.asks.now) result.events.events)
         result.events.events result.end starts }

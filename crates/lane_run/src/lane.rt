@@ -54,7 +54,7 @@ fn do_job<R: Threads + Wait + Sync, L: Launch, M: Makes<T>, T: Settled + Drop + 
     ensures looked { keeper.new.events ≢ [] }
     ensures faults { JobFaults (record { starts = L.start_faults bay.old; reads = L.read_faults bay.old; holds = L.hold_faults bay.old }) (record { starts = L.start_faults bay.new; reads = L.read_faults bay.new; holds = L.hold_faults bay.new }) result.end }
     ensures starts { (starts : List StartOf) × (L.told bay.new ≡ option_map (with_starts starts) (L.told bay.old))
-        × JobStarts (M.words task.now.makes.now report.now.lane) (M.stands task.now.makes.now report.now.lane) (M.ends task.now.makes.now report.now.lane) (M.proves task.now.makes.now report.now.lane)
+        × JobStarts (M.words task.now.makes.now report.now.lane) (M.file task.now.makes.now) (M.stands task.now.makes.now report.now.lane) (M.ends task.now.makes.now report.now.lane) (M.proves task.now.makes.now report.now.lane)
         (M.most task.now.makes.now) (name_at task.now.mode place) (L.told bay.old) result.events.events result.end starts }
 {
     let terms = task.terms(place);
@@ -135,7 +135,7 @@ fn run_job<R: Threads + Wait + Sync, L: Launch, M: Makes<T>, T: Settled + Drop +
     ensures faults { (e : JobEnd T) × (report.new.ends ≡ report.old.ends ++ e ∷ []) × JobFaults (record { starts = L.start_faults bay.old; reads = L.read_faults bay.old; holds = L.hold_faults bay.old }) (record { starts = L.start_faults bay.new; reads = L.read_faults bay.new; holds = L.hold_faults bay.new }) e }
     ensures stand { Stand place report.old report.new }
     ensures starts { (starts : List StartOf) × (L.told bay.new ≡ option_map (with_starts starts) (L.told bay.old))
-        × JobStarts (M.words task.now.makes.now report.old.lane) (M.stands task.now.makes.now report.old.lane) (M.ends task.now.makes.now report.old.lane) (M.proves task.now.makes.now report.old.lane)
+        × JobStarts (M.words task.now.makes.now report.old.lane) (M.file task.now.makes.now) (M.stands task.now.makes.now report.old.lane) (M.ends task.now.makes.now report.old.lane) (M.proves task.now.makes.now report.old.lane)
         (M.most task.now.makes.now) (name_at task.now.mode place) (L.told bay.old) (events_at report.new place).reader (end_at report.new place) starts }
 {
     let Ok(reader) = EventList::new(alloc, 1) else {
@@ -180,7 +180,7 @@ fn run_next<R: Threads + Wait + Sync, L: Launch, M: Makes<T>, T: Settled + Drop 
     ensures faults { (e : JobEnd T) × (report.new.ends ≡ report.old.ends ++ e ∷ []) × JobFaults (record { starts = L.start_faults bay.old; reads = L.read_faults bay.old; holds = L.hold_faults bay.old }) (record { starts = L.start_faults bay.new; reads = L.read_faults bay.new; holds = L.hold_faults bay.new }) e }
     ensures stand { Stand place report.old report.new }
     ensures starts { (starts : List StartOf) × (L.told bay.new ≡ option_map (with_starts starts) (L.told bay.old))
-        × ((CameLate report.new place × (starts ≡ [])) ⊎ JobStarts (M.words task.now.makes.now report.old.lane) (M.stands task.now.makes.now report.old.lane) (M.ends task.now.makes.now report.old.lane) (M.proves task.now.makes.now report.old.lane)
+        × ((CameLate report.new place × (starts ≡ [])) ⊎ JobStarts (M.words task.now.makes.now report.old.lane) (M.file task.now.makes.now) (M.stands task.now.makes.now report.old.lane) (M.ends task.now.makes.now report.old.lane) (M.proves task.now.makes.now report.old.lane)
         (M.most task.now.makes.now) (name_at task.now.mode place) (L.told bay.old) (events_at report.new place).reader (end_at report.new place) starts) }
 {
     match lasting_end(report.ends()) {
@@ -219,7 +219,7 @@ pub fn run_lane<
     ensures remember { Remember notes.old notes.new }
     ensures same { (report.new.lane ≡ report.old.lane) × (report.new.jobs ≡ report.old.jobs) }
     ensures faults { LaneFaults (record { starts = L.start_faults bay.old; reads = L.read_faults bay.old; holds = L.hold_faults bay.old }) (record { starts = L.start_faults bay.new; reads = L.read_faults bay.new; holds = L.hold_faults bay.new }) report.old.jobs report.new }
-    ensures starts { LaneStarts (M.words task.now.makes.now report.old.lane) (M.stands task.now.makes.now report.old.lane) (M.ends task.now.makes.now report.old.lane) (M.proves task.now.makes.now report.old.lane)
+    ensures starts { LaneStarts (M.words task.now.makes.now report.old.lane) (M.file task.now.makes.now) (M.stands task.now.makes.now report.old.lane) (M.ends task.now.makes.now report.old.lane) (M.proves task.now.makes.now report.old.lane)
         (M.most task.now.makes.now) task.now.mode (L.told bay.old) (L.told bay.new) report.old.jobs report.new }
     ensures stopped { LaneStops (C.may_read task.now.clock.now) task.now.limit report.old.jobs report.new }
 {

@@ -12,10 +12,11 @@ use Rattle.sby_terms.specs.declared.names.JobName.{JobName}
 abbrev pub YardOf : Type 0
 YardOf = ℕ → ℕ → JobName → ScriptOf
 
--- a start that was asked for, and from its finish on how many bytes its pipe gave
+-- a start that was asked for, with the job's bytes that it was given, and from its finish on how many bytes its pipe gave
 pub record StartOf : Type 0 where
   pub job : JobName
   pub words : List (List ℕ)
+  pub bytes : List ℕ
   pub given : Option ℕ
 
 -- a bay tells its lane's scripts and its starts, the first one first
@@ -63,10 +64,10 @@ Reads (Some before) None buffer (Ok count) = ⊥
 Reads (Some before) (Some now) buffer (Ok count) = GivesSome before (take count buffer) now
 
 -- the bay after a start was asked for; want of memory leaves it
-abbrev pub started : {T : Type 0} → Result T Fail → JobName → List (List ℕ) → BayOf → BayOf
-started (Ok _) job words bay = record bay { starts = bay.starts ++ record { job = job; words = words; given = None } ∷ [] }
-started (Err FailFailed) job words bay = record bay { starts = bay.starts ++ record { job = job; words = words; given = None } ∷ [] }
-started (Err FailMemory) job words bay = bay
+abbrev pub started : {T : Type 0} → Result T Fail → JobName → List (List ℕ) → List ℕ → BayOf → BayOf
+started (Ok _) job words bytes bay = record bay { starts = bay.starts ++ record { job = job; words = words; bytes = bytes; given = None } ∷ [] }
+started (Err FailFailed) job words bytes bay = record bay { starts = bay.starts ++ record { job = job; words = words; bytes = bytes; given = None } ∷ [] }
+started (Err FailMemory) job words bytes bay = bay
 
 -- a start whose pipe gave so many bytes
 abbrev pub gave : ℕ → StartOf → StartOf

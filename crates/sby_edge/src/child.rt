@@ -91,7 +91,7 @@ pub trait Launch {
         words: &[String],
         bytes: &[u8],
     ) -> Result<(Self::Pipe, Self::Hold), Fail>
-        ensures told { told self.new ≡ option_map (started result job (map string_bytes words.now)) (told self.old) }
+        ensures told { told self.new ≡ option_map (started result job (map string_bytes words.now) bytes.now) (told self.old) }
         ensures pipe { IfOk result (λ child. Self.Pipe.told child.0
             ≡ option_map (λ bay. pipe_of (bay.scripts job) (length bay.starts)) (told self.old)) }
         ensures exit { IfOk result (λ child. Self.Hold.exit child.1 ≡ option_map (λ bay. (bay.scripts job).exit) (told self.old)) }
@@ -122,7 +122,7 @@ pub trait Launch {
 
 /// What makes the bays of a run, one for each lane of each task. Tasks are counted from 0 in the order in which they run.
 pub trait Yard {
-    type Bay: Launch + Send;
+    type Bay: Launch + Send + Drop;
 
     /// The script of each task, lane and job, where they are told.
     ghost told: { Self → Option YardOf };

@@ -90,6 +90,7 @@ impl Hold for NoHold {
 }
 
 /// A bay whose every start fails. Contracts see its counts.
+#[derive(Drop)]
 pub struct NoBay {
     starts: u64,
     reads: u64,

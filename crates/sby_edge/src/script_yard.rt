@@ -18,11 +18,12 @@ use std::marker::Model;
 use std::sync::Wait;
 use std::time::Clock as SystemClock;
 
-/// A start that was asked for, and from its finish on how many bytes its pipe gave.
+/// A start that was asked for, with the job's bytes that it was given, and from its finish on how many bytes its pipe gave.
 #[derive(Drop)]
 pub struct Started {
     pub job: JobName,
     pub words: Vec<String>,
+    pub bytes: Vec<u8>,
     pub given: Option<usize>,
 }
 
@@ -32,12 +33,12 @@ impl Model for Started {
 
     ghost Value = { StartOf };
 
-    ghost view = { λ s. record { job = s.job; words = map string_bytes s.words.items; given = s.given } };
+    ghost view = { λ s. record { job = s.job; words = map string_bytes s.words.items; bytes = s.bytes.items; given = s.given } };
 }
 
 impl Started {
-    fn new(alloc: Global, job: JobName, words: &[String]) -> Result<Self, AllocError>
-        ensures { IfOk result (λ started. started ≡ record { job = job; words = map string_bytes words.now; given = None }) }
+    fn new(alloc: Global, job: JobName, words: &[String], bytes: &[u8]) -> Result<Self, AllocError>
+        ensures { IfOk result (λ started. started ≡ record { job = job; words = map string_bytes words.now; bytes = bytes.now; given = None }) }
     {
         let mut copied = Vec::with_capacity(alloc, words.len())?;
         for word in words {
@@ -46,6 +47,7 @@ impl Started {
         Ok(Started {
             job,
             words: copied,
+            bytes: Vec::from_slice(alloc, bytes)?,
             given: None,
         })
     }
@@ -58,6 +60,7 @@ impl Started {
 }
 
 /// The bay of a lane in a yard of scripts.
+#[derive(Drop)]
 pub struct ScriptBay<'a, R: Wait + SystemClock> {
     rt: &'a R,
     stage: &'a Stage,
@@ -119,12 +122,12 @@ impl<'a, R: Wait + SystemClock + Sync> Launch for ScriptBay<'a, R> {
         alloc: Global,
         job: JobName,
         words: &[String],
-        _bytes: &[u8],
+        bytes: &[u8],
     ) -> Result<(ScriptPipe<'a, R>, ScriptHold<'a, R>), Fail> {
         let script = script_for(self.scripts, self.other, self.task, self.lane, job);
         let times = self.times(job);
         let place = self.started.len();
-        let started = Started::new(alloc, job, words)?;
+        let started = Started::new(alloc, job, words, bytes)?;
         if script.fails(Call::Start, times) {
             self.started.push(started)?;
             self.start_faults = self.start_faults.saturating_add(1);

@@ -1,4 +1,4 @@
-use Rattle.std.proofs.Common.{◌≡◌, ◌⊎◌, [], ◌∙◌}
+use Rattle.std.proofs.Common.{◌≡◌, ◌⊎◌, ℕ, ◌<◌, [], subst, ◌∙◌}
 use Rattle.race_core.specs.Asking.{terms_of}
 use Rattle.race_core.specs.Parts.{keeper_from, reader_from}
 use Rattle.race_core.specs.declared.part.Keeper.TheVariants as keeper
@@ -45,4 +45,5 @@ returns-clause-ran g c =
           (c.live-lived.result.part ≡ reader.Asking → IsKilled (kept_by c.live-lived.result.why))
           ((asks.0 ≡ []) ⊎ IsProof (g.L.Launch.told c.live-lived.new.bay) c.args.asked.now.job c.args.asked.now.most asks.0)
           r.3 c.live-lived.ensures.proves asks.2 f.2,
+      λ some. r.2.closed (subst (λ (n : ℕ). 0 < n) c.conclude.ensures.empty some),
     )

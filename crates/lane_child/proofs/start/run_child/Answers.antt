@@ -1,6 +1,5 @@
-use Rattle.std.proofs.Common.{[], subst, map, string_bytes}
-use Rattle.race_core.specs.declared.event.LaneEvent.{LaneEvent}
-use Rattle.lane_child.specs.Keeping.{IsOfCell, Keeps}
+use Rattle.std.proofs.Common.{[], map, string_bytes}
+use Rattle.lane_child.specs.Keeping.{IsOfCell}
 use Rattle.lane_child.specs.Starting.{ReadsScript}
 use Rattle.lane_child.proofs.Keepers.{keeps_then}
 use Rattle.lane_child.proofs.Starts.{no_starts, none_for_end, none_for_want, reads_within, starts_within}
@@ -12,7 +11,7 @@ returns-in-Some-clause-starts g c =
     let job = c.args.watch.now.terms.now.job in (
       [],
       no_starts (g.L.Launch.told c.args.bay.now),
-      none_for_end job (g.M.Makes.words m c.args.lane job)
+      none_for_end job (g.M.Makes.words m c.args.lane job) (g.M.Makes.file m job)
           (ReadsScript (g.M.Makes.stands m c.args.lane job) (g.M.Makes.ends m c.args.lane job) (g.M.Makes.proves m c.args.lane job) (g.L.Launch.told c.args.bay.now) job (g.M.Makes.most m) c.args.reader_events.events)
           c.args.reader_events.events c.in-Some.end c.in-Some.ensures.end.0 c.requires.fresh.0,
     )
@@ -23,7 +22,7 @@ returns-in_default-make-clause-starts g c =
     let job = c.args.watch.now.terms.now.job in (
       [],
       no_starts (g.L.Launch.told c.args.bay.now),
-      none_for_want job (g.M.Makes.words m c.args.lane job)
+      none_for_want job (g.M.Makes.words m c.args.lane job) (g.M.Makes.file m job)
           (ReadsScript (g.M.Makes.stands m c.args.lane job) (g.M.Makes.ends m c.args.lane job) (g.M.Makes.proves m c.args.lane job) (g.L.Launch.told c.args.bay.now) job (g.M.Makes.most m) c.args.reader_events.events)
           c.args.reader_events.events c.want.result c.want.ensures.is c.requires.fresh.0,
     )
@@ -46,10 +45,10 @@ returns-clause-starts g c =
     let w = c.in-Ok.ensures.judges in (
       h.0,
       h.1,
-      starts_within job (map string_bytes c.in-Ok.child.words.items) (g.M.Makes.words m c.args.lane job)
+      starts_within job (map string_bytes c.in-Ok.child.words.items) (g.M.Makes.words m c.args.lane job) c.bytes.result.now (g.M.Makes.file m job)
           (ReadsScript (g.M.Subject.Subject.stands s) (g.M.Subject.Subject.ends s) (g.M.Subject.Subject.proves s) bay job (g.M.Makes.most m) events)
           (ReadsScript (g.M.Makes.stands m c.args.lane job) (g.M.Makes.ends m c.args.lane job) (g.M.Makes.proves m c.args.lane job) bay job (g.M.Makes.most m) events)
-          events c.start_child.result.end h.0 c.in-Ok.ensures.words
+          events c.start_child.result.end h.0 c.in-Ok.ensures.words c.bytes.ensures
           (reads_within (g.M.Subject.Subject.stands s) (g.M.Makes.stands m c.args.lane job) (g.M.Subject.Subject.ends s) (g.M.Makes.ends m c.args.lane job) (g.M.Subject.Subject.proves s) (g.M.Makes.proves m c.args.lane job)
           bay job (g.M.Makes.most m) events w.0 w.1 w.2)
           (rw c.most.ensures at h.2),

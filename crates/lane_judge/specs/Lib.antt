@@ -1,0 +1,4 @@
+-- Definitions.
+pub mod Fates
+pub mod Serving
+pub mod Words

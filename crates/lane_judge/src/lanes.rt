@@ -1,0 +1,135 @@
+// The lanes of a problem.
+
+ghost use Rattle.std.specs.Prelude.{◌≡◌, ℕ, IfOk, MatchBool, Some, map, slice_get, string_bytes};
+ghost use Rattle.judge.specs.Problem.{IsJob};
+ghost use Rattle.lane_judge.specs.Fates.{Ends, GoesOn, Proves, Stands, most_bytes};
+ghost use Rattle.lane_judge.specs.Serving.{IsServed, IsServing, file_of};
+ghost use Rattle.lane_judge.specs.Words.{job_path, words_at};
+ghost use Rattle.sby_terms.specs.Span.{slices_of};
+
+use crate::output::{Output, Told};
+use crate::subject::JobJudge;
+use crate::words::{job_path, words_of};
+use judge::{Finding, Judge, Problem, one_file};
+use lane_child::{Asks, Child, Makes};
+use sby_terms::{Engine, JobName, MAX_STREAM};
+use std::alloc::{AllocError, Global};
+use stream_judge::StreamKind;
+
+/// The lanes of a problem, one for each engine line: `sat` and `drup` serve every job, the other engines none. The jobs' files lie in
+/// the work folder, below `model`.
+#[derive(Clone, Copy)]
+pub struct ProblemLanes<'a> {
+    pub problem: &'a Problem,
+    pub engines: &'a [Engine],
+    pub folder: &'a str,
+}
+
+// Whether the lane's engine serves jobs.
+fn is_serving(engines: &[Engine], lane: u32) -> bool
+    ensures { MatchBool result (IsServing (slice_get engines.now lane)) (IsServing (slice_get engines.now lane) → ⊥) }
+{
+    match engines.get(lane as usize) {
+        Some(Engine::Sat(_) | Engine::Drup(_)) => true,
+        Some(Engine::Btor(_) | Engine::Lrat(_) | Engine::Proof(_) | Engine::ProofBinary(_)) => false,
+        None => false,
+    }
+}
+
+// Whether it is a job of the problem.
+fn is_job(problem: &Problem, job: JobName) -> bool
+    ensures { MatchBool result (IsJob problem.now job) (IsJob problem.now job → ⊥) }
+{
+    for place in 0..problem.jobs() {
+        if problem.job(place) == job {
+            return true;
+        }
+    }
+    false
+}
+
+// The path of a job's file.
+fn path_of(alloc: Global, lanes: &ProblemLanes<'_>, job: JobName) -> Result<String, AllocError>
+    ensures { IfOk result (λ t. string_bytes t ≡ job_path lanes.now.folder.now (slices_of lanes.now.problem.now.problem.span) job) }
+{
+    let _flat = lanes.problem.flat();
+    job_path(alloc, lanes.folder, lanes.problem.span().slices(), job)
+}
+
+impl<'a> Asks<Finding> for ProblemLanes<'a> {
+    ghost problem = { λ l. l.problem.now.problem };
+
+    fn is_for(&self, value: &Finding, job: JobName) -> bool {
+        value.is_of(self.problem, job)
+    }
+}
+
+// No bytes.
+#[derive(Drop)]
+struct Nothing;
+
+impl Told for Nothing {
+    ghost use Rattle.std.specs.Prelude.{[]};
+
+    ghost bytes = { λ _. [] };
+}
+
+impl<'a> Makes<Finding> for ProblemLanes<'a> {
+    type Subject = JobJudge<'a>;
+
+    ghost is_served = { λ l lane job. IsServed l.engines.now l.problem.now lane job };
+
+    ghost words = { λ l lane job. words_at (slice_get l.engines.now lane) (job_path l.folder.now (slices_of l.problem.now.problem.span) job) };
+
+    ghost file = { λ l job. file_of l.problem.now job };
+
+    ghost stands = { λ l lane job. Stands l.problem.now job };
+
+    ghost ends = { λ l lane job. Ends l.problem.now job };
+
+    ghost proves = { λ l lane job. Proves };
+
+    ghost most = { λ l. most_bytes };
+
+    fn serves(&self, lane: u32, job: JobName) -> bool {
+        is_serving(self.engines, lane) && is_job(self.problem, job)
+    }
+
+    fn make(
+        &self,
+        alloc: Global,
+        lane: u32,
+        job: JobName,
+    ) -> Result<Child<JobJudge<'a>>, AllocError> {
+        let Some(engine) = self.engines.get(lane as usize) else {
+            unreachable!()
+        };
+        let words = words_of(alloc, engine, path_of(alloc, self, job)?)?;
+        let judge = Judge::new(alloc, self.problem, job, StreamKind::Drup, MAX_STREAM)?;
+        let subject = JobJudge {
+            problem: self.problem,
+            job,
+            judge,
+            output: Output::of(&Nothing),
+        };
+        Ok(Child {
+            subject,
+            words,
+            proof: String::new(alloc),
+        })
+    }
+
+    #[tactic(auto, using(crate::proofs::Files::none_without_job))]
+    fn bytes(&self, job: JobName) -> &[u8] {
+        one_file();
+        if is_job(self.problem, job) {
+            self.problem.job_bytes(job)
+        } else {
+            &[]
+        }
+    }
+
+    fn most(&self) -> u64 {
+        MAX_STREAM
+    }
+}

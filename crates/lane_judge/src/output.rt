@@ -1,0 +1,42 @@
+// An output so far, of which no byte is kept.
+
+ghost use Rattle.std.specs.Prelude.{◌≡◌, ℕ, List};
+ghost use base.Fml.{ftrue};
+ghost use base.Stored.{coded_list, coded_ℕ};
+
+use std::marker::{Model, PhantomData, Send};
+
+/// What tells bytes to clauses.
+pub trait Told {
+    ghost bytes: { Self → List ℕ };
+}
+
+/// Bytes that only clauses read. It has none itself, so only a fact beside it ties them.
+pub struct Output {
+    marker: PhantomData<u8>,
+    pub ghost bytes: { List ℕ } by { coded_list coded_ℕ },
+}
+
+impl Model for Output {
+    ghost also_owns = { λ _. ftrue };
+}
+
+impl Output {
+    /// The bytes that this tells.
+    pub fn of<T: Told>(x: &T) -> Output
+        ensures { result.bytes ≡ T.bytes x.now }
+    {
+        let _ = x;
+        Output {
+            marker: PhantomData,
+        }
+    }
+}
+
+unsafe impl Send for Output {}
+
+impl Drop for Output {
+    fn drop(self) {
+        let Self { marker: _ } = self;
+    }
+}

@@ -1,0 +1,9 @@
+//! Lanes of a problem over children of scripts: tests alone.
+#![tactic(auto)]
+
+#[cfg(test)]
+mod child_tests;
+#[cfg(test)]
+mod race_tests;
+#[cfg(test)]
+mod tests;
