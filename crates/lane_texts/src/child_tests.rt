@@ -1,6 +1,6 @@
 // What one child may send, and the calls that may fail on it.
 
-use super::tests::{EMPTY, Ended, FREE, STOPS, Seen, TURNS, Terms, problem_of, raced, script_of};
+use super::tests::{Ended, FREE, STOPS, Seen, TURNS, Terms, problem_of, raced, script_of};
 use judge::Problem;
 use sby_edge::{Call, CallFault, Script, Scripted};
 use sby_terms::Answer;
@@ -61,24 +61,6 @@ fn streams_over_one_cycle(rt: HostRuntime) -> Result<(), Fail> {
         ("vv 0", Ended::Bad(41, 1)),
     ] {
         assert!(rt; always_ends(&rt, rt.alloc(), &problem, FREE, text, None, end)?, "{text}");
-    }
-    Ok(())
-}
-
-#[test]
-fn streams_of_other_problems(rt: HostRuntime) -> Result<(), Fail> {
-    let two = problem_of(rt.alloc(), TURNS, 2)?;
-    assert!(rt; always_ends(&rt, rt.alloc(), &two, FREE, "0 1", None, Ended::Bad(44, 0))?);
-    let empty = problem_of(rt.alloc(), EMPTY, 5)?;
-    for (text, end) in [
-        ("0\n", Ended::Found(Answer::Unsat)),
-        ("2 0\n", Ended::Bad(42, 0)),
-        ("-0", Ended::Bad(42, 1)),
-        ("01", Ended::Bad(42, 1)),
-        ("1 1 0\n", Ended::Bad(43, 2)),
-        ("v 0\n", Ended::Bad(45, 1)),
-    ] {
-        assert!(rt; always_ends(&rt, rt.alloc(), &empty, FREE, text, None, end)?, "{text}");
     }
     Ok(())
 }

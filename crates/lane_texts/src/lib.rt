@@ -4,6 +4,4 @@
 #[cfg(test)]
 mod child_tests;
 #[cfg(test)]
-mod race_tests;
-#[cfg(test)]
 mod tests;
