@@ -1,6 +1,6 @@
 // A job of a lane that has a child.
 
-ghost use Rattle.std.specs.Prelude.{◌≡◌, ◌≢◌, ◌⊎◌, ℕ, ◌+◌, ◌<◌, ◌≤◌, [], Option, Some, IfSome, length, map, option_map, string_bytes, true};
+ghost use Rattle.std.specs.Prelude.{◌≡◌, ◌≢◌, ◌⊎◌, ℕ, ◌+◌, ◌<◌, ◌≤◌, [], Option, Some, IfSome, length, map, option_map, string_bytes, false, true};
 ghost use Rattle.lane_child.specs.Keeping.{EndsChild, HasKept, IsOfCell, Keeps, Remember, TakesTurns};
 ghost use Rattle.lane_child.specs.Reading.{HasRead, IfWon, IsHolding, IsOver, bytes_filed, bytes_read, empty_reads};
 ghost use Rattle.lane_child.specs.Starting.{HasRun};
@@ -174,7 +174,7 @@ fn conclude<L: Launch, S: Subject<T> + Drop, T: Settled + Drop>(
     }
 }
 
-/// Runs a job whose child was started: its reader and its keeper beside each other, a kill where none came, the reap in every case, and
+/// Runs a job whose child was started, and not killed since: its reader and its keeper beside each other, a kill where none came, the reap in every case, and
 /// the end; then the proof file, where the output leaves the end to it, and the settle of what was found. Waits for the child.
 #[tactic(auto, using(crate::proofs::Endings::rose_later, crate::proofs::Endings::rose_earlier))]
 pub fn run_started<
@@ -199,6 +199,7 @@ pub fn run_started<
     requires fresh { (S.taken subject ≡ []) × (reader_events.events ≡ []) }
     requires reader_room { 1 ≤ reader_events.room }
     requires goes_on { S.goes_on subject }
+    requires alive { L.Hold.is_killed child.1 ≡ false }
     requires cell { watch.now.terms.now.cell < length watch.now.cells.now }
     requires other { IfSome watch.now.other (λ o. o.0 < length watch.now.cells.now) }
     requires notes { AreNotesOf watch.now.cells.now notes.old }

@@ -1,6 +1,6 @@
 // A child's life, from its start to its end.
 
-ghost use Rattle.std.specs.Prelude.{◌≡◌, ◌⊎◌, ℕ, ◌+◌, ◌<◌, ◌≤◌, ◌^◌, [], Option, IfSome, option_map, length, true};
+ghost use Rattle.std.specs.Prelude.{◌≡◌, ◌⊎◌, ℕ, ◌+◌, ◌<◌, ◌≤◌, ◌^◌, [], Option, IfSome, option_map, length, false, true};
 ghost use Rattle.std.specs.Option.{MatchOption};
 ghost use Rattle.lane_child.specs.Judging.{Within};
 ghost use Rattle.lane_child.specs.Keeping.{EndsChild, IsOfCell, Keeps, TakesTurns};
@@ -59,6 +59,7 @@ fn run_beside<
     events: &mut EventList<T>,
 ) -> (X, Kept<T>)
     requires reader { A.can_run reader.old }
+    requires alive { H.is_killed hold.old ≡ false }
     requires cell { watch.now.terms.now.cell < length watch.now.cells.now }
     requires other { IfSome watch.now.other (λ o. o.0 < length watch.now.cells.now) }
     requires notes { AreNotesOf watch.now.cells.now notes.old }
@@ -67,7 +68,7 @@ fn run_beside<
     ensures reader { A.runs reader.old result.0 reader.new }
     ensures kept { KeptOut (terms_of T.job T.answer watch.now.terms.now) (IsOfCell T.problem T.job (J.problem watch.now.asks.now) watch.now.terms.now watch.now.other) (C.may_read watch.now.clock.now) notes.old notes.new events.old.events events.new.events
         (H.faults hold.new) result.1.why result.1.is_failed }
-    ensures killed { MatchOption result.1.why (H.is_killed hold.new ≡ H.is_killed hold.old) (λ why. H.is_killed hold.new ≡ true) }
+    ensures killed { MatchOption result.1.why (H.is_killed hold.new ≡ false) (λ why. H.is_killed hold.new ≡ true) }
     ensures reaped { H.is_reaped hold.new ≡ H.is_reaped hold.old }
 {
     join_mut(
@@ -162,6 +163,7 @@ pub(crate) fn live<
     requires fresh { (S.taken subject ≡ []) × (reader_events.events ≡ []) }
     requires reader_room { 1 ≤ reader_events.room }
     requires goes_on { S.goes_on subject }
+    requires alive { L.Hold.is_killed child.1 ≡ false }
     requires cell { watch.now.terms.now.cell < length watch.now.cells.now }
     requires other { IfSome watch.now.other (λ o. o.0 < length watch.now.cells.now) }
     requires notes { AreNotesOf watch.now.cells.now notes.old }
