@@ -189,8 +189,12 @@ pub starts_within : {T : Type 0} (job : JobName) (words words' : List (List ℕ)
     → words ≡ words' → file ≡ file' → (A → B) → Starts job words file A events e starts → Starts job words' file' B events e starts
 starts_within job words words' file file' A B events e starts is bytes t (inl h) = inl h
 starts_within job words words' file file' A B events e starts is bytes t (inr (inl h)) = inr (inl (h.0, h.1, subst (λ (w : List (List ℕ)). starts ≡ start_of job w file' None ∷ []) is (subst (λ (b : List ℕ). starts ≡ start_of job words b None ∷ []) bytes h.2)))
-starts_within job words words' file file' A B events e starts is bytes t (inr (inr h)) = inr (inr (h.0, t h.1, subst (λ (w : List (List ℕ)). starts ≡ start_of job w file' (Some (bytes_read events)) ∷ []) is
-    (subst (λ (b : List ℕ). starts ≡ start_of job words b (Some (bytes_read events)) ∷ []) bytes h.2)))
+starts_within job words words' file file' A B events e starts is bytes t (inr (inr h)) = inr (inr (
+  h.0,
+  t h.1,
+  subst (λ (w : List (List ℕ)). starts ≡ start_of job w file' (Some (bytes_read events)) ∷ []) is
+      (subst (λ (b : List ℕ). starts ≡ start_of job words b (Some (bytes_read events)) ∷ []) bytes h.2),
+))
 
 -- no start more
 pub no_starts : (bay : Option BayOf) → bay ≡ option_map (with_starts []) bay

@@ -56,6 +56,7 @@ within_most file bytes most (f, dimacs, so_far) = by_cases (or_else (length byte
   where
     or_else : (a b : ℕ) → (a ≤ b) ⊎ (b < a)
     or_else a b = grind arith
+
     by_cases : (length bytes ≤ most) ⊎ (most < length bytes) → length bytes ≤ most
     by_cases (inl h) = h
     by_cases (inr h) = absurd (never_past (Bad TooLong most) (so_far.beyond h))

@@ -31,7 +31,8 @@ fn is_serving(engines: &[Engine], lane: u32) -> bool
 {
     match engines.get(lane as usize) {
         Some(Engine::Sat(_) | Engine::Drup(_)) => true,
-        Some(Engine::Btor(_) | Engine::Lrat(_) | Engine::Proof(_) | Engine::ProofBinary(_)) => false,
+        Some(Engine::Btor(_) | Engine::Lrat(_) | Engine::Proof(_) | Engine::ProofBinary(_)) =>
+            false,
         None => false,
     }
 }

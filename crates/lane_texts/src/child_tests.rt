@@ -60,7 +60,10 @@ fn streams_over_one_cycle(rt: HostRuntime) -> Result<(), Fail> {
         ("x", Ended::Bad(41, 0)),
         ("vv 0", Ended::Bad(41, 1)),
     ] {
-        assert!(rt; always_ends(&rt, rt.alloc(), &problem, FREE, text, None, end)?, "{text}");
+        assert!(rt;
+            always_ends(&rt, rt.alloc(), &problem, FREE, text, None, end)?,
+            "{text}"
+        );
     }
     Ok(())
 }
@@ -76,7 +79,10 @@ fn stalled_children_are_stopped(rt: HostRuntime) -> Result<(), Fail> {
         (15, Ended::Found(Answer::Unsat)),
     ] {
         let text = "c a\nc b\n-1 0\n0\n";
-        assert!(rt; always_ends(&rt, rt.alloc(), &problem, STOPS, text, Some(stall), end)?, "{stall}");
+        assert!(rt;
+            always_ends(&rt, rt.alloc(), &problem, STOPS, text, Some(stall), end)?,
+            "{stall}"
+        );
     }
     Ok(())
 }

@@ -94,7 +94,16 @@ const ASKED: [Row; 8] = [
         &["x", "y"],
     ),
     (
-        &["a/b.rtlil", "-f", "bmc", "--judge", "100000", "x", "-d", "o"],
+        &[
+            "a/b.rtlil",
+            "-f",
+            "bmc",
+            "--judge",
+            "100000",
+            "x",
+            "-d",
+            "o",
+        ],
         "o",
         "a/b.rtlil",
         Mode::Bmc,
