@@ -1,2 +1,4 @@
 pub mod Feeding
 pub mod Reading
+pub mod Answering
+pub mod Fates

@@ -43,17 +43,16 @@ bytes_read ended spot b (u ∷ ts) t f =
     sym (append_assoc (given_by spot b) (text_read true (next_spot spot b) t) (10 ∷ lines_read ended (u ∷ ts))) ∙ ap (λ z. z ++ 10 ∷ lines_read ended (u ∷ ts)) (byte_read true spot b t f)
 
 -- a line feed
-feed_read : (ended : Bool) (spot : Spot) (b : ℕ) (t : List ℕ) (ts : List (List ℕ)) → b ≡ 10
-    → given_by spot b ++ rest_read ended (next_spot spot b) (t ∷ ts) ≡ rest_read ended spot ([] ∷ t ∷ ts)
-feed_read ended Start b t ts e = rw e (ap (λ z. 10 ∷ z) (start_read ended (t ∷ ts)))
-feed_read ended (Held head) b t ts e = rw e (ap (λ z. head ∷ 10 ∷ z) (start_read ended (t ∷ ts)))
-feed_read ended Within b t ts e = rw e (ap (λ z. 10 ∷ z) (start_read ended (t ∷ ts)))
+feed_read : (ended : Bool) (spot : Spot) (t : List ℕ) (ts : List (List ℕ)) → given_by spot 10 ++ rest_read ended (next_spot spot 10) (t ∷ ts) ≡ rest_read ended spot ([] ∷ t ∷ ts)
+feed_read ended Start t ts = ap (λ z. 10 ∷ z) (start_read ended (t ∷ ts))
+feed_read ended (Held head) t ts = ap (λ z. head ∷ 10 ∷ z) (start_read ended (t ∷ ts))
+feed_read ended Within t ts = ap (λ z. 10 ∷ z) (start_read ended (t ∷ ts))
 
 step_read : (ended : Bool) (spot : Spot) (b : ℕ) (bs : List ℕ) → given_by spot b ++ rest_read ended (next_spot spot b) (lines_of bs) ≡ rest_read ended spot (lines_of (b ∷ bs))
 step_read ended spot b bs =
     let w = some_line bs in
     elim (cases_Bool (eqb b 10)) [
-      | inl t ↦ rw (t, w.2) (feed_read ended spot b w.0 w.1 (eqb-true b 10 t))
+      | inl t ↦ rw (t, w.2) (ap (λ z. given_by spot z ++ rest_read ended (next_spot spot z) (w.0 ∷ w.1)) (eqb-true b 10 t) ∙ feed_read ended spot w.0 w.1)
       | inr f ↦ rw (f, w.2) (bytes_read ended spot b w.1 w.0 f)
     ]
 
@@ -109,8 +108,8 @@ byte_values Start b t f =
     elim (cases_Bool (is_blank b)) [
       | inl k ↦ rw (f, k) refl
       | inr k ↦ elim (cases_Bool (eqb b 118)) [
-        | inl l ↦ elim (cases_Bool (eqb b 115)) [ inl m ↦ rw (f, k, l, m) refl | inr m ↦ rw (f, k, l, m) refl ]
-        | inr l ↦ elim (cases_Bool (eqb b 115)) [ inl m ↦ rw (f, k, l, m) refl | inr m ↦ rw (f, k, l, m) refl ]
+        | inl l ↦ elim (cases_Bool (eqb b 115)) [ inl m ↦ rw (f, k, l, m) (ap (λ z. z && is_alone t) l) | inr m ↦ rw (f, k, l, m) (ap (λ z. z && is_alone t) l) ]
+        | inr l ↦ elim (cases_Bool (eqb b 115)) [ inl m ↦ rw (f, k, l, m) (ap (λ z. z && is_alone t) l) | inr m ↦ rw (f, k, l, m) refl ]
       ]
     ]
 byte_values (Held head) b t f = rw f (or_false (is_values head && is_blank b))
@@ -121,16 +120,16 @@ behind_values Start values b = sym (or_false values)
 behind_values (Held head) values b = refl
 behind_values Within values b = sym (or_false values)
 
-feed_values : (spot : Spot) (b : ℕ) (t : List ℕ) (ts : List (List ℕ)) → b ≡ 10 → (values_behind spot false b || rest_values (next_spot spot b) (t ∷ ts)) ≡ rest_values spot ([] ∷ t ∷ ts)
-feed_values Start b t ts e = rw e refl
-feed_values (Held head) b t ts e = rw e (rw (and_true (is_values head)) refl)
-feed_values Within b t ts e = rw e refl
+feed_values : (spot : Spot) (t : List ℕ) (ts : List (List ℕ)) → (values_behind spot false 10 || rest_values (next_spot spot 10) (t ∷ ts)) ≡ rest_values spot ([] ∷ t ∷ ts)
+feed_values Start t ts = refl
+feed_values (Held head) t ts = refl
+feed_values Within t ts = refl
 
 step_values : (spot : Spot) (b : ℕ) (bs : List ℕ) → (values_behind spot false b || rest_values (next_spot spot b) (lines_of bs)) ≡ rest_values spot (lines_of (b ∷ bs))
 step_values spot b bs =
     let w = some_line bs in
     elim (cases_Bool (eqb b 10)) [
-      | inl t ↦ rw (t, w.2) (feed_values spot b w.0 w.1 (eqb-true b 10 t))
+      | inl t ↦ rw (t, w.2) (ap (λ z. values_behind spot false z || rest_values (next_spot spot z) (w.0 ∷ w.1)) (eqb-true b 10 t) ∙ feed_values spot w.0 w.1)
       | inr f ↦ rw (f, w.2) (sym (or_assoc (values_behind spot false b) (text_values (next_spot spot b) w.0) (any_values w.1)) ∙ ap (λ z. z || any_values w.1) (byte_values spot b w.0 f))
     ]
 

@@ -8,7 +8,7 @@ ghost use Rattle.stream_judge.specs.Outcomes.{fate_of, fate_told};
 ghost use Rattle.stream_judge.specs.declared.stream.Outcome.{Outcome};
 ghost use Rattle.output_judge.specs.Fate.{own_fate};
 ghost use Rattle.output_judge.specs.Judging.{Ends, Feeds, Gave, Goes, OutputOf, Stands};
-ghost use Rattle.output_judge.specs.Spots.{given_by};
+ghost use Rattle.output_judge.specs.Spots.{given_at_end, given_by, values_at_end};
 ghost use Rattle.output_judge.specs.declared.spot.Spot.TheVariants.{Start, Held, Within};
 
 use crate::spot::{Spot, ends_word, head_given, is_claim, next_spot, values_at_end, values_behind};
@@ -85,8 +85,20 @@ fn give_byte(judge: &mut StreamJudge, spot: Spot, b: u8) -> Result<(), AllocErro
     }
 }
 
+// Hands on what the output's end gives.
+fn give_end(judge: &mut StreamJudge, spot: Spot) -> Result<(), AllocError>
+    ensures gave { IfOk result (λ _. Gave judge.old (given_at_end spot) judge.new) }
+    ensures err { OnErr result (judge.new.wanting ≡ true) }
+{
+    match spot {
+        Spot::Held(head) => give(judge, &[head]),
+        Spot::Start | Spot::Within => give(judge, &[]),
+    }
+}
+
 fn own_outcome(values: bool, outcome: Outcome) -> Option<Outcome>
-    ensures { fate_told result ≡ own_fate values (fate_of outcome) }
+    ensures fate { fate_told result ≡ own_fate values (fate_of outcome) }
+    ensures same { (o : Outcome) → result ≡ Some o → o ≡ outcome }
 {
     match outcome {
         Outcome::Bad(bad) if bad.kind == CertKind::EarlyEnd && !values => None,
@@ -117,9 +129,9 @@ impl<'a> OutputJudge<'a> {
         ensures goes { IfOk result (λ count. Goes self.old (take count bytes.now) self.new) }
         ensures err { OnErr result (self.new.judge.wanting ≡ true) }
     {
-        if self.spot != Spot::Within {
+        let Spot::Within = self.spot else {
             return Ok(0);
-        }
+        };
         let count = before_feed(bytes);
         give(&mut self.judge, &bytes[..count])?;
         Ok(count)
@@ -170,12 +182,12 @@ impl<'a> OutputJudge<'a> {
     pub fn end(&mut self) -> Result<Option<Outcome>, AllocError>
         ensures same { IfOk result (λ _. IsSameJudge self.old.judge self.new.judge) }
         ensures ends { (bytes : List ℕ) → Stands self.old bytes → IfOk result (λ o. Ends self.old self.new bytes o) }
+        ensures again { (o : Outcome) → self.old.judge.wanting ≡ false → self.old.judge.outcome ≡ Some o
+            → IfOk result (λ answer. (fate_told answer ≡ own_fate (values_at_end self.old.spot self.old.values) (fate_of o)) × (self.new ≡ self.old)) }
         ensures wanting { self.old.judge.wanting ≡ true → IsErr result }
         ensures err { OnErr result (self.new.judge.wanting ≡ true) }
     {
-        if let Spot::Held(head) = self.spot {
-            give(&mut self.judge, &[head])?;
-        }
+        give_end(&mut self.judge, self.spot)?;
         let outcome = self.judge.end()?;
         Ok(own_outcome(values_at_end(self.spot, self.values), outcome))
     }
