@@ -1,19 +1,19 @@
 -- What the answers of a judge tell.
-use Rattle.std.proofs.Common.{◌≡◌, ℕ, Bool, true, false, List, [], ◌∷◌, ◌++◌, Option, Some, None, Result, Ok, Err, IfOk, refl, ap, sym, ◌∙◌, subst}
+use Rattle.std.proofs.Common.{◌≡◌, ℕ, Bool, true, false, List, [], ◌++◌, Option, Some, None, Result, Ok, Err, IfOk, refl, ap, sym, ◌∙◌, subst}
 use Rattle.std.proofs.lemmas.List.{append-nil}
 use Rattle.cnf_form.specs.Cnf.{Assignment, FormulaOf}
 use Rattle.cnf_form.specs.Dimacs.{IsDimacs}
-use Rattle.stream_judge.specs.Fate.{Fate, IsFate, IsFateSoFar}
+use Rattle.stream_judge.specs.Fate.{IsFate, IsFateSoFar}
 use Rattle.stream_judge.specs.Judging.{AreValuesOf, AreValuesTold, JudgeOf, Stands as StreamStands, Feeds as StreamFeeds, Ends as StreamEnds}
 use Rattle.stream_judge.specs.Outcomes.{fate_of, fate_told}
 use Rattle.stream_judge.specs.Values.{stream_values}
 use Rattle.stream_judge.specs.declared.stream.Outcome.{Outcome}
-use Rattle.output_judge.specs.Fate.{IsOutputFate, IsOutputFateSoFar, own_fate}
+use Rattle.output_judge.specs.Fate.{own_fate}
 use Rattle.output_judge.specs.Judging.{Ends, Feeds, Gave, Goes, OutputOf, Stands}
 use Rattle.output_judge.specs.Output.{has_values, stream_of}
 use Rattle.output_judge.specs.Spots.{given, given_at_end, spot_after, values_after, values_at_end}
 use Rattle.output_judge.specs.declared.spot.Spot.{Spot}
-use Rattle.output_judge.specs.declared.spot.Spot.TheVariants.{Start, Held, Within}
+use Rattle.output_judge.specs.declared.spot.Spot.TheVariants.{Start}
 use Rattle.output_judge.proofs.Feeding.{given_append, output, spot_append, values_append}
 use Rattle.output_judge.proofs.Reading.{given_is, given_whole, values_are}
 

@@ -1,19 +1,19 @@
 -- Fates of outputs: one, and for good.
-use Rattle.std.proofs.Common.{◌≡◌, ◌⊎◌, ℕ, ◌<◌, ◌≤◌, Bool, true, false, List, [], ◌∷◌, ◌++◌, length, take, Option, Some, None, refl, ap, sym, ◌∙◌, inl, inr, subst}
+use Rattle.std.proofs.Common.{◌≡◌, ℕ, Bool, true, false, List, [], ◌∷◌, ◌++◌, length, take, Option, Some, refl, ap, sym, ◌∙◌, inl, inr, subst}
 use Rattle.cnf_form.specs.Cnf.{Assignment, FormulaOf, LitOf, Satisfies}
 use Rattle.cnf_form.specs.Dimacs.{IsDimacs}
 use Rattle.cert_stream.specs.Telling.{Saying, IsClause, IsDelete, IsValue, IsValuesEnd, IsUnknown, IsFault}
+use Rattle.cert_stream.specs.Stream.{sayings}
 use Rattle.cert_stream.specs.declared.mode.WireFaultKind.{WireFaultKind}
 use Rattle.cert_stream.specs.declared.mode.WireFaultKind.TheVariants.{BadLine as BadLineFault, BadLiteral as BadLiteralFault, LineTooLong as LineTooLongFault}
-use Rattle.stream_judge.specs.Fate.{Fate, ComesTo, FateSoFar, Found, Unknown, Bad, IsFate, IsFateSoFar, cert_kind}
+use Rattle.stream_judge.specs.Fate.{Fate, ComesTo, FateSoFar, Found, Unknown, Bad, IsFate, cert_kind}
 use Rattle.sby_terms.specs.declared.names.Answer.{Answer}
 use Rattle.sby_terms.specs.declared.names.Answer.TheVariants.{Sat}
-use Rattle.stream_judge.specs.declared.stream.CertKind.{CertKind}
 use Rattle.stream_judge.specs.declared.stream.CertKind.TheVariants.{BadLine, BadLiteral, LineTooLong, NotRup, NotSatisfying, TooLong, EarlyEnd}
 use Rattle.stream_judge.specs.Values.{named, unnamed}
 use Rattle.stream_judge.proofs.Coming.{sides}
 use Rattle.stream_judge.proofs.Fates.{fate_at_end, fate_stays, file_fate, file_satisfied}
-use Rattle.output_judge.specs.Fate.{IsOutputFate, IsOutputFateSoFar, own_fate, unless_early}
+use Rattle.output_judge.specs.Fate.{IsOutputFate, IsOutputFateSoFar, own_fate}
 use Rattle.output_judge.specs.Output.{has_values, stream_of}
 use Rattle.output_judge.specs.Spots.{given, given_at_end, spot_after}
 use Rattle.output_judge.specs.declared.spot.Spot.TheVariants.{Start}
@@ -80,9 +80,9 @@ comes_late C F v (IsFault f ∷ ss) x e = late x (Bad (cert_kind f.kind) f.byte)
 pub so_far_late : (f : FormulaOf) (bytes : List ℕ) (most : ℕ) (x : Fate) → FateSoFar f bytes most (Some x) → IsLate x
 so_far_late f bytes most x h =
     elim (sides (length bytes) most) [
-      | inl l ↦ comes_late f.clauses f.clauses unnamed _ x (h.within l)
+      | inl l ↦ comes_late f.clauses f.clauses unnamed (sayings f.vars false bytes) x (h.within l)
       | inr l ↦ elim (h.beyond l) [
-        | inl (y, c, e) ↦ late x y e (comes_late f.clauses f.clauses unnamed _ y c)
+        | inl (y, c, e) ↦ late x y e (comes_late f.clauses f.clauses unnamed (sayings f.vars false (take most bytes)) y c)
         | inr (c, e) ↦ late x (Bad TooLong most) e (too_long_late most)
       ]
     ]

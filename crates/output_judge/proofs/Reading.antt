@@ -1,11 +1,11 @@
 -- Bytes one after the other are read as lines.
-use Rattle.std.proofs.Common.{◌≡◌, ◌⊎◌, ℕ, Bool, true, false, cond, not, ◌&&◌, ◌||◌, eqb, List, [], ◌∷◌, ◌++◌, refl, ap, sym, ◌∙◌, inl, inr, append_assoc}
+use Rattle.std.proofs.Common.{◌≡◌, ℕ, Bool, true, false, cond, ◌&&◌, ◌||◌, eqb, List, [], ◌∷◌, ◌++◌, refl, ap, sym, ◌∙◌, inl, inr, append_assoc}
 use Rattle.std.proofs.lemmas.Bool.{cases_Bool, eqb-true}
 use Rattle.std.proofs.lemmas.List.{append-nil}
 use Rattle.cert_stream.specs.Text.{is_blank, lines_of, put_first}
 use Rattle.cert_stream.proofs.Streams.{some_line}
 use Rattle.output_judge.specs.Output.{any_values, claim_read, has_values, is_alone, is_claim, is_values_line, line_read, lines_read, stream_of}
-use Rattle.output_judge.specs.Spots.{ends_word, given, given_at_end, given_by, head_given, is_values, next_spot, spot_after, values_after, values_at_end, values_behind}
+use Rattle.output_judge.specs.Spots.{given, given_at_end, given_by, is_values, next_spot, spot_after, values_after, values_at_end, values_behind}
 use Rattle.output_judge.specs.declared.spot.Spot.{Spot}
 use Rattle.output_judge.specs.declared.spot.Spot.TheVariants.{Start, Held, Within}
 

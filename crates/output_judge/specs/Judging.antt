@@ -1,5 +1,5 @@
 -- A judge of an output, and what its answers tell.
-use Rattle.std.specs.Prelude.{◌≡◌, ℕ, Bool, true, false, List, ◌++◌, Option, Some, None}
+use Rattle.std.specs.Prelude.{◌≡◌, ℕ, Bool, true, false, List, ◌++◌, Option, Some}
 use Rattle.cnf_form.specs.Dimacs.{IsDimacs}
 use Rattle.stream_judge.specs.Judging.{AreValuesTold, JudgeOf, Stands as StreamStands, IsSameJudge}
 use Rattle.stream_judge.specs.Values.{stream_values}

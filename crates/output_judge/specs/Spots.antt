@@ -1,5 +1,5 @@
 -- What each byte of an output does, and what is handed on as a stream.
-use Rattle.std.specs.Prelude.{ℕ, Bool, true, false, cond, ◌&&◌, ◌||◌, eqb, List, [], ◌∷◌, ◌++◌}
+use Rattle.std.specs.Prelude.{ℕ, Bool, cond, ◌&&◌, ◌||◌, eqb, List, [], ◌∷◌, ◌++◌}
 use Rattle.cert_stream.specs.Text.{is_blank}
 use Rattle.output_judge.specs.Output.{is_claim}
 use Rattle.output_judge.specs.declared.spot.Spot.{Spot}

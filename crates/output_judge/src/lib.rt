@@ -5,6 +5,8 @@
 mod judging;
 mod laws;
 mod spot;
+#[cfg(test)]
+mod tests;
 
 pub use judging::OutputJudge;
 pub use laws::{

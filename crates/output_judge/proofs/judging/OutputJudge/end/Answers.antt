@@ -1,4 +1,4 @@
-use Rattle.std.proofs.Common.{List, ℕ, sym, subst, refl, ap, ◌∙◌}
+use Rattle.std.proofs.Common.{List, ℕ, subst, refl, ap, ◌∙◌}
 use Rattle.stream_judge.specs.Outcomes.{fate_of}
 use Rattle.output_judge.specs.Fate.{own_fate}
 use Rattle.output_judge.specs.Judging.{Ends, OutputOf, Stands}

@@ -1,4 +1,4 @@
-use Rattle.std.proofs.Common.{ap, sym, subst, ◌∙◌, take}
+use Rattle.std.proofs.Common.{subst, take}
 use Rattle.output_judge.specs.Judging.{Goes, OutputOf}
 use Rattle.output_judge.proofs.Feeding.{goes_within, output}
 use Rattle.output_judge.proofs.judging.OutputJudge.pass.Goals as goal
