@@ -98,7 +98,7 @@ and_false : (x : Bool) → (x && false) ≡ false
 and_false true = refl
 and_false false = refl
 
-and_true : (x : Bool) → (x && true) ≡ x
+pub and_true : (x : Bool) → (x && true) ≡ x
 and_true true = refl
 and_true false = refl
 

@@ -1,6 +1,7 @@
 -- What a solver that leaves a proof file prints: lines of values and status lines, as in a stream, among others that say nothing.
 use Rattle.std.specs.Prelude.{ℕ, Bool, true, false, cond, ◌&&◌, ◌||◌, eqb, List, [], ◌∷◌, ◌++◌}
-use Rattle.cert_stream.specs.Text.{is_blank, lines_of}
+use Rattle.cert_stream.specs.Stream.{is_unknown}
+use Rattle.cert_stream.specs.Text.{is_blank, lines_of, words_from}
 
 -- s and v, which begin a status line and one of values where they are a word alone
 abbrev pub is_claim : ℕ → Bool
@@ -46,3 +47,16 @@ any_values (t ∷ ts) = is_values_line t || any_values ts
 -- some line of an output is one of values
 abbrev pub has_values : List ℕ → Bool
 has_values bytes = any_values (lines_of bytes)
+
+-- the line s UNKNOWN
+abbrev pub is_unknown_line : List ℕ → Bool
+is_unknown_line [] = false
+is_unknown_line (b ∷ bs) = cond (is_blank b) (is_unknown_line bs) (eqb b 115 && (is_alone bs && is_unknown (words_from true 0 [] bs)))
+
+abbrev pub any_unknown : List (List ℕ) → Bool
+any_unknown [] = false
+any_unknown (t ∷ ts) = is_unknown_line t || any_unknown ts
+
+-- some line of an output is s UNKNOWN
+abbrev pub has_unknown : List ℕ → Bool
+has_unknown bytes = any_unknown (lines_of bytes)

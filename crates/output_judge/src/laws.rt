@@ -1,12 +1,12 @@
 // Laws of the fates of outputs.
 
-ghost use Rattle.std.specs.Prelude.{◌≡◌, ◌++◌, ℕ, Bool, true, false, List, length, Option, Some, None};
+ghost use Rattle.std.specs.Prelude.{◌≡◌, ◌≤◌, ◌++◌, ℕ, Bool, true, false, List, length, Option, Some, None};
 ghost use Rattle.cnf_form.specs.Cnf.{Assignment, FormulaOf, Satisfies};
 ghost use Rattle.cnf_form.specs.Dimacs.{IsDimacs};
 ghost use Rattle.sby_terms.specs.declared.names.Answer.TheVariants.{Sat, Unsat};
 ghost use Rattle.stream_judge.specs.Fate.{Fate, Found};
 ghost use Rattle.output_judge.specs.Fate.{IsOutputFate, IsOutputFateSoFar};
-ghost use Rattle.output_judge.specs.Output.{has_values, stream_of};
+ghost use Rattle.output_judge.specs.Output.{has_unknown, has_values, stream_of};
 ghost use Rattle.output_judge.specs.Spots.{given, given_at_end, spot_after, values_after, values_at_end};
 ghost use Rattle.output_judge.specs.declared.spot.Spot.TheVariants.{Start};
 
@@ -46,4 +46,11 @@ pub fn fate_so_far_is_the_fate()
 /// Where an output's values are found to satisfy the formula of the job's file, some assignment does.
 pub fn found_sat_is_satisfiable()
     ensures { (job bytes : List ℕ) (most : ℕ) (f : FormulaOf) → IsDimacs job f → IsOutputFate job bytes most (Some (Found Sat)) → (x : Assignment) × Satisfies x f.clauses }
+{}
+
+/// The proof file decides exactly where an output has no more bytes than are taken, and neither a line of values nor the line s UNKNOWN.
+pub fn proof_decides()
+    ensures only { (job bytes : List ℕ) (most : ℕ) → IsOutputFate job bytes most None → (length bytes ≤ most) × (has_values bytes ≡ false) × (has_unknown bytes ≡ false) }
+    ensures where_none { (job bytes : List ℕ) (most : ℕ) (f : FormulaOf) → IsDimacs job f → length bytes ≤ most → has_values bytes ≡ false → has_unknown bytes ≡ false
+        → IsOutputFate job bytes most None }
 {}
