@@ -67,11 +67,12 @@ ends_output i spot values j k new o answer g f is told n bytes s =
     let h = f (given Start bytes ++ given_at_end spot) (g.stands (given Start bytes) s.judge) in
     let v : values_at_end spot values ≡ has_values bytes = ap (λ z. values_at_end z values) s.spot ∙ ap (λ w. values_at_end (spot_after Start bytes) w) s.values ∙ values_are bytes in
     record {
-      fate = λ file d.
-          (fate_of o,
-          subst (λ t. IsFate file t i.most (fate_of o)) e
-          (subst (λ m. IsFate file (given Start bytes ++ given_at_end spot) m (fate_of o)) g.same.1 (h.fate file (subst (IsDimacs file) (sym g.same.0) d))),
-          told ∙ ap (λ w. own_fate w (fate_of o)) v);
+      fate = λ file d. (
+        fate_of o,
+        subst (λ t. IsFate file t i.most (fate_of o)) e
+            (subst (λ m. IsFate file (given Start bytes ++ given_at_end spot) m (fate_of o)) g.same.1 (h.fate file (subst (IsDimacs file) (sym g.same.0) d))),
+        told ∙ ap (λ w. own_fate w (fate_of o)) v,
+      );
       values =
           subst (λ (z : JudgeOf). AreValuesTold i.formula (stream_values i.formula.vars true (stream_of true bytes) i.most) z.bits answer) (sym is)
           (subst (λ t. AreValuesTold i.formula (stream_values i.formula.vars true t i.most) k.bits answer) e

@@ -1,5 +1,5 @@
 -- Where the proof file decides.
-use Rattle.std.proofs.Common.{◌≡◌, ◌⊎◌, ℕ, ◌+◌, ◌<◌, ◌≤◌, Bool, true, false, cond, ◌&&◌, ◌||◌, eqb, List, [], ◌∷◌, ◌++◌, length, map, Option, Some, None, refl, ap, sym, ◌∙◌, inl, inr, subst, arith}
+use Rattle.std.proofs.Common.{◌≡◌, ℕ, ◌+◌, ◌≤◌, Bool, true, false, cond, ◌&&◌, ◌||◌, eqb, List, [], ◌∷◌, ◌++◌, length, map, Option, Some, None, refl, ap, sym, ◌∙◌, inl, inr, subst, arith}
 use Rattle.std.specs.Prelude.{slice_index}
 use Rattle.std.proofs.lemmas.Bool.{cases_Bool, eqb-true}
 use Rattle.std.proofs.lemmas.List.{length-append}
@@ -12,7 +12,7 @@ use Rattle.cert_stream.specs.Text.{NoFeed, Word, flush, is_blank, lines_of, put_
 use Rattle.cert_stream.proofs.Apart.{fed_lines}
 use Rattle.cert_stream.proofs.Streams.{some_line}
 use Rattle.cert_stream.proofs.Wording.{has_word, words_blank}
-use Rattle.stream_judge.specs.Fate.{Bad, Comes, Fate, FateOf, Found, Unknown, IsFate}
+use Rattle.stream_judge.specs.Fate.{Bad, Comes, Fate, FateOf, Unknown}
 use Rattle.stream_judge.specs.Values.{unnamed}
 use Rattle.stream_judge.specs.declared.stream.CertKind.TheVariants.{EarlyEnd}
 use Rattle.stream_judge.proofs.Coming.{sides}

@@ -97,9 +97,11 @@ output_stays job bytes rest most x (f, d, h) =
 
 pub output_at_end : (job bytes : List ℕ) (most : ℕ) (x : Fate) → IsOutputFateSoFar job bytes most (Some x) → IsOutputFate job bytes most (Some x)
 output_at_end job bytes most x (f, d, h) =
-    let m = read_end bytes in
-    (x, (f, d, fate_at_end f most (stream_of true bytes) x (subst (λ t. FateSoFar f t most (Some x)) (sym m.1) (fate_stays f most (stream_of false bytes) m.0 x h))),
-    sym (so_far_late f (stream_of false bytes) most x h (has_values bytes)))
+    let m = read_end bytes in (
+      x,
+      (f, d, fate_at_end f most (stream_of true bytes) x (subst (λ t. FateSoFar f t most (Some x)) (sym m.1) (fate_stays f most (stream_of false bytes) m.0 x h))),
+      sym (so_far_late f (stream_of false bytes) most x h (has_values bytes)),
+    )
 
 -- an own fate is the stream's
 own_same : (values : Bool) (x y : Fate) → Some y ≡ own_fate values x → x ≡ y

@@ -10,7 +10,7 @@ mod tests;
 
 pub use judging::OutputJudge;
 pub use laws::{
-    fate_so_far_is_the_fate, fates_stay, found_sat_is_satisfiable, one_fate, outputs_are_read_by_lines,
-    proof_decides, readings_go_on,
+    fate_so_far_is_the_fate, fates_stay, found_sat_is_satisfiable, one_fate,
+    outputs_are_read_by_lines, proof_decides, readings_go_on,
 };
 pub use spot::Spot;
