@@ -67,6 +67,7 @@ ends_output i spot values j k new o answer g f is told n bytes s =
     let h = f (given Start bytes ++ given_at_end spot) (g.stands (given Start bytes) s.judge) in
     let v : values_at_end spot values ≡ has_values bytes = ap (λ z. values_at_end z values) s.spot ∙ ap (λ w. values_at_end (spot_after Start bytes) w) s.values ∙ values_are bytes in
     record {
+      outcome = (o, ap (λ (z : JudgeOf). z.outcome) is ∙ h.over.outcome, told ∙ ap (λ w. own_fate w (fate_of o)) v);
       fate = λ file d. (
         fate_of o,
         subst (λ t. IsFate file t i.most (fate_of o)) e

@@ -3,10 +3,10 @@ use Rattle.std.specs.Prelude.{◌≡◌, ℕ, Bool, true, false, List, ◌++◌,
 use Rattle.cnf_form.specs.Dimacs.{IsDimacs}
 use Rattle.stream_judge.specs.Judging.{AreValuesTold, JudgeOf, Stands as StreamStands, IsSameJudge}
 use Rattle.stream_judge.specs.Values.{stream_values}
-use Rattle.stream_judge.specs.Outcomes.{fate_told}
+use Rattle.stream_judge.specs.Outcomes.{fate_of, fate_told}
 use Rattle.stream_judge.specs.declared.stream.Outcome.{Outcome}
-use Rattle.output_judge.specs.Fate.{IsOutputFate, IsOutputFateSoFar}
-use Rattle.output_judge.specs.Output.{stream_of}
+use Rattle.output_judge.specs.Fate.{IsOutputFate, IsOutputFateSoFar, own_fate}
+use Rattle.output_judge.specs.Output.{has_values, stream_of}
 use Rattle.output_judge.specs.Spots.{given, spot_after, values_after}
 use Rattle.output_judge.specs.declared.spot.Spot.{Spot}
 use Rattle.output_judge.specs.declared.spot.Spot.TheVariants.{Start}
@@ -43,7 +43,9 @@ pub record Feeds (old new : OutputOf) (bytes : List ℕ) (o : Option Outcome) : 
   pub fate : (file : List ℕ) → IsDimacs file old.judge.formula → IsOutputFateSoFar file bytes old.judge.most (fate_told o)
   pub values : AreValuesTold old.judge.formula (stream_values old.judge.formula.vars false (stream_of false bytes) old.judge.most) new.judge.bits o
 
--- The judge answers the fate of the bytes as the whole output, None where the proof file decides, with the values that they name.
+-- The judge answers the fate of the bytes as the whole output, None where the proof file decides, with the values that they name, and keeps
+-- the outcome that this is the fate of.
 pub record Ends (old new : OutputOf) (bytes : List ℕ) (o : Option Outcome) : Type 0 where
+  pub outcome : (x : Outcome) × (new.judge.outcome ≡ Some x) × (fate_told o ≡ own_fate (has_values bytes) (fate_of x))
   pub fate : (file : List ℕ) → IsDimacs file old.judge.formula → IsOutputFate file bytes old.judge.most (fate_told o)
   pub values : AreValuesTold old.judge.formula (stream_values old.judge.formula.vars true (stream_of true bytes) old.judge.most) new.judge.bits o

@@ -177,11 +177,12 @@ impl<'a> OutputJudge<'a> {
         self.judge.feed(&[])
     }
 
-    /// The output ends. Answers its fate, or nothing where it has none of its own, and the proof file decides: it is no longer than
-    /// `most` bytes, has no line of values, and doesn't say that the solver doesn't know.
+    /// The output ends. Answers its fate, and from then on always, or nothing where it has none of its own, and the proof file decides:
+    /// it is no longer than `most` bytes, has no line of values, and doesn't say that the solver doesn't know.
     pub fn end(&mut self) -> Result<Option<Outcome>, AllocError>
         ensures same { IfOk result (λ _. IsSameJudge self.old.judge self.new.judge) }
         ensures ends { (bytes : List ℕ) → Stands self.old bytes → IfOk result (λ o. Ends self.old self.new bytes o) }
+        ensures kept { IfOk result (λ _. (self.new.spot ≡ self.old.spot) × (self.new.values ≡ self.old.values)) }
         ensures again { (o : Outcome) → self.old.judge.wanting ≡ false → self.old.judge.outcome ≡ Some o
             → IfOk result (λ answer. (fate_told answer ≡ own_fate (values_at_end self.old.spot self.old.values) (fate_of o)) × (self.new ≡ self.old)) }
         ensures wanting { self.old.judge.wanting ≡ true → IsErr result }
