@@ -1,0 +1,5 @@
+pub mod Feeding
+pub mod Reading
+pub mod Answering
+pub mod Fates
+pub mod Deciding
