@@ -60,16 +60,25 @@ fn streams_over_one_cycle(rt: HostRuntime) -> Result<(), Fail> {
         ("x", Ended::Bad(41, 0)),
         ("vv 0", Ended::Bad(41, 1)),
     ] {
-        assert!(rt; always_ends(&rt, rt.alloc(), &problem, FREE, text, None, end)?, "{text}");
+        assert!(rt;
+            always_ends(&rt, rt.alloc(), &problem, FREE, text, None, end)?,
+            "{text}"
+        );
     }
     Ok(())
 }
 
 #[test]
-fn streams_of_other_problems(rt: HostRuntime) -> Result<(), Fail> {
-    let two = problem_of(rt.alloc(), TURNS, 2)?;
-    assert!(rt; always_ends(&rt, rt.alloc(), &two, FREE, "0 1", None, Ended::Bad(44, 0))?);
-    let empty = problem_of(rt.alloc(), EMPTY, 5)?;
+fn streams_over_two_cycles(rt: HostRuntime) -> Result<(), Fail> {
+    let problem = problem_of(rt.alloc(), TURNS, 2)?;
+    let end = Ended::Bad(44, 0);
+    assert!(rt; always_ends(&rt, rt.alloc(), &problem, FREE, "0 1", None, end)?);
+    Ok(())
+}
+
+#[test]
+fn streams_of_an_empty_job(rt: HostRuntime) -> Result<(), Fail> {
+    let problem = problem_of(rt.alloc(), EMPTY, 5)?;
     for (text, end) in [
         ("0\n", Ended::Found(Answer::Unsat)),
         ("2 0\n", Ended::Bad(42, 0)),
@@ -78,7 +87,10 @@ fn streams_of_other_problems(rt: HostRuntime) -> Result<(), Fail> {
         ("1 1 0\n", Ended::Bad(43, 2)),
         ("v 0\n", Ended::Bad(45, 1)),
     ] {
-        assert!(rt; always_ends(&rt, rt.alloc(), &empty, FREE, text, None, end)?, "{text}");
+        assert!(rt;
+            always_ends(&rt, rt.alloc(), &problem, FREE, text, None, end)?,
+            "{text}"
+        );
     }
     Ok(())
 }
@@ -94,7 +106,10 @@ fn stalled_children_are_stopped(rt: HostRuntime) -> Result<(), Fail> {
         (15, Ended::Found(Answer::Unsat)),
     ] {
         let text = "c a\nc b\n-1 0\n0\n";
-        assert!(rt; always_ends(&rt, rt.alloc(), &problem, STOPS, text, Some(stall), end)?, "{stall}");
+        assert!(rt;
+            always_ends(&rt, rt.alloc(), &problem, STOPS, text, Some(stall), end)?,
+            "{stall}"
+        );
     }
     Ok(())
 }

@@ -6,7 +6,18 @@ use super::tests::{Ended, FREE, Seen, TURNS, Terms, problem_of, raced, script_of
 use sby_edge::{Call, CallFault, Gate, Script, Scripted};
 use sby_terms::{Answer, JobName, Verdict};
 use std::alloc::{AllocError, Global};
+use std::sync::Wait;
 use std::test::Fail;
+use std::thread::Threads;
+use std::time::Clock as SystemClock;
+
+// What was seen of two lanes, and the verdict.
+#[derive(Clone, Copy)]
+struct Pair {
+    first: Seen,
+    second: Seen,
+    verdict: Option<Verdict>,
+}
 
 // The script of a lane.
 fn of_lane(lane: u32, script: Script) -> Scripted {
@@ -37,84 +48,118 @@ fn gated(alloc: Global, lane: u32, text: &str) -> Result<Scripted, AllocError>
     ))
 }
 
-// How the lanes ended, where the children of both were reaped.
-fn ends(seen: [Option<Seen>; 2]) -> Option<[Ended; 2]> {
-    match seen {
-        [Some(one), Some(two)] if one.is_reaped && two.is_reaped => Some([one.end, two.end]),
-        _ => None,
+// Each of two lanes waits for the other.
+fn both_gated(alloc: Global) -> Result<Vec<Scripted>, AllocError> {
+    let mut scripts = Vec::new(alloc);
+    scripts.push(gated(alloc, 0, "0\n")?)?;
+    scripts.push(gated(alloc, 1, "s UNKNOWN\n")?)?;
+    Ok(scripts)
+}
+
+// The first lane stalls in mid-stream.
+fn first_stalls(alloc: Global) -> Result<Vec<Scripted>, AllocError> {
+    let mut script = script_of(alloc, "c half\n")?;
+    script.stalls = Some(7);
+    let mut scripts = Vec::new(alloc);
+    scripts.push(of_lane(0, script))?;
+    Ok(scripts)
+}
+
+// The first lane's child does not start.
+fn first_fails(alloc: Global) -> Result<Vec<Scripted>, AllocError> {
+    let mut script = script_of(alloc, "0\n")?;
+    let fault = CallFault {
+        call: Call::Start,
+        nth: 1,
+    };
+    script.faults.push(fault)?;
+    let mut scripts = Vec::new(alloc);
+    scripts.push(of_lane(0, script))?;
+    Ok(scripts)
+}
+
+// What was seen of two lanes over these scripts, a lane without one of its own over `0`.
+fn paired<R: Threads + Wait + SystemClock + Sync>(
+    rt: &R,
+    alloc: Global,
+    terms: Terms,
+    scripts: &[Scripted],
+) -> Result<Pair, Fail> {
+    let problem = problem_of(alloc, TURNS, 1)?;
+    let other = script_of(alloc, "0\n")?;
+    let (seen, verdict) = raced(rt, alloc, &problem, 2, terms, scripts, &other)?;
+    match (seen[0], seen[1]) {
+        (Some(first), Some(second)) => Ok(Pair {
+            first,
+            second,
+            verdict,
+        }),
+        _ => Err(Fail::from("no such lane")),
     }
+}
+
+fn are_reaped(pair: &Pair) -> bool {
+    pair.first.is_reaped && pair.second.is_reaped
 }
 
 fn is_spared(end: Ended) -> bool {
     matches!(end, Ended::CalledOff | Ended::Skipped)
 }
 
+// Whether one of the lanes won the cell, and the other lost it.
+fn is_won_once(pair: &Pair) -> bool {
+    match (pair.first.won, pair.second.won) {
+        (Some(first), Some(second)) => first != second,
+        _ => false,
+    }
+}
+
 #[test]
 fn lanes_run_beside_each_other(rt: HostRuntime) -> Result<(), Fail> {
-    let alloc = rt.alloc();
-    let problem = problem_of(alloc, TURNS, 1)?;
-    let scripts = [gated(alloc, 0, "0\n")?, gated(alloc, 1, "s UNKNOWN\n")?];
-    let other = script_of(alloc, "")?;
-    let (seen, verdict) = raced(&rt, alloc, &problem, 2, FREE, &scripts, &other)?;
-    let first = ends(seen).map(|ends| ends[0]);
-    assert_eq!(rt; first, Some(Ended::Found(Answer::Unsat)));
-    assert_eq!(rt; verdict, Some(Verdict::Pass));
+    let scripts = both_gated(rt.alloc())?;
+    let pair = paired(&rt, rt.alloc(), FREE, &scripts)?;
+    assert_eq!(rt; pair.first.end, Ended::Found(Answer::Unsat));
+    assert!(rt; are_reaped(&pair));
+    assert_eq!(rt; pair.verdict, Some(Verdict::Pass));
     Ok(())
 }
 
 #[test]
 fn findings_call_off(rt: HostRuntime) -> Result<(), Fail> {
-    let alloc = rt.alloc();
-    let problem = problem_of(alloc, TURNS, 1)?;
-    let stalled = Script {
-        stalls: Some(7),
-        ..script_of(alloc, "c half\n")?
-    };
-    let scripts = [of_lane(0, stalled)];
-    let other = script_of(alloc, "0\n")?;
+    let scripts = first_stalls(rt.alloc())?;
     let terms = Terms {
         last: 999,
         millis: Some(1000),
         wait: false,
     };
-    let (seen, verdict) = raced(&rt, alloc, &problem, 2, terms, &scripts, &other)?;
-    let spared = ends(seen).map(|ends| (is_spared(ends[0]), ends[1]));
-    assert_eq!(rt; spared, Some((true, Ended::Found(Answer::Unsat))));
-    assert_eq!(rt; verdict, Some(Verdict::Pass));
+    let pair = paired(&rt, rt.alloc(), terms, &scripts)?;
+    assert!(rt; is_spared(pair.first.end));
+    assert_eq!(rt; pair.second.end, Ended::Found(Answer::Unsat));
+    assert!(rt; are_reaped(&pair));
+    assert_eq!(rt; pair.verdict, Some(Verdict::Pass));
     Ok(())
 }
 
 #[test]
 fn waiting_lanes_both_find(rt: HostRuntime) -> Result<(), Fail> {
-    let alloc = rt.alloc();
-    let problem = problem_of(alloc, TURNS, 1)?;
-    let other = script_of(alloc, "0\n")?;
+    let scripts = Vec::<Scripted>::new(rt.alloc());
     let terms = Terms { wait: true, ..FREE };
-    let scripts = Vec::<Scripted>::new(alloc);
-    let (seen, verdict) = raced(&rt, alloc, &problem, 2, terms, &scripts, &other)?;
+    let pair = paired(&rt, rt.alloc(), terms, &scripts)?;
     let found = Ended::Found(Answer::Unsat);
-    assert_eq!(rt; ends(seen), Some([found, found]));
-    let won = seen.map(|lane| lane.map(|lane| lane.won));
-    assert!(rt; won == [Some(Some(true)), Some(Some(false))] || won == [Some(Some(false)), Some(Some(true))]);
-    assert_eq!(rt; verdict, Some(Verdict::Pass));
+    assert_eq!(rt; (pair.first.end, pair.second.end), (found, found));
+    assert!(rt; are_reaped(&pair));
+    assert!(rt; is_won_once(&pair));
+    assert_eq!(rt; pair.verdict, Some(Verdict::Pass));
     Ok(())
 }
 
 #[test]
 fn a_failed_start_hurts_no_other_lane(rt: HostRuntime) -> Result<(), Fail> {
-    let alloc = rt.alloc();
-    let problem = problem_of(alloc, TURNS, 1)?;
-    let mut failing = script_of(alloc, "0\n")?;
-    failing.faults.push(CallFault {
-        call: Call::Start,
-        nth: 1,
-    })?;
-    let scripts = [of_lane(0, failing)];
-    let other = script_of(alloc, "0\n")?;
+    let scripts = first_fails(rt.alloc())?;
     let terms = Terms { wait: true, ..FREE };
-    let (seen, verdict) = raced(&rt, alloc, &problem, 2, terms, &scripts, &other)?;
-    let both = seen.map(|lane| lane.map(|lane| lane.end));
-    assert_eq!(rt; both, [Some(Ended::StartFailed), Some(Ended::Found(Answer::Unsat))]);
-    assert_eq!(rt; verdict, Some(Verdict::Pass));
+    let pair = paired(&rt, rt.alloc(), terms, &scripts)?;
+    assert_eq!(rt; pair.first.end, Ended::StartFailed);
+    assert_eq!(rt; pair.second.end, Ended::Found(Answer::Unsat));
+    assert_eq!(rt; pair.verdict, Some(Verdict::Pass));
     Ok(())
 }

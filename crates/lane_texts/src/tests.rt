@@ -7,9 +7,7 @@ use lane_judge::ProblemLanes;
 use lane_run::{Limit, Raced, Task, race};
 use race_cells::Cells;
 use race_core::{JobEnd, JobEvents, LaneEvent, Report, answer_among};
-use sby_edge::{
-    CallFault, Exit, ListClock, Script, ScriptBay, ScriptYard, Scripted, Stage, Yard,
-};
+use sby_edge::{CallFault, Exit, ListClock, Script, ScriptBay, ScriptYard, Scripted, Stage, Yard};
 use sby_terms::{Answer, Engine, JobName, Mode, Settled, Span, Verdict, decide};
 use std::alloc::{AllocError, Global};
 use std::sync::Wait;
@@ -18,10 +16,12 @@ use std::thread::Threads;
 use std::time::Clock as SystemClock;
 
 /// A register that is 0 first and then turns. Its assertion breaks in every second cycle, cycle 1 first.
-pub const TURNS: &str = "module \\t\n wire input 1 \\clk\n attribute \\init 1'0\n wire \\q\n wire \\d\n cell $not $n\n parameter \\A_SIGNED 0\n parameter \\A_WIDTH 1\n parameter \\Y_WIDTH 1\n connect \\A \\q\n connect \\Y \\d\n end\n cell $dff $r\n parameter \\CLK_POLARITY 1'1\n parameter \\WIDTH 1\n connect \\CLK \\clk\n connect \\D \\d\n connect \\Q \\q\n end\n cell $assert \\a0\n connect \\A \\d\n connect \\EN 1'1\n end\nend\n";
+pub const TURNS: &str =
+    "module \\t\n wire input 1 \\clk\n attribute \\init 1'0\n wire \\q\n wire \\d\n cell $not $n\n parameter \\A_SIGNED 0\n parameter \\A_WIDTH 1\n parameter \\Y_WIDTH 1\n connect \\A \\q\n connect \\Y \\d\n end\n cell $dff $r\n parameter \\CLK_POLARITY 1'1\n parameter \\WIDTH 1\n connect \\CLK \\clk\n connect \\D \\d\n connect \\Q \\q\n end\n cell $assert \\a0\n connect \\A \\d\n connect \\EN 1'1\n end\nend\n";
 
 /// The same without an assertion: its job has one variable and the empty clause.
-pub const EMPTY: &str = "module \\t\n wire input 1 \\clk\n attribute \\init 1'0\n wire \\q\n wire \\d\n cell $not $n\n parameter \\A_SIGNED 0\n parameter \\A_WIDTH 1\n parameter \\Y_WIDTH 1\n connect \\A \\q\n connect \\Y \\d\n end\n cell $dff $r\n parameter \\CLK_POLARITY 1'1\n parameter \\WIDTH 1\n connect \\CLK \\clk\n connect \\D \\d\n connect \\Q \\q\n end\nend\n";
+pub const EMPTY: &str =
+    "module \\t\n wire input 1 \\clk\n attribute \\init 1'0\n wire \\q\n wire \\d\n cell $not $n\n parameter \\A_SIGNED 0\n parameter \\A_WIDTH 1\n parameter \\Y_WIDTH 1\n connect \\A \\q\n connect \\Y \\d\n end\n cell $dff $r\n parameter \\CLK_POLARITY 1'1\n parameter \\WIDTH 1\n connect \\CLK \\clk\n connect \\D \\d\n connect \\Q \\q\n end\nend\n";
 
 /// How a lane's job ended.
 #[derive(Clone, Copy, Debug, PartialEq, Eq)]
@@ -134,9 +134,7 @@ fn seen_lane<R: Wait + SystemClock>(report: &Report<Finding>, bay: &ScriptBay<'_
 }
 
 // What was seen of the first two lanes.
-fn seen_two<R: Wait + SystemClock>(
-    raced: &Raced<ScriptBay<'_, R>, Finding>,
-) -> [Option<Seen>; 2] {
+fn seen_two<R: Wait + SystemClock>(raced: &Raced<ScriptBay<'_, R>, Finding>) -> [Option<Seen>; 2] {
     let mut two = [None; 2];
     for lane in 0..2 {
         if let (Some(report), Some(bay)) = (raced.reports.get(lane), raced.bays.get(lane)) {
