@@ -78,15 +78,16 @@ fn first_fails(alloc: Global) -> Result<Vec<Scripted>, AllocError> {
     Ok(scripts)
 }
 
-// What was seen of two lanes over these scripts, a lane without one of its own over `0`.
+// What was seen of two lanes over these scripts, a lane without one of its own over the other text.
 fn paired<R: Threads + Wait + SystemClock + Sync>(
     rt: &R,
     alloc: Global,
     terms: Terms,
     scripts: &[Scripted],
+    other: &str,
 ) -> Result<Pair, Fail> {
     let problem = problem_of(alloc, TURNS, 1)?;
-    let other = script_of(alloc, "0\n")?;
+    let other = script_of(alloc, other)?;
     let (seen, verdict) = raced(rt, alloc, &problem, 2, terms, scripts, &other)?;
     match (seen[0], seen[1]) {
         (Some(first), Some(second)) => Ok(Pair {
@@ -117,7 +118,7 @@ fn is_won_once(pair: &Pair) -> bool {
 #[test]
 fn lanes_run_beside_each_other(rt: HostRuntime) -> Result<(), Fail> {
     let scripts = both_gated(rt.alloc())?;
-    let pair = paired(&rt, rt.alloc(), FREE, &scripts)?;
+    let pair = paired(&rt, rt.alloc(), FREE, &scripts, "")?;
     assert_eq!(rt; pair.first.end, Ended::Found(Answer::Unsat));
     assert!(rt; are_reaped(&pair));
     assert_eq!(rt; pair.verdict, Some(Verdict::Pass));
@@ -132,7 +133,7 @@ fn findings_call_off(rt: HostRuntime) -> Result<(), Fail> {
         millis: Some(1000),
         wait: false,
     };
-    let pair = paired(&rt, rt.alloc(), terms, &scripts)?;
+    let pair = paired(&rt, rt.alloc(), terms, &scripts, "0\n")?;
     assert!(rt; is_spared(pair.first.end));
     assert_eq!(rt; pair.second.end, Ended::Found(Answer::Unsat));
     assert!(rt; are_reaped(&pair));
@@ -144,7 +145,7 @@ fn findings_call_off(rt: HostRuntime) -> Result<(), Fail> {
 fn waiting_lanes_both_find(rt: HostRuntime) -> Result<(), Fail> {
     let scripts = Vec::<Scripted>::new(rt.alloc());
     let terms = Terms { wait: true, ..FREE };
-    let pair = paired(&rt, rt.alloc(), terms, &scripts)?;
+    let pair = paired(&rt, rt.alloc(), terms, &scripts, "0\n")?;
     let found = Ended::Found(Answer::Unsat);
     assert_eq!(rt; (pair.first.end, pair.second.end), (found, found));
     assert!(rt; are_reaped(&pair));
@@ -157,7 +158,7 @@ fn waiting_lanes_both_find(rt: HostRuntime) -> Result<(), Fail> {
 fn a_failed_start_hurts_no_other_lane(rt: HostRuntime) -> Result<(), Fail> {
     let scripts = first_fails(rt.alloc())?;
     let terms = Terms { wait: true, ..FREE };
-    let pair = paired(&rt, rt.alloc(), terms, &scripts)?;
+    let pair = paired(&rt, rt.alloc(), terms, &scripts, "0\n")?;
     assert_eq!(rt; pair.first.end, Ended::StartFailed);
     assert_eq!(rt; pair.second.end, Ended::Found(Answer::Unsat));
     assert_eq!(rt; pair.verdict, Some(Verdict::Pass));
