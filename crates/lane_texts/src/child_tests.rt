@@ -1,6 +1,6 @@
 // What one child may send, and the calls that may fail on it.
 
-use super::tests::{Ended, FREE, STOPS, Seen, TURNS, Terms, problem_of, raced, script_of};
+use super::tests::{EMPTY, Ended, FREE, STOPS, Seen, TURNS, Terms, problem_of, raced, script_of};
 use judge::Problem;
 use sby_edge::{Call, CallFault, Script, Scripted};
 use sby_terms::Answer;
@@ -59,6 +59,33 @@ fn streams_over_one_cycle(rt: HostRuntime) -> Result<(), Fail> {
         ("s UNKNOWN x\n", Ended::Bad(48, 12)),
         ("x", Ended::Bad(41, 0)),
         ("vv 0", Ended::Bad(41, 1)),
+    ] {
+        assert!(rt;
+            always_ends(&rt, rt.alloc(), &problem, FREE, text, None, end)?,
+            "{text}"
+        );
+    }
+    Ok(())
+}
+
+#[test]
+fn streams_over_two_cycles(rt: HostRuntime) -> Result<(), Fail> {
+    let problem = problem_of(rt.alloc(), TURNS, 2)?;
+    let end = Ended::Bad(44, 0);
+    assert!(rt; always_ends(&rt, rt.alloc(), &problem, FREE, "0 1", None, end)?);
+    Ok(())
+}
+
+#[test]
+fn streams_of_an_empty_job(rt: HostRuntime) -> Result<(), Fail> {
+    let problem = problem_of(rt.alloc(), EMPTY, 5)?;
+    for (text, end) in [
+        ("0\n", Ended::Found(Answer::Unsat)),
+        ("2 0\n", Ended::Bad(42, 0)),
+        ("-0", Ended::Bad(42, 1)),
+        ("01", Ended::Bad(42, 1)),
+        ("1 1 0\n", Ended::Bad(43, 2)),
+        ("v 0\n", Ended::Bad(45, 1)),
     ] {
         assert!(rt;
             always_ends(&rt, rt.alloc(), &problem, FREE, text, None, end)?,

@@ -4,4 +4,6 @@
 #[cfg(test)]
 mod child_tests;
 #[cfg(test)]
+mod race_tests;
+#[cfg(test)]
 mod tests;
