@@ -32,13 +32,6 @@ says_ended p job bytes file (Ok (progress.Done f)) finds is fate = (_, (refl, fi
 says_ended p job bytes file (Ok progress.Unknown) finds is fate = (_, refl, fate)
 says_ended p job bytes file (Err b) finds is fate = (_, (b.kind, refl, refl), fate)
 
-pub never_more : (p : AskedOf) (job : JobName) (bytes file : List ℕ) (r : Result Progress BadCert) → IsJobFile p job file
-    → ((file : List ℕ) → IsJobFile p job file → MatchOption (fate_told r) ⊥ (IsFate file bytes most_bytes)) → judged_as r ≡ judged.More → ⊥
-never_more p job bytes file (Ok progress.More) is fate h = fate file is
-never_more p job bytes file (Ok (progress.Done f)) is fate h = cc
-never_more p job bytes file (Ok progress.Unknown) is fate h = cc
-never_more p job bytes file (Err b) is fate h = cc
-
 -- where nothing stands yet, the judge reads on
 pub reads_on : (r : Result Progress BadCert) → judged_as r ≡ judged.More → (state_behind r ≡ Reading) × (fate_told r ≡ None)
 reads_on (Ok progress.More) h = (refl, refl)
@@ -84,7 +77,3 @@ module _ (q p : AskedOf) (k job : JobName) (m : ℕ) (asked : q ≡ p) (job_is :
   pub says_over : (bytes file : List ℕ) (r : Result Progress BadCert) → Finds q k r → IsJobFile p job file
       → ((file : List ℕ) → IsJobFile q k file → MatchOption (fate_told r) ⊥ (IsFate file bytes m)) → Says (Ends p job) bytes (judged_as r)
   says_over bytes file r finds is fate = says_ended p job bytes file r (found_for r finds) is (fate_over bytes (fate_told r) fate)
-
-  pub over_never_more : (bytes file : List ℕ) (r : Result Progress BadCert) → IsJobFile p job file
-      → ((file : List ℕ) → IsJobFile q k file → MatchOption (fate_told r) ⊥ (IsFate file bytes m)) → judged_as r ≡ judged.More → ⊥
-  over_never_more bytes file r is fate = never_more p job bytes file r is (fate_over bytes (fate_told r) fate)
