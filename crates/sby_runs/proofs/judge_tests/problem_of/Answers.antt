@@ -6,5 +6,5 @@ use Rattle.sby_runs.proofs.judge_tests.problem_of.Goals as goal
 
 pub returns-in-Ok : goal.returns-in-Ok
 returns-in-Ok c =
-    let problem = rw c.in-Ok.is at c.in_ok-problem.ensures.problem in
+    let problem = rw (c.in-Ok.is, c.whole.ensures) at c.in_ok-problem.ensures.problem in
     (0, ap (λ (q : ProblemOf). slice_get (jobs_of q c.in-Ok.problem.design) 0) problem.0)
