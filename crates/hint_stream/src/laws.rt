@@ -1,0 +1,25 @@
+// Laws of hinted streams in pieces.
+
+ghost use Rattle.std.specs.Prelude.{◌≡◌, ℕ, List, ◌++◌};
+ghost use Rattle.cert_stream.specs.declared.mode.WireFault.{WireFault};
+ghost use Rattle.hint_stream.specs.Machine.{HintOf};
+ghost use Rattle.hint_stream.specs.Telling.{StandsFor, after, said};
+ghost use Rattle.hint_stream.specs.declared.mode.Mode.TheVariants.{Bad};
+
+/// What stands for the bytes so far stands, after a piece, for these with the piece behind them.
+#[tactic(auto, using(crate::proofs::Cutting::stands_append))]
+pub fn pieces_join()
+    ensures { (vars : ℕ) (w : HintOf) (bytes piece : List ℕ) → StandsFor vars w bytes → StandsFor vars (after w piece) (bytes ++ piece) }
+{}
+
+/// Bytes say the same in pieces.
+#[tactic(auto, using(crate::proofs::Cutting::said_append))]
+pub fn pieces_say_the_same()
+    ensures { (w : HintOf) (front back : List ℕ) → said w (front ++ back) ≡ said w front ++ said (after w front) back }
+{}
+
+/// A fault stays, whatever follows.
+#[tactic(auto, using(crate::proofs::Faults::bad_stays))]
+pub fn faults_stay()
+    ensures { (f : WireFault) (w : HintOf) (bytes : List ℕ) → w.mode ≡ Bad f → (after w bytes).mode ≡ Bad f }
+{}
