@@ -1,2 +1,4 @@
+pub mod Keeping
+pub mod Pieces
 pub mod Cutting
 pub mod Faults

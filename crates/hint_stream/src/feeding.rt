@@ -85,6 +85,7 @@ fn tell<R: HintReceiver>(
 }
 
 // Takes a piece, and answers whether the receiver stopped.
+#[tactic(auto, using(crate::proofs::Pieces::left_start, crate::proofs::Pieces::left_quiet, crate::proofs::Pieces::left_told, crate::proofs::Pieces::left_stopped, crate::proofs::Pieces::left_told_all, crate::proofs::Pieces::left_kept_all))]
 fn take_piece<R: HintReceiver>(
     wire: &mut HintWire,
     piece: &[u8],
