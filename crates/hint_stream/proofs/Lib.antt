@@ -2,3 +2,9 @@ pub mod Keeping
 pub mod Pieces
 pub mod Cutting
 pub mod Faults
+pub mod Turning
+pub mod Scanning
+pub mod Wording
+pub mod Speaking
+pub mod Tails
+pub mod Status

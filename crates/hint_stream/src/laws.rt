@@ -1,9 +1,10 @@
 // Laws of hinted streams in pieces.
 
-ghost use Rattle.std.specs.Prelude.{◌≡◌, ℕ, List, ◌++◌};
+ghost use Rattle.std.specs.Prelude.{◌≡◌, ℕ, Bool, List, ◌++◌};
 ghost use Rattle.cert_stream.specs.declared.mode.WireFault.{WireFault};
 ghost use Rattle.hint_stream.specs.Machine.{HintOf};
-ghost use Rattle.hint_stream.specs.Telling.{StandsFor, after, said};
+ghost use Rattle.hint_stream.specs.Telling.{StandsFor, after, fresh, said, spoken};
+ghost use Rattle.hint_stream.specs.Lines.{sayings};
 ghost use Rattle.hint_stream.specs.declared.mode.Mode.TheVariants.{Bad};
 
 /// What stands for the bytes so far stands, after a piece, for these with the piece behind them.
@@ -22,4 +23,10 @@ pub fn pieces_say_the_same()
 #[tactic(auto, using(crate::proofs::Faults::bad_stays))]
 pub fn faults_stay()
     ensures { (f : WireFault) (w : HintOf) (bytes : List ℕ) → w.mode ≡ Bad f → (after w bytes).mode ≡ Bad f }
+{}
+
+/// What is said of a stream's bytes, whether it ends with them or may go on, is what its lines say.
+#[tactic(auto, using(crate::proofs::Status::status_text, crate::proofs::Tails::no_tail, crate::proofs::Scanning::scan_bad, crate::proofs::Scanning::place_begun, crate::proofs::Wording::alone_says))]
+pub fn streams_say_lines()
+    ensures { (vars : ℕ) (ended : Bool) (bytes : List ℕ) → spoken ended (fresh vars) bytes ≡ sayings vars ended bytes }
 {}
