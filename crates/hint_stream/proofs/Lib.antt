@@ -8,3 +8,6 @@ pub mod Wording
 pub mod Speaking
 pub mod Tails
 pub mod Status
+pub mod Listing
+pub mod Literals
+pub mod Naming
