@@ -11,3 +11,5 @@ pub mod Status
 pub mod Listing
 pub mod Literals
 pub mod Naming
+pub mod Lining
+pub mod Streams

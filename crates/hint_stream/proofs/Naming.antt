@@ -92,18 +92,18 @@ module _ (vars : ℕ) (ended fed counted : Bool) (broken going more : List HintS
           other nd = rw nd refl
 
   -- what the first word says, and those behind it
-  abbrev on_words : List Word → List HintSaying
+  abbrev pub on_words : List Word → List HintSaying
   on_words [] = []
   on_words (w ∷ ws) = hinted_says vars counted broken more w ws
 
-  abbrev word_says : Scanned ℕ → Word → List Word → List HintSaying
+  abbrev pub word_says : Scanned ℕ → Word → List Word → List HintSaying
   word_says s w ws =
       elim s [
         | Misfit k n ↦ bad k (w.place + n)
         | Reads id ↦ cond w.done (named_says vars counted broken more w.place id ws) []
       ]
 
-  says_word : (s : Scanned ℕ) (w : Word) (ws : List Word) → scan own_next 0 w.text ≡ s → on_words (w ∷ ws) ≡ word_says s w ws
+  pub says_word : (s : Scanned ℕ) (w : Word) (ws : List Word) → scan own_next 0 w.text ≡ s → on_words (w ∷ ws) ≡ word_says s w ws
   says_word s w ws e = ap (λ z. word_says z w ws) e
 
   abbrev Again : List ℕ → Type 0

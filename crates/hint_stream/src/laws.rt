@@ -26,7 +26,7 @@ pub fn faults_stay()
 {}
 
 /// What is said of a stream's bytes, whether it ends with them or may go on, is what its lines say.
-#[tactic(auto, using(crate::proofs::Naming::own_text, crate::proofs::Listing::ids_text, crate::proofs::Status::status_text, crate::proofs::Tails::no_tail, crate::proofs::Scanning::scan_bad, crate::proofs::Scanning::place_begun, crate::proofs::Wording::alone_says))]
+#[tactic(auto, using(crate::proofs::Streams::stream_spoken))]
 pub fn streams_say_lines()
     ensures { (vars : ℕ) (ended : Bool) (bytes : List ℕ) → spoken ended (fresh vars) bytes ≡ sayings vars ended bytes }
 {}
