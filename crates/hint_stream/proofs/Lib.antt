@@ -13,3 +13,4 @@ pub mod Literals
 pub mod Naming
 pub mod Lining
 pub mod Streams
+pub mod GoingOn

@@ -1,9 +1,9 @@
 // Laws of hinted streams in pieces.
 
-ghost use Rattle.std.specs.Prelude.{◌≡◌, ℕ, Bool, List, ◌++◌};
+ghost use Rattle.std.specs.Prelude.{◌≡◌, ℕ, Bool, true, false, List, ◌++◌};
 ghost use Rattle.cert_stream.specs.declared.mode.WireFault.{WireFault};
 ghost use Rattle.hint_stream.specs.Machine.{HintOf};
-ghost use Rattle.hint_stream.specs.Telling.{StandsFor, after, fresh, said, spoken};
+ghost use Rattle.hint_stream.specs.Telling.{HintSaying, StandsFor, after, fresh, said, spoken};
 ghost use Rattle.hint_stream.specs.Lines.{sayings};
 ghost use Rattle.hint_stream.specs.declared.mode.Mode.TheVariants.{Bad};
 
@@ -29,4 +29,11 @@ pub fn faults_stay()
 #[tactic(auto, using(crate::proofs::Streams::stream_spoken))]
 pub fn streams_say_lines()
     ensures { (vars : ℕ) (ended : Bool) (bytes : List ℕ) → spoken ended (fresh vars) bytes ≡ sayings vars ended bytes }
+{}
+
+/// What was said stays said, whatever follows, and where the stream ends.
+#[tactic(auto, using(crate::proofs::GoingOn::sayings_more, crate::proofs::GoingOn::sayings_end))]
+pub fn sayings_go_on()
+    ensures goes_on { (vars : ℕ) (ended : Bool) (bytes rest : List ℕ) → (more : List HintSaying) × (sayings vars ended (bytes ++ rest) ≡ sayings vars false bytes ++ more) }
+    ensures ends { (vars : ℕ) (bytes : List ℕ) → (more : List HintSaying) × (sayings vars true bytes ≡ sayings vars false bytes ++ more) }
 {}

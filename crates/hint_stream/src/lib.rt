@@ -8,6 +8,6 @@ mod mode;
 mod wire;
 
 pub use feeding::HintReceiver;
-pub use laws::{faults_stay, pieces_join, pieces_say_the_same, streams_say_lines};
+pub use laws::{faults_stay, pieces_join, pieces_say_the_same, sayings_go_on, streams_say_lines};
 pub use mode::{Hint, IdList, IdPart, LitList, MAX_HINTS, MAX_ID, Mode};
 pub use wire::HintWire;
