@@ -11,6 +11,7 @@ use Rattle.sby_terms.specs.declared.names.Answer.TheVariants.{Sat, Unsat}
 use Rattle.hint_judge.specs.declared.stream.CertKind.{CertKind}
 use Rattle.hint_judge.specs.declared.stream.CertKind.TheVariants.{BadLine as BadLineKind, BadLiteral as BadLiteralKind, LineTooLong as LineTooLongKind, NotSatisfying, TooLong, EarlyEnd, BadId, BadHint, NotHinted}
 use Rattle.hint_judge.specs.Values.{IsFirstUnsatisfied, named, unnamed}
+use Rattle.lrat_check.specs.Checking.{HintedOf, live_of}
 use Rattle.lrat_check.specs.Hints.{IsHinted, Live, numbered, put}
 use Rattle.hint_stream.specs.declared.mode.Hint.{Hint}
 
@@ -33,6 +34,10 @@ ValuesComeTo C x fate = (Satisfies x C × (fate ≡ Some (Found Sat))) ⊎ ((n :
 pub record Held : Type 0 where
   pub live : Live
   pub last : ℕ
+
+-- what a checker holds
+abbrev pub held : HintedOf → Held
+held h = record { live = live_of h; last = h.last_id }
 
 -- a hint of a live clause
 abbrev pub is_good : Live → Hint → Bool

@@ -5,7 +5,8 @@ use Rattle.cnf_form.specs.Dimacs.{IsDimacs}
 use Rattle.hint_stream.specs.Machine.{HintOf, fault_of}
 use Rattle.hint_stream.specs.Telling.{HintSaying, StandsFor, fresh, said}
 use Rattle.hint_judge.specs.Values.{named_from, stream_values, value_lits, values_of, values_said}
-use Rattle.hint_judge.specs.Fate.{Fate, Held, Comes, ComesTo, FateOf, FateSoFar, IsFate, IsFateSoFar}
+use Rattle.hint_judge.specs.Fate.{Fate, held, Comes, ComesTo, FateOf, FateSoFar, IsFate, IsFateSoFar}
+use Rattle.lrat_check.specs.Checking.{HintedOf}
 use Rattle.hint_judge.specs.Outcomes.{fate_of, fate_told}
 use Rattle.hint_judge.specs.declared.stream.Outcome.{Outcome}
 use Rattle.hint_judge.specs.declared.stream.Outcome.TheVariants.{Refuted, Satisfied, Unknown as IsUnknown, Bad as IsBad}
@@ -16,7 +17,7 @@ pub record JudgeOf : Type 0 where
   pub formula : FormulaOf
   pub most : ℕ
   pub wire : HintOf
-  pub present : Held
+  pub present : HintedOf
   pub bits : List Bool
   pub outcome : Option Outcome
   pub wanting : Bool
@@ -39,7 +40,7 @@ pub record IsAt (j : JudgeOf) (bytes : List ℕ) : Type 0 where
   pub whole : fault_of j.wire.mode ≡ None
   pub within : length bytes ≤ j.most
   pub size : length j.bits ≡ j.formula.vars + 1
-  pub fate : (rest : List HintSaying) (fate : Option Fate) → ComesTo j.formula.clauses j.present (values_of j.bits) rest fate
+  pub fate : (rest : List HintSaying) (fate : Option Fate) → ComesTo j.formula.clauses (held j.present) (values_of j.bits) rest fate
       → Comes j.formula (said (fresh j.formula.vars) bytes ++ rest) fate
   pub values : (rest : List HintSaying) → named_from (values_of j.bits) (value_lits rest) ≡ values_said (said (fresh j.formula.vars) bytes ++ rest)
 

@@ -6,7 +6,8 @@ use Rattle.hint_stream.specs.Telling.{HintSaying, after, fault_said, said, told_
 use Rattle.cert_stream.specs.declared.feeding.Fed.{Fed}
 use Rattle.cert_stream.specs.declared.mode.WireFault.{WireFault}
 use Rattle.hint_judge.specs.Values.{named_from, value_lits, values_of}
-use Rattle.hint_judge.specs.Fate.{Fate, Held, ComesTo, cert_kind, held_first}
+use Rattle.hint_judge.specs.Fate.{Fate, held, ComesTo, cert_kind, held_first}
+use Rattle.lrat_check.specs.Checking.{HintedOf}
 use Rattle.hint_judge.specs.Outcomes.{fate_of}
 use Rattle.hint_judge.specs.declared.stream.CertKind.TheVariants.{EarlyEnd, TooLong}
 use Rattle.hint_judge.specs.declared.stream.Outcome.{Outcome}
@@ -15,14 +16,14 @@ use Rattle.hint_judge.specs.declared.stream.Outcome.TheVariants.{Satisfied, Bad}
 -- the formula, the clauses that are present, the values so far, and the outcome once there is one
 pub record CertificateOf : Type 0 where
   pub formula : FormulaOf
-  pub present : Held
+  pub present : HintedOf
   pub bits : List Bool
   pub outcome : Option Outcome
 
 -- nothing was said yet
 pub record Begins (f : FormulaOf) (c : CertificateOf) : Type 0 where
   pub formula : c.formula ≡ f
-  pub present : c.present ≡ held_first f.clauses
+  pub present : held c.present ≡ held_first f.clauses
   pub size : length c.bits ≡ f.vars + 1
   pub unnamed : (v : ℕ) → values_of c.bits v ≡ false
   pub undecided : c.outcome ≡ None
@@ -32,7 +33,7 @@ with_outcome c o = record c { outcome = Some o }
 
 -- what more sayings come to, from the certificate on
 abbrev pub ComesBy : CertificateOf → Option Outcome → List HintSaying → Option Fate → Type 0
-ComesBy c None ss fate = ComesTo c.formula.clauses c.present (values_of c.bits) ss fate
+ComesBy c None ss fate = ComesTo c.formula.clauses (held c.present) (values_of c.bits) ss fate
 ComesBy c (Some o) ss fate = fate ≡ Some (fate_of o)
 
 -- and the values that they name
@@ -44,7 +45,7 @@ NamesBy c (Some o) ss x = (o ≡ Satisfied) × (values_of c.bits ≡ x)
 pub record Leads (old : CertificateOf) (ss : List HintSaying) (new : CertificateOf) : Type 0 where
   pub formula : new.formula ≡ old.formula
   pub size : length new.bits ≡ length old.bits
-  pub fate : (rest : List HintSaying) (fate : Option Fate) → ComesBy new new.outcome rest fate → ComesTo old.formula.clauses old.present (values_of old.bits) (ss ++ rest) fate
+  pub fate : (rest : List HintSaying) (fate : Option Fate) → ComesBy new new.outcome rest fate → ComesTo old.formula.clauses (held old.present) (values_of old.bits) (ss ++ rest) fate
   pub values : (rest : List HintSaying) (x : Assignment) → NamesBy new new.outcome rest x → named_from (values_of old.bits) (value_lits (ss ++ rest)) ≡ x
   pub satisfied : new.outcome ≡ Some Satisfied → Satisfies (values_of new.bits) new.formula.clauses
 

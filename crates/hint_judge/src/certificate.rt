@@ -29,12 +29,11 @@ pub(crate) struct Certificate<'a> {
 
 impl<'a> Model for Certificate<'a> {
     ghost use Rattle.std.specs.Prelude.{◌≡◌, ◌+◌, length};
-    ghost use Rattle.lrat_check.specs.Checking.{live_of};
     ghost use Rattle.hint_judge.specs.Leading.{CertificateOf};
 
     ghost Value = { CertificateOf };
 
-    ghost view = { λ a. record { formula = a.formula.now; present = record { live = live_of a.checker; last = a.checker.last_id }; bits = a.values; outcome = a.outcome } };
+    ghost view = { λ a. record { formula = a.formula.now; present = a.checker; bits = a.values; outcome = a.outcome } };
 
     ghost invariant = { λ a. (a.checker.vars ≡ a.formula.now.vars) × (length a.values ≡ a.formula.now.vars + 1) };
 }
