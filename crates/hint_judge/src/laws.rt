@@ -30,7 +30,6 @@ pub fn one_fate()
 {}
 
 /// Where a stream is found to be a certificate for Unsat, no assignment satisfies the formula of the job's file.
-#[tactic(auto, using(crate::proofs::Coming::refuted_at_end))]
 pub fn found_unsat_is_unsatisfiable()
     ensures { (job stream : List ℕ) (most : ℕ) (f : FormulaOf) → IsDimacs job f → IsFate job stream most (Found Unsat)
         → IsUnsatisfiable f.clauses }
