@@ -14,9 +14,9 @@ use Rattle.hint_judge.specs.declared.stream.CertKind.{CertKind}
 use Rattle.hint_judge.specs.declared.stream.CertKind.TheVariants.{NotSatisfying, BadId, BadHint, NotHinted}
 use Rattle.hint_judge.specs.declared.stream.Outcome.{Outcome}
 use Rattle.hint_judge.specs.declared.stream.Outcome.TheVariants.{Refuted, Satisfied, Unknown as UnknownOutcome, Bad as BadOutcome}
-use Rattle.hint_judge.specs.Fate.{Fate, ByHints, ComesTo, HintsComeTo, added, cert_kind, deleted, first_bad, held, ids_of}
-use Rattle.lrat_check.specs.Hints.{IsHinted}
-use Rattle.lrat_check.specs.Checking.{HintedOf, live_of}
+use Rattle.hint_judge.specs.Fate.{Fate, ByHints, ComesTo, Held, HintsComeTo, added, cert_kind, deleted, first_bad, held, held_first, ids_of, without}
+use Rattle.lrat_check.specs.Hints.{IsHinted, numbered, put}
+use Rattle.lrat_check.specs.Checking.{HasAdded, HintedOf, Starts, live_of}
 use Rattle.hint_stream.specs.declared.mode.Hint.{Hint}
 use Rattle.hint_judge.specs.Values.{IsFirstUnsatisfied, named, named_from, value_lits, values_of}
 use Rattle.hint_judge.specs.Leading.{CertificateOf, ComesBy, NamesBy, Leads, Heard, Hears, concluded, with_outcome}
@@ -230,3 +230,21 @@ heard_end w x y z fed n g a e =
     let l = gets_lead (told_by w (at_end w.mode)) x y (is_stopped fed) n g in
     let h = heard_answer x y (told_by w (at_end w.mode)) fed (fault_of w.mode) l.0 l.1 a in
     rw e h.0
+
+-- what a checker holds at first, and what it holds behind a deletion and a clause
+pub starts_held : (f : FormulaOf) (h : HintedOf) → Starts f h → held h ≡ held_first f.clauses
+starts_held f h s =
+    let e : held h ≡ (let k : Held = record { live = numbered f.clauses; last = h.last_id } in k) = ap (λ z. (let k : Held = record { live = z; last = h.last_id } in k)) s.live in
+    e ∙ ap (λ n. (let k : Held = record { live = numbered f.clauses; last = n } in k)) s.last_id
+
+pub deleted_held : (F G : HintedOf) (ids : List Hint) → live_of G ≡ without (live_of F) ids → G ≡ record F { clauses = G.clauses } → held G ≡ deleted (held F) ids
+deleted_held F G ids l r =
+    let n : G.last_id ≡ F.last_id = ap (λ (h : HintedOf). h.last_id) r in
+    let e : held G ≡ (let k : Held = record { live = without (live_of F) ids; last = G.last_id } in k) = ap (λ z. (let k : Held = record { live = z; last = G.last_id } in k)) l in
+    e ∙ ap (λ n. (let k : Held = record { live = without (live_of F) ids; last = n } in k)) n
+
+pub added_held : (F G : HintedOf) (id : ℕ) (lits : List LitOf) → HasAdded id lits F G → held G ≡ added (held F) id lits
+added_held F G id lits a =
+    let n : G.last_id ≡ id = ap (λ (h : HintedOf). h.last_id) a.rest in
+    let e : held G ≡ (let k : Held = record { live = put (live_of F) id (Some lits); last = G.last_id } in k) = ap (λ z. (let k : Held = record { live = z; last = G.last_id } in k)) a.live in
+    e ∙ ap (λ n. (let k : Held = record { live = put (live_of F) id (Some lits); last = n } in k)) n

@@ -40,6 +40,7 @@ impl<'a> Model for Certificate<'a> {
 
 impl<'a> Certificate<'a> {
     /// Before anything is said.
+    #[tactic(auto, using(crate::proofs::Leading::starts_held))]
     pub(crate) fn new(alloc: Global, formula: &'a Formula) -> Result<Self, AllocError>
         ensures { IfOk result (Begins formula.now) }
     {

@@ -11,7 +11,7 @@ returns-in-Some-clause-ends c = λ bytes s. ends_again c.args.self.now c.in-Some
 pub returns-clause-ends : goal.returns-clause-ends
 returns-clause-ends c =
     let i = c.self.inside in
-    let v : HintOf = c.take_end.new.wire in
+    let v : HintOf = i.wire in
     let d : CertificateOf = c.take_end.new.certificate in
     subst (λ (j : JudgeOf). (bytes : List ℕ) → Stands j bytes → Ends j (judge d.formula i.most v d i.wanting) bytes c.in-Ok.outcome) c.self.view_is
     (λ bytes s. ends_piece i.most i.wire i.certificate i.wanting (sym c.outcome.ensures ∙ c.in_default.is) bytes s v d c.in-Ok.outcome c.in-Ok.ensures.takes c.in-Ok.ensures.outcome)
