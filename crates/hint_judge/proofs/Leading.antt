@@ -1,7 +1,7 @@
 -- Sayings lead from one certificate to another.
 use Rattle.std.proofs.Common.{◌≡◌, ◌≢◌, ◌<◌, ◌≤◌, ℕ, Bool, true, false, eqb, List, [], ◌∷◌, ◌++◌, length, Option, Some, None, Result, Ok, Err, refl, sym, ap, ◌∙◌, subst, inl, inr, append_assoc, arith}
-use Rattle.std.specs.Prelude.{is_some}
-use Rattle.std.proofs.lemmas.Bool.{eqb-true, eqb-false}
+use Rattle.std.specs.Prelude.{IsSome, ◌&&◌, is_some, not, slice_index_or, zero, suc}
+use Rattle.std.proofs.lemmas.Bool.{cases_Bool, eqb-true, eqb-false}
 use Rattle.cnf_form.specs.Cnf.{LitOf, FormulaOf, Assignment, Satisfies}
 use Rattle.std.proofs.lemmas.List.{append-nil}
 use Rattle.hint_stream.specs.Machine.{HintOf, at_end, fault_of}
@@ -14,8 +14,8 @@ use Rattle.hint_judge.specs.declared.stream.CertKind.{CertKind}
 use Rattle.hint_judge.specs.declared.stream.CertKind.TheVariants.{NotSatisfying, BadId, BadHint, NotHinted}
 use Rattle.hint_judge.specs.declared.stream.Outcome.{Outcome}
 use Rattle.hint_judge.specs.declared.stream.Outcome.TheVariants.{Refuted, Satisfied, Unknown as UnknownOutcome, Bad as BadOutcome}
-use Rattle.hint_judge.specs.Fate.{Fate, ByHints, ComesTo, Held, HintsComeTo, added, cert_kind, deleted, first_bad, held, held_first, ids_of, without}
-use Rattle.lrat_check.specs.Hints.{IsHinted, numbered, put}
+use Rattle.hint_judge.specs.Fate.{Fate, ByHints, ComesTo, Held, is_good, HintsComeTo, added, cert_kind, deleted, first_bad, held, held_first, ids_of, without}
+use Rattle.lrat_check.specs.Hints.{IsHinted, Live, numbered, put}
 use Rattle.lrat_check.specs.Checking.{HasAdded, HintedOf, Starts, live_of}
 use Rattle.hint_stream.specs.declared.mode.Hint.{Hint}
 use Rattle.hint_judge.specs.Values.{IsFirstUnsatisfied, named, named_from, value_lits, values_of}
@@ -248,3 +248,21 @@ added_held F G id lits a =
     let n : G.last_id ≡ id = ap (λ (h : HintedOf). h.last_id) a.rest in
     let e : held G ≡ (let k : Held = record { live = put (live_of F) id (Some lits); last = G.last_id } in k) = ap (λ z. (let k : Held = record { live = z; last = G.last_id } in k)) a.live in
     e ∙ ap (λ n. (let k : Held = record { live = put (live_of F) id (Some lits); last = n } in k)) n
+
+-- good hints are ids of live clauses
+pub good_hint : (live : Live) (i : Hint) (hints : List Hint) → first_bad live (i ∷ hints) ≡ None → IsSome (live i.id) × (first_bad live hints ≡ None)
+good_hint live i hints e =
+    elim (cases_Bool (is_good live i)) [
+      | inl t ↦ let k : first_bad live (i ∷ hints) ≡ first_bad live hints = rw t refl in (good_lives i.negated (live i.id) t, sym k ∙ e)
+      | inr f ↦ let k : first_bad live (i ∷ hints) ≡ Some i = rw f refl in absurd (let q = sym k ∙ e in cc)
+    ]
+  where
+    good_lives : (negated : Bool) (o : Option (List LitOf)) → (not negated && is_some o) ≡ true → IsSome o
+    good_lives true o e = absurd (let k = e in cc)
+    good_lives false None e = absurd (let k = e in cc)
+    good_lives false (Some c) e = refl
+
+pub good_ids : (live : Live) (hints : List Hint) → first_bad live hints ≡ None → (k d : ℕ) → k < length (ids_of hints) → IsSome (live (slice_index_or (ids_of hints) k d))
+good_ids live [] e k d l = absurd (omega arith)
+good_ids live (i ∷ hints) e zero d l = (good_hint live i hints e).0
+good_ids live (i ∷ hints) e (suc k) d l = good_ids live hints (good_hint live i hints e).1 k d (omega arith)

@@ -103,6 +103,7 @@ impl<'a> HintReceiver for Certificate<'a> {
 
     ghost stops = { λ a. is_some a.outcome };
 
+    #[tactic(auto, using(crate::proofs::Leading::good_ids))]
     fn clause(
         &mut self,
         id: u64,
