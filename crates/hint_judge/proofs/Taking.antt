@@ -16,7 +16,7 @@ use Rattle.hint_judge.specs.declared.stream.Outcome.TheVariants.{Refuted, Satisf
 use Rattle.hint_judge.specs.Fate.{Fate, Found, Bad, Comes, ComesTo, Held, HintsComeTo, added, deleted, first_bad, held, held_first, FateOf, FateSoFar}
 use Rattle.hint_judge.specs.Outcomes.{fate_of, fate_told}
 use Rattle.hint_judge.specs.Values.{named, named_from, stream_values, unnamed, value_lits, values_of, values_said}
-use Rattle.hint_judge.specs.Leading.{CertificateOf, ComesBy, NamesBy, Leads, Heard, TakesPiece, TakesEnd, outcome_or, with_outcome}
+use Rattle.hint_judge.specs.Leading.{Begins, CertificateOf, ComesBy, NamesBy, Leads, Heard, TakesPiece, TakesEnd, outcome_or, with_outcome}
 use Rattle.hint_judge.specs.Judging.{AreValuesOf, AreValuesTold, Ends, Feeds, HasOutcome, IsAt, IsOver, JudgeOf, Stands, StandsBy}
 use Rattle.hint_judge.proofs.Coming.{by_hints, sides}
 use Rattle.hint_judge.proofs.Fates.{fate_stays, fate_at_end, take_front}
@@ -338,3 +338,25 @@ module _ (most : ℕ) (w : HintOf) (c : CertificateOf) (wanting : Bool) (e : c.o
       same_formula : (o : Option Outcome) → (outcome_or k o early_end).formula ≡ k.formula
       same_formula None = refl
       same_formula (Some o) = refl
+
+-- before the first byte
+pub first_at : (c : CertificateOf) (most : ℕ) → held c.present ≡ held_first c.formula.clauses → length c.bits ≡ c.formula.vars + 1 → ((v : ℕ) → values_of c.bits v ≡ false)
+    → IsAt (judge c.formula most (fresh c.formula.vars) c false) []
+first_at c most p n u =
+    let x : values_of c.bits ≡ unnamed = λ i v. u v i in
+    record {
+      wire = refl;
+      whole = refl;
+      within = omega arith;
+      size = n;
+      fate = λ rest fate h. subst (λ z. ComesTo c.formula.clauses z unnamed rest fate) p (subst (λ z. ComesTo c.formula.clauses (held c.present) z rest fate) x h);
+      values = λ rest. ap (λ z. named_from z (value_lits rest)) x;
+    }
+
+pub first_stands : (f : FormulaOf) (c : CertificateOf) (most vars : ℕ) → Begins f c → vars ≡ f.vars → Stands (judge c.formula most (fresh vars) c false) []
+first_stands f c most vars b v =
+    let p : held c.present ≡ held_first c.formula.clauses = b.present ∙ ap (λ (z : FormulaOf). held_first z.clauses) (sym b.formula) in
+    let n : length c.bits ≡ c.formula.vars + 1 = b.size ∙ ap (λ (z : FormulaOf). z.vars + 1) (sym b.formula) in
+    let q : c.formula.vars ≡ vars = ap (λ (z : FormulaOf). z.vars) b.formula ∙ sym v in
+    subst (λ o. StandsBy (judge c.formula most (fresh vars) c false) [] o) (sym b.undecided)
+    (subst (λ k. IsAt (judge c.formula most (fresh k) c false) []) q (first_at c most p n b.unnamed))
