@@ -1,4 +1,4 @@
-use Rattle.std.proofs.Common.{[], subst, sym}
+use Rattle.std.proofs.Common.{[], false, subst, sym}
 use Rattle.hint_stream.specs.Machine.{HintOf}
 use Rattle.hint_judge.specs.Judging.{Stands}
 use Rattle.hint_judge.proofs.Taking.{first_stands, judge}
