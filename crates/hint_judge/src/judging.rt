@@ -8,8 +8,8 @@ ghost use Rattle.hint_judge.specs.declared.stream.Outcome.{Outcome};
 
 use crate::certificate::Certificate;
 use crate::stream::{CertKind, Outcome};
-use hint_stream::HintWire;
 use cnf_form::Formula;
+use hint_stream::HintWire;
 use std::alloc::{AllocError, Global};
 use std::marker::Model;
 
@@ -44,11 +44,7 @@ impl<'a> Model for HintJudge<'a> {
 
 impl<'a> HintJudge<'a> {
     /// A judge that has taken nothing yet, and takes at most `most` bytes, from 1 to 2^32.
-    pub fn new(
-        alloc: Global,
-        formula: &'a Formula,
-        most: u64,
-    ) -> Result<Self, AllocError>
+    pub fn new(alloc: Global, formula: &'a Formula, most: u64) -> Result<Self, AllocError>
         requires least { 1 ≤ most }
         requires limit { most ≤ 2 ^ 32 }
         ensures formula { IfOk result (λ j. j.formula ≡ formula.now) }
