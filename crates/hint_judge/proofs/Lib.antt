@@ -1,0 +1,5 @@
+pub mod Valuing
+pub mod Coming
+pub mod Fates
+pub mod Leading
+pub mod Taking

@@ -1,0 +1,7 @@
+use Rattle.std.proofs.Common.{◌≡◌, ◌++◌, drop}
+use Rattle.lrat_check.specs.Checking.{live_of}
+use Rattle.hint_judge.specs.Fate.{first_bad, ids_of, without}
+use Rattle.hint_judge.proofs.certificate.ids_of.Given as goal
+
+abbrev pub invariant-loop-hint : goal.invariant-loop-hint
+invariant-loop-hint l = ids_of l.hints ≡ l.ids.items ++ ids_of (drop l.hint-index l.hints)

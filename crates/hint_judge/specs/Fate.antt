@@ -1,0 +1,121 @@
+-- What a stream comes to: a certificate, or why it is none.
+use Rattle.std.specs.Prelude.{◌&&◌, cond, not, is_some, map, ◌≡◌, ◌≢◌, ◌⊎◌, ℕ, ◌<◌, ◌≤◌, Bool, true, false, List, [], ◌∷◌, ◌++◌, length, take, Option, Some, None}
+use Rattle.cnf_form.specs.Cnf.{LitOf, FormulaOf, Assignment, Satisfies}
+use Rattle.cnf_form.specs.Dimacs.{IsDimacs}
+use Rattle.hint_stream.specs.Lines.{sayings}
+use Rattle.hint_stream.specs.Telling.{HintSaying, IsClause, IsDelete, IsValue, IsValuesEnd, IsUnknown, IsFault}
+use Rattle.cert_stream.specs.declared.mode.WireFaultKind.{WireFaultKind}
+use Rattle.cert_stream.specs.declared.mode.WireFaultKind.TheVariants.{BadLine, BadLiteral, LineTooLong}
+use Rattle.sby_terms.specs.declared.names.Answer.{Answer}
+use Rattle.sby_terms.specs.declared.names.Answer.TheVariants.{Sat, Unsat}
+use Rattle.hint_judge.specs.declared.stream.CertKind.{CertKind}
+use Rattle.hint_judge.specs.declared.stream.CertKind.TheVariants.{BadLine as BadLineKind, BadLiteral as BadLiteralKind, LineTooLong as LineTooLongKind, NotSatisfying, TooLong, EarlyEnd, BadId, BadHint, NotHinted}
+use Rattle.hint_judge.specs.Values.{IsFirstUnsatisfied, named, unnamed}
+use Rattle.lrat_check.specs.Checking.{HintedOf, live_of}
+use Rattle.lrat_check.specs.Hints.{IsHinted, Live, numbered, put}
+use Rattle.hint_stream.specs.declared.mode.Hint.{Hint}
+
+-- a certificate for an answer; the engine doesn't know; or a fault, by its kind and place
+pub data Fate : Type 0 where
+  Found : Answer → Fate
+  Unknown : Fate
+  Bad : CertKind → ℕ → Fate
+
+abbrev pub cert_kind : WireFaultKind → CertKind
+cert_kind BadLine = BadLineKind
+cert_kind BadLiteral = BadLiteralKind
+cert_kind LineTooLong = LineTooLongKind
+
+-- What values that end come to: a certificate where they satisfy all clauses, else the first clause that they don't satisfy.
+abbrev pub ValuesComeTo : List (List LitOf) → Assignment → Option Fate → Type 0
+ValuesComeTo C x fate = (Satisfies x C × (fate ≡ Some (Found Sat))) ⊎ ((n : ℕ) × IsFirstUnsatisfied x C n × (fate ≡ Some (Bad NotSatisfying n)))
+
+-- the live clauses with their ids, and the highest id so far
+pub record Held : Type 0 where
+  pub live : Live
+  pub last : ℕ
+
+-- what a checker holds
+abbrev pub held : HintedOf → Held
+held h = record { live = live_of h; last = h.last_id }
+
+-- a hint of a live clause
+abbrev pub is_good : Live → Hint → Bool
+is_good live h = not h.negated && is_some (live h.id)
+
+abbrev pub first_bad : Live → List Hint → Option Hint
+first_bad live [] = None
+first_bad live (h ∷ hs) = cond (is_good live h) (first_bad live hs) (Some h)
+
+-- the clauses with these ids are live no more
+abbrev pub without : Live → List Hint → Live
+without live [] = live
+without live (h ∷ hs) = without (put live h.id None) hs
+
+abbrev pub ids_of : List Hint → List ℕ
+ids_of hints = map (λ (h : Hint). h.id) hints
+
+-- a clause is tried with its live hints: the empty one completes the certificate, behind another one what comes then counts
+abbrev pub HintsComeTo : Live → List LitOf → List Hint → ℕ → Type 0 → Option Fate → Type 0
+HintsComeTo live lits hints place rest fate =
+    (IsHinted live lits (ids_of hints) × (lits ≡ []) × (fate ≡ Some (Found Unsat)))
+    ⊎ (IsHinted live lits (ids_of hints) × (lits ≢ []) × rest)
+    ⊎ ((IsHinted live lits (ids_of hints) → ⊥) × (fate ≡ Some (Bad NotHinted place)))
+
+-- a first bad hint is a fault
+abbrev pub ByHints : Option Hint → Type 0 → Option Fate → Type 0
+ByHints None rest fate = rest
+ByHints (Some h) rest fate = fate ≡ Some (Bad BadHint h.place)
+
+-- its id has to be above all earlier ones, then its hints have to be good, then they have to admit it
+abbrev pub ClauseComesTo : Held → ℕ → List LitOf → List Hint → ℕ → Type 0 → Option Fate → Type 0
+ClauseComesTo F id lits hints place rest fate =
+    ((id ≤ F.last) × (fate ≡ Some (Bad BadId place)))
+    ⊎ ((F.last < id) × ByHints (first_bad F.live hints) (HintsComeTo F.live lits hints place rest fate) fate)
+
+abbrev pub added : Held → ℕ → List LitOf → Held
+added F id lits = record { live = put F.live id (Some lits); last = id }
+
+abbrev pub deleted : Held → List Hint → Held
+deleted F ids = record { live = without F.live ids; last = F.last }
+
+-- What sayings come to, from a formula with the clauses C, where F is held and the values x were named: each clause has to be admitted by its
+-- hints, and is live then; the empty one, or values that satisfy C, complete the certificate. None where they come to nothing yet.
+abbrev pub ComesTo : List (List LitOf) → Held → Assignment → List HintSaying → Option Fate → Type 0
+ComesTo C F x [] fate = fate ≡ None
+ComesTo C F x (IsClause id lits hints place ∷ ss) fate = ClauseComesTo F id lits hints place (ComesTo C (added F id lits) x ss fate) fate
+ComesTo C F x (IsDelete ids ∷ ss) fate = ComesTo C (deleted F ids) x ss fate
+ComesTo C F x (IsValue l ∷ ss) fate = ComesTo C F (named x l) ss fate
+ComesTo C F x (IsValuesEnd ∷ ss) fate = ValuesComeTo C x fate
+ComesTo C F x (IsUnknown ∷ ss) fate = fate ≡ Some Unknown
+ComesTo C F x (IsFault f ∷ ss) fate = fate ≡ Some (Bad (cert_kind f.kind) f.byte)
+
+-- the formula's clauses have the ids from 1
+abbrev pub held_first : List (List LitOf) → Held
+held_first C = record { live = numbered C; last = length C }
+
+-- what the sayings of a stream come to, as a certificate of a formula
+abbrev pub Comes : FormulaOf → List HintSaying → Option Fate → Type 0
+Comes f ss fate = ComesTo f.clauses (held_first f.clauses) unnamed ss fate
+
+-- what these bytes of a stream come to, `most` of them at most: where more may follow
+pub record FateSoFar (f : FormulaOf) (bytes : List ℕ) (most : ℕ) (fate : Option Fate) : Type 0 where
+  pub within : length bytes ≤ most → Comes f (sayings f.vars false bytes) fate
+  pub beyond : most < length bytes
+      → ((x : Fate) × Comes f (sayings f.vars false (take most bytes)) (Some x) × (fate ≡ Some x))
+      ⊎ (Comes f (sayings f.vars false (take most bytes)) None × (fate ≡ Some (Bad TooLong most)))
+
+-- and where the stream ends with them
+pub record FateOf (f : FormulaOf) (bytes : List ℕ) (most : ℕ) (fate : Fate) : Type 0 where
+  pub within : length bytes ≤ most
+      → Comes f (sayings f.vars true bytes) (Some fate)
+      ⊎ (Comes f (sayings f.vars true bytes) None × (fate ≡ Bad EarlyEnd (length bytes)))
+  pub beyond : most < length bytes → FateSoFar f bytes most (Some fate)
+
+-- the fate so far of the bytes of a stream, as a certificate of the formula that the bytes of a job's file are
+abbrev pub IsFateSoFar : List ℕ → List ℕ → ℕ → Option Fate → Type 0
+IsFateSoFar job bytes most fate = (f : FormulaOf) × IsDimacs job f × FateSoFar f bytes most fate
+
+-- the fate of a whole stream as a certificate of the formula that the bytes of a job's file are
+abbrev pub IsFate : List ℕ → List ℕ → ℕ → Fate → Type 0
+IsFate job stream most fate = (f : FormulaOf) × IsDimacs job f × FateOf f stream most fate

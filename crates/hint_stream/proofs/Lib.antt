@@ -1,0 +1,16 @@
+pub mod Keeping
+pub mod Pieces
+pub mod Cutting
+pub mod Faults
+pub mod Turning
+pub mod Scanning
+pub mod Wording
+pub mod Speaking
+pub mod Tails
+pub mod Status
+pub mod Listing
+pub mod Literals
+pub mod Naming
+pub mod Lining
+pub mod Streams
+pub mod GoingOn

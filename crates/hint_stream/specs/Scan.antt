@@ -1,0 +1,44 @@
+-- An id's word, read from the left.
+use Rattle.std.specs.Prelude.{ℕ, ◌+◌, Bool, true, false, cond, not, eqb, List, [], ◌∷◌, Result, Ok, Err}
+use Rattle.cert_stream.specs.Machine.{with_digit}
+use Rattle.cert_stream.specs.declared.mode.WireFaultKind.{WireFaultKind}
+use Rattle.cert_stream.specs.declared.mode.WireFaultKind.TheVariants.{BadLiteral, LineTooLong}
+use Rattle.hint_stream.specs.Machine.{begins_id, hint, id_goes_on}
+use Rattle.hint_stream.specs.declared.mode.IdList.{IdList}
+use Rattle.hint_stream.specs.declared.mode.IdPart.{IdPart}
+use Rattle.hint_stream.specs.declared.mode.IdPart.TheVariants.{Gap, Minus, Zero, Digits}
+
+-- what a word is: a part of its kind, or no such word from one of its bytes on
+pub data Scanned (A : Type 0) : Type 0 where
+  Reads : A → Scanned A
+  Misfit : WireFaultKind → ℕ → Scanned A
+
+abbrev pub shift : {A : Type 0} → ℕ → Scanned A → Scanned A
+shift n (Reads part) = Reads part
+shift n (Misfit kind m) = Misfit kind (n + m)
+
+-- all bytes, one after the other, by what one byte more makes of a part
+abbrev pub scan : {A : Type 0} → (A → ℕ → Result A WireFaultKind) → A → List ℕ → Scanned A
+scan next part [] = Reads part
+scan next part (b ∷ bs) = elim (next part b) [ Ok more ↦ shift 1 (scan next more bs) | Err kind ↦ Misfit kind 0 ]
+
+-- a line's own id, of which 0 is what has no digit
+abbrev pub own_next : ℕ → ℕ → Result ℕ WireFaultKind
+own_next n b = cond (id_goes_on n b) (Ok (with_digit n b)) (Err BadLiteral)
+
+-- one digit more of an id in a list
+abbrev pub digit_next : Bool → ℕ → ℕ → ℕ → Result IdPart WireFaultKind
+digit_next negated place n b = cond (id_goes_on n b) (Ok (Digits (hint (with_digit n b) negated place))) (Err BadLiteral)
+
+-- the first byte of a word at `place`; `full` tells that the line has as many ids as it may
+abbrev pub first_next : IdList → Bool → ℕ → ℕ → Result IdPart WireFaultKind
+first_next kind full place b =
+    cond (eqb b 48) (Ok Zero)
+    (cond (not (begins_id kind b)) (Err BadLiteral) (cond full (Err LineTooLong) (cond (eqb b 45) (Ok (Minus place)) (digit_next false place 0 b))))
+
+-- one byte more
+abbrev pub part_next : IdList → Bool → ℕ → IdPart → ℕ → Result IdPart WireFaultKind
+part_next kind full place Gap b = first_next kind full place b
+part_next kind full place (Minus at) b = digit_next true at 0 b
+part_next kind full place Zero b = Err BadLiteral
+part_next kind full place (Digits h) b = digit_next h.negated h.place h.id b
