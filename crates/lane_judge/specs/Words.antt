@@ -1,23 +1,8 @@
 -- The words of a lane's child.
-use Rattle.std.specs.Prelude.{ℕ, ◌==◌, cond, List, [], ◌∷◌, ◌++◌, Option, None, Some, codes}
+use Rattle.std.specs.Prelude.{ℕ, List, [], ◌∷◌, ◌++◌, Option, None, Some, codes}
 use Rattle.std.specs.Fmt.{decimal}
 use Rattle.sby_terms.specs.declared.engine.Engine.{Engine}
 use Rattle.sby_terms.specs.declared.engine.Engine.TheVariants as engine
-use Rattle.sby_terms.specs.declared.names.JobName.{JobName}
-use Rattle.sby_terms.specs.declared.names.JobName.TheVariants.{Base, Step, Cover}
-
--- a job's name, among the jobs of a task of so many slices
-unfoldable pub job_text : ℕ → JobName → List ℕ
-job_text slices (Base j) = cond (slices == 1) (codes "base") (codes "base" ++ decimal j)
-job_text slices Step = codes "step"
-job_text slices (Cover k) = codes "cover" ++ decimal k
-
-unfoldable pub path_text : List ℕ → List ℕ → List ℕ
-path_text folder job = folder ++ codes "/model/" ++ job ++ codes ".cnf"
-
--- the path of a job's file in the work folder
-abbrev pub job_path : List ℕ → ℕ → JobName → List ℕ
-job_path folder slices job = path_text folder (job_text slices job)
 
 unfoldable pub solver_word : List ℕ
 solver_word = codes "cdcl_program"

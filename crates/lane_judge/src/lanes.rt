@@ -4,15 +4,16 @@ ghost use Rattle.std.specs.Prelude.{◌≡◌, ℕ, IfOk, MatchBool, Some, map, 
 ghost use Rattle.judge.specs.Problem.{IsJob};
 ghost use Rattle.lane_judge.specs.Fates.{Ends, GoesOn, Proves, Stands, most_bytes};
 ghost use Rattle.lane_judge.specs.Serving.{IsServed, IsServing, file_of};
-ghost use Rattle.lane_judge.specs.Words.{job_path, words_at};
+ghost use Rattle.lane_judge.specs.Words.{words_at};
+ghost use Rattle.sby_terms.specs.Path.{job_path};
 ghost use Rattle.sby_terms.specs.Span.{slices_of};
 
 use crate::output::{Output, Told};
 use crate::subject::JobJudge;
-use crate::words::{job_path, words_of};
+use crate::words::words_of;
 use judge::{Finding, Judge, Problem, one_file};
 use lane_child::{Asks, Child, Makes};
-use sby_terms::{Engine, JobName, MAX_STREAM};
+use sby_terms::{Engine, JobName, MAX_STREAM, job_path};
 use std::alloc::{AllocError, Global};
 use stream_judge::StreamKind;
 

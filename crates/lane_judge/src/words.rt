@@ -2,43 +2,11 @@
 
 ghost use Rattle.std.specs.Prelude.{◌≡◌, ◌∷◌, ◌++◌, [], IfOk, Some, map, string_bytes};
 ghost use Rattle.std.specs.Fmt.{decimal};
-ghost use Rattle.lane_judge.specs.Words.{budget_word, job_path, job_text, path_text, solver_word, words_of};
+ghost use Rattle.lane_judge.specs.Words.{budget_word, solver_word, words_of};
 ghost use Rattle.sby_terms.specs.declared.engine.Engine.TheVariants as engine;
 
-use sby_terms::{Engine, JobName, Words};
+use sby_terms::{Engine, Words};
 use std::alloc::{AllocError, Global};
-
-#[tactic(auto, unfolding(crate::specs::Words::job_text))]
-fn job_text(alloc: Global, slices: u32, job: JobName) -> Result<String, AllocError>
-    ensures { IfOk result (λ t. string_bytes t ≡ job_text slices job) }
-{
-    match job {
-        JobName::Base(_) if slices == 1 => String::from_str(alloc, "base"),
-        JobName::Base(slice) => format!(in alloc; "base{slice}"),
-        JobName::Step => String::from_str(alloc, "step"),
-        JobName::Cover(k) => format!(in alloc; "cover{k}"),
-    }
-}
-
-#[tactic(auto, unfolding(crate::specs::Words::path_text))]
-fn path_text(alloc: Global, folder: &str, job: &str) -> Result<String, AllocError>
-    ensures { IfOk result (λ t. string_bytes t ≡ path_text folder.now job.now) }
-{
-    format!(in alloc; "{folder}/model/{job}.cnf")
-}
-
-// The path of a job's file in the work folder.
-pub(crate) fn job_path(
-    alloc: Global,
-    folder: &str,
-    slices: u32,
-    job: JobName,
-) -> Result<String, AllocError>
-    ensures { IfOk result (λ t. string_bytes t ≡ job_path folder.now slices job) }
-{
-    let name = job_text(alloc, slices, job)?;
-    path_text(alloc, folder, name.as_str())
-}
 
 #[tactic(auto, unfolding(crate::specs::Words::solver_word))]
 fn solver_word(alloc: Global) -> Result<String, AllocError>

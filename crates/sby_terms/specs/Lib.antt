@@ -4,3 +4,4 @@ pub mod Status
 pub mod Code
 pub mod Number
 pub mod Span
+pub mod Path

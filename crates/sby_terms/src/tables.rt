@@ -1,13 +1,13 @@
 // The tables: what the answers decide, the status, and the number of a task's end.
 
-ghost use Rattle.std.specs.Prelude.{◌≡◌, ◌↔◌, All, Contains, IsTrue, List, Option, Some, slice_get};
+ghost use Rattle.std.specs.Prelude.{◌≡◌, ◌↔◌, [], Contains, IsTrue, List, Option, Some, slice_get};
 ghost use Rattle.sby_terms.specs.declared.names.Answer.{Answer};
 ghost use Rattle.sby_terms.specs.declared.names.Event.{Event};
 ghost use Rattle.sby_terms.specs.declared.names.Mode.{Mode};
 ghost use Rattle.sby_terms.specs.declared.names.Status.{Status};
 ghost use Rattle.sby_terms.specs.declared.names.Verdict.{Verdict};
 ghost use Rattle.sby_terms.specs.Code.{HasCode};
-ghost use Rattle.sby_terms.specs.Decide.{BaseIs, Decides, StepIs};
+ghost use Rattle.sby_terms.specs.Decide.{AreAll, BaseIs, Decides, StepIs};
 ghost use Rattle.sby_terms.specs.Status.{HasStatus};
 
 use crate::{Answer, Event, Expect, Mode, Status, Verdict};
@@ -25,13 +25,15 @@ pub fn decide(mode: Mode, answers: &[Option<Answer>]) -> Option<Verdict>
 }
 
 fn decide_bmc(answers: &[Option<Answer>]) -> Option<Verdict>
-    ensures pass { (result ≡ Some Verdict.Pass) ↔ BaseIs answers.now Answer.Unsat }
-    ensures fail { (result ≡ Some Verdict.Fail) ↔ BaseIs answers.now Answer.Sat }
+    ensures pass { (result ≡ Some Verdict.Pass) ↔ ((answers.now ≡ [] → ⊥) × AreAll answers.now Answer.Unsat) }
+    ensures fail { (result ≡ Some Verdict.Fail) ↔ Contains answers.now (Some Answer.Sat) }
 {
-    match answer_at(answers, 0) {
-        Some(Answer::Unsat) => Some(Verdict::Pass),
-        Some(Answer::Sat) => Some(Verdict::Fail),
-        None => None,
+    if has_answer(answers, Some(Answer::Sat)) {
+        Some(Verdict::Fail)
+    } else if !answers.is_empty() && are_all(answers, Answer::Unsat) {
+        Some(Verdict::Pass)
+    } else {
+        None
     }
 }
 
@@ -47,12 +49,12 @@ fn decide_prove(answers: &[Option<Answer>]) -> Option<Verdict>
 }
 
 fn decide_cover(answers: &[Option<Answer>]) -> Option<Verdict>
-    ensures pass { (result ≡ Some Verdict.Pass) ↔ All (λ answer. answer ≡ Some Answer.Sat) answers.now }
+    ensures pass { (result ≡ Some Verdict.Pass) ↔ AreAll answers.now Answer.Sat }
     ensures fail { (result ≡ Some Verdict.Fail) ↔ Contains answers.now (Some Answer.Unsat) }
 {
     if has_answer(answers, Some(Answer::Unsat)) {
         Some(Verdict::Fail)
-    } else if are_all_sat(answers) {
+    } else if are_all(answers, Answer::Sat) {
         Some(Verdict::Pass)
     } else {
         None
@@ -77,10 +79,10 @@ fn has_answer(answers: &[Option<Answer>], answer: Option<Answer>) -> bool
     answers.contains(&answer)
 }
 
-fn are_all_sat(answers: &[Option<Answer>]) -> bool
-    ensures { IsTrue result ↔ All (λ answer. answer ≡ Some Answer.Sat) answers.now }
+fn are_all(answers: &[Option<Answer>], answer: Answer) -> bool
+    ensures { IsTrue result ↔ AreAll answers.now answer }
 {
-    answers.iter().all(|answer| *answer == Some(Answer::Sat))
+    answers.iter().all(|one| *one == Some(answer))
 }
 
 /// The status of a task that ran its lanes, by what its answers decided and by the ends of its unsettled jobs.

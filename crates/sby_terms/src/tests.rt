@@ -67,6 +67,19 @@ fn numbers_and_spans(rt: HostRuntime) {
     assert_eq!(rt; (sliced.first(1), sliced.last(1)), (4, 5));
 }
 
+#[test]
+fn jobs_have_paths(rt: HostRuntime) -> Result<(), Fail> {
+    for (slices, job, path) in [
+        (1, JobName::Base(0), "t/model/base.cnf"),
+        (3, JobName::Base(2), "t/model/base2.cnf"),
+        (1, JobName::Step, "t/model/step.cnf"),
+        (1, JobName::Cover(7), "t/model/cover7.cnf"),
+    ] {
+        assert_eq!(rt; job_path(rt.alloc(), "t", slices, job)?.as_str(), path);
+    }
+    Ok(())
+}
+
 // A job whose answer is always Unsat.
 #[derive(Drop)]
 struct Refuted {

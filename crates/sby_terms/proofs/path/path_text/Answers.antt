@@ -1,6 +1,6 @@
 use Rattle.std.proofs.Common.{rules, append_assoc}
-use Rattle.lane_judge.specs.Words.{path_text}
-use Rattle.lane_judge.proofs.words.path_text.Goals as goal
+use Rattle.sby_terms.specs.Path.{path_text}
+use Rattle.sby_terms.proofs.path.path_text.Goals as goal
 
 pub returns : goal.returns
 unfolding path_text
