@@ -77,3 +77,8 @@ places_more {X} f xs x h is i d lt = elim (split i (omega (lt, length-append xs 
 pub map_length : {X Y : Type 0} (f : X → Y) (xs : List X) → length (map f xs) ≡ length xs
 map_length f [] = refl
 map_length f (x ∷ xs) = ap suc (map_length f xs)
+
+-- what holds of all holds of one between
+pub all_there : {X : Type 0} (P : X → Type 0) (xs : List X) (y : X) (zs : List X) → All P (xs ++ y ∷ zs) → P y
+all_there P [] y zs h = h 0 y (omega arith)
+all_there P (x ∷ xs) y zs h = all_there P xs y zs (λ k d lt. h (suc k) d (omega (lt, arith)))

@@ -6,6 +6,7 @@ pub mod Lanes
 pub mod Nones
 pub mod Races
 pub mod Reasons
+pub mod Seats
 pub mod Starts
 pub mod Stops
 pub mod Wholes

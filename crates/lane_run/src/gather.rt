@@ -16,7 +16,7 @@ pub struct Raced<L, T> {
 }
 
 // Adds what a lane leaves.
-fn take_in<L: Drop, T: Drop>(lane: Lane<L, T>, raced: &mut Raced<L, T>)
+fn take_in<L, T: Drop>(lane: Lane<L, T>, raced: &mut Raced<L, T>)
     requires cells { map (λ n. n.cell) lane.notes ≡ map (λ n. n.cell) raced.old.notes }
     requires bays { length raced.old.bays.items < vec_capacity raced.old.bays }
     requires reports { length raced.old.reports.items < vec_capacity raced.old.reports }
@@ -27,18 +27,12 @@ fn take_in<L: Drop, T: Drop>(lane: Lane<L, T>, raced: &mut Raced<L, T>)
 {
     let Lane { bay, report, notes } = lane;
     raced.notes.join(notes);
-    match raced.bays.push(bay) {
-        Ok(()) => {}
-        Err(_) => unreachable!(),
-    }
-    match raced.reports.push(report) {
-        Ok(()) => {}
-        Err(_) => unreachable!(),
-    }
+    raced.bays.push_reserved(bay);
+    raced.reports.push_reserved(report);
 }
 
 // What the lanes leave. There is room for all.
-pub(crate) fn gather<L: Drop, T: Drop>(lanes: Vec<Lane<L, T>>, raced: &mut Raced<L, T>)
+pub(crate) fn gather<L, T: Drop>(lanes: Vec<Lane<L, T>>, raced: &mut Raced<L, T>)
     requires fresh { (raced.old.bays.items ≡ []) × (raced.old.reports.items ≡ []) }
     requires cells { All (λ l. map (λ n. n.cell) l.notes ≡ map (λ n. n.cell) raced.old.notes) lanes.items }
     requires bays { length lanes.items ≤ vec_capacity raced.old.bays }
@@ -47,7 +41,9 @@ pub(crate) fn gather<L: Drop, T: Drop>(lanes: Vec<Lane<L, T>>, raced: &mut Raced
     ensures reports { raced.new.reports.items ≡ map (λ l. l.report) lanes.items }
     ensures notes { All (λ l. Remember l.notes raced.new.notes) lanes.items }
 {
-    for lane in lanes {
+    let mut left = lanes.into_iter();
+    while let Some(lane) = left.next() {
         take_in(lane, raced);
     }
+    left.destroy_empty();
 }

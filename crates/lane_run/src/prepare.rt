@@ -1,71 +1,162 @@
-// What a race needs before its lanes run.
+// What a race needs before its lanes run. All memory is taken before the first bay is moved.
 
-ghost use Rattle.std.specs.Prelude.{◌≡◌, ◌<◌, ◌≤◌, ◌^◌, ℕ, [], All, IfOk, length, map, slice_index_or, vec_capacity};
+ghost use Rattle.std.specs.Prelude.{◌≡◌, ◌<◌, ◌≤◌, ◌^◌, ℕ, [], All, IfErr, IfOk, length, map, slice_index_or, vec_capacity};
 ghost use Rattle.race_cells.specs.Notes.{AreNotesOf};
 ghost use Rattle.lane_run.specs.Raced.{IsReady};
 
 use crate::gather::Raced;
 use crate::racing::Lane;
-use race_cells::Cells;
+use race_cells::{Cells, Notes};
 use race_core::Report;
 use sby_terms::Settled;
 use std::alloc::{AllocError, Global};
 
-// A lane that has done nothing yet.
-fn fresh_lane<L: Drop, T: Settled + Drop>(
+// What a lane has before it gets its bay.
+#[derive(Drop)]
+struct Seat<T> {
+    report: Report<T>,
+    notes: Notes<T>,
+}
+
+// What a race has before its bays: a seat for each lane, and the room for its lanes and for what they leave.
+struct Room<L, T> {
+    seats: Vec<Seat<T>>,
+    lanes: Vec<Lane<L, T>>,
+    raced: Raced<L, T>,
+}
+
+// Lanes that have done nothing yet, and the room for what they leave.
+pub(crate) struct Fresh<L, T> {
+    pub(crate) lanes: Vec<Lane<L, T>>,
+    pub(crate) raced: Raced<L, T>,
+}
+
+// The seat of a lane that has done nothing yet.
+fn fresh_seat<T: Settled + Drop>(
     alloc: Global,
     cells: &Cells<T>,
     jobs: u32,
     place: u32,
-    bay: L,
-) -> Result<Lane<L, T>, AllocError>
+) -> Result<Seat<T>, AllocError>
     requires { jobs ≡ length cells.now }
-    ensures ready { IfOk result (λ l. IsReady cells.now l.report l.notes) }
-    ensures place { IfOk result (λ l. l.report.lane ≡ place) }
-    ensures bay { IfOk result (λ l. l.bay ≡ bay) }
+    ensures ready { IfOk result (λ s. IsReady cells.now s.report s.notes) }
+    ensures place { IfOk result (λ s. s.report.lane ≡ place) }
 {
     let report = Report::new(alloc, place, jobs)?;
     let notes = cells.notes(alloc)?;
-    Ok(Lane { bay, report, notes })
+    Ok(Seat { report, notes })
 }
 
-// A lane that has done nothing yet for each bay.
-pub(crate) fn fresh_lanes<L: Drop, T: Settled + Drop>(
+// The seats of so many lanes that have done nothing yet.
+fn fresh_seats<T: Settled + Drop>(
+    alloc: Global,
+    cells: &Cells<T>,
+    jobs: u32,
+    count: u32,
+) -> Result<Vec<Seat<T>>, AllocError>
+    requires jobs { jobs ≡ length cells.now }
+    ensures count { IfOk result (λ seats. length seats.items ≡ count) }
+    ensures ready { IfOk result (λ seats. All (λ s. IsReady cells.now s.report s.notes) seats.items) }
+    ensures places { IfOk result (λ seats. (i : ℕ) (d : Seat T) → i < length seats.items → (slice_index_or seats.items i d).report.lane ≡ i) }
+{
+    let mut seats = Vec::with_capacity(alloc, count as usize)?;
+    for place in 0..count {
+        seats.push_reserved(fresh_seat(alloc, cells, jobs, place)?);
+    }
+    Ok(seats)
+}
+
+// Room for so many lanes, and for their bays behind them.
+fn fresh_rows<L, T>(alloc: Global, count: usize) -> Result<(Vec<Lane<L, T>>, Vec<L>), AllocError>
+    ensures lanes { IfOk result (λ r. (r.0.items ≡ []) × (count ≤ vec_capacity r.0)) }
+    ensures bays { IfOk result (λ r. (r.1.items ≡ []) × (count ≤ vec_capacity r.1)) }
+{
+    let lanes = Vec::with_capacity(alloc, count)?;
+    match Vec::with_capacity(alloc, count) {
+        Ok(bays) => Ok((lanes, bays)),
+        Err(error) => {
+            lanes.destroy_empty();
+            Err(error)
+        }
+    }
+}
+
+// All memory that so many lanes need to be raced.
+fn fresh_room<L, T: Settled + Drop>(
+    alloc: Global,
+    cells: &Cells<T>,
+    jobs: u32,
+    count: u32,
+) -> Result<Room<L, T>, AllocError>
+    requires jobs { jobs ≡ length cells.now }
+    ensures count { IfOk result (λ r. length r.seats.items ≡ count) }
+    ensures ready { IfOk result (λ r. All (λ s. IsReady cells.now s.report s.notes) r.seats.items) }
+    ensures places { IfOk result (λ r. (i : ℕ) (d : Seat T) → i < length r.seats.items → (slice_index_or r.seats.items i d).report.lane ≡ i) }
+    ensures lanes { IfOk result (λ r. (r.lanes.items ≡ []) × (count ≤ vec_capacity r.lanes)) }
+    ensures fresh { IfOk result (λ r. (r.raced.bays.items ≡ []) × (r.raced.reports.items ≡ [])) }
+    ensures notes { IfOk result (λ r. AreNotesOf cells.now r.raced.notes) }
+    ensures room { IfOk result (λ r. (count ≤ vec_capacity r.raced.bays) × (count ≤ vec_capacity r.raced.reports)) }
+{
+    let seats = fresh_seats(alloc, cells, jobs, count)?;
+    let reports = Vec::with_capacity(alloc, count as usize)?;
+    let notes = cells.notes(alloc)?;
+    let (lanes, bays) = fresh_rows(alloc, count as usize)?;
+    Ok(Room {
+        seats,
+        lanes,
+        raced: Raced {
+            bays,
+            reports,
+            notes,
+        },
+    })
+}
+
+// Gives each seat the bay at its place. There is room for the lanes.
+fn take_seats<L, T: Drop>(seats: Vec<Seat<T>>, bays: Vec<L>, lanes: &mut Vec<Lane<L, T>>)
+    requires fresh { lanes.old.items ≡ [] }
+    requires same { length seats.items ≡ length bays.items }
+    requires room { length seats.items ≤ vec_capacity lanes.old }
+    ensures bays { map (λ l. l.bay) lanes.new.items ≡ bays.items }
+    ensures reports { map (λ l. l.report) lanes.new.items ≡ map (λ s. s.report) seats.items }
+    ensures notes { map (λ l. l.notes) lanes.new.items ≡ map (λ s. s.notes) seats.items }
+{
+    let mut left = bays.into_iter();
+    for seat in seats {
+        let Some(bay) = left.next() else {
+            unreachable!();
+        };
+        let Seat { report, notes } = seat;
+        lanes.push_reserved(Lane { bay, report, notes });
+    }
+    left.destroy_empty();
+}
+
+// A lane that has done nothing yet for each bay. Where memory is wanting, the bays come back.
+pub(crate) fn fresh_lanes<L, T: Settled + Drop>(
     alloc: Global,
     cells: &Cells<T>,
     jobs: u32,
     bays: Vec<L>,
-) -> Result<Vec<Lane<L, T>>, AllocError>
+) -> Result<Fresh<L, T>, Vec<L>>
     requires jobs { jobs ≡ length cells.now }
     requires few { length bays.items < 2 ^ 32 }
-    ensures ready { IfOk result (λ lanes. All (λ l. IsReady cells.now l.report l.notes) lanes.items) }
-    ensures places { IfOk result (λ lanes. (i : ℕ) (d : Lane L T) → i < length lanes.items → (slice_index_or lanes.items i d).report.lane ≡ i) }
-    ensures bays { IfOk result (λ lanes. map (λ l. l.bay) lanes.items ≡ bays.items) }
+    ensures given_back { IfErr result (λ given. given.items ≡ bays.items) }
+    ensures ready { IfOk result (λ f. All (λ l. IsReady cells.now l.report l.notes) f.lanes.items) }
+    ensures places { IfOk result (λ f. (i : ℕ) (d : Lane L T) → i < length f.lanes.items → (slice_index_or f.lanes.items i d).report.lane ≡ i) }
+    ensures bays { IfOk result (λ f. map (λ l. l.bay) f.lanes.items ≡ bays.items) }
+    ensures fresh { IfOk result (λ f. (f.raced.bays.items ≡ []) × (f.raced.reports.items ≡ [])) }
+    ensures notes { IfOk result (λ f. AreNotesOf cells.now f.raced.notes) }
+    ensures room { IfOk result (λ f. (length bays.items ≤ vec_capacity f.raced.bays) × (length bays.items ≤ vec_capacity f.raced.reports)) }
 {
-    let mut lanes = Vec::with_capacity(alloc, bays.len())?;
-    for bay in bays {
-        let place = lanes.len() as u32;
-        lanes.push(fresh_lane(alloc, cells, jobs, place, bay)?)?;
-    }
-    Ok(lanes)
-}
-
-// Room for what so many lanes leave.
-pub(crate) fn fresh_raced<L: Drop, T: Settled + Drop>(
-    alloc: Global,
-    cells: &Cells<T>,
-    lanes: usize,
-) -> Result<Raced<L, T>, AllocError>
-    ensures fresh { IfOk result (λ r. (r.bays.items ≡ []) × (r.reports.items ≡ [])) }
-    ensures notes { IfOk result (λ r. AreNotesOf cells.now r.notes) }
-    ensures room { IfOk result (λ r. (lanes ≤ vec_capacity r.bays) × (lanes ≤ vec_capacity r.reports)) }
-{
-    let bays = Vec::with_capacity(alloc, lanes)?;
-    let reports = Vec::with_capacity(alloc, lanes)?;
-    let notes = cells.notes(alloc)?;
-    Ok(Raced {
-        bays,
-        reports,
-        notes,
-    })
+    let Ok(room) = fresh_room(alloc, cells, jobs, bays.len() as u32) else {
+        return Err(bays);
+    };
+    let Room {
+        seats,
+        mut lanes,
+        raced,
+    } = room;
+    take_seats(seats, bays, &mut lanes);
+    Ok(Fresh { lanes, raced })
 }

@@ -1,6 +1,6 @@
 // The lanes of a task beside each other.
 
-ghost use Rattle.std.specs.Prelude.{◌≡◌, ◌<◌, ◌^◌, ℕ, All, IfOk, IfSome, Some, length, slice_get, slice_index_or};
+ghost use Rattle.std.specs.Prelude.{◌≡◌, ◌<◌, ◌^◌, ℕ, All, IfErr, IfOk, IfSome, Some, length, slice_get, slice_index_or};
 ghost use Rattle.race_core.specs.Asking.{name_at, terms_of};
 ghost use Rattle.lane_run.specs.Asked.{IsFor, terms_at};
 ghost use Rattle.race_core.specs.Consistent.{Consistent};
@@ -11,20 +11,19 @@ ghost use Rattle.lane_run.specs.Started.{LaneStarts};
 
 use crate::gather::{Raced, gather};
 use crate::lane::run_lane;
-use crate::prepare::{fresh_lanes, fresh_raced};
+use crate::prepare::{Fresh, fresh_lanes};
 use crate::task::Task;
 use lane_child::Makes;
 use race_cells::Notes;
 use race_core::Report;
 use sby_edge::{Clock, Launch};
 use sby_terms::Settled;
-use std::alloc::{AllocError, Global};
+use std::alloc::Global;
 use std::sync::Wait;
 use std::thread;
 use std::thread::Threads;
 
 /// A lane of a race: its bay, its report, and what it knows of the cells.
-#[derive(Drop)]
 pub struct Lane<L, T> {
     pub bay: L,
     pub report: Report<T>,
@@ -95,12 +94,13 @@ pub fn run_lanes<
     thread::for_each_mut(rt, lanes, count, &run);
 }
 
-/// Races the lanes of a task, one for each bay, beside each other. Want of memory is answered before any child starts. Lanes are
-/// counted from 0, in the order of the bays; a lane's ends tell of failed calls only where the counts of the bay at its place rose, and
-/// its starts are those that this bay tells. Where there is a limit, its start is a reading that the clock may give.
+/// Races the lanes of a task, one for each bay, beside each other. Where memory is wanting, it gives back the bays as they were, and no
+/// child was started. Lanes are counted from 0, in the order of the bays; a lane's ends tell of failed calls only where the counts of
+/// the bay at its place rose, and its starts are those that this bay tells. Where there is a limit, its start is a reading that the
+/// clock may give.
 pub fn race<
     R: Threads + Wait + Sync,
-    L: Launch + Send + Drop,
+    L: Launch + Send,
     M: Makes<T> + Sync,
     T: Settled + Drop + Send + Sync,
     C: Clock,
@@ -110,10 +110,11 @@ pub fn race<
     task: &Task<'_, M, T, C>,
     jobs: u32,
     bays: Vec<L>,
-) -> Result<Raced<L, T>, AllocError>
+) -> Result<Raced<L, T>, Vec<L>>
     requires jobs { jobs ≡ length task.now.cells.now }
     requires few { length bays.items < 2 ^ 32 }
     requires start { IfSome task.now.limit.millis (λ millis. C.may_read task.now.clock.now task.now.limit.start) }
+    ensures given_back { IfErr result (λ given. given.items ≡ bays.items) }
     ensures consistent { IfOk result (λ r. Consistent (IsFor T.problem T.job (M.problem task.now.makes.now) task.now.mode) (λ i k. M.is_served task.now.makes.now i (name_at task.now.mode k))
         (λ k. terms_of T.job T.answer (terms_at task.now.mode task.now.limit k)) (length bays.items) (length task.now.cells.now) r.reports.items) }
     ensures done { IfOk result (λ r. LanesDone (IsFor T.problem T.job (M.problem task.now.makes.now) task.now.mode) (λ i k. M.is_served task.now.makes.now i (name_at task.now.mode k))
@@ -125,8 +126,10 @@ pub fn race<
         → LaneStarts (M.words task.now.makes.now i) (M.file task.now.makes.now) (M.stands task.now.makes.now i) (M.ends task.now.makes.now i) (M.proves task.now.makes.now i) (M.most task.now.makes.now) task.now.mode (L.told b) (L.told d) (length task.now.cells.now) q) }
     ensures stopped { IfOk result (λ r. All (λ q. LaneStops (C.may_read task.now.clock.now) task.now.limit (length task.now.cells.now) q) r.reports.items) }
 {
-    let mut lanes = fresh_lanes(alloc, task.cells, jobs, bays)?;
-    let mut raced = fresh_raced(alloc, task.cells, lanes.len())?;
+    let Fresh {
+        mut lanes,
+        mut raced,
+    } = fresh_lanes(alloc, task.cells, jobs, bays)?;
     run_lanes(rt, alloc, task, lanes.as_mut_slice());
     gather(lanes, &mut raced);
     Ok(raced)

@@ -122,7 +122,7 @@ pub trait Launch {
 
 /// What makes the bays of a run, one for each lane of each task. Tasks are counted from 0 in the order in which they run.
 pub trait Yard {
-    type Bay: Launch + Send + Drop;
+    type Bay: Launch + Send;
 
     /// The script of each task, lane and job, where they are told.
     ghost told: { Self → Option YardOf };

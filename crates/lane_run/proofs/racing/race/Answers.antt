@@ -22,6 +22,14 @@ take_whole [] ys (suc n) e = absurd (omega (e, arith))
 take_whole (x ∷ xs) ys zero e = absurd (omega (e, arith))
 take_whole (x ∷ xs) ys (suc n) e = ap (λ rest. x ∷ rest) (take_whole xs ys n (omega (e, arith)))
 
+pub gather-requires-clause-cells : goal.gather-requires-clause-cells
+gather-requires-clause-cells g c =
+    let now = c.run_lanes.new.lanes in
+    let many : c.in_ok-lanes.field-0.lanes.len ≡ length now = omega arith in
+    let whole : take c.in_ok-lanes.field-0.lanes.len (now ++ drop (length now) c.in_ok-lanes.field-0.lanes.items) ≡ now = take_whole now (drop (length now) c.in_ok-lanes.field-0.lanes.items) c.in_ok-lanes.field-0.lanes.len many in
+    let cells = λ (l : Lane g.row.L.Denot g.row.T.Denot). map (λ n. n.cell) l.notes ≡ map (λ n. n.cell) c.in_ok-lanes.field-0.raced.notes in
+    subst (λ (ls : List (Lane g.row.L.Denot g.row.T.Denot)). All cells ls) (sym whole) (λ k d lt. (c.run_lanes.ensures.done k d lt).2 ∙ sym c.in_ok-lanes.ensures.notes)
+
 pub returns-clause-done : goal.returns-clause-done
 returns-clause-done g c =
     let t = c.args.task.now in
@@ -32,8 +40,8 @@ returns-clause-done g c =
     let ran = c.run_lanes.ensures in
     let notes = c.gather.new.raced.notes in
     let now = c.run_lanes.new.lanes in
-    let many : c.in_ok-lanes.lanes.len ≡ length now = omega arith in
-    let whole : take c.in_ok-lanes.lanes.len (now ++ drop (length now) c.in_ok-lanes.lanes.items) ≡ now = take_whole now (drop (length now) c.in_ok-lanes.lanes.items) c.in_ok-lanes.lanes.len many in
+    let many : c.in_ok-lanes.field-0.lanes.len ≡ length now = omega arith in
+    let whole : take c.in_ok-lanes.field-0.lanes.len (now ++ drop (length now) c.in_ok-lanes.field-0.lanes.items) ≡ now = take_whole now (drop (length now) c.in_ok-lanes.field-0.lanes.items) c.in_ok-lanes.field-0.lanes.len many in
     subst (λ (rs : List (ReportOf g.row.T.Denot)). LanesDone for serves terms may (length t.cells.now) notes rs) (sym (c.gather.ensures.reports ∙ ap (λ (ls : List (Lane g.row.L.Denot g.row.T.Denot)). map (λ l. l.report) ls) whole))
     (lanes_gathered (λ (l : Lane g.row.L.Denot g.row.T.Denot). l.report) (λ (l : Lane g.row.L.Denot g.row.T.Denot). l.notes) for serves terms may t.cells.now notes now ran.done
     (λ i d lt.
@@ -52,29 +60,29 @@ returns-clause-consistent g c =
     let may = g.C.Clock.may_read t.clock.now in
     let reports = c.gather.new.raced.reports.items in
     let now = c.run_lanes.new.lanes in
-    let many : c.in_ok-lanes.lanes.len ≡ length now = omega arith in
-    let whole : take c.in_ok-lanes.lanes.len (now ++ drop (length now) c.in_ok-lanes.lanes.items) ≡ now = take_whole now (drop (length now) c.in_ok-lanes.lanes.items) c.in_ok-lanes.lanes.len many in
+    let many : c.in_ok-lanes.field-0.lanes.len ≡ length now = omega arith in
+    let whole : take c.in_ok-lanes.field-0.lanes.len (now ++ drop (length now) c.in_ok-lanes.field-0.lanes.items) ≡ now = take_whole now (drop (length now) c.in_ok-lanes.field-0.lanes.items) c.in_ok-lanes.field-0.lanes.len many in
     let same : length c.run_lanes.new.lanes ≡ length c.as_mut_slice.result.now = omega arith in
     let all : length reports ≡ length c.args.bays.items =
     ap length (c.gather.ensures.reports ∙ ap (λ (ls : List (Lane g.row.L.Denot g.row.T.Denot)). map (λ l. l.report) ls) whole) ∙ (map_length (λ (l : Lane g.row.L.Denot g.row.T.Denot). l.report) c.run_lanes.new.lanes
-    ∙ (same ∙ (ap length c.as_mut_slice.ensures.value ∙ (sym (map_length (λ (l : Lane g.row.L.Denot g.row.T.Denot). l.bay) c.in_ok-lanes.lanes.items) ∙ ap length c.in_ok-lanes.ensures.bays)))) in
+    ∙ (same ∙ (ap length c.as_mut_slice.ensures.value ∙ (sym (map_length (λ (l : Lane g.row.L.Denot g.row.T.Denot). l.bay) c.in_ok-lanes.field-0.lanes.items) ∙ ap length c.in_ok-lanes.ensures.bays)))) in
     subst (λ (n : ℕ). Consistent for serves terms n (length t.cells.now) reports) all
     (lanes_consistent for serves terms may (length t.cells.now) c.gather.new.raced.notes reports (returns-clause-done g c))
 
 pub returns-clause-bays : goal.returns-clause-bays
 returns-clause-bays g c =
     let now = c.run_lanes.new.lanes in
-    let many : c.in_ok-lanes.lanes.len ≡ length now = omega arith in
-    let whole : take c.in_ok-lanes.lanes.len (now ++ drop (length now) c.in_ok-lanes.lanes.items) ≡ now = take_whole now (drop (length now) c.in_ok-lanes.lanes.items) c.in_ok-lanes.lanes.len many in
+    let many : c.in_ok-lanes.field-0.lanes.len ≡ length now = omega arith in
+    let whole : take c.in_ok-lanes.field-0.lanes.len (now ++ drop (length now) c.in_ok-lanes.field-0.lanes.items) ≡ now = take_whole now (drop (length now) c.in_ok-lanes.field-0.lanes.items) c.in_ok-lanes.field-0.lanes.len many in
     let same : length now ≡ length c.as_mut_slice.result.now = omega arith in
     ap length (c.gather.ensures.bays ∙ ap (λ (ls : List (Lane g.row.L.Denot g.row.T.Denot)). map (λ l. l.bay) ls) whole) ∙ (map_length (λ (l : Lane g.row.L.Denot g.row.T.Denot). l.bay) now
-    ∙ (same ∙ (ap length c.as_mut_slice.ensures.value ∙ (sym (map_length (λ (l : Lane g.row.L.Denot g.row.T.Denot). l.bay) c.in_ok-lanes.lanes.items) ∙ ap length c.in_ok-lanes.ensures.bays))))
+    ∙ (same ∙ (ap length c.as_mut_slice.ensures.value ∙ (sym (map_length (λ (l : Lane g.row.L.Denot g.row.T.Denot). l.bay) c.in_ok-lanes.field-0.lanes.items) ∙ ap length c.in_ok-lanes.ensures.bays))))
 
 pub returns-clause-faults : goal.returns-clause-faults
 returns-clause-faults g c = λ i b d q was is told.
     let now = c.run_lanes.new.lanes in
-    let many : c.in_ok-lanes.lanes.len ≡ length now = omega arith in
-    let whole : take c.in_ok-lanes.lanes.len (now ++ drop (length now) c.in_ok-lanes.lanes.items) ≡ now = take_whole now (drop (length now) c.in_ok-lanes.lanes.items) c.in_ok-lanes.lanes.len many in
+    let many : c.in_ok-lanes.field-0.lanes.len ≡ length now = omega arith in
+    let whole : take c.in_ok-lanes.field-0.lanes.len (now ++ drop (length now) c.in_ok-lanes.field-0.lanes.items) ≡ now = take_whole now (drop (length now) c.in_ok-lanes.field-0.lanes.items) c.in_ok-lanes.field-0.lanes.len many in
     let bay = λ (l : Lane g.row.L.Denot g.row.T.Denot). l.bay in
     let report = λ (l : Lane g.row.L.Denot g.row.T.Denot). l.report in
     let bays = c.gather.ensures.bays ∙ ap (λ (ls : List (Lane g.row.L.Denot g.row.T.Denot)). map bay ls) whole in
@@ -92,8 +100,8 @@ returns-clause-faults g c = λ i b d q was is told.
 pub returns-clause-starts : goal.returns-clause-starts
 returns-clause-starts g c = λ i b d q was is told.
     let now = c.run_lanes.new.lanes in
-    let many : c.in_ok-lanes.lanes.len ≡ length now = omega arith in
-    let whole : take c.in_ok-lanes.lanes.len (now ++ drop (length now) c.in_ok-lanes.lanes.items) ≡ now = take_whole now (drop (length now) c.in_ok-lanes.lanes.items) c.in_ok-lanes.lanes.len many in
+    let many : c.in_ok-lanes.field-0.lanes.len ≡ length now = omega arith in
+    let whole : take c.in_ok-lanes.field-0.lanes.len (now ++ drop (length now) c.in_ok-lanes.field-0.lanes.items) ≡ now = take_whole now (drop (length now) c.in_ok-lanes.field-0.lanes.items) c.in_ok-lanes.field-0.lanes.len many in
     let bay = λ (l : Lane g.row.L.Denot g.row.T.Denot). l.bay in
     let report = λ (l : Lane g.row.L.Denot g.row.T.Denot). l.report in
     let bays = c.gather.ensures.bays ∙ ap (λ (ls : List (Lane g.row.L.Denot g.row.T.Denot)). map bay ls) whole in
@@ -115,8 +123,8 @@ pub returns-clause-stopped : goal.returns-clause-stopped
 returns-clause-stopped g c =
     let t = c.args.task.now in
     let now = c.run_lanes.new.lanes in
-    let many : c.in_ok-lanes.lanes.len ≡ length now = omega arith in
-    let whole : take c.in_ok-lanes.lanes.len (now ++ drop (length now) c.in_ok-lanes.lanes.items) ≡ now = take_whole now (drop (length now) c.in_ok-lanes.lanes.items) c.in_ok-lanes.lanes.len many in
+    let many : c.in_ok-lanes.field-0.lanes.len ≡ length now = omega arith in
+    let whole : take c.in_ok-lanes.field-0.lanes.len (now ++ drop (length now) c.in_ok-lanes.field-0.lanes.items) ≡ now = take_whole now (drop (length now) c.in_ok-lanes.field-0.lanes.items) c.in_ok-lanes.field-0.lanes.len many in
     let report = λ (l : Lane g.row.L.Denot g.row.T.Denot). l.report in
     let reports = c.gather.ensures.reports ∙ ap (λ (ls : List (Lane g.row.L.Denot g.row.T.Denot)). map report ls) whole in
     let Stops = λ (r : ReportOf g.row.T.Denot). LaneStops (g.C.Clock.may_read t.clock.now) t.limit (length t.cells.now) r in

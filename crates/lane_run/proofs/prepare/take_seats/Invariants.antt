@@ -1,0 +1,17 @@
+use Rattle.std.proofs.Common.{◌≡◌, ◌≤◌, ◌++◌, length, map}
+use Rattle.std.specs.Prelude.{vec_capacity}
+use Rattle.std.specs.Vec.Iter.{into_iter_items, into_iter_len}
+use Rattle.lane_run.proofs.prepare.take_seats.Given as goal
+
+abbrev pub invariant-loop-seat : goal.invariant-loop-seat
+invariant-loop-seat g l = record {
+  order : l.yielded ++ into_iter_items l.seat-iterator ≡ into_iter_items l.initial.seat-iterator;
+  seats : into_iter_len l.seat-iterator ≡ length (into_iter_items l.seat-iterator);
+  left : into_iter_len l.left ≡ length (into_iter_items l.left);
+  same : length (into_iter_items l.seat-iterator) ≡ length (into_iter_items l.left);
+  bays : map (λ x. x.bay) l.lanes.items ++ into_iter_items l.left ≡ l.fn.bays.items;
+  reports : map (λ x. x.report) l.lanes.items ≡ map (λ x. x.report) l.yielded;
+  notes : map (λ x. x.notes) l.lanes.items ≡ map (λ x. x.notes) l.yielded;
+  lanes : length l.lanes.items ≡ length l.yielded;
+  room : length l.fn.seats.items ≤ vec_capacity l.lanes;
+}
