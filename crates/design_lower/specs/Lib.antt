@@ -1,0 +1,5 @@
+pub mod Lowering
+pub mod Seen
+pub mod Asks
+pub mod Progress
+pub mod Passing

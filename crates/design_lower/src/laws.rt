@@ -1,0 +1,32 @@
+//! Laws of lowering: each function's contract is a law, and its body is empty.
+
+ghost use Rattle.std.specs.Prelude.{◌≡◌, ◌↔◌, ℕ};
+ghost use Rattle.design_core.specs.Shape.{DesignOf, IsDesign};
+ghost use Rattle.design_meaning.specs.Claims.{NeverBreak, NoBreak, NoReach, ReachRun};
+ghost use Rattle.design_meaning.specs.Meaning.{Run, Valuation};
+ghost use Rattle.design_check.specs.Faults.{IsFlat};
+ghost use Rattle.design_lower.specs.Lowering.{IsLowered};
+ghost use Rattle.design_lower.specs.Seen.{IsSeen};
+
+/// A design is flat exactly where the lowered one is.
+pub fn lowering_keeps_flatness()
+    ensures { (d e : DesignOf) → IsDesign d → IsLowered d e → IsFlat d ↔ IsFlat e }
+{}
+
+/// Each run of the lowered design, looked at on the design's wires and free bits, is a run of the design, and each run of the design is
+/// so looked at from one of the lowered design.
+pub fn lowered_runs_are_runs()
+    ensures from { (d e : DesignOf) → IsDesign d → IsLowered d e → (n : ℕ) (ws : ℕ → Valuation) → Run e n ws
+        → (vs : ℕ → Valuation) × Run d n vs × ((t : ℕ) → IsSeen d e (vs t) (ws t)) }
+    ensures to { (d e : DesignOf) → IsDesign d → IsLowered d e → (n : ℕ) (vs : ℕ → Valuation) → Run d n vs
+        → (ws : ℕ → Valuation) × Run e n ws × ((t : ℕ) → IsSeen d e (vs t) (ws t)) }
+{}
+
+/// No claim tells a design from the lowered one.
+pub fn lowering_keeps_claims()
+    ensures spans { (d e : DesignOf) → IsDesign d → IsLowered d e → (k n : ℕ) → NoBreak d k n ↔ NoBreak e k n }
+    ensures never { (d e : DesignOf) → IsDesign d → IsLowered d e → NeverBreak d ↔ NeverBreak e }
+    ensures unreached { (d e : DesignOf) → IsDesign d → IsLowered d e → (n k : ℕ) → NoReach d n k ↔ NoReach e n k }
+    ensures reached { (d e : DesignOf) → IsDesign d → IsLowered d e → (n k : ℕ)
+        → ((vs : ℕ → Valuation) × ReachRun d n vs k) ↔ ((ws : ℕ → Valuation) × ReachRun e n ws k) }
+{}

@@ -1,0 +1,14 @@
+//! A design without registers that have an asynchronous reset: each is lowered to a register without one.
+#![tactic(auto)]
+
+mod copies;
+mod fits;
+pub mod laws;
+mod lowering;
+mod names;
+mod parts;
+mod starts;
+#[cfg(test)]
+mod tests;
+
+pub use lowering::lower;
