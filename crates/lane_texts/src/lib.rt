@@ -6,4 +6,6 @@ mod child_tests;
 #[cfg(test)]
 mod race_tests;
 #[cfg(test)]
+mod task_tests;
+#[cfg(test)]
 mod tests;

@@ -1,6 +1,6 @@
 // Races of the lanes of a problem, by children of scripts.
 
-ghost use Rattle.std.specs.Prelude.{◌<◌, ◌≤◌};
+ghost use Rattle.std.specs.Prelude.{◌≡◌, ◌<◌, ◌≤◌, IfOk, length};
 
 use judge::{Finding, Problem};
 use lane_judge::ProblemLanes;
@@ -95,7 +95,8 @@ pub fn script_of(alloc: Global, text: &str) -> Result<Script, AllocError> {
     })
 }
 
-fn end_of(end: &JobEnd<Finding>) -> Ended {
+/// How it ended.
+pub fn end_of(end: &JobEnd<Finding>) -> Ended {
     match end {
         JobEnd::Found(finding) => Ended::Found(finding.answer()),
         JobEnd::Unknown => Ended::Unknown,
@@ -151,8 +152,8 @@ fn clock_of(alloc: Global, last: u64) -> Result<ListClock, AllocError> {
     Ok(ListClock::new(readings))
 }
 
-// As many engines of the own kind.
-fn engines_of(alloc: Global, lanes: u32) -> Result<Vec<Engine>, AllocError> {
+/// As many engines of the own kind.
+pub fn engines_of(alloc: Global, lanes: u32) -> Result<Vec<Engine>, AllocError> {
     let mut engines = Vec::new(alloc);
     for _ in 0..lanes {
         engines.push(Engine::Sat(None))?;
@@ -160,12 +161,24 @@ fn engines_of(alloc: Global, lanes: u32) -> Result<Vec<Engine>, AllocError> {
     Ok(engines)
 }
 
-fn bays_of<Y: Yard>(alloc: Global, yard: &mut Y, lanes: u32) -> Result<Vec<Y::Bay>, Fail> {
-    let mut bays = Vec::new(alloc);
+fn give_back<Y: Yard>(yard: &mut Y, mut bays: Vec<Y::Bay>) {
+    while let Some(bay) = bays.pop() {
+        yard.back(bay);
+    }
+    bays.destroy_empty();
+}
+
+fn bays_of<Y: Yard>(alloc: Global, yard: &mut Y, lanes: u32) -> Result<Vec<Y::Bay>, Fail>
+    ensures { IfOk result (λ bays. length bays.items ≡ lanes) }
+{
+    let mut bays = Vec::with_capacity(alloc, lanes as usize)?;
     for lane in 0..lanes {
         match yard.bay(alloc, 0, lane) {
-            Ok(bay) => bays.push(bay)?,
-            Err(_) => return Err(Fail::from("no bay")),
+            Ok(bay) => bays.push_reserved(bay),
+            Err(_) => {
+                give_back(yard, bays);
+                return Err(Fail::from("no bay"));
+            }
         }
     }
     Ok(bays)
@@ -205,10 +218,13 @@ pub fn raced<R: Threads + Wait + SystemClock + Sync>(
         },
     };
     let bays = bays_of(alloc, &mut yard, lanes)?;
-    if bays.len() > 64 {
-        return Err(Fail::from("too many lanes"));
-    }
-    let raced = race(rt, alloc, &task, 1, bays)?;
+    let raced = match race(rt, alloc, &task, 1, bays) {
+        Ok(raced) => raced,
+        Err(bays) => {
+            give_back(&mut yard, bays);
+            return Err(Fail::from("want of memory"));
+        }
+    };
     let answer = answer_among(&raced.reports, JobName::Base(0));
     Ok((seen_two(&raced), decide(Mode::Bmc, &[answer])))
 }

@@ -1,0 +1,256 @@
+-- Why jobs of lanes end so.
+use Rattle.std.proofs.Common.{◌≡◌, ◌≢◌, ℕ, zero, suc, ◌-◌, ◌<◌, ◌≤◌, inl, inr, Bool, true, false, List, [], ◌∷◌, ◌++◌, length, append-nil, refl, sym, ap, subst, ◌∙◌, arith}
+use Rattle.std.proofs.Common.{not, ◌&&◌}
+use Rattle.std.specs.Prelude.{Option, Some, None, IsSome, IsSomeAnd, Contains, slice_get, slice_index_or, unwrap_or}
+use Rattle.sby_edge.specs.Cause.{CountsOf}
+use Rattle.sby_edge.specs.Child.{YardOf}
+use Rattle.sby_terms.specs.declared.names.JobName.{JobName}
+use Rattle.judge.specs.Finding.{FindingOf}
+use Rattle.judge.specs.Problem.{AskedOf}
+use Rattle.race_core.specs.Asking.{needless_by}
+use Rattle.race_core.specs.Carrying.{Carries, KnewBy}
+use Rattle.race_core.specs.Consistent.{Replayed, end_at, events_at}
+use Rattle.race_core.specs.Ends.{EndIs, HasEnd, IsLast}
+use Rattle.race_core.specs.Parts.{keeper_of, reader_of}
+use Rattle.race_core.specs.Report.{ReportOf}
+use Rattle.race_core.specs.declared.end.JobEnd.{JobEnd}
+use Rattle.race_core.specs.declared.end.JobEnd.TheVariants as end
+use Rattle.race_core.specs.declared.event.Judged.{Judged}
+use Rattle.race_core.specs.declared.event.Judged.TheVariants as judged
+use Rattle.race_core.specs.declared.part.By.{By}
+use Rattle.race_core.specs.declared.part.By.TheVariants as by
+use Rattle.race_core.specs.declared.part.Reader.{Reader}
+use Rattle.race_core.specs.declared.part.Reader.TheVariants as reader
+use Rattle.lane_child.specs.Reading.{Comes, ComesBy}
+use Rattle.lane_child.specs.Starting.{IsFrontOf, NoStart, ReadsScript}
+use Rattle.lane_run.proofs.Reasons.{by_look}
+use Rattle.lane_judge.specs.Fates.{Ends, Proves, Stands, most_bytes, stays_law}
+use Rattle.lane_judge.specs.Serving.{IsServing}
+use Rattle.task_race.specs.Bays.{bay_at}
+use Rattle.task_race.specs.Ends.{HasEndCause, IsJudgedAs, IsLimitShown, IsCalledOffBy, IsSkippedBy, IsStreamOf, script_of}
+use Rattle.task_race.specs.Ran.{RacingOf, IsStart, LanesRan, Serves, job_count, name_in, terms_in}
+use Rattle.task_race.proofs.JobLemmas.{job_named}
+use Rattle.task_race.proofs.PlaceLemmas.{contains_at}
+
+-- ---- what a stream comes to
+
+-- what an output comes to by its bytes, or by its close, the whole stream comes to
+stream_ends : (p : AskedOf) (job : JobName) (output rest proof : List ℕ) (b : By) (said : Judged FindingOf) → said ≢ judged.More
+    → ComesBy (Stands p job) (Ends p job) Proves (rest ≡ []) output proof b said → Ends p job (output ++ rest) said
+stream_ends p job output rest proof by.Bytes said some comes = stays_law p job output rest said some comes
+stream_ends p job output rest proof by.Close said some comes =
+    subst (λ (stream : List ℕ). Ends p job stream said) (sym (ap (λ (more : List ℕ). output ++ more) comes.0 ∙ append-nil output)) comes.1
+stream_ends p job output rest proof by.File said some comes = absurd comes.2
+
+found_is_some : (f : FindingOf) → judged.Found f ≢ judged.More
+found_is_some f is = cc
+
+unknown_is_some : ◌≢◌ {A = Judged FindingOf} judged.Unknown judged.More
+unknown_is_some is = cc
+
+bad_is_some : (number at : ℕ) → ◌≢◌ {A = Judged FindingOf} (judged.Bad number at) judged.More
+bad_is_some number at is = cc
+
+-- a reader with this end says that of the stream
+module _ (p : AskedOf) (job : JobName) (output rest proof : List ℕ) where
+  found_ends : (r : Reader FindingOf) (f : FindingOf) → HasEnd r (end.Found f) → Comes (Stands p job) (Ends p job) Proves (rest ≡ []) output proof r → Ends p job (output ++ rest) (judged.Found f)
+  found_ends (reader.Holding g b) f is comes =
+      let same : g ≡ f = cc in
+      subst (λ (x : FindingOf). Ends p job (output ++ rest) (judged.Found x)) same (stream_ends p job output rest proof b (judged.Found g) (found_is_some g) comes)
+  found_ends (reader.Found g b won) f is comes =
+      let same : g ≡ f = cc in
+      subst (λ (x : FindingOf). Ends p job (output ++ rest) (judged.Found x)) same (stream_ends p job output rest proof b (judged.Found g) (found_is_some g) comes)
+  found_ends (reader.Unknown b) f is comes = absurd (cc)
+  found_ends (reader.Bad number at b) f is comes = absurd (cc)
+  found_ends reader.Failed f is comes = absurd (cc)
+  found_ends reader.Fresh f is comes = absurd is
+  found_ends reader.Reading f is comes = absurd is
+  found_ends reader.Asking f is comes = absurd is
+  found_ends reader.Unjudged f is comes = absurd is
+  found_ends reader.Short f is comes = absurd is
+  found_ends reader.Wrong f is comes = absurd is
+
+  unknown_ends : (r : Reader FindingOf) → HasEnd r end.Unknown → Comes (Stands p job) (Ends p job) Proves (rest ≡ []) output proof r → Ends p job (output ++ rest) judged.Unknown
+  unknown_ends (reader.Unknown b) is comes = stream_ends p job output rest proof b judged.Unknown unknown_is_some comes
+  unknown_ends (reader.Holding g b) is comes = absurd (cc)
+  unknown_ends (reader.Found g b won) is comes = absurd (cc)
+  unknown_ends (reader.Bad number at b) is comes = absurd (cc)
+  unknown_ends reader.Failed is comes = absurd (cc)
+  unknown_ends reader.Fresh is comes = absurd is
+  unknown_ends reader.Reading is comes = absurd is
+  unknown_ends reader.Asking is comes = absurd is
+  unknown_ends reader.Unjudged is comes = absurd is
+  unknown_ends reader.Short is comes = absurd is
+  unknown_ends reader.Wrong is comes = absurd is
+
+  bad_ends : (r : Reader FindingOf) (number at : ℕ) → HasEnd r (end.Bad number at) → Comes (Stands p job) (Ends p job) Proves (rest ≡ []) output proof r
+      → Ends p job (output ++ rest) (judged.Bad number at)
+  bad_ends (reader.Bad n a b) number at is comes =
+      let number_is : n ≡ number = cc in
+      let at_is : a ≡ at = cc in
+      subst (λ (x : ℕ). Ends p job (output ++ rest) (judged.Bad number x)) at_is
+      (subst (λ (x : ℕ). Ends p job (output ++ rest) (judged.Bad x a)) number_is (stream_ends p job output rest proof b (judged.Bad n a) (bad_is_some n a) comes))
+  bad_ends (reader.Unknown b) number at is comes = absurd (cc)
+  bad_ends (reader.Holding g b) number at is comes = absurd (cc)
+  bad_ends (reader.Found g b won) number at is comes = absurd (cc)
+  bad_ends reader.Failed number at is comes = absurd (cc)
+  bad_ends reader.Fresh number at is comes = absurd is
+  bad_ends reader.Reading number at is comes = absurd is
+  bad_ends reader.Asking number at is comes = absurd is
+  bad_ends reader.Unjudged number at is comes = absurd is
+  bad_ends reader.Short number at is comes = absurd is
+  bad_ends reader.Wrong number at is comes = absurd is
+
+-- an output and what is left behind it are the stream of the job's child
+front_streams : (told : Option YardOf) (task lane : ℕ) (job : JobName) (output rest : List ℕ) → IsFrontOf (bay_at told task lane) job output rest
+    → IsStreamOf (script_of told task lane job) (output ++ rest)
+front_streams None task lane job output rest front = tt
+front_streams (Some scripts) task lane job output rest front = front
+
+-- ---- who spares a job
+
+and_parts : (x y : Bool) → (x && y) ≡ true → (x ≡ true) × (y ≡ true)
+and_parts true y is = (refl, is)
+and_parts false y is = absurd (cc)
+
+not_true : (x : Bool) → not x ≡ true → x ≡ false
+not_true true is = absurd (cc)
+not_true false is = refl
+
+-- ---- when the limit is shown
+
+limit_shown : (may_read : ℕ → Type 0) (limit start : Option ℕ) (t : ℕ) → IsStart may_read limit start → may_read t
+    → IsSomeAnd limit (λ millis. (unwrap_or start 0 ≤ t) × (millis ≤ t - unwrap_or start 0)) → IsLimitShown may_read limit start t
+limit_shown may_read None start t began may shows = absurd shows
+limit_shown may_read (Some millis) None t began may shows = absurd began
+limit_shown may_read (Some millis) (Some begun) t began may shows =
+    record { begun = begun; millis = millis; limit_is = refl; start_is = refl; may_start = began; may_stop = may; shows = shows }
+
+-- ---- a job's end
+
+module _ (racing : RacingOf) (may_read : ℕ → Type 0) (told : Option YardOf) (before now : CountsOf) (start : Option ℕ) (reports : List (ReportOf FindingOf))
+    (ran : LanesRan racing may_read told before now start reports) (lane place : ℕ) (r : ReportOf FindingOf) (at : slice_get reports lane ≡ Some r) (lt : place < job_count racing) where
+  -- an end that ends no lane's work follows from the job's events
+  replayed : (e : JobEnd FindingOf) → end_at r place ≡ e → (IsLast e → ⊥) → Replayed (Serves racing lane place) (terms_in racing start place) (KnewBy (events_at r) place) (events_at r place) e
+  replayed e is goes_on = elim ((ran.consistent.replays lane r at).each place lt) [
+    | inl own ↦ subst (λ (x : JobEnd FindingOf). Replayed (Serves racing lane place) (terms_in racing start place) (KnewBy (events_at r) place) (events_at r place) x) is own.1
+    | inr late ↦ absurd (goes_on (subst (λ (x : JobEnd FindingOf). IsLast x) (sym late.3 ∙ is) late.2))
+  ]
+
+  -- what is carried is of the problem
+  of_problem : (e : JobEnd FindingOf) (f : FindingOf) → end_at r place ≡ e → Carries e f → f.problem ≡ racing.problem.problem
+  of_problem e f is carries = (ran.consistent.carried lane place r f at lt (subst (λ (x : JobEnd FindingOf). Carries x f) (sym is) carries)).1.0
+
+  -- an end of a child that ran, and what its reader read
+  read_out : (e : JobEnd FindingOf) → end_at r place ≡ e → (IsLast e → ⊥) → (NoStart e → ⊥) → (e ≡ end.StartFailed → ⊥)
+      → ReadsScript (Stands racing.problem (name_in racing place)) (Ends racing.problem (name_in racing place)) Proves (bay_at told racing.task lane) (name_in racing place) most_bytes
+      (events_at r place).reader
+  read_out e is goes_on started ran_on = elim ((ran.starts lane r at).1.each place lt) [
+    | inl late ↦ absurd (goes_on (subst (λ (x : JobEnd FindingOf). IsLast x) (sym late.0.3 ∙ is) late.0.2))
+    | inr own ↦ elim own [
+      | inl none ↦ absurd (started (subst (λ (x : JobEnd FindingOf). NoStart x) is none.0))
+      | inr some ↦ elim some [
+        | inl failed ↦ absurd (ran_on (sym is ∙ failed.0))
+        | inr child ↦ child.1
+      ]
+    ]
+  ]
+
+  judged_as : (said : Judged FindingOf) (e : JobEnd FindingOf) → end_at r place ≡ e → (IsLast e → ⊥) → (NoStart e → ⊥) → (e ≡ end.StartFailed → ⊥) → Serves racing lane place
+      → ((output rest proof : List ℕ) → Comes (Stands racing.problem (name_in racing place)) (Ends racing.problem (name_in racing place)) Proves (rest ≡ []) output proof (reader_of (events_at r place))
+      → Ends racing.problem (name_in racing place) (output ++ rest) said)
+      → IsJudgedAs racing told lane (name_in racing place) said
+  judged_as said e is goes_on started ran_on serves ends =
+      let read = read_out e is goes_on started ran_on in
+      (serves, (read.output ++ read.rest, front_streams told racing.task lane (name_in racing place) read.output read.rest read.front, ends read.output read.rest read.proof read.comes))
+
+  found_cause : (f : FindingOf) → end_at r place ≡ end.Found f → IsJudgedAs racing told lane (name_in racing place) (judged.Found f)
+  found_cause f is = elim (replayed (end.Found f) is (λ last. last)) [
+    | inl own ↦ judged_as (judged.Found f) (end.Found f) is (λ last. last) (λ none. none) (λ failed. cc) own.0
+        (λ output rest proof comes. found_ends racing.problem (name_in racing place) output rest proof (reader_of (events_at r place)) f own.1 comes)
+    | inr passed ↦ absurd passed.1
+  ]
+
+  unknown_cause : end_at r place ≡ end.Unknown → IsJudgedAs racing told lane (name_in racing place) judged.Unknown
+  unknown_cause is = elim (replayed end.Unknown is (λ last. last)) [
+    | inl own ↦ judged_as judged.Unknown end.Unknown is (λ last. last) (λ none. none) (λ failed. cc) own.0
+        (λ output rest proof comes. unknown_ends racing.problem (name_in racing place) output rest proof (reader_of (events_at r place)) own.1.0 comes)
+    | inr passed ↦ absurd passed.1
+  ]
+
+  bad_cause : (number place_in : ℕ) → end_at r place ≡ end.Bad number place_in → IsJudgedAs racing told lane (name_in racing place) (judged.Bad number place_in)
+  bad_cause number place_in is = elim (replayed (end.Bad number place_in) is (λ last. last)) [
+    | inl own ↦ judged_as (judged.Bad number place_in) (end.Bad number place_in) is (λ last. last) (λ none. none) (λ failed. cc) own.0
+        (λ output rest proof comes. bad_ends racing.problem (name_in racing place) output rest proof (reader_of (events_at r place)) number place_in own.1.0 comes)
+    | inr passed ↦ absurd passed.1
+  ]
+
+  -- a lane that isn't served has no engine that serves jobs
+  unserved_cause : end_at r place ≡ end.NotServed → IsServing (slice_get racing.engines lane) → ⊥
+  unserved_cause is serving = elim (replayed end.NotServed is (λ last. last)) [
+    | inl own ↦ own.1
+    | inr passed ↦ passed.0 (serving, (place, job_named racing.problem.problem.mode racing.problem.problem.span racing.problem.design place lt))
+  ]
+
+  -- a finding that makes the job needless calls it off
+  called_off_cause : (f : FindingOf) → end_at r place ≡ end.CalledOff f → IsCalledOffBy racing (name_in racing place) f
+  called_off_cause f is = elim (replayed (end.CalledOff f) is (λ last. last)) [
+    | inl own ↦
+        let needless = (by_look (terms_in racing start place) f (events_at r place).keeper (inl own.1.1)).1 in
+        let parts = and_parts (not racing.wait) (needless_by f.job f.answer (name_in racing place)) needless in
+        (not_true racing.wait parts.0, of_problem (end.CalledOff f) f is refl, parts.1)
+    | inr passed ↦ absurd passed.1
+  ]
+
+  -- or skips it
+  skip_needless : (f : FindingOf)
+      → EndIs (terms_in racing start place) (KnewBy (events_at r) place) (reader_of (events_at r place)) (keeper_of (terms_in racing start place) (events_at r place)) (end.Skipped f)
+      → (terms_in racing start place).needless f ≡ true
+  skip_needless f (unread, inl looked) = (by_look (terms_in racing start place) f (events_at r place).keeper (inr looked)).1
+  skip_needless f (unread, inr knew) = knew.2
+
+  skipped_by_it : (f : FindingOf) → end_at r place ≡ end.Skipped f → (terms_in racing start place).needless f ≡ true → IsSkippedBy racing (name_in racing place) f
+  skipped_by_it f is needless =
+      let parts = and_parts (not racing.wait) (needless_by f.job f.answer (name_in racing place)) needless in
+      (not_true racing.wait parts.0, of_problem (end.Skipped f) f is refl, parts.1)
+
+  skipped_cause : (f : FindingOf) → end_at r place ≡ end.Skipped f → IsSkippedBy racing (name_in racing place) f
+  skipped_cause f is = elim (replayed (end.Skipped f) is (λ last. last)) [
+    | inl own ↦ skipped_by_it f is (skip_needless f own.1)
+    | inr passed ↦ skipped_by_it f is (skip_needless f passed.1)
+  ]
+
+  stopped_cause : (t : ℕ) → end_at r place ≡ end.Stopped t → IsLimitShown may_read racing.limit start t
+  stopped_cause t is =
+      let stopped = ran.stopped lane r at place t lt is in
+      limit_shown may_read racing.limit start t ran.start_is stopped.reading stopped.shows
+
+  pub end_cause : (e : JobEnd FindingOf) → end_at r place ≡ e → HasEndCause racing may_read told before now start lane (name_in racing place) e
+  end_cause (end.Found f) is = found_cause f is
+  end_cause end.Unknown is = unknown_cause is
+  end_cause (end.Bad number place_in) is = bad_cause number place_in is
+  end_cause end.NotServed is = unserved_cause is
+  end_cause end.ReadFailed is = ((ran.faults lane r at).each place lt).read is
+  end_cause end.StartFailed is = ((ran.faults lane r at).each place lt).start is
+  end_cause end.HoldFailed is = ((ran.faults lane r at).each place lt).hold is
+  end_cause (end.Skipped f) is = skipped_cause f is
+  end_cause (end.CalledOff f) is = called_off_cause f is
+  end_cause (end.Stopped t) is = stopped_cause t is
+  end_cause end.Memory is = tt
+
+-- ---- stops
+
+not_past : (ends : List (JobEnd FindingOf)) (place t : ℕ) → slice_index_or ends place end.NotServed ≡ end.Stopped t → place < length ends
+not_past [] place t is = absurd (cc)
+not_past (e ∷ ends) zero t is = omega arith
+not_past (e ∷ ends) (suc place) t is = let rest = not_past ends place t is in omega (rest, arith)
+
+given : (may_read : ℕ → Type 0) (limit start : Option ℕ) (t : ℕ) → IsLimitShown may_read limit start t → IsSome start × IsSome limit
+given may_read limit start t shown = (subst (λ (o : Option ℕ). IsSome o) (sym shown.start_is) refl, subst (λ (o : Option ℕ). IsSome o) (sym shown.limit_is) refl)
+
+pub limited : (racing : RacingOf) (may_read : ℕ → Type 0) (told : Option YardOf) (before now : CountsOf) (start : Option ℕ) (reports : List (ReportOf FindingOf))
+    → LanesRan racing may_read told before now start reports → (r : ReportOf FindingOf) (place t : ℕ) → Contains reports r → end_at r place ≡ end.Stopped t → IsSome start × IsSome racing.limit
+limited racing may_read told before now start reports ran r place t among is =
+    let at = contains_at reports r among in
+    let within : place < job_count racing = omega (not_past r.ends place t is, (ran.consistent.replays among.0 r at).ends, arith) in
+    given may_read racing.limit start t (stopped_cause racing may_read told before now start reports ran among.0 place r at within t is)

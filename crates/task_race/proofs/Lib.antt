@@ -1,0 +1,8 @@
+pub mod CountLemmas
+pub mod EndLemmas
+pub mod FateLemmas
+pub mod JobLemmas
+pub mod LearnLemmas
+pub mod PlaceLemmas
+pub mod RanLemmas
+pub mod WonLemmas

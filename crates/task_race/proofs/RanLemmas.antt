@@ -1,0 +1,165 @@
+-- What the lanes of a task leave, by what each of them left its bay.
+use Rattle.std.proofs.Common.{◌≡◌, ℕ, ◌<◌, List, length, map, sym, subst, ◌∙◌, arith}
+use Rattle.std.specs.Prelude.{Option, Some, None, Result, Ok, Err, All, Contains, IfOk, IfSome, slice_get, unwrap_or}
+use Rattle.std.proofs.lemmas.Option.{slice_get_within}
+use Rattle.sby_edge.specs.Cause.{CountsOf, Rose}
+use Rattle.sby_edge.specs.Child.{BayOf, YardOf}
+use Rattle.judge.specs.Finding.{FindingOf, IsTrueFinding}
+use Rattle.race_core.specs.Carrying.{Carries}
+use Rattle.race_cells.specs.Notes.{NoteOf}
+use Rattle.race_core.specs.Asking.{name_at, terms_of}
+use Rattle.race_core.specs.Collect.{CarriedIn}
+use Rattle.race_core.specs.Consistent.{Consistent, end_at}
+use Rattle.race_core.specs.Report.{ReportOf}
+use Rattle.race_core.specs.declared.end.JobEnd.{JobEnd}
+use Rattle.race_core.specs.declared.end.JobEnd.TheVariants as end
+use Rattle.lane_run.specs.Asked.{IsFor, terms_at}
+use Rattle.lane_run.specs.Done.{JobFaults, LaneFaults, LaneStops}
+use Rattle.lane_run.specs.Raced.{LanesDone}
+use Rattle.lane_run.specs.Started.{LaneStarts}
+use Rattle.lane_judge.specs.Fates.{Ends, Proves, Stands, most_bytes}
+use Rattle.lane_judge.specs.Serving.{IsServed, file_of}
+use Rattle.lane_judge.specs.Words.{words_at}
+use Rattle.sby_terms.specs.Path.{job_path}
+use Rattle.sby_terms.specs.Span.{slices_of}
+use Rattle.sby_terms.specs.declared.names.Mode.{Mode}
+use Rattle.task_race.specs.Bays.{AreLater, CameBack, HaveRisenFor, bay_at, none_failed}
+use Rattle.task_race.specs.Ran.{RacingOf, AreConsistent, AreDone, AreStarts, EachLane, IsStart, LanesRan, Serves, WinnersFind, answer_in, job_count, job_in, limit_from, name_in, problem_in, terms_in}
+use Rattle.task_race.proofs.PlaceLemmas.{all_at, at_contains, at_map, contains_at, stands_at}
+use Rattle.task_race.proofs.WonLemmas.{winner_finds}
+use Rattle.std.proofs.lemmas.List.{get_or_default}
+
+above : (n : ℕ) → Rose 0 n → 0 < n
+above n rose = omega (rose, arith)
+
+-- what a lane's bay counted, its yard counts
+yard_faults : (part before now : CountsOf) (n : ℕ) (r : ReportOf FindingOf) → AreLater before now → HaveRisenFor part before now → LaneFaults none_failed part n r → LaneFaults before now n r
+yard_faults part before now n r later risen faults = record {
+  later = (later.starts, later.reads, later.holds);
+  each = λ j lt. job (end_at r j) (faults.each j lt);
+}
+  where
+    job : (e : JobEnd FindingOf) → JobFaults none_failed part e → JobFaults before now e
+    job e own = record {
+      later = (later.starts, later.reads, later.holds);
+      start = λ is. risen.starts (above part.starts (own.start is));
+      read = λ is. risen.reads (above part.reads (own.read is));
+      hold = λ is. risen.holds (above part.holds (own.hold is));
+    }
+
+module _ {B : Type 0} (counts : B → CountsOf) (tells : B → Option BayOf) (racing : RacingOf) (may_read : ℕ → Type 0) (told : Option YardOf) (before now : CountsOf) (start : Option ℕ)
+    (bays backs : List B) (reports : List (ReportOf FindingOf))
+    (consistent : AreConsistent racing start reports)
+    (many : length bays ≡ length racing.engines) (same : length backs ≡ length bays)
+    (fresh : (lane : ℕ) (b : B) → slice_get bays lane ≡ Some b → (tells b ≡ bay_at told racing.task lane) × (counts b ≡ none_failed)) where
+  -- the bay of a lane, as it was made and as it came back
+  bay_of : (lane : ℕ) (r : ReportOf FindingOf) → slice_get reports lane ≡ Some r → (b : B) × (slice_get bays lane ≡ Some b)
+  bay_of lane r at = stands_at bays lane (omega (slice_get_within reports lane r at, consistent.lanes_are, many, arith))
+
+  back_of : (lane : ℕ) (r : ReportOf FindingOf) → slice_get reports lane ≡ Some r → (d : B) × (slice_get backs lane ≡ Some d)
+  back_of lane r at = stands_at backs lane (omega (slice_get_within reports lane r at, consistent.lanes_are, many, same, arith))
+
+  lane_faults : CameBack (map counts backs) before now
+      → ((i : ℕ) (b d : B) (q : ReportOf FindingOf) → slice_get bays i ≡ Some b → slice_get backs i ≡ Some d → slice_get reports i ≡ Some q → LaneFaults (counts b) (counts d) (job_count racing) q)
+      → EachLane reports (λ lane r. LaneFaults before now (job_count racing) r)
+  lane_faults back faults = λ lane r at.
+      let b = bay_of lane r at in
+      let d = back_of lane r at in
+      let own = subst (λ (c : CountsOf). LaneFaults c (counts d.0) (job_count racing) r) (fresh lane b.0 b.1).1 (faults lane b.0 d.0 r b.1 d.1 at) in
+      yard_faults (counts d.0) before now (job_count racing) r back.later (back.rose (counts d.0) (at_contains (map counts backs) lane (counts d.0) (at_map counts backs lane d.0 d.1))) own
+
+  lane_starts : ((i : ℕ) (b d : B) (q : ReportOf FindingOf) → slice_get bays i ≡ Some b → slice_get backs i ≡ Some d → slice_get reports i ≡ Some q → AreStarts racing (tells b) (tells d) i q)
+      → EachLane reports (λ lane r. (bay : Option BayOf) × AreStarts racing (bay_at told racing.task lane) bay lane r)
+  lane_starts starts = λ lane r at.
+      let b = bay_of lane r at in
+      let d = back_of lane r at in
+      (tells d.0, subst (λ (was : Option BayOf). AreStarts racing was (tells d.0) lane r) (fresh lane b.0 b.1).0 (starts lane b.0 d.0 r b.1 d.1 at))
+
+  -- what an end carries is of the problem
+  carried_problem : (r : ReportOf FindingOf) (f : FindingOf) → Contains reports r → CarriedIn r.ends f → f.problem ≡ racing.problem.problem
+  carried_problem r f among (e, among_ends, carries) =
+      let at = contains_at reports r among in
+      let within : among_ends.0 < job_count racing = omega (among_ends.1, (consistent.replays among.0 r at).ends, arith) in
+      let is : end_at r among_ends.0 ≡ e = get_or_default r.ends among_ends.0 end.NotServed e among_ends.1 ∙ among_ends.2 in
+      (consistent.carried among.0 among_ends.0 r f at within (subst (λ (x : JobEnd FindingOf). Carries x f) (sym is) carries)).1.0
+
+  pub lanes_ran : IsStart may_read racing.limit start → (notes : List (NoteOf FindingOf)) → AreDone racing may_read start notes reports
+      → ((r : ReportOf FindingOf) (f : FindingOf) → Contains reports r → CarriedIn r.ends f → IsTrueFinding f)
+      → ((i : ℕ) (b d : B) (q : ReportOf FindingOf) → slice_get bays i ≡ Some b → slice_get backs i ≡ Some d → slice_get reports i ≡ Some q → LaneFaults (counts b) (counts d) (job_count racing) q)
+      → ((i : ℕ) (b d : B) (q : ReportOf FindingOf) → slice_get bays i ≡ Some b → slice_get backs i ≡ Some d → slice_get reports i ≡ Some q → AreStarts racing (tells b) (tells d) i q)
+      → All (λ q. LaneStops may_read (limit_from racing start) (job_count racing) q) reports
+      → CameBack (map counts backs) before now
+      → LanesRan racing may_read told before now start reports
+  lanes_ran began notes done are_true faults starts stopped back = record {
+    start_is = began;
+    consistent = consistent;
+    are_true = λ r f among carried. (are_true r f among carried, carried_problem r f among carried);
+    done = (notes, done);
+    faults = lane_faults back faults;
+    starts = lane_starts starts;
+    stopped = λ lane r at. all_at (λ (q : ReportOf FindingOf). LaneStops may_read (limit_from racing start) (job_count racing) q) reports lane r stopped at;
+  }
+
+-- ---- what a race of bays leaves
+
+-- what holds of an answer's value holds by what it says
+pub if_ok : {T E : Type 0} (P Q : T → Type 0) (r : Result T E) → ((x : T) → P x → Q x) → IfOk r P → IfOk r Q
+if_ok P Q (Ok x) h is = h x is
+if_ok P Q (Err e) h is = tt
+
+-- the start that lanes are asked under is a reading that the clock may give
+pub start_read : (may_read : ℕ → Type 0) (limit start : Option ℕ) (begun : ℕ) → begun ≡ unwrap_or start 0 → IsStart may_read limit start → IfSome limit (λ millis. may_read begun)
+start_read may_read None start begun is began = tt
+start_read may_read (Some millis) None begun is began = absurd began
+start_read may_read (Some millis) (Some t) begun is began = subst may_read (sym is) began
+
+module _ (racing : RacingOf) (start : Option ℕ) (mode : Mode) (begun jobs : ℕ) (mode_is : mode ≡ racing.problem.problem.mode) (begun_is : begun ≡ unwrap_or start 0)
+    (jobs_are : jobs ≡ job_count racing) where
+  pub raced_consistent : (lanes : ℕ) (reports : List (ReportOf FindingOf)) → lanes ≡ length racing.engines
+      → Consistent (IsFor problem_in job_in racing.problem.problem mode) (λ lane place. IsServed racing.engines racing.problem lane (name_at mode place))
+      (λ place. terms_of job_in answer_in (terms_at mode (record { start = begun; millis = racing.limit; wait = racing.wait }) place)) lanes jobs reports
+      → AreConsistent racing start reports
+  raced_consistent lanes reports lanes_are consistent =
+      subst (λ (m : Mode). Consistent (IsFor problem_in job_in racing.problem.problem m) (λ lane place. IsServed racing.engines racing.problem lane (name_at m place))
+      (λ place. terms_of job_in answer_in (terms_at m (limit_from racing start) place)) (length racing.engines) (job_count racing) reports) mode_is
+      (subst (λ (t : ℕ). Consistent (IsFor problem_in job_in racing.problem.problem mode) (λ lane place. IsServed racing.engines racing.problem lane (name_at mode place))
+      (λ place. terms_of job_in answer_in (terms_at mode (record { start = t; millis = racing.limit; wait = racing.wait }) place)) (length racing.engines) (job_count racing) reports) begun_is
+      (subst (λ (n : ℕ). Consistent (IsFor problem_in job_in racing.problem.problem mode) (λ lane place. IsServed racing.engines racing.problem lane (name_at mode place))
+      (λ place. terms_of job_in answer_in (terms_at mode (record { start = begun; millis = racing.limit; wait = racing.wait }) place)) (length racing.engines) n reports) jobs_are
+      (subst (λ (n : ℕ). Consistent (IsFor problem_in job_in racing.problem.problem mode) (λ lane place. IsServed racing.engines racing.problem lane (name_at mode place))
+      (λ place. terms_of job_in answer_in (terms_at mode (record { start = begun; millis = racing.limit; wait = racing.wait }) place)) n jobs reports) lanes_are consistent)))
+
+  pub raced_done : (may_read : ℕ → Type 0) (notes : List (NoteOf FindingOf)) (reports : List (ReportOf FindingOf))
+      → LanesDone (IsFor problem_in job_in racing.problem.problem mode) (λ lane place. IsServed racing.engines racing.problem lane (name_at mode place))
+      (λ place. terms_of job_in answer_in (terms_at mode (record { start = begun; millis = racing.limit; wait = racing.wait }) place)) may_read jobs notes reports
+      → AreDone racing may_read start notes reports
+  raced_done may_read notes reports done =
+      subst (λ (m : Mode). LanesDone (IsFor problem_in job_in racing.problem.problem m) (λ lane place. IsServed racing.engines racing.problem lane (name_at m place))
+      (λ place. terms_of job_in answer_in (terms_at m (limit_from racing start) place)) may_read (job_count racing) notes reports) mode_is
+      (subst (λ (t : ℕ). LanesDone (IsFor problem_in job_in racing.problem.problem mode) (λ lane place. IsServed racing.engines racing.problem lane (name_at mode place))
+      (λ place. terms_of job_in answer_in (terms_at mode (record { start = t; millis = racing.limit; wait = racing.wait }) place)) may_read (job_count racing) notes reports) begun_is
+      (subst (λ (n : ℕ). LanesDone (IsFor problem_in job_in racing.problem.problem mode) (λ lane place. IsServed racing.engines racing.problem lane (name_at mode place))
+      (λ place. terms_of job_in answer_in (terms_at mode (record { start = begun; millis = racing.limit; wait = racing.wait }) place)) may_read n notes reports) jobs_are done))
+
+  pub raced_starts : (before now : Option BayOf) (lane : ℕ) (r : ReportOf FindingOf)
+      → LaneStarts (λ job. words_at (slice_get racing.engines lane) (job_path racing.folder (slices_of racing.problem.problem.span) job)) (file_of racing.problem)
+      (Stands racing.problem) (Ends racing.problem) (λ job. Proves) most_bytes mode before now jobs r → AreStarts racing before now lane r
+  raced_starts before now lane r starts =
+      subst (λ (m : Mode). LaneStarts (λ job. words_at (slice_get racing.engines lane) (job_path racing.folder (slices_of racing.problem.problem.span) job)) (file_of racing.problem)
+      (Stands racing.problem) (Ends racing.problem) (λ job. Proves) most_bytes m before now (job_count racing) r) mode_is
+      (subst (λ (n : ℕ). LaneStarts (λ job. words_at (slice_get racing.engines lane) (job_path racing.folder (slices_of racing.problem.problem.span) job)) (file_of racing.problem)
+      (Stands racing.problem) (Ends racing.problem) (λ job. Proves) most_bytes mode before now n r) jobs_are starts)
+
+  pub raced_stopped : (may_read : ℕ → Type 0) (reports : List (ReportOf FindingOf))
+      → All (λ q. LaneStops may_read (record { start = begun; millis = racing.limit; wait = racing.wait }) jobs q) reports
+      → All (λ q. LaneStops may_read (limit_from racing start) (job_count racing) q) reports
+  raced_stopped may_read reports stopped =
+      subst (λ (t : ℕ). All (λ q. LaneStops may_read (record { start = t; millis = racing.limit; wait = racing.wait }) (job_count racing) q) reports) begun_is
+      (subst (λ (n : ℕ). All (λ q. LaneStops may_read (record { start = begun; millis = racing.limit; wait = racing.wait }) n q) reports) jobs_are stopped)
+
+-- a lane that won a job's cell carries a finding for the job
+pub winners_find : (racing : RacingOf) (may_read : ℕ → Type 0) (start : Option ℕ) (notes : List (NoteOf FindingOf)) (reports : List (ReportOf FindingOf))
+    → AreDone racing may_read start notes reports → WinnersFind racing reports
+winners_find racing may_read start notes reports done = λ lane r at place won.
+    winner_finds job_in (name_in racing) (IsFor problem_in job_in racing.problem.problem racing.problem.problem.mode) (λ k f is. is.1) (Serves racing lane) (terms_in racing start) may_read (job_count racing) notes r
+    (done.each lane r at) place won

@@ -1,0 +1,3 @@
+pub mod Bays
+pub mod Ends
+pub mod Ran

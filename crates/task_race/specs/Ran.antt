@@ -1,0 +1,115 @@
+-- What the lanes of a task leave.
+use Rattle.std.specs.Prelude.{◌≡◌, ℕ, Bool, List, Option, None, Some, length, slice_get, unwrap_or}
+use Rattle.sby_edge.specs.Cause.{CountsOf}
+use Rattle.sby_edge.specs.Child.{BayOf, YardOf}
+use Rattle.sby_terms.specs.Path.{job_path}
+use Rattle.sby_terms.specs.Problem.{ProblemOf}
+use Rattle.sby_terms.specs.Span.{slices_of}
+use Rattle.sby_terms.specs.declared.engine.Engine.{Engine}
+use Rattle.sby_terms.specs.declared.names.Answer.{Answer}
+use Rattle.sby_terms.specs.declared.names.JobName.{JobName}
+use Rattle.judge.specs.Finding.{FindingOf, IsTrueFinding}
+use Rattle.judge.specs.Jobs.{jobs_of}
+use Rattle.judge.specs.Problem.{AskedOf}
+use Rattle.race_cells.specs.Notes.{NoteOf}
+use Rattle.race_core.specs.Asking.{name_at, terms_of}
+use Rattle.race_core.specs.Collect.{AreTrue, HasFinding, HasWon}
+use Rattle.race_core.specs.Consistent.{Consistent}
+use Rattle.race_core.specs.Parts.{Terms}
+use Rattle.race_core.specs.Report.{ReportOf}
+use Rattle.lane_run.specs.Asked.{IsFor, terms_at}
+use Rattle.lane_run.specs.Done.{LaneFaults, LaneStops}
+use Rattle.lane_run.specs.Raced.{LanesDone}
+use Rattle.lane_run.specs.Started.{LaneStarts}
+use Rattle.lane_run.specs.declared.task.Limit.{Limit}
+use Rattle.lane_judge.specs.Fates.{Ends, Proves, Stands, most_bytes}
+use Rattle.lane_judge.specs.Serving.{IsServed, file_of}
+use Rattle.lane_judge.specs.Words.{words_at}
+use Rattle.task_race.specs.Bays.{bay_at}
+use Rattle.task_race.specs.declared.racing.Racing.{Racing}
+
+-- What is raced: the jobs of a problem, by one lane for each engine line; the work folder, in which the jobs' files lie; the number of the
+-- task among those of the call; whether every lane goes on when a job is settled; and the limit, in milliseconds.
+pub record RacingOf : Type 0 where
+  pub problem : AskedOf
+  pub engines : List Engine
+  pub folder : List ℕ
+  pub task : ℕ
+  pub wait : Bool
+  pub limit : Option ℕ
+
+-- what is kept of it
+abbrev pub racing_seen : Racing → RacingOf
+racing_seen r = record { problem = r.problem.now; engines = r.engines.now; folder = r.folder.now; task = r.task; wait = r.wait; limit = r.limit }
+
+abbrev pub problem_in : FindingOf → ProblemOf
+problem_in f = f.problem
+
+abbrev pub job_in : FindingOf → JobName
+job_in f = f.job
+
+abbrev pub answer_in : FindingOf → Answer
+answer_in f = f.answer
+
+-- how many jobs the task has
+abbrev pub job_count : RacingOf → ℕ
+job_count racing = length (jobs_of racing.problem.problem racing.problem.design)
+
+-- the name of the job at a place
+abbrev pub name_in : RacingOf → ℕ → JobName
+name_in racing place = name_at racing.problem.problem.mode place
+
+-- what lanes that started at this reading run under; without a limit none is read
+abbrev pub limit_from : RacingOf → Option ℕ → Limit
+limit_from racing start = record { start = unwrap_or start 0; millis = racing.limit; wait = racing.wait }
+
+-- what the job at a place is asked under
+abbrev pub terms_in : RacingOf → Option ℕ → ℕ → Terms FindingOf
+terms_in racing start place = terms_of job_in answer_in (terms_at racing.problem.problem.mode (limit_from racing start) place)
+
+-- the lane's engine serves the job at a place
+abbrev pub Serves : RacingOf → ℕ → ℕ → Type 0
+Serves racing lane place = IsServed racing.engines racing.problem lane (name_in racing place)
+
+-- a reading is there exactly where there is a limit, and the clock may give it
+abbrev pub IsStart : (ℕ → Type 0) → Option ℕ → Option ℕ → Type 0
+IsStart may_read None None = Unit {0}
+IsStart may_read None (Some t) = ⊥
+IsStart may_read (Some limit) None = ⊥
+IsStart may_read (Some limit) (Some t) = may_read t
+
+-- the report of each lane, in their order, is such
+abbrev pub EachLane : List (ReportOf FindingOf) → (ℕ → ReportOf FindingOf → Type 0) → Type 0
+EachLane reports P = (lane : ℕ) (r : ReportOf FindingOf) → slice_get reports lane ≡ Some r → P lane r
+
+-- The reports are one of each engine line, in their order; their events give their ends, what they carry is of the problem, and they agree.
+abbrev pub AreConsistent : RacingOf → Option ℕ → List (ReportOf FindingOf) → Type 0
+AreConsistent racing start reports = Consistent (IsFor problem_in job_in racing.problem.problem racing.problem.problem.mode)
+    (Serves racing) (terms_in racing start) (length racing.engines) (job_count racing) reports
+
+-- Each lane has done all its jobs: their ends follow from their events, what it looked at or won these notes know, and its readings are ones
+-- that the clock may give.
+abbrev pub AreDone : RacingOf → (ℕ → Type 0) → Option ℕ → List (NoteOf FindingOf) → List (ReportOf FindingOf) → Type 0
+AreDone racing may_read start notes reports = LanesDone (IsFor problem_in job_in racing.problem.problem racing.problem.problem.mode)
+    (Serves racing) (terms_in racing start) may_read (job_count racing) notes reports
+
+-- a lane that says that it won a job's cell carries a finding for the job
+abbrev pub WinnersFind : RacingOf → List (ReportOf FindingOf) → Type 0
+WinnersFind racing reports = EachLane reports (λ lane r. (place : ℕ) → HasWon r place → HasFinding job_in (name_in racing place) r)
+
+-- The starts of a lane's jobs, with the words of its engine line, over the scripts that are told for it, up to what its bay tells then.
+abbrev pub AreStarts : RacingOf → Option BayOf → Option BayOf → ℕ → ReportOf FindingOf → Type 0
+AreStarts racing before now lane r =
+    LaneStarts (λ job. words_at (slice_get racing.engines lane) (job_path racing.folder (slices_of racing.problem.problem.span) job)) (file_of racing.problem)
+    (Stands racing.problem) (Ends racing.problem) (λ job. Proves) most_bytes racing.problem.problem.mode before now (job_count racing) r
+
+-- What lanes that started at this reading report, over what their yard tells, between two moments of its counts. What they carry is true;
+-- an end that tells of a failed call comes only where its count rose; and they stop by readings alone which the clock may give.
+pub record LanesRan (racing : RacingOf) (may_read : ℕ → Type 0) (told : Option YardOf) (before now : CountsOf) (start : Option ℕ) (reports : List (ReportOf FindingOf)) : Type 0 where
+  pub start_is : IsStart may_read racing.limit start
+  pub consistent : AreConsistent racing start reports
+  pub done : (notes : List (NoteOf FindingOf)) × AreDone racing may_read start notes reports
+  pub are_true : AreTrue problem_in IsTrueFinding racing.problem.problem reports
+  pub faults : EachLane reports (λ lane r. LaneFaults before now (job_count racing) r)
+  pub starts : EachLane reports (λ lane r. (bay : Option BayOf) × AreStarts racing (bay_at told racing.task lane) bay lane r)
+  pub stopped : EachLane reports (λ lane r. LaneStops may_read (limit_from racing start) (job_count racing) r)
