@@ -2,15 +2,16 @@ use Rattle.std.proofs.Common.{◌≡◌, ℕ, zero, suc, ◌+◌, ◌-◌, ◌<�
 use Rattle.std.specs.Prelude.{◌≢◌, Bool, true, false, Contains, Option, Some, None, codes, slice_get}
 use Rattle.std.specs.Fmt.{decimal}
 use Rattle.std.proofs.lemmas.Bool.{cases_lt, cases_eq, cases_order}
+use Rattle.std.proofs.lemmas.Option.{get_or_from_slice_get}
 use Rattle.std.proofs.lemmas.List.Elements.{All-append, All-cons, All-head, All-nil, All-tail}
 use Rattle.std.proofs.lemmas.List.Folds.{concat-append}
 use Rattle.design_meaning.specs.Meaning.{Broken, Valuation, asserts, is_enabled, says}
-use Rattle.design_meaning.specs.Runs.{CycleOf, shown_of}
+use Rattle.design_meaning.specs.Runs.{CycleOf, no_cycle, shown_of, valuation_of}
 use Rattle.design_core.specs.Shape.{CellOf, DesignOf, WireOf}
 use Rattle.sby_bits.specs.Rows.{Row}
 use Rattle.sby_lines.specs.Broken.{AreLinesOf, Breaks, HasBrokenLines, IsBrokenCell, IsFirstBroken, IsLine, broken_line, last_of}
 use Rattle.sby_lines.specs.Texts.{broken_text}
-use Rattle.design_trace.specs.Trace.{cycle_line, cycles_from, trace, value_text, wire_line, wire_lines}
+use Rattle.design_trace.specs.Trace.{cycle_line, cycle_text, cycles_from, trace, value_text, wire_line, wire_lines}
 
 -- ---- the lines of a text
 
@@ -45,8 +46,12 @@ cut_fed (b ∷ front) = let rest = cut_fed front in elim (cases_eq b 10) [
   | inr apart ↦ cut_longer b (front ++ 10 ∷ []) rest.0 apart (not_empty front) rest.1
 ]
 
+-- the lines of two texts, one after the other
+pub lines_both : (a b : List ℕ) (x y : List (List ℕ)) → AreLinesOf a x → AreLinesOf b y → AreLinesOf (a ++ b) (x ++ y)
+lines_both a b x y p q = (concat-append x y ∙ ap₂ (λ (s t : List ℕ). s ++ t) p.0 q.0, All-append IsLine x y p.1 q.1)
+
 cut_both : (a b : List ℕ) → Cut a → Cut b → Cut (a ++ b)
-cut_both a b x y = (x.0 ++ y.0, (concat-append x.0 y.0 ∙ ap₂ (λ (s t : List ℕ). s ++ t) x.1.0 y.1.0, All-append IsLine x.0 y.0 x.1.1 y.1.1))
+cut_both a b x y = (x.0 ++ y.0, lines_both a b x.0 y.0 x.1 y.1)
 
 cut_wire : (w : WireOf) (row : Row) → Cut (wire_line w row)
 cut_wire w row = subst Cut (append_assoc w.name (32 ∷ value_text row) (10 ∷ [])) (cut_fed (w.name ++ 32 ∷ value_text row))
@@ -58,19 +63,22 @@ cut_wires (w ∷ ws) row = cut_both _ _ (cut_wire w (take w.width row)) (cut_wir
 cut_cycle : (k : ℕ) → Cut (cycle_line k)
 cut_cycle k = subst Cut (append_assoc (codes "cycle ") (decimal k) (10 ∷ [])) (cut_fed (codes "cycle " ++ decimal k))
 
-cut_cycles : (d : DesignOf) (k : ℕ) (rows : List Row) → Cut (cycles_from d k rows)
+-- the lines of one cycle, and of the cycles from one on
+pub cut_text : (d : DesignOf) (k : ℕ) (row : Row) → Cut (cycle_text d k row)
+cut_text d k row = cut_both _ _ (cut_cycle k) (cut_wires d.wires row)
+
+pub cut_cycles : (d : DesignOf) (k : ℕ) (rows : List Row) → Cut (cycles_from d k rows)
 cut_cycles d k [] = ([], (refl, All-nil IsLine))
-cut_cycles d k (row ∷ rows) = cut_both _ _ (cut_both _ _ (cut_cycle k) (cut_wires d.wires row)) (cut_cycles d (k + 1) rows)
+cut_cycles d k (row ∷ rows) = cut_both _ _ (cut_text d k row) (cut_cycles d (k + 1) rows)
 
 -- the lines of a run's trace
 pub trace_lines : (d : DesignOf) (run : List CycleOf) → Cut (trace d (shown_of run))
 trace_lines d run = cut_cycles d 0 (shown_of run)
 
--- the trace of a run of some cycles isn't empty
-pub trace_begins : (d : DesignOf) (run : List CycleOf) (lines : List (List ℕ)) → 0 < length run → AreLinesOf (trace d (shown_of run)) lines → 0 < length lines
-trace_begins d [] lines some is = absurd (omega (arith, some))
-trace_begins d (c ∷ cs) [] some is = cc
-trace_begins d (c ∷ cs) (line ∷ lines) some is = omega arith
+-- the text of a cycle isn't empty
+pub cycle_begins : (d : DesignOf) (k : ℕ) (row : Row) (lines : List (List ℕ)) → AreLinesOf (cycle_text d k row) lines → 0 < length lines
+cycle_begins d k row [] is = cc
+cycle_begins d k row (line ∷ lines) is = omega arith
 
 -- ---- the assertion that is broken
 
@@ -125,11 +133,15 @@ one_cell d run x y p q =
     let e : Some x ≡ Some y = sym p.2 ∙ ap (slice_get (asserts d)) same ∙ q.2 in cc
 
 -- the text that names it
-pub named_text : (d : DesignOf) (run cycles : List CycleOf) (number : ℕ) (name text : List ℕ) → cycles ≡ run → IsFirstBroken d (last_of d run) number
-    → ((c : CellOf) × (slice_get (asserts d) number ≡ Some c) × (name ≡ c.name)) → text ≡ broken_text name (length cycles - 1) → (cell : CellOf) → IsBrokenCell d run cell → text ≡ broken_text cell.name (length run - 1)
-named_text d run cycles number name text same first at is cell broken =
+pub named_text : (d : DesignOf) (run : List CycleOf) (count number : ℕ) (name text : List ℕ) → count ≡ length run → IsFirstBroken d (last_of d run) number
+    → ((c : CellOf) × (slice_get (asserts d) number ≡ Some c) × (name ≡ c.name)) → text ≡ broken_text name (count - 1) → (cell : CellOf) → IsBrokenCell d run cell → text ≡ broken_text cell.name (length run - 1)
+named_text d run count number name text same first at is cell broken =
     let one : at.0 ≡ cell = one_cell d run at.0 cell (number, first, at.1) broken in
-    is ∙ ap (λ (n : List ℕ). broken_text n (length cycles - 1)) (at.2 ∙ ap (λ (c : CellOf). c.name) one) ∙ ap (λ (cs : List CycleOf). broken_text cell.name (length cs - 1)) same
+    is ∙ ap (λ (n : List ℕ). broken_text n (count - 1)) (at.2 ∙ ap (λ (c : CellOf). c.name) one) ∙ ap (λ n. broken_text cell.name (n - 1)) same
+
+-- what the last cycle of a run has, as a run of its own
+pub last_alone : (d : DesignOf) (run last : List CycleOf) (cycle : CycleOf) → slice_get run (length run - 1) ≡ Some cycle → last ≡ cycle ∷ [] → last_of d last ≡ last_of d run
+last_alone d run last cycle at is = ap (last_of d) is ∙ ap (valuation_of d) (sym (get_or_from_slice_get run (length run - 1) cycle no_cycle at))
 
 -- the cell of the first assertion that is broken
 pub broken_cell : (d : DesignOf) (run : List CycleOf) (a : ℕ) → IsFirstBroken d (last_of d run) a → (cell : CellOf) × IsBrokenCell d run cell

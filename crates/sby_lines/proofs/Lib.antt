@@ -11,3 +11,4 @@ pub mod ExistLemmas
 pub mod LinesExist
 pub mod ShowLemmas
 pub mod OneLemmas
+pub mod CycleLemmas

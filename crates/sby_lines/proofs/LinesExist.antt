@@ -35,7 +35,7 @@ use Rattle.sby_lines.specs.Reached.{HasReachLines, reached_line, unreached_line}
 use Rattle.sby_lines.specs.Told.{AreLimited, AreReported, CameTo, came, IsFirstSat, IsPrintedFinding, IsRaceStatus, IsStoppedIn, Request, answer_of, job_of, jobs_for}
 use Rattle.sby_lines.proofs.BrokenLemmas.{broken_lines, trace_lines}
 use Rattle.sby_lines.proofs.ExistLemmas.{first_below, printed_of, sat_test, stop_of}
-use Rattle.sby_lines.proofs.PlaceLemmas.{at_contains, cover_length}
+use Rattle.sby_lines.proofs.PlaceLemmas.{contains_at, at_contains, cover_length}
 use Rattle.sby_lines.proofs.ShownLemmas.{findings_agree, printed_breaks, printed_claims}
 
 stopped_by : (e : JobEnd FindingOf) → told_by e ≡ told.Stopped → (t : ℕ) × (e ≡ end.Stopped t)
@@ -124,7 +124,7 @@ module _ (request : Request) (c : CameTo) (are : AreReported request.mode reques
 
   -- where bmc fails, some job has answer Sat
   bmc_fails : Decides Bmc answers Fail → (k : ℕ) × (slice_get answers k ≡ Some (Some Sat))
-  bmc_fails fails = (0, fails)
+  bmc_fails fails = (fails.0, contains_at answers (Some Sat) fails)
 
   -- the first job with answer Sat is a Base
   failing : (mode : Mode) → request.mode ≡ mode → mode ≢ CoverMode → Decides mode answers Fail → (place : ℕ) × (i : ℕ) × IsFirstSat answers place × (name_at request.mode place ≡ Base i)

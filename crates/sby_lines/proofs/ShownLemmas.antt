@@ -206,7 +206,7 @@ one_stop reports answers a b places x y =
     ]
 
 not_both : (mode : Mode) (answers : List (Option Answer)) → Decides mode answers Pass → Decides mode answers Fail → ⊥
-not_both Bmc answers x y = let e : Some (Some Unsat) ≡ Some (Some Sat) = sym x ∙ y in cc
+not_both Bmc answers x y = let e : Some Sat ≡ Some Unsat = sym y.2 ∙ x.1 y.0 (Some Sat) y.1 in cc
 not_both Prove answers x y = let e : Some (Some Unsat) ≡ Some (Some Sat) = sym x.0 ∙ y in cc
 not_both CoverMode answers x y = let e : Some Unsat ≡ Some Sat = sym y.2 ∙ x y.0 (Some Unsat) y.1 in cc
 

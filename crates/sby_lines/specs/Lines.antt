@@ -26,7 +26,8 @@ use Rattle.sby_lines.specs.Broken.{HasBrokenLines}
 use Rattle.sby_lines.specs.Reached.{HasReachLines}
 use Rattle.sby_lines.specs.Counts.{counts_of}
 use Rattle.sby_lines.specs.Told.{AreAnswers, CameTo, IsFirstSat, IsPrintedFinding, IsRaceStatus, IsStopReading, Request, jobs_for}
-use Rattle.sby_lines.specs.Texts.{answer_text, cert_kind_text, cert_text, design_kind_text, design_text, done_text, fault_text, file_text, hold_failed_text, job_text, lane_text, line_of, memory_text, not_served_text, not_written_text, read_failed_text, read_kind_text, read_text, sby_kind_text, sby_text, settled_text, skipped_text, start_failed_text, status_text, stopped_text, streams_text, task_kind_text, too_many_text, trace_path, unknown_text}
+use Rattle.sby_terms.specs.Path.{job_text}
+use Rattle.sby_lines.specs.Texts.{answer_text, cert_kind_text, cert_text, design_kind_text, design_text, done_text, fault_text, file_text, hold_failed_text, lane_text, line_of, memory_text, not_served_text, not_written_text, read_failed_text, read_kind_text, read_text, sby_kind_text, sby_text, settled_text, skipped_text, start_failed_text, status_text, stopped_text, streams_text, task_kind_text, too_many_text, trace_path, unknown_text}
 use Rattle.sby_lines.specs.declared.early.Early.{Early}
 use Rattle.sby_lines.specs.declared.early.Early.TheVariants.{File, Sby, Task, Read, Design, TooMany, Streams, Memory as MemoryEarly}
 

@@ -1,5 +1,5 @@
 -- The text of every line, as bytes. Nothing above these definitions speaks of text.
-use Rattle.std.specs.Prelude.{ℕ, ◌-◌, ◌==◌, if◌then◌else◌, List, [], ◌∷◌, ◌++◌, codes}
+use Rattle.std.specs.Prelude.{ℕ, ◌-◌, List, [], ◌∷◌, ◌++◌, codes}
 use Rattle.std.specs.Fmt.{decimal}
 use Rattle.design_check.specs.declared.fault.FaultKind.{FaultKind}
 use Rattle.design_check.specs.declared.fault.FaultKind.TheVariants.{UnknownCell, LeftOut as LeftOutCell, BadParameter, PortWidth, WidthLimit, MixedSign, TwoDrivers, MultiClock, InitConflict, Loop}
@@ -9,8 +9,6 @@ use Rattle.stream_judge.specs.declared.stream.CertKind.{CertKind}
 use Rattle.stream_judge.specs.declared.stream.CertKind.TheVariants.{BadLine, BadLiteral, LineTooLong, NotRup, NotSatisfying, TooLong, EarlyEnd}
 use Rattle.sby_terms.specs.declared.names.Answer.{Answer}
 use Rattle.sby_terms.specs.declared.names.Answer.TheVariants.{Sat, Unsat}
-use Rattle.sby_terms.specs.declared.names.JobName.{JobName}
-use Rattle.sby_terms.specs.declared.names.JobName.TheVariants.{Base, Step, Cover}
 use Rattle.sby_terms.specs.declared.names.Status.{Status}
 use Rattle.sby_terms.specs.declared.names.Status.TheVariants.{Pass, Fail, Unknown, Error, Timeout, Memory}
 use Rattle.sby_file.specs.declared.fault.SbyKind.{SbyKind}
@@ -28,12 +26,6 @@ usage_line = codes "usage: sby [-f] [-d DIR] FILE.sby [TASK ..] | sby [-d DIR] -
 -- a line of a task: `SBY [name] text`
 unfoldable pub line_of : List ℕ → List ℕ → List ℕ
 line_of name text = codes "SBY [" ++ name ++ codes "] " ++ text ++ 10 ∷ []
-
--- a job's name among the jobs of a task with so many slices: slices are numbered where there are several
-unfoldable pub job_text : ℕ → JobName → List ℕ
-job_text slices (Base j) = if slices == 1 then codes "base" else (codes "base" ++ decimal j)
-job_text slices Step = codes "step"
-job_text slices (Cover k) = codes "cover" ++ decimal k
 
 unfoldable pub answer_text : Answer → List ℕ
 answer_text Sat = codes "SAT"
@@ -177,13 +169,6 @@ done_text status rc = codes "DONE (" ++ status ++ codes ", rc=" ++ decimal rc ++
 
 unfoldable pub not_written_text : List ℕ → List ℕ
 not_written_text path = codes "not written: " ++ path
-
-unfoldable pub path_text : List ℕ → List ℕ → List ℕ
-path_text folder job = folder ++ codes "/model/" ++ job ++ codes ".cnf"
-
--- the path of a job's file in the work folder
-abbrev pub job_path : List ℕ → ℕ → JobName → List ℕ
-job_path folder slices job = path_text folder (job_text slices job)
 
 -- the path of a trace file in the work folder; those of cover are numbered as the statements are
 unfoldable pub trace_path : List ℕ → Mode → ℕ → List ℕ

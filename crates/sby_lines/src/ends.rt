@@ -8,7 +8,7 @@ use crate::early::Early;
 use crate::text;
 use judge::Finding;
 use race_core::JobEnd;
-use sby_terms::Status;
+use sby_terms::{Status, job_text};
 use std::alloc::{AllocError, Global};
 
 fn fault_text(alloc: Global, slices: u32, early: &Early) -> Result<String, AllocError>
@@ -24,7 +24,7 @@ fn fault_text(alloc: Global, slices: u32, early: &Early) -> Result<String, Alloc
             text::fault_text(alloc, text::design_kind_text(fault.kind()), fault.name())
         }
         Early::TooMany(job) => {
-            let job = text::job_text(alloc, slices, *job)?;
+            let job = job_text(alloc, slices, *job)?;
             text::too_many_text(alloc, job.as_str())
         }
         Early::Streams => text::streams_text(alloc),

@@ -27,4 +27,4 @@ pub use printed::{printed_finding, stop_reading};
 pub use tell::{Stop, offer, tell_name};
 pub use tell_run::whole_run;
 pub use tell_task::{tell_done, tell_early, tell_jobs, tell_unput};
-pub use text::{job_path, trace_path, usage_line};
+pub use text::{trace_path, usage_line};

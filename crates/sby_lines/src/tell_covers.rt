@@ -16,16 +16,15 @@ use crate::counts::is_statement;
 use crate::heading::Heading;
 use crate::printed::printed_finding;
 use crate::tell::{Stop, tell_line};
-use crate::tell_run::{tell_trace, whole_run};
+use crate::tell_run::tell_trace;
 use crate::text;
 use cell_table::kind::Statement;
 use design_check::flat::Flat;
-use design_meaning::run::Run;
 use judge::{Finding, PlayedRun};
 use race_core::Report;
 use sby_edge::Sink;
 use sby_terms::Answer;
-use std::alloc::{AllocError, Global};
+use std::alloc::Global;
 
 // The name of a cover statement by its number in file order, counted from 0.
 fn cover_name(flat: &Flat, number: usize) -> &str
@@ -51,14 +50,14 @@ fn tell_reached<S: Sink>(
     name: &str,
     flat: &Flat,
     number: usize,
-    run: &Run,
+    played: &PlayedRun,
 ) -> Result<(), Stop>
     requires statement { number < length (covers flat.now) }
-    requires some { 0 < length run.now }
+    requires some { 0 < length played.now }
     ensures { (cell : CellOf) → slice_get (covers flat.now) number ≡ Some cell
-        → Tells (S.taken out.old) (S.taken out.new) (S.faults out.old) (S.faults out.new) (S.ended out.new) (reached_line name.now cell run.now ∷ []) result }
+        → Tells (S.taken out.old) (S.taken out.new) (S.faults out.old) (S.faults out.new) (S.ended out.new) (reached_line name.now cell played.now ∷ []) result }
 {
-    match text::reached_text(alloc, cover_name(flat, number), run.cycles().len() - 1) {
+    match text::reached_text(alloc, cover_name(flat, number), played.cycles() - 1) {
         Ok(text) => tell_line(alloc, out, name, text.as_str()),
         Err(_) => Err(Stop::Memory),
     }
@@ -87,24 +86,6 @@ fn tell_reaching<S: Sink>(
     name: &str,
     flat: &Flat,
     number: usize,
-    run: &Run,
-) -> Result<(), Stop>
-    requires statement { number < length (covers flat.now) }
-    requires rows { IsRunOf flat.now run.now }
-    requires some { 0 < length run.now }
-    ensures { (cell : CellOf) (lines : List (List ℕ)) → slice_get (covers flat.now) number ≡ Some cell → HasReachLines flat.now name.now cell (Some run.now) lines
-        → Tells (S.taken out.old) (S.taken out.new) (S.faults out.old) (S.faults out.new) (S.ended out.new) lines result }
-{
-    tell_reached(alloc, out, name, flat, number, run)?;
-    tell_trace(alloc, out, flat, run)
-}
-
-fn tell_played<S: Sink>(
-    alloc: Global,
-    out: &mut S,
-    name: &str,
-    flat: &Flat,
-    number: usize,
     played: &PlayedRun,
 ) -> Result<(), Stop>
     requires statement { number < length (covers flat.now) }
@@ -113,10 +94,8 @@ fn tell_played<S: Sink>(
     ensures { (cell : CellOf) (lines : List (List ℕ)) → slice_get (covers flat.now) number ≡ Some cell → HasReachLines flat.now name.now cell (Some played.now) lines
         → Tells (S.taken out.old) (S.taken out.new) (S.faults out.old) (S.faults out.new) (S.ended out.new) lines result }
 {
-    match whole_run(alloc, played) {
-        Ok(run) => tell_reaching(alloc, out, name, flat, number, &run),
-        Err(AllocError) => Err(Stop::Memory),
-    }
+    tell_reached(alloc, out, name, flat, number, played)?;
+    tell_trace(alloc, out, flat, played)
 }
 
 // The lines of a cover statement, by the finding for its job.
@@ -134,7 +113,7 @@ fn tell_found<S: Sink>(
         → Tells (S.taken out.old) (S.taken out.new) (S.faults out.old) (S.faults out.new) (S.ended out.new) lines result }
 {
     match finding.run() {
-        Some(played) => tell_played(alloc, out, name, flat, number, played),
+        Some(played) => tell_reaching(alloc, out, name, flat, number, played),
         None => tell_unreached(alloc, out, name, flat, number),
     }
 }

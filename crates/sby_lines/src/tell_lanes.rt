@@ -5,7 +5,8 @@ ghost use Rattle.sby_terms.specs.declared.names.JobName.{JobName};
 ghost use Rattle.sby_lines.specs.Jobs.{HasJobs};
 ghost use Rattle.sby_lines.specs.Lines.{end_text, lane_line, lane_lines, race_lines, settled_line, settled_lines};
 ghost use Rattle.sby_lines.specs.Telling.{Tells};
-ghost use Rattle.sby_lines.specs.Texts.{answer_text, job_text, lane_text, settled_text};
+ghost use Rattle.sby_lines.specs.Texts.{answer_text, lane_text, settled_text};
+ghost use Rattle.sby_terms.specs.Path.{job_text};
 
 use crate::heading::Heading;
 use crate::tell::{Stop, tell_line, tell_line_if};
@@ -13,7 +14,7 @@ use crate::{ends, text};
 use judge::Finding;
 use race_core::{JobEnd, Report, job_at};
 use sby_edge::Sink;
-use sby_terms::{Answer, JobName};
+use sby_terms::{Answer, JobName, job_text};
 use std::alloc::{AllocError, Global};
 
 // A job of a task with so many slices, in a lane.
@@ -32,7 +33,7 @@ fn settled_text(
 ) -> Result<String, AllocError>
     ensures { IfOk result (λ t. string_bytes t ≡ settled_text (job_text slices job) (answer_text answer)) }
 {
-    let job = text::job_text(alloc, slices, job)?;
+    let job = job_text(alloc, slices, job)?;
     text::settled_text(alloc, job.as_str(), text::answer_text(answer))
 }
 
@@ -86,7 +87,7 @@ fn lane_text(
     let text = ends::end_text(alloc, end)?;
     match text {
         Some(text) => {
-            let job = text::job_text(alloc, at.slices, at.job)?;
+            let job = job_text(alloc, at.slices, at.job)?;
             let text = text::lane_text(alloc, at.lane, job.as_str(), text.as_str())?;
             Ok(Some(text))
         }

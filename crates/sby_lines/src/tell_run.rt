@@ -1,6 +1,6 @@
 // The lines of a run that breaks an assertion.
 
-ghost use Rattle.std.specs.Prelude.{◌≡◌, ◌≢◌, ◌-◌, ◌<◌, ◌^◌, [], ◌∷◌, ℕ, List, Option, IfOk, Some, length, string_bytes};
+ghost use Rattle.std.specs.Prelude.{◌≡◌, ◌≢◌, ◌-◌, ◌<◌, ◌^◌, [], ◌∷◌, ℕ, List, Option, IfOk, Some, length, slice_get, string_bytes};
 ghost use Rattle.design_meaning.specs.Runs.{CycleOf, IsRunOf, shown_of};
 ghost use Rattle.design_core.specs.Shape.{CellOf};
 ghost use Rattle.judge.specs.Finding.{FindingOf};
@@ -12,7 +12,7 @@ ghost use Rattle.sby_lines.specs.Lines.{HasRunLines};
 ghost use Rattle.sby_lines.specs.Telling.{Tells};
 ghost use Rattle.sby_lines.specs.Texts.{broken_text};
 ghost use Rattle.sby_lines.specs.Told.{AreReported, IsCollected, IsFirstSat, IsPrintedFinding, asked_by, came};
-ghost use Rattle.design_trace.specs.Trace.{trace};
+ghost use Rattle.design_trace.specs.Trace.{cycle_text, trace};
 
 use crate::collected::{Collected, first_sat};
 use crate::heading::Heading;
@@ -27,15 +27,24 @@ use sby_edge::Sink;
 use sby_terms::{Answer, Verdict};
 use std::alloc::{AllocError, Global};
 
-// What is printed of the assertion that a run breaks: the first one in file order that is broken in its last cycle.
-fn broken_text(alloc: Global, flat: &Flat, run: &Run) -> Result<String, AllocError>
-    requires { Breaks flat.now run.now }
-    ensures { IfOk result (λ t. (cell : CellOf) → IsBrokenCell flat.now run.now cell → string_bytes t ≡ broken_text cell.name (length run.now - 1)) }
+// The last cycle of a run, as a run of its own.
+fn last_cycle(alloc: Global, played: &PlayedRun) -> Result<Run, AllocError>
+    requires { 0 < length played.now }
+    ensures { IfOk result (λ last. (cycle : CycleOf) × (slice_get played.now (length played.now - 1) ≡ Some cycle) × (last ≡ cycle ∷ [])) }
 {
-    match flat.broken(run) {
-        Some(number) => {
-            text::broken_text(alloc, flat.assert_name(number), run.cycles().len() - 1)
-        }
+    let mut last = Run::new(alloc);
+    last.push(played.cycle(alloc, played.cycles() - 1)?)?;
+    Ok(last)
+}
+
+// What is printed of the assertion that a run breaks: the first one in file order that is broken in its last cycle.
+fn broken_text(alloc: Global, flat: &Flat, played: &PlayedRun) -> Result<String, AllocError>
+    requires { Breaks flat.now played.now }
+    ensures { IfOk result (λ t. (cell : CellOf) → IsBrokenCell flat.now played.now cell → string_bytes t ≡ broken_text cell.name (length played.now - 1)) }
+{
+    let last = last_cycle(alloc, played)?;
+    match flat.broken(&last) {
+        Some(number) => text::broken_text(alloc, flat.assert_name(number), played.cycles() - 1),
         None => unreachable!(),
     }
 }
@@ -45,29 +54,66 @@ fn tell_assertion<S: Sink>(
     out: &mut S,
     name: &str,
     flat: &Flat,
-    run: &Run,
+    played: &PlayedRun,
 ) -> Result<(), Stop>
-    requires { Breaks flat.now run.now }
-    ensures { (cell : CellOf) → IsBrokenCell flat.now run.now cell
-        → Tells (S.taken out.old) (S.taken out.new) (S.faults out.old) (S.faults out.new) (S.ended out.new) (broken_line name.now cell run.now ∷ []) result }
+    requires { Breaks flat.now played.now }
+    ensures { (cell : CellOf) → IsBrokenCell flat.now played.now cell
+        → Tells (S.taken out.old) (S.taken out.new) (S.faults out.old) (S.faults out.new) (S.ended out.new) (broken_line name.now cell played.now ∷ []) result }
 {
-    match broken_text(alloc, flat, run) {
+    match broken_text(alloc, flat, played) {
         Ok(text) => tell_line(alloc, out, name, text.as_str()),
         Err(_) => Err(Stop::Memory),
     }
 }
 
-/// Offers the lines of a run's trace.
-pub fn tell_trace<S: Sink>(alloc: Global, out: &mut S, flat: &Flat, run: &Run) -> Result<(), Stop>
-    requires rows { IsRunOf flat.now run.now }
-    requires some { 0 < length run.now }
-    ensures { (lines : List (List ℕ)) → AreLinesOf (trace flat.now (shown_of run.now)) lines
+// The text of the cycle of a run by its number, from 0.
+fn cycle_text(
+    alloc: Global,
+    flat: &Flat,
+    played: &PlayedRun,
+    number: usize,
+) -> Result<Vec<u8>, AllocError>
+    requires rows { IsRunOf flat.now played.now }
+    requires number { number < length played.now }
+    ensures { IfOk result (λ text. (cycle : CycleOf) → slice_get played.now number ≡ Some cycle → text.items ≡ cycle_text flat.now number cycle.wires) }
+{
+    let cycle = played.cycle(alloc, number)?;
+    design_trace::cycle_text(alloc, flat, &cycle, number as u64)
+}
+
+fn tell_cycle<S: Sink>(
+    alloc: Global,
+    out: &mut S,
+    flat: &Flat,
+    played: &PlayedRun,
+    number: usize,
+) -> Result<(), Stop>
+    requires rows { IsRunOf flat.now played.now }
+    requires number { number < length played.now }
+    ensures { (cycle : CycleOf) (lines : List (List ℕ)) → slice_get played.now number ≡ Some cycle → AreLinesOf (cycle_text flat.now number cycle.wires) lines
         → Tells (S.taken out.old) (S.taken out.new) (S.faults out.old) (S.faults out.new) (S.ended out.new) lines result }
 {
-    match design_trace::text(alloc, flat, run) {
+    match cycle_text(alloc, flat, played, number) {
         Ok(text) => tell_lines(out, text.as_slice()),
         Err(_) => Err(Stop::Memory),
     }
+}
+
+/// Offers the lines of a run's trace, cycle by cycle: memory holds one cycle at a time, and its text.
+pub fn tell_trace<S: Sink>(
+    alloc: Global,
+    out: &mut S,
+    flat: &Flat,
+    played: &PlayedRun,
+) -> Result<(), Stop>
+    requires { IsRunOf flat.now played.now }
+    ensures { (lines : List (List ℕ)) → AreLinesOf (trace flat.now (shown_of played.now)) lines
+        → Tells (S.taken out.old) (S.taken out.new) (S.faults out.old) (S.faults out.new) (S.ended out.new) lines result }
+{
+    for number in 0..played.cycles() {
+        tell_cycle(alloc, out, flat, played, number)?;
+    }
+    Ok(())
 }
 
 fn tell_broken<S: Sink>(
@@ -75,14 +121,14 @@ fn tell_broken<S: Sink>(
     out: &mut S,
     name: &str,
     flat: &Flat,
-    run: &Run,
+    played: &PlayedRun,
 ) -> Result<(), Stop>
-    requires { Breaks flat.now run.now }
-    ensures { (lines : List (List ℕ)) → HasBrokenLines flat.now name.now run.now lines
+    requires { Breaks flat.now played.now }
+    ensures { (lines : List (List ℕ)) → HasBrokenLines flat.now name.now played.now lines
         → Tells (S.taken out.old) (S.taken out.new) (S.faults out.old) (S.faults out.new) (S.ended out.new) lines result }
 {
-    tell_assertion(alloc, out, name, flat, run)?;
-    tell_trace(alloc, out, flat, run)
+    tell_assertion(alloc, out, name, flat, played)?;
+    tell_trace(alloc, out, flat, played)
 }
 
 /// The cycles of a run, all at once.
@@ -94,23 +140,6 @@ pub fn whole_run(alloc: Global, played: &PlayedRun) -> Result<Run, AllocError>
         run.push(played.cycle(alloc, number)?)?;
     }
     Ok(run)
-}
-
-fn tell_played<S: Sink>(
-    alloc: Global,
-    out: &mut S,
-    name: &str,
-    flat: &Flat,
-    played: &PlayedRun,
-) -> Result<(), Stop>
-    requires { Breaks flat.now played.now }
-    ensures { (lines : List (List ℕ)) → HasBrokenLines flat.now name.now played.now lines
-        → Tells (S.taken out.old) (S.taken out.new) (S.faults out.old) (S.faults out.new) (S.ended out.new) lines result }
-{
-    match whole_run(alloc, played) {
-        Ok(run) => tell_broken(alloc, out, name, flat, &run),
-        Err(AllocError) => Err(Stop::Memory),
-    }
 }
 
 // The lines of the run that a finding carries.
@@ -126,7 +155,7 @@ fn tell_finding<S: Sink>(
         → Tells (S.taken out.old) (S.taken out.new) (S.faults out.old) (S.faults out.new) (S.ended out.new) lines result }
 {
     match finding.run() {
-        Some(played) => tell_played(alloc, out, name, flat, played),
+        Some(played) => tell_broken(alloc, out, name, flat, played),
         None => Ok(()),
     }
 }

@@ -2,14 +2,14 @@
 
 ghost use Rattle.std.specs.Prelude.{◌≡◌, ◌<◌, ◌∷◌, ◌++◌, [], IfOk, string_bytes};
 ghost use Rattle.sby_lines.specs.Lines.{kind_numbered};
-ghost use Rattle.sby_lines.specs.Texts.{answer_text, broken_text, cert_kind_text, cert_text, design_kind_text, design_text, done_text, fault_text, file_text, hold_failed_text, job_path, path_text, job_text, lane_text, line_of, memory_text, not_served_text, not_written_text, reached_text, read_failed_text, read_kind_text, read_text, sby_kind_text, sby_text, settled_text, skipped_text, start_failed_text, status_text, stopped_text, streams_text, task_kind_text, too_many_text, trace_path, unknown_text, unreached_text, usage_line};
+ghost use Rattle.sby_lines.specs.Texts.{answer_text, broken_text, cert_kind_text, cert_text, design_kind_text, design_text, done_text, fault_text, file_text, hold_failed_text, lane_text, line_of, memory_text, not_served_text, not_written_text, reached_text, read_failed_text, read_kind_text, read_text, sby_kind_text, sby_text, settled_text, skipped_text, start_failed_text, status_text, stopped_text, streams_text, task_kind_text, too_many_text, trace_path, unknown_text, unreached_text, usage_line};
 
 use crate::counts::Counts;
 use design_check::fault::FaultKind;
 use design_reader::ReadFaultKind;
 use sby_file::SbyKind;
 use sby_task::TaskKind;
-use sby_terms::{Answer, JobName, Mode, Status};
+use sby_terms::{Answer, Mode, Status};
 use std::alloc::{AllocError, Global};
 use stream_judge::CertKind;
 
@@ -33,19 +33,6 @@ pub fn name_line(alloc: Global, name: &str) -> Result<String, AllocError>
     ensures { IfOk result (λ t. string_bytes t ≡ name.now ++ 10 ∷ []) }
 {
     format!(in alloc; "{name}\n")
-}
-
-/// A job's name among the jobs of a task with so many slices.
-#[tactic(auto, unfolding(crate::specs::Texts::job_text))]
-pub fn job_text(alloc: Global, slices: u32, job: JobName) -> Result<String, AllocError>
-    ensures { IfOk result (λ t. string_bytes t ≡ job_text slices job) }
-{
-    match job {
-        JobName::Base(_) if slices == 1 => String::from_str(alloc, "base"),
-        JobName::Base(slice) => format!(in alloc; "base{slice}"),
-        JobName::Step => String::from_str(alloc, "step"),
-        JobName::Cover(k) => format!(in alloc; "cover{k}"),
-    }
 }
 
 #[tactic(auto, unfolding(crate::specs::Texts::answer_text))]
@@ -351,26 +338,6 @@ pub fn not_written_text(alloc: Global, path: &str) -> Result<String, AllocError>
     ensures { IfOk result (λ t. string_bytes t ≡ not_written_text path.now) }
 {
     format!(in alloc; "not written: {path}")
-}
-
-#[tactic(auto, unfolding(crate::specs::Texts::path_text))]
-fn path_text(alloc: Global, folder: &str, job: &str) -> Result<String, AllocError>
-    ensures { IfOk result (λ t. string_bytes t ≡ path_text folder.now job.now) }
-{
-    format!(in alloc; "{folder}/model/{job}.cnf")
-}
-
-/// The path of a job's file in the work folder of a task with so many slices.
-pub fn job_path(
-    alloc: Global,
-    folder: &str,
-    slices: u32,
-    job: JobName,
-) -> Result<String, AllocError>
-    ensures { IfOk result (λ t. string_bytes t ≡ job_path folder.now slices job) }
-{
-    let job = job_text(alloc, slices, job)?;
-    path_text(alloc, folder, job.as_str())
 }
 
 /// The path of a trace file in the work folder. Those of cover are numbered as the statements are.
