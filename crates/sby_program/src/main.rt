@@ -2,18 +2,18 @@
 #![tactic(auto)]
 
 ghost use Rattle.std.specs.Prelude.{◌≡◌, map, string_bytes};
-ghost use Rattle.std.specs.Process.{exit_status};
-ghost use Rattle.sby_program.specs.Program.{IsExit, IsProgramExit};
 ghost use Rattle.sby_top.specs.Run.{Did};
 ghost use Rattle.sby_top.specs.declared.outcome.Done.{Done};
 
-use child_edge::{RealFiles, StdSink};
-use sby_edge::{Clock, Files, NoYard, Sink, StillClock, Yard};
+use child_edge::{RealClock, RealFiles, RealYard, StdSink};
+use sby_edge::{Clock, Files, Sink, Yard};
 use sby_top::run_sby;
 use std::alloc::{AllocError, Global};
 use std::env;
 use std::io::{self, ErrorKind};
 use std::process::ExitCode;
+use std::sync::Wait;
+use std::thread::Threads;
 
 const OUT_OF_MEMORY: u8 = 32;
 
@@ -34,7 +34,7 @@ fn words(rt: &HostRuntime, alloc: Global) -> Result<Vec<String>, AllocError> {
 }
 
 /// Does all that the program does, and answers its exit status: what a call of `run_sby` for these words does over this outside.
-fn run_program<R, F: Files, S: Sink, Y: Yard, C: Clock>(
+fn run_program<R: Threads + Wait + Sync, F: Files, S: Sink, Y: Yard, C: Clock>(
     rt: &R,
     alloc: Global,
     words: &[String],
@@ -43,40 +43,29 @@ fn run_program<R, F: Files, S: Sink, Y: Yard, C: Clock>(
     yard: &mut Y,
     clock: &C,
 ) -> u8
-    ensures did { (done : Done)
-        × Did
-        (record { told = F.told files.old; file_faults = F.faults files.old; blamed = F.blamed files.old; taken = S.taken out.old; sink_faults = S.faults out.old; ended = S.ended out.old })
-        (record { told = F.told files.new; file_faults = F.faults files.new; blamed = F.blamed files.new; taken = S.taken out.new; sink_faults = S.faults out.new; ended = S.ended out.new })
+    ensures { (done : Done)
+        × Did (C.may_read clock.now)
+        (record { told = F.told files.old; file_faults = F.faults files.old; blamed = F.blamed files.old; taken = S.taken out.old; sink_faults = S.faults out.old; ended = S.ended out.old; scripts = Y.told yard.old; children = record { starts = Y.start_faults yard.old; reads = Y.read_faults yard.old; holds = Y.hold_faults yard.old } })
+        (record { told = F.told files.new; file_faults = F.faults files.new; blamed = F.blamed files.new; taken = S.taken out.new; sink_faults = S.faults out.new; ended = S.ended out.new; scripts = Y.told yard.new; children = record { starts = Y.start_faults yard.new; reads = Y.read_faults yard.new; holds = Y.hold_faults yard.new } })
         (map string_bytes words.now) done
         × (result ≡ done.rc) }
-    ensures yard { yard.new ≡ yard.old }
 {
     let done = run_sby(rt, alloc, words, files, out, yard, clock);
     done.rc
 }
 
-// Runs the program over the real files, a real output and a clock that stands.
-fn run_real(rt: &HostRuntime, alloc: Global, words: &[String]) -> u8
-    ensures { IsExit (map string_bytes words.now) result }
-{
-    let mut files = RealFiles::new(rt);
-    let mut out = StdSink::new(io::writer(rt));
-    let mut yard = NoYard::new();
-    let clock = StillClock(0);
-    run_program(rt, alloc, words, &mut files, &mut out, &mut yard, &clock)
-}
-
-// Runs the program for the words that it was given.
-fn run(rt: &HostRuntime) -> ExitCode
-    ensures { IsProgramExit (exit_status result) }
-{
+// The program over the real files, a real output, the children of the system and its clock.
+fn main(rt: HostRuntime) -> ExitCode {
     let alloc = rt.alloc();
-    match words(rt, alloc) {
-        Ok(words) => ExitCode::from(run_real(rt, alloc, &words)),
+    match words(&rt, alloc) {
+        Ok(words) => {
+            let mut files = RealFiles::new(&rt);
+            let mut out = StdSink::new(io::writer(&rt));
+            let mut yard = RealYard::new(&rt);
+            let clock = RealClock::new(&rt);
+            let rc = run_program(&rt, alloc, &words, &mut files, &mut out, &mut yard, &clock);
+            ExitCode::from(rc)
+        }
         Err(AllocError) => ExitCode::from(OUT_OF_MEMORY),
     }
-}
-
-fn main(rt: HostRuntime) -> ExitCode {
-    run(&rt)
 }

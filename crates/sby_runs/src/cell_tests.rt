@@ -2,7 +2,11 @@
 // certificate, exactly where no assertion breaks within the depth.
 
 use crate::tests::{ERROR, PASS, UNSAT, is_judged};
+use std::alloc::Global;
+use std::sync::Wait;
 use std::test::Fail;
+use std::thread::Threads;
+use std::time::Clock as SystemClock;
 
 const BROKEN: &str = "SBY [t] engine_0 base: certificate NotRup at byte 0";
 
@@ -26,8 +30,8 @@ const ASSERTED: &str =
     "\n connect \\Y \\e\n end\n cell $assert \\p\n connect \\A \\e\n connect \\EN 1'1\n end\nend\n";
 
 // Whether these lines are printed where the cell's output is said to be this value.
-fn compared(
-    rt: &HostRuntime,
+fn compared<H: Threads + Wait + SystemClock + Sync + Alloc<A = Global>>(
+    rt: &H,
     cell: &[&str],
     value: Word,
     rc: u8,
@@ -59,12 +63,19 @@ fn compared(
 }
 
 // Whether the cell gives the row's value, and not the other.
-fn gives(rt: &HostRuntime, cell: &[&str], row: Row) -> Result<bool, Fail> {
+fn gives<H: Threads + Wait + SystemClock + Sync + Alloc<A = Global>>(
+    rt: &H,
+    cell: &[&str],
+    row: Row,
+) -> Result<bool, Fail> {
     let kept = compared(rt, cell, row.y, 0, [UNSAT, PASS])?;
     Ok(kept && compared(rt, cell, (row.other, row.y.1), 16, [BROKEN, ERROR])?)
 }
 
-fn one_operand(rt: &HostRuntime, row: Row) -> Result<bool, Fail> {
+fn one_operand<H: Threads + Wait + SystemClock + Sync + Alloc<A = Global>>(
+    rt: &H,
+    row: Row,
+) -> Result<bool, Fail> {
     let cell = [
         " cell ",
         row.kind,
@@ -81,7 +92,10 @@ fn one_operand(rt: &HostRuntime, row: Row) -> Result<bool, Fail> {
     gives(rt, &cell, row)
 }
 
-fn two_operands(rt: &HostRuntime, row: Row) -> Result<bool, Fail> {
+fn two_operands<H: Threads + Wait + SystemClock + Sync + Alloc<A = Global>>(
+    rt: &H,
+    row: Row,
+) -> Result<bool, Fail> {
     let cell = [
         " cell ",
         row.kind,
@@ -104,7 +118,10 @@ fn two_operands(rt: &HostRuntime, row: Row) -> Result<bool, Fail> {
     gives(rt, &cell, row)
 }
 
-fn selected(rt: &HostRuntime, row: Row) -> Result<bool, Fail> {
+fn selected<H: Threads + Wait + SystemClock + Sync + Alloc<A = Global>>(
+    rt: &H,
+    row: Row,
+) -> Result<bool, Fail> {
     let cell = [
         " cell $mux \\c\n parameter \\WIDTH ",
         row.y.1,
@@ -204,8 +221,8 @@ const ALIASED: &str =
 const OPEN: &str = "module \\t\n wire input 1 \\clk\n wire width 2 \\q\n wire width 2 \\alias\n";
 
 // Whether the design's run says that the assertion breaks within the depth, or that it doesn't.
-fn is_answered(
-    rt: &HostRuntime,
+fn is_answered<H: Threads + Wait + SystemClock + Sync + Alloc<A = Global>>(
+    rt: &H,
     parts: &[&str],
     depth: &str,
     design: &str,

@@ -8,7 +8,11 @@ mod judge_tests;
 #[cfg(test)]
 mod mode_tests;
 #[cfg(test)]
+mod race_tests;
+#[cfg(test)]
 mod run_tests;
+#[cfg(test)]
+mod task_tests;
 #[cfg(test)]
 mod tests;
 #[cfg(test)]

@@ -2,10 +2,16 @@
 
 ghost use Rattle.std.specs.Prelude.{None};
 
-use sby_edge::{Fail as FileFail, Failed, Files, MemFiles, MemSink, NoYard, Sink, StillClock};
+use sby_edge::{
+    CallFault, Clock, Exit, Fail as FileFail, Failed, Files, MemFiles, MemSink, Script, ScriptYard,
+    Scripted, Sink, Stage, StillClock,
+};
 use sby_top::run_sby;
 use std::alloc::{AllocError, Global};
+use std::sync::Wait;
 use std::test::Fail;
+use std::thread::Threads;
+use std::time::Clock as SystemClock;
 
 pub const HEAD: &str =
     "module \\t\n wire input 1 \\clk\n attribute \\init 1'0\n wire \\q\n wire \\d\n";
@@ -23,6 +29,8 @@ const ASSERT: &str = " cell $assert \\a0\n connect \\A \\d\n connect \\EN 1'1\n 
 pub const END: &str = "end\n";
 
 pub const T: &[&str] = &[HEAD, NOT, REGISTER, ASSERT, END];
+
+pub const TWO_DRIVERS: &[&str] = &[HEAD, NOT, TWO, END];
 
 pub const DESIGN: &str = "SBY [t] design: 1 register bits, 1 assert, 0 assume, 0 cover";
 
@@ -76,7 +84,7 @@ fn put(alloc: Global, files: &mut MemFiles, path: &str, bytes: &[u8]) -> Result<
 }
 
 // A store with the design and the streams `s0` and `s1`, whose calls from then on fail where they are listed.
-fn store(
+pub(crate) fn store(
     alloc: Global,
     design: &[&str],
     stream: &[u8],
@@ -89,29 +97,82 @@ fn store(
     Ok(files)
 }
 
+// A child that writes this, and is ended by a signal.
+pub(crate) fn script_of(alloc: Global, text: &str) -> Result<Script, AllocError> {
+    Ok(Script {
+        bytes: Vec::from_slice(alloc, text.as_bytes())?,
+        stalls: None,
+        gate: None,
+        exit: Exit::Signal,
+        faults: Vec::<CallFault>::new(alloc),
+        cut: None,
+        proof: Vec::new(alloc),
+    })
+}
+
+// The exit status of a run into a sink, over children of these scripts; all others say that they don't know.
+fn run_children<H: Threads + Wait + SystemClock + Sync + Alloc<A = Global>, S: Sink, C: Clock>(
+    rt: &H,
+    files: &mut MemFiles,
+    words: &[&str],
+    out: &mut S,
+    scripts: &[Scripted],
+    clock: &C,
+) -> Result<u8, AllocError> {
+    let alloc = rt.alloc();
+    let words = owned(alloc, words)?;
+    let unknown = script_of(alloc, "s UNKNOWN\n")?;
+    let stage = Stage::new(alloc);
+    let mut yard = ScriptYard::new(rt, &stage, scripts, &unknown);
+    let done = run_sby(rt, alloc, &words, files, out, &mut yard, clock);
+    Ok(done.rc)
+}
+
 // The exit status of a run into a sink.
-fn run_into<S: Sink>(
-    rt: &HostRuntime,
+fn run_into<H: Threads + Wait + SystemClock + Sync + Alloc<A = Global>, S: Sink>(
+    rt: &H,
     files: &mut MemFiles,
     words: &[&str],
     out: &mut S,
 ) -> Result<u8, AllocError> {
-    let words = owned(rt.alloc(), words)?;
-    let mut yard = NoYard::new();
-    let done = run_sby(
-        rt,
-        rt.alloc(),
-        &words,
-        files,
-        out,
-        &mut yard,
-        &StillClock(0),
-    );
-    Ok(done.rc)
+    run_children(rt, files, words, out, &[], &StillClock(0))
 }
 
-fn run(
-    rt: &HostRuntime,
+// A run of the task file `two.sby` with the design `t.il`, over children of these scripts and this clock.
+pub(crate) fn run_race<H: Threads + Wait + SystemClock + Sync + Alloc<A = Global>, C: Clock>(
+    rt: &H,
+    text: &[&str],
+    scripts: &[Scripted],
+    clock: &C,
+) -> Result<Printed, Fail> {
+    let alloc = rt.alloc();
+    let mut files = MemFiles::new(alloc, Vec::new(alloc));
+    put(alloc, &mut files, "t.il", &joined(alloc, T)?)?;
+    put(alloc, &mut files, "two.sby", &joined(alloc, text)?)?;
+    let mut out = MemSink::new(alloc, 2000, Vec::new(alloc))?;
+    let rc = run_children(rt, &mut files, &["two.sby"], &mut out, scripts, clock)?;
+    let bytes = Vec::from_slice(alloc, out.bytes())?;
+    Ok(Printed { rc, bytes })
+}
+
+// A run over these files, whose calls of the file store, from the first that puts one of them, and of the sink fail where they are listed.
+pub(crate) fn run_files<H: Threads + Wait + SystemClock + Sync + Alloc<A = Global>>(
+    rt: &H,
+    files: &[(&str, &[&str])],
+    words: &[&str],
+    failing: &[u64],
+    cut: &[u64],
+) -> Result<Printed, Fail> {
+    let alloc = rt.alloc();
+    let mut store = MemFiles::new(alloc, Vec::from_slice(alloc, failing)?);
+    for (path, parts) in files {
+        put(alloc, &mut store, path, &joined(alloc, parts)?)?;
+    }
+    Ok(run(rt, &mut store, words, Vec::from_slice(alloc, cut)?)?)
+}
+
+pub(crate) fn run<H: Threads + Wait + SystemClock + Sync + Alloc<A = Global>>(
+    rt: &H,
     files: &mut MemFiles,
     words: &[&str],
     failing: Vec<u64>,
@@ -123,8 +184,8 @@ fn run(
 }
 
 // A run of a stored stream for a design.
-pub(crate) fn judged(
-    rt: &HostRuntime,
+pub(crate) fn judged<H: Threads + Wait + SystemClock + Sync + Alloc<A = Global>>(
+    rt: &H,
     design: &[&str],
     depth: &str,
     stream: &[u8],
@@ -140,8 +201,8 @@ pub(crate) fn prints(printed: &Printed, rc: u8, lines: &[&str]) -> bool {
 }
 
 // Whether the run of a stored stream for a design prints these lines, and ends with this status.
-pub(crate) fn is_judged(
-    rt: &HostRuntime,
+pub(crate) fn is_judged<H: Threads + Wait + SystemClock + Sync + Alloc<A = Global>>(
+    rt: &H,
     design: &[&str],
     depth: &str,
     stream: &[u8],
@@ -162,8 +223,8 @@ fn store_of(alloc: Global, design: &[&str], streams: &[&str]) -> Result<MemFiles
 }
 
 // Whether the run of at most two stored streams for a design in a mode prints these lines, and ends with this status.
-pub(crate) fn is_served(
-    rt: &HostRuntime,
+pub(crate) fn is_served<H: Threads + Wait + SystemClock + Sync + Alloc<A = Global>>(
+    rt: &H,
     design: &[&str],
     asked: [&str; 2],
     streams: &[&str],
@@ -295,7 +356,10 @@ fn each_prefix_ends_early(rt: HostRuntime) -> Result<(), Fail> {
     Ok(())
 }
 
-fn ends_early(rt: &HostRuntime, stream: &[u8]) -> Result<bool, Fail> {
+fn ends_early<H: Threads + Wait + SystemClock + Sync + Alloc<A = Global>>(
+    rt: &H,
+    stream: &[u8],
+) -> Result<bool, Fail> {
     let length = stream.len();
     let line = format!(in rt.alloc();
         "SBY [t] engine_0 base: certificate EarlyEnd at byte {length}"
@@ -304,13 +368,17 @@ fn ends_early(rt: &HostRuntime, stream: &[u8]) -> Result<bool, Fail> {
 }
 
 // What a run over a store prints, and the content of the job's file.
-fn run_over(rt: &HostRuntime, words: &[&str], failing: Vec<u64>) -> Result<Printed, Fail> {
+fn run_over<H: Threads + Wait + SystemClock + Sync + Alloc<A = Global>>(
+    rt: &H,
+    words: &[&str],
+    failing: Vec<u64>,
+) -> Result<Printed, Fail> {
     let mut files = store(rt.alloc(), T, b"0\n", failing)?;
     Ok(run(rt, &mut files, words, Vec::new(rt.alloc()))?)
 }
 
-fn runs_to(
-    rt: &HostRuntime,
+fn runs_to<H: Threads + Wait + SystemClock + Sync + Alloc<A = Global>>(
+    rt: &H,
     words: &[&str],
     failing: Vec<u64>,
     rc: u8,
@@ -387,7 +455,12 @@ fn failed_files_are_told(rt: HostRuntime) -> Result<(), Fail> {
 }
 
 // Whether so many lines are printed, and with this exit status, where the sink fails at this call.
-fn is_cut(rt: &HostRuntime, call: u64, rc: u8, lines: &[&str]) -> Result<bool, Fail> {
+fn is_cut<H: Threads + Wait + SystemClock + Sync + Alloc<A = Global>>(
+    rt: &H,
+    call: u64,
+    rc: u8,
+    lines: &[&str],
+) -> Result<bool, Fail> {
     let mut files = store(rt.alloc(), T, b"0\n", Vec::new(rt.alloc()))?;
     let words = ["--judge", "t.il", "bmc", "1", "s0"];
     let printed = run(rt, &mut files, &words, vec![in rt.alloc(); call]?)?;
@@ -440,7 +513,10 @@ fn a_slow_sink_is_offered_the_rest(rt: HostRuntime) -> Result<(), Fail> {
     Ok(())
 }
 
-fn fills(rt: &HostRuntime, out: &mut SlowSink) -> Result<bool, Fail> {
+fn fills<H: Threads + Wait + SystemClock + Sync + Alloc<A = Global>>(
+    rt: &H,
+    out: &mut SlowSink,
+) -> Result<bool, Fail> {
     let mut files = store(rt.alloc(), T, b"0\n", Vec::new(rt.alloc()))?;
     let words = ["--judge", "t.il", "bmc", "1", "s0"];
     Ok(run_into(rt, &mut files, &words, out)? == 0)
@@ -464,7 +540,11 @@ fn job_file_of(content: Option<&[u8]>) -> JobFile {
     }
 }
 
-fn job_file(rt: &HostRuntime, design: &[&str], depth: &str) -> Result<JobFile, Fail> {
+fn job_file<H: Threads + Wait + SystemClock + Sync + Alloc<A = Global>>(
+    rt: &H,
+    design: &[&str],
+    depth: &str,
+) -> Result<JobFile, Fail> {
     let alloc = rt.alloc();
     let mut files = store(alloc, design, b"0\n", Vec::new(alloc))?;
     let words = ["--judge", "t.il", "bmc", depth, "s0"];
@@ -535,10 +615,7 @@ fn design_faults_are_told(rt: HostRuntime) -> Result<(), Fail> {
             "SBY [t] ERROR: design BadParameter $n",
         ),
         (&[HEAD, NO_PORT, END], "SBY [t] ERROR: design PortWidth $n"),
-        (
-            &[HEAD, NOT, TWO, END],
-            "SBY [t] ERROR: design TwoDrivers \\d [0]",
-        ),
+        (TWO_DRIVERS, "SBY [t] ERROR: design TwoDrivers \\d [0]"),
         (
             &[HEAD, REGISTER, FALLING, END],
             "SBY [t] ERROR: design MultiClock $s",
@@ -590,7 +667,9 @@ fn a_chain_is_followed(rt: HostRuntime) -> Result<(), Fail> {
     Ok(())
 }
 
-fn is_chained(rt: &HostRuntime) -> Result<bool, Fail> {
+fn is_chained<H: Threads + Wait + SystemClock + Sync + Alloc<A = Global>>(
+    rt: &H,
+) -> Result<bool, Fail> {
     let parts = chain(rt.alloc())?;
     is_judged(rt, parts.as_slice(), "1", b"0\n", 0, &[DESIGN, UNSAT, PASS])
 }

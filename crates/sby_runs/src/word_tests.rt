@@ -1,12 +1,12 @@
 // Words that are asked, and words that are refused.
 
 use sby_terms::Mode;
-use sby_top::{TaskRequest, asked_of};
+use sby_words::{Asked, JudgeWords, asked_of};
 use std::alloc::{AllocError, Global};
 use std::process::Abort;
 use std::test::Fail;
 
-fn ask(alloc: Global, words: &[&str]) -> Result<Option<TaskRequest>, AllocError> {
+fn ask(alloc: Global, words: &[&str]) -> Result<Option<Asked>, AllocError> {
     let mut list = Vec::new(alloc);
     for word in words {
         list.push(String::from_str(alloc, word)?)?;
@@ -14,13 +14,17 @@ fn ask(alloc: Global, words: &[&str]) -> Result<Option<TaskRequest>, AllocError>
     asked_of(alloc, list.as_slice())
 }
 
-const REFUSED: [&[&str]; 21] = [
+const REFUSED: [&[&str]; 25] = [
     &[],
-    &["t.sby"],
+    &[".sby"],
     &["--help"],
     &["-h"],
     &["--gen", "1"],
-    &["--dumptasks", "t.sby"],
+    &["--gen", "10001"],
+    &["--gen", "2", "3"],
+    &["--dumptasks"],
+    &["--dumptasks", "t.sby", "a"],
+    &["-d", "w", "--dumptasks", "t.sby"],
     &["--judge", "--gen", "t.il", "bmc", "1"],
     &["--judge", "t.il", "live", "1"],
     &["--judge", "t.il", "bmc"],
@@ -137,7 +141,7 @@ const ASKED: [Row; 8] = [
 ];
 
 fn is_same(
-    asked: &TaskRequest,
+    asked: &JudgeWords,
     folder: &str,
     design: &str,
     mode: Mode,
@@ -159,8 +163,8 @@ fn is_same(
 fn is_asked(alloc: Global, row: Row) -> Result<bool, AllocError> {
     let (words, folder, design, mode, depth, streams) = row;
     match ask(alloc, words)? {
-        None => Ok(false),
-        Some(asked) => Ok(is_same(&asked, folder, design, mode, depth, streams)),
+        Some(Asked::Judge(asked)) => Ok(is_same(&asked, folder, design, mode, depth, streams)),
+        Some(Asked::Tasks(_) | Asked::Names(_) | Asked::Gen(_)) | None => Ok(false),
     }
 }
 

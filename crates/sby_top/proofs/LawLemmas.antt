@@ -1,34 +1,48 @@
+-- What `--judge` makes of stored certificates.
 use Rattle.std.proofs.Common.{◌≡◌, ◌≢◌, ℕ, ◌+◌, ◌≤◌, true, List, [], ◌∷◌, refl, ap, sym, ◌∙◌, subst, inl, inr, ◌⊎◌, length, take, arith}
-use Rattle.std.specs.Prelude.{Option, Some, None, map}
+use Rattle.std.specs.Prelude.{Option, Some, None, map, option_map}
 use Rattle.std.specs.Str.{bytes_eq}
 use Rattle.std.proofs.lemmas.Slice.Eq.{bytes_eq-Decides}
+use Rattle.cnf_form.proofs.Members.{Contains-head, Contains-one}
 use Rattle.sby_edge.specs.Files.{Store, put_at}
 use Rattle.stream_judge.specs.Fate.{Fate, Found, IsFate}
 use Rattle.judge.specs.Fault.{IsProblemFault}
+use Rattle.judge.specs.Jobs.{jobs_in as jobs_of_mode}
 use Rattle.judge.specs.Problem.{AskedOf, IsJobFile}
 use Rattle.judge.specs.declared.problem.ProblemFault.{ProblemFault}
 use Rattle.design_core.specs.Shape.{DesignOf}
 use Rattle.design_reader.specs.Grammar.{Reads}
+use Rattle.race_core.specs.Told.{Decided}
 use Rattle.sby_terms.specs.Decide.{Decides}
+use Rattle.sby_terms.specs.Path.{job_path}
+use Rattle.sby_terms.specs.Problem.{ProblemOf}
+use Rattle.sby_terms.specs.Span.{slices_of}
+use Rattle.sby_terms.specs.Status.{HasStatus}
 use Rattle.sby_terms.specs.declared.names.Answer.{Answer}
+use Rattle.sby_terms.specs.declared.names.Answer.TheVariants.{Sat, Unsat}
+use Rattle.sby_terms.specs.declared.names.Event.{Event}
 use Rattle.sby_terms.specs.declared.names.JobName.{JobName}
 use Rattle.sby_terms.specs.declared.names.JobName.TheVariants.{Base}
 use Rattle.sby_terms.specs.declared.names.Mode.TheVariants.{Bmc}
 use Rattle.sby_terms.specs.declared.names.Status.{Status}
-use Rattle.sby_terms.specs.declared.names.Status.TheVariants.{Memory}
+use Rattle.sby_terms.specs.declared.names.Status.TheVariants.{Pass, Fail, Unknown, Error, Timeout, Memory}
+use Rattle.sby_terms.specs.declared.names.Verdict.{Verdict}
+use Rattle.sby_terms.specs.declared.names.Verdict.TheVariants.{Pass as PassVerdict, Fail as FailVerdict}
+use Rattle.sby_lines.specs.Lines.{IsStatus}
+use Rattle.sby_lines.specs.Told.{IsRaceStatus}
+use Rattle.sby_lines.specs.declared.early.Early.{Early}
+use Rattle.sby_words.specs.Requests.{JudgeRequest}
+use Rattle.sby_top.specs.Claims.{IsJudgedAt, status_for}
 use Rattle.sby_top.specs.Causes.{IsOutcome}
-use Rattle.sby_top.specs.Headline.{AreFates, AreWhole, Exit, IsDecided, IsJudgedStatus, IsSmooth, TaskRan, fate_answer, fate_event}
-use Rattle.sby_top.specs.Served.{ArePut, IsAccepted, IsGot, jobs_at, jobs_in, most_design, most_stream, problem_of}
-use Rattle.sby_top.specs.Status.{IsStatus, IsStatusOf, status_for}
-use Rattle.sby_top.specs.Texts.{job_path}
-use Rattle.sby_top.specs.Words.{Request}
-use Rattle.sby_top.specs.World.{World}
-use Rattle.sby_top.specs.declared.outcome.Early.{Early}
+use Rattle.sby_top.specs.Headline.{AreFates, AreWhole, Exit, IsDecided, IsFateStatus, IsServedStatus, IsSmooth, TaskRan, WasStopped, fate_answer}
+use Rattle.sby_top.specs.Served.{ArePut, IsAccepted, IsTextOf, jobs_in, most_design, most_stream, slices_in}
+use Rattle.sby_top.specs.Task.{DesignAt, Given, Lanes, Service, Stored, Streams, TaskOf, problem_of, streams_in}
+use Rattle.sby_top.specs.Turns.{judge_task}
+use Rattle.sby_top.specs.World.{World, files_of, race_of}
 use Rattle.sby_top.specs.declared.outcome.TaskEnd.{TaskEnd}
-use Rattle.sby_top.proofs.PlainLemmas.{done_judged}
-use Rattle.sby_top.proofs.JobLemmas.{jobs_by}
-use Rattle.sby_top.proofs.ServeLemmas.{accepted_mode, accepted_whole, one_job_in}
-use Rattle.sby_top.proofs.StatusLemmas.{answer_gives, nothing_decides}
+use Rattle.sby_top.proofs.FailLemmas.{fail_status}
+use Rattle.sby_top.proofs.PlainLemmas.{done_gives, put_told}
+use Rattle.sby_top.proofs.ReportLemmas.{job_count}
 
 -- the judge's laws
 abbrev pub OneFate : Type 0
@@ -40,100 +54,148 @@ OneFile = (p : AskedOf) (job : JobName) (a b : List ℕ) → IsJobFile p job a �
 one_some : {X : Type 0} (o : Option X) (x y : X) → o ≡ Some x → o ≡ Some y → x ≡ y
 one_some o x y p q = let e : Some x ≡ Some y = sym p ∙ q in cc
 
--- a call of `get` gives one text
-one_text : (store : Store) (path : List ℕ) (most : ℕ) (a b : List ℕ) → IsGot (Some store) path most a → IsGot (Some store) path most b → a ≡ b
-one_text store path most a b p q = p.2 ∙ ap (take (most + 1)) (one_some (store path) p.0 q.0 p.1 q.1) ∙ sym q.2
+-- ---- the answer of the one job
+
+pub nothing_decides : (verdict : Verdict) → Decides Bmc (None ∷ []) verdict → ⊥
+nothing_decides PassVerdict d = let no : ◌≡◌ {A = Option Answer} None (Some Unsat) = d.1 0 None (omega arith) in cc
+nothing_decides FailVerdict d = let no : ◌≡◌ {A = Option Answer} None (Some Sat) = Contains-one None (Some Sat) d in cc
+
+pass_status : (events : List Event) (s : Status) → HasStatus (Some PassVerdict) events s → s ≡ Pass
+pass_status events Pass h = refl
+pass_status events Fail h = cc
+pass_status events Unknown h = absurd h
+pass_status events Error h = absurd h
+pass_status events Timeout h = absurd h
+pass_status events Memory h = absurd h
+
+all_one : Decides Bmc (Some Unsat ∷ []) PassVerdict
+all_one = ((λ none. cc), (λ i e lt. let first : i ≡ 0 = omega (arith, lt) in rw first refl))
+
+pub answer_gives : (answer : Answer) (verdict : Option Verdict) (events : List Event) (status : Status) → Decided Bmc (Some answer ∷ []) verdict → HasStatus verdict events status → status ≡ status_for answer
+answer_gives Sat None events status decided is = absurd (decided FailVerdict (Contains-head (Some Sat) []))
+answer_gives Sat (Some PassVerdict) events status decided is = let no : ◌≡◌ {A = Option Answer} (Some Sat) (Some Unsat) = decided.1 0 None (omega arith) in cc
+answer_gives Sat (Some FailVerdict) events status decided is = fail_status events status is
+answer_gives Unsat None events status decided is = absurd (decided PassVerdict all_one)
+answer_gives Unsat (Some PassVerdict) events status decided is = pass_status events status is
+answer_gives Unsat (Some FailVerdict) events status decided is = let no : ◌≡◌ {A = Option Answer} (Some Unsat) (Some Sat) = Contains-one (Some Unsat) (Some Sat) decided in cc
+
+-- ---- the job's file
 
 -- what was put at a path stands there
 put_stands : (path bytes : List ℕ) (store : Store) → put_at path bytes store path ≡ Some bytes
 put_stands path bytes store = let same : bytes_eq path path ≡ true = (bytes_eq-Decides path path).1 refl in rw same refl
 
-one_put_stands : (p : AskedOf) (folder : List ℕ) (store now : Store) (file : List ℕ) → ArePut p folder ((Base 0) ∷ []) (Some store) (Some now) → now (job_path folder (Base 0)) ≡ Some file → IsJobFile p (Base 0) file
-one_put_stands p folder store now file put stands =
-    let is : now ≡ put_at (job_path folder (Base 0)) put.0 store = cc in
-    let there : now (job_path folder (Base 0)) ≡ Some put.0 = ap (λ (s : Store). s (job_path folder (Base 0))) is ∙ put_stands (job_path folder (Base 0)) put.0 store in
-    subst (IsJobFile p (Base 0)) (one_some (now (job_path folder (Base 0))) put.0 file there stands) put.1
+put_one_stands : (path bytes file : List ℕ) (told : Option Store) (now : Store) → Some now ≡ option_map (put_at path bytes) told → now path ≡ Some file → bytes ≡ file
+put_one_stands path bytes file None now put stands = cc
+put_one_stands path bytes file (Some store) now put stands =
+    let is : now ≡ put_at path bytes store = cc in
+    one_some (now path) bytes file (ap (λ (s : Store). s path) is ∙ put_stands path bytes store) stands
 
-fate_is_found : OneFate → OneFile → (p : AskedOf) (folder : List ℕ) (store now : Store) (path stream file : List ℕ) (answer : Answer) (fates : List (Option Fate)) → ArePut p folder ((Base 0) ∷ []) (Some store) (Some now)
-    → now path ≡ Some stream → now (job_path folder (Base 0)) ≡ Some file → IsFate file stream most_stream (Found answer) → AreFates p now ((Base 0) ∷ []) (path ∷ []) fates
+pub one_put_stands : (p : AskedOf) (folder : List ℕ) (told : Option Store) (now : Store) (file : List ℕ) → slices_in p ≡ 1 → ArePut p folder (Base 0 ∷ []) told (Some now) → now (job_path folder 1 (Base 0)) ≡ Some file → IsJobFile p (Base 0) file
+one_put_stands p folder told now file one put stands =
+    let there : now (job_path folder (slices_in p) (Base 0)) ≡ Some file = subst (λ n. now (job_path folder n (Base 0)) ≡ Some file) (sym one) stands in
+    subst (IsJobFile p (Base 0)) (put_one_stands (job_path folder (slices_in p) (Base 0)) put.0 file told now put.2 there) put.1
+
+-- ---- the fate of the one stream
+
+fate_is_found : OneFate → OneFile → (p : AskedOf) (now : Store) (path stream file : List ℕ) (answer : Answer) (fates : List (Option Fate)) → IsJobFile p (Base 0) file
+    → now path ≡ Some stream → IsFate file stream most_stream (Found answer) → AreFates p now (Base 0 ∷ []) (path ∷ []) fates
     → AreWhole (path ∷ []) fates ⊎ IsDecided Bmc (map fate_answer fates) → fates ≡ Some (Found answer) ∷ []
-fate_is_found one_fate one_file p folder store now path stream file answer [] put has stands valid fates_are whole = absurd fates_are
-fate_is_found one_fate one_file p folder store now path stream file answer (None ∷ fates) put has stands valid fates_are whole = elim whole [
+fate_is_found one_fate one_file p now path stream file answer [] own has valid fates_are whole = absurd fates_are
+fate_is_found one_fate one_file p now path stream file answer (None ∷ fates) own has valid fates_are whole = elim whole [
   | inl all ↦ absurd all
   | inr decided ↦
       let none : fates ≡ [] = fates_are in
       absurd (nothing_decides decided.0 (subst (λ fs. Decides Bmc (None ∷ map fate_answer fs) decided.0) none decided.1))
 ]
-fate_is_found one_fate one_file p folder store now path stream file answer (Some fate ∷ fates) put has stands valid fates_are whole =
+fate_is_found one_fate one_file p now path stream file answer (Some fate ∷ fates) own has valid fates_are whole =
     let told = fates_are.0 in
     let same_stream : told.0 ≡ stream = one_some (now path) told.0 stream told.2 has in
-    let same_file : told.1 ≡ file = one_file p (Base 0) told.1 file told.3 (one_put_stands p folder store now file put stands) in
+    let same_file : told.1 ≡ file = one_file p (Base 0) told.1 file told.3 own in
     let here : IsFate file stream most_stream fate = subst (λ s. IsFate file s most_stream fate) same_stream (subst (λ f. IsFate f told.0 most_stream fate) same_file told.4) in
     let is : fate ≡ Found answer = one_fate file stream most_stream fate (Found answer) here valid in
     let none : fates ≡ [] = fates_are.1 in
     ap (λ f. Some f ∷ fates) is ∙ ap (λ fs. Some (Found answer) ∷ fs) none
 
--- the streams' fates give the status of the one certificate
-judged_gives : OneFate → OneFile → (store now : Store) (request : Request) (early : Option Early) (status : Status) (path stream file : List ℕ) (answer : Answer) → request.mode ≡ Bmc
-    → request.streams ≡ path ∷ [] → now path ≡ Some stream → now (job_path request.folder (Base 0)) ≡ Some file → IsFate file stream most_stream (Found answer)
-    → IsJudgedStatus store now request early status → status ≡ status_for answer
-judged_gives one_fate one_file store now request early status path stream file answer bmc streams has stands valid judged =
-    let p = judged.0 in
-    let jobs : jobs_in p ≡ (Base 0) ∷ [] = one_job_in p (accepted_whole (Some store) request p judged.2) (accepted_mode (Some store) request p bmc judged.2) in
-    let put : ArePut p request.folder ((Base 0) ∷ []) (Some store) (Some now) = subst (λ js. ArePut p request.folder js (Some store) (Some now)) jobs judged.4 in
-    let fates : AreFates p now ((Base 0) ∷ []) (path ∷ []) judged.1 = subst (λ js. AreFates p now js (path ∷ []) judged.1) jobs (subst (λ ps. AreFates p now (jobs_in p) ps judged.1) streams judged.5) in
-    let whole : AreWhole (path ∷ []) judged.1 ⊎ IsDecided Bmc (map fate_answer judged.1) =
-    subst (λ m. AreWhole (path ∷ []) judged.1 ⊎ IsDecided m (map fate_answer judged.1)) bmc (subst (λ ps. AreWhole ps judged.1 ⊎ IsDecided request.mode (map fate_answer judged.1)) streams judged.6) in
-    let found : judged.1 ≡ Some (Found answer) ∷ [] = fate_is_found one_fate one_file p request.folder store now path stream file answer judged.1 put has stands valid fates whole in
-    let s : IsStatusOf Bmc (map fate_answer judged.1) (map fate_event judged.1) status = subst (λ m. IsStatusOf m (map fate_answer judged.1) (map fate_event judged.1) status) bmc judged.8 in
-    answer_gives answer status (subst (λ fs. IsStatusOf Bmc (map fate_answer fs) (map fate_event fs) status) found s)
+-- the one job of bmc with its cycles whole
+one_job : (told : Option Store) (j : JudgeRequest) (p : AskedOf) → IsAccepted told (judge_task j) p → j.mode ≡ Bmc → jobs_in p ≡ Base 0 ∷ []
+one_job told j p accepted bmc =
+    ap (λ (q : ProblemOf). jobs_of_mode q.mode q.span p.design) accepted.asked ∙ ap (λ m. jobs_of_mode m (judge_task j).request.span p.design) bmc
 
--- a task that came to its lane has the verdict of its one certificate
-pub gives : OneFate → OneFile → (before after : World) (request : Request) (end : TaskEnd) (exit : Exit) (store now : Store) (path stream file : List ℕ) (answer : Answer)
-    → TaskRan before after request end exit → before.told ≡ Some store → after.told ≡ Some now → request.mode ≡ Bmc → end.early ≡ None → end.status ≢ Memory
-    → request.streams ≡ path ∷ [] → now path ≡ Some stream → now (job_path request.folder (Base 0)) ≡ Some file → IsFate file stream most_stream (Found answer) → end.status ≡ status_for answer
-gives one_fate one_file before after request end exit store now path stream file answer ran told_before told_after bmc early apart streams has stands valid = elim ran.named.status [
-  | inl is ↦
-      let came : IsOutcome request (Some store) (Some now) before.file_faults after.file_faults after.blamed None end.text end.reports.items =
-      subst (λ e. IsOutcome request (Some store) (Some now) before.file_faults after.file_faults after.blamed e end.text end.reports.items) early
-      (subst (λ t. IsOutcome request (Some store) t before.file_faults after.file_faults after.blamed end.early end.text end.reports.items) told_after
-      (subst (λ t. IsOutcome request t after.told before.file_faults after.file_faults after.blamed end.early end.text end.reports.items) told_before ran.named.cause)) in
-      let status : IsStatus request.mode None (came.0 ∷ []) end.status =
-      subst (λ rs. IsStatus request.mode None rs end.status) came.1 (subst (λ e. IsStatus request.mode e end.reports.items end.status) early is) in
-      judged_gives one_fate one_file store now request None end.status path stream file answer bmc streams has stands valid
-      (done_judged request store now end.text came.0 end.status apart status came.3)
+one_slice : (told : Option Store) (j : JudgeRequest) (p : AskedOf) → IsAccepted told (judge_task j) p → slices_in p ≡ 1
+one_slice told j p accepted = ap (λ (q : ProblemOf). slices_of q.span) accepted.asked
+
+-- a task that was judged has the verdict of its one certificate
+race_gives : OneFate → OneFile → (may_read : ℕ → Type 0) (number : ℕ) (start finish : World) (j : JudgeRequest) (end : TaskEnd) (now : Store) (d : DesignOf) (path stream file : List ℕ) (answer : Answer)
+    → (judged : IsJudgedAt may_read number start finish (judge_task j) end now) → Reads end.text d → IsRaceStatus (judge_task j).request (record { design = d; reports = end.reports.items; start = end.start }) end.status → j.mode ≡ Bmc → end.status ≢ Memory
+    → j.streams ≡ path ∷ [] → now path ≡ Some stream → now (job_path j.folder 1 (Base 0)) ≡ Some file → IsFate file stream most_stream (Found answer) → end.status ≡ status_for answer
+race_gives one_fate one_file may_read number start finish j end now d path stream file answer judged reads race bmc apart streams has stands valid =
+    let jobs = one_job (files_of start).told j judged.done.problem judged.done.served.0 bmc in
+    let put : ArePut judged.done.problem j.folder (Base 0 ∷ []) (files_of start).told (Some now) =
+    subst (λ t. ArePut judged.done.problem j.folder (Base 0 ∷ []) (files_of start).told t) judged.told (subst (λ js. ArePut judged.done.problem j.folder js (files_of start).told judged.middle.told) jobs judged.done.put) in
+    let own = one_put_stands judged.done.problem j.folder (files_of start).told now file (one_slice (files_of start).told j judged.done.problem judged.done.served.0) put stands in
+    let gives = done_gives may_read (judge_task j) (files_of start) judged.middle (race_of number start finish end.start) now end.text end.reports.items d end.start end.status j.streams refl judged.told apart reads race judged.done in
+    let fates : AreFates judged.done.problem now (Base 0 ∷ []) (path ∷ []) gives.fates =
+    subst (λ js. AreFates judged.done.problem now js (path ∷ []) gives.fates) jobs (subst (λ ps. AreFates judged.done.problem now (jobs_in judged.done.problem) ps gives.fates) streams gives.are) in
+    let whole : AreWhole (path ∷ []) gives.fates ⊎ IsDecided Bmc (map fate_answer gives.fates) =
+    subst (λ m. AreWhole (path ∷ []) gives.fates ⊎ IsDecided m (map fate_answer gives.fates)) bmc (subst (λ ps. AreWhole ps gives.fates ⊎ IsDecided j.mode (map fate_answer gives.fates)) streams gives.give.0) in
+    let found = fate_is_found one_fate one_file judged.done.problem now path stream file answer gives.fates own has valid fates whole in
+    let s : IsFateStatus Bmc (Some (Found answer) ∷ []) end.status = subst (λ fs. IsFateStatus Bmc fs end.status) found (subst (λ m. IsFateStatus m gives.fates end.status) bmc gives.give.1) in
+    answer_gives answer s.0 _ end.status s.1 s.2
+
+pub certificate_gives : OneFate → OneFile → (may_read : ℕ → Type 0) (number : ℕ) (start finish : World) (j : JudgeRequest) (end : TaskEnd) (exit : Exit) (now : Store) (path stream file : List ℕ) (answer : Answer) → TaskRan may_read number start finish (judge_task j) end exit
+    → IsJudgedAt may_read number start finish (judge_task j) end now → j.mode ≡ Bmc → end.status ≢ Memory → j.streams ≡ path ∷ [] → now path ≡ Some stream → now (job_path j.folder 1 (Base 0)) ≡ Some file
+    → IsFate file stream most_stream (Found answer) → end.status ≡ status_for answer
+certificate_gives one_fate one_file may_read number start finish j end exit now path stream file answer ran judged bmc apart streams has stands valid = elim ran.named.status [
+  | inl own ↦
+      race_gives one_fate one_file may_read number start finish j end now own.0 path stream file answer judged (own.1 judged.early)
+      (subst (λ e. IsStatus (judge_task j).request e (record { design = own.0; reports = end.reports.items; start = end.start }) end.status) judged.early own.2) bmc apart streams has stands valid
   | inr memory ↦ absurd (apart memory)
 ]
 
--- a design that isn't refused comes to its lane, where there is a job for each stream
-comes_with_jobs : (before after : World) (request : Request) (end : TaskEnd) (exit : Exit) (store now : Store) (text : List ℕ)
-    → TaskRan before after request end exit → IsSmooth before after end → before.told ≡ Some store → after.told ≡ Some now
-    → IsGot (Some store) request.design most_design text → ((fault : ProblemFault) → IsProblemFault (problem_of request text) fault → ⊥)
-    → ((p : AskedOf) → IsAccepted (Some store) request p → length request.streams ≤ length (jobs_in p)) → end.early ≡ None
-comes_with_jobs before after request end exit store now text ran smooth told_before told_after got accepted few = elim (ran.complete store now told_before told_after smooth) [
-  | inl refused ↦ absurd (accepted refused.0 (subst (λ t. IsProblemFault (problem_of request t) refused.0) (one_text store request.design most_design refused.1.0 text refused.1.1 got) refused.1.2))
+-- over a store that tells, there is the one at which a task was judged
+pub judged_at : (may_read : ℕ → Type 0) (number : ℕ) (start finish : World) (task : TaskOf) (end : TaskEnd) (exit : Exit) (store : Store) → TaskRan may_read number start finish task end exit → start.told ≡ Some store → end.early ≡ None → (now : Store) × IsJudgedAt may_read number start finish task end now
+judged_at may_read number start finish task end exit store ran told early =
+    let came = subst (λ e. IsOutcome may_read task (files_of start) (files_of finish) (race_of number start finish end.start) e end.text end.reports.items end.unput.items (WasStopped start finish end)) early ran.named.cause in
+    let now = put_told came.1.problem task.request.name (jobs_in came.1.problem) start.told came.0.told store told came.1.put in
+    (now.0, record { early = early; middle = came.0; done = came.1; traced = came.2; told = now.1 })
+
+-- ---- designs that aren't refused
+
+one_text : (store : Store) (design : DesignAt) (a b : List ℕ) → IsTextOf (Some store) design a → IsTextOf (Some store) design b → a ≡ b
+one_text store (Stored path) a b p q = p.2 ∙ ap (take (most_design + 1)) (one_some (store path) p.0 q.0 p.1 q.1) ∙ sym q.2
+one_text store (Given bytes) a b p q = p ∙ sym q
+
+served_early : (service : Service) (store : Store) (task : TaskOf) (early : Option Early) (status : Status) → IsServedStatus service store task early status → early ≡ None
+served_early (Streams paths) store task early status is = is.7
+served_early (Lanes engines) store task early status is = is.2
+
+comes_with_jobs : (may_read : ℕ → Type 0) (number : ℕ) (start finish : World) (task : TaskOf) (end : TaskEnd) (exit : Exit) (store : Store) (text : List ℕ) → TaskRan may_read number start finish task end exit → IsSmooth start finish end.status → start.told ≡ Some store
+    → IsTextOf (Some store) task.design text → ((fault : ProblemFault) → IsProblemFault (problem_of task text) fault → ⊥)
+    → ((p : AskedOf) → IsAccepted (Some store) task p → length (streams_in task.service) ≤ length (jobs_in p)) → end.early ≡ None
+comes_with_jobs may_read number start finish task end exit store text ran smooth told got accepted few = elim (ran.complete store told smooth) [
+  | inl refused ↦ absurd (accepted refused.0 (subst (λ t. IsProblemFault (problem_of task t) refused.0) (one_text store task.design refused.1.0 text refused.1.1 got) refused.1.2))
   | inr others ↦ elim others [
     | inl many ↦ let enough = few many.0 many.1 in absurd (omega (arith, enough, many.2))
-    | inr judged ↦ judged.7
+    | inr judged ↦ served_early task.service store task end.early end.status judged
   ]
 ]
 
--- in bmc there is one job
-pub comes_to_lane : (before after : World) (request : Request) (end : TaskEnd) (exit : Exit) (store now : Store) (text : List ℕ)
-    → TaskRan before after request end exit → IsSmooth before after end → before.told ≡ Some store → after.told ≡ Some now → request.mode ≡ Bmc
-    → IsGot (Some store) request.design most_design text → ((fault : ProblemFault) → IsProblemFault (problem_of request text) fault → ⊥) → length request.streams ≤ 1 → end.early ≡ None
-comes_to_lane before after request end exit store now text ran smooth told_before told_after bmc got accepted few =
-    comes_with_jobs before after request end exit store now text ran smooth told_before told_after got accepted (λ p is.
-    let one : length (jobs_in p) ≡ 1 = ap length (one_job_in p (accepted_whole (Some store) request p is) (accepted_mode (Some store) request p bmc is)) in omega (arith, one, few))
+-- a design that isn't refused comes to its lanes, where there is a job for each stream
+pub comes_to_lanes : (may_read : ℕ → Type 0) (number : ℕ) (start finish : World) (task : TaskOf) (end : TaskEnd) (exit : Exit) (store : Store) (text : List ℕ) (d : DesignOf) → TaskRan may_read number start finish task end exit → IsSmooth start finish end.status → start.told ≡ Some store
+    → IsTextOf (Some store) task.design text → ((fault : ProblemFault) → IsProblemFault (problem_of task text) fault → ⊥) → Reads text d
+    → length (streams_in task.service) ≤ length (jobs_of_mode task.request.mode task.request.span d) → end.early ≡ None
+comes_to_lanes may_read number start finish task end exit store text d ran smooth told got accepted reads few =
+    comes_with_jobs may_read number start finish task end exit store text ran smooth told got accepted (λ p is.
+    let here : Reads p.problem.text d = subst (λ t. Reads t d) (one_text store task.design text p.problem.text got is.got) reads in
+    let count = job_count (Some store) task p is in
+    let only : length (jobs_of_mode task.request.mode task.request.span d) ≡ length (jobs_of_mode task.request.mode task.request.span p.design) =
+    ap (λ x. length (jobs_of_mode task.request.mode task.request.span x)) (is.problem.only d here) in
+    omega (arith, count, only, few))
 
--- in every mode the jobs are those of the design that the text reads
-pub comes_in_every_mode : (before after : World) (request : Request) (end : TaskEnd) (exit : Exit) (store now : Store) (text : List ℕ) (d : DesignOf)
-    → TaskRan before after request end exit → IsSmooth before after end → before.told ≡ Some store → after.told ≡ Some now
-    → IsGot (Some store) request.design most_design text → ((fault : ProblemFault) → IsProblemFault (problem_of request text) fault → ⊥)
-    → Reads text d → length request.streams ≤ length (jobs_at request.mode d) → end.early ≡ None
-comes_in_every_mode before after request end exit store now text d ran smooth told_before told_after got accepted reads few =
-    comes_with_jobs before after request end exit store now text ran smooth told_before told_after got accepted (λ p is.
-    let here : Reads p.problem.text d = subst (λ t. Reads t d) (one_text store request.design most_design text p.problem.text got is.got) reads in
-    let same : length (jobs_in p) ≡ length (jobs_at request.mode p.design) = ap length (jobs_by p request.mode (accepted_whole (Some store) request p is) (ap (λ q. q.mode) is.asked)) in
-    let only : length (jobs_at request.mode d) ≡ length (jobs_at request.mode p.design) = ap (λ x. length (jobs_at request.mode x)) (is.problem.only d here) in
-    omega (arith, same, only, few))
+-- in bmc `--judge` has one job
+pub comes_in_bmc : (may_read : ℕ → Type 0) (number : ℕ) (start finish : World) (j : JudgeRequest) (end : TaskEnd) (exit : Exit) (store : Store) (text : List ℕ) → TaskRan may_read number start finish (judge_task j) end exit → IsSmooth start finish end.status → start.told ≡ Some store
+    → j.mode ≡ Bmc → IsTextOf (Some store) (judge_task j).design text → ((fault : ProblemFault) → IsProblemFault (problem_of (judge_task j) text) fault → ⊥) → length j.streams ≤ 1 → end.early ≡ None
+comes_in_bmc may_read number start finish j end exit store text ran smooth told bmc got accepted few =
+    comes_with_jobs may_read number start finish (judge_task j) end exit store text ran smooth told got accepted (λ p is.
+    let one : length (jobs_in p) ≡ 1 = ap length (one_job (Some store) j p is bmc) in omega (arith, one, few))

@@ -1,84 +1,128 @@
-use Rattle.std.proofs.Common.{◌≡◌, ℕ, ◌≤◌, List, [], ◌∷◌, refl, sym, ◌∙◌, inl, inr, ◌⊎◌}
-use Rattle.std.specs.Prelude.{bit_or, Option, Some, None}
-use Rattle.std.specs.Int.Bits.{or_zero_r}
+-- A task was run.
+use Rattle.std.proofs.Common.{◌≡◌, ℕ, ◌≤◌, List, [], sym, ◌∙◌, subst, inl, inr, ◌⊎◌}
+use Rattle.std.specs.Prelude.{Option, Some, None}
 use Rattle.judge.specs.Finding.{FindingOf}
+use Rattle.judge.specs.Problem.{AskedOf}
 use Rattle.race_core.specs.Report.{ReportOf}
-use Rattle.sby_top.specs.Askable.{IsAskable}
-use Rattle.sby_top.specs.Causes.{IsOutcome}
-use Rattle.sby_top.specs.End.{IsEnd, IsPrintedAs}
-use Rattle.sby_top.specs.Headline.{Code, Cut, Exit, NamesEvent, TaskRan}
-use Rattle.sby_edge.specs.Cause.{Rose}
-use Rattle.sby_edge.specs.Sink.{AreAll}
-use Rattle.sby_top.specs.Run.{Did, IsDoneAs, Ran, rc_of_exit}
-use Rattle.sby_top.specs.Telling.{GrownBySome, grown}
-use Rattle.sby_top.specs.Texts.{usage_line}
-use Rattle.sby_top.specs.Served.{IsStored}
-use Rattle.sby_top.specs.Words.{IsAsked, Request}
-use Rattle.sby_top.specs.World.{World}
-use Rattle.sby_top.specs.declared.outcome.Done.{Done}
-use Rattle.sby_top.specs.declared.outcome.Early.{Early}
+use Rattle.sby_terms.specs.Code.{code_of}
+use Rattle.sby_terms.specs.declared.names.Status.{Status}
+use Rattle.sby_terms.specs.declared.names.Status.TheVariants.{Memory}
+use Rattle.sby_lines.specs.Lines.{HasLines, IsStatus}
+use Rattle.sby_lines.specs.Told.{CameTo}
+use Rattle.sby_lines.specs.declared.early.Early.{Early}
+use Rattle.sby_lines.specs.declared.early.Early.TheVariants.{Memory as MemoryEarly}
+use Rattle.sby_top.specs.Causes.{AreTracesPut, HasReason, IsDone}
+use Rattle.sby_top.specs.End.{IsEnd, IsFaultTold}
+use Rattle.sby_top.specs.Headline.{AreLines, Exit, Code, Cut, HasOwnStatus, IsLater, IsPrinted, NamesEvent, TaskRan, WasStopped}
+use Rattle.sby_top.specs.Run.{IsRefusedStatus, WasRefused, refused_request}
+use Rattle.sby_top.specs.Task.{IsAskable, TaskOf}
+use Rattle.sby_top.specs.World.{FilesOf, SameYard, World, files_of, race_of}
 use Rattle.sby_top.specs.declared.outcome.TaskEnd.{TaskEnd}
+use Rattle.sby_top.proofs.EndLemmas.{no_design}
 use Rattle.sby_top.proofs.PlainLemmas.{is_complete}
-use Rattle.sby_top.proofs.TruthLemmas.{NothingBreaks, is_fail_true, is_pass_true}
+use Rattle.sby_top.proofs.ReportLemmas.{nothing_in}
+use Rattle.sby_top.proofs.TruthLemmas.{Laws, is_fail_true, is_pass_true}
 
--- what words ask is served
-pub asked_is_askable : (words : List (List ℕ)) (r : Request) → IsAsked words (Some r) → IsAskable r
-asked_is_askable words r asks = record { least = asks.judges.depth.least; most = asks.judges.depth.most }
+-- what was printed, by other lines and another status of the same kind
+pub printed_weaker : (before now : Option (List ℕ)) (f g : ℕ) (when : Option ℕ) (are other : List (List ℕ) → Type 0) (expect : List Status) (own same : Type 0) (status : Status) (exit : Exit) → ((lines : List (List ℕ)) → are lines → other lines)
+    → (own → same) → IsPrinted before now f g when are expect own status exit → IsPrinted before now f g when other expect same status exit
+printed_weaker before now f g when are other expect own same status (Code rc) lines holds h = (
+  h.0,
+  h.1,
+  (
+    h.2.0,
+    lines h.2.0 h.2.1,
+    elim h.2.2 [
+      | inl whole ↦ inl (holds whole.0, whole.1)
+      | inr part ↦ inr part
+    ],
+  ),
+)
+printed_weaker before now f g when are other expect own same status Cut lines holds h = (h.0, h.1, (h.2.0, lines h.2.0 h.2.1, holds h.2.2, h.2.3))
 
-names : (before after : World) (request : Request) (end : TaskEnd) (early : Option Early) (text : List ℕ) (reports : List (ReportOf FindingOf)) → IsEnd request early text reports end
-    → IsOutcome request before.told after.told before.file_faults after.file_faults after.blamed early text reports → NamesEvent before after request end
-names before after request end early text reports made came = record {
-  name = made.name;
-  status = rw (made.early_is, made.reports_are) made.status;
-  cause = rw (made.early_is, made.text_is, made.reports_are) came;
-  start = made.start;
-  unput = made.unput;
+-- ---- a fault before the lanes
+
+pub fault_status : (task : TaskOf) (end : TaskEnd) (early : Early) → end.early ≡ Some early → ((c : CameTo) → IsStatus task.request (Some early) c end.status) → HasOwnStatus task end
+fault_status task end early is holds = (
+  no_design,
+  (λ none. let no : Some early ≡ None = sym is ∙ none in cc),
+  subst (λ e. IsStatus task.request e (record { design = no_design; reports = end.reports.items; start = end.start }) end.status) (sym is) (holds _),
+)
+
+fault_lines : (task : TaskOf) (end : TaskEnd) (early : Early) (lines : List (List ℕ)) → IsEnd task.request.name (Some early) [] [] None end → end.unput.items ≡ [] → HasLines task.request [] (Some early) [] None [] lines → AreLines task end lines
+fault_lines task end early lines is unput has = rw (is.text_is, is.early_is, is.reports_are, is.start_is, unput) has
+
+pub fault_printed : (task : TaskOf) (end : TaskEnd) (early : Early) (before now : Option (List ℕ)) (f g : ℕ) (when : Option ℕ) (exit : Exit) → IsEnd task.request.name (Some early) [] [] None end → end.unput.items ≡ []
+    → IsFaultTold task.request early before now f g when end.status exit → IsPrinted before now f g when (AreLines task end) task.request.expect (HasOwnStatus task end) end.status exit
+fault_printed task end early before now f g when exit is unput told =
+    printed_weaker before now f g when _ (AreLines task end) task.request.expect _ (HasOwnStatus task end) end.status exit (λ lines has. fault_lines task end early lines is unput has) (fault_status task end early is.early_is) told.printed
+
+own_or : (task : TaskOf) (end : TaskEnd) (early : Early) → end.early ≡ Some early → (((c : CameTo) → IsStatus task.request (Some early) c end.status) ⊎ (end.status ≡ Memory)) → HasOwnStatus task end ⊎ (end.status ≡ Memory)
+own_or task end early is (inl holds) = inl (fault_status task end early is holds)
+own_or task end early is (inr memory) = inr memory
+
+pub fault_named : (may_read : ℕ → Type 0) (number : ℕ) (before after : World) (task : TaskOf) (end : TaskEnd) (early : Early) (told now : Option (List ℕ)) (f g : ℕ) (when : Option ℕ) (exit : Exit) → IsEnd task.request.name (Some early) [] [] None end → end.unput.items ≡ []
+    → IsFaultTold task.request early told now f g when end.status exit → HasReason task (files_of before) (files_of after) early
+    → (after.children ≡ before.children) ⊎ (early ≡ MemoryEarly) → NamesEvent may_read number before after task end
+fault_named may_read number before after task end early told now f g when exit is unput was reason spared = record {
+  name = is.name_is;
+  status = own_or task end early is.early_is was.own;
+  cause = rw is.early_is (is.text_is, is.reports_are, unput, reason, (is.start_is, spared));
 }
 
--- a task that came to this, and whose lines were printed, was run
-pub task_ran : NothingBreaks → (before after : World) (request : Request) (end : TaskEnd) (rc : ℕ) (early : Option Early) (text : List ℕ) (reports : List (ReportOf FindingOf)) → IsAskable request → IsEnd request early text reports end
-    → IsOutcome request before.told after.told before.file_faults after.file_faults after.blamed early text reports → IsPrintedAs before.taken after.taken before.sink_faults after.sink_faults after.ended request end rc
-    → IsStored request before.told after.told → before.file_faults ≤ after.file_faults → before.sink_faults ≤ after.sink_faults
-    → (exit : Exit) × TaskRan before after request end exit × (rc ≡ rc_of_exit exit)
-task_ran law before after request end rc early text reports askable made came printed stored files sink =
-    let named = names before after request end early text reports made came in (
-      printed.0,
-      record {
-        pass = is_pass_true law before after request end askable named;
-        fail = is_fail_true before after request end named;
-        named = named;
-        printed = printed.1;
-        stored = stored;
-        complete = is_complete before after request end named;
-        later = record { files = files; sink = sink };
-      },
-      printed.2,
-    )
+-- ---- a task that was served
 
-one_ran : (before after : World) (request : Request) (end : TaskEnd) (exit : Exit) → TaskRan before after request end exit → (total : Exit) × Ran before (request ∷ []) (end ∷ []) after total × (rc_of_exit exit ≡ rc_of_exit total)
-one_ran before after request end (Code rc) ran = (Code (bit_or rc 0), inr (after, rc, Code 0, ran, (refl, refl), refl), sym (or_zero_r rc))
-one_ran before after request end Cut ran = (Cut, inl (ran, refl, refl), refl)
+pub served_named : (may_read : ℕ → Type 0) (number : ℕ) (before after : World) (start : Option ℕ) (task : TaskOf) (end : TaskEnd) (p : AskedOf) (text : List ℕ) (reports : List (ReportOf FindingOf)) (middle : FilesOf) (done : IsDone may_read task (files_of before) middle (race_of number before after start) text reports)
+    → done.problem ≡ p → IsEnd task.request.name None text reports start end → AreTracesPut task middle (files_of after) p reports end.unput.items (WasStopped before after end)
+    → HasOwnStatus task end ⊎ (end.status ≡ Memory) → NamesEvent may_read number before after task end
+served_named may_read number before after start task end p text reports middle done same is put status = record {
+  name = is.name_is;
+  status = status;
+  cause = rw (is.early_is, is.text_is, is.reports_are, is.start_is) (middle, done, rw same put);
+}
 
--- the one task was run
-pub done_as : (before after : World) (request : Request) (end : TaskEnd) (done : Done) (rc : ℕ) → ((exit : Exit) × TaskRan before after request end exit × (rc ≡ rc_of_exit exit)) → done.rc ≡ rc
-    → done.ends.items ≡ end ∷ [] → IsDoneAs before after done (Some request)
-done_as before after request end done rc ran is ends =
-    let one = one_ran before after request end ran.0 ran.1 in
-    (one.0, rw ends one.1, is ∙ ran.2 ∙ one.2)
+-- a task that came to this end was run
+pub task_ran : Laws → (may_read : ℕ → Type 0) (number : ℕ) (before after : World) (task : TaskOf) (end : TaskEnd) (exit : Exit) → IsAskable task → NamesEvent may_read number before after task end
+    → IsPrinted before.taken after.taken before.sink_faults after.sink_faults after.ended (AreLines task end) task.request.expect (HasOwnStatus task end) end.status exit
+    → IsLater before after → TaskRan may_read number before after task end exit
+task_ran laws may_read number before after task end exit askable named printed later = record {
+  pass = is_pass_true laws may_read number before after task end askable named;
+  fail = is_fail_true laws may_read number before after task end askable named;
+  named = named;
+  printed = printed;
+  complete = is_complete may_read number before after task end named;
+  later = later;
+}
 
--- memory was wanting even for the end
-pub no_end : (before after : World) (request : Request) (done : Done) → after ≡ before → done.rc ≡ 32 → done.ends.items ≡ [] → IsDoneAs before after done (Some request)
-no_end before after request done same is ends = (Code 32, rw ends (same, refl), is)
+no_end : CameTo
+no_end = record { design = no_design; reports = []; start = None }
 
--- refused words gave the usage line
-pub usage_alone : (before after : World) (words : List (List ℕ)) (done : Done) → IsAsked words None → done.rc ≡ 16 → done.ends.items ≡ [] → after.told ≡ before.told → after.file_faults ≡ before.file_faults
-    → before.sink_faults ≤ after.sink_faults → (((after.sink_faults ≡ before.sink_faults) × (after.taken ≡ grown before.taken usage_line)) ⊎ (Rose before.sink_faults after.sink_faults × AreAll after.ended after.taken × GrownBySome before.taken after.taken usage_line)) → Did before after words done
-usage_alone before after words done refused rc ends files faults later line = inl (None, refused, record { rc = rc; ends = ends; files = files; file_faults = faults; sink = later; line = line })
+some_status : (name : List ℕ) (early : Early) (status : Status) → (((c : CameTo) → IsStatus (refused_request name) (Some early) c status) ⊎ (status ≡ Memory)) → IsRefusedStatus name early status ⊎ (status ≡ Memory)
+some_status name early status (inl holds) = inl (no_end, holds no_end)
+some_status name early status (inr memory) = inr memory
 
--- the words' task was run
-pub words_done : (before after : World) (words : List (List ℕ)) (request : Request) (done : Done) → IsAsked words (Some request) → IsDoneAs before after done (Some request) → Did before after words done
-words_done before after words request done asks run = inl (Some request, asks, run)
+-- where nothing is expected, the number is the status's own
+refused_code : (before now : Option (List ℕ)) (f g : ℕ) (when : Option ℕ) (are : List (List ℕ) → Type 0) (own : Type 0) (status : Status) (exit : Exit) → IsPrinted before now f g when are [] own status exit
+    → (rc : ℕ) → exit ≡ Code rc → rc ≡ code_of status
+refused_code before now f g when are own status (Code n) printed rc is =
+    let same : n ≡ rc = cc in sym same ∙ printed.1.unexpected (λ among. nothing_in status among)
+refused_code before now f g when are own status Cut printed rc is = cc
 
--- memory was wanting for the words
-pub nothing_done : (before after : World) (words : List (List ℕ)) (done : Done) → done.rc ≡ 32 → done.ends.items ≡ [] → after ≡ before → Did before after words done
-nothing_done before after words done rc ends same = inr (record { rc = rc; ends = ends; same = same })
+-- only a fault was told
+pub fault_refused : (before after : World) (name : List ℕ) (early : Early) (end : TaskEnd) (exit : Exit) → IsEnd name (Some early) [] [] None end → end.unput.items ≡ []
+    → IsFaultTold (refused_request name) early before.taken after.taken before.sink_faults after.sink_faults after.ended end.status exit → files_of after ≡ files_of before → SameYard before after → before.sink_faults ≤ after.sink_faults
+    → WasRefused before after name early end exit
+fault_refused before after name early end exit is unput told files yard later = record {
+  name_is = is.name_is;
+  early_is = is.early_is;
+  reports = is.reports_are;
+  unput = unput;
+  text = is.text_is;
+  start = is.start_is;
+  status = some_status name early end.status told.own;
+  code = refused_code before.taken after.taken before.sink_faults after.sink_faults after.ended _ _ end.status exit told.printed;
+  printed = printed_weaker before.taken after.taken before.sink_faults after.sink_faults after.ended _ _ [] _ (IsRefusedStatus name early end.status) end.status exit (λ lines has. has) (λ holds. (no_end, holds no_end)) told.printed;
+  files = files;
+  yard = yard;
+  later = later;
+}

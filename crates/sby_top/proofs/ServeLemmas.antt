@@ -1,116 +1,36 @@
-use Rattle.std.proofs.Common.{◌≡◌, ℕ, ◌+◌, ◌≤◌, List, [], ◌∷◌, refl, ap, sym, ◌∙◌, subst, inl, inr, length, take, arith}
-use Rattle.std.specs.Prelude.{Option, Some, None, IfSome, Contains, map, option_map, replicate, slice_get}
+-- What came of a task's files.
+use Rattle.std.proofs.Common.{◌≡◌, ℕ, ◌+◌, ◌≤◌, List, refl, ap, sym, ◌∙◌, subst, inl, inr, length, take, arith}
+use Rattle.std.specs.Prelude.{Option, Some, None, Contains, map, option_map, slice_get, string_bytes}
 use Rattle.std.specs.Borrow.{Bor}
 use Rattle.std.specs.Slice.{IsItemAt}
 use Rattle.std.proofs.lemmas.Option.{slice_get-get_or, slice_get-map, slice_get_past}
 use Rattle.design_core.proofs.Lists.{Contains-from_place}
 use Rattle.std.proofs.lemmas.List.{take_all}
-use Rattle.sby_edge.specs.Cause.{Rose}
-use Rattle.sby_edge.specs.Files.{Store, GotAt, GotFits, GotFrom, GotOf}
-use Rattle.sby_edge.specs.declared.outside.Got.{Got}
-use Rattle.sby_edge.specs.declared.outside.Got.TheVariants.{All as Whole, Long}
-use Rattle.judge.specs.Jobs.{jobs_in as jobs_of_mode}
+use Rattle.sby_edge.specs.Files.{Store}
 use Rattle.judge.specs.Problem.{AskedOf, IsProblem}
-use Rattle.sby_terms.specs.Span.{whole}
 use Rattle.sby_terms.specs.declared.names.JobName.{JobName}
-use Rattle.sby_terms.specs.declared.names.JobName.TheVariants.{Base}
-use Rattle.sby_terms.specs.declared.names.Mode.TheVariants.{Bmc}
 use Rattle.judge.specs.Finding.{FindingOf}
-use Rattle.race_core.specs.Report.{ReportOf, no_events}
 use Rattle.race_core.specs.declared.end.JobEnd.{JobEnd}
-use Rattle.sby_top.specs.Causes.{HasReason, IsDone}
-use Rattle.sby_top.specs.Steps.{got_items, IsFailedCall, IsPathJudged, IsPutFailed, IsRefusal, IsStreamGot, IsStreamJudged}
-use Rattle.sby_top.specs.Judged.{AreJudged, EndsWithRun, Has, IsFateEnd, IsReport}
-use Rattle.sby_top.specs.Served.{ArePut, IsAccepted, IsGot, IsServed, IsStored, IsWhole, jobs_in, most_design, most_stream, problem_of}
-use Rattle.sby_top.specs.Words.{Request}
-use Rattle.sby_top.specs.declared.outcome.Early.{Early}
-use Rattle.sby_top.specs.declared.outcome.Early.TheVariants.{File, Read, Design, TooMany, Streams, Memory}
+use Rattle.sby_terms.specs.Path.{job_path}
+use Rattle.sby_lines.specs.declared.early.Early.{Early}
+use Rattle.sby_lines.specs.declared.early.Early.TheVariants.{File, Sby, Task, Read, Design, TooMany, Streams, Memory}
+use Rattle.sby_top.specs.Causes.{HasReason, IsHalted}
+use Rattle.sby_top.specs.Steps.{files_at, IsCutShort, IsFailedCall, IsPathJudged, IsPutFailed, IsRefusal, IsStreamGot, IsStreamJudged, IsTextFailed}
+use Rattle.sby_top.specs.Judged.{EndsWithRun, Has, IsFateEnd}
+use Rattle.sby_top.specs.Served.{ArePut, IsAccepted, IsGot, IsServed, IsTextOf, jobs_in, most_stream, slices_in}
+use Rattle.sby_top.specs.Task.{Stored, TaskOf, problem_of, streams_in}
+use Rattle.sby_top.specs.World.{FilesOf, IsFailedAt}
 
-got_of : (content : List ℕ) (most : ℕ) (got : Got) → GotOf content most got → got_items got ≡ take (most + 1) content
-got_of content most (Whole v) h = h.0 ∙ sym (take_all (most + 1) content (omega (arith, h.1)))
-got_of content most (Long v) h = h.0
-
-got_at : (o : Option (List ℕ)) (most : ℕ) (got : Got) → GotAt o most got → (content : List ℕ) × (o ≡ Some content) × (got_items got ≡ take (most + 1) content)
-got_at None most got h = absurd h
-got_at (Some content) most got h = (content, refl, got_of content most got h)
-
--- what a call of `get` gave
-pub got_from : (told : Option Store) (path : List ℕ) (most : ℕ) (got : Got) → GotFits most got → GotFrom told path most got → IsGot told path most (got_items got)
-got_from None path most (Whole v) fits h = omega (arith, fits)
-got_from None path most (Long v) fits h = omega (arith, fits)
-got_from (Some store) path most got fits h = got_at (store path) most got h
-
--- the jobs of bmc
-pub one_job_in : (p : AskedOf) → IsWhole p → p.problem.mode ≡ Bmc → jobs_in p ≡ (Base 0) ∷ []
-one_job_in p one is = ap (λ s. jobs_of_mode p.problem.mode s p.design) one ∙ ap (λ m. jobs_of_mode m (whole p.problem.span.depth) p.design) is
-
--- an accepted problem looks at all cycles below its depth
-pub accepted_whole : (told : Option Store) (request : Request) (p : AskedOf) → IsAccepted told request p → IsWhole p
-accepted_whole told request p a = let same : p.problem.span ≡ whole request.depth = ap (λ q. q.span) a.asked in rw same refl
-
-pub accepted_mode : (told : Option Store) (request : Request) (p : AskedOf) → request.mode ≡ Bmc → IsAccepted told request p → p.problem.mode ≡ Bmc
-accepted_mode told request p mode a = ap (λ q. q.mode) a.asked ∙ mode
+-- ---- what is got
 
 -- a problem of the text that was got is accepted
-pub is_accepted : (told : Option Store) (request : Request) (text : List ℕ) (p : AskedOf) → IsGot told request.design most_design text → p.problem ≡ problem_of request text → IsProblem p
-    → IsAccepted told request p
-is_accepted told request text p got is problem = let t : p.problem.text ≡ text = ap (λ q. q.text) is in record {
+pub is_accepted : (told : Option Store) (task : TaskOf) (text : List ℕ) (p : AskedOf) → IsTextOf told task.design text → p.problem ≡ problem_of task text → IsProblem p
+    → IsAccepted told task p
+is_accepted told task text p got is problem = let t : p.problem.text ≡ text = ap (λ q. q.text) is in record {
   got = rw t got;
-  asked = is ∙ ap (problem_of request) (sym t);
+  asked = is ∙ ap (problem_of task) (sym t);
   problem = problem;
 }
-
--- the path of a failed call, by the text that names it
-blamed_at : (b : Option (List ℕ)) (name path : List ℕ) → name ≡ path → IfSome b (λ at. at ≡ path) → IfSome b (λ at. at ≡ name)
-blamed_at None name path is h = tt
-blamed_at (Some at) name path is h = h ∙ sym is
-
--- a call failed at this path
-pub call_failed : (b : Option (List ℕ)) (f g : ℕ) (path : List ℕ) (early : Early) → IsFailedCall 0 1 None path early → Rose f g → IfSome b (λ at. at ≡ path) → IsFailedCall f g b path early
-call_failed b f g path (File p) h rose at = (h.0, rose, at)
-call_failed b f g path Memory h rose at = tt
-call_failed b f g path (Read x) h rose at = absurd h
-call_failed b f g path (Design x) h rose at = absurd h
-call_failed b f g path (TooMany job) h rose at = absurd h
-call_failed b f g path Streams h rose at = absurd h
-
--- the design couldn't be got
-pub design_not_got : (b : Option (List ℕ)) (request : Request) (before after : Option Store) (f g : ℕ) (early : Early) → IsFailedCall f g b request.design early → after ≡ before → HasReason request before after f g b early
-design_not_got b request before after f g (File p) h same = (h.1, blamed_at _ _ _ h.0 h.2, inl (h.0, same))
-design_not_got b request before after f g Memory h same = tt
-design_not_got b request before after f g (Read x) h same = absurd h
-design_not_got b request before after f g (Design x) h same = absurd h
-design_not_got b request before after f g (TooMany job) h same = absurd h
-design_not_got b request before after f g Streams h same = absurd h
-
--- the text that was got is refused
-pub text_refused : (b : Option (List ℕ)) (request : Request) (before after : Option Store) (f g : ℕ) (early : Early) (text : List ℕ) → IsGot before request.design most_design text → IsRefusal (problem_of request text) early
-    → after ≡ before → g ≡ f → HasReason request before after f g b early
-text_refused b request before after f g (Read x) text got h same still = ((text, got, h), same, still)
-text_refused b request before after f g (Design x) text got h same still = ((text, got, h), same, still)
-text_refused b request before after f g (TooMany job) text got h same still = ((text, got, h), same, still)
-text_refused b request before after f g Memory text got h same still = tt
-text_refused b request before after f g (File p) text got h same still = absurd h
-text_refused b request before after f g Streams text got h same still = absurd h
-
--- a stream couldn't be got
-pub stream_not_got : (b : Option (List ℕ)) (request : Request) (before after : Option Store) (f g : ℕ) (early : Early) (p : AskedOf) (path : List ℕ) → IsServed before request p
-    → Contains request.streams path → IsFailedCall f g b path early → ArePut p request.folder (jobs_in p) before after → HasReason request before after f g b early
-stream_not_got b request before after f g (File q) p path served among h put = (h.1, blamed_at _ _ _ h.0 h.2, inr (inr (p, served, subst (Contains request.streams) (sym h.0) among, put)))
-stream_not_got b request before after f g Memory p path served among h put = tt
-stream_not_got b request before after f g (Read x) p path served among h put = absurd h
-stream_not_got b request before after f g (Design x) p path served among h put = absurd h
-stream_not_got b request before after f g (TooMany job) p path served among h put = absurd h
-stream_not_got b request before after f g Streams p path served among h put = absurd h
-
--- a call that failed still has its cause where the count rose before it or behind it
-pub failed_since : (b : Option (List ℕ)) (f g h : ℕ) (path : List ℕ) (early : Early) → f ≤ g → IsFailedCall g h b path early → IsFailedCall f h b path early
-failed_since b f g h path (File p) le failed = (failed.0, omega (arith, failed.1), failed.2)
-failed_since b f g h path Memory le failed = tt
-failed_since b f g h path (Read x) le failed = absurd failed
-failed_since b f g h path (Design x) le failed = absurd failed
-failed_since b f g h path (TooMany job) le failed = absurd failed
-failed_since b f g h path Streams le failed = absurd failed
 
 -- a fact of the content of a path that was got
 pub has_from : (told : Option Store) (path bytes : List ℕ) (P : List ℕ → Type 0) → IsGot told path most_stream bytes → ((content : List ℕ) → bytes ≡ take (most_stream + 1) content → P content) → Has told path P
@@ -139,76 +59,118 @@ path_judged p told job (Some path) (Some bytes) end got judged = record {
 path_judged p told job None (Some bytes) end got judged = absurd got
 path_judged p told job (Some path) None end got judged = absurd got
 
--- the file of a job couldn't be put
-file_not_put : (b : Option (List ℕ)) (request : Request) (before after : Option Store) (f g : ℕ) (early : Early) (p : AskedOf) → IsServed before request p
-    → IsPutFailed p request.folder before after f g b early → HasReason request before after f g b early
-file_not_put b request before after f g (File path) p served h =
-    (h.failed.1, blamed_at _ _ _ h.failed.0 h.failed.2, inr (inl (p, h.place, h.job, served, h.at, h.failed.0, h.put)))
-file_not_put b request before after f g Memory p served h = tt
-file_not_put b request before after f g (Read x) p served h = absurd h.failed
-file_not_put b request before after f g (Design x) p served h = absurd h.failed
-file_not_put b request before after f g (TooMany job) p served h = absurd h.failed
-file_not_put b request before after f g Streams p served h = absurd h.failed
+-- ---- failed calls
 
-pub no_file : (b : Option (List ℕ)) (request : Request) (before after : Option Store) (f g : ℕ) (early : Early) (p : AskedOf) (folder : List ℕ) → IsServed before request p
-    → folder ≡ request.folder → IsPutFailed p folder before after f g b early → HasReason request before after f g b early
-no_file b request before after f g early p folder served folder_is failed =
-    file_not_put b request before after f g early p served (subst (λ x. IsPutFailed p x before after f g b early) folder_is failed)
+-- the files told, their faults and the path that is blamed are all that is seen of them
+pub same_files : (t u : Option Store) (f g : ℕ) (b c : Option (List ℕ)) → u ≡ t → g ≡ f → c ≡ b → files_at u g c ≡ files_at t f b
+same_files t u f g b c told faults blamed = rw (told, faults, blamed) refl
 
--- the files of some jobs were put
-pub some_stored : (b : Option (List ℕ)) (request : Request) (before after : Option Store) (f g : ℕ) (early : Early) (p : AskedOf) (folder : List ℕ) → IsServed before request p
-    → folder ≡ request.folder → IsPutFailed p folder before after f g b early → IsStored request before after
-some_stored b request before after f g early p folder served folder_is failed =
-    inr (p, failed.place, served, subst (λ x. ArePut p x (take failed.place (jobs_in p)) before after) folder_is failed.put)
+-- a call that failed is one since an earlier moment, with the files as they are told behind it
+pub failed_since : (b m a : FilesOf) (path : List ℕ) (early : Early) → b.faults ≤ m.faults → IsFailedCall m a path early → IsFailedCall (record b { told = a.told }) a path early
+failed_since b m a path (File p) le h = (h.0, record { rose = omega (arith, le, h.1.rose); blamed = h.1.blamed; same = refl })
+failed_since b m a path Memory le h = (omega (arith, le, h.0), refl)
+failed_since b m a path (Sby x) le h = absurd h
+failed_since b m a path (Task x) le h = absurd h
+failed_since b m a path (Read x) le h = absurd h
+failed_since b m a path (Design x) le h = absurd h
+failed_since b m a path (TooMany job) le h = absurd h
+failed_since b m a path Streams le h = absurd h
 
--- those of all jobs
-pub all_stored : (request : Request) (before mid after : Option Store) (p : AskedOf) (folder : List ℕ) → IsServed before request p → folder ≡ request.folder → ArePut p folder (jobs_in p) before mid
-    → after ≡ mid → IsStored request before after
-all_stored request before mid after p folder served folder_is put same =
-    inr (
-      p,
-      length (jobs_in p),
-      served,
-      subst (λ js. ArePut p request.folder js before after) (sym (take_all (length (jobs_in p)) (jobs_in p) (omega arith)))
-          (subst (λ t. ArePut p request.folder (jobs_in p) before t) (sym same) (subst (λ x. ArePut p x (jobs_in p) before mid) folder_is put)),
-    )
+-- with the path that an early fault names
+named_at : (b a : FilesOf) (name path : List ℕ) → name ≡ path → IsFailedAt b a path → IsFailedAt b a name
+named_at b a name path is h = subst (λ x. IsFailedAt b a x) (sym is) h
 
--- the stream of a job couldn't be got
-pub no_stream : (b : Option (List ℕ)) (request : Request) (before mid after : Option Store) (f g h : ℕ) (early : Early) (p : AskedOf) (folder : List ℕ) (paths : List (List ℕ)) → IsServed before request p
-    → folder ≡ request.folder → paths ≡ request.streams → ArePut p folder (jobs_in p) before mid → after ≡ mid → f ≤ g
-    → ((path : List ℕ) × Contains paths path × IsFailedCall g h b path early) → HasReason request before after f h b early
-no_stream b request before mid after f g h early p folder paths served folder_is paths_are put same later failed =
-    stream_not_got _ request before after f h early p failed.0 served (subst (λ ps. Contains ps failed.0) paths_are failed.1) (failed_since _ f g h failed.0 early later failed.2)
-    (subst (λ t. ArePut p request.folder (jobs_in p) before t) (sym same) (subst (λ x. ArePut p x (jobs_in p) before mid) folder_is put))
+-- ---- reasons
 
--- an empty report of so many jobs
-abbrev pub empty_report : ℕ → ReportOf FindingOf
-empty_report jobs = record { lane = 0; jobs = jobs; ends = []; events = replicate jobs no_events }
+-- memory was wanting when all files were put
+pub all_halted : (task : TaskOf) (before after : Option Store) (p : AskedOf) → IsServed before task p → ArePut p task.request.name (jobs_in p) before after → IsHalted task before after
+all_halted task before after p served put =
+    inr (p, length (jobs_in p), served, subst (λ js. ArePut p task.request.name js before after) (sym (take_all (length (jobs_in p)) (jobs_in p) (omega arith))) put)
 
-is_report : (p : AskedOf) (told : Option Store) (paths : List (List ℕ)) (report old : ReportOf FindingOf) → old ≡ empty_report (length (jobs_in p)) → report ≡ record old { ends = report.ends }
-    → AreJudged p told (jobs_in p) paths report.ends → IsReport p told paths report
-is_report p told paths report old empty is judged =
-    let all : report ≡ record (empty_report (length (jobs_in p))) { ends = report.ends } = is ∙ ap {A = ReportOf FindingOf} (λ r. record r { ends = report.ends }) empty in
-    record {
-      lane = ap (λ (r : ReportOf FindingOf). r.lane) all;
-      jobs = ap (λ (r : ReportOf FindingOf). r.jobs) all;
-      events = ap (λ (r : ReportOf FindingOf). r.events) all;
-      ends = judged;
-    }
+path_not_got : (task : TaskOf) (before after : FilesOf) (path : List ℕ) (early : Early) → task.design ≡ Stored path → IsFailedCall before after path early → HasReason task before after early
+path_not_got task before after path (File p) at h =
+    (record { rose = h.1.rose; blamed = (named_at before after (string_bytes p) path h.0 h.1).blamed; same = refl }, inl (at ∙ ap Stored (sym h.0), h.1.same))
+path_not_got task before after path Memory at h = inl h.1
+path_not_got task before after path (Sby x) at h = absurd h
+path_not_got task before after path (Task x) at h = absurd h
+path_not_got task before after path (Read x) at h = absurd h
+path_not_got task before after path (Design x) at h = absurd h
+path_not_got task before after path (TooMany job) at h = absurd h
+path_not_got task before after path Streams at h = absurd h
 
--- the jobs were done
-pub is_done : (request : Request) (before mid after : Option Store) (p : AskedOf) (text folder : List ℕ) (paths : List (List ℕ)) (report old : ReportOf FindingOf)
-    → IsServed before request p → text ≡ p.problem.text → folder ≡ request.folder → paths ≡ request.streams → ArePut p folder (jobs_in p) before mid → after ≡ mid
-    → AreJudged p mid (jobs_in p) paths report.ends → old ≡ empty_report (length (jobs_in p)) → report ≡ record old { ends = report.ends } → IsDone request before after text report
-is_done request before mid after p text folder paths report old served is folder_is paths_are put same judged empty is_report_of = (
-  p,
-  served,
-  is,
-  subst (λ t. ArePut p request.folder (jobs_in p) before t) (sym same) (subst (λ x. ArePut p x (jobs_in p) before mid) folder_is put),
-  is_report p after request.streams report old empty is_report_of
-      (subst (λ t. AreJudged p t (jobs_in p) request.streams report.ends) (sym same) (subst (λ ps. AreJudged p mid (jobs_in p) ps report.ends) paths_are judged)),
-)
+-- the design couldn't be got
+pub design_not_got : (task : TaskOf) (before after : FilesOf) (early : Early) → IsTextFailed task.design before after early → HasReason task before after early
+design_not_got task before after early (inl h) = path_not_got task before after h.0 early h.1 h.2
+design_not_got task before after early (inr is) = subst (HasReason task before after) (sym is.0) (inl is.1)
 
--- a reason since a later moment is one since an earlier one with the same count
-pub reason_since : (b : Option (List ℕ)) (request : Request) (before after : Option Store) (f g h : ℕ) (early : Early) → g ≡ f → HasReason request before after g h b early → HasReason request before after f h b early
-reason_since b request before after f g h early same reason = subst (λ x. HasReason request before after x h b early) same reason
+-- the text that was got is refused
+pub text_refused : (task : TaskOf) (before after : FilesOf) (early : Early) (text : List ℕ) → IsTextOf before.told task.design text → IsRefusal (problem_of task text) early
+    → after ≡ before → HasReason task before after early
+text_refused task before after (Read x) text got h same = ((text, got, h), same)
+text_refused task before after (Design x) text got h same = ((text, got, h), same)
+text_refused task before after (TooMany job) text got h same = ((text, got, h), same)
+text_refused task before after Memory text got h same = inl (ap (λ (f : FilesOf). f.told) same)
+text_refused task before after (File p) text got h same = absurd h
+text_refused task before after (Sby x) text got h same = absurd h
+text_refused task before after (Task x) text got h same = absurd h
+text_refused task before after Streams text got h same = absurd h
+
+file_not_put : (task : TaskOf) (before after : FilesOf) (early : Early) (p : AskedOf) → IsServed before.told task p
+    → IsPutFailed p task.request.name before after early → HasReason task before after early
+file_not_put task before after (File path) p served h =
+    (named_at _ after (string_bytes path) _ h.failed.0 h.failed.1, inr (inl (p, h.place, h.job, served, h.at, h.failed.0, h.put)))
+file_not_put task before after Memory p served h = inr (p, h.place, served, h.put)
+file_not_put task before after (Sby x) p served h = absurd h.failed
+file_not_put task before after (Task x) p served h = absurd h.failed
+file_not_put task before after (Read x) p served h = absurd h.failed
+file_not_put task before after (Design x) p served h = absurd h.failed
+file_not_put task before after (TooMany job) p served h = absurd h.failed
+file_not_put task before after Streams p served h = absurd h.failed
+
+stream_not_got : (task : TaskOf) (before after : FilesOf) (early : Early) (p : AskedOf) (path : List ℕ) → IsServed before.told task p
+    → ArePut p task.request.name (jobs_in p) before.told after.told → Contains (streams_in task.service) path → IsFailedCall (record before { told = after.told }) after path early
+    → HasReason task before after early
+stream_not_got task before after (File q) p path served put among h =
+    (named_at _ after (string_bytes q) path h.0 h.1, inr (inr (p, served, subst (Contains (streams_in task.service)) (sym h.0) among, put)))
+stream_not_got task before after Memory p path served put among h = all_halted task before.told after.told p served put
+stream_not_got task before after (Sby x) p path served put among h = absurd h
+stream_not_got task before after (Task x) p path served put among h = absurd h
+stream_not_got task before after (Read x) p path served put among h = absurd h
+stream_not_got task before after (Design x) p path served put among h = absurd h
+stream_not_got task before after (TooMany job) p path served put among h = absurd h
+stream_not_got task before after Streams p path served put among h = absurd h
+
+-- the jobs of an accepted design were cut short
+pub cut_short : (task : TaskOf) (before after : FilesOf) (early : Early) (p : AskedOf) → IsServed before.told task p
+    → IsCutShort p task.request.name (streams_in task.service) before after early → HasReason task before after early
+cut_short task before after early p served (inl h) = subst (HasReason task before after) (sym h.0) (inl (ap (λ (f : FilesOf). f.told) h.1))
+cut_short task before after early p served (inr (inl h)) = file_not_put task before after early p served h
+cut_short task before after early p served (inr (inr (put, inl h))) = stream_not_got task before after early p h.0 served put h.1 h.2
+cut_short task before after early p served (inr (inr (put, inr memory))) = subst (HasReason task before after) (sym memory) (all_halted task before.told after.told p served put)
+
+-- ---- what was put
+
+-- the call for the file of a job failed
+pub put_failed : (p : AskedOf) (folder : List ℕ) (slices place : ℕ) (t0 tm ta : Option Store) (f0 fm fa : ℕ) (b0 bm ba : Option (List ℕ)) (job : JobName) (early : Early) → slices ≡ slices_in p
+    → slice_get (jobs_in p) place ≡ Some job → ArePut p folder (take place (jobs_in p)) t0 tm → ta ≡ tm → fm ≡ f0 → IsFailedCall (files_at tm fm bm) (files_at ta fa ba) (job_path folder slices job) early
+    → IsPutFailed p folder (files_at t0 f0 b0) (files_at ta fa ba) early
+put_failed p folder slices place t0 tm ta f0 fm fa b0 bm ba job early count at put same still failed = record {
+  place = place;
+  job = job;
+  at = at;
+  put = subst (ArePut p folder (take place (jobs_in p)) t0) (sym same) put;
+  failed = failed_since (files_at t0 f0 b0) (files_at tm fm bm) (files_at ta fa ba) (job_path folder (slices_in p) job) early (omega (arith, still))
+      (subst (λ n. IsFailedCall (files_at tm fm bm) (files_at ta fa ba) (job_path folder n job) early) count failed);
+}
+
+-- the jobs were cut short, since a moment at which the files were the same
+pub short_since : (task : TaskOf) (p : AskedOf) (t0 t1 ta : Option Store) (f0 f1 fa : ℕ) (b0 b1 ba : Option (List ℕ)) (early : Early) → IsServed t0 task p → t1 ≡ t0 → f1 ≡ f0 → b1 ≡ b0
+    → IsCutShort p task.request.name (streams_in task.service) (files_at t1 f1 b1) (files_at ta fa ba) early
+    → HasReason task (files_at t0 f0 b0) (files_at ta fa ba) early
+short_since task p t0 t1 ta f0 f1 fa b0 b1 ba early served told faults blamed short =
+    let own = subst (λ b. IsCutShort p task.request.name (streams_in task.service) b (files_at ta fa ba) early) (same_files t0 t1 f0 f1 b0 b1 told faults blamed) short in
+    cut_short task (files_at t0 f0 b0) (files_at ta fa ba) early p served own
+
+-- the files of all jobs were put, since then
+pub all_since : (task : TaskOf) (p : AskedOf) (t0 t1 ta : Option Store) → t1 ≡ t0 → ArePut p task.request.name (jobs_in p) t1 ta → ArePut p task.request.name (jobs_in p) t0 ta
+all_since task p t0 t1 ta told put = subst (λ t. ArePut p task.request.name (jobs_in p) t ta) told put

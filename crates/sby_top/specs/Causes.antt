@@ -1,49 +1,75 @@
 -- What a task came to, and why.
-use Rattle.std.specs.Prelude.{◌≡◌, ◌⊎◌, ℕ, ◌<◌, List, [], ◌∷◌, length, take, string_bytes, Option, Some, None, IfSome, slice_get, Contains}
-use Rattle.sby_edge.specs.Cause.{Rose}
+use Rattle.std.specs.Prelude.{◌≡◌, ◌⊎◌, ℕ, ◌<◌, List, [], length, take, string_bytes, Option, Some, None, slice_get, Contains}
 use Rattle.sby_edge.specs.Files.{Store}
 use Rattle.judge.specs.Finding.{FindingOf}
 use Rattle.judge.specs.Problem.{AskedOf}
 use Rattle.judge.specs.declared.problem.ProblemFault.TheVariants.{Read as ReadFault, Design as DesignFault, TooMany as TooManyFault}
 use Rattle.race_core.specs.Report.{ReportOf}
 use Rattle.sby_terms.specs.declared.names.JobName.{JobName}
-use Rattle.sby_top.specs.Judged.{IsReport}
-use Rattle.sby_top.specs.Served.{ArePut, IsAccepted, IsRefused, IsServed, jobs_in}
-use Rattle.sby_top.specs.Texts.{job_path}
-use Rattle.sby_top.specs.Words.{Request}
-use Rattle.sby_top.specs.declared.outcome.Early.{Early}
-use Rattle.sby_top.specs.declared.outcome.Early.TheVariants.{File, Read, Design, TooMany, Streams, Memory}
+use Rattle.sby_terms.specs.Path.{job_path}
+use Rattle.sby_lines.specs.declared.early.Early.{Early}
+use Rattle.sby_lines.specs.declared.early.Early.TheVariants.{File, Sby, Task, Read, Design, TooMany, Streams, Memory}
+use Rattle.sby_top.specs.Judged.{AreReports}
+use Rattle.sby_top.specs.Served.{ArePut, IsAccepted, IsRefused, IsServed, jobs_in, slices_in}
+use Rattle.sby_top.specs.Task.{Stored, TaskOf, streams_in}
+use Rattle.sby_top.specs.Traces.{ArePutTraces, AreTraces, TraceOf}
+use Rattle.sby_top.specs.World.{FilesOf, IsFailedAt, RaceOf}
 
--- A file call failed at this path: of the design, before anything was put; of a job's file, when those before it were put; or of a
--- stream, when all were.
-abbrev pub IsFailedPath : Request → Option Store → Option Store → List ℕ → Type 0
-IsFailedPath request before after path =
-    ((path ≡ request.design) × (after ≡ before))
-    ⊎ ((p : AskedOf) × (i : ℕ) × (job : JobName) × IsServed before request p × (slice_get (jobs_in p) i ≡ Some job) × (path ≡ job_path request.folder job)
-    × ArePut p request.folder (take i (jobs_in p)) before after)
-    ⊎ ((p : AskedOf) × IsServed before request p × Contains request.streams path × ArePut p request.folder (jobs_in p) before after)
+-- A file call of a task failed at this path: of its design, before anything was put; of a job's file, when those before it were put; or
+-- of a stream, when all were.
+abbrev pub IsFailedPath : TaskOf → Option Store → Option Store → List ℕ → Type 0
+IsFailedPath task before after path =
+    ((task.design ≡ Stored path) × (after ≡ before))
+    ⊎ ((p : AskedOf) × (i : ℕ) × (job : JobName) × IsServed before task p × (slice_get (jobs_in p) i ≡ Some job)
+    × (path ≡ job_path task.request.name (slices_in p) job) × ArePut p task.request.name (take i (jobs_in p)) before after)
+    ⊎ ((p : AskedOf) × IsServed before task p × Contains (streams_in task.service) path × ArePut p task.request.name (jobs_in p) before after)
 
--- Why a task ended before its lanes: a file call failed, the last that did so at this path, which is one of the task's, and the count
--- of faults rose; the design's text is
--- refused so; or it is accepted, with more streams than jobs. These two put no file, and no call failed. Want of memory is free.
-abbrev pub HasReason : Request → Option Store → Option Store → ℕ → ℕ → Option (List ℕ) → Early → Type 0
-HasReason request before after faults_before faults blamed (File path) =
-    Rose faults_before faults × IfSome blamed (λ at. at ≡ string_bytes path) × IsFailedPath request before after (string_bytes path)
-HasReason request before after faults_before faults blamed (Read f) = IsRefused before request (ReadFault f) × (after ≡ before) × (faults ≡ faults_before)
-HasReason request before after faults_before faults blamed (Design f) = IsRefused before request (DesignFault f) × (after ≡ before) × (faults ≡ faults_before)
-HasReason request before after faults_before faults blamed (TooMany job) = IsRefused before request (TooManyFault job) × (after ≡ before) × (faults ≡ faults_before)
-HasReason request before after faults_before faults blamed Streams =
-    ((p : AskedOf) × IsAccepted before request p × (length (jobs_in p) < length request.streams)) × (after ≡ before) × (faults ≡ faults_before)
-HasReason request before after faults_before faults blamed Memory = Unit {0}
+-- what was put when memory was wanting: nothing; or the files of the first jobs of the accepted design, in their order
+abbrev pub IsHalted : TaskOf → Option Store → Option Store → Type 0
+IsHalted task before after =
+    (after ≡ before) ⊎ ((p : AskedOf) × (i : ℕ) × IsServed before task p × ArePut p task.request.name (take i (jobs_in p)) before after)
 
--- the design was accepted, with this text; each job's file was put, and each stream judged
-abbrev pub IsDone : Request → Option Store → Option Store → List ℕ → ReportOf FindingOf → Type 0
-IsDone request before after text report =
-    (p : AskedOf) × IsServed before request p × (text ≡ p.problem.text) × ArePut p request.folder (jobs_in p) before after × IsReport p after request.streams report
+-- Why a task ended before its lanes: a file call failed, at this path, which is one of the task's; the design's text is refused so; or it
+-- is accepted, with more streams than jobs. These two put no file, and no call failed. A task that is run has a sound task file. Want of
+-- memory may come at any time, and leaves the files as they were put so far.
+abbrev pub HasReason : TaskOf → FilesOf → FilesOf → Early → Type 0
+HasReason task before after (File path) =
+    IsFailedAt (record before { told = after.told }) after (string_bytes path) × IsFailedPath task before.told after.told (string_bytes path)
+HasReason task before after (Sby fault) = ⊥
+HasReason task before after (Task fault) = ⊥
+HasReason task before after (Read f) = IsRefused before.told task (ReadFault f) × (after ≡ before)
+HasReason task before after (Design f) = IsRefused before.told task (DesignFault f) × (after ≡ before)
+HasReason task before after (TooMany job) = IsRefused before.told task (TooManyFault job) × (after ≡ before)
+HasReason task before after Streams =
+    ((p : AskedOf) × IsAccepted before.told task p × (length (jobs_in p) < length (streams_in task.service))) × (after ≡ before)
+HasReason task before after Memory = IsHalted task before.told after.told
 
--- a task ended before its lanes, for a reason; or it was done, with one report, and no file call failed
-abbrev pub IsOutcome : Request → Option Store → Option Store → ℕ → ℕ → Option (List ℕ) → Option Early → List ℕ → List (ReportOf FindingOf) → Type 0
-IsOutcome request before after faults_before faults blamed (Some early) text reports =
-    (text ≡ []) × (reports ≡ []) × HasReason request before after faults_before faults blamed early
-IsOutcome request before after faults_before faults blamed None text reports =
-    (report : ReportOf FindingOf) × (reports ≡ report ∷ []) × (faults ≡ faults_before) × IsDone request before after text report
+-- The design was accepted, with this text; each job's file was put, and the reports are those of the jobs.
+pub record IsDone (may_read : ℕ → Type 0) (task : TaskOf) (before after : FilesOf) (race : RaceOf) (text : List ℕ) (reports : List (ReportOf FindingOf)) : Type 0 where
+  pub problem : AskedOf
+  pub served : IsServed before.told task problem
+  pub text_is : text ≡ problem.problem.text
+  pub put : ArePut problem task.request.name (jobs_in problem) before.told after.told
+  pub reports_are : AreReports task.service may_read task problem after.told race reports
+  pub faults : after.faults ≡ before.faults
+  pub blamed : after.blamed ≡ before.blamed
+
+-- The trace files of the first runs shown were put behind all this, of all of them where nothing stopped that.
+pub record AreTracesPut (task : TaskOf) (before after : FilesOf) (problem : AskedOf) (reports : List (ReportOf FindingOf)) (unput : List ℕ) (stopped : Type 0) : Type 0 where
+  pub traces : List TraceOf
+  pub count : ℕ
+  pub are_traces : (count ≡ 0) ⊎ AreTraces task.request (record { design = problem.design; reports = reports; start = None }) traces
+  pub put : ArePutTraces task.request problem.design (take count traces) before after unput
+  pub whole : stopped ⊎ (AreTraces task.request (record { design = problem.design; reports = reports; start = None }) traces × (take count traces ≡ traces))
+
+-- no child ran; or memory was wanting behind the lanes
+abbrev pub AreSpared : RaceOf → Early → Type 0
+AreSpared race early = (race.start ≡ None) × ((race.after ≡ race.before) ⊎ (early ≡ Memory))
+
+-- A task ended before its lanes, for a reason; or it was done, and its trace files were put, all of them unless this was stopped: by
+-- want of memory, or by a failed call of the sink.
+abbrev pub IsOutcome : (ℕ → Type 0) → TaskOf → FilesOf → FilesOf → RaceOf → Option Early → List ℕ → List (ReportOf FindingOf) → List ℕ → Type 0 → Type 0
+IsOutcome may_read task before after race (Some early) text reports unput stopped =
+    (text ≡ []) × (reports ≡ []) × (unput ≡ []) × HasReason task before after early × AreSpared race early
+IsOutcome may_read task before after race None text reports unput stopped =
+    (middle : FilesOf) × (done : IsDone may_read task before middle race text reports) × AreTracesPut task middle after done.problem reports unput stopped

@@ -1,52 +1,112 @@
 -- What is claimed of a call, task by task.
-use Rattle.std.specs.Prelude.{◌≡◌, ◌⊎◌, ℕ, ◌<◌, ◌≤◌, List, [], ◌∷◌, length, slice_get, Some, None, Contains}
+use Rattle.std.specs.Prelude.{◌≡◌, ◌⊎◌, ℕ, ◌+◌, ◌<◌, ◌≤◌, List, [], ◌∷◌, length, slice_get, take, Option, Some, None, Contains}
 use Rattle.std.specs.List.{concat}
-use Rattle.sby_edge.specs.Cause.{Rose}
+use Rattle.sby_edge.specs.Cause.{CountsOf, Rose}
+use Rattle.sby_edge.specs.Files.{Store}
 use Rattle.design_meaning.specs.Claims.{NoReach, ReachRun, Shows}
 use Rattle.design_meaning.specs.Meaning.{asserts, covers}
 use Rattle.design_meaning.specs.Runs.{CycleOf, IsRunOf, valuations}
 use Rattle.design_core.specs.Shape.{CellOf, DesignOf}
 use Rattle.judge.specs.Finding.{FindingOf}
+use Rattle.judge.specs.Problem.{AskedOf}
+use Rattle.race_core.specs.Asking.{name_at}
+use Rattle.race_core.specs.Consistent.{end_at}
 use Rattle.race_core.specs.Report.{ReportOf}
 use Rattle.race_core.specs.declared.end.JobEnd.{JobEnd}
 use Rattle.race_core.specs.declared.end.JobEnd.TheVariants.{Found, Unknown as UnknownEnd, NotServed, Bad, ReadFailed, StartFailed, HoldFailed, Skipped, CalledOff, Stopped, Memory as MemoryEnd}
 use Rattle.design_check.specs.Faults.{IsFlat}
 use Rattle.design_reader.specs.Grammar.{Reads}
+use Rattle.sby_terms.specs.declared.names.Answer.{Answer}
+use Rattle.sby_terms.specs.declared.names.Answer.TheVariants.{Sat, Unsat}
+use Rattle.sby_terms.specs.declared.names.JobName.TheVariants.{Base, Cover as CoverJob}
 use Rattle.sby_terms.specs.declared.names.Status.{Status}
 use Rattle.sby_terms.specs.declared.names.Status.TheVariants.{Pass, Fail, Unknown, Error, Timeout, Memory}
-use Rattle.sby_top.specs.Broken.{IsFirstBroken, last_of}
-use Rattle.sby_top.specs.Reached.{unreached_line}
-use Rattle.sby_top.specs.Causes.{HasReason, IsDone}
-use Rattle.sby_top.specs.Headline.{AreLines, ArePrintedOf, Exit, IsCarried, IsReachCarried, IsReachPrinted, TaskRan}
-use Rattle.sby_top.specs.Run.{rc_of_exit}
-use Rattle.sby_top.specs.Served.{IsGot, most_design}
-use Rattle.sby_top.specs.Telling.{GrownBySome, grown}
-use Rattle.sby_top.specs.Words.{Asks, Request}
-use Rattle.sby_top.specs.World.{World}
+use Rattle.sby_lines.specs.Broken.{IsFirstBroken, last_of}
+use Rattle.sby_lines.specs.Reached.{unreached_line}
+use Rattle.sby_lines.specs.Telling.{GrownBySome, grown}
+use Rattle.sby_lines.specs.Told.{AreAnswers}
+use Rattle.sby_lines.specs.declared.early.Early.{Early}
+use Rattle.sby_words.specs.Requests.{Request as Asked}
+use Rattle.sby_words.specs.Words.{IsAsked}
+use Rattle.sby_top.specs.Causes.{AreTracesPut, HasReason, IsDone, IsOutcome}
+use Rattle.sby_top.specs.Headline.{AreLines, ArePrintedOf, Exit, Code, IsCarried, IsReachPrinted, WasStopped}
+use Rattle.sby_top.specs.Run.{SameSink, TurnRan}
+use Rattle.sby_top.specs.Served.{ArePut, IsServed, IsTextOf, jobs_in}
+use Rattle.sby_top.specs.Judged.{racing_of}
+use Rattle.sby_top.specs.Task.{Lanes, Service, Streams, TaskOf}
+use Rattle.sby_top.specs.Turns.{HasTurns, Run, Turn}
+use Rattle.sby_top.specs.Traces.{TraceOf, with_trace}
+use Rattle.sby_top.specs.World.{FilesOf, RaceOf, World, files_of, race_of}
+use Rattle.task_race.specs.Ends.{HasEndCause, IsLimitShown}
 use Rattle.sby_top.specs.declared.outcome.Done.{Done}
-use Rattle.sby_top.specs.declared.outcome.Early.{Early}
 use Rattle.sby_top.specs.declared.outcome.TaskEnd.{TaskEnd}
 
--- a task of a call: the words ask it, it ran from one moment to another, and this is its end; so far a call has one
-pub record IsTaskOf (before after : World) (words : List (List ℕ)) (done : Done) (start finish : World) (request : Request) (end : TaskEnd) : Type 0 where
-  pub asked : Asks words request
-  pub only : done.ends.items ≡ end ∷ []
-  pub begins : start ≡ before
-  pub ends : finish ≡ after
-  pub exit : Exit
-  pub ran : TaskRan start finish request end exit
-  pub rc : done.rc ≡ rc_of_exit exit
+-- turns, numbered from this one on, were had, one after the other, from one moment to another
+abbrev pub RanUpto : (ℕ → Type 0) → ℕ → World → List Turn → List TaskEnd → World → Type 0
+RanUpto may_read number before [] [] now = now ≡ before
+RanUpto may_read number before [] (end ∷ ends) now = ⊥
+RanUpto may_read number before (turn ∷ turns) [] now = ⊥
+RanUpto may_read number before (turn ∷ turns) (end ∷ ends) now =
+    (middle : World) × (rc : ℕ) × TurnRan may_read number before middle turn end (Code rc) × RanUpto may_read (number + 1) middle turns ends now
 
--- the text that the design's path gave, as the task began, reads this flat design
-pub record IsDesignOf (start : World) (request : Request) (d : DesignOf) : Type 0 where
+-- A turn of a call: the words ask it; it was had from one moment, at which those before it were done, to another; and this is its end,
+-- which stands at its place. The place is its number, from 0 on.
+pub record IsHad (may_read : ℕ → Type 0) (before : World) (words : List (List ℕ)) (done : Done) (start finish : World) (turn : Turn) (end : TaskEnd) : Type 0 where
+  pub asked : Asked
+  pub asks : IsAsked words (Some asked)
+  pub begun : World
+  pub same_sink : SameSink before begun
+  pub turns : List Turn
+  pub has_turns : HasTurns (files_of before) (files_of begun) asked turns
+  pub place : ℕ
+  pub turn_is : slice_get turns place ≡ Some turn
+  pub end_is : slice_get done.ends.items place ≡ Some end
+  pub earlier : RanUpto may_read 0 begun (take place turns) (take place done.ends.items) start
+  pub exit : Exit
+  pub ran : TurnRan may_read place start finish turn end exit
+
+-- a task of a call, and its end
+abbrev pub IsTaskOf : (ℕ → Type 0) → World → List (List ℕ) → Done → World → World → TaskOf → TaskEnd → Type 0
+IsTaskOf may_read before words done start finish task end = IsHad may_read before words done start finish (Run task) end
+
+-- trace files of these runs were put, one after the other
+abbrev pub AreStored : TaskOf → DesignOf → List TraceOf → Option Store → Option Store → Type 0
+AreStored task d [] before after = after ≡ before
+AreStored task d (t ∷ traces) before after = AreStored task d traces (with_trace task.request d t before) after
+
+-- files were put: of the first jobs of the problem, before anything else of the task; then trace files, behind them
+pub record AreFilesPut (task : TaskOf) (before after : Option Store) : Type 0 where
+  pub problem : AskedOf
+  pub jobs : ℕ
+  pub traces : List TraceOf
+  pub middle : Option Store
+  pub served : IsServed before task problem
+  pub put : ArePut problem task.request.name (take jobs (jobs_in problem)) before middle
+  pub traced : AreStored task problem.design traces middle after
+
+-- No file changed; or every file that did is a job's or a trace file.
+abbrev pub IsStored : TaskOf → Option Store → Option Store → Type 0
+IsStored task before after = (after ≡ before) ⊎ AreFilesPut task before after
+
+-- The task was judged when the store was this one: the jobs' files were put, and trace files are put behind them.
+pub record IsJudgedAt (may_read : ℕ → Type 0) (number : ℕ) (start finish : World) (task : TaskOf) (end : TaskEnd) (now : Store) : Type 0 where
+  pub early : end.early ≡ None
+  pub middle : FilesOf
+  pub done : IsDone may_read task (files_of start) middle (race_of number start finish end.start) end.text end.reports.items
+  pub traced : AreTracesPut task middle (files_of finish) done.problem end.reports.items end.unput.items (WasStopped start finish end)
+  pub told : middle.told ≡ Some now
+
+-- the design's text, as it was got when the task began, or as the task file has it, reads this flat design
+pub record IsDesignOf (start : World) (task : TaskOf) (d : DesignOf) : Type 0 where
   pub text : List ℕ
-  pub got : IsGot start.told request.design most_design text
+  pub got : IsTextOf start.told task.design text
   pub reads : Reads text d
   pub flat : IsFlat d
 
--- a run of at most n cycles, all assumed, whose last breaks this assertion, the first in the file of those that it breaks
-pub record BreaksIn (d : DesignOf) (n : ℕ) (run : List CycleOf) (assertion : ℕ) (cell : CellOf) : Type 0 where
+-- a run of more than k and at most n cycles, all assumed, whose last breaks this assertion, the first in the file of those that it breaks
+pub record BreaksIn (d : DesignOf) (k n : ℕ) (run : List CycleOf) (assertion : ℕ) (cell : CellOf) : Type 0 where
   pub rows : IsRunOf d run
+  pub behind : k < length run
   pub within : length run ≤ n
   pub shows : Shows d (length run) (valuations d run) assertion
   pub first : IsFirstBroken d (last_of d run) assertion
@@ -59,17 +119,18 @@ HasPrinted start finish lines =
     ⊎ (Rose start.sink_faults finish.sink_faults × GrownBySome start.taken finish.taken (concat lines))
 
 -- the design and its run that breaks an assertion, and that they were printed
-pub record IsShownBreak (start finish : World) (request : Request) (end : TaskEnd) : Type 0 where
+pub record IsShownBreak (start finish : World) (task : TaskOf) (end : TaskEnd) : Type 0 where
   pub design : DesignOf
-  pub is_design : IsDesignOf start request design
+  pub is_design : IsDesignOf start task design
   pub run : List CycleOf
   pub assertion : ℕ
   pub cell : CellOf
-  pub carried : IsCarried request.mode design end.reports.items run
-  pub breaks : BreaksIn design request.depth run assertion cell
+  pub slice : ℕ
+  pub carried : IsCarried end.reports.items (Base slice) run
+  pub breaks : BreaksIn design task.request.span.skip task.request.span.depth run assertion cell
   pub lines : List (List ℕ)
-  pub are_lines : AreLines request end lines
-  pub shown : ArePrintedOf design request.folder cell run lines
+  pub are_lines : AreLines task end lines
+  pub shown : ArePrintedOf design task.request.name cell run lines
   pub printed : HasPrinted start finish lines
 
 -- a run of at most n cycles, all assumed, whose last reaches cover statement k, and the statement's cell
@@ -80,34 +141,39 @@ pub record ReachesIn (d : DesignOf) (n : ℕ) (run : List CycleOf) (k : ℕ) (ce
   pub is_cell : slice_get (covers d) k ≡ Some cell
 
 -- a run that reaches cover statement k, which the report carries and these lines show
-pub record IsReachIn (request : Request) (end : TaskEnd) (d : DesignOf) (lines : List (List ℕ)) (k : ℕ) : Type 0 where
+pub record IsReachIn (task : TaskOf) (end : TaskEnd) (d : DesignOf) (lines : List (List ℕ)) (k : ℕ) : Type 0 where
   pub run : List CycleOf
   pub cell : CellOf
-  pub carried : IsReachCarried d end.reports.items k run
-  pub reaches : ReachesIn d request.depth run k cell
-  pub shown : IsReachPrinted d request.folder cell run lines
+  pub carried : IsCarried end.reports.items (CoverJob k) run
+  pub reaches : ReachesIn d task.request.span.depth run k cell
+  pub shown : IsReachPrinted d task.request.name cell run lines
 
 -- the design, for each of its cover statements a run that reaches it, and that these were printed
-pub record AreShownReaches (start finish : World) (request : Request) (end : TaskEnd) : Type 0 where
+pub record AreShownReaches (start finish : World) (task : TaskOf) (end : TaskEnd) : Type 0 where
   pub design : DesignOf
-  pub is_design : IsDesignOf start request design
+  pub is_design : IsDesignOf start task design
   pub lines : List (List ℕ)
-  pub are_lines : AreLines request end lines
-  pub each : (k : ℕ) → k < length (covers design) → IsReachIn request end design lines k
+  pub are_lines : AreLines task end lines
+  pub each : (k : ℕ) → k < length (covers design) → IsReachIn task end design lines k
   pub printed : HasPrinted start finish lines
 
 -- the design and a cover statement that no run of at most so many cycles reaches, and that it was named
-pub record IsNamedUnreached (start finish : World) (request : Request) (end : TaskEnd) : Type 0 where
+pub record IsNamedUnreached (start finish : World) (task : TaskOf) (end : TaskEnd) : Type 0 where
   pub design : DesignOf
-  pub is_design : IsDesignOf start request design
+  pub is_design : IsDesignOf start task design
   pub statement : ℕ
   pub cell : CellOf
   pub is_cell : slice_get (covers design) statement ≡ Some cell
-  pub unreached : NoReach design request.depth statement
+  pub unreached : NoReach design task.request.span.depth statement
   pub lines : List (List ℕ)
-  pub are_lines : AreLines request end lines
-  pub named : Contains lines (unreached_line request.folder cell)
+  pub are_lines : AreLines task end lines
+  pub named : Contains lines (unreached_line task.request.name cell)
   pub printed : HasPrinted start finish lines
+
+-- the status of a task of bmc with one job, by the job's answer
+abbrev pub status_for : Answer → Status
+status_for Sat = Fail
+status_for Unsat = Pass
 
 -- an end that tells no fault and no want of memory
 abbrev pub IsQuietEnd : JobEnd FindingOf → Type 0
@@ -123,23 +189,88 @@ IsQuietEnd (CalledOff f) = Unit {0}
 IsQuietEnd (Stopped reading) = ⊥
 IsQuietEnd MemoryEnd = ⊥
 
--- a stream that is no certificate
+-- a stream that is no certificate, or a call that failed
 abbrev pub IsFaultyEnd : JobEnd FindingOf → Type 0
-IsFaultyEnd end = (number : ℕ) × (at : ℕ) × (end ≡ Bad number at)
+IsFaultyEnd (Bad number at) = Unit {0}
+IsFaultyEnd ReadFailed = Unit {0}
+IsFaultyEnd StartFailed = Unit {0}
+IsFaultyEnd HoldFailed = Unit {0}
+IsFaultyEnd (Found f) = ⊥
+IsFaultyEnd UnknownEnd = ⊥
+IsFaultyEnd NotServed = ⊥
+IsFaultyEnd (Skipped f) = ⊥
+IsFaultyEnd (CalledOff f) = ⊥
+IsFaultyEnd (Stopped reading) = ⊥
+IsFaultyEnd MemoryEnd = ⊥
 
--- the task was judged, with one report, and no file call failed
-abbrev pub WasJudged : World → World → Request → TaskEnd → ReportOf FindingOf → Type 0
-WasJudged start finish request end report =
-    (end.early ≡ None) × (end.reports.items ≡ report ∷ []) × (finish.file_faults ≡ start.file_faults) × IsDone request start.told finish.told end.text report
+-- a job with a stored stream has no child: no call for one failed, and nothing stopped it
+abbrev pub IsStoredEnd : JobEnd FindingOf → Type 0
+IsStoredEnd (Found f) = Unit {0}
+IsStoredEnd UnknownEnd = Unit {0}
+IsStoredEnd NotServed = Unit {0}
+IsStoredEnd (Bad number at) = Unit {0}
+IsStoredEnd MemoryEnd = Unit {0}
+IsStoredEnd ReadFailed = ⊥
+IsStoredEnd StartFailed = ⊥
+IsStoredEnd HoldFailed = ⊥
+IsStoredEnd (Skipped f) = ⊥
+IsStoredEnd (CalledOff f) = ⊥
+IsStoredEnd (Stopped reading) = ⊥
 
--- the event that a status other than PASS and FAIL names; of want of memory nothing is said, and no clock is read yet
-abbrev pub IsEvent : World → World → Request → TaskEnd → Status → Type 0
-IsEvent start finish request end Pass = Unit {0}
-IsEvent start finish request end Fail = Unit {0}
-IsEvent start finish request end Memory = Unit {0}
-IsEvent start finish request end Timeout = ⊥
-IsEvent start finish request end Unknown =
-    (report : ReportOf FindingOf) × WasJudged start finish request end report × ((e : JobEnd FindingOf) → Contains report.ends e → IsQuietEnd e)
-IsEvent start finish request end Error =
-    ((early : Early) × (end.early ≡ Some early) × HasReason request start.told finish.told start.file_faults finish.file_faults finish.blamed early)
-    ⊎ ((report : ReportOf FindingOf) × WasJudged start finish request end report × ((e : JobEnd FindingOf) × Contains report.ends e × IsFaultyEnd e))
+-- The task was judged: its files were put, and these are its reports; each call that failed was for a trace file.
+pub record WasJudged (may_read : ℕ → Type 0) (number : ℕ) (start finish : World) (task : TaskOf) (end : TaskEnd) : Type 0 where
+  pub early : end.early ≡ None
+  pub outcome : IsOutcome may_read task (files_of start) (files_of finish) (race_of number start finish end.start) None end.text end.reports.items end.unput.items (WasStopped start finish end)
+  pub design : DesignOf
+  pub reads : Reads end.text design
+  pub answers : List (Option Answer)
+  pub are_answers : AreAnswers task.request (record { design = design; reports = end.reports.items; start = end.start }) answers
+
+-- the end of an unsettled job, by its place, in the report of a lane
+pub record IsUnsettledEnd (reports : List (ReportOf FindingOf)) (answers : List (Option Answer)) (lane place : ℕ) (e : JobEnd FindingOf) : Type 0 where
+  pub report : ReportOf FindingOf
+  pub at : slice_get reports lane ≡ Some report
+  pub unsettled : slice_get answers place ≡ Some None
+  pub end_is : end_at report place ≡ e
+
+-- Why the job at a place ended so, by what serves the jobs: by its stored stream; or, in a lane, by its child, a call for it that failed,
+-- or the limit.
+abbrev pub IsCausedEnd : Service → (ℕ → Type 0) → TaskOf → AskedOf → RaceOf → ℕ → ℕ → JobEnd FindingOf → Type 0
+IsCausedEnd (Streams paths) may_read task p race lane place e = IsStoredEnd e
+IsCausedEnd (Lanes engines) may_read task p race lane place e =
+    HasEndCause (racing_of task p race.task engines) may_read race.scripts race.before race.after race.start lane (name_at task.request.mode place) e
+
+-- an end of an unsettled job of a task that was judged, with its cause
+pub record IsOpenEnd (may_read : ℕ → Type 0) (number : ℕ) (start finish : World) (task : TaskOf) (end : TaskEnd) (p : AskedOf) (answers : List (Option Answer)) (e : JobEnd FindingOf) : Type 0 where
+  pub lane : ℕ
+  pub place : ℕ
+  pub is_end : IsUnsettledEnd end.reports.items answers lane place e
+  pub caused : IsCausedEnd task.service may_read task p (race_of number start finish end.start) lane place e
+
+-- The event that a status other than PASS and FAIL names: UNKNOWN that each end of an unsettled job is quiet, with the cause of each;
+-- TIMEOUT a reading that shows the limit; ERROR a fault before the lanes, or the faulty end of an unsettled job, with its cause. Of want
+-- of memory nothing is said.
+abbrev pub IsEvent : (ℕ → Type 0) → ℕ → World → World → TaskOf → TaskEnd → Status → Type 0
+IsEvent may_read number start finish task end Pass = Unit {0}
+IsEvent may_read number start finish task end Fail = Unit {0}
+IsEvent may_read number start finish task end Memory = Unit {0}
+IsEvent may_read number start finish task end Timeout =
+    (judged : WasJudged may_read number start finish task end) × ((t : ℕ) × IsOpenEnd may_read number start finish task end judged.outcome.1.problem judged.answers (Stopped t))
+IsEvent may_read number start finish task end Unknown =
+    (judged : WasJudged may_read number start finish task end) × ((lane place : ℕ) (e : JobEnd FindingOf) → IsUnsettledEnd end.reports.items judged.answers lane place e
+    → IsQuietEnd e × IsCausedEnd task.service may_read task judged.outcome.1.problem (race_of number start finish end.start) lane place e)
+IsEvent may_read number start finish task end Error =
+    ((early : Early) × (end.early ≡ Some early) × HasReason task (files_of start) (files_of finish) early)
+    ⊎ ((judged : WasJudged may_read number start finish task end)
+    × ((e : JobEnd FindingOf) × IsOpenEnd may_read number start finish task end judged.outcome.1.problem judged.answers e × IsFaultyEnd e))
+
+-- a call for a child failed: a start, a read, or one for a running child
+abbrev pub HasFailedCall : CountsOf → CountsOf → Type 0
+HasFailedCall before now = Rose before.starts now.starts ⊎ Rose before.reads now.reads ⊎ Rose before.holds now.holds
+
+-- The status is this one; or memory was wanting; or it is TIMEOUT, and a reading shows the limit; or ERROR, and a call for a child failed.
+abbrev pub IsInTime : (ℕ → Type 0) → World → World → TaskOf → TaskEnd → Status → Type 0
+IsInTime may_read start finish task end status =
+    (end.status ≡ status) ⊎ (end.status ≡ Memory)
+    ⊎ ((end.status ≡ Timeout) × ((t : ℕ) × IsLimitShown may_read task.request.limit end.start t))
+    ⊎ ((end.status ≡ Error) × HasFailedCall start.children finish.children)

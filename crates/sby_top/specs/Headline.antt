@@ -9,7 +9,9 @@ use Rattle.judge.specs.Finding.{FindingOf}
 use Rattle.judge.specs.Problem.{AskedOf, IsJobFile}
 use Rattle.judge.specs.declared.problem.ProblemFault.{ProblemFault}
 use Rattle.judge.specs.declared.problem.ProblemFault.TheVariants.{Read as ReadFault, Design as DesignFault, TooMany as TooManyFault}
+use Rattle.race_core.specs.Collect.{SettledIn}
 use Rattle.race_core.specs.Report.{ReportOf}
+use Rattle.race_core.specs.Told.{Decided}
 use Rattle.design_meaning.specs.Claims.{NeverBreak, NoBreak, NoReach, ReachRun, Shows}
 use Rattle.design_check.specs.Faults.{IsFlat}
 use Rattle.design_meaning.specs.Meaning.{asserts, covers}
@@ -18,60 +20,62 @@ use Rattle.design_core.specs.Shape.{CellOf, DesignOf}
 use Rattle.design_reader.specs.Grammar.{Reads}
 use Rattle.sby_terms.specs.Code.{HasCode}
 use Rattle.sby_terms.specs.Decide.{Decides}
+use Rattle.sby_terms.specs.Status.{HasStatus}
 use Rattle.sby_terms.specs.declared.names.Answer.{Answer}
 use Rattle.sby_terms.specs.declared.names.Event.{Event}
 use Rattle.sby_terms.specs.declared.names.Event.TheVariants.{Quiet, Fault}
 use Rattle.sby_terms.specs.declared.names.JobName.{JobName}
+use Rattle.sby_terms.specs.declared.names.JobName.TheVariants.{Base, Cover as CoverJob}
 use Rattle.sby_terms.specs.declared.names.Mode.{Mode}
 use Rattle.sby_terms.specs.declared.names.Mode.TheVariants.{Bmc, Prove, Cover}
 use Rattle.sby_terms.specs.declared.names.Status.{Status}
 use Rattle.sby_terms.specs.declared.names.Status.TheVariants.{Pass, Fail, Error, Memory}
 use Rattle.sby_terms.specs.declared.names.Verdict.{Verdict}
-use Rattle.sby_top.specs.Broken.{AreLinesOf, CarriesRun, IsFirstBroken, broken_line, last_of}
-use Rattle.sby_top.specs.Reached.{CarriesReach, reached_line, unreached_line}
+use Rattle.sby_lines.specs.Broken.{AreLinesOf, IsFirstBroken, broken_line, last_of}
+use Rattle.sby_lines.specs.Reached.{reached_line, unreached_line}
+use Rattle.sby_lines.specs.Lines.{HasLines, IsStatus}
+use Rattle.sby_lines.specs.Telling.{GrownByFirst, GrownBySome, grown}
+use Rattle.sby_lines.specs.Told.{job_of}
+use Rattle.sby_lines.specs.declared.early.Early.{Early}
+use Rattle.sby_lines.specs.declared.early.Early.TheVariants.{Read, Design, TooMany, Streams}
 use Rattle.sby_top.specs.Causes.{IsOutcome}
-use Rattle.sby_top.specs.Lines.{HasLines}
-use Rattle.sby_top.specs.Served.{ArePut, IsAccepted, IsGot, IsRefused, IsStored, jobs_at, jobs_in, most_design, most_stream}
-use Rattle.sby_top.specs.Status.{IsStatus, IsStatusOf}
-use Rattle.sby_top.specs.Telling.{GrownByFirst, GrownBySome, grown}
-use Rattle.sby_top.specs.Words.{Request}
-use Rattle.sby_top.specs.World.{World}
-use Rattle.sby_top.specs.declared.outcome.Early.{Early}
-use Rattle.sby_top.specs.declared.outcome.Early.TheVariants.{Read, Design, TooMany, Streams}
+use Rattle.sby_top.specs.Served.{ArePut, IsAccepted, IsRefused, IsServed, IsTextOf, jobs_in, most_stream}
+use Rattle.sby_top.specs.Task.{Lanes, Service, Streams as StoredStreams, TaskOf, streams_in}
+use Rattle.sby_top.specs.World.{World, files_of, race_of}
+use Rattle.task_race.specs.Bays.{AreLater}
 use Rattle.sby_top.specs.declared.outcome.TaskEnd.{TaskEnd}
 use Rattle.design_trace.specs.Trace.{trace}
 
 -- a task that came to this end has these lines
-abbrev pub AreLines : Request → TaskEnd → List (List ℕ) → Type 0
-AreLines request end lines = HasLines request.mode request.folder end.text end.early end.reports.items lines
+abbrev pub AreLines : TaskOf → TaskEnd → List (List ℕ) → Type 0
+AreLines task end lines = HasLines task.request end.text end.early end.reports.items end.start end.unput.items lines
 
--- the one report of a task carries this run, in its finding for Base
-abbrev pub IsCarried : Mode → DesignOf → List (ReportOf FindingOf) → List CycleOf → Type 0
-IsCarried mode d reports run = (report : ReportOf FindingOf) × (reports ≡ report ∷ []) × CarriesRun (jobs_at mode d) report.ends run
+-- a report carries this run, in a finding for this job
+abbrev pub IsCarried : List (ReportOf FindingOf) → JobName → List CycleOf → Type 0
+IsCarried reports job run = (f : FindingOf) × SettledIn job_of reports job f × (f.run ≡ Some run)
 
--- somewhere in the lines stands that of the broken assertion, then the trace of the run, then the last
+-- somewhere in the lines stands that of the broken assertion, then the trace of the run
 abbrev pub ArePrintedOf : DesignOf → List ℕ → CellOf → List CycleOf → List (List ℕ) → Type 0
 ArePrintedOf d name cell run lines =
-    (front : List (List ℕ)) × (traced : List (List ℕ)) × (last : List ℕ) × AreLinesOf (trace d (shown_of run)) traced
-    × (lines ≡ front ++ broken_line name cell run ∷ (traced ++ last ∷ []))
+    (front : List (List ℕ)) × (traced : List (List ℕ)) × (back : List (List ℕ)) × AreLinesOf (trace d (shown_of run)) traced
+    × (lines ≡ front ++ broken_line name cell run ∷ (traced ++ back))
 
--- The run by which a task fails at depth n: the report carries it; it has at most n cycles, all assumed; its last breaks an assertion,
--- the first in the file of those that it breaks; and whatever lines the task has, they name that assertion and show that run.
-pub record IsShown (request : Request) (end : TaskEnd) (d : DesignOf) (n : ℕ) : Type 0 where
+-- The run by which a task fails: a report carries it; it has more cycles than are skipped and at most the depth's, all assumed; its last
+-- breaks an assertion, the first in the file of those that it breaks; and whatever lines the task has, they name that assertion and show
+-- that run.
+pub record IsShown (task : TaskOf) (end : TaskEnd) (d : DesignOf) : Type 0 where
   pub run : List CycleOf
   pub assertion : ℕ
   pub cell : CellOf
-  pub carried : IsCarried request.mode d end.reports.items run
+  pub slice : ℕ
+  pub carried : IsCarried end.reports.items (Base slice) run
   pub rows : IsRunOf d run
-  pub within : length run ≤ n
+  pub behind : task.request.span.skip < length run
+  pub within : length run ≤ task.request.span.depth
   pub shows : Shows d (length run) (valuations d run) assertion
   pub first : IsFirstBroken d (last_of d run) assertion
   pub is_cell : slice_get (asserts d) assertion ≡ Some cell
-  pub printed : (lines : List (List ℕ)) → AreLines request end lines → ArePrintedOf d request.folder cell run lines
-
--- the one report of a task carries this run, in its finding for Cover(k)
-abbrev pub IsReachCarried : DesignOf → List (ReportOf FindingOf) → ℕ → List CycleOf → Type 0
-IsReachCarried d reports k run = (report : ReportOf FindingOf) × (reports ≡ report ∷ []) × CarriesReach (jobs_at Cover d) report.ends k run
+  pub printed : (lines : List (List ℕ)) → AreLines task end lines → ArePrintedOf d task.request.name cell run lines
 
 -- somewhere in the lines stands that of the reached statement, then the trace of the run
 abbrev pub IsReachPrinted : DesignOf → List ℕ → CellOf → List CycleOf → List (List ℕ) → Type 0
@@ -79,80 +83,71 @@ IsReachPrinted d name cell run lines =
     (front : List (List ℕ)) × (traced : List (List ℕ)) × (back : List (List ℕ)) × AreLinesOf (trace d (shown_of run)) traced
     × (lines ≡ front ++ reached_line name cell run ∷ (traced ++ back))
 
--- The run that reaches cover statement k at depth n: the report carries it; it has at most n cycles, all assumed, of which the last
--- reaches the statement; and whatever lines the task has, they name that statement and show that run.
-pub record IsReachShown (request : Request) (end : TaskEnd) (d : DesignOf) (n : ℕ) (k : ℕ) : Type 0 where
+-- The run that reaches cover statement k: a report carries it; it has at most the depth's cycles, all assumed, of which the last reaches
+-- the statement; and whatever lines the task has, they name that statement and show that run.
+pub record IsReachShown (task : TaskOf) (end : TaskEnd) (d : DesignOf) (k : ℕ) : Type 0 where
   pub run : List CycleOf
   pub cell : CellOf
-  pub carried : IsReachCarried d end.reports.items k run
+  pub carried : IsCarried end.reports.items (CoverJob k) run
   pub rows : IsRunOf d run
-  pub within : length run ≤ n
+  pub within : length run ≤ task.request.span.depth
   pub reaches : ReachRun d (length run) (valuations d run) k
   pub is_cell : slice_get (covers d) k ≡ Some cell
-  pub printed : (lines : List (List ℕ)) → AreLines request end lines → IsReachPrinted d request.folder cell run lines
+  pub printed : (lines : List (List ℕ)) → AreLines task end lines → IsReachPrinted d task.request.name cell run lines
 
--- cover statement k, which no run of at most n cycles reaches; and whatever lines the task has, one says so
-pub record IsUnreachedShown (request : Request) (end : TaskEnd) (d : DesignOf) (n : ℕ) (k : ℕ) : Type 0 where
+-- cover statement k, which no run of at most the depth's cycles reaches; and whatever lines the task has, one says so
+pub record IsUnreachedShown (task : TaskOf) (end : TaskEnd) (d : DesignOf) (k : ℕ) : Type 0 where
   pub cell : CellOf
   pub is_cell : slice_get (covers d) k ≡ Some cell
-  pub none : NoReach d n k
-  pub printed : (lines : List (List ℕ)) → AreLines request end lines → Contains lines (unreached_line request.folder cell)
+  pub none : NoReach d task.request.span.depth k
+  pub printed : (lines : List (List ℕ)) → AreLines task end lines → Contains lines (unreached_line task.request.name cell)
 
--- What PASS says of a design at depth n: in bmc no run of at most n cycles breaks an assertion, in prove no run of any length does, and
--- in cover each statement has a run that reaches it, which is shown.
-abbrev pub PassClaim : Mode → Request → TaskEnd → DesignOf → ℕ → Type 0
-PassClaim Bmc request end d n = NoBreak d 0 n
-PassClaim Prove request end d n = NeverBreak d
-PassClaim Cover request end d n = (k : ℕ) → k < length (covers d) → IsReachShown request end d n k
+-- What PASS says of a design: in bmc no run of more cycles than are skipped and at most the depth's breaks an assertion in its last, in
+-- prove no run of any length does, and in cover each statement has a run that reaches it, which is shown.
+abbrev pub PassClaim : Mode → TaskOf → TaskEnd → DesignOf → Type 0
+PassClaim Bmc task end d = NoBreak d task.request.span.skip task.request.span.depth
+PassClaim Prove task end d = NeverBreak d
+PassClaim Cover task end d = (k : ℕ) → k < length (covers d) → IsReachShown task end d k
 
--- what FAIL says at depth n: in bmc and prove it shows a run that breaks an assertion, in cover it names a statement that isn't reached
-abbrev pub FailClaim : Mode → Request → TaskEnd → DesignOf → ℕ → Type 0
-FailClaim Bmc request end d n = IsShown request end d n
-FailClaim Prove request end d n = IsShown request end d n
-FailClaim Cover request end d n = (k : ℕ) × (k < length (covers d)) × IsUnreachedShown request end d n k
+-- what FAIL says: in bmc and prove it shows a run that breaks an assertion, in cover it names a statement that isn't reached
+abbrev pub FailClaim : Mode → TaskOf → TaskEnd → DesignOf → Type 0
+FailClaim Bmc task end d = IsShown task end d
+FailClaim Prove task end d = IsShown task end d
+FailClaim Cover task end d = (k : ℕ) × (k < length (covers d)) × IsUnreachedShown task end d k
 
--- the text that the design's path gave reads a flat design of which the claim is true
-abbrev pub IsTrueOf : Option Store → Request → List ℕ → (DesignOf → ℕ → Type 0) → Type 0
-IsTrueOf told request text claim =
-    IsGot told request.design most_design text × ((d : DesignOf) × Reads text d × IsFlat d × claim d request.depth)
+-- the design's text, as it was got, reads a flat design of which the claim is true
+abbrev pub IsTrueOf : Option Store → TaskOf → List ℕ → (DesignOf → Type 0) → Type 0
+IsTrueOf told task text claim = IsTextOf told task.design text × ((d : DesignOf) × Reads text d × IsFlat d × claim d)
+
+-- its status is the one that its early fault or its reports give, by the design that its text reads
+abbrev pub HasOwnStatus : TaskOf → TaskEnd → Type 0
+HasOwnStatus task end =
+    (d : DesignOf) × (end.early ≡ None → Reads end.text d)
+    × IsStatus task.request end.early (record { design = d; reports = end.reports.items; start = end.start }) end.status
+
+-- memory was wanting, or a call of the sink failed
+abbrev pub WasStopped : World → World → TaskEnd → Type 0
+WasStopped before after end = (end.status ≡ Memory) ⊎ Rose before.sink_faults after.sink_faults
 
 -- each status names its event
-pub record NamesEvent (before after : World) (request : Request) (end : TaskEnd) : Type 0 where
-  pub name : string_bytes end.name ≡ request.folder
-  pub status : IsStatus request.mode end.early end.reports.items end.status ⊎ (end.status ≡ Memory)
-  pub cause : IsOutcome request before.told after.told before.file_faults after.file_faults after.blamed end.early end.text end.reports.items
-  pub start : end.start ≡ None
-  pub unput : end.unput.items ≡ []
+pub record NamesEvent (may_read : ℕ → Type 0) (number : ℕ) (before after : World) (task : TaskOf) (end : TaskEnd) : Type 0 where
+  pub name : string_bytes end.name ≡ task.request.name
+  pub status : HasOwnStatus task end ⊎ (end.status ≡ Memory)
+  pub cause : IsOutcome may_read task (files_of before) (files_of after) (race_of number before after end.start) end.early end.text end.reports.items end.unput.items (WasStopped before after end)
 
 -- how a run of tasks exits: with a number, or cut short by a failed call of the sink
 pub data Exit : Type 0 where
   Code : ℕ → Exit
   Cut : Exit
 
--- its status is the one that its ends give
-abbrev pub HasOwnStatus : Request → TaskEnd → Type 0
-HasOwnStatus request end = IsStatus request.mode end.early end.reports.items end.status
-
--- its lines were all printed
-abbrev pub PrintedWhole : Option (List ℕ) → Option (List ℕ) → Request → TaskEnd → List (List ℕ) → Type 0
-PrintedWhole before now request end lines = HasOwnStatus request end × (now ≡ grown before (concat lines))
-
--- they were printed up to one for which memory was wanting, and the status is MEMORY
-abbrev pub PrintedUpTo : Option (List ℕ) → Option (List ℕ) → TaskEnd → List (List ℕ) → Type 0
-PrintedUpTo before now end lines = (end.status ≡ Memory) × GrownByFirst before now lines
-
--- they were cut short
-abbrev pub PrintedCut : Option (List ℕ) → Option (List ℕ) → Request → TaskEnd → List (List ℕ) → Type 0
-PrintedCut before now request end lines = HasOwnStatus request end × GrownBySome before now (concat lines)
-
--- The lines of a task were printed, whole or up to a line, where no call of the sink failed; they were cut short where one did, and
--- it took nothing behind that call.
-abbrev pub IsPrinted : Option (List ℕ) → Option (List ℕ) → ℕ → ℕ → Option ℕ → Request → TaskEnd → Exit → Type 0
-IsPrinted before now faults_before faults ended request end (Code rc) =
-    (faults ≡ faults_before) × HasCode (Pass ∷ []) end.status rc
-    × ((lines : List (List ℕ)) × AreLines request end lines × (PrintedWhole before now request end lines ⊎ PrintedUpTo before now end lines))
-IsPrinted before now faults_before faults ended request end Cut =
-    Rose faults_before faults × AreAll ended now × ((lines : List (List ℕ)) × AreLines request end lines × PrintedCut before now request end lines)
+-- The lines were printed, whole or up to a line for which, or for a trace file, memory was wanting, where no call of the sink failed;
+-- they were cut short where one did, and it took nothing behind that call.
+abbrev pub IsPrinted : Option (List ℕ) → Option (List ℕ) → ℕ → ℕ → Option ℕ → (List (List ℕ) → Type 0) → List Status → Type 0 → Status → Exit → Type 0
+IsPrinted before now faults_before faults ended are_lines expect own status (Code rc) =
+    (faults ≡ faults_before) × HasCode expect status rc
+    × ((lines : List (List ℕ)) × are_lines lines × ((own × (now ≡ grown before (concat lines))) ⊎ ((status ≡ Memory) × GrownByFirst before now lines)))
+IsPrinted before now faults_before faults ended are_lines expect own status Cut =
+    Rose faults_before faults × AreAll ended now × ((lines : List (List ℕ)) × are_lines lines × own × GrownBySome before now (concat lines))
 
 -- the answer and the event of a job by its stream's fate; without a stream it has neither
 abbrev pub fate_answer : Option Fate → Option Answer
@@ -190,49 +185,59 @@ AreWhole (path ∷ paths) (Some fate ∷ fates) = AreWhole paths fates
 abbrev pub IsDecided : Mode → List (Option Answer) → Type 0
 IsDecided mode answers = (verdict : Verdict) × Decides mode answers verdict
 
+-- the status that answers and events give
+abbrev pub IsFateStatus : Mode → List (Option Fate) → Status → Type 0
+IsFateStatus mode fates status = (verdict : Option Verdict) × Decided mode (map fate_answer fates) verdict × HasStatus verdict (map fate_event fates) status
+
 abbrev pub early_of : ProblemFault → Early
 early_of (ReadFault f) = Read f
 early_of (DesignFault f) = Design f
 early_of (TooManyFault job) = TooMany job
 
--- the status of the streams' fates, for the files that were put; none is left out, unless the others decide
-abbrev pub IsJudgedStatus : Store → Store → Request → Option Early → Status → Type 0
-IsJudgedStatus before after request early status =
-    (p : AskedOf) × (fates : List (Option Fate)) × IsAccepted (Some before) request p × (length request.streams ≤ length (jobs_in p))
-    × ArePut p request.folder (jobs_in p) (Some before) (Some after) × AreFates p after (jobs_in p) request.streams fates
-    × (AreWhole request.streams fates ⊎ IsDecided request.mode (map fate_answer fates))
-    × (early ≡ None) × IsStatusOf request.mode (map fate_answer fates) (map fate_event fates) status
+-- the status of the fates, for the files that were put; none is left out, unless the others decide
+abbrev pub IsJudgedStatus : Store → TaskOf → Option Early → Status → Type 0
+IsJudgedStatus before task early status =
+    (p : AskedOf) × (fates : List (Option Fate)) × (put : Store) × IsServed (Some before) task p
+    × ArePut p task.request.name (jobs_in p) (Some before) (Some put) × AreFates p put (jobs_in p) (streams_in task.service) fates
+    × (AreWhole (streams_in task.service) fates ⊎ IsDecided task.request.mode (map fate_answer fates))
+    × (early ≡ None) × IsFateStatus task.request.mode fates status
 
--- What the stores give, without any lane: the refusal of the design's text; that of too many streams; or the status of the
--- streams' fates.
-abbrev pub IsPlainStatus : Store → Store → Request → Option Early → Status → Type 0
-IsPlainStatus before after request early status =
-    ((fault : ProblemFault) × IsRefused (Some before) request fault × (early ≡ Some (early_of fault)) × (status ≡ Error))
-    ⊎ ((p : AskedOf) × IsAccepted (Some before) request p × (length (jobs_in p) < length request.streams) × (early ≡ Some Streams) × (status ≡ Error))
-    ⊎ IsJudgedStatus before after request early status
+-- the status of a task that comes to its lanes, by what serves its jobs: of stored streams that of their fates
+abbrev pub IsServedStatus : Service → Store → TaskOf → Option Early → Status → Type 0
+IsServedStatus (StoredStreams paths) before task early status = IsJudgedStatus before task early status
+IsServedStatus (Lanes engines) before task early status = (p : AskedOf) × IsServed (Some before) task p × (early ≡ None)
+
+-- What the stores give, without any lane: the refusal of the design's text; that of too many streams; or that it is served, and the
+-- status of the streams' fates.
+abbrev pub IsPlainStatus : Store → TaskOf → Option Early → Status → Type 0
+IsPlainStatus before task early status =
+    ((fault : ProblemFault) × IsRefused (Some before) task fault × (early ≡ Some (early_of fault)) × (status ≡ Error))
+    ⊎ ((p : AskedOf) × IsAccepted (Some before) task p × (length (jobs_in p) < length (streams_in task.service)) × (early ≡ Some Streams) × (status ≡ Error))
+    ⊎ IsServedStatus task.service before task early status
 
 -- no call failed, and memory was not wanting
-pub record IsSmooth (before after : World) (end : TaskEnd) : Type 0 where
+pub record IsSmooth (before after : World) (status : Status) : Type 0 where
   pub files : Rose before.file_faults after.file_faults → ⊥
   pub sink : Rose before.sink_faults after.sink_faults → ⊥
-  pub memory : end.status ≢ Memory
+  pub memory : status ≢ Memory
 
 -- completeness: over a store that tells, where no call failed and memory was not wanting, the status is the plain one
-abbrev pub IsComplete : World → World → Request → TaskEnd → Type 0
-IsComplete before after request end =
-    (store now : Store) → before.told ≡ Some store → after.told ≡ Some now → IsSmooth before after end → IsPlainStatus store now request end.early end.status
+abbrev pub IsComplete : World → World → TaskOf → TaskEnd → Type 0
+IsComplete before after task end =
+    (store : Store) → before.told ≡ Some store → IsSmooth before after end.status → IsPlainStatus store task end.early end.status
 
--- the counts of faults didn't fall
+-- the counts of faults didn't fall, and the yard tells the same scripts
 pub record IsLater (before after : World) : Type 0 where
   pub files : before.file_faults ≤ after.file_faults
   pub sink : before.sink_faults ≤ after.sink_faults
+  pub children : AreLater before.children after.children
+  pub scripts : after.scripts ≡ before.scripts
 
--- a task was run, from one moment to another
-pub record TaskRan (before after : World) (request : Request) (end : TaskEnd) (exit : Exit) : Type 0 where
-  pub pass : end.status ≡ Pass → IsTrueOf before.told request end.text (PassClaim request.mode request end)
-  pub fail : end.status ≡ Fail → IsTrueOf before.told request end.text (FailClaim request.mode request end)
-  pub named : NamesEvent before after request end
-  pub printed : IsPrinted before.taken after.taken before.sink_faults after.sink_faults after.ended request end exit
-  pub stored : IsStored request before.told after.told
-  pub complete : IsComplete before after request end
+-- a task, which has this number in its call, was run, from one moment to another
+pub record TaskRan (may_read : ℕ → Type 0) (number : ℕ) (before after : World) (task : TaskOf) (end : TaskEnd) (exit : Exit) : Type 0 where
+  pub pass : end.status ≡ Pass → IsTrueOf before.told task end.text (PassClaim task.request.mode task end)
+  pub fail : end.status ≡ Fail → IsTrueOf before.told task end.text (FailClaim task.request.mode task end)
+  pub named : NamesEvent may_read number before after task end
+  pub printed : IsPrinted before.taken after.taken before.sink_faults after.sink_faults after.ended (AreLines task end) task.request.expect (HasOwnStatus task end) end.status exit
+  pub complete : IsComplete before after task end
   pub later : IsLater before after

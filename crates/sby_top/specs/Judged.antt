@@ -14,7 +14,11 @@ use Rattle.design_meaning.specs.Runs.{CycleOf}
 use Rattle.sby_terms.specs.declared.names.Answer.TheVariants.{Sat}
 use Rattle.sby_terms.specs.declared.names.JobName.{JobName}
 use Rattle.sby_terms.specs.declared.names.JobName.TheVariants.{Step}
+use Rattle.sby_terms.specs.declared.engine.Engine.{Engine}
 use Rattle.sby_top.specs.Served.{jobs_in, most_stream}
+use Rattle.sby_top.specs.Task.{Lanes, Service, Streams, TaskOf}
+use Rattle.sby_top.specs.World.{RaceOf}
+use Rattle.task_race.specs.Ran.{LanesRan, RacingOf}
 
 -- what a path has meets this, where the store tells, and a path that has nothing doesn't; where it doesn't tell, some bytes do
 abbrev pub Has : Option Store → List ℕ → (List ℕ → Type 0) → Type 0
@@ -61,7 +65,16 @@ HasStreamsRun p job stream f =
 
 abbrev pub EndsWithRun : AskedOf → JobName → List ℕ → JobEnd FindingOf → Type 0
 EndsWithRun p job stream (Found f) = HasStreamsRun p job stream f
-EndsWithRun p job stream _ = Unit {0}
+EndsWithRun p job stream Unknown = Unit {0}
+EndsWithRun p job stream NotServed = Unit {0}
+EndsWithRun p job stream (Bad number at) = Unit {0}
+EndsWithRun p job stream ReadFailed = Unit {0}
+EndsWithRun p job stream StartFailed = Unit {0}
+EndsWithRun p job stream HoldFailed = Unit {0}
+EndsWithRun p job stream (Skipped f) = Unit {0}
+EndsWithRun p job stream (CalledOff f) = Unit {0}
+EndsWithRun p job stream (Stopped reading) = Unit {0}
+EndsWithRun p job stream Memory = Unit {0}
 
 -- the stream at this path was judged
 pub record IsJudged (p : AskedOf) (told : Option Store) (job : JobName) (path : List ℕ) (end : JobEnd FindingOf) : Type 0 where
@@ -82,3 +95,17 @@ pub record IsReport (p : AskedOf) (told : Option Store) (paths : List (List ℕ)
   pub jobs : report.jobs ≡ length (jobs_in p)
   pub events : report.events ≡ replicate (length (jobs_in p)) no_events
   pub ends : AreJudged p told (jobs_in p) paths report.ends
+
+-- what is raced of a task: its problem's jobs, by these engines
+abbrev pub racing_of : TaskOf → AskedOf → ℕ → List Engine → RacingOf
+racing_of task p number engines = record { problem = p; engines = engines; folder = task.request.name; task = number; wait = task.wait; limit = task.request.limit }
+
+-- the one report of stored streams
+abbrev pub AreStreamReports : AskedOf → Option Store → List (List ℕ) → List (ReportOf FindingOf) → Type 0
+AreStreamReports p told paths reports = (report : ReportOf FindingOf) × IsReport p told paths report × (reports ≡ report ∷ [])
+
+-- The reports of a task, by what serves its jobs: that of its stored streams, without any child; or those of the lanes of its engines.
+abbrev pub AreReports : Service → (ℕ → Type 0) → TaskOf → AskedOf → Option Store → RaceOf → List (ReportOf FindingOf) → Type 0
+AreReports (Streams paths) may_read task p told race reports = AreStreamReports p told paths reports × (race.start ≡ None) × (race.after ≡ race.before)
+AreReports (Lanes engines) may_read task p told race reports =
+    LanesRan (racing_of task p race.task engines) may_read race.scripts race.before race.after race.start reports

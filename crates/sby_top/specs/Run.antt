@@ -1,30 +1,69 @@
 -- What a call of the program does.
-use Rattle.std.specs.Prelude.{◌≡◌, ◌⊎◌, ℕ, List, ◌≤◌, [], ◌∷◌, bit_or, Option, Some, None}
+use Rattle.std.specs.Prelude.{◌≡◌, ◌⊎◌, ℕ, ◌+◌, List, ◌≤◌, [], ◌∷◌, ◌++◌, map, bit_or, string_bytes, Option, Some, None, Ok}
+use Rattle.std.specs.List.{concat}
 use Rattle.sby_edge.specs.Cause.{Rose}
 use Rattle.sby_edge.specs.Sink.{AreAll}
-use Rattle.sby_top.specs.Headline.{Exit, Code, Cut, TaskRan}
-use Rattle.sby_top.specs.Telling.{GrownBySome, grown}
-use Rattle.sby_top.specs.Texts.{usage_line}
-use Rattle.sby_top.specs.Words.{IsAsked, Request}
-use Rattle.sby_top.specs.World.{World}
+use Rattle.sby_file.specs.Config.{ConfigOf}
+use Rattle.sby_file.specs.Sby.{SbyText}
+use Rattle.sby_terms.specs.Code.{code_of}
+use Rattle.sby_terms.specs.Span.{whole}
+use Rattle.sby_terms.specs.declared.names.Mode.TheVariants.{Bmc}
+use Rattle.sby_terms.specs.declared.names.Status.{Status}
+use Rattle.sby_terms.specs.declared.names.Status.TheVariants.{Memory}
+use Rattle.sby_lines.specs.Lines.{HasLines, IsStatus}
+use Rattle.sby_lines.specs.Telling.{GrownByFirst, GrownBySome, grown}
+use Rattle.sby_lines.specs.Texts.{usage_line}
+use Rattle.sby_lines.specs.Told.{CameTo, Request}
+use Rattle.sby_lines.specs.declared.early.Early.{Early}
+use Rattle.sby_words.specs.Requests.{AskGen, AskJudge, AskNames, AskTasks, Request as Asked}
+use Rattle.sby_words.specs.Words.{IsAsked}
+use Rattle.sby_top.specs.Headline.{Exit, Code, Cut, IsPrinted, TaskRan}
+use Rattle.sby_top.specs.Turns.{HasTurns, IsTextGot, Turn, Refused, Run}
+use Rattle.sby_top.specs.World.{SameYard, World, files_of}
 use Rattle.sby_top.specs.declared.outcome.Done.{Done}
 use Rattle.sby_top.specs.declared.outcome.TaskEnd.{TaskEnd}
 
--- a task's number is or-ed to that of the tasks behind it, unless these were cut short
-abbrev pub joined : ℕ → Exit → Exit
-joined rc (Code others) = Code (bit_or rc others)
-joined rc Cut = Cut
+-- what is printed of a refused task: its name, and nothing is expected, whatever its file says
+abbrev pub refused_request : List ℕ → Request
+refused_request name = record { name = name; mode = Bmc; span = whole 1; expect = []; limit = None }
 
--- The tasks were run in order, each from the moment at which the one before it was done. A failed call of the sink ends the run;
--- where memory is wanting even for an end, the list of ends stops short.
-abbrev pub Ran : World → List Request → List TaskEnd → World → Exit → Type 0
-Ran before [] [] after exit = (after ≡ before) × (exit ≡ Code 0)
-Ran before [] (end ∷ ends) after exit = ⊥
-Ran before (request ∷ requests) [] after exit = (after ≡ before) × (exit ≡ Code 32)
-Ran before (request ∷ requests) (end ∷ ends) after exit =
-    (TaskRan before after request end Cut × (ends ≡ []) × (exit ≡ Cut))
-    ⊎ ((middle : World) × (rc : ℕ) × (others : Exit) × TaskRan before middle request end (Code rc) × Ran middle requests ends after others
-    × (exit ≡ joined rc others))
+-- the status of a fault: MEMORY for want of memory, else ERROR
+abbrev pub IsRefusedStatus : List ℕ → Early → Status → Type 0
+IsRefusedStatus name early status = (c : CameTo) × IsStatus (refused_request name) (Some early) c status
+
+-- Only a fault was told: the status is ERROR with number 16, whatever the task's file expects, or MEMORY with 32 for want of memory; no
+-- file changed.
+pub record WasRefused (before after : World) (name : List ℕ) (early : Early) (end : TaskEnd) (exit : Exit) : Type 0 where
+  pub name_is : string_bytes end.name ≡ name
+  pub early_is : end.early ≡ Some early
+  pub reports : end.reports.items ≡ []
+  pub unput : end.unput.items ≡ []
+  pub text : end.text ≡ []
+  pub start : end.start ≡ None
+  pub status : IsRefusedStatus name early end.status ⊎ (end.status ≡ Memory)
+  pub code : (rc : ℕ) → exit ≡ Code rc → rc ≡ code_of end.status
+  pub printed : IsPrinted before.taken after.taken before.sink_faults after.sink_faults after.ended
+      (HasLines (refused_request name) [] (Some early) [] None []) [] (IsRefusedStatus name early end.status) end.status exit
+  pub files : files_of after ≡ files_of before
+  pub yard : SameYard before after
+  pub later : before.sink_faults ≤ after.sink_faults
+
+-- a turn, which has this number in its call, was had, from one moment to another
+abbrev pub TurnRan : (ℕ → Type 0) → ℕ → World → World → Turn → TaskEnd → Exit → Type 0
+TurnRan may_read number before after (Refused name early) end exit = WasRefused before after name early end exit
+TurnRan may_read number before after (Run task) end exit = TaskRan may_read number before after task end exit
+
+-- The turns, numbered from this one on, were had in order, each from the moment at which the one before it was done; the exit status of
+-- each is or-ed to those before it. A failed call of the sink ends the run; where memory is wanting even for an end, the list of ends stops
+-- short.
+abbrev pub Ran : (ℕ → Type 0) → ℕ → ℕ → World → List Turn → List TaskEnd → World → Exit → Type 0
+Ran may_read number so_far before [] [] after exit = (after ≡ before) × (exit ≡ Code so_far)
+Ran may_read number so_far before [] (end ∷ ends) after exit = ⊥
+Ran may_read number so_far before (turn ∷ turns) [] after exit = (after ≡ before) × (exit ≡ Code (bit_or so_far 32))
+Ran may_read number so_far before (turn ∷ turns) (end ∷ ends) after exit =
+    (TurnRan may_read number before after turn end Cut × (ends ≡ []) × (exit ≡ Cut))
+    ⊎ ((middle : World) × (rc : ℕ) × TurnRan may_read number before middle turn end (Code rc)
+    × Ran may_read (number + 1) (bit_or so_far rc) middle turns ends after exit)
 
 -- the exit status: exactly 16 where a failed call of the sink cut the run short
 abbrev pub rc_of_exit : Exit → ℕ
@@ -35,16 +74,54 @@ rc_of_exit Cut = 16
 pub record UsageAlone (before after : World) (done : Done) : Type 0 where
   pub rc : done.rc ≡ 16
   pub ends : done.ends.items ≡ []
-  pub files : after.told ≡ before.told
-  pub file_faults : after.file_faults ≡ before.file_faults
+  pub files : files_of after ≡ files_of before
+  pub yard : SameYard before after
   pub sink : before.sink_faults ≤ after.sink_faults
   pub line : ((after.sink_faults ≡ before.sink_faults) × (after.taken ≡ grown before.taken usage_line))
       ⊎ (Rose before.sink_faults after.sink_faults × AreAll after.ended after.taken × GrownBySome before.taken after.taken usage_line)
 
--- what words ask for was done: the usage line where they are refused, else the task
-abbrev pub IsDoneAs : World → World → Done → Option Request → Type 0
-IsDoneAs before after done None = UsageAlone before after done
-IsDoneAs before after done (Some request) = (exit : Exit) × Ran before (request ∷ []) done.ends.items after exit × (done.rc ≡ rc_of_exit exit)
+-- These lines alone were printed, whole, with exit status 0; or by a failed call of the sink only a part of them, with 16; or, where memory
+-- was wanting for one, those before it, with 32.
+pub record LinesAlone (before after : World) (lines : List (List ℕ)) (done : Done) : Type 0 where
+  pub ends : done.ends.items ≡ []
+  pub files : files_of after ≡ files_of before
+  pub yard : SameYard before after
+  pub sink : before.sink_faults ≤ after.sink_faults
+  pub line : ((done.rc ≡ 0) × (after.sink_faults ≡ before.sink_faults) × (after.taken ≡ grown before.taken (concat lines)))
+      ⊎ ((done.rc ≡ 16) × Rose before.sink_faults after.sink_faults × AreAll after.ended after.taken × GrownBySome before.taken after.taken (concat lines))
+      ⊎ ((done.rc ≡ 32) × (after.sink_faults ≡ before.sink_faults) × GrownByFirst before.taken after.taken lines)
+
+-- the names of a file's tasks, one a line
+abbrev pub name_lines : List (List ℕ) → List (List ℕ)
+name_lines names = map (λ name. name ++ 10 ∷ []) names
+
+-- the sink and the yard are as they were
+abbrev pub SameSink : World → World → Type 0
+SameSink before now = now ≡ record before { told = now.told; file_faults = now.file_faults; blamed = now.blamed }
+
+-- the turns that words give were had
+pub record TurnsDone (may_read : ℕ → Type 0) (before after : World) (done : Done) (asked : Asked) : Type 0 where
+  pub middle : World
+  pub turns : List Turn
+  pub exit : Exit
+  pub same_sink : SameSink before middle
+  pub has_turns : HasTurns (files_of before) (files_of middle) asked turns
+  pub ran : Ran may_read 0 0 middle turns done.ends.items after exit
+  pub rc : done.rc ≡ rc_of_exit exit
+
+-- The names of the tasks of the file that was got were printed; or the fault of a file that can't be got, or isn't a task file, is told.
+abbrev pub NamesTold : (ℕ → Type 0) → World → World → List ℕ → Done → Type 0
+NamesTold may_read before after file done =
+    ((text : List ℕ) × (c : ConfigOf) × IsTextGot (files_of before) (files_of before) file (Ok text) × SbyText text c × LinesAlone before after (name_lines c.tasks) done)
+    ⊎ TurnsDone may_read before after done (AskNames file)
+
+-- what words ask was done: the usage line where they are refused; the names of a file's tasks; else the turns that they give
+abbrev pub IsDoneAs : (ℕ → Type 0) → World → World → Done → Option Asked → Type 0
+IsDoneAs may_read before after done None = UsageAlone before after done
+IsDoneAs may_read before after done (Some (AskNames file)) = NamesTold may_read before after file done
+IsDoneAs may_read before after done (Some (AskJudge j)) = TurnsDone may_read before after done (AskJudge j)
+IsDoneAs may_read before after done (Some (AskTasks t)) = TurnsDone may_read before after done (AskTasks t)
+IsDoneAs may_read before after done (Some (AskGen g)) = TurnsDone may_read before after done (AskGen g)
 
 -- memory was wanting for the words, and nothing was done
 pub record IsNothing (before after : World) (done : Done) : Type 0 where
@@ -52,6 +129,6 @@ pub record IsNothing (before after : World) (done : Done) : Type 0 where
   pub ends : done.ends.items ≡ []
   pub same : after ≡ before
 
--- what a call did: what its words ask for; or nothing, since memory was wanting
-abbrev pub Did : World → World → List (List ℕ) → Done → Type 0
-Did before after words done = ((asked : Option Request) × IsAsked words asked × IsDoneAs before after done asked) ⊎ IsNothing before after done
+-- what a call did, under a clock that may give these readings: what its words ask for; or nothing, since memory was wanting
+abbrev pub Did : (ℕ → Type 0) → World → World → List (List ℕ) → Done → Type 0
+Did may_read before after words done = ((asked : Option Asked) × IsAsked words asked × IsDoneAs may_read before after done asked) ⊎ IsNothing before after done

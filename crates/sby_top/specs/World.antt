@@ -1,9 +1,11 @@
 -- The outside at a moment.
-use Rattle.std.specs.Prelude.{ℕ, List, Option}
+use Rattle.std.specs.Prelude.{◌≡◌, ℕ, List, Option, IfSome}
+use Rattle.sby_edge.specs.Cause.{CountsOf, Rose}
+use Rattle.sby_edge.specs.Child.{YardOf}
 use Rattle.sby_edge.specs.Files.{Store}
 
 -- What the file store and the sink tell; their counts of faults; the path at which a file call last failed, and how many bytes the sink
--- had taken when a call of it last did, where these are told.
+-- had taken when a call of it last did, where these are told; the scripts of children, where the yard tells them, and its counts of faults.
 pub record World : Type 0 where
   pub told : Option Store
   pub file_faults : ℕ
@@ -11,3 +13,41 @@ pub record World : Type 0 where
   pub taken : Option (List ℕ)
   pub sink_faults : ℕ
   pub ended : Option ℕ
+  pub scripts : Option YardOf
+  pub children : CountsOf
+
+-- what the file store tells, its count of faults, and the path at which a call of it last failed
+pub record FilesOf : Type 0 where
+  pub told : Option Store
+  pub faults : ℕ
+  pub blamed : Option (List ℕ)
+
+abbrev pub files_of : World → FilesOf
+files_of w = record { told = w.told; faults = w.file_faults; blamed = w.blamed }
+
+-- a call of the file store failed at this path, and nothing else changed
+pub record IsFailedAt (before now : FilesOf) (path : List ℕ) : Type 0 where
+  pub rose : Rose before.faults now.faults
+  pub blamed : IfSome now.blamed (λ at. at ≡ path)
+  pub same : now.told ≡ before.told
+
+-- the outside, by what the file store, the sink and the yard tell
+abbrev pub world_at : Option Store → ℕ → Option (List ℕ) → Option (List ℕ) → ℕ → Option ℕ → Option YardOf → CountsOf → World
+world_at told faults blamed taken sink_faults ended scripts children =
+    record { told = told; file_faults = faults; blamed = blamed; taken = taken; sink_faults = sink_faults; ended = ended; scripts = scripts; children = children }
+
+-- What the lanes of a task, which has this number in its call, know of the yard: the scripts that it tells, and its counts before them and
+-- behind them; and the reading at which they started, where they have a limit.
+pub record RaceOf : Type 0 where
+  pub task : ℕ
+  pub scripts : Option YardOf
+  pub before : CountsOf
+  pub after : CountsOf
+  pub start : Option ℕ
+
+abbrev pub race_of : ℕ → World → World → Option ℕ → RaceOf
+race_of number before after start = record { task = number; scripts = before.scripts; before = before.children; after = after.children; start = start }
+
+-- the yard is as it was
+abbrev pub SameYard : World → World → Type 0
+SameYard before after = (after.scripts ≡ before.scripts) × (after.children ≡ before.children)

@@ -1,69 +1,101 @@
-// Laws of what is promised.
+// Laws of what is promised of designs and stored certificates. Each stands over the definitions, and its body is empty but for the laws of
+// the judge that it cites.
 
-ghost use Rattle.std.specs.Prelude.{◌≡◌, ◌≢◌, ◌⊎◌, ◌<◌, ◌≤◌, [], ◌∷◌, ◌++◌, ℕ, true, List, None, length, Some};
+ghost use Rattle.std.specs.Prelude.{◌≡◌, ◌≢◌, ◌⊎◌, ◌<◌, ◌≤◌, [], ◌∷◌, ◌++◌, ℕ, true, List, None, length, slice_get, Some};
 ghost use Rattle.cert_stream.specs.Text.{is_blank};
 ghost use Rattle.stream_judge.specs.Cert.{IsCert};
 ghost use Rattle.stream_judge.specs.Fate.{Found, IsFate};
 ghost use Rattle.design_core.specs.Shape.{DesignOf};
 ghost use Rattle.design_reader.specs.Grammar.{Reads};
 ghost use Rattle.judge.specs.Fault.{IsProblemFault};
+ghost use Rattle.judge.specs.Jobs.{jobs_in};
 ghost use Rattle.judge.specs.declared.problem.ProblemFault.{ProblemFault};
+ghost use Rattle.sby_edge.specs.Child.{up_to};
 ghost use Rattle.sby_edge.specs.Files.{Store};
+ghost use Rattle.sby_edge.specs.Script.{ScriptOf};
+ghost use Rattle.lane_judge.specs.Serving.{IsServing};
+ghost use Rattle.sby_terms.specs.Path.{job_path};
+ghost use Rattle.sby_terms.specs.Span.{slices_of};
+ghost use Rattle.sby_terms.specs.declared.engine.Engine.{Engine};
 ghost use Rattle.sby_terms.specs.declared.names.Answer.{Answer};
 ghost use Rattle.sby_terms.specs.declared.names.JobName.TheVariants.{Base};
 ghost use Rattle.sby_terms.specs.declared.names.Mode.TheVariants.{Bmc};
 ghost use Rattle.sby_terms.specs.declared.names.Status.TheVariants.{Memory};
-ghost use Rattle.sby_top.specs.Headline.{Exit, IsSmooth, TaskRan};
-ghost use Rattle.sby_top.specs.Served.{IsGot, jobs_at, most_design, most_stream, problem_of};
-ghost use Rattle.sby_top.specs.Status.{status_for};
-ghost use Rattle.sby_top.specs.Texts.{job_path};
-ghost use Rattle.sby_top.specs.Words.{Request};
+ghost use Rattle.sby_words.specs.Requests.{JudgeRequest};
+ghost use Rattle.sby_top.specs.Claims.{IsInTime, IsJudgedAt, IsTaskOf, status_for};
+ghost use Rattle.sby_top.specs.Headline.{IsSmooth};
+ghost use Rattle.sby_top.specs.Served.{IsTextOf, most_stream};
+ghost use Rattle.sby_top.specs.Task.{Lanes, TaskOf, problem_of, streams_in};
+ghost use Rattle.sby_top.specs.Turns.{judge_task};
 ghost use Rattle.sby_top.specs.World.{World};
+ghost use Rattle.sby_top.specs.declared.outcome.Done.{Done};
 ghost use Rattle.sby_top.specs.declared.outcome.TaskEnd.{TaskEnd};
+ghost use Rattle.task_race.specs.Ends.{script_of};
 
-use judge::one_file;
-use stream_judge::{certificate_is_found, certificate_is_found_before_more, one_fate};
+use judge::{files_tell_what_jobs_ask, findings_tell_what_can_be_solved, one_file};
+use sby_edge::Clock;
+use stream_judge::{
+    certificate_is_found, certificate_is_found_before_more, found_sat_is_satisfiable,
+    found_unsat_is_unsatisfiable, one_fate,
+};
 
-/// A design that is not refused is judged: over a store that tells, where no call failed and memory was not wanting, and where there is
-/// a job for each stream, the task comes to its lane; in bmc where there is one stream at most.
-pub fn accepted_design_is_judged()
-    ensures bmc { (before after : World) (request : Request) (end : TaskEnd) (exit : Exit) (store now : Store) (text : List ℕ)
-        → TaskRan before after request end exit → IsSmooth before after end → before.told ≡ Some store → after.told ≡ Some now → request.mode ≡ Bmc
-        → IsGot (Some store) request.design most_design text → ((fault : ProblemFault) → IsProblemFault (problem_of request text) fault → ⊥)
-        → length request.streams ≤ 1 → end.early ≡ None }
-    ensures every { (before after : World) (request : Request) (end : TaskEnd) (exit : Exit) (store now : Store) (text : List ℕ) (d : DesignOf)
-        → TaskRan before after request end exit → IsSmooth before after end → before.told ≡ Some store → after.told ≡ Some now
-        → IsGot (Some store) request.design most_design text → ((fault : ProblemFault) → IsProblemFault (problem_of request text) fault → ⊥)
-        → Reads text d → length request.streams ≤ length (jobs_at request.mode d) → end.early ≡ None }
+/// A design that is not refused is judged: over a store that tells, where no call failed and memory was not wanting, and where there is a
+/// job for each stream, the task comes to its lanes, and there is a store at which it was judged; of `--judge` in bmc where there is one
+/// stream at most.
+pub fn accepted_design_is_judged<C: Clock>(clock: &C)
+    ensures bmc { (before start finish : World) (words : List (List ℕ)) (done : Done) (j : JudgeRequest) (end : TaskEnd) (store : Store) (text : List ℕ) → (is : IsTaskOf (C.may_read clock.now) before words done start finish (judge_task j) end)
+        → IsSmooth start finish end.status → start.told ≡ Some store → j.mode ≡ Bmc → IsTextOf (Some store) (judge_task j).design text → ((fault : ProblemFault) → IsProblemFault (problem_of (judge_task j) text) fault → ⊥)
+        → length j.streams ≤ 1 → end.early ≡ None }
+    ensures every { (before start finish : World) (words : List (List ℕ)) (done : Done) (task : TaskOf) (end : TaskEnd) (store : Store) (text : List ℕ) (d : DesignOf) → (is : IsTaskOf (C.may_read clock.now) before words done start finish task end)
+        → IsSmooth start finish end.status → start.told ≡ Some store → IsTextOf (Some store) task.design text → ((fault : ProblemFault) → IsProblemFault (problem_of task text) fault → ⊥)
+        → Reads text d → length (streams_in task.service) ≤ length (jobs_in task.request.mode task.request.span d) → end.early ≡ None }
+    ensures at { (before start finish : World) (words : List (List ℕ)) (done : Done) (task : TaskOf) (end : TaskEnd) (store : Store) → (is : IsTaskOf (C.may_read clock.now) before words done start finish task end) → start.told ≡ Some store → end.early ≡ None
+        → (now : Store) × IsJudgedAt (C.may_read clock.now) is.place start finish task end now }
 {}
 
-/// A valid certificate gives its verdict, PASS for Unsat and FAIL for Sat: over a store that tells, where the task came to its lane and
-/// memory was not wanting, and the one stream is a certificate for this answer of the job's file as it stands.
-pub fn valid_certificate_gives_its_verdict()
-    ensures { (before after : World) (request : Request) (end : TaskEnd) (exit : Exit) (store now : Store) (path stream file : List ℕ) (answer : Answer)
-        → TaskRan before after request end exit → before.told ≡ Some store → after.told ≡ Some now → request.mode ≡ Bmc → end.early ≡ None → end.status ≢ Memory
-        → request.streams ≡ path ∷ [] → now path ≡ Some stream → now (job_path request.folder (Base 0)) ≡ Some file
-        → IsFate file stream most_stream (Found answer) → end.status ≡ status_for answer }
+/// A valid certificate gives its verdict, PASS for Unsat and FAIL for Sat: of `--judge` in bmc, where memory was not wanting, and the one
+/// stream is a certificate for this answer of the job's file, as both stand when the task is judged.
+pub fn valid_certificate_gives_its_verdict<C: Clock>(clock: &C)
+    ensures { (before start finish : World) (words : List (List ℕ)) (done : Done) (j : JudgeRequest) (end : TaskEnd) (now : Store) (path stream file : List ℕ) (answer : Answer)
+        → (is : IsTaskOf (C.may_read clock.now) before words done start finish (judge_task j) end) → IsJudgedAt (C.may_read clock.now) is.place start finish (judge_task j) end now → j.mode ≡ Bmc → end.status ≢ Memory
+        → j.streams ≡ path ∷ [] → now path ≡ Some stream → now (job_path j.folder 1 (Base 0)) ≡ Some file → IsFate file stream most_stream (Found answer) → end.status ≡ status_for answer }
 {
     one_fate();
     one_file();
 }
 
-/// A stored certificate gives its verdict: over a store that tells, where the task came to its lane and memory was not wanting, and the
-/// one stream is a certificate of the job's file as it stands, of at most 2^32 bytes; or where it goes on behind one, with white space
-/// or a line feed within these bytes and whatever comes then.
-pub fn stored_certificate_gives_its_verdict()
-    ensures alone { (before after : World) (request : Request) (end : TaskEnd) (exit : Exit) (store now : Store) (path cert file : List ℕ) (answer : Answer)
-        → TaskRan before after request end exit → before.told ≡ Some store → after.told ≡ Some now → request.mode ≡ Bmc → end.early ≡ None → end.status ≢ Memory
-        → request.streams ≡ path ∷ [] → now path ≡ Some cert → now (job_path request.folder (Base 0)) ≡ Some file
-        → IsCert file cert answer → length cert ≤ most_stream → end.status ≡ status_for answer }
-    ensures followed { (before after : World) (request : Request) (end : TaskEnd) (exit : Exit) (store now : Store) (path cert rest file : List ℕ) (b : ℕ) (answer : Answer)
-        → TaskRan before after request end exit → before.told ≡ Some store → after.told ≡ Some now → request.mode ≡ Bmc → end.early ≡ None → end.status ≢ Memory
-        → request.streams ≡ path ∷ [] → now path ≡ Some (cert ++ b ∷ rest) → now (job_path request.folder (Base 0)) ≡ Some file
+/// A stored certificate gives its verdict: of `--judge` in bmc, where memory was not wanting, and the one stream is a certificate of the
+/// job's file, of at most 2^32 bytes, as both stand when the task is judged; or where it goes on behind one, with white space or a line
+/// feed within these bytes and whatever comes then.
+pub fn stored_certificate_gives_its_verdict<C: Clock>(clock: &C)
+    ensures alone { (before start finish : World) (words : List (List ℕ)) (done : Done) (j : JudgeRequest) (end : TaskEnd) (now : Store) (path cert file : List ℕ) (answer : Answer)
+        → (is : IsTaskOf (C.may_read clock.now) before words done start finish (judge_task j) end) → IsJudgedAt (C.may_read clock.now) is.place start finish (judge_task j) end now → j.mode ≡ Bmc → end.status ≢ Memory
+        → j.streams ≡ path ∷ [] → now path ≡ Some cert → now (job_path j.folder 1 (Base 0)) ≡ Some file → IsCert file cert answer → length cert ≤ most_stream → end.status ≡ status_for answer }
+    ensures followed { (before start finish : World) (words : List (List ℕ)) (done : Done) (j : JudgeRequest) (end : TaskEnd) (now : Store) (path cert rest file : List ℕ) (b : ℕ) (answer : Answer)
+        → (is : IsTaskOf (C.may_read clock.now) before words done start finish (judge_task j) end) → IsJudgedAt (C.may_read clock.now) is.place start finish (judge_task j) end now → j.mode ≡ Bmc → end.status ≢ Memory
+        → j.streams ≡ path ∷ [] → now path ≡ Some (cert ++ b ∷ rest) → now (job_path j.folder 1 (Base 0)) ≡ Some file
         → IsCert file cert answer → (is_blank b ≡ true) ⊎ (b ≡ 10) → length cert < most_stream → end.status ≡ status_for answer }
 {
     one_fate();
     one_file();
     certificate_is_found();
     certificate_is_found_before_more();
+}
+
+/// A valid certificate of a child, judged in time, gives its verdict, PASS for Unsat and FAIL for Sat: of bmc of one slice, where the script
+/// of a lane's child is told and has no gate, the lane's engine serves jobs, and what the child writes, up to its stall, is a certificate for
+/// this answer of the job's file, as it stands when the task is judged. Else memory was wanting; a reading of the clock showed the limit, with
+/// TIMEOUT; or a call for a child failed, with ERROR.
+pub fn valid_child_gives_its_verdict<C: Clock>(clock: &C)
+    ensures { (before start finish : World) (words : List (List ℕ)) (done : Done) (task : TaskOf) (end : TaskEnd) (engines : List Engine) (lane : ℕ) (script : ScriptOf) (now : Store) (file : List ℕ) (answer : Answer)
+        → (is : IsTaskOf (C.may_read clock.now) before words done start finish task end) → IsJudgedAt (C.may_read clock.now) is.place start finish task end now
+        → task.request.mode ≡ Bmc → slices_of task.request.span ≡ 1 → task.service ≡ Lanes engines → IsServing (slice_get engines lane)
+        → script_of start.scripts is.place lane (Base 0) ≡ Some script → script.gate ≡ None
+        → now (job_path task.request.name 1 (Base 0)) ≡ Some file → IsFate file (up_to script.stalls script.bytes) most_stream (Found answer)
+        → IsInTime (C.may_read clock.now) start finish task end (status_for answer) }
+{
+    files_tell_what_jobs_ask();
+    findings_tell_what_can_be_solved();
+    found_sat_is_satisfiable();
+    found_unsat_is_unsatisfiable();
 }

@@ -1,41 +1,23 @@
 // What a call came to.
 
-use design_check::check::DesignFault;
-use design_reader::ReadFault;
 use judge::{Finding, Text};
 use race_core::Report;
-use sby_terms::{JobName, Status};
+use sby_lines::Early;
+use sby_terms::Status;
 
-/// A fault before the lanes of a task.
-#[derive(Drop)]
-pub enum Early {
-    /// A call of the file store failed at this path.
-    File(String),
-    /// The design's text is outside the grammar.
-    Read(ReadFault),
-    /// The design has a fault.
-    Design(DesignFault),
-    /// The job has more than 2^27 variables.
-    TooMany(JobName),
-    /// There are more streams than jobs.
-    Streams,
-    /// Memory was wanting.
-    Memory,
-}
-
-/// What a task came to.
+/// What a task came to, or a fault that was told in its place.
 #[derive(Drop)]
 pub struct TaskEnd {
     /// The work folder's text.
     pub name: String,
-    /// MEMORY where memory was wanting for a line.
+    /// MEMORY where memory was wanting for a line or a trace file.
     pub status: Status,
     pub early: Option<Early>,
-    /// The reading of the clock, in milliseconds, at which lanes under a time limit started. No lanes run yet.
+    /// The reading of the clock, in milliseconds, at which lanes under a time limit started.
     pub start: Option<u64>,
     /// One report for each lane; none after a fault before the lanes.
     pub reports: Vec<Report<Finding>>,
-    /// The traces that couldn't be put. No traces are put yet.
+    /// The traces that couldn't be put, by the number of their cover statement, or 0.
     pub unput: Vec<u32>,
     /// The text of the accepted design; empty after a fault before the lanes.
     pub text: Text,

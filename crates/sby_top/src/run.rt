@@ -1,80 +1,105 @@
-// The top call.
+// A task is run, and its lines are printed.
 
-ghost use Rattle.std.specs.Prelude.{◌≡◌, ◌⊎◌, ◌≤◌, [], ◌∷◌, IfOk, None, Some, map, string_bytes, vec_capacity};
+ghost use Rattle.std.specs.Prelude.{◌≡◌, ◌⊎◌, ◌≤◌, [], ◌∷◌, ◌++◌, IsOk, List, None, Some, length, map, string_bytes, vec_capacity, ℕ};
+ghost use Rattle.judge.specs.Problem.{IsProblem};
 ghost use Rattle.sby_edge.specs.Cause.{Rose};
-ghost use Rattle.sby_edge.specs.Sink.{AreAll};
-ghost use Rattle.sby_terms.specs.declared.names.Status.TheVariants.{Pass};
-ghost use Rattle.sby_top.specs.Askable.{IsAskable};
-ghost use Rattle.sby_top.specs.End.{IsEnd, IsPrintedAs, IsRoom, ended};
-ghost use Rattle.sby_top.specs.Headline.{Exit, TaskRan};
-ghost use Rattle.sby_top.specs.Run.{Did, IsDoneAs, rc_of_exit};
-ghost use Rattle.sby_top.specs.Steps.{IsJudgedTask};
-ghost use Rattle.sby_top.specs.Telling.{GrownBySome, grown};
-ghost use Rattle.sby_top.specs.Texts.{usage_line};
+ghost use Rattle.sby_terms.specs.Span.{slices_of};
+ghost use Rattle.sby_terms.specs.declared.names.Status.{Status as StatusOf};
+ghost use Rattle.sby_terms.specs.declared.names.Status.TheVariants.{Memory as MemoryStatus};
+ghost use Rattle.sby_lines.specs.Lines.{HasJobLines, IsStatus, done_line, unput_lines};
+ghost use Rattle.sby_lines.specs.Telling.{Tells};
+ghost use Rattle.sby_lines.specs.Told.{AreLimited, AreReported, CameTo, IsCollected, Request, asked_by, came};
+ghost use Rattle.sby_top.specs.Causes.{AreTracesPut};
+ghost use Rattle.sby_top.specs.End.{AreShownPut, IsEnd, IsFaultTold, ended, exit_seen};
+ghost use Rattle.sby_top.specs.Headline.{AreLines, HasOwnStatus, IsPrinted, TaskRan};
+ghost use Rattle.sby_top.specs.Shown.{AreFitting, ArePutUpto, trace_seen};
+ghost use Rattle.sby_top.specs.Steps.{files_at};
+ghost use Rattle.sby_top.specs.Task.{IsAskable, task_seen};
+ghost use Rattle.sby_top.specs.World.{world_at};
+ghost use Rattle.task_race.specs.Bays.{counts_at};
 
-use crate::outcome::{Done, Early, TaskEnd};
+use crate::outcome::TaskEnd;
 use crate::serve::{Served, serve};
-use crate::status::{early_status, verdict_of};
-use crate::tell::{Stop, offer};
-use crate::tell_task::{tell_early, tell_served};
-use crate::text;
-use crate::words::{TaskRequest, asked_of};
-use judge::{Finding, Text, base_and_step_show_that_nothing_breaks};
-use race_core::Report;
+use crate::task::Task;
+use crate::traces::{Shown, put_traces, shown_runs};
+use judge::{Text, base_and_step_show_that_nothing_breaks, slices_show_that_nothing_breaks};
 use sby_edge::{Clock, Files, Sink, Yard};
+use sby_lines::{
+    Early, Heading, Stop, fail_shows_its_run, job_lines_exist, settled_statement_is_shown,
+    tell_done, tell_early, tell_jobs, tell_unput,
+};
 use sby_terms::{Expect, Status, rc_of};
-use std::alloc::{AllocError, Global};
+use std::alloc::Global;
+use std::sync::Wait;
+use std::thread::Threads;
 
-// What a task needs room for before it has any effect.
-#[derive(Drop)]
-struct Room {
-    name: String,
-    expect: Expect,
-    reports: Vec<Report<Finding>>,
+/// How a run exits: with a number, or cut short by a failed call of the sink.
+#[derive(Clone, Copy, Debug, PartialEq, Eq)]
+pub enum Exit {
+    Code(u8),
+    Cut,
 }
 
-impl Room {
-    fn new(alloc: Global, folder: &str) -> Result<Room, AllocError>
-        ensures { IfOk result (λ room. IsRoom folder.now room) }
-    {
-        Ok(Room {
-            name: String::from_str(alloc, folder)?,
-            expect: Expect::new(vec![in alloc; Status::Pass]?),
-            reports: Vec::with_capacity(alloc, 1)?,
-        })
+// A task as its lines show it.
+fn heading(task: &Task) -> Heading<'_>
+    ensures request { asked_by result (task_seen task.now).request.expect ≡ (task_seen task.now).request }
+    ensures mode { result.mode ≡ task.now.mode }
+    ensures span { result.span ≡ task.now.span }
+{
+    Heading {
+        name: task.name.as_str(),
+        mode: task.mode,
+        span: task.span,
+        limit: task.limit,
     }
 }
 
-// The status and the exit status, by how its lines were told.
-fn ended(told: Result<(), Stop>, decided: Status, rc: u8) -> (Status, u8)
-    ensures { result ≡ ended told decided rc }
+// The status of a task with a fault before its lanes.
+fn early_status(early: &Early) -> Status
+    ensures { (request : Request) (c : CameTo) → IsStatus request (Some early.now) c result }
+{
+    match early {
+        Early::Memory => Status::Memory,
+        Early::File(_)
+        | Early::Sby(_)
+        | Early::Task(_)
+        | Early::Read(_)
+        | Early::Design(_)
+        | Early::TooMany(_)
+        | Early::Streams => Status::Error,
+    }
+}
+
+// The status and the exit, by how the lines were told.
+fn ended(told: Result<(), Stop>, decided: Status, rc: u8) -> (Status, Exit)
+    ensures { (result.0, exit_seen result.1) ≡ ended told decided rc }
 {
     match told {
-        Ok(()) => (decided, rc),
-        Err(Stop::Memory) => (Status::Memory, 32),
-        Err(Stop::Sink) => (decided, 16),
+        Ok(()) => (decided, Exit::Code(rc)),
+        Err(Stop::Memory) => (Status::Memory, Exit::Code(32)),
+        Err(Stop::Sink) => (decided, Exit::Cut),
     }
 }
 
-// Prints the lines of a task with a fault before its lanes.
-fn finish_early<S: Sink>(
+/// Prints the lines of a fault before the lanes of a task of so many slices, with this name.
+pub fn finish_fault<S: Sink>(
     alloc: Global,
     out: &mut S,
-    asked: &TaskRequest,
     name: String,
+    slices: u32,
     expect: &Expect,
     early: Early,
-) -> (TaskEnd, u8)
-    requires name { string_bytes name ≡ asked.now.folder }
-    requires expect { expect.now ≡ Pass ∷ [] }
-    ensures end { IsEnd asked.now (Some early) [] [] result.0 }
-    ensures printed { IsPrintedAs (S.taken out.old) (S.taken out.new) (S.faults out.old) (S.faults out.new) (S.ended out.new) asked.now result.0 result.1 }
+) -> (TaskEnd, Exit)
+    ensures end { IsEnd (string_bytes name) (Some early) [] [] None result.0 }
+    ensures unput { result.0.unput.items ≡ [] }
+    ensures told { (request : Request) → request.name ≡ string_bytes name → slices_of request.span ≡ slices → request.expect ≡ expect.now
+        → IsFaultTold request early (S.taken out.old) (S.taken out.new) (S.faults out.old) (S.faults out.new) (S.ended out.new) result.0.status (exit_seen result.1) }
     ensures later { S.faults out.old ≤ S.faults out.new }
 {
     let decided = early_status(&early);
     let rc = rc_of(expect, decided);
-    let told = tell_early(alloc, out, name.as_str(), &early, decided, rc);
-    let (status, rc) = ended(told, decided, rc);
+    let told = tell_early(alloc, out, name.as_str(), slices, &early, decided, rc);
+    let (status, exit) = ended(told, decided, rc);
     let end = TaskEnd {
         name,
         status,
@@ -84,160 +109,164 @@ fn finish_early<S: Sink>(
         unput: Vec::new(alloc),
         text: Text::empty(),
     };
-    (end, rc)
+    (end, exit)
 }
 
-// Prints the lines of a task whose jobs have ends.
-fn finish_served<S: Sink>(
+// Prints the lines of a task that was served, and puts the trace files of these runs before the lines that tell of them.
+fn tell_served<F: Files, S: Sink>(
+    alloc: Global,
+    files: &mut F,
+    out: &mut S,
+    heading: &Heading<'_>,
+    served: &Served,
+    runs: &[Shown<'_>],
+    unput: &mut Vec<u32>,
+    rc: u8,
+) -> Result<(), Stop>
+    requires reported { AreReported heading.now.mode heading.now.span served.now.problem.design served.now.reports.items }
+    requires collected { IsCollected heading.now.mode heading.now.span served.now.problem.design served.now.reports.items served.now.collected }
+    requires fitting { AreFitting served.now.problem.design (map trace_seen runs.now) }
+    requires none { unput.old.items ≡ [] }
+    requires room { length runs.now ≤ vec_capacity unput.old }
+    ensures told { (expect : List StatusOf) (lines : List (List ℕ)) → HasJobLines (asked_by heading.now expect) (came served.now.problem.design served.now.reports.items served.now.start) served.now.collected.status lines
+        → Tells (S.taken out.old) (S.taken out.new) (S.faults out.old) (S.faults out.new) (S.ended out.new)
+        (lines ++ (unput_lines (asked_by heading.now expect) unput.new.items ++ done_line heading.now.name.now served.now.collected.status rc ∷ [])) result }
+    ensures put { (expect : List StatusOf) → ArePutUpto (asked_by heading.now expect) served.now.problem.design (map trace_seen runs.now) (files_at (F.told files.old) (F.faults files.old) (F.blamed files.old)) (files_at (F.told files.new) (F.faults files.new) (F.blamed files.new)) unput.new.items (IsOk result) }
+    ensures later { F.faults files.old ≤ F.faults files.new }
+{
+    let flat = served.problem.flat();
+    tell_jobs(
+        alloc,
+        out,
+        heading,
+        flat,
+        &served.reports,
+        served.start,
+        &served.collected,
+    )?;
+    match put_traces(alloc, files, heading, flat, runs, unput) {
+        Ok(()) => tell_last(alloc, out, heading, unput, served.collected.status, rc),
+        Err(_) => Err(Stop::Memory),
+    }
+}
+
+// The lines of the trace files that couldn't be put, and the last line.
+fn tell_last<S: Sink>(
     alloc: Global,
     out: &mut S,
-    asked: &TaskRequest,
-    name: String,
-    expect: &Expect,
+    heading: &Heading<'_>,
+    unput: &[u32],
+    status: Status,
+    rc: u8,
+) -> Result<(), Stop>
+    ensures { (expect : List StatusOf) → Tells (S.taken out.old) (S.taken out.new) (S.faults out.old) (S.faults out.new) (S.ended out.new)
+        (unput_lines (asked_by heading.now expect) unput.now ++ done_line heading.now.name.now status rc ∷ []) result }
+{
+    tell_unput(alloc, out, heading, unput)?;
+    tell_done(alloc, out, heading.name, status, rc)
+}
+
+// Prints the lines of a task that was served, and puts its trace files.
+fn tell_task<F: Files, S: Sink>(
+    alloc: Global,
+    files: &mut F,
+    out: &mut S,
+    heading: &Heading<'_>,
+    served: &Served,
+    unput: &mut Vec<u32>,
+    rc: u8,
+) -> Result<(), Stop>
+    requires reported { AreReported heading.now.mode heading.now.span served.now.problem.design served.now.reports.items }
+    requires collected { IsCollected heading.now.mode heading.now.span served.now.problem.design served.now.reports.items served.now.collected }
+    requires none { unput.old.items ≡ [] }
+    ensures told { (expect : List StatusOf) (lines : List (List ℕ)) → HasJobLines (asked_by heading.now expect) (came served.now.problem.design served.now.reports.items served.now.start) served.now.collected.status lines
+        → Tells (S.taken out.old) (S.taken out.new) (S.faults out.old) (S.faults out.new) (S.ended out.new)
+        (lines ++ (unput_lines (asked_by heading.now expect) unput.new.items ++ done_line heading.now.name.now served.now.collected.status rc ∷ [])) result }
+    ensures put { (expect : List StatusOf) → AreShownPut (asked_by heading.now expect) served.now.problem.design served.now.reports.items (files_at (F.told files.old) (F.faults files.old) (F.blamed files.old)) (files_at (F.told files.new) (F.faults files.new) (F.blamed files.new)) unput.new.items (IsOk result) }
+    ensures later { F.faults files.old ≤ F.faults files.new }
+{
+    match shown_runs(
+        alloc,
+        &served.reports,
+        heading,
+        served.problem.flat(),
+        &served.collected,
+    ) {
+        Ok(runs) => match unput.reserve(runs.len()) {
+            Ok(()) => tell_served(alloc, files, out, heading, served, &runs, unput, rc),
+            Err(_) => Err(Stop::Memory),
+        },
+        Err(_) => Err(Stop::Memory),
+    }
+}
+
+// Prints the lines of a task that was served, and puts its trace files.
+fn finish_served<F: Files, S: Sink>(
+    alloc: Global,
+    files: &mut F,
+    out: &mut S,
+    task: Task,
     served: Served,
-    reports: Vec<Report<Finding>>,
-) -> (TaskEnd, u8)
-    requires name { string_bytes name ≡ asked.now.folder }
-    requires mode { served.problem.problem.mode ≡ asked.now.mode }
-    requires expect { expect.now ≡ Pass ∷ [] }
-    requires task { IsJudgedTask served }
-    requires none { reports.items ≡ [] }
-    requires room { 1 ≤ vec_capacity reports }
-    ensures end { IsEnd asked.now None served.problem.problem.text (served.report ∷ []) result.0 }
-    ensures printed { IsPrintedAs (S.taken out.old) (S.taken out.new) (S.faults out.old) (S.faults out.new) (S.ended out.new) asked.now result.0 result.1 }
+) -> (TaskEnd, Exit)
+    requires problem { IsProblem served.problem }
+    requires reported { AreReported task.mode task.span served.problem.design served.reports.items }
+    requires limited { AreLimited served.start task.limit served.reports.items }
+    requires collected { IsCollected task.mode task.span served.problem.design served.reports.items served.collected }
+    ensures end { IsEnd (string_bytes task.name) None served.problem.problem.text served.reports.items served.start result.0 }
+    ensures status { HasOwnStatus (task_seen task) result.0 ⊎ (result.0.status ≡ MemoryStatus) }
+    ensures printed { IsPrinted (S.taken out.old) (S.taken out.new) (S.faults out.old) (S.faults out.new) (S.ended out.new) (AreLines (task_seen task) result.0) task.expect (HasOwnStatus (task_seen task) result.0) result.0.status (exit_seen result.1) }
+    ensures put { AreTracesPut (task_seen task) (files_at (F.told files.old) (F.faults files.old) (F.blamed files.old)) (files_at (F.told files.new) (F.faults files.new) (F.blamed files.new)) served.problem served.reports.items result.0.unput.items
+        ((result.0.status ≡ MemoryStatus) ⊎ Rose (S.faults out.old) (S.faults out.new)) }
+    ensures files { F.faults files.old ≤ F.faults files.new }
     ensures later { S.faults out.old ≤ S.faults out.new }
 {
-    let (verdict, decided) = verdict_of(asked.mode, &served.answers, &served.events);
-    let rc = rc_of(expect, decided);
-    let told = tell_served(alloc, out, name.as_str(), &served, verdict, decided, rc);
-    let (status, rc) = ended(told, decided, rc);
-    let Served {
-        problem,
-        report,
-        ..
-    } = served;
-    let mut reports = reports;
-    reports.push(report).unwrap();
+    job_lines_exist();
+    let decided = served.collected.status;
+    let rc = rc_of(&task.expect, decided);
+    let mut unput = Vec::new(alloc);
+    let told = tell_task(alloc, files, out, &heading(&task), &served, &mut unput, rc);
+    let (status, exit) = ended(told, decided, rc);
     let end = TaskEnd {
-        name,
+        name: task.name,
         status,
         early: None,
-        start: None,
-        reports,
-        unput: Vec::new(alloc),
-        text: problem.into_text(),
+        start: served.start,
+        reports: served.reports,
+        unput,
+        text: served.problem.into_text(),
     };
-    (end, rc)
+    (end, exit)
 }
 
-// Runs a task, and prints its lines.
-fn run_task<F: Files, S: Sink>(
+/// Runs a task, which has this number in its call: gets its design, puts its jobs' files, serves its jobs, prints its lines and puts its
+/// trace files.
+pub fn run_task<R: Threads + Wait + Sync, F: Files, S: Sink, Y: Yard, C: Clock>(
+    rt: &R,
     alloc: Global,
-    files: &mut F,
-    out: &mut S,
-    asked: &TaskRequest,
-    room: Room,
-) -> (TaskEnd, u8)
-    requires askable { IsAskable asked.now }
-    requires room { IsRoom asked.now.folder room }
-    ensures { (exit : Exit)
-        × TaskRan
-        (record { told = F.told files.old; file_faults = F.faults files.old; blamed = F.blamed files.old; taken = S.taken out.old; sink_faults = S.faults out.old; ended = S.ended out.old })
-        (record { told = F.told files.new; file_faults = F.faults files.new; blamed = F.blamed files.new; taken = S.taken out.new; sink_faults = S.faults out.new; ended = S.ended out.new })
-        asked.now result.0 exit
-        × (result.1 ≡ rc_of_exit exit) }
-{
-    let Room {
-        name,
-        expect,
-        reports,
-    } = room;
-    // PASS of prove stands on this law.
-    base_and_step_show_that_nothing_breaks();
-    match serve(alloc, files, asked) {
-        Ok(served) => finish_served(alloc, out, asked, name, &expect, served, reports),
-        Err(early) => finish_early(alloc, out, asked, name, &expect, early),
-    }
-}
-
-// Memory was wanting before anything was done.
-fn out_of_memory(alloc: Global) -> Done
-    ensures rc { result.rc ≡ 32 }
-    ensures ends { result.ends.items ≡ [] }
-{
-    Done {
-        rc: 32,
-        ends: Vec::new(alloc),
-    }
-}
-
-fn run_asked<F: Files, S: Sink>(
-    alloc: Global,
-    files: &mut F,
-    out: &mut S,
-    asked: &TaskRequest,
-) -> Done
-    requires askable { IsAskable asked.now }
-    ensures { IsDoneAs
-        (record { told = F.told files.old; file_faults = F.faults files.old; blamed = F.blamed files.old; taken = S.taken out.old; sink_faults = S.faults out.old; ended = S.ended out.old })
-        (record { told = F.told files.new; file_faults = F.faults files.new; blamed = F.blamed files.new; taken = S.taken out.new; sink_faults = S.faults out.new; ended = S.ended out.new })
-        result (Some asked.now) }
-{
-    let mut ends = match Vec::with_capacity(alloc, 1) {
-        Ok(ends) => ends,
-        Err(_) => return out_of_memory(alloc),
-    };
-    let room = match Room::new(alloc, asked.folder.as_str()) {
-        Ok(room) => room,
-        Err(_) => return out_of_memory(alloc),
-    };
-    let (end, rc) = run_task(alloc, files, out, asked, room);
-    ends.push(end).unwrap();
-    Done { rc, ends }
-}
-
-// Prints the usage line.
-fn run_usage<S: Sink>(alloc: Global, out: &mut S) -> Done
-    ensures rc { result.rc ≡ 16 }
-    ensures ends { result.ends.items ≡ [] }
-    ensures later { S.faults out.old ≤ S.faults out.new }
-    ensures line { ((S.faults out.new ≡ S.faults out.old) × (S.taken out.new ≡ grown (S.taken out.old) usage_line))
-        ⊎ (Rose (S.faults out.old) (S.faults out.new) × AreAll (S.ended out.new) (S.taken out.new) × GrownBySome (S.taken out.old) (S.taken out.new) usage_line) }
-{
-    // A failed call has the exit status of the usage line.
-    let _ = offer(out, text::usage_line().as_bytes());
-    Done {
-        rc: 16,
-        ends: Vec::new(alloc),
-    }
-}
-
-/// Does all that the program `sby` does: `words` are its arguments, `files` and `out` the file store and the output that it uses. It
-/// answers the exit status, and what each task came to.
-///
-/// Served are `[-f] [-d DIR] --judge DESIGN MODE DEPTH [STREAM ..]`, one stream for each job in the order of the jobs; all other words
-/// are refused. No children are started, and no clock is read. Want of memory is told in the answer: status MEMORY, exit status 32.
-pub fn run_sby<R, F: Files, S: Sink, Y: Yard, C: Clock>(
-    _rt: &R,
-    alloc: Global,
-    words: &[String],
     files: &mut F,
     out: &mut S,
     yard: &mut Y,
-    _clock: &C,
-) -> Done
-    // The headline.
-    ensures did { Did
-        (record { told = F.told files.old; file_faults = F.faults files.old; blamed = F.blamed files.old; taken = S.taken out.old; sink_faults = S.faults out.old; ended = S.ended out.old })
-        (record { told = F.told files.new; file_faults = F.faults files.new; blamed = F.blamed files.new; taken = S.taken out.new; sink_faults = S.faults out.new; ended = S.ended out.new })
-        (map string_bytes words.now) result }
-    // No child is started.
-    ensures yard { yard.new ≡ yard.old }
+    clock: &C,
+    number: u32,
+    task: Task,
+) -> (TaskEnd, Exit)
+    requires { IsAskable (task_seen task) }
+    ensures { TaskRan (C.may_read clock.now) number
+        (world_at (F.told files.old) (F.faults files.old) (F.blamed files.old) (S.taken out.old) (S.faults out.old) (S.ended out.old) (Y.told yard.old) (counts_at (Y.start_faults yard.old) (Y.read_faults yard.old) (Y.hold_faults yard.old)))
+        (world_at (F.told files.new) (F.faults files.new) (F.blamed files.new) (S.taken out.new) (S.faults out.new) (S.ended out.new) (Y.told yard.new) (counts_at (Y.start_faults yard.new) (Y.read_faults yard.new) (Y.hold_faults yard.new)))
+        (task_seen task) result.0 (exit_seen result.1) }
 {
-    let _ = yard;
-    match asked_of(alloc, words) {
-        Ok(Some(asked)) => run_asked(alloc, files, out, &asked),
-        Ok(None) => run_usage(alloc, out),
-        Err(AllocError) => out_of_memory(alloc),
+    // PASS of prove and of bmc stands on these laws, and what is shown on the others.
+    base_and_step_show_that_nothing_breaks();
+    slices_show_that_nothing_breaks();
+    fail_shows_its_run();
+    job_lines_exist();
+    settled_statement_is_shown();
+    match serve(rt, alloc, files, yard, clock, number, &task) {
+        Ok(served) => finish_served(alloc, files, out, task, served),
+        Err(early) => {
+            let slices = task.span.slices();
+            finish_fault(alloc, out, task.name, slices, &task.expect, early)
+        }
     }
 }

@@ -1,51 +1,49 @@
-// A task's files are got and put, and its streams judged.
+// A task's design is got, its jobs' files are put, and its streams judged, or its lanes raced.
 
-ghost use Rattle.std.specs.Prelude.{◌≡◌, ◌⊎◌, ◌<◌, ◌≤◌, [], ◌∷◌, ℕ, List, None, Some, IfErr, IfOk, OnErr, OnOk, Contains, length, map, option_map, slice_get, string_bytes, vec_capacity};
+ghost use Rattle.std.specs.Prelude.{◌≡◌, ◌⊎◌, ◌<◌, ◌≤◌, [], ℕ, List, None, Some, IfErr, IfOk, OnErr, OnOk, Contains, length, map, option_map, slice_get, string_bytes};
 ghost use Rattle.judge.specs.Problem.{IsJob, IsJobFile, IsProblem};
 ghost use Rattle.sby_terms.specs.declared.names.JobName.{JobName};
 ghost use Rattle.sby_top.specs.Causes.{HasReason, IsDone};
-ghost use Rattle.sby_top.specs.Judged.{AreJudged};
-ghost use Rattle.sby_top.specs.Steps.{got_items, AreLined, IsEmptyTables, IsFailedCall, IsJudgedTask, IsPathJudged, IsPutFailed, IsRefusal, IsStreamGot};
-ghost use Rattle.sby_top.specs.Served.{ArePut, IsGot, IsServed, IsStored, IsWhole, jobs_in, problem_of, with_file};
+ghost use Rattle.sby_top.specs.Judged.{AreJudged, AreReports, AreStreamReports, racing_of};
+ghost use Rattle.sby_lines.specs.declared.early.Early.TheVariants.{Memory as EarlyMemory};
+ghost use Rattle.sby_top.specs.Steps.{files_at, got_items, IsCutShort, IsFailedCall, IsPathJudged, IsPutFailed, IsRefusal, IsStreamGot, IsTextFailed};
+ghost use Rattle.sby_top.specs.Served.{ArePut, IsGot, IsServed, IsTextOf, jobs_in, slices_in};
 ghost use Rattle.sby_edge.specs.Files.{put_at};
 ghost use Rattle.sby_top.specs.Headline.{early_of};
 ghost use Rattle.judge.specs.Fault.{IsProblemFault};
 ghost use Rattle.sby_terms.specs.Problem.{ProblemOf};
-ghost use Rattle.sby_top.specs.Texts.{job_path};
-ghost use Rattle.sby_top.specs.Askable.{IsAskable};
+ghost use Rattle.sby_terms.specs.Path.{job_path};
+ghost use Rattle.sby_lines.specs.Told.{AreLimited, AreReported, IsCollected};
+ghost use Rattle.sby_top.specs.Task.{IsAskable, problem_of, design_seen, service_seen, streams_in, task_seen};
+ghost use Rattle.task_race.specs.Bays.{AreLater, counts_at};
+ghost use Rattle.task_race.specs.Ran.{LanesRan};
 
 use crate::judge_stream::judge_job;
-use crate::outcome::Early;
-use crate::status::{answers_of, events_of};
-use crate::text;
-use crate::words::TaskRequest;
+use crate::task::{DesignAt, Service, Task};
 use judge::{Finding, Problem, ProblemFault};
 use race_core::{JobEnd, Report};
-use sby_edge::{Fail, Files, Got};
-use sby_terms::{Answer, Event, JobName, MAX_STREAM, Span};
-use std::alloc::{AllocError, Global};
+use sby_edge::{Clock, Fail, Files, Got, Yard};
+use sby_lines::{Collected, Early};
+use sby_terms::{Engine, JobName, MAX_STREAM, job_path};
+use std::alloc::Global;
+use std::sync::Wait;
+use std::thread::Threads;
+use task_race::{Racing, RanLanes, race_task};
 
 const MOST_DESIGN: u64 = 1 << 26;
 
-/// A task whose design was accepted and whose streams were judged: what its jobs came to, their answers and their events.
+/// A task whose design was accepted: its problem, what its lanes report, and what the reports come to.
 #[derive(Drop)]
 pub struct Served {
     pub problem: Problem,
-    pub report: Report<Finding>,
-    pub answers: Vec<Option<Answer>>,
-    pub events: Vec<Event>,
-}
-
-// What the jobs of an accepted design need room for, before a file is put.
-#[derive(Drop)]
-struct Tables {
-    report: Report<Finding>,
-    answers: Vec<Option<Answer>>,
-    events: Vec<Event>,
+    pub reports: Vec<Report<Finding>>,
+    /// The reading at which lanes under a limit started.
+    pub start: Option<u64>,
+    pub collected: Collected,
 }
 
 fn file_fault(alloc: Global, path: &str) -> Early
-    ensures { IsFailedCall 0 1 None path.now result }
+    ensures { IsFailedCall (files_at None 0 None) (files_at None 1 None) path.now result }
 {
     match String::from_str(alloc, path) {
         Ok(path) => Early::File(path),
@@ -62,12 +60,13 @@ fn bytes_of(got: Got) -> Vec<u8>
     }
 }
 
-// Gets the content of a path, cut behind `most + 1` bytes.
-fn get<F: Files>(alloc: Global, files: &mut F, path: &str, most: u64) -> Result<Vec<u8>, Early>
+/// Gets the content of a path, cut behind `most + 1` bytes.
+pub fn get<F: Files>(alloc: Global, files: &mut F, path: &str, most: u64) -> Result<Vec<u8>, Early>
     ensures got { IfOk result (λ bytes. IsGot (F.told files.old) path.now most bytes.items) }
-    ensures failed { IfErr result (λ early. IsFailedCall (F.faults files.old) (F.faults files.new) (F.blamed files.new) path.now early) }
-    ensures same { F.told files.new ≡ F.told files.old }
+    ensures failed { IfErr result (IsFailedCall (files_at (F.told files.old) (F.faults files.old) (F.blamed files.old)) (files_at (F.told files.new) (F.faults files.new) (F.blamed files.new)) path.now) }
+    ensures told { F.told files.new ≡ F.told files.old }
     ensures still { OnOk result (F.faults files.new ≡ F.faults files.old) }
+    ensures blamed { OnOk result (F.blamed files.new ≡ F.blamed files.old) }
     ensures later { F.faults files.old ≤ F.faults files.new }
 {
     match files.get(alloc, path, most) {
@@ -79,15 +78,34 @@ fn get<F: Files>(alloc: Global, files: &mut F, path: &str, most: u64) -> Result<
 
 fn put<F: Files>(alloc: Global, files: &mut F, path: &str, bytes: &[u8]) -> Result<(), Early>
     ensures ok { OnOk result (F.told files.new ≡ option_map (put_at path.now bytes.now) (F.told files.old)) }
-    ensures err { OnErr result (F.told files.new ≡ F.told files.old) }
-    ensures failed { IfErr result (λ early. IsFailedCall (F.faults files.old) (F.faults files.new) (F.blamed files.new) path.now early) }
+    ensures failed { IfErr result (IsFailedCall (files_at (F.told files.old) (F.faults files.old) (F.blamed files.old)) (files_at (F.told files.new) (F.faults files.new) (F.blamed files.new)) path.now) }
+    ensures told { OnErr result (F.told files.new ≡ F.told files.old) }
     ensures still { OnOk result (F.faults files.new ≡ F.faults files.old) }
+    ensures blamed { OnOk result (F.blamed files.new ≡ F.blamed files.old) }
     ensures later { F.faults files.old ≤ F.faults files.new }
 {
     match files.put(alloc, path, bytes) {
         Ok(()) => Ok(()),
         Err(Fail::Failed) => Err(file_fault(alloc, path)),
         Err(Fail::Memory) => Err(Early::Memory),
+    }
+}
+
+// The text of a design, which is got where its path is given.
+fn design_text<F: Files>(alloc: Global, files: &mut F, design: &DesignAt) -> Result<Vec<u8>, Early>
+    ensures got { IfOk result (λ text. IsTextOf (F.told files.old) (design_seen design.now) text.items) }
+    ensures failed { IfErr result (IsTextFailed (design_seen design.now) (files_at (F.told files.old) (F.faults files.old) (F.blamed files.old)) (files_at (F.told files.new) (F.faults files.new) (F.blamed files.new))) }
+    ensures told { F.told files.new ≡ F.told files.old }
+    ensures still { OnOk result (F.faults files.new ≡ F.faults files.old) }
+    ensures blamed { OnOk result (F.blamed files.new ≡ F.blamed files.old) }
+    ensures later { F.faults files.old ≤ F.faults files.new }
+{
+    match design {
+        DesignAt::Stored(path) => get(alloc, files, path.as_str(), MOST_DESIGN),
+        DesignAt::Given(bytes) => match Vec::from_slice(alloc, bytes) {
+            Ok(text) => Ok(text),
+            Err(_) => Err(Early::Memory),
+        },
     }
 }
 
@@ -102,30 +120,41 @@ fn refusal(fault: ProblemFault) -> Early
     }
 }
 
-fn problem_of(alloc: Global, text: Vec<u8>, asked: &TaskRequest) -> Result<Problem, Early>
-    requires { IsAskable asked.now }
-    ensures ok { IfOk result (λ p. (p.problem ≡ problem_of asked.now text.items) × IsProblem p) }
-    ensures err { IfErr result (IsRefusal (problem_of asked.now text.items)) }
+fn problem_of(alloc: Global, text: Vec<u8>, task: &Task) -> Result<Problem, Early>
+    requires { IsAskable (task_seen task.now) }
+    ensures ok { IfOk result (λ p. (p.problem ≡ problem_of (task_seen task.now) text.items) × IsProblem p) }
+    ensures err { IfErr result (IsRefusal (problem_of (task_seen task.now) text.items)) }
 {
-    match Problem::new(alloc, text, asked.mode, Span::whole(asked.depth)) {
+    match Problem::new(alloc, text, task.mode, task.span) {
         Ok(Ok(problem)) => Ok(problem),
         Ok(Err(fault)) => Err(refusal(fault)),
         Err(_) => Err(Early::Memory),
     }
 }
 
+// How many stored streams there are.
+fn stream_count(service: &Service) -> usize
+    ensures { result ≡ length (streams_in (service_seen service.now)) }
+{
+    match service {
+        Service::Streams(paths) => paths.len(),
+        Service::Lanes(_) => 0,
+    }
+}
+
 // Gets the design. It is accepted, and there is a job for each stream, or nothing was put.
-fn accept<F: Files>(alloc: Global, files: &mut F, asked: &TaskRequest) -> Result<Problem, Early>
-    requires { IsAskable asked.now }
-    ensures ok { IfOk result (IsServed (F.told files.old) asked.now) }
-    ensures err { IfErr result (HasReason asked.now (F.told files.old) (F.told files.new) (F.faults files.old) (F.faults files.new) (F.blamed files.new)) }
-    ensures same { F.told files.new ≡ F.told files.old }
+fn accept<F: Files>(alloc: Global, files: &mut F, task: &Task) -> Result<Problem, Early>
+    requires { IsAskable (task_seen task.now) }
+    ensures ok { IfOk result (IsServed (F.told files.old) (task_seen task.now)) }
+    ensures err { IfErr result (HasReason (task_seen task.now) (files_at (F.told files.old) (F.faults files.old) (F.blamed files.old)) (files_at (F.told files.new) (F.faults files.new) (F.blamed files.new))) }
+    ensures told { F.told files.new ≡ F.told files.old }
     ensures still { OnOk result (F.faults files.new ≡ F.faults files.old) }
+    ensures blamed { OnOk result (F.blamed files.new ≡ F.blamed files.old) }
     ensures later { F.faults files.old ≤ F.faults files.new }
 {
-    let text = get(alloc, files, asked.design.as_str(), MOST_DESIGN)?;
-    let problem = problem_of(alloc, text, asked)?;
-    if asked.streams.len() > problem.jobs() {
+    let text = design_text(alloc, files, &task.design)?;
+    let problem = problem_of(alloc, text, task)?;
+    if stream_count(&task.service) > problem.jobs() {
         return Err(Early::Streams);
     }
     Ok(problem)
@@ -133,24 +162,11 @@ fn accept<F: Files>(alloc: Global, files: &mut F, asked: &TaskRequest) -> Result
 
 // How many jobs there are. A design has at most 2^27 cells.
 fn job_count(problem: &Problem) -> u32
-    requires { IsWhole problem.now }
     ensures { result ≡ length (jobs_in problem.now) }
 {
     // A flat design is one, of so few cells.
     let _ = problem.flat();
     problem.jobs() as u32
-}
-
-impl Tables {
-    fn new(alloc: Global, jobs: u32) -> Result<Tables, AllocError>
-        ensures { IfOk result (IsEmptyTables jobs) }
-    {
-        Ok(Tables {
-            report: Report::new(alloc, 0, jobs)?,
-            answers: Vec::with_capacity(alloc, jobs as usize)?,
-            events: Vec::with_capacity(alloc, jobs as usize)?,
-        })
-    }
 }
 
 // Puts the file of a job.
@@ -159,20 +175,31 @@ fn put_job<F: Files>(
     files: &mut F,
     problem: &Problem,
     folder: &str,
+    slices: u32,
     job: JobName,
 ) -> Result<(), Early>
     requires { IsJob problem.now job }
-    ensures ok { OnOk result ((file : List ℕ) × IsJobFile problem.now job file × (F.told files.new ≡ with_file folder.now job file (F.told files.old))) }
-    ensures err { OnErr result (F.told files.new ≡ F.told files.old) }
-    ensures failed { IfErr result (IsFailedCall (F.faults files.old) (F.faults files.new) (F.blamed files.new) (job_path folder.now job)) }
+    ensures ok { OnOk result ((file : List ℕ) × IsJobFile problem.now job file × (F.told files.new ≡ option_map (put_at (job_path folder.now slices job) file) (F.told files.old))) }
+    ensures failed { IfErr result (IsFailedCall (files_at (F.told files.old) (F.faults files.old) (F.blamed files.old)) (files_at (F.told files.new) (F.faults files.new) (F.blamed files.new)) (job_path folder.now slices job)) }
+    ensures told { OnErr result (F.told files.new ≡ F.told files.old) }
     ensures still { OnOk result (F.faults files.new ≡ F.faults files.old) }
+    ensures blamed { OnOk result (F.blamed files.new ≡ F.blamed files.old) }
     ensures later { F.faults files.old ≤ F.faults files.new }
 {
-    let path = match text::job_path(alloc, folder, job) {
+    let path = match job_path(alloc, folder, slices, job) {
         Ok(path) => path,
         Err(_) => return Err(Early::Memory),
     };
     put(alloc, files, path.as_str(), problem.job_bytes(job))
+}
+
+// How many slices there are.
+fn slice_count(problem: &Problem) -> u32
+    ensures { result ≡ slices_in problem.now }
+{
+    // The span is one.
+    let _ = problem.flat();
+    problem.span().slices()
 }
 
 // Puts the files of all jobs, in their order, up to a call that fails.
@@ -183,12 +210,14 @@ fn put_jobs<F: Files>(
     folder: &str,
 ) -> Result<(), Early>
     ensures ok { OnOk result (ArePut problem.now folder.now (jobs_in problem.now) (F.told files.old) (F.told files.new)) }
-    ensures err { IfErr result (IsPutFailed problem.now folder.now (F.told files.old) (F.told files.new) (F.faults files.old) (F.faults files.new) (F.blamed files.new)) }
+    ensures err { IfErr result (IsPutFailed problem.now folder.now (files_at (F.told files.old) (F.faults files.old) (F.blamed files.old)) (files_at (F.told files.new) (F.faults files.new) (F.blamed files.new))) }
     ensures still { OnOk result (F.faults files.new ≡ F.faults files.old) }
+    ensures blamed { OnOk result (F.blamed files.new ≡ F.blamed files.old) }
     ensures later { F.faults files.old ≤ F.faults files.new }
 {
+    let slices = slice_count(problem);
     for place in 0..problem.jobs() {
-        put_job(alloc, files, problem, folder, problem.job(place))?;
+        put_job(alloc, files, problem, folder, slices, problem.job(place))?;
     }
     Ok(())
 }
@@ -200,9 +229,11 @@ fn get_stream<F: Files>(
     path: Option<&String>,
 ) -> Result<Option<Vec<u8>>, Early>
     ensures ok { IfOk result (λ stream. IsStreamGot (F.told files.old) (option_map (λ s. string_bytes s.now) path.entry) (option_map (λ v. v.items) stream)) }
-    ensures err { IfErr result (λ early. (at : List ℕ) × (option_map (λ s. string_bytes s.now) path.entry ≡ Some at) × IsFailedCall (F.faults files.old) (F.faults files.new) (F.blamed files.new) at early) }
-    ensures same { F.told files.new ≡ F.told files.old }
+    ensures err { IfErr result (λ early. (at : List ℕ) × (option_map (λ s. string_bytes s.now) path.entry ≡ Some at)
+        × IsFailedCall (files_at (F.told files.old) (F.faults files.old) (F.blamed files.old)) (files_at (F.told files.new) (F.faults files.new) (F.blamed files.new)) at early) }
+    ensures told { F.told files.new ≡ F.told files.old }
     ensures still { OnOk result (F.faults files.new ≡ F.faults files.old) }
+    ensures blamed { OnOk result (F.blamed files.new ≡ F.blamed files.old) }
     ensures later { F.faults files.old ≤ F.faults files.new }
 {
     match path {
@@ -225,9 +256,11 @@ fn judge_place<F: Files>(
     requires { place < length (jobs_in problem.now) }
     ensures ok { IfOk result (λ end. (job : JobName) × (slice_get (jobs_in problem.now) place ≡ Some job)
         × IsPathJudged problem.now (F.told files.old) job (slice_get (map string_bytes paths.now) place) end) }
-    ensures err { IfErr result (λ early. (path : List ℕ) × Contains (map string_bytes paths.now) path × IsFailedCall (F.faults files.old) (F.faults files.new) (F.blamed files.new) path early) }
-    ensures same { F.told files.new ≡ F.told files.old }
+    ensures err { IfErr result (λ early. (path : List ℕ) × Contains (map string_bytes paths.now) path
+        × IsFailedCall (files_at (F.told files.old) (F.faults files.old) (F.blamed files.old)) (files_at (F.told files.new) (F.faults files.new) (F.blamed files.new)) path early) }
+    ensures told { F.told files.new ≡ F.told files.old }
     ensures still { OnOk result (F.faults files.new ≡ F.faults files.old) }
+    ensures blamed { OnOk result (F.blamed files.new ≡ F.blamed files.old) }
     ensures later { F.faults files.old ≤ F.faults files.new }
 {
     let stream = get_stream(alloc, files, paths.get(place))?;
@@ -246,9 +279,11 @@ fn judge_jobs<F: Files>(
     requires room { report.old.jobs ≡ length (jobs_in problem.now) }
     ensures ok { OnOk result (AreJudged problem.now (F.told files.old) (jobs_in problem.now) (map string_bytes paths.now) report.new.ends) }
     ensures report { OnOk result (report.new ≡ record report.old { ends = report.new.ends }) }
-    ensures err { IfErr result (λ early. (path : List ℕ) × Contains (map string_bytes paths.now) path × IsFailedCall (F.faults files.old) (F.faults files.new) (F.blamed files.new) path early) }
-    ensures same { F.told files.new ≡ F.told files.old }
+    ensures err { IfErr result (λ early. (path : List ℕ) × Contains (map string_bytes paths.now) path
+        × IsFailedCall (files_at (F.told files.old) (F.faults files.old) (F.blamed files.old)) (files_at (F.told files.new) (F.faults files.new) (F.blamed files.new)) path early) }
+    ensures told { F.told files.new ≡ F.told files.old }
     ensures still { OnOk result (F.faults files.new ≡ F.faults files.old) }
+    ensures blamed { OnOk result (F.blamed files.new ≡ F.blamed files.old) }
     ensures later { F.faults files.old ≤ F.faults files.new }
 {
     for place in 0..problem.jobs() {
@@ -258,76 +293,168 @@ fn judge_jobs<F: Files>(
     Ok(())
 }
 
-// What was judged, with its tables.
-fn served_of(
-    problem: Problem,
-    report: Report<Finding>,
-    answers: Vec<Option<Answer>>,
-    events: Vec<Event>,
-) -> Served
-    requires problem { IsProblem problem }
-    requires whole { IsWhole problem }
-    requires lined { AreLined problem (jobs_in problem) report.ends }
-    requires answers { (answers.items ≡ []) × (length report.ends ≤ vec_capacity answers) }
-    requires events { (events.items ≡ []) × (length report.ends ≤ vec_capacity events) }
-    ensures problem { result.problem ≡ problem }
-    ensures report { result.report ≡ report }
-    ensures task { IsJudgedTask result }
+// Puts the jobs' files, then gets the streams and judges them.
+fn judge_streams<F: Files>(
+    alloc: Global,
+    files: &mut F,
+    problem: &Problem,
+    folder: &str,
+    paths: &[String],
+) -> Result<Vec<Report<Finding>>, Early>
+    ensures put { OnOk result (ArePut problem.now folder.now (jobs_in problem.now) (F.told files.old) (F.told files.new)) }
+    ensures ok { IfOk result (λ reports. AreStreamReports problem.now (F.told files.new) (map string_bytes paths.now) reports.items) }
+    ensures err { IfErr result (IsCutShort problem.now folder.now (map string_bytes paths.now) (files_at (F.told files.old) (F.faults files.old) (F.blamed files.old)) (files_at (F.told files.new) (F.faults files.new) (F.blamed files.new))) }
+    ensures still { OnOk result (F.faults files.new ≡ F.faults files.old) }
+    ensures blamed { OnOk result (F.blamed files.new ≡ F.blamed files.old) }
+    ensures later { F.faults files.old ≤ F.faults files.new }
 {
-    let answers = answers_of(report.ends(), answers);
-    let events = events_of(report.ends(), events);
-    Served {
+    let (Ok(report), Ok(reports)) = (
+        Report::new(alloc, 0, job_count(problem)),
+        Vec::with_capacity(alloc, 1),
+    ) else {
+        return Err(Early::Memory);
+    };
+    let mut report = report;
+    let mut reports = reports;
+    put_jobs(alloc, files, problem, folder)?;
+    judge_jobs(alloc, files, problem, paths, &mut report)?;
+    reports.push(report).unwrap();
+    Ok(reports)
+}
+
+// Puts the jobs' files, then races the lanes of these engines.
+fn race_jobs<R: Threads + Wait + Sync, F: Files, Y: Yard, C: Clock>(
+    rt: &R,
+    alloc: Global,
+    files: &mut F,
+    yard: &mut Y,
+    clock: &C,
+    problem: &Problem,
+    task: &Task,
+    engines: &[Engine],
+    number: u32,
+) -> Result<RanLanes, Early>
+    ensures put { OnOk result (ArePut problem.now (task_seen task.now).request.name (jobs_in problem.now) (F.told files.old) (F.told files.new)) }
+    ensures ok { IfOk result (λ ran. LanesRan (racing_of (task_seen task.now) problem.now number engines.now) (C.may_read clock.now) (Y.told yard.old)
+        (counts_at (Y.start_faults yard.old) (Y.read_faults yard.old) (Y.hold_faults yard.old)) (counts_at (Y.start_faults yard.new) (Y.read_faults yard.new) (Y.hold_faults yard.new)) ran.start ran.reports.items) }
+    ensures err { IfErr result (IsCutShort problem.now (task_seen task.now).request.name [] (files_at (F.told files.old) (F.faults files.old) (F.blamed files.old)) (files_at (F.told files.new) (F.faults files.new) (F.blamed files.new))) }
+    ensures spared { OnErr result (counts_at (Y.start_faults yard.new) (Y.read_faults yard.new) (Y.hold_faults yard.new) ≡ counts_at (Y.start_faults yard.old) (Y.read_faults yard.old) (Y.hold_faults yard.old)) }
+    ensures still { OnOk result (F.faults files.new ≡ F.faults files.old) }
+    ensures blamed { OnOk result (F.blamed files.new ≡ F.blamed files.old) }
+    ensures later { F.faults files.old ≤ F.faults files.new }
+    ensures scripts { Y.told yard.new ≡ Y.told yard.old }
+    ensures children { AreLater (counts_at (Y.start_faults yard.old) (Y.read_faults yard.old) (Y.hold_faults yard.old)) (counts_at (Y.start_faults yard.new) (Y.read_faults yard.new) (Y.hold_faults yard.new)) }
+{
+    let folder = task.name.as_str();
+    put_jobs(alloc, files, problem, folder)?;
+    let racing = Racing {
         problem,
-        report,
-        answers,
-        events,
+        engines,
+        folder,
+        task: number,
+        wait: task.wait,
+        limit: task.limit,
+    };
+    match race_task(rt, alloc, yard, clock, &racing) {
+        Ok(ran) => Ok(ran),
+        Err(_) => Err(Early::Memory),
     }
 }
 
-// Puts the jobs' files, gets the streams and judges them.
-fn judge_problem<F: Files>(
+// Serves the jobs of an accepted design, by what serves them.
+fn serve_jobs<R: Threads + Wait + Sync, F: Files, Y: Yard, C: Clock>(
+    rt: &R,
     alloc: Global,
     files: &mut F,
-    problem: Problem,
-    asked: &TaskRequest,
-    tables: Tables,
-) -> Result<Served, Early>
-    requires served { IsServed (F.told files.old) asked.now problem }
-    requires tables { IsEmptyTables (length (jobs_in problem)) tables }
-    ensures ok { IfOk result (λ s. IsDone asked.now (F.told files.old) (F.told files.new) s.problem.problem.text s.report) }
-    ensures mode { IfOk result (λ s. s.problem.problem.mode ≡ asked.now.mode) }
-    ensures task { IfOk result IsJudgedTask }
-    ensures err { IfErr result (HasReason asked.now (F.told files.old) (F.told files.new) (F.faults files.old) (F.faults files.new) (F.blamed files.new)) }
-    ensures stored { IsStored asked.now (F.told files.old) (F.told files.new) }
+    yard: &mut Y,
+    clock: &C,
+    problem: &Problem,
+    task: &Task,
+    number: u32,
+) -> Result<RanLanes, Early>
+    ensures put { OnOk result (ArePut problem.now (task_seen task.now).request.name (jobs_in problem.now) (F.told files.old) (F.told files.new)) }
+    ensures ok { IfOk result (λ ran. AreReports (service_seen task.now.service) (C.may_read clock.now) (task_seen task.now) problem.now (F.told files.new)
+        (record {
+          task = number;
+          scripts = Y.told yard.old;
+          before = counts_at (Y.start_faults yard.old) (Y.read_faults yard.old) (Y.hold_faults yard.old);
+          after = counts_at (Y.start_faults yard.new) (Y.read_faults yard.new) (Y.hold_faults yard.new);
+          start = ran.start;
+        }) ran.reports.items) }
+    ensures err { IfErr result (IsCutShort problem.now (task_seen task.now).request.name (streams_in (service_seen task.now.service)) (files_at (F.told files.old) (F.faults files.old) (F.blamed files.old)) (files_at (F.told files.new) (F.faults files.new) (F.blamed files.new))) }
+    ensures spared { OnErr result (counts_at (Y.start_faults yard.new) (Y.read_faults yard.new) (Y.hold_faults yard.new) ≡ counts_at (Y.start_faults yard.old) (Y.read_faults yard.old) (Y.hold_faults yard.old)) }
     ensures still { OnOk result (F.faults files.new ≡ F.faults files.old) }
+    ensures blamed { OnOk result (F.blamed files.new ≡ F.blamed files.old) }
     ensures later { F.faults files.old ≤ F.faults files.new }
+    ensures scripts { Y.told yard.new ≡ Y.told yard.old }
+    ensures children { AreLater (counts_at (Y.start_faults yard.old) (Y.read_faults yard.old) (Y.hold_faults yard.old)) (counts_at (Y.start_faults yard.new) (Y.read_faults yard.new) (Y.hold_faults yard.new)) }
 {
-    let Tables {
-        report,
-        answers,
-        events,
-    } = tables;
-    let mut report = report;
-    put_jobs(alloc, files, &problem, asked.folder.as_str())?;
-    judge_jobs(alloc, files, &problem, &asked.streams, &mut report)?;
-    Ok(served_of(problem, report, answers, events))
+    match &task.service {
+        Service::Streams(paths) => {
+            let reports = judge_streams(alloc, files, problem, task.name.as_str(), paths)?;
+            Ok(RanLanes {
+                reports,
+                start: None,
+            })
+        }
+        Service::Lanes(engines) => race_jobs(
+            rt, alloc, files, yard, clock, problem, task, engines, number,
+        ),
+    }
 }
 
-/// Gets the design, puts the jobs' files, gets the streams and judges them.
-pub fn serve<F: Files>(alloc: Global, files: &mut F, asked: &TaskRequest) -> Result<Served, Early>
-    requires { IsAskable asked.now }
-    ensures ok { IfOk result (λ s. IsDone asked.now (F.told files.old) (F.told files.new) s.problem.problem.text s.report) }
-    ensures mode { IfOk result (λ s. s.problem.problem.mode ≡ asked.now.mode) }
-    ensures task { IfOk result IsJudgedTask }
-    ensures err { IfErr result (HasReason asked.now (F.told files.old) (F.told files.new) (F.faults files.old) (F.faults files.new) (F.blamed files.new)) }
-    ensures stored { IsStored asked.now (F.told files.old) (F.told files.new) }
-    ensures still { OnOk result (F.faults files.new ≡ F.faults files.old) }
-    ensures later { F.faults files.old ≤ F.faults files.new }
+// What the reports come to.
+fn collected(
+    alloc: Global,
+    task: &Task,
+    problem: &Problem,
+    reports: &[Report<Finding>],
+) -> Result<Collected, Early>
+    requires { AreReported task.now.mode task.now.span problem.now.design reports.now }
+    ensures ok { IfOk result (IsCollected task.now.mode task.now.span problem.now.design reports.now) }
+    ensures err { IfErr result (λ early. early ≡ EarlyMemory) }
 {
-    let problem = accept(alloc, files, asked)?;
-    let tables = match Tables::new(alloc, job_count(&problem)) {
-        Ok(tables) => tables,
-        Err(_) => return Err(Early::Memory),
-    };
-    judge_problem(alloc, files, problem, asked, tables)
+    match Collected::new(alloc, task.mode, &task.span, problem.flat(), reports) {
+        Ok(collected) => Ok(collected),
+        Err(_) => Err(Early::Memory),
+    }
+}
+
+/// Gets the design, puts the jobs' files, and serves the jobs.
+pub fn serve<R: Threads + Wait + Sync, F: Files, Y: Yard, C: Clock>(
+    rt: &R,
+    alloc: Global,
+    files: &mut F,
+    yard: &mut Y,
+    clock: &C,
+    number: u32,
+    task: &Task,
+) -> Result<Served, Early>
+    requires { IsAskable (task_seen task.now) }
+    ensures done { IfOk result (λ s. (done : IsDone (C.may_read clock.now) (task_seen task.now) (files_at (F.told files.old) (F.faults files.old) (F.blamed files.old)) (files_at (F.told files.new) (F.faults files.new) (F.blamed files.new))
+        (record {
+          task = number;
+          scripts = Y.told yard.old;
+          before = counts_at (Y.start_faults yard.old) (Y.read_faults yard.old) (Y.hold_faults yard.old);
+          after = counts_at (Y.start_faults yard.new) (Y.read_faults yard.new) (Y.hold_faults yard.new);
+          start = s.start;
+        }) s.problem.problem.text s.reports.items) × (done.problem ≡ s.problem)) }
+    ensures reported { IfOk result (λ s. AreReported task.now.mode task.now.span s.problem.design s.reports.items) }
+    ensures limited { IfOk result (λ s. AreLimited s.start task.now.limit s.reports.items) }
+    ensures collected { IfOk result (λ s. IsCollected task.now.mode task.now.span s.problem.design s.reports.items s.collected) }
+    ensures err { IfErr result (HasReason (task_seen task.now) (files_at (F.told files.old) (F.faults files.old) (F.blamed files.old)) (files_at (F.told files.new) (F.faults files.new) (F.blamed files.new))) }
+    ensures spared { IfErr result (λ early. (counts_at (Y.start_faults yard.new) (Y.read_faults yard.new) (Y.hold_faults yard.new) ≡ counts_at (Y.start_faults yard.old) (Y.read_faults yard.old) (Y.hold_faults yard.old)) ⊎ (early ≡ EarlyMemory)) }
+    ensures later { F.faults files.old ≤ F.faults files.new }
+    ensures scripts { Y.told yard.new ≡ Y.told yard.old }
+    ensures children { AreLater (counts_at (Y.start_faults yard.old) (Y.read_faults yard.old) (Y.hold_faults yard.old)) (counts_at (Y.start_faults yard.new) (Y.read_faults yard.new) (Y.hold_faults yard.new)) }
+{
+    let problem = accept(alloc, files, task)?;
+    let ran = serve_jobs(rt, alloc, files, yard, clock, &problem, task, number)?;
+    let collected = collected(alloc, task, &problem, &ran.reports)?;
+    Ok(Served {
+        problem,
+        reports: ran.reports,
+        start: ran.start,
+        collected,
+    })
 }

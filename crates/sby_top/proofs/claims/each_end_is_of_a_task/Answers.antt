@@ -1,5 +1,5 @@
-use Rattle.sby_top.proofs.ClaimLemmas.{end_is_task}
+use Rattle.sby_top.proofs.HadLemmas.{each_had}
 use Rattle.sby_top.proofs.claims.each_end_is_of_a_task.Goals as goal
 
 pub returns : goal.returns
-returns c before after words done end did in_ends = end_is_task before after words done did end in_ends
+returns g c = each_had (g.C.Clock.may_read c.args.clock.now)

@@ -1,5 +1,5 @@
-use Rattle.sby_top.proofs.ClaimLemmas.{event_claimed}
+use Rattle.sby_top.proofs.EventLemmas.{event_named}
 use Rattle.sby_top.proofs.claims.each_status_names_its_event.Goals as goal
 
 pub returns : goal.returns
-returns c before after start finish words done request end task = event_claimed start finish request end task.exit task.ran
+returns g c = λ before start finish words done task end is. event_named (g.C.Clock.may_read c.args.clock.now) is.place start finish task end is.ran.named

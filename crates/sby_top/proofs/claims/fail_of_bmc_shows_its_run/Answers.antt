@@ -2,4 +2,4 @@ use Rattle.sby_top.proofs.ClaimLemmas.{fail_claimed}
 use Rattle.sby_top.proofs.claims.fail_of_bmc_shows_its_run.Goals as goal
 
 pub returns : goal.returns
-returns c before after start finish words done request end task status bmc = fail_claimed start finish request end task.exit task.ran status bmc
+returns g c = λ before start finish words done task end is status mode. fail_claimed (g.C.Clock.may_read c.args.clock.now) is.place start finish task end is.exit is.ran status mode

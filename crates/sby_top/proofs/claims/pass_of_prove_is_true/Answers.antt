@@ -2,4 +2,4 @@ use Rattle.sby_top.proofs.ClaimLemmas.{prove_pass_claimed}
 use Rattle.sby_top.proofs.claims.pass_of_prove_is_true.Goals as goal
 
 pub returns : goal.returns
-returns c before after start finish words done request end task status mode = prove_pass_claimed start finish request end task.exit task.ran status mode
+returns g c = λ before start finish words done task end is status mode. prove_pass_claimed (g.C.Clock.may_read c.args.clock.now) is.place start finish task end is.exit is.ran status mode

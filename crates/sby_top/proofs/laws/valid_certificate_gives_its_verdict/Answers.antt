@@ -1,5 +1,6 @@
-use Rattle.sby_top.proofs.LawLemmas.{gives}
+use Rattle.sby_top.proofs.LawLemmas.{certificate_gives}
 use Rattle.sby_top.proofs.laws.valid_certificate_gives_its_verdict.Goals as goal
 
 pub returns : goal.returns
-returns c = gives c.one_fate.ensures.whole c.one_file.ensures.file
+returns g c = λ before start finish words done j end now path stream file answer is judged bmc apart streams has stands valid.
+    certificate_gives c.one_fate.ensures.whole c.one_file.ensures.file (g.C.Clock.may_read c.args.clock.now) is.place start finish j end is.exit now path stream file answer is.ran judged bmc apart streams has stands valid

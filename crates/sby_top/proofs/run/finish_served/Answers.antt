@@ -1,39 +1,47 @@
-use Rattle.std.proofs.Common.{refl, ◌∙◌, [], ◌∷◌, ◌++◌, ◌≡◌, sym, ap, rules}
 use Rattle.std.specs.Prelude.{None}
-use Rattle.sby_top.specs.Words.{Request}
-use Rattle.sby_top.proofs.LineLemmas.{served_printed, status_or_memory, told_by, told_status, verdict_lines}
+use Rattle.design_reader.specs.Grammar.{Reads}
+use Rattle.sby_lines.specs.Lines.{HasLines}
+use Rattle.sby_lines.specs.Told.{IsRaceStatus, asked_by, came}
+use Rattle.sby_top.specs.Headline.{HasOwnStatus}
+use Rattle.sby_top.specs.Task.{task_seen}
+use Rattle.sby_top.proofs.EndLemmas.{as_request, printed_as, served_lines, status_as, traces_as}
 use Rattle.sby_top.proofs.run.finish_served.Goals as goal
 
-pub returns-clause-end : goal.returns-clause-end
-returns-clause-end g c =
-    let mode : c.asked.inside.mode ≡ c.args.served.problem.problem.mode = ap (λ (a : Request). a.mode) c.asked.view_is ∙ sym c.requires.mode in
-    let by = told_by c.args.served c.asked.inside.mode _ _ c.verdict_of-verdict.result.0 c.verdict_of-verdict.result.1 c.requires.task mode c.deref.ensures.value c.deref-2.ensures.value c.verdict_of-verdict.ensures.decided c.verdict_of-verdict.ensures.status in
-    let pushed : c.push.new.self.items ≡ c.args.reports.items ++ c.args.served.report ∷ [] = search rules in
-    record {
-      name = c.requires.name;
-      early_is = refl;
-      text_is = c.into_text.ensures;
-      reports_are = pushed ∙ ap (λ xs. xs ++ c.args.served.report ∷ []) c.requires.none;
-      status = status_or_memory c.args.asked.now.mode None (c.args.served.report ∷ []) _ _ _ _ _
-          (told_status c.args.served.problem c.args.asked.now c.args.served.report c.verdict_of-verdict.result.0 c.verdict_of-verdict.result.1 c.requires.mode by) c.ended-status.ensures;
-      start = refl;
-      unput = c.new.ensures.items;
-    }
+pub returns-clause-status : goal.returns-clause-status
+returns-clause-status g c =
+    let d = c.args.served.problem.design in
+    let reads : Reads c.into_text.result c.args.served.problem.design = rw c.into_text.ensures c.requires.problem.reads in
+    status_as (λ s. HasOwnStatus (task_seen c.args.task) (record { name = c.args.task.name; status = s; early = None; start = c.args.served.start; reports = c.args.served.reports; unput = c.tell_task-told.new.unput; text = c.into_text.result }))
+    c.tell_task-told.result c.args.served.collected.status c.rc_of-rc.result _ _ c.ended-status.ensures
+    (d, (λ none. reads), (c.args.served.collected.answers.items, c.requires.collected.are_answers, c.requires.collected.has_status))
 
 pub returns-clause-printed : goal.returns-clause-printed
 returns-clause-printed g c =
-    let mode : c.asked.inside.mode ≡ c.args.served.problem.problem.mode = ap (λ (a : Request). a.mode) c.asked.view_is ∙ sym c.requires.mode in
-    let by = told_by c.args.served c.asked.inside.mode _ _ c.verdict_of-verdict.result.0 c.verdict_of-verdict.result.1 c.requires.task mode c.deref.ensures.value c.deref-2.ensures.value c.verdict_of-verdict.ensures.decided c.verdict_of-verdict.ensures.status in
-    let pushed : c.push.new.self.items ≡ c.args.reports.items ++ c.args.served.report ∷ [] = search rules in
-    served_printed _ _ _ _ c.args.asked.now
-    (record { name = c.args.name; status = c.ended-status.result.0; early = None; start = None; reports = c.push.new.self; unput = c.new.result; text = c.into_text.result })
-    c.args.served.problem c.args.served.report c.as_str.result.now c.tell_served-told.result c.verdict_of-verdict.result.0 c.verdict_of-verdict.result.1 c.rc_of-rc.result c.ended-status.result.1 c.args.expect.now
-    c.requires.mode (c.as_str.ensures.value ∙ c.requires.name) refl (pushed ∙ ap (λ xs. xs ++ c.args.served.report ∷ []) c.requires.none) c.into_text.ensures by
-    c.tell_served-told.ensures c.requires.expect c.rc_of-rc.ensures c.ended-status.ensures
+    let d = c.args.served.problem.design in
+    let reads : Reads c.into_text.result c.args.served.problem.design = rw c.into_text.ensures c.requires.problem.reads in
+    let race : IsRaceStatus (task_seen c.args.task).request (came c.args.served.problem.design c.args.served.reports.items c.args.served.start) c.args.served.collected.status = (c.args.served.collected.answers.items, c.requires.collected.are_answers, c.requires.collected.has_status) in
+    let exists = c.job_lines_exist.ensures (task_seen c.args.task).request (came c.args.served.problem.design c.args.served.reports.items c.args.served.start) c.args.served.collected.status c.requires.reported c.requires.limited race in
+    printed_as _ _ _ _ _ (HasLines (task_seen c.args.task).request c.into_text.result None c.args.served.reports.items c.args.served.start c.tell_task-told.new.unput.items) c.args.task.expect
+    (λ s. HasOwnStatus (task_seen c.args.task) (record { name = c.args.task.name; status = s; early = None; start = c.args.served.start; reports = c.args.served.reports; unput = c.tell_task-told.new.unput; text = c.into_text.result }))
+    _ c.tell_task-told.result c.args.served.collected.status c.rc_of-rc.result _ _ c.ended-status.ensures
+    (served_lines (task_seen c.args.task).request c.into_text.result d c.args.served.reports.items c.args.served.start c.tell_task-told.new.unput.items c.args.served.collected.status c.rc_of-rc.result exists.0 reads race c.rc_of-rc.ensures exists.1)
+    (as_request _ _ _ _ _ (asked_by c.heading.result c.args.task.expect) (task_seen c.args.task).request (came c.args.served.problem.design c.args.served.reports.items c.args.served.start) c.args.served.collected.status c.rc_of-rc.result exists.0
+    c.tell_task-told.new.unput.items c.tell_task-told.result c.heading.ensures.request (λ h. c.tell_task-told.ensures.told c.args.task.expect exists.0 h) exists.1)
+    c.rc_of-rc.ensures
+    (d, (λ none. reads), race)
+
+pub returns-clause-put : goal.returns-clause-put
+returns-clause-put g c =
+    let race : IsRaceStatus (task_seen c.args.task).request (came c.args.served.problem.design c.args.served.reports.items c.args.served.start) c.args.served.collected.status = (c.args.served.collected.answers.items, c.requires.collected.are_answers, c.requires.collected.has_status) in
+    let exists = c.job_lines_exist.ensures (task_seen c.args.task).request (came c.args.served.problem.design c.args.served.reports.items c.args.served.start) c.args.served.collected.status c.requires.reported c.requires.limited race in
+    traces_as (task_seen c.args.task) c.args.served.problem c.args.served.reports.items _ _ c.tell_task-told.new.unput.items c.tell_task-told.result c.args.served.collected.status c.rc_of-rc.result _ _ _ _ _ _ _ _ c.ended-status.ensures
+    (rw (← c.heading.ensures.request) (c.tell_task-told.ensures.put c.args.task.expect))
+    (as_request _ _ _ _ _ (asked_by c.heading.result c.args.task.expect) (task_seen c.args.task).request (came c.args.served.problem.design c.args.served.reports.items c.args.served.start) c.args.served.collected.status c.rc_of-rc.result exists.0
+    c.tell_task-told.new.unput.items c.tell_task-told.result c.heading.ensures.request (λ h. c.tell_task-told.ensures.told c.args.task.expect exists.0 h) exists.1)
 
 pub returns-clause-later : goal.returns-clause-later
 returns-clause-later g c =
-    let mode : c.asked.inside.mode ≡ c.args.served.problem.problem.mode = ap (λ (a : Request). a.mode) c.asked.view_is ∙ sym c.requires.mode in
-    let by = told_by c.args.served c.asked.inside.mode _ _ c.verdict_of-verdict.result.0 c.verdict_of-verdict.result.1 c.requires.task mode c.deref.ensures.value c.deref-2.ensures.value c.verdict_of-verdict.ensures.decided c.verdict_of-verdict.ensures.status in
-    let shown = verdict_lines c.args.served.problem c.as_str.result.now c.args.served.report.ends c.verdict_of-verdict.result.0 by.problem by.whole by.lined by.is_verdict in
-    (c.tell_served-told.ensures shown.0 shown.1).later
+    let race : IsRaceStatus (task_seen c.args.task).request (came c.args.served.problem.design c.args.served.reports.items c.args.served.start) c.args.served.collected.status = (c.args.served.collected.answers.items, c.requires.collected.are_answers, c.requires.collected.has_status) in
+    let exists = c.job_lines_exist.ensures (task_seen c.args.task).request (came c.args.served.problem.design c.args.served.reports.items c.args.served.start) c.args.served.collected.status c.requires.reported c.requires.limited race in
+    (as_request _ _ _ _ _ (asked_by c.heading.result c.args.task.expect) (task_seen c.args.task).request (came c.args.served.problem.design c.args.served.reports.items c.args.served.start) c.args.served.collected.status c.rc_of-rc.result exists.0
+    c.tell_task-told.new.unput.items c.tell_task-told.result c.heading.ensures.request (λ h. c.tell_task-told.ensures.told c.args.task.expect exists.0 h) exists.1).later

@@ -1,12 +1,42 @@
-use Rattle.std.proofs.Common.{refl, [], ◌∷◌}
-use Rattle.std.specs.Prelude.{None, Some}
-use Rattle.sby_top.proofs.RunLemmas.{task_ran}
+use Rattle.std.proofs.Common.{refl, sym, arith}
+use Rattle.sby_top.specs.Task.{task_seen}
+use Rattle.sby_top.proofs.RunLemmas.{fault_named, fault_printed, served_named, task_ran}
+use Rattle.sby_top.proofs.TruthLemmas.{Laws}
 use Rattle.sby_top.proofs.run.run_task.Goals as goal
 
-pub returns-in-Ok : goal.returns-in-Ok
-returns-in-Ok g c = task_ran c.base_and_step_show_that_nothing_breaks.ensures _ _ c.args.asked.now c.finish_served.result.0 c.finish_served.result.1 None c.in-Ok.served.problem.problem.text (c.in-Ok.served.report ∷ []) c.requires.askable c.finish_served.ensures.end
-    (c.in-Ok.served.report, refl, c.in-Ok.ensures.still, c.in-Ok.ensures.ok) c.finish_served.ensures.printed c.serve.ensures.stored c.serve.ensures.later c.finish_served.ensures.later
+pub finish_served-requires-clause-problem : goal.finish_served-requires-clause-problem
+finish_served-requires-clause-problem g c = rw (← c.in-Ok.ensures.done.1) c.in-Ok.ensures.done.0.served.0.problem
 
-pub returns : goal.returns
-returns g c = task_ran c.base_and_step_show_that_nothing_breaks.ensures _ _ c.args.asked.now c.finish_early.result.0 c.finish_early.result.1 (Some c.in-Err.early) [] [] c.requires.askable c.finish_early.ensures.end
-    (refl, refl, c.in-Err.ensures.err) c.finish_early.ensures.printed c.serve.ensures.stored c.serve.ensures.later c.finish_early.ensures.later
+pub returns-in-Ok : goal.returns-in-Ok
+returns-in-Ok g c =
+    let laws : Laws = record {
+      induction = c.base_and_step_show_that_nothing_breaks.ensures;
+      slices = c.slices_show_that_nothing_breaks.ensures.slices;
+      within = c.slices_show_that_nothing_breaks.ensures.within;
+      break = c.fail_shows_its_run.ensures;
+      exist = c.job_lines_exist.ensures;
+      statement = c.settled_statement_is_shown.ensures;
+    } in
+    let done = c.in-Ok.ensures.done in
+    let h = c.finish_served.ensures in
+    task_ran laws (g.C.Clock.may_read c.args.clock.now) c.args.number _ _ (task_seen c.args.task) c.finish_served.result.0 _ c.requires
+    (served_named (g.C.Clock.may_read c.args.clock.now) c.args.number _ _ c.in-Ok.served.start (task_seen c.args.task) c.finish_served.result.0 c.in-Ok.served.problem c.in-Ok.served.problem.problem.text c.in-Ok.served.reports.items _ done.0 done.1 h.end h.put h.status)
+    h.printed
+    (record { files = omega (arith, c.in-Ok.ensures.later, h.files); sink = h.later; children = c.in-Ok.ensures.children; scripts = c.in-Ok.ensures.scripts })
+
+pub returns-in-Err : goal.returns-in-Err
+returns-in-Err g c =
+    let laws : Laws = record {
+      induction = c.base_and_step_show_that_nothing_breaks.ensures;
+      slices = c.slices_show_that_nothing_breaks.ensures.slices;
+      within = c.slices_show_that_nothing_breaks.ensures.within;
+      break = c.fail_shows_its_run.ensures;
+      exist = c.job_lines_exist.ensures;
+      statement = c.settled_statement_is_shown.ensures;
+    } in
+    let h = c.finish_fault.ensures in
+    let told = h.told (task_seen c.args.task).request refl (sym c.slices-slices.ensures.slices) refl in
+    task_ran laws (g.C.Clock.may_read c.args.clock.now) c.args.number _ _ (task_seen c.args.task) c.finish_fault.result.0 _ c.requires
+    (fault_named (g.C.Clock.may_read c.args.clock.now) c.args.number _ _ (task_seen c.args.task) c.finish_fault.result.0 c.in-Err.early _ _ _ _ _ _ h.end h.unput told c.in-Err.ensures.err c.in-Err.ensures.spared)
+    (fault_printed (task_seen c.args.task) c.finish_fault.result.0 c.in-Err.early _ _ _ _ _ _ h.end h.unput told)
+    (record { files = c.in-Err.ensures.later; sink = h.later; children = c.in-Err.ensures.children; scripts = c.in-Err.ensures.scripts })

@@ -3,4 +3,4 @@ use Rattle.sby_top.proofs.JobLemmas.{few_jobs}
 use Rattle.sby_top.proofs.serve.job_count.Goals as goal
 
 pub overflow_cast-result : goal.overflow_cast-result
-overflow_cast-result c = omega (arith, few_jobs c.args.problem.now c.requires c.flat.ensures.problem, c.jobs.ensures)
+overflow_cast-result c = omega (arith, few_jobs c.args.problem.now c.flat.ensures.problem, c.jobs.ensures)

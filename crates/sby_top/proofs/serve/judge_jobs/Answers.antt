@@ -1,5 +1,6 @@
 use Rattle.std.proofs.Common.{◌≡◌, ◌∙◌, ◌+◌, ◌<◌, ◌∷◌, ◌++◌, [], List, ap, length, map, subst, sym, take, arith}
 use Rattle.std.specs.Prelude.{Some, slice_get, string_bytes}
+use Rattle.std.proofs.lemmas.Result.{err_from_is_err_and}
 use Rattle.judge.specs.Finding.{FindingOf}
 use Rattle.race_core.specs.Report.{ReportOf}
 use Rattle.race_core.specs.declared.end.JobEnd.{JobEnd}
@@ -28,9 +29,21 @@ loop-place-preserved g c =
       judged = subst (λ (es : List (JobEnd FindingOf)). AreJudged c.args.problem.now (g.F.Files.told c.args.files.now) (take (c.loop-place.place + 1) (jobs_in c.args.problem.now)) (map string_bytes c.args.paths.now) es) (sym ends)
           (judged_next p (g.F.Files.told c.args.files.now) c.loop-place.place paths c.loop-place.report.ends c.in_ok-end.end inv.judged
           (subst (λ told. (job : JobName) × (slice_get (jobs_in c.args.problem.now) c.loop-place.place ≡ Some job)
-          × IsPathJudged c.args.problem.now told job (slice_get (map string_bytes c.args.paths.now) c.loop-place.place) c.in_ok-end.end) inv.same c.in_ok-end.ensures.ok));
+          × IsPathJudged c.args.problem.now told job (slice_get (map string_bytes c.args.paths.now) c.loop-place.place) c.in_ok-end.end) inv.told c.in_ok-end.ensures.ok));
       report = c.push_end.ensures ∙ ap (λ (r : ReportOf FindingOf). record r { ends = c.loop-place.report.ends ++ c.in_ok-end.end ∷ [] }) inv.report
           ∙ ap (λ (es : List (JobEnd FindingOf)). record c.args.report.now { ends = es }) (sym ends);
-      same = c.in_ok-end.ensures.same ∙ inv.same;
+      told = c.in_ok-end.ensures.told ∙ inv.told;
+      blamed = c.in_ok-end.ensures.blamed ∙ inv.blamed;
       still = c.in_ok-end.ensures.still ∙ inv.still;
     }
+
+pub returns-in_err-end-clause-err : goal.returns-in_err-end-clause-err
+returns-in_err-end-clause-err g c = let p = err_from_is_err_and c.from_residual.result c.from_residual.ensures.1 in
+    let inv = c.loop-place.invariant in
+    rw (p.1, p.2) (rw (← inv.told, ← inv.still, ← inv.blamed) c.in_err-end.ensures.err)
+
+pub returns-in_err-end-clause-told : goal.returns-in_err-end-clause-told
+returns-in_err-end-clause-told g c = c.in_err-end.ensures.told ∙ c.loop-place.invariant.told
+
+pub returns-in_err-end-clause-later : goal.returns-in_err-end-clause-later
+returns-in_err-end-clause-later g c = omega (arith, c.loop-place.invariant.still, c.in_err-end.ensures.later)

@@ -8,6 +8,7 @@ abbrev pub invariant-loop-place : goal.invariant-loop-place
 invariant-loop-place g l = record {
   judged : AreJudged l.problem (g.F.Files.told l.fn.files) (take l.place (jobs_in l.problem)) (map string_bytes l.paths) l.report.ends;
   report : l.report ≡ record l.fn.report { ends = l.report.ends };
-  same : g.F.Files.told l.files ≡ g.F.Files.told l.fn.files;
+  told : g.F.Files.told l.files ≡ g.F.Files.told l.fn.files;
   still : g.F.Files.faults l.files ≡ g.F.Files.faults l.fn.files;
+  blamed : g.F.Files.blamed l.files ≡ g.F.Files.blamed l.fn.files;
 }

@@ -1,0 +1,109 @@
+-- Each end of a call is that of the turn at its place.
+use Rattle.std.proofs.Common.{◌≡◌, List, [], ◌∷◌, ℕ, zero, suc, ◌+◌, refl, subst, inl, inr, take, arith}
+use Rattle.std.specs.Prelude.{Some, None, bit_or, slice_get}
+use Rattle.cnf_form.proofs.Members.{Contains-empty}
+use Rattle.sby_lines.proofs.PlaceLemmas.{at_contains}
+use Rattle.sby_lines.proofs.ShownLemmas.{some_same}
+use Rattle.sby_words.specs.Requests.{AskGen, AskJudge, AskNames, AskTasks, Request as Asked}
+use Rattle.sby_words.specs.Words.{IsAsked}
+use Rattle.sby_top.specs.Claims.{IsHad, RanUpto}
+use Rattle.sby_top.specs.Headline.{Exit, Code, Cut}
+use Rattle.sby_top.specs.Run.{Did, Ran, TurnRan, TurnsDone}
+use Rattle.sby_top.specs.Turns.{Turn}
+use Rattle.sby_top.specs.World.{World}
+use Rattle.sby_top.specs.declared.outcome.Done.{Done}
+use Rattle.sby_top.specs.declared.outcome.TaskEnd.{TaskEnd}
+
+-- the turn at a place, which was had when those before it were
+record HadAt (may_read : ℕ → Type 0) (number : ℕ) (start : World) (turns : List Turn) (ends : List TaskEnd) (place : ℕ) (end : TaskEnd) : Type 0 where
+  begins : World
+  finishes : World
+  turn : Turn
+  at : slice_get turns place ≡ Some turn
+  earlier : RanUpto may_read number start (take place turns) (take place ends) begins
+  exit : Exit
+  ran : TurnRan may_read (number + place) begins finishes turn end exit
+
+first_number : (number : ℕ) → number ≡ number + 0
+first_number number = omega arith
+
+next_number : (number place : ℕ) → (number + 1) + place ≡ number + suc place
+next_number number place = omega arith
+
+none_at : (place : ℕ) (ends : List TaskEnd) (end : TaskEnd) → ends ≡ [] → slice_get ends place ≡ Some end → ⊥
+none_at place ends end none at = Contains-empty end (at_contains [] place end (subst (λ es. slice_get es place ≡ Some end) none at))
+
+had_at : (may_read : ℕ → Type 0) (number so_far : ℕ) (start : World) (turns : List Turn) (ends : List TaskEnd) (after : World) (exit : Exit) (place : ℕ) (end : TaskEnd) → Ran may_read number so_far start turns ends after exit → slice_get ends place ≡ Some end → HadAt may_read number start turns ends place end
+had_at may_read number so_far start [] [] after exit place end ran at = absurd (none_at place [] end refl at)
+had_at may_read number so_far start [] (e ∷ ends) after exit place end ran at = absurd ran
+had_at may_read number so_far start (turn ∷ turns) [] after exit place end ran at = absurd (none_at place [] end refl at)
+had_at may_read number so_far start (turn ∷ turns) (e ∷ ends) after exit zero end (inl cut) at = record {
+  begins = start;
+  finishes = after;
+  turn = turn;
+  at = refl;
+  earlier = refl;
+  exit = Cut;
+  ran = subst (λ n. TurnRan may_read n start after turn end Cut) (first_number number) (subst (λ x. TurnRan may_read number start after turn x Cut) (some_same e end at) cut.0);
+}
+had_at may_read number so_far start (turn ∷ turns) (e ∷ ends) after exit zero end (inr more) at = record {
+  begins = start;
+  finishes = more.0;
+  turn = turn;
+  at = refl;
+  earlier = refl;
+  exit = Code more.1;
+  ran = subst (λ n. TurnRan may_read n start more.0 turn end (Code more.1)) (first_number number)
+      (subst (λ x. TurnRan may_read number start more.0 turn x (Code more.1)) (some_same e end at) more.2);
+}
+had_at may_read number so_far start (turn ∷ turns) (e ∷ ends) after exit (suc place) end (inl cut) at = absurd (none_at place ends end cut.1 at)
+had_at may_read number so_far start (turn ∷ turns) (e ∷ ends) after exit (suc place) end (inr more) at =
+    let rest = had_at may_read (number + 1) (bit_or so_far more.1) more.0 turns ends after exit place end more.3 at in record {
+      begins = rest.begins;
+      finishes = rest.finishes;
+      turn = rest.turn;
+      at = rest.at;
+      earlier = (more.0, more.1, more.2, rest.earlier);
+      exit = rest.exit;
+      ran = subst (λ n. TurnRan may_read n rest.begins rest.finishes rest.turn end rest.exit) (next_number number place) rest.ran;
+    }
+
+-- a turn of a call has this end, which stands at this place
+abbrev pub HasTurnAt : (ℕ → Type 0) → World → List (List ℕ) → Done → ℕ → TaskEnd → Type 0
+HasTurnAt may_read before words done place end = (start : World) × (finish : World) × (turn : Turn) × (had : IsHad may_read before words done start finish turn end) × (had.place ≡ place)
+
+place_number : (place : ℕ) → 0 + place ≡ place
+place_number place = omega arith
+
+turns_had : (may_read : ℕ → Type 0) (before after : World) (words : List (List ℕ)) (done : Done) (asked : Asked) (place : ℕ) (end : TaskEnd) → IsAsked words (Some asked) → TurnsDone may_read before after done asked → slice_get done.ends.items place ≡ Some end
+    → HasTurnAt may_read before words done place end
+turns_had may_read before after words done asked place end asks run at =
+    let had = had_at may_read 0 0 run.middle run.turns done.ends.items after run.exit place end run.ran at in (
+      had.begins,
+      had.finishes,
+      had.turn,
+      record {
+        asked = asked;
+        asks = asks;
+        begun = run.middle;
+        same_sink = run.same_sink;
+        turns = run.turns;
+        has_turns = run.has_turns;
+        place = place;
+        turn_is = had.at;
+        end_is = at;
+        earlier = had.earlier;
+        exit = had.exit;
+        ran = subst (λ n. TurnRan may_read n had.begins had.finishes had.turn end had.exit) (place_number place) had.ran;
+      },
+      refl,
+    )
+
+pub each_had : (may_read : ℕ → Type 0) (before after : World) (words : List (List ℕ)) (done : Done) (place : ℕ) (end : TaskEnd) → Did may_read before after words done → slice_get done.ends.items place ≡ Some end → HasTurnAt may_read before words done place end
+each_had may_read before after words done place end (inl (None, asks, usage)) at = absurd (none_at place done.ends.items end usage.ends at)
+each_had may_read before after words done place end (inl (Some (AskNames file), asks, inl told)) at = absurd (none_at place done.ends.items end told.4.ends at)
+each_had may_read before after words done place end (inl (Some (AskNames file), asks, inr run)) at = turns_had may_read before after words done (AskNames file) place end asks run at
+each_had may_read before after words done place end (inl (Some (AskJudge j), asks, run)) at = turns_had may_read before after words done (AskJudge j) place end asks run at
+each_had may_read before after words done place end (inl (Some (AskTasks t), asks, run)) at = turns_had may_read before after words done (AskTasks t) place end asks run at
+each_had may_read before after words done place end (inl (Some (AskGen g), asks, run)) at = turns_had may_read before after words done (AskGen g) place end asks run at
+each_had may_read before after words done place end (inr nothing) at = absurd (none_at place done.ends.items end nothing.ends at)

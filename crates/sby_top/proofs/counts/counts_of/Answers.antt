@@ -1,5 +1,0 @@
-use Rattle.std.proofs.Common.{refl}
-use Rattle.sby_top.proofs.counts.counts_of.Goals as goal
-
-pub returns : goal.returns
-returns c = rw (c.register_bits.ensures, c.statements.ensures, c.statements-2.ensures, c.statements-3.ensures, c.cells-cells.ensures.cells) refl

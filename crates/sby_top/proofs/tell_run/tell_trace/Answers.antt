@@ -1,6 +1,0 @@
-use Rattle.sby_top.proofs.BrokenLemmas.{trace_begins}
-use Rattle.sby_top.proofs.TellLemmas.{tells_nothing}
-use Rattle.sby_top.proofs.tell_run.tell_trace.Goals as goal
-
-pub returns-in-Err : goal.returns-in-Err
-returns-in-Err g c = λ lines are. tells_nothing {T = Unit {0}} _ _ lines (trace_begins c.args.flat.now c.args.run.now lines c.requires.some are)

@@ -1,7 +1,0 @@
-use Rattle.std.proofs.Common.{rules, append_assoc}
-use Rattle.sby_top.specs.Texts.{design_text}
-use Rattle.sby_top.proofs.text.design_text.Goals as goal
-
-pub returns : goal.returns
-unfolding design_text
-returns c = search (rules, append_assoc)

@@ -1,7 +1,0 @@
-use Rattle.std.proofs.Common.{rules, append_assoc}
-use Rattle.sby_top.specs.Texts.{fault_text}
-use Rattle.sby_top.proofs.text.fault_text.Goals as goal
-
-pub returns : goal.returns
-unfolding fault_text
-returns c = search (rules, append_assoc)

@@ -1,7 +1,0 @@
-use Rattle.std.proofs.Common.{rules, append_assoc}
-use Rattle.sby_top.specs.Texts.{path_text}
-use Rattle.sby_top.proofs.text.path_text.Goals as goal
-
-pub returns : goal.returns
-unfolding path_text
-returns c = search (rules, append_assoc)

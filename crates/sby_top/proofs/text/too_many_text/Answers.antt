@@ -1,7 +1,0 @@
-use Rattle.std.proofs.Common.{rules}
-use Rattle.sby_top.specs.Texts.{too_many_text}
-use Rattle.sby_top.proofs.text.too_many_text.Goals as goal
-
-pub returns : goal.returns
-unfolding too_many_text
-returns c = search rules

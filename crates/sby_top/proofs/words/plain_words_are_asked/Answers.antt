@@ -1,5 +1,0 @@
-use Rattle.sby_top.proofs.WordsPlain.{plain_words_ask}
-use Rattle.sby_top.proofs.words.plain_words_are_asked.Goals as goal
-
-pub returns : goal.returns
-returns c = plain_words_ask

@@ -1,5 +1,0 @@
-use Rattle.sby_top.proofs.WordsRequest.{answer_is_one}
-use Rattle.sby_top.proofs.words.words_have_one_request.Goals as goal
-
-pub returns : goal.returns
-returns c = answer_is_one

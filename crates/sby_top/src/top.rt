@@ -1,0 +1,574 @@
+// The top call.
+
+ghost use Rattle.std.specs.Prelude.{◌≡◌, ◌⊎◌, ◌<◌, ◌≤◌, [], ◌∷◌, List, ℕ, IfOk, None, Option, Some, length, map, option_map, string_bytes, vec_capacity};
+ghost use Rattle.gen_design.specs.Ring.{task_lines, text_of};
+ghost use Rattle.sby_edge.specs.Cause.{CountsOf, Rose};
+ghost use Rattle.sby_edge.specs.Child.{YardOf};
+ghost use Rattle.sby_edge.specs.Files.{Store};
+ghost use Rattle.sby_edge.specs.Sink.{AreAll};
+ghost use Rattle.sby_lines.specs.Telling.{GrownBySome, Tells, grown};
+ghost use Rattle.sby_lines.specs.Texts.{usage_line};
+ghost use Rattle.sby_words.specs.Folders.{task_folder};
+ghost use Rattle.sby_words.specs.Requests.{AskGen, AskJudge, AskTasks};
+ghost use Rattle.sby_top.specs.End.{exit_seen};
+ghost use Rattle.sby_top.specs.Ending.{IsAsk, RanTo, told_code};
+ghost use Rattle.sby_top.specs.Run.{Did, LinesAlone, NamesTold, TurnRan, TurnsDone, WasRefused, name_lines, rc_of_exit};
+ghost use Rattle.sby_top.specs.Turns.{AreTextTurns, AreTurnsOf, IsSound, Refused, Turn as TurnOf, asked_tasks, gen_stem, turn_seen};
+ghost use Rattle.sby_top.specs.World.{world_at};
+ghost use Rattle.task_race.specs.Bays.{counts_at};
+
+use crate::outcome::{Done, TaskEnd};
+use crate::run::{Exit, finish_fault, run_task};
+use crate::serve::get;
+use crate::turns::{Book, Turn, judge_task, turn_of};
+use gen_design::task_file;
+use sby_edge::{Clock, Files, Sink, Yard};
+use sby_file::{Config, read};
+use sby_lines::{Early, Stop, offer, tell_name, usage_line};
+use sby_terms::Expect;
+use sby_words::{Asked, GenWords, JudgeWords, TaskWords, asked_of, folder_of, stem_of};
+use std::alloc::{AllocError, Global};
+use std::sync::Wait;
+use std::thread::Threads;
+
+const MOST_TASK_FILE: u64 = 1 << 24;
+
+// Only a fault is told, under this name. Its status has its number whatever is expected.
+fn refuse<S: Sink>(alloc: Global, out: &mut S, name: String, early: Early) -> (TaskEnd, Exit)
+    ensures { (told : Option Store) (faults : ℕ) (blamed : Option (List ℕ)) (scripts : Option YardOf) (children : CountsOf) → WasRefused
+        (world_at told faults blamed (S.taken out.old) (S.faults out.old) (S.ended out.old) scripts children) (world_at told faults blamed (S.taken out.new) (S.faults out.new) (S.ended out.new) scripts children)
+        (string_bytes name) early result.0 (exit_seen result.1) }
+{
+    let expect = Expect::new(Vec::new(alloc));
+    finish_fault(alloc, out, name, 1, &expect, early)
+}
+
+// Has a turn.
+fn run_turn<R: Threads + Wait + Sync, F: Files, S: Sink, Y: Yard, C: Clock>(
+    rt: &R,
+    alloc: Global,
+    files: &mut F,
+    out: &mut S,
+    yard: &mut Y,
+    clock: &C,
+    number: u32,
+    turn: Turn,
+) -> (TaskEnd, Exit)
+    requires { IsSound (turn_seen turn) }
+    ensures { TurnRan (C.may_read clock.now) number
+        (world_at (F.told files.old) (F.faults files.old) (F.blamed files.old) (S.taken out.old) (S.faults out.old) (S.ended out.old) (Y.told yard.old) (counts_at (Y.start_faults yard.old) (Y.read_faults yard.old) (Y.hold_faults yard.old)))
+        (world_at (F.told files.new) (F.faults files.new) (F.blamed files.new) (S.taken out.new) (S.faults out.new) (S.ended out.new) (Y.told yard.new) (counts_at (Y.start_faults yard.new) (Y.read_faults yard.new) (Y.hold_faults yard.new)))
+        (turn_seen turn) result.0 (exit_seen result.1) }
+{
+    match turn {
+        Turn::Refused(name, early) => refuse(alloc, out, name, early),
+        Turn::Run(task) => run_task(rt, alloc, files, out, yard, clock, number, task),
+    }
+}
+
+// Memory was wanting before anything was done.
+fn out_of_memory(alloc: Global) -> Done
+    ensures rc { result.rc ≡ 32 }
+    ensures ends { result.ends.items ≡ [] }
+{
+    Done {
+        rc: 32,
+        ends: Vec::new(alloc),
+    }
+}
+
+// Has the only turn there is.
+fn run_only<R: Threads + Wait + Sync, F: Files, S: Sink, Y: Yard, C: Clock>(
+    rt: &R,
+    alloc: Global,
+    files: &mut F,
+    out: &mut S,
+    yard: &mut Y,
+    clock: &C,
+    turn: Turn,
+) -> Done
+    requires { IsSound (turn_seen turn) }
+    ensures { RanTo (C.may_read clock.now)
+        (world_at (F.told files.old) (F.faults files.old) (F.blamed files.old) (S.taken out.old) (S.faults out.old) (S.ended out.old) (Y.told yard.old) (counts_at (Y.start_faults yard.old) (Y.read_faults yard.old) (Y.hold_faults yard.old))) (turn_seen turn ∷ [])
+        (world_at (F.told files.new) (F.faults files.new) (F.blamed files.new) (S.taken out.new) (S.faults out.new) (S.ended out.new) (Y.told yard.new) (counts_at (Y.start_faults yard.new) (Y.read_faults yard.new) (Y.hold_faults yard.new))) result }
+{
+    let mut ends = match Vec::with_capacity(alloc, 1) {
+        Ok(ends) => ends,
+        Err(_) => return out_of_memory(alloc),
+    };
+    let (end, exit) = run_turn(rt, alloc, files, out, yard, clock, 0, turn);
+    ends.push(end).unwrap();
+    Done {
+        rc: rc_of_exit(exit),
+        ends,
+    }
+}
+
+// The exit status: exactly 16 where a failed call of the sink cut the run short.
+fn rc_of_exit(exit: Exit) -> u8
+    ensures { result ≡ rc_of_exit (exit_seen exit) }
+{
+    match exit {
+        Exit::Code(rc) => rc,
+        Exit::Cut => 16,
+    }
+}
+
+// Has the turn of the task that is asked for, and answers whether others may follow.
+fn run_asked<R: Threads + Wait + Sync, F: Files, S: Sink, Y: Yard, C: Clock>(
+    rt: &R,
+    alloc: Global,
+    files: &mut F,
+    out: &mut S,
+    yard: &mut Y,
+    clock: &C,
+    book: &Book<'_>,
+    asked: Option<&str>,
+    done: &mut Done,
+) -> bool
+    requires { length done.old.ends.items < vec_capacity done.old.ends }
+    ensures asked { IsAsk (C.may_read clock.now)
+        (world_at (F.told files.old) (F.faults files.old) (F.blamed files.old) (S.taken out.old) (S.faults out.old) (S.ended out.old) (Y.told yard.old) (counts_at (Y.start_faults yard.old) (Y.read_faults yard.old) (Y.hold_faults yard.old)))
+        (world_at (F.told files.new) (F.faults files.new) (F.blamed files.new) (S.taken out.new) (S.faults out.new) (S.ended out.new) (Y.told yard.new) (counts_at (Y.start_faults yard.new) (Y.read_faults yard.new) (Y.hold_faults yard.new)))
+        book.now.stem.now (option_map (λ s. s.now) book.now.directory) book.now.config.now (option_map (λ s. s.now) asked.entry) done.old done.new result }
+    ensures room { vec_capacity done.old.ends ≤ vec_capacity done.new.ends }
+{
+    // So many turns as a number of 32 bits can't count aren't had.
+    let (Ok(number), Ok(turn)) = (u32::try_from(done.ends.len()), turn_of(alloc, book, asked))
+    else {
+        done.rc |= 32;
+        return false;
+    };
+    let (end, exit) = run_turn(rt, alloc, files, out, yard, clock, number, turn);
+    done.ends.push(end).unwrap();
+    match exit {
+        Exit::Code(rc) => {
+            done.rc |= rc;
+            true
+        }
+        Exit::Cut => {
+            done.rc = 16;
+            false
+        }
+    }
+}
+
+// Has the turns of the tasks of these names, in their order.
+fn run_named<R: Threads + Wait + Sync, F: Files, S: Sink, Y: Yard, C: Clock>(
+    rt: &R,
+    alloc: Global,
+    files: &mut F,
+    out: &mut S,
+    yard: &mut Y,
+    clock: &C,
+    book: &Book<'_>,
+    names: &[String],
+) -> Done
+    requires { 0 < length names.now }
+    ensures { (turns : List TurnOf) × AreTurnsOf book.now.stem.now (option_map (λ s. s.now) book.now.directory) book.now.config.now (map Some (map string_bytes names.now)) turns
+        × RanTo (C.may_read clock.now)
+        (world_at (F.told files.old) (F.faults files.old) (F.blamed files.old) (S.taken out.old) (S.faults out.old) (S.ended out.old) (Y.told yard.old) (counts_at (Y.start_faults yard.old) (Y.read_faults yard.old) (Y.hold_faults yard.old))) turns
+        (world_at (F.told files.new) (F.faults files.new) (F.blamed files.new) (S.taken out.new) (S.faults out.new) (S.ended out.new) (Y.told yard.new) (counts_at (Y.start_faults yard.new) (Y.read_faults yard.new) (Y.hold_faults yard.new))) result }
+{
+    let ends = match Vec::with_capacity(alloc, names.len()) {
+        Ok(ends) => ends,
+        Err(_) => return out_of_memory(alloc),
+    };
+    let mut done = Done { rc: 0, ends };
+    for name in names {
+        if !run_asked(
+            rt,
+            alloc,
+            files,
+            out,
+            yard,
+            clock,
+            book,
+            Some(name.as_str()),
+            &mut done,
+        ) {
+            return done;
+        }
+    }
+    done
+}
+
+// Has the turn of the nameless task.
+fn run_nameless<R: Threads + Wait + Sync, F: Files, S: Sink, Y: Yard, C: Clock>(
+    rt: &R,
+    alloc: Global,
+    files: &mut F,
+    out: &mut S,
+    yard: &mut Y,
+    clock: &C,
+    book: &Book<'_>,
+) -> Done
+    ensures { (turns : List TurnOf) × AreTurnsOf book.now.stem.now (option_map (λ s. s.now) book.now.directory) book.now.config.now (None ∷ []) turns
+        × RanTo (C.may_read clock.now)
+        (world_at (F.told files.old) (F.faults files.old) (F.blamed files.old) (S.taken out.old) (S.faults out.old) (S.ended out.old) (Y.told yard.old) (counts_at (Y.start_faults yard.old) (Y.read_faults yard.old) (Y.hold_faults yard.old))) turns
+        (world_at (F.told files.new) (F.faults files.new) (F.blamed files.new) (S.taken out.new) (S.faults out.new) (S.ended out.new) (Y.told yard.new) (counts_at (Y.start_faults yard.new) (Y.read_faults yard.new) (Y.hold_faults yard.new))) result }
+{
+    match turn_of(alloc, book, None) {
+        Ok(turn) => run_only(rt, alloc, files, out, yard, clock, turn),
+        Err(_) => out_of_memory(alloc),
+    }
+}
+
+// Has the turns of the tasks that are asked for: those that are named, else all of the file.
+fn run_book<R: Threads + Wait + Sync, F: Files, S: Sink, Y: Yard, C: Clock>(
+    rt: &R,
+    alloc: Global,
+    files: &mut F,
+    out: &mut S,
+    yard: &mut Y,
+    clock: &C,
+    book: &Book<'_>,
+    names: &[String],
+) -> Done
+    ensures { (turns : List TurnOf) × AreTurnsOf book.now.stem.now (option_map (λ s. s.now) book.now.directory) book.now.config.now (asked_tasks (map string_bytes names.now) book.now.config.now) turns
+        × RanTo (C.may_read clock.now)
+        (world_at (F.told files.old) (F.faults files.old) (F.blamed files.old) (S.taken out.old) (S.faults out.old) (S.ended out.old) (Y.told yard.old) (counts_at (Y.start_faults yard.old) (Y.read_faults yard.old) (Y.hold_faults yard.old))) turns
+        (world_at (F.told files.new) (F.faults files.new) (F.blamed files.new) (S.taken out.new) (S.faults out.new) (S.ended out.new) (Y.told yard.new) (counts_at (Y.start_faults yard.new) (Y.read_faults yard.new) (Y.hold_faults yard.new))) result }
+{
+    if !names.is_empty() {
+        return run_named(rt, alloc, files, out, yard, clock, book, names);
+    }
+    let tasks = book.config.tasks();
+    if tasks.is_empty() {
+        run_nameless(rt, alloc, files, out, yard, clock, book)
+    } else {
+        run_named(rt, alloc, files, out, yard, clock, book, tasks)
+    }
+}
+
+// Tells a fault of a task file, under its stem.
+fn run_fault<R: Threads + Wait + Sync, F: Files, S: Sink, Y: Yard, C: Clock>(
+    rt: &R,
+    alloc: Global,
+    files: &mut F,
+    out: &mut S,
+    yard: &mut Y,
+    clock: &C,
+    stem: &str,
+    directory: Option<&str>,
+    early: Early,
+) -> Done
+    ensures { RanTo (C.may_read clock.now)
+        (world_at (F.told files.old) (F.faults files.old) (F.blamed files.old) (S.taken out.old) (S.faults out.old) (S.ended out.old) (Y.told yard.old) (counts_at (Y.start_faults yard.old) (Y.read_faults yard.old) (Y.hold_faults yard.old)))
+        (Refused (task_folder stem.now (option_map (λ s. s.now) directory.entry) []) early ∷ [])
+        (world_at (F.told files.new) (F.faults files.new) (F.blamed files.new) (S.taken out.new) (S.faults out.new) (S.ended out.new) (Y.told yard.new) (counts_at (Y.start_faults yard.new) (Y.read_faults yard.new) (Y.hold_faults yard.new))) result }
+{
+    match folder_of(alloc, stem, directory, "") {
+        Ok(name) => run_only(
+            rt,
+            alloc,
+            files,
+            out,
+            yard,
+            clock,
+            Turn::Refused(name, early),
+        ),
+        Err(_) => out_of_memory(alloc),
+    }
+}
+
+// Has the turns that a task file's text gives.
+fn run_text<R: Threads + Wait + Sync, F: Files, S: Sink, Y: Yard, C: Clock>(
+    rt: &R,
+    alloc: Global,
+    files: &mut F,
+    out: &mut S,
+    yard: &mut Y,
+    clock: &C,
+    stem: &str,
+    directory: Option<&str>,
+    names: &[String],
+    text: &[u8],
+) -> Done
+    ensures { (turns : List TurnOf) × AreTextTurns stem.now (option_map (λ s. s.now) directory.entry) (map string_bytes names.now) text.now turns
+        × RanTo (C.may_read clock.now)
+        (world_at (F.told files.old) (F.faults files.old) (F.blamed files.old) (S.taken out.old) (S.faults out.old) (S.ended out.old) (Y.told yard.old) (counts_at (Y.start_faults yard.old) (Y.read_faults yard.old) (Y.hold_faults yard.old))) turns
+        (world_at (F.told files.new) (F.faults files.new) (F.blamed files.new) (S.taken out.new) (S.faults out.new) (S.ended out.new) (Y.told yard.new) (counts_at (Y.start_faults yard.new) (Y.read_faults yard.new) (Y.hold_faults yard.new))) result }
+{
+    match read(alloc, text) {
+        Ok(Ok(config)) => {
+            let book = Book {
+                config: &config,
+                stem,
+                directory,
+            };
+            run_book(rt, alloc, files, out, yard, clock, &book, names)
+        }
+        Ok(Err(fault)) => run_fault(
+            rt,
+            alloc,
+            files,
+            out,
+            yard,
+            clock,
+            stem,
+            directory,
+            Early::Sby(fault),
+        ),
+        Err(_) => run_fault(
+            rt,
+            alloc,
+            files,
+            out,
+            yard,
+            clock,
+            stem,
+            directory,
+            Early::Memory,
+        ),
+    }
+}
+
+// The text, where there is one.
+fn text_in(text: &Option<String>) -> Option<&str>
+    ensures { option_map (λ s. s.now) result ≡ option_map string_bytes text.now }
+{
+    match text {
+        Some(text) => Some(text.as_str()),
+        None => None,
+    }
+}
+
+// Has the turns that a task file gives.
+fn run_tasks<R: Threads + Wait + Sync, F: Files, S: Sink, Y: Yard, C: Clock>(
+    rt: &R,
+    alloc: Global,
+    files: &mut F,
+    out: &mut S,
+    yard: &mut Y,
+    clock: &C,
+    words: &TaskWords,
+) -> Done
+    ensures { TurnsDone (C.may_read clock.now)
+        (world_at (F.told files.old) (F.faults files.old) (F.blamed files.old) (S.taken out.old) (S.faults out.old) (S.ended out.old) (Y.told yard.old) (counts_at (Y.start_faults yard.old) (Y.read_faults yard.old) (Y.hold_faults yard.old)))
+        (world_at (F.told files.new) (F.faults files.new) (F.blamed files.new) (S.taken out.new) (S.faults out.new) (S.ended out.new) (Y.told yard.new) (counts_at (Y.start_faults yard.new) (Y.read_faults yard.new) (Y.hold_faults yard.new)))
+        result (AskTasks words.now) }
+{
+    let stem = stem_of(words.file.as_str());
+    let directory = text_in(&words.directory);
+    match get(alloc, files, words.file.as_str(), MOST_TASK_FILE) {
+        Ok(text) => run_text(
+            rt,
+            alloc,
+            files,
+            out,
+            yard,
+            clock,
+            stem,
+            directory,
+            &words.names,
+            &text,
+        ),
+        Err(early) => run_fault(rt, alloc, files, out, yard, clock, stem, directory, early),
+    }
+}
+
+// The stem and the text of the generated task file of a size.
+fn generated(alloc: Global, size: u32) -> Result<(String, Vec<u8>), AllocError>
+    requires { 2 ≤ size }
+    ensures { IfOk result (λ made. (string_bytes made.0 ≡ gen_stem size) × (made.1.items ≡ text_of (task_lines size))) }
+{
+    let stem = format!(in alloc; "gen_{size}")?;
+    let text = task_file(alloc, size)?;
+    Ok((stem, text))
+}
+
+// Has the turns of the generated task file.
+fn run_gen<R: Threads + Wait + Sync, F: Files, S: Sink, Y: Yard, C: Clock>(
+    rt: &R,
+    alloc: Global,
+    files: &mut F,
+    out: &mut S,
+    yard: &mut Y,
+    clock: &C,
+    words: &GenWords,
+) -> Done
+    requires { 2 ≤ words.now.size }
+    ensures { TurnsDone (C.may_read clock.now)
+        (world_at (F.told files.old) (F.faults files.old) (F.blamed files.old) (S.taken out.old) (S.faults out.old) (S.ended out.old) (Y.told yard.old) (counts_at (Y.start_faults yard.old) (Y.read_faults yard.old) (Y.hold_faults yard.old)))
+        (world_at (F.told files.new) (F.faults files.new) (F.blamed files.new) (S.taken out.new) (S.faults out.new) (S.ended out.new) (Y.told yard.new) (counts_at (Y.start_faults yard.new) (Y.read_faults yard.new) (Y.hold_faults yard.new)))
+        result (AskGen words.now) }
+{
+    match generated(alloc, words.size) {
+        Ok((stem, text)) => {
+            let directory = text_in(&words.directory);
+            run_text(
+                rt,
+                alloc,
+                files,
+                out,
+                yard,
+                clock,
+                stem.as_str(),
+                directory,
+                &[],
+                &text,
+            )
+        }
+        Err(_) => out_of_memory(alloc),
+    }
+}
+
+// Has the turn of the task that `--judge` asks.
+fn run_judge<R: Threads + Wait + Sync, F: Files, S: Sink, Y: Yard, C: Clock>(
+    rt: &R,
+    alloc: Global,
+    files: &mut F,
+    out: &mut S,
+    yard: &mut Y,
+    clock: &C,
+    words: JudgeWords,
+) -> Done
+    requires least { 1 ≤ words.depth }
+    requires most { words.depth ≤ 100000 }
+    ensures { TurnsDone (C.may_read clock.now)
+        (world_at (F.told files.old) (F.faults files.old) (F.blamed files.old) (S.taken out.old) (S.faults out.old) (S.ended out.old) (Y.told yard.old) (counts_at (Y.start_faults yard.old) (Y.read_faults yard.old) (Y.hold_faults yard.old)))
+        (world_at (F.told files.new) (F.faults files.new) (F.blamed files.new) (S.taken out.new) (S.faults out.new) (S.ended out.new) (Y.told yard.new) (counts_at (Y.start_faults yard.new) (Y.read_faults yard.new) (Y.hold_faults yard.new)))
+        result (AskJudge words) }
+{
+    match judge_task(alloc, words) {
+        Ok(task) => run_only(rt, alloc, files, out, yard, clock, Turn::Run(task)),
+        Err(_) => out_of_memory(alloc),
+    }
+}
+
+// Offers the names of tasks, one a line.
+fn offer_names<S: Sink>(alloc: Global, out: &mut S, names: &[String]) -> Result<(), Stop>
+    ensures { Tells (S.taken out.old) (S.taken out.new) (S.faults out.old) (S.faults out.new) (S.ended out.new) (name_lines (map string_bytes names.now)) result }
+{
+    for name in names {
+        tell_name(alloc, out, name.as_str())?;
+    }
+    Ok(())
+}
+
+// The exit status, by how lines were told.
+fn told_code(told: Result<(), Stop>) -> u8
+    ensures { result ≡ told_code told }
+{
+    match told {
+        Ok(()) => 0,
+        Err(Stop::Memory) => 32,
+        Err(Stop::Sink) => 16,
+    }
+}
+
+// Prints the names of a file's tasks.
+fn tell_names<S: Sink>(alloc: Global, out: &mut S, config: &Config) -> Done
+    ensures { (told : Option Store) (faults : ℕ) (blamed : Option (List ℕ)) (scripts : Option YardOf) (children : CountsOf) → LinesAlone
+        (world_at told faults blamed (S.taken out.old) (S.faults out.old) (S.ended out.old) scripts children) (world_at told faults blamed (S.taken out.new) (S.faults out.new) (S.ended out.new) scripts children)
+        (name_lines config.now.tasks) result }
+{
+    let told = offer_names(alloc, out, config.tasks());
+    Done {
+        rc: told_code(told),
+        ends: Vec::new(alloc),
+    }
+}
+
+// Prints the names of the tasks of a file, or tells its fault.
+fn run_names<R: Threads + Wait + Sync, F: Files, S: Sink, Y: Yard, C: Clock>(
+    rt: &R,
+    alloc: Global,
+    files: &mut F,
+    out: &mut S,
+    yard: &mut Y,
+    clock: &C,
+    file: &str,
+) -> Done
+    ensures { NamesTold (C.may_read clock.now)
+        (world_at (F.told files.old) (F.faults files.old) (F.blamed files.old) (S.taken out.old) (S.faults out.old) (S.ended out.old) (Y.told yard.old) (counts_at (Y.start_faults yard.old) (Y.read_faults yard.old) (Y.hold_faults yard.old)))
+        (world_at (F.told files.new) (F.faults files.new) (F.blamed files.new) (S.taken out.new) (S.faults out.new) (S.ended out.new) (Y.told yard.new) (counts_at (Y.start_faults yard.new) (Y.read_faults yard.new) (Y.hold_faults yard.new)))
+        file.now result }
+{
+    let stem = stem_of(file);
+    let text = match get(alloc, files, file, MOST_TASK_FILE) {
+        Ok(text) => text,
+        Err(early) => return run_fault(rt, alloc, files, out, yard, clock, stem, None, early),
+    };
+    match read(alloc, &text) {
+        Ok(Ok(config)) => tell_names(alloc, out, &config),
+        Ok(Err(fault)) => run_fault(
+            rt,
+            alloc,
+            files,
+            out,
+            yard,
+            clock,
+            stem,
+            None,
+            Early::Sby(fault),
+        ),
+        Err(_) => run_fault(
+            rt,
+            alloc,
+            files,
+            out,
+            yard,
+            clock,
+            stem,
+            None,
+            Early::Memory,
+        ),
+    }
+}
+
+// Prints the usage line.
+fn run_usage<S: Sink>(alloc: Global, out: &mut S) -> Done
+    ensures rc { result.rc ≡ 16 }
+    ensures ends { result.ends.items ≡ [] }
+    ensures later { S.faults out.old ≤ S.faults out.new }
+    ensures line { ((S.faults out.new ≡ S.faults out.old) × (S.taken out.new ≡ grown (S.taken out.old) usage_line))
+        ⊎ (Rose (S.faults out.old) (S.faults out.new) × AreAll (S.ended out.new) (S.taken out.new) × GrownBySome (S.taken out.old) (S.taken out.new) usage_line) }
+{
+    // A failed call has the exit status of the usage line.
+    let _ = offer(out, usage_line().as_bytes());
+    Done {
+        rc: 16,
+        ends: Vec::new(alloc),
+    }
+}
+
+/// Does all that the program `sby` does: `words` are its arguments, `files` and `out` the file store and the output that it uses. It
+/// answers the exit status, and what each task came to.
+///
+/// Served are all forms of words: `--judge` with stored streams, task files, `--gen` and `--dumptasks`. The jobs of a task file are raced
+/// by its engines, one lane for each, on threads of `rt`: their children are started in bays of `yard`, which all come back to it. `clock`
+/// is read under a timeout alone. Want of memory is told in the answer: status MEMORY, exit status 32.
+pub fn run_sby<R: Threads + Wait + Sync, F: Files, S: Sink, Y: Yard, C: Clock>(
+    rt: &R,
+    alloc: Global,
+    words: &[String],
+    files: &mut F,
+    out: &mut S,
+    yard: &mut Y,
+    clock: &C,
+) -> Done
+    // The headline.
+    ensures { Did (C.may_read clock.now)
+        (world_at (F.told files.old) (F.faults files.old) (F.blamed files.old) (S.taken out.old) (S.faults out.old) (S.ended out.old) (Y.told yard.old) (counts_at (Y.start_faults yard.old) (Y.read_faults yard.old) (Y.hold_faults yard.old)))
+        (world_at (F.told files.new) (F.faults files.new) (F.blamed files.new) (S.taken out.new) (S.faults out.new) (S.ended out.new) (Y.told yard.new) (counts_at (Y.start_faults yard.new) (Y.read_faults yard.new) (Y.hold_faults yard.new)))
+        (map string_bytes words.now) result }
+{
+    match asked_of(alloc, words) {
+        Ok(Some(Asked::Judge(asked))) => run_judge(rt, alloc, files, out, yard, clock, asked),
+        Ok(Some(Asked::Tasks(asked))) => run_tasks(rt, alloc, files, out, yard, clock, &asked),
+        Ok(Some(Asked::Names(file))) => run_names(
+            rt,
+            alloc,
+            files,
+            out,
+            yard,
+            clock,
+            file.as_str(),
+        ),
+        Ok(Some(Asked::Gen(asked))) => run_gen(rt, alloc, files, out, yard, clock, &asked),
+        Ok(None) => run_usage(alloc, out),
+        Err(AllocError) => out_of_memory(alloc),
+    }
+}
