@@ -20,7 +20,7 @@ use Rattle.race_core.specs.declared.part.By.{By}
 use Rattle.race_core.specs.declared.part.By.TheVariants as by
 use Rattle.race_core.specs.declared.part.Reader.{Reader}
 use Rattle.race_core.specs.declared.part.Reader.TheVariants as reader
-use Rattle.lane_child.specs.Reading.{Comes, IsFound, IsProof, Proves, Settles}
+use Rattle.lane_child.specs.Reading.{Comes, HasRead, IsFound, IsProof, NotByFile, Proves, Settles, TookProof}
 
 -- a reader that hasn't found anything
 pub not_found : {T : Type 0} {X : Type 0} (part : Reader T) → ((f : T) (b : By) (won : Bool) → part ≡ reader.Found f b won → ⊥) → IsFound part ⊎ X → X
@@ -144,12 +144,40 @@ rose_later before between now h k = le_trans h k
 pub rose_earlier : (before between now : ℕ) → before ≤ between → Rose between now → Rose before now
 rose_earlier before between now h k = omega (h, k, arith)
 
--- the proof file that was got, if one was
-pub proof_or_none : (bay bay' : Option BayOf) (job : JobName) (most : ℕ) (proof : List ℕ) (A B C D : Type 0) → bay' ≡ bay
-    → (A × (proof ≡ []) × B) ⊎ (C × D × ((proof ≡ []) ⊎ IsProof bay job most proof)) → (proof ≡ []) ⊎ IsProof bay' job most proof
-proof_or_none bay bay' job most proof A B C D same (inl h) = inl h.1
-proof_or_none bay bay' job most proof A B C D same (inr h) = kept h.2
-  where
-    kept : (proof ≡ []) ⊎ IsProof bay job most proof → (proof ≡ []) ⊎ IsProof bay' job most proof
-    kept (inl none) = inl none
-    kept (inr is) = inr (subst (λ (b : Option BayOf). IsProof b job most proof) (sym same) is)
+-- what is read of the output alone isn't by the proof file
+read_unfiled : {T : Type 0} (part : Reader T) → HasRead part → NotByFile part
+read_unfiled (reader.Holding f b) h = h
+read_unfiled (reader.Unknown b) h = h
+read_unfiled (reader.Bad number at b) h = h
+read_unfiled reader.Asking h = tt
+read_unfiled reader.Failed h = tt
+read_unfiled reader.Short h = tt
+read_unfiled reader.Fresh h = absurd h
+read_unfiled reader.Reading h = absurd h
+read_unfiled reader.Unjudged h = absurd h
+read_unfiled (reader.Found f b won) h = absurd h
+read_unfiled reader.Wrong h = absurd h
+
+-- nor is it by that once it is settled
+settled_unfiled : {T : Type 0} (part now : Reader T) → NotByFile part → Settles part now → NotByFile now
+settled_unfiled (reader.Holding f b) now h (inl is) = subst (λ r. NotByFile r) (sym is) h
+settled_unfiled (reader.Holding f b) now h (inr (inl is)) = subst (λ r. NotByFile r) (sym is) h
+settled_unfiled (reader.Holding f b) now h (inr (inr is)) = subst (λ r. NotByFile r) (sym is) tt
+settled_unfiled (reader.Found f b won) now h is = subst (λ r. NotByFile r) (sym is) h
+settled_unfiled (reader.Unknown b) now h is = subst (λ r. NotByFile r) (sym is) h
+settled_unfiled (reader.Bad number at b) now h is = subst (λ r. NotByFile r) (sym is) h
+settled_unfiled reader.Fresh now h is = subst (λ r. NotByFile r) (sym is) h
+settled_unfiled reader.Reading now h is = subst (λ r. NotByFile r) (sym is) h
+settled_unfiled reader.Asking now h is = subst (λ r. NotByFile r) (sym is) h
+settled_unfiled reader.Unjudged now h is = subst (λ r. NotByFile r) (sym is) h
+settled_unfiled reader.Failed now h is = subst (λ r. NotByFile r) (sym is) h
+settled_unfiled reader.Short now h is = subst (λ r. NotByFile r) (sym is) h
+settled_unfiled reader.Wrong now h is = subst (λ r. NotByFile r) (sym is) h
+
+-- the bytes that a reader took of the proof file, once it has finished
+pub proof_finished : {T : Type 0} (bay bay' : Option BayOf) (job : JobName) (most : ℕ) (proof : List ℕ) (part between now : Reader T) (A B C : Type 0) → bay' ≡ bay → HasRead part
+    → ((between ≡ part) × (proof ≡ []) × A) ⊎ (B × C × TookProof bay job most proof between) → Settles between now → TookProof bay' job most proof now
+proof_finished {T} bay bay' job most proof part between now A B C same read (inl (is, none, a)) settles =
+    inr (none, settled_unfiled between now (subst (λ (r : Reader T). NotByFile r) (sym is) (read_unfiled part read)) settles)
+proof_finished bay bay' job most proof part between now A B C same read (inr (b, c, inl got)) settles = inl (subst (λ (b : Option BayOf). IsProof b job most proof) (sym same) got)
+proof_finished bay bay' job most proof part between now A B C same read (inr (b, c, inr (none, unfiled))) settles = inr (none, settled_unfiled between now unfiled settles)

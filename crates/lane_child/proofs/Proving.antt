@@ -8,7 +8,7 @@ use Rattle.race_core.specs.declared.event.Judged.{Judged}
 use Rattle.race_core.specs.declared.event.Judged.TheVariants.{More, Found, Unknown, Bad, Failed, Unjudged}
 use Rattle.race_core.specs.declared.part.Reader.{Reader}
 use Rattle.lane_child.specs.Judging.{Says}
-use Rattle.lane_child.specs.Reading.{FiledAs, IsProof, Proves, got_bytes}
+use Rattle.lane_child.specs.Reading.{FiledAs, IsProof, NotByFile, Proves, got_bytes}
 
 -- what was entered of a proof file that was judged whole
 pub proves_filed : {T : Type 0} (proves : List ℕ → Judged T → Type 0) (proof : List ℕ) (p : Judged T) (part : Reader T)
@@ -26,3 +26,8 @@ pub proof_got : (bay : Option BayOf) (job : JobName) (most : ℕ) (got : Got) �
 proof_got None job most got h = tt
 proof_got (Some bay) job most (All bytes) h = h.0 ∙ sym (take_all (most + 1) (bay.scripts job).proof (omega (h.1, arith)))
 proof_got (Some bay) job most (Long bytes) h = h.0
+
+-- where it couldn't be got, nothing is by it
+pub failed_unfiled : {T : Type 0} (part : Reader T) → FiledAs Failed part → NotByFile part
+failed_unfiled part (inl is) = subst (λ r. NotByFile r) (sym is.1) tt
+failed_unfiled part (inr is) = subst (λ r. NotByFile r) (sym is) tt

@@ -1,5 +1,5 @@
 -- What a start, and the life behind it, leave to the bay.
-use Rattle.std.proofs.Common.{◌≡◌, ◌⊎◌, inl, inr, ℕ, List, [], ◌∷◌, ◌++◌, length, Option, None, Some, IsSomeAnd, Result, Ok, Err, option_map, refl, sym, ap, subst, ◌∙◌, arith}
+use Rattle.std.proofs.Common.{◌≡◌, ◌⊎◌, inl, inr, ℕ, ◌+◌, ◌≤◌, ◌^◌, List, [], ◌∷◌, ◌++◌, length, Option, None, Some, IsSomeAnd, Result, Ok, Err, option_map, refl, sym, ap, subst, ◌∙◌, arith}
 use Rattle.std.proofs.lemmas.List.{append-nil}
 use Rattle.sby_edge.specs.declared.outside.Fail.{Fail}
 use Rattle.sby_edge.specs.declared.outside.Fail.TheVariants.{Memory as FailMemory}
@@ -17,7 +17,7 @@ use Rattle.race_core.specs.declared.part.By.TheVariants as by
 use Rattle.race_core.specs.declared.part.Reader.{Reader}
 use Rattle.race_core.specs.declared.part.Reader.TheVariants as reader
 use Rattle.lane_child.specs.Judging.{Within}
-use Rattle.lane_child.specs.Reading.{Comes, IsProof, NoneLeft, TookSome, bytes_read}
+use Rattle.lane_child.specs.Reading.{Comes, IsProof, NoneLeft, TookProof, TookSome, bytes_read}
 use Rattle.lane_child.specs.Sides.{RanFrom}
 use Rattle.lane_child.specs.Starting.{IsFront, NoStart, ReadsScript, Starts, start_of, with_starts}
 use Rattle.lane_child.proofs.Readers.{comes_within}
@@ -105,9 +105,9 @@ place_taken script place now output (inl h) = (ap (λ (p : PipeOf). p.place) h.0
 place_taken script place now output (inr h) = (h.0, omega (h.1, arith))
 
 -- A child that was started ran. What its bay told before, after the start, and after its end; and its pipe.
-pub record Life {T : Type 0} (st en pr : List ℕ → Judged T → Type 0) (job : JobName) (words : List (List ℕ)) (file : List ℕ) (most : ℕ) (bay bay' : Option BayOf) (events : List (LaneEvent T)) : Type 0 where
+pub record Life {T : Type 0} (st en pr : List ℕ → Judged T → Type 0) (job : JobName) (words : List (List ℕ)) (file : List ℕ) (most most_output : ℕ) (bay bay' : Option BayOf) (events : List (LaneEvent T)) : Type 0 where
   pub told : bay' ≡ option_map (with_starts (start_of job words file (Some (bytes_read events)) ∷ [])) bay
-  pub reads : ReadsScript st en pr bay job most events
+  pub reads : ReadsScript st en pr bay job most most_output events
 
 finished_bay : (job : JobName) (words : List (List ℕ)) (file : List ℕ) (bay : BayOf) (now : PipeOf) (n : ℕ) → now.place ≡ length bay.starts → now.given ≡ n
     → finished (Some now) (record bay { starts = bay.starts ++ record { job = job; words = words; bytes = file; given = None } ∷ [] }) ≡ with_starts (start_of job words file (Some n) ∷ []) bay
@@ -116,9 +116,9 @@ finished_bay job words file bay now n at given = ap (λ (l : List StartOf). reco
     (subst (λ (m : ℕ). with_given (length bay.starts) m (bay.starts ++ record { job = job; words = words; bytes = file; given = None } ∷ []) ≡ bay.starts ++ start_of job words file (Some n) ∷ []) (sym given)
     (given_last n (record { job = job; words = words; bytes = file; given = None }) bay.starts)))
 
-module _ {T : Type 0} (st en pr : List ℕ → Judged T → Type 0) (job : JobName) (words : List (List ℕ)) (file : List ℕ) (most : ℕ) (events : List (LaneEvent T)) where
-  life_untold : (bay' : Option BayOf) → RanFrom st en pr job most None bay' None events → Life st en pr job words file most None bay' events
-  life_untold bay' (now, output, proof, told, took, read, filed, is_proof, comes, closed) = record {
+module _ {T : Type 0} (st en pr : List ℕ → Judged T → Type 0) (job : JobName) (words : List (List ℕ)) (file : List ℕ) (most most_output : ℕ) (events : List (LaneEvent T)) where
+  life_untold : (bay' : Option BayOf) → RanFrom st en pr job most most_output None bay' None events → Life st en pr job words file most most_output None bay' events
+  life_untold bay' (now, output, proof, told, took, read, filed, is_proof, comes, closed, bound) = record {
     told = told;
     reads = record {
       output = output;
@@ -130,17 +130,18 @@ module _ {T : Type 0} (st en pr : List ℕ → Judged T → Type 0) (job : JobNa
       is_proof = at is_proof;
       comes = comes_ended st en pr (NoneLeft now) ([] ≡ []) output proof (reader_from reader.Fresh events) (λ _. refl) comes;
       closed = λ some. refl;
+      bound = bound;
     };
   }
     where
-      at : (proof ≡ []) ⊎ IsProof bay' job most proof → (proof ≡ []) ⊎ IsProof None job most proof
-      at (inl none) = inl none
-      at (inr is) = inr tt
+      at : TookProof bay' job most proof (reader_from reader.Fresh events) → TookProof None job most proof (reader_from reader.Fresh events)
+      at (inl is) = inl tt
+      at (inr none) = inr none
 
-  life_told : (bay : BayOf) (bay' : Option BayOf) → RanFrom st en pr job most (Some (record bay { starts = bay.starts ++ record { job = job; words = words; bytes = file; given = None } ∷ [] })) bay' (Some (pipe_of (bay.scripts job) (length bay.starts))) events
-      → Life st en pr job words file most (Some bay) bay' events
-  life_told bay bay' (None, output, proof, told, took, read, filed, is_proof, comes, closed) = absurd took
-  life_told bay bay' (Some now, output, proof, told, took, read, filed, is_proof, comes, closed) =
+  life_told : (bay : BayOf) (bay' : Option BayOf) → RanFrom st en pr job most most_output (Some (record bay { starts = bay.starts ++ record { job = job; words = words; bytes = file; given = None } ∷ [] })) bay' (Some (pipe_of (bay.scripts job) (length bay.starts))) events
+      → Life st en pr job words file most most_output (Some bay) bay' events
+  life_told bay bay' (None, output, proof, told, took, read, filed, is_proof, comes, closed, bound) = absurd took
+  life_told bay bay' (Some now, output, proof, told, took, read, filed, is_proof, comes, closed, bound) =
       let place = place_taken (bay.scripts job) (length bay.starts) now output took in
       record {
         told = told ∙ ap Some (finished_bay job words file bay now (bytes_read events) place.0 (place.1 ∙ sym read));
@@ -154,25 +155,26 @@ module _ {T : Type 0} (st en pr : List ℕ → Judged T → Type 0) (job : JobNa
           is_proof = at is_proof;
           comes = comes;
           closed = closed;
+          bound = bound;
         };
       }
     where
-      at : (proof ≡ []) ⊎ IsProof bay' job most proof → (proof ≡ []) ⊎ IsProof (Some bay) job most proof
-      at (inl none) = inl none
-      at (inr is) = inr (subst (λ (b : Option BayOf). IsProof b job most proof) told is)
+      at : TookProof bay' job most proof (reader_from reader.Fresh events) → TookProof (Some bay) job most proof (reader_from reader.Fresh events)
+      at (inl is) = inl (subst (λ (b : Option BayOf). IsProof b job most proof) told is)
+      at (inr none) = inr none
 
   -- what is told of a start, and of the life behind it
   pub life : {X : Type 0} (bay between bay' : Option BayOf) (pipe : Option PipeOf) (x : X) → between ≡ option_map (started (Ok x) job words file) bay
       → pipe ≡ option_map (λ (b : BayOf). pipe_of (b.scripts job) (length b.starts)) bay
-      → RanFrom st en pr job most between bay' pipe events → Life st en pr job words file most bay bay' events
-  life None between bay' pipe x is at h = life_untold bay' (subst (λ (b : Option BayOf). RanFrom st en pr job most b bay' None events) is (subst (λ (p : Option PipeOf). RanFrom st en pr job most between bay' p events) at h))
+      → RanFrom st en pr job most most_output between bay' pipe events → Life st en pr job words file most most_output bay bay' events
+  life None between bay' pipe x is at h = life_untold bay' (subst (λ (b : Option BayOf). RanFrom st en pr job most most_output b bay' None events) is (subst (λ (p : Option PipeOf). RanFrom st en pr job most most_output between bay' p events) at h))
   life (Some bay) between bay' pipe x is at h =
-      life_told bay bay' (subst (λ (b : Option BayOf). RanFrom st en pr job most b bay' (Some (pipe_of (bay.scripts job) (length bay.starts))) events) is (subst (λ (p : Option PipeOf). RanFrom st en pr job most between bay' p events) at h))
+      life_told bay bay' (subst (λ (b : Option BayOf). RanFrom st en pr job most most_output b bay' (Some (pipe_of (bay.scripts job) (length bay.starts))) events) is (subst (λ (p : Option PipeOf). RanFrom st en pr job most most_output between bay' p events) at h))
 
 -- what is read by a judge is what its maker says
-pub reads_within : {T : Type 0} (st st' en en' pr pr' : List ℕ → Judged T → Type 0) (bay : Option BayOf) (job : JobName) (most : ℕ) (events : List (LaneEvent T))
-    → Within st st' → Within en en' → Within pr pr' → ReadsScript st en pr bay job most events → ReadsScript st' en' pr' bay job most events
-reads_within st st' en en' pr pr' bay job most events hs he hp h = record {
+pub reads_within : {T : Type 0} (st st' en en' pr pr' : List ℕ → Judged T → Type 0) (bay : Option BayOf) (job : JobName) (most few most_output : ℕ) (events : List (LaneEvent T))
+    → Within st st' → Within en en' → Within pr pr' → few ≤ most_output → ReadsScript st en pr bay job most few events → ReadsScript st' en' pr' bay job most most_output events
+reads_within st st' en en' pr pr' bay job most few most_output events hs he hp small h = record {
   output = h.output;
   rest = h.rest;
   proof = h.proof;
@@ -182,6 +184,7 @@ reads_within st st' en en' pr pr' bay job most events hs he hp h = record {
   is_proof = h.is_proof;
   comes = comes_within st st' en en' pr pr' (h.rest ≡ []) h.output h.proof (reader_from reader.Fresh events) hs he hp h.comes;
   closed = h.closed;
+  bound = omega (h.bound, small, arith);
 }
 
 -- so are the starts

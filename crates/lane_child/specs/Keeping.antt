@@ -1,7 +1,8 @@
 -- What a job's keeper does to its lane's notes, and what its list says of looks and readings.
-use Rattle.std.specs.Prelude.{◌≡◌, ◌⊎◌, ℕ, List, [], ◌∷◌, Option, None, Some, IsSomeAnd, map}
+use Rattle.std.specs.Prelude.{◌≡◌, ◌⊎◌, ℕ, ◌<◌, List, [], ◌∷◌, Option, None, Some, IsSomeAnd, map}
 use Rattle.sby_terms.specs.Problem.{ProblemOf}
 use Rattle.sby_terms.specs.declared.names.JobName.{JobName}
+use Rattle.sby_terms.specs.declared.names.JobName.TheVariants as name
 use Rattle.race_core.specs.declared.step.JobTerms.{JobTerms}
 use Rattle.race_cells.specs.Notes.{NoteOf, known_at}
 use Rattle.race_core.specs.Carrying.{Looked}
@@ -62,11 +63,20 @@ pub record Remember {T : Type 0} (before now : List (NoteOf T)) : Type 0 where
   pub cells : map (λ n. n.cell) now ≡ map (λ n. n.cell) before
   pub knows : (place : ℕ) (f : T) → known_at before place ≡ Some f → known_at now place ≡ Some f
 
+-- a slice
+abbrev pub IsSlice : JobName → Type 0
+IsSlice (name.Base k) = Unit {0}
+IsSlice name.Step = ⊥
+IsSlice (name.Cover k) = ⊥
+
 -- A finding that a look at the cell at this place may show: one for the job of the problem whose cell it is. The cells are the job's
--- own and, where a finding for another job can make it needless, that one's.
+-- own; where a finding for another job can make it needless, that one's; and those of the slices before a slice, at the places before its own.
 abbrev pub IsOfCell : {T : Type 0} → (T → ProblemOf) → (T → JobName) → ProblemOf → JobTerms → Option (ℕ × JobName) → ℕ → T → Type 0
 IsOfCell problem job p terms other place f =
-    (problem f ≡ p) × (((place ≡ terms.cell) × (job f ≡ terms.job)) ⊎ IsSomeAnd other (λ o. (place ≡ o.0) × (job f ≡ o.1)))
+    (problem f ≡ p)
+    × (((place ≡ terms.cell) × (job f ≡ terms.job))
+    ⊎ IsSomeAnd other (λ o. (place ≡ o.0) × (job f ≡ o.1))
+    ⊎ (IsSlice terms.job × (place < terms.cell) × (job f ≡ name.Base place)))
 
 -- Between two moments of a keeper the notes forget nothing; what a new look shows is then known to them, and is of that cell; and each
 -- new reading is one that the clock may give.

@@ -151,11 +151,12 @@ ReadsOn reader.Failed = ⊥
 ReadsOn reader.Short = ⊥
 ReadsOn reader.Wrong = ⊥
 
--- the reader of the output has ended: it holds a finding, has another end of its own, or leaves it to the proof file
+-- The reader of the output has ended: it holds a finding, has another end of its own, or leaves it to the proof file. No proof file was
+-- judged yet.
 abbrev pub HasRead : {T : Type 0} → Reader T → Type 0
-HasRead (reader.Holding f b) = Unit {0}
-HasRead (reader.Unknown b) = Unit {0}
-HasRead (reader.Bad number at b) = Unit {0}
+HasRead (reader.Holding f b) = b ≢ by.File
+HasRead (reader.Unknown b) = b ≢ by.File
+HasRead (reader.Bad number at b) = b ≢ by.File
 HasRead reader.Asking = Unit {0}
 HasRead reader.Failed = Unit {0}
 HasRead reader.Short = Unit {0}
@@ -265,6 +266,24 @@ IsFound reader.Wrong = ⊥
 abbrev pub IsProof : Option BayOf → JobName → ℕ → List ℕ → Type 0
 IsProof None job most proof = Unit {0}
 IsProof (Some bay) job most proof = proof ≡ take (most + 1) (bay.scripts job).proof
+
+-- what the reader came to isn't by the proof file
+abbrev pub NotByFile : {T : Type 0} → Reader T → Type 0
+NotByFile (reader.Holding f b) = b ≢ by.File
+NotByFile (reader.Found f b won) = b ≢ by.File
+NotByFile (reader.Unknown b) = b ≢ by.File
+NotByFile (reader.Bad number at b) = b ≢ by.File
+NotByFile reader.Failed = Unit {0}
+NotByFile reader.Short = Unit {0}
+NotByFile reader.Asking = Unit {0}
+NotByFile reader.Fresh = Unit {0}
+NotByFile reader.Reading = Unit {0}
+NotByFile reader.Unjudged = Unit {0}
+NotByFile reader.Wrong = Unit {0}
+
+-- the bytes that a reader took of a proof file: those that were got of it; or none, where what it came to isn't by the file
+abbrev pub TookProof : {T : Type 0} → Option BayOf → JobName → ℕ → List ℕ → Reader T → Type 0
+TookProof bay job most proof part = IsProof bay job most proof ⊎ ((proof ≡ []) × NotByFile part)
 
 -- the reader holds a finding that isn't settled
 abbrev pub IsHolding : {T : Type 0} → Reader T → Type 0

@@ -16,7 +16,7 @@ use Rattle.race_core.specs.declared.part.Reason.{Reason}
 use Rattle.race_core.specs.declared.part.Reason.TheVariants as reason
 use Rattle.lane_child.specs.Judging.{Within}
 use Rattle.lane_child.specs.Keeping.{EndsChild, Keeps, TakesTurns}
-use Rattle.lane_child.specs.Reading.{Comes, HasRead, IsProof, NoneLeft, Proves, ReadSoFar, Settles, Took, bytes_filed, bytes_read, empty_reads}
+use Rattle.lane_child.specs.Reading.{Comes, HasRead, NoneLeft, Proves, ReadSoFar, Settles, Took, TookProof, bytes_filed, bytes_read, empty_reads}
 
 -- A reader's work on a fresh pipe with a fresh list. Its part is that of its list, and what its output comes to; it asks for the proof
 -- file only where the subject waits for it; that a read failed only where the pipe counted a fault.
@@ -50,7 +50,7 @@ kept_by None = keeper.Turning
 abbrev pub Asks : {T : Type 0} → (List ℕ → Judged T → Type 0) → Option BayOf → JobName → ℕ → Option (Reason T) → Reader T → Reader T → ℕ → Type 0
 Asks proves bay job most why part now filed = (proof : List ℕ) × (filed ≡ length proof)
     × (((now ≡ part) × (proof ≡ []) × (part ≡ reader.Asking → IsKilled (kept_by why)))
-    ⊎ ((part ≡ reader.Asking) × Proves proves proof now × ((proof ≡ []) ⊎ IsProof bay job most proof)))
+    ⊎ ((part ≡ reader.Asking) × Proves proves proof now × TookProof bay job most proof now))
 
 -- Then it settles what it holds.
 abbrev pub Finishes : {T : Type 0} → (List ℕ → Judged T → Type 0) → Option BayOf → JobName → ℕ → Option (Reason T) → Reader T → Reader T → ℕ → Type 0
@@ -65,13 +65,14 @@ abbrev pub next_pipe : JobName → BayOf → PipeOf
 next_pipe job bay = pipe_of (bay.scripts job) (length bay.starts)
 
 -- A child whose pipe was this ran and is finished: its reader took an output of the pipe, and perhaps a proof file, as many bytes as its
--- list tells; its part is what these come to.
-abbrev pub RanFrom : {T : Type 0} → (stands ends proves : List ℕ → Judged T → Type 0) → JobName → ℕ → Option BayOf → Option BayOf → Option PipeOf → List (LaneEvent T) → Type 0
-RanFrom stands ends proves job most bay bay' pipe events =
+-- list tells; its part is what these come to. The output is at most one buffer longer than the longest that comes to nothing.
+abbrev pub RanFrom : {T : Type 0} → (stands ends proves : List ℕ → Judged T → Type 0) → JobName → ℕ → ℕ → Option BayOf → Option BayOf → Option PipeOf → List (LaneEvent T) → Type 0
+RanFrom stands ends proves job most most_output bay bay' pipe events =
     (now : Option PipeOf) × (output : List ℕ) × (proof : List ℕ)
     × (bay' ≡ option_map (finished now) bay)
     × Took pipe now output
     × (bytes_read events ≡ length output) × (bytes_filed events ≡ length proof)
-    × ((proof ≡ []) ⊎ IsProof bay' job most proof)
+    × TookProof bay' job most proof (reader_from reader.Fresh events)
     × Comes stands ends proves (NoneLeft now) output proof (reader_from reader.Fresh events)
     × (0 < empty_reads events → NoneLeft now)
+    × (length output ≤ most_output + 2 ^ 16)

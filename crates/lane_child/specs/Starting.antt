@@ -1,5 +1,5 @@
 -- What a job leaves to its bay and its list, from the look before its start on.
-use Rattle.std.specs.Prelude.{◌≡◌, ◌⊎◌, ℕ, ◌<◌, List, [], ◌∷◌, ◌++◌, length, Option, None, Some, IsSomeAnd}
+use Rattle.std.specs.Prelude.{◌≡◌, ◌⊎◌, ℕ, ◌+◌, ◌<◌, ◌≤◌, ◌^◌, List, [], ◌∷◌, ◌++◌, length, Option, None, Some, IsSomeAnd}
 use Rattle.sby_edge.specs.Child.{BayOf, StartOf, up_to}
 use Rattle.sby_edge.specs.Script.{ScriptOf}
 use Rattle.sby_terms.specs.declared.names.JobName.{JobName}
@@ -9,7 +9,7 @@ use Rattle.race_core.specs.declared.end.JobEnd.TheVariants as end
 use Rattle.race_core.specs.declared.event.Judged.{Judged}
 use Rattle.race_core.specs.declared.event.LaneEvent.{LaneEvent}
 use Rattle.race_core.specs.declared.part.Reader.TheVariants as reader
-use Rattle.lane_child.specs.Reading.{Comes, IsProof, bytes_filed, bytes_read, empty_reads}
+use Rattle.lane_child.specs.Reading.{Comes, TookProof, bytes_filed, bytes_read, empty_reads}
 
 -- an end of a job whose child ran
 abbrev pub HasRun : {T : Type 0} → JobEnd T → Type 0
@@ -50,17 +50,19 @@ IsFrontOf None job output rest = Unit {0}
 IsFrontOf (Some bay) job output rest = IsFront (bay.scripts job) output rest
 
 -- A reader took an output, a front of the script's, and perhaps a proof file, as many bytes as its list tells, and came to what these
--- come to. Nothing being left, the output ended; a read gave no byte only then.
-pub record ReadsScript {T : Type 0} (stands ends proves : List ℕ → Judged T → Type 0) (bay : Option BayOf) (job : JobName) (most : ℕ) (events : List (LaneEvent T)) : Type 0 where
+-- come to. Nothing being left, the output ended; a read gave no byte only then. The output is at most one buffer longer than the longest that
+-- comes to nothing.
+pub record ReadsScript {T : Type 0} (stands ends proves : List ℕ → Judged T → Type 0) (bay : Option BayOf) (job : JobName) (most most_output : ℕ) (events : List (LaneEvent T)) : Type 0 where
   pub output : List ℕ
   pub rest : List ℕ
   pub proof : List ℕ
   pub front : IsFrontOf bay job output rest
   pub read : bytes_read events ≡ length output
   pub filed : bytes_filed events ≡ length proof
-  pub is_proof : (proof ≡ []) ⊎ IsProof bay job most proof
+  pub is_proof : TookProof bay job most proof (reader_from reader.Fresh events)
   pub comes : Comes stands ends proves (rest ≡ []) output proof (reader_from reader.Fresh events)
   pub closed : 0 < empty_reads events → rest ≡ []
+  pub bound : length output ≤ most_output + 2 ^ 16
 
 -- the bay with these starts more
 abbrev pub with_starts : List StartOf → BayOf → BayOf

@@ -210,7 +210,7 @@ pub fn run_started<
     ensures looked { keeper_from (terms_of T.job T.answer watch.now.terms.now) keeper.Fresh keeper_events.new.events ≢ keeper.Fresh }
     ensures keeps { Keeps (IsOfCell T.problem T.job (J.problem watch.now.asks.now) watch.now.terms.now watch.now.other) (C.may_read watch.now.clock.now) notes.old notes.new keeper_events.old.events keeper_events.new.events }
     ensures won { IfWon (reader_from reader.Fresh result.events.events) (λ f. known_at notes.new watch.now.terms.now.cell ≡ Some f) }
-    ensures ran { RanFrom (S.stands subject) (S.ends subject) (S.proves subject) asked.now.job asked.now.most (L.told bay.old) (L.told bay.new)
+    ensures ran { RanFrom (S.stands subject) (S.ends subject) (S.proves subject) asked.now.job asked.now.most (S.most subject) (L.told bay.old) (L.told bay.new)
         (L.Pipe.told child.0) result.events.events }
     ensures started { HasRun result.end }
     ensures read_failed { result.end ≡ end.ReadFailed → Rose (L.read_faults bay.old) (L.read_faults bay.new) }

@@ -36,7 +36,7 @@ const ROOM: usize = 4;
 
 // Two copies of what the cell at a place has, where that makes the job needless: one for the list, one for the end.
 #[tactic(auto, using(crate::proofs::Keepers::learns_remember, crate::proofs::Keepers::learns_known))]
-pub(crate) fn needless_at<J: Asks<T>, T: Settled + Drop, C: Clock>(
+fn needless_at<J: Asks<T>, T: Settled + Drop, C: Clock>(
     watch: &Watch<'_, J, T, C>,
     place: u32,
     job: JobName,
@@ -56,7 +56,7 @@ pub(crate) fn needless_at<J: Asks<T>, T: Settled + Drop, C: Clock>(
 }
 
 // Two copies.
-fn twice<T: Settled + Drop>(value: &T) -> Result<(T, T), AllocError>
+pub(crate) fn twice<T: Settled + Drop>(value: &T) -> Result<(T, T), AllocError>
     ensures { IfOk result (λ c. (c.0 ≡ value.now) × (c.1 ≡ value.now)) }
 {
     let one = value.copy()?;

@@ -3,7 +3,7 @@
 
 ghost use Rattle.std.specs.Prelude.{◌≡◌, ◌≢◌, ◌⊎◌, ℕ, ◌+◌, ◌<◌, ◌≤◌, List, [], Some, IfOk, length, true};
 ghost use Rattle.lane_child.specs.Keeping.{Remember};
-ghost use Rattle.lane_child.specs.Reading.{FiledAs, IfWon, IsHolding, IsProof, Proves, Settles, got_bytes, bytes_filed, bytes_read, empty_reads};
+ghost use Rattle.lane_child.specs.Reading.{FiledAs, IfWon, IsHolding, Proves, Settles, TookProof, got_bytes, bytes_filed, bytes_read, empty_reads};
 ghost use Rattle.race_cells.specs.Notes.{AreNotesOf, known_at};
 ghost use Rattle.race_core.specs.Parts.{reader_from};
 ghost use Rattle.race_core.specs.declared.event.Judged.TheVariants as judged;
@@ -179,7 +179,7 @@ fn judge_proof<S: Subject<T>, T: Settled + Drop>(
 }
 
 // Asks for the proof file, and has it judged.
-#[tactic(auto, using(crate::proofs::Proving::proof_got))]
+#[tactic(auto, using(crate::proofs::Proving::proof_got, crate::proofs::Proving::failed_unfiled))]
 pub(crate) fn read_proof<L: Launch, S: Subject<T>, T: Settled + Drop>(
     alloc: Global,
     bay: &mut L,
@@ -193,7 +193,7 @@ pub(crate) fn read_proof<L: Launch, S: Subject<T>, T: Settled + Drop>(
     requires unfiled { bytes_filed events.old.events ≡ 0 }
     ensures part { result ≡ reader_from reader.Fresh events.new.events }
     ensures room { (result ≡ reader.Short) ⊎ (1 ≤ events.new.room) }
-    ensures proof { (proof : List ℕ) × ((proof ≡ []) ⊎ IsProof (L.told bay.old) asked.now.job asked.now.most proof)
+    ensures proof { (proof : List ℕ) × TookProof (L.told bay.old) asked.now.job asked.now.most proof result
         × (bytes_filed events.new.events ≡ length proof) × Proves (S.proves subject.old) proof result }
     ensures read { bytes_read events.new.events ≡ bytes_read events.old.events }
     ensures empty { empty_reads events.new.events ≡ empty_reads events.old.events }

@@ -1,10 +1,11 @@
 // The reader of a job: it takes what the child writes, and has it judged.
 
-ghost use Rattle.std.specs.Prelude.{◌≡◌, ◌⊎◌, ◌+◌, ◌<◌, ◌≤◌, ◌^◌, [], ◌++◌, length, vec_len, IfOk, Option};
+ghost use Rattle.std.specs.Prelude.{◌≡◌, ◌≢◌, ◌⊎◌, ◌+◌, ◌<◌, ◌≤◌, ◌^◌, [], ◌++◌, length, vec_len, IfOk, Option};
 ghost use Rattle.lane_child.specs.Judging.{Says, Within};
 ghost use Rattle.lane_child.specs.Reading.{Comes, EnteredAs, HasRead, NoneLeft, ReadSoFar, ReadsOn, bytes_filed, bytes_read, empty_read, empty_reads, no_byte};
 ghost use Rattle.race_core.specs.Parts.{by_of, reader_of, reader_from};
 ghost use Rattle.race_core.specs.declared.event.Judged.TheVariants as judged;
+ghost use Rattle.race_core.specs.declared.part.By.TheVariants as by;
 ghost use Rattle.race_core.specs.declared.part.Reader.TheVariants as reader;
 ghost use Rattle.sby_edge.specs.Child.{PipeOf};
 
@@ -23,7 +24,8 @@ const PIECE: usize = 65536;
 const ROOM: usize = 3;
 
 fn by_bytes(bytes: u64) -> By
-    ensures { result ≡ by_of bytes }
+    ensures by { result ≡ by_of bytes }
+    ensures output { result ≢ by.File }
 {
     if bytes == 0 { By::Close } else { By::Bytes }
 }
@@ -34,6 +36,7 @@ fn enter_found<T: Settled + Drop>(events: &mut EventList<T>, bytes: u64, value: 
     requires room { 3 ≤ events.old.room }
     requires reads { ReadsOn (reader_from reader.Fresh events.old.events) }
     ensures part { result ≡ reader_from reader.Fresh events.new.events }
+    ensures ended { HasRead result }
     ensures entered { EnteredAs (by_of bytes) (judged.Found value) result }
     ensures bytes { bytes_read events.new.events ≡ bytes_read events.old.events + bytes }
     ensures filed { bytes_filed events.new.events ≡ bytes_filed events.old.events }
@@ -62,6 +65,7 @@ fn enter_unjudged<T: Drop>(events: &mut EventList<T>, bytes: u64) -> Reader<T>
     requires room { 3 ≤ events.old.room }
     requires reads { ReadsOn (reader_from reader.Fresh events.old.events) }
     ensures part { result ≡ reader_from reader.Fresh events.new.events }
+    ensures ended { HasRead result }
     ensures entered { result ≡ reader.Short }
     ensures bytes { bytes_read events.new.events ≡ bytes_read events.old.events + bytes }
     ensures filed { bytes_filed events.new.events ≡ bytes_filed events.old.events }

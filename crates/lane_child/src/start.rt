@@ -1,12 +1,12 @@
 // A job from the look before its start on.
 
-ghost use Rattle.std.specs.Prelude.{◌≡◌, ◌≢◌, ◌⊎◌, ℕ, ◌+◌, ◌<◌, ◌≤◌, List, [], IfSome, length, map, option_map, string_bytes, true};
+ghost use Rattle.std.specs.Prelude.{◌≡◌, ◌≢◌, ◌⊎◌, ℕ, ◌+◌, ◌<◌, ◌≤◌, List, [], Some, IfOk, IfSome, length, map, option_map, string_bytes, true};
 ghost use Rattle.std.specs.Option.{MatchOption};
-ghost use Rattle.lane_child.specs.Keeping.{IsOfCell, Keeps};
+ghost use Rattle.lane_child.specs.Keeping.{IsOfCell, Keeps, Remember};
 ghost use Rattle.lane_child.specs.Reading.{IfWon};
 ghost use Rattle.lane_child.specs.Starting.{NoStart, ReadsScript, Starts, with_starts};
 ghost use Rattle.race_cells.specs.Notes.{AreNotesOf, known_at};
-ghost use Rattle.race_core.specs.Asking.{terms_of};
+ghost use Rattle.race_core.specs.Asking.{is_skipped, terms_of};
 ghost use Rattle.race_core.specs.Ends.{EndIs, HasEnd};
 ghost use Rattle.race_core.specs.Parts.{RightKeeper, RightReader, keeper_from, reader_from};
 ghost use Rattle.race_core.specs.declared.end.JobEnd.TheVariants as end;
@@ -18,7 +18,7 @@ ghost use Rattle.sby_edge.specs.Child.{StartOf};
 
 use crate::entering::enter;
 use crate::job::{Ran, run_started};
-use crate::keeper::{Watch, enter_plain, needless_at};
+use crate::keeper::{Watch, enter_plain, twice};
 use crate::making::{Child, Makes};
 use crate::over::Asked;
 use crate::subject::{Asks, Subject};
@@ -26,9 +26,66 @@ use race_cells::Notes;
 use race_core::{EventList, JobEnd, LaneEvent};
 use sby_edge::{Clock, Fail, Launch};
 use sby_terms::{JobName, Settled};
-use std::alloc::Global;
+use std::alloc::{AllocError, Global};
 use std::sync::Wait;
 use std::thread::Threads;
+
+// Two copies of what the cell at a place has, where that skips the job: one for the list, one for the end.
+#[tactic(auto, using(crate::proofs::Keepers::learns_remember, crate::proofs::Keepers::learns_known))]
+fn skipping_at<J: Asks<T>, T: Settled + Drop, C: Clock>(
+    watch: &Watch<'_, J, T, C>,
+    place: u32,
+    job: JobName,
+    notes: &mut Notes<T>,
+) -> Option<Result<(T, T), AllocError>>
+    requires place { place < length watch.now.cells.now }
+    requires notes { AreNotesOf watch.now.cells.now notes.old }
+    ensures notes { Remember notes.old notes.new }
+    ensures found { IfSome result (λ copies. IfOk copies (λ c. (c.0 ≡ c.1) × (known_at notes.new place ≡ Some c.0)
+        × (T.problem c.0 ≡ J.problem watch.now.asks.now) × (T.job c.0 ≡ job) × (is_skipped T.job T.answer watch.now.terms.now c.0 ≡ true))) }
+{
+    let value = watch.cells.look(place, notes)?;
+    if !watch.asks.is_for(value, job) || !watch.terms.is_skipped_by(value) {
+        return None;
+    }
+    Some(twice(value))
+}
+
+// The end of a job that what the cell at a place has skips, or for whose copies memory is wanting.
+fn skip<J: Asks<T>, T: Settled + Drop, C: Clock>(
+    watch: &Watch<'_, J, T, C>,
+    place: u32,
+    copies: Result<(T, T), AllocError>,
+    notes: &Notes<T>,
+    events: &mut EventList<T>,
+) -> JobEnd<T>
+    requires room { 1 ≤ events.old.room }
+    requires skipped { IfOk copies (λ c. (c.0 ≡ c.1) × (is_skipped T.job T.answer watch.now.terms.now c.0 ≡ true)) }
+    requires found { IfOk copies (λ c. (known_at notes.now place ≡ Some c.0) × IsOfCell T.problem T.job (J.problem watch.now.asks.now) watch.now.terms.now watch.now.other place c.0) }
+    requires before { (keeper_from (terms_of T.job T.answer watch.now.terms.now) keeper.Fresh events.old.events ≡ keeper.Fresh)
+        ⊎ ((keeper_from (terms_of T.job T.answer watch.now.terms.now) keeper.Fresh events.old.events ≡ keeper.Looked) × (place ≢ watch.now.terms.now.cell)) }
+    ensures end { NoStart result × (keeper_from (terms_of T.job T.answer watch.now.terms.now) keeper.Fresh events.new.events ≢ keeper.Fresh) × RightKeeper (keeper_from (terms_of T.job T.answer watch.now.terms.now) keeper.Fresh events.new.events)
+        × EndIs (terms_of T.job T.answer watch.now.terms.now) (λ _. ⊥) reader.Fresh (keeper_from (terms_of T.job T.answer watch.now.terms.now) keeper.Fresh events.new.events) result }
+    ensures room { events.new.room + 1 ≡ events.old.room }
+    ensures keeps { Keeps (IsOfCell T.problem T.job (J.problem watch.now.asks.now) watch.now.terms.now watch.now.other) (C.may_read watch.now.clock.now) notes.now notes.now events.old.events events.new.events }
+{
+    match copies {
+        Ok((known, value)) => {
+            enter(
+                events,
+                LaneEvent::Look {
+                    cell: place,
+                    known: Some(known),
+                },
+            );
+            JobEnd::Skipped(value)
+        }
+        Err(_) => {
+            enter_plain(watch, notes, events, LaneEvent::KeeperMemory);
+            JobEnd::Memory
+        }
+    }
+}
 
 // A look at one cell before the start. Its answer is the end of a job that isn't started.
 fn look_before<J: Asks<T>, T: Settled + Drop, C: Clock>(
@@ -50,38 +107,51 @@ fn look_before<J: Asks<T>, T: Settled + Drop, C: Clock>(
     ensures room { events.new.room + 1 ≡ events.old.room }
     ensures keeps { Keeps (IsOfCell T.problem T.job (J.problem watch.now.asks.now) watch.now.terms.now watch.now.other) (C.may_read watch.now.clock.now) notes.old notes.new events.old.events events.new.events }
 {
-    match needless_at(watch, place, job, notes) {
-        None => {
-            enter_plain(
-                watch,
-                notes,
-                events,
-                LaneEvent::Look {
-                    cell: place,
-                    known: None,
-                },
-            );
-            None
-        }
-        Some(Ok((known, value))) => {
-            enter(
-                events,
-                LaneEvent::Look {
-                    cell: place,
-                    known: Some(known),
-                },
-            );
-            Some(JobEnd::Skipped(value))
-        }
-        Some(Err(_)) => {
-            enter_plain(watch, notes, events, LaneEvent::KeeperMemory);
-            Some(JobEnd::Memory)
-        }
-    }
+    let Some(copies) = skipping_at(watch, place, job, notes) else {
+        enter_plain(
+            watch,
+            notes,
+            events,
+            LaneEvent::Look {
+                cell: place,
+                known: None,
+            },
+        );
+        return None;
+    };
+    Some(skip(watch, place, copies, notes, events))
 }
 
-/// The looks before a job's start: at its own cell, then at the other one. The answer is the end of a job that isn't started: it is
-/// skipped, by a finding that makes it needless, or memory was wanting.
+// The looks at the cells of the slices before a slice. One that shows nothing isn't entered.
+fn look_at_slices<J: Asks<T>, T: Settled + Drop, C: Clock>(
+    watch: &Watch<'_, J, T, C>,
+    notes: &mut Notes<T>,
+    events: &mut EventList<T>,
+) -> Option<JobEnd<T>>
+    requires cell { watch.now.terms.now.cell < length watch.now.cells.now }
+    requires notes { AreNotesOf watch.now.cells.now notes.old }
+    requires room { 1 ≤ events.old.room }
+    requires looked { keeper_from (terms_of T.job T.answer watch.now.terms.now) keeper.Fresh events.old.events ≡ keeper.Looked }
+    ensures end { MatchOption result (keeper_from (terms_of T.job T.answer watch.now.terms.now) keeper.Fresh events.new.events ≡ keeper.Looked)
+        (λ e. NoStart e × (keeper_from (terms_of T.job T.answer watch.now.terms.now) keeper.Fresh events.new.events ≢ keeper.Fresh) × RightKeeper (keeper_from (terms_of T.job T.answer watch.now.terms.now) keeper.Fresh events.new.events)
+        × EndIs (terms_of T.job T.answer watch.now.terms.now) (λ _. ⊥) reader.Fresh (keeper_from (terms_of T.job T.answer watch.now.terms.now) keeper.Fresh events.new.events) e) }
+    ensures room { events.old.room ≤ events.new.room + 1 }
+    ensures keeps { Keeps (IsOfCell T.problem T.job (J.problem watch.now.asks.now) watch.now.terms.now watch.now.other) (C.may_read watch.now.clock.now) notes.old notes.new events.old.events events.new.events }
+{
+    let JobName::Base(_) = watch.terms.job else {
+        return None;
+    };
+    for place in 0..watch.terms.cell {
+        if let Some(copies) = skipping_at(watch, place, JobName::Base(place), notes) {
+            return Some(skip(watch, place, copies, notes, events));
+        }
+    }
+    None
+}
+
+/// The looks before a job's start: at its own cell, then at the other one, or at those of the slices before a slice. The answer is the
+/// end of a job that isn't started: it is skipped, by a finding that makes it needless or is that an earlier slice is Sat, or memory was
+/// wanting.
 pub fn look_first<J: Asks<T>, T: Settled + Drop, C: Clock>(
     watch: &Watch<'_, J, T, C>,
     notes: &mut Notes<T>,
@@ -103,7 +173,7 @@ pub fn look_first<J: Asks<T>, T: Settled + Drop, C: Clock>(
     }
     match watch.other {
         Some((place, job)) if place != terms.cell => look_before(watch, place, job, notes, events),
-        _ => None,
+        _ => look_at_slices(watch, notes, events),
     }
 }
 
@@ -168,7 +238,7 @@ fn start_child<
     ensures found { (f : T) → HasEnd (reader_from reader.Fresh result.events.events) (end.Found f) → (T.problem f ≡ J.problem watch.now.asks.now) × (T.job f ≡ watch.now.terms.now.job) }
     ensures starts { (starts : List StartOf) × (L.told bay.new ≡ option_map (with_starts starts) (L.told bay.old))
         × Starts watch.now.terms.now.job (map string_bytes child.words.items) bytes.now
-        (ReadsScript (S.stands child.subject) (S.ends child.subject) (S.proves child.subject) (L.told bay.old) watch.now.terms.now.job most result.events.events)
+        (ReadsScript (S.stands child.subject) (S.ends child.subject) (S.proves child.subject) (L.told bay.old) watch.now.terms.now.job most (S.most child.subject) result.events.events)
         result.events.events result.end starts }
     ensures start_failed { result.end ≡ end.StartFailed → Rose (L.start_faults bay.old) (L.start_faults bay.new) }
     ensures read_failed { result.end ≡ end.ReadFailed → Rose (L.read_faults bay.old) (L.read_faults bay.new) }
@@ -215,8 +285,8 @@ fn start_child<
     }
 }
 
-/// Runs a job that the lane serves: it is skipped where a look before its start shows a finding that makes it needless; else its child
-/// is made and started, with these words and the job's file, once, and runs to its end. Waits for the child.
+/// Runs a job that the lane serves: it is skipped where a look before its start shows a finding that skips it; else its child is made
+/// and started, with these words and the job's file, once, and runs to its end. Waits for the child.
 pub fn run_child<
     R: Threads + Wait + Sync,
     L: Launch,
@@ -248,7 +318,7 @@ pub fn run_child<
     ensures starts { (starts : List StartOf) × (L.told bay.new ≡ option_map (with_starts starts) (L.told bay.old))
         × Starts watch.now.terms.now.job (M.words watch.now.asks.now lane watch.now.terms.now.job) (M.file watch.now.asks.now watch.now.terms.now.job)
         (ReadsScript (M.stands watch.now.asks.now lane watch.now.terms.now.job) (M.ends watch.now.asks.now lane watch.now.terms.now.job) (M.proves watch.now.asks.now lane watch.now.terms.now.job)
-        (L.told bay.old) watch.now.terms.now.job (M.most watch.now.asks.now) result.events.events)
+        (L.told bay.old) watch.now.terms.now.job (M.most watch.now.asks.now) (M.most_output watch.now.asks.now lane) result.events.events)
         result.events.events result.end starts }
     ensures start_failed { result.end ≡ end.StartFailed → Rose (L.start_faults bay.old) (L.start_faults bay.new) }
     ensures read_failed { result.end ≡ end.ReadFailed → Rose (L.read_faults bay.old) (L.read_faults bay.new) }

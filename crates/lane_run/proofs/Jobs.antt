@@ -1,5 +1,5 @@
 -- A job that is done, from what its calls ensure.
-use Rattle.std.proofs.Common.{◌≡◌, inl, inr, ℕ, zero, suc, true, false, List, [], Option, Some, IsSomeAnd, refl, sym, ap, subst, ◌∙◌}
+use Rattle.std.proofs.Common.{◌≡◌, inl, inr, ℕ, zero, suc, ◌<◌, true, false, List, [], Option, Some, IsSomeAnd, refl, sym, ap, subst, ◌∙◌, arith}
 use Rattle.sby_terms.specs.Problem.{ProblemOf}
 use Rattle.sby_terms.specs.declared.names.Mode.{Mode}
 use Rattle.sby_terms.specs.declared.names.Mode.TheVariants as mode
@@ -21,12 +21,12 @@ use Rattle.race_core.specs.declared.part.Keeper.TheVariants as keeper
 use Rattle.race_core.specs.declared.part.Reader.{Reader}
 use Rattle.race_core.specs.declared.part.Reader.TheVariants as reader
 use Rattle.race_core.specs.declared.step.JobTerms.{JobTerms}
-use Rattle.lane_child.specs.Keeping.{HasReading, IsOfCell, Keeps}
+use Rattle.lane_child.specs.Keeping.{HasReading, IsOfCell, IsSlice, Keeps}
 use Rattle.lane_child.specs.Reading.{IfWon}
 use Rattle.lane_run.specs.Asked.{IsFor, other_of, terms_at}
 use Rattle.lane_run.specs.declared.task.Limit.{Limit}
 use Rattle.lane_run.specs.Done.{JobDone}
-use Rattle.lane_run.proofs.Reasons.{by_look}
+use Rattle.lane_run.proofs.Reasons.{called_by_look, skipped_by_look}
 
 -- only Step has another cell, that of Base
 other_is : (m : Mode) (k : ℕ) (P : ℕ × JobName → Type 0) → IsSomeAnd (other_of (name_at m k)) P → P (0, name.Base 0) × (name_at m 0 ≡ name.Base 0)
@@ -36,13 +36,22 @@ other_is mode.Prove (suc zero) P h = (h, refl)
 other_is mode.Prove (suc (suc k)) P h = absurd h
 other_is mode.Cover k P h = absurd h
 
+-- the places before a slice's own are those of slices
+slice_is : (m : Mode) (k c : ℕ) → IsSlice (name_at m k) → c < k → name_at m c ≡ name.Base c
+slice_is mode.Bmc k c slice lt = refl
+slice_is mode.Prove zero c slice lt = absurd (omega (lt, arith))
+slice_is mode.Prove (suc zero) c slice lt = absurd slice
+slice_is mode.Prove (suc (suc k)) c slice lt = absurd slice
+slice_is mode.Cover k c slice lt = absurd slice
+
 -- a finding that a look may show is for the job of its cell
 cell_for : {T : Type 0} (problem : T → ProblemOf) (job : T → JobName) (p : ProblemOf) (m : Mode) (limit : Limit) (k c : ℕ) (f : T)
     → IsOfCell problem job p (terms_at m limit k) (other_of (name_at m k)) c f → IsFor problem job p m c f
 cell_for problem job p m limit k c f (is, inl own) = (is, own.1 ∙ ap (λ (n : ℕ). name_at m n) (sym own.0))
-cell_for problem job p m limit k c f (is, inr other) =
+cell_for problem job p m limit k c f (is, inr (inl other)) =
     let o = other_is m k (λ o. (c ≡ o.0) × (job f ≡ o.1)) other in
     (is, o.0.1 ∙ (sym o.1 ∙ ap (λ (n : ℕ). name_at m n) (sym o.0.0)))
+cell_for problem job p m limit k c f (is, inr (inr slice)) = (is, slice.2 ∙ sym (slice_is m k c slice.0 slice.1))
 
 -- what was won is what was found
 if_won : {T : Type 0} (r : Reader T) (P Q : T → Type 0) → IfWon r Q → ((f : T) → HasEnd r (end.Found f) → P f) → IfWon r (λ f. P f × Q f)
@@ -96,8 +105,8 @@ carried_served : {T : Type 0} (a : Terms T) (For : ℕ → T → Type 0) (place 
     → ((g : T) → HasEnd (reader_of es) (end.Found g) → For place g) → ((c : ℕ) (g : T) → Looked c g es.keeper → For c g)
     → EndIs a (λ _. ⊥) (reader_of es) (keeper_of a es) e → Carries e f → (k : ℕ) × For k f
 carried_served a For place es (end.Found g) f found looks h is = (place, subst (For place) is (found g h))
-carried_served a For place es (end.CalledOff g) f found looks h is = let l = by_look a g es.keeper (inl h.1) in (l.0.0, subst (For l.0.0) is (looks l.0.0 g l.0.1))
-carried_served a For place es (end.Skipped g) f found looks (h, inl x) is = let l = by_look a g es.keeper (inr x) in (l.0.0, subst (For l.0.0) is (looks l.0.0 g l.0.1))
+carried_served a For place es (end.CalledOff g) f found looks h is = let l = called_by_look a g es.keeper h.1 in (l.0.0, subst (For l.0.0) is (looks l.0.0 g l.0.1))
+carried_served a For place es (end.Skipped g) f found looks (h, inl x) is = let l = skipped_by_look a g es.keeper x in (l.0.0, subst (For l.0.0) is (looks l.0.0 g l.0.1))
 carried_served a For place es (end.Skipped g) f found looks (h, inr x) is = absurd x.1
 carried_served a For place es end.Unknown f found looks h is = absurd is
 carried_served a For place es (end.Bad number at) f found looks h is = absurd is
@@ -111,7 +120,7 @@ carried_served a For place es end.NotServed f found looks h is = absurd is
 carried_passed : {T : Type 0} (a : Terms T) (For : ℕ → T → Type 0) (known : T → Type 0) (r : Reader T) (es : List (LaneEvent T)) (e : JobEnd T) (f : T)
     → ((g : T) → known g → (k : ℕ) × For k g) → ((c : ℕ) (g : T) → Looked c g es → For c g)
     → UnservedEndIs a known r (keeper_from a keeper.Fresh es) e → Carries e f → (k : ℕ) × For k f
-carried_passed {T} a For known r es (end.Skipped g) f knew looks (h, inl x) is = let l = by_look a g es (inr x) in (l.0.0, subst (For l.0.0) is (looks l.0.0 g l.0.1))
+carried_passed {T} a For known r es (end.Skipped g) f knew looks (h, inl x) is = let l = skipped_by_look a g es x in (l.0.0, subst (For l.0.0) is (looks l.0.0 g l.0.1))
 carried_passed {T} a For known r es (end.Skipped g) f knew looks (h, inr x) is = subst (λ (g : T). (k : ℕ) × For k g) is (knew g x.1)
 carried_passed a For known r es end.NotServed f knew looks h is = absurd is
 carried_passed a For known r es end.Memory f knew looks h is = absurd is

@@ -4,6 +4,7 @@ pub mod Jobs
 pub mod Joins
 pub mod Lanes
 pub mod Nones
+pub mod Plains
 pub mod Races
 pub mod Reasons
 pub mod Seats

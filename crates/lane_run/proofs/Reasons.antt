@@ -2,7 +2,7 @@
 use Rattle.std.proofs.Common.{◌≡◌, ◌⊎◌, inl, inr, ℕ, ◌==◌, Bool, true, false, cond, List, [], ◌∷◌, ◌++◌, Some, None, refl, sym, ap, subst}
 use Rattle.race_core.specs.Carrying.{Looked}
 use Rattle.race_core.specs.Ends.{HasReason}
-use Rattle.race_core.specs.Parts.{Terms, after_look, comes_due, keeper_after, keeper_from, shows_limit, turns}
+use Rattle.race_core.specs.Parts.{Terms, after_look, comes_due, ending, keeper_after, keeper_from, shows_limit, turns}
 use Rattle.race_core.specs.declared.event.LaneEvent.{LaneEvent}
 use Rattle.race_core.specs.declared.event.LaneEvent.TheVariants as event
 use Rattle.race_core.specs.declared.event.Polled.TheVariants as polled
@@ -15,7 +15,7 @@ use Rattle.lane_run.specs.Done.{IsLastReading}
 
 -- the event gives a keeper this reason
 abbrev pub Causes : {T : Type 0} → Terms T → LaneEvent T → Reason T → Type 0
-Causes a (event.Look c (Some f)) w = ((reason.Skip f ≡ w) ⊎ (reason.Needless f ≡ w)) × (a.needless f ≡ true)
+Causes a (event.Look c (Some f)) w = ((reason.Skip f ≡ w) × (a.skipped f ≡ true)) ⊎ ((reason.Needless f ≡ w) × (a.needless f ≡ true))
 Causes a (event.Look c None) w = ⊥
 Causes a (event.Clock r) w = (reason.Limit r ≡ w) × (shows_limit a.start a.limit r ≡ true)
 Causes a (event.Poll polled.Failed) w = reason.Fault ≡ w
@@ -70,31 +70,53 @@ looked_none false (keeper.Due why) w h = h
 looked_none false (keeper.Killed why) w h = h
 looked_none false keeper.Wrong w h = h
 
-looked_some : {T : Type 0} (own : Bool) (f : T) (b : Bool) (k : Keeper T) (w : Reason T) → HasReason (after_look own (Some f) b k) w → ((reason.Skip f ≡ w) ⊎ (reason.Needless f ≡ w)) × (b ≡ true)
-looked_some true f true keeper.Fresh w h = (inl h, refl)
-looked_some true f true keeper.Looked w h = (inr h, refl)
-looked_some true f true keeper.Turning w h = (inr h, refl)
-looked_some true f true (keeper.Due why) w h = absurd h
-looked_some true f true (keeper.Killed why) w h = absurd h
-looked_some true f true keeper.Wrong w h = absurd h
-looked_some true f false keeper.Fresh w h = absurd h
-looked_some true f false keeper.Looked w h = absurd h
-looked_some true f false keeper.Turning w h = absurd h
-looked_some true f false (keeper.Due why) w h = absurd h
-looked_some true f false (keeper.Killed why) w h = absurd h
-looked_some true f false keeper.Wrong w h = absurd h
-looked_some false f true keeper.Fresh w h = (inl h, refl)
-looked_some false f true keeper.Looked w h = (inl h, refl)
-looked_some false f true keeper.Turning w h = (inr h, refl)
-looked_some false f true (keeper.Due why) w h = absurd h
-looked_some false f true (keeper.Killed why) w h = absurd h
-looked_some false f true keeper.Wrong w h = absurd h
-looked_some false f false keeper.Fresh w h = absurd h
-looked_some false f false keeper.Looked w h = absurd h
-looked_some false f false keeper.Turning w h = absurd h
-looked_some false f false (keeper.Due why) w h = absurd h
-looked_some false f false (keeper.Killed why) w h = absurd h
-looked_some false f false keeper.Wrong w h = absurd h
+looked_some : {T : Type 0} (a : Terms T) (own : Bool) (f : T) (k : Keeper T) (w : Reason T) → HasReason (after_look own (Some f) (ending a own k f) k) w
+    → ((reason.Skip f ≡ w) × (a.skipped f ≡ true)) ⊎ ((reason.Needless f ≡ w) × (a.needless f ≡ true))
+looked_some a own f keeper.Fresh w h = skipping own (a.skipped f) refl h
+  where
+    skipping : (own b : Bool) → a.skipped f ≡ b → HasReason (after_look own (Some f) b keeper.Fresh) w → ((reason.Skip f ≡ w) × (a.skipped f ≡ true)) ⊎ ((reason.Needless f ≡ w) × (a.needless f ≡ true))
+    skipping true true is h = inl (h, is)
+    skipping false true is h = inl (h, is)
+    skipping true false is h = absurd h
+    skipping false false is h = absurd h
+looked_some a true f keeper.Looked w h = calling (a.needless f) refl h
+  where
+    calling : (b : Bool) → a.needless f ≡ b → HasReason (after_look true (Some f) b keeper.Looked) w → ((reason.Skip f ≡ w) × (a.skipped f ≡ true)) ⊎ ((reason.Needless f ≡ w) × (a.needless f ≡ true))
+    calling true is h = inr (h, is)
+    calling false is h = absurd h
+looked_some a false f keeper.Looked w h = skipping (a.skipped f) refl h
+  where
+    skipping : (b : Bool) → a.skipped f ≡ b → HasReason (after_look false (Some f) b keeper.Looked) w → ((reason.Skip f ≡ w) × (a.skipped f ≡ true)) ⊎ ((reason.Needless f ≡ w) × (a.needless f ≡ true))
+    skipping true is h = inl (h, is)
+    skipping false is h = absurd h
+looked_some a own f keeper.Turning w h = calling own (a.needless f) refl h
+  where
+    calling : (own b : Bool) → a.needless f ≡ b → HasReason (after_look own (Some f) b keeper.Turning) w → ((reason.Skip f ≡ w) × (a.skipped f ≡ true)) ⊎ ((reason.Needless f ≡ w) × (a.needless f ≡ true))
+    calling true true is h = inr (h, is)
+    calling false true is h = inr (h, is)
+    calling true false is h = absurd h
+    calling false false is h = absurd h
+looked_some a own f (keeper.Due why) w h = absurd (wrong own (a.needless f) h)
+  where
+    wrong : (own b : Bool) → HasReason (after_look own (Some f) b (keeper.Due why)) w → ⊥
+    wrong true true h = h
+    wrong false true h = h
+    wrong true false h = h
+    wrong false false h = h
+looked_some a own f (keeper.Killed why) w h = absurd (wrong own (a.needless f) h)
+  where
+    wrong : (own b : Bool) → HasReason (after_look own (Some f) b (keeper.Killed why)) w → ⊥
+    wrong true true h = h
+    wrong false true h = h
+    wrong true false h = h
+    wrong false false h = h
+looked_some {T} a own f keeper.Wrong w h = absurd (wrong own (a.needless f) h)
+  where
+    wrong : (own b : Bool) → HasReason (after_look {T = T} own (Some f) b keeper.Wrong) w → ⊥
+    wrong true true h = h
+    wrong false true h = h
+    wrong true false h = h
+    wrong false false h = h
 
 killed : {T : Type 0} (a : Terms T) (k : Keeper T) (w : Reason T) → HasReason (keeper_after a event.Kill k) w → HasReason k w
 killed a keeper.Fresh w h = h
@@ -105,7 +127,7 @@ killed a (keeper.Killed why) w h = absurd h
 killed a keeper.Wrong w h = h
 
 step : {T : Type 0} (a : Terms T) (k : Keeper T) (e : LaneEvent T) (w : Reason T) → HasReason (keeper_after a e k) w → Steps a k e w
-step a k (event.Look c (Some f)) w h = inr (looked_some (c == a.cell) f (a.needless f) k w h)
+step a k (event.Look c (Some f)) w h = inr (looked_some a (c == a.cell) f k w h)
 step a k (event.Look c None) w h = absurd (looked_none (c == a.cell) k w h)
 step a k (event.Clock r) w h = inr (clocked (shows_limit a.start a.limit r) r k w h)
 step a k (event.Poll polled.Failed) w h = inr (due reason.Fault k w h)
@@ -163,50 +185,70 @@ looked_behind c f (event.Start ∷ es) back h = looked_behind c f es back h
 looked_behind c f (event.Finish ∷ es) back h = looked_behind c f es back h
 looked_behind c f (event.Gave ∷ es) back h = looked_behind c f es back h
 
--- a look showed the finding by which a job is skipped or called off, and it makes the job needless
-needless_cause : {T : Type 0} (a : Terms T) (f : T) (e : LaneEvent T) (back : List (LaneEvent T)) → Causes a e (reason.Needless f) ⊎ Causes a e (reason.Skip f)
-    → ((c : ℕ) × Looked c f (e ∷ back)) × (a.needless f ≡ true)
+-- a look showed the finding by which a job is called off, and it makes the job needless
+needless_cause : {T : Type 0} (a : Terms T) (f : T) (e : LaneEvent T) (back : List (LaneEvent T)) → Causes a e (reason.Needless f) → ((c : ℕ) × Looked c f (e ∷ back)) × (a.needless f ≡ true)
 needless_cause {T} a f (event.Look c (Some g)) back h = elim h [
-  | inl x ↦ let same = held (x.0) in ((c, inl (refl, ap Some same)), subst (λ (v : T). a.needless v ≡ true) same x.1)
-  | inr x ↦ let same = skipped (x.0) in ((c, inl (refl, ap Some same)), subst (λ (v : T). a.needless v ≡ true) same x.1)
+  | inl x ↦ absurd (apart x.0)
+  | inr x ↦ let same = held x.0 in ((c, inl (refl, ap Some same)), subst (λ (v : T). a.needless v ≡ true) same x.1)
 ]
   where
-    held : (reason.Skip g ≡ reason.Needless f) ⊎ (reason.Needless g ≡ reason.Needless f) → g ≡ f
-    held (inl h) = cc
-    held (inr h) = cc
+    apart : reason.Skip g ≡ reason.Needless f → ⊥
+    apart h = cc
 
-    skipped : (reason.Skip g ≡ reason.Skip f) ⊎ (reason.Needless g ≡ reason.Skip f) → g ≡ f
-    skipped (inl h) = cc
-    skipped (inr h) = cc
-needless_cause a f (event.Look c None) back h = absurd (elim h [ inl x ↦ x | inr x ↦ x ])
-needless_cause a f (event.Read n p) back h = absurd (elim h [ inl x ↦ x | inr x ↦ x ])
-needless_cause a f (event.File n p) back h = absurd (elim h [ inl x ↦ x | inr x ↦ x ])
-needless_cause a f (event.Settle won) back h = absurd (elim h [ inl x ↦ x | inr x ↦ x ])
-needless_cause a f event.ReaderMemory back h = absurd (elim h [ inl x ↦ x | inr x ↦ x ])
-needless_cause a f (event.Turns n) back h = absurd (elim h [ inl x ↦ x | inr x ↦ x ])
-needless_cause a f (event.Poll polled.Exited) back h = absurd (elim h [ inl x ↦ x | inr x ↦ x ])
-needless_cause a f event.Kill back h = absurd (elim h [ inl x ↦ x | inr x ↦ x ])
-needless_cause a f event.Took back h = absurd (elim h [ inl x ↦ x | inr x ↦ x ])
-needless_cause a f event.Start back h = absurd (elim h [ inl x ↦ x | inr x ↦ x ])
-needless_cause a f event.Finish back h = absurd (elim h [ inl x ↦ x | inr x ↦ x ])
-needless_cause a f event.Gave back h = absurd (elim h [ inl x ↦ x | inr x ↦ x ])
-needless_cause a f (event.Poll polled.Failed) back (inl h) = absurd cc
-needless_cause a f (event.Poll polled.Failed) back (inr h) = absurd cc
-needless_cause a f event.KeeperMemory back (inl h) = absurd cc
-needless_cause a f event.KeeperMemory back (inr h) = absurd cc
-needless_cause a f (event.Clock r) back (inl (h, k)) = absurd cc
-needless_cause a f (event.Clock r) back (inr (h, k)) = absurd cc
+    held : reason.Needless g ≡ reason.Needless f → g ≡ f
+    held h = cc
+needless_cause a f (event.Look c None) back h = absurd h
+needless_cause a f (event.Read n p) back h = absurd h
+needless_cause a f (event.File n p) back h = absurd h
+needless_cause a f (event.Settle won) back h = absurd h
+needless_cause a f event.ReaderMemory back h = absurd h
+needless_cause a f (event.Turns n) back h = absurd h
+needless_cause a f (event.Poll polled.Exited) back h = absurd h
+needless_cause a f event.Kill back h = absurd h
+needless_cause a f event.Took back h = absurd h
+needless_cause a f event.Start back h = absurd h
+needless_cause a f event.Finish back h = absurd h
+needless_cause a f event.Gave back h = absurd h
+needless_cause a f (event.Poll polled.Failed) back h = absurd cc
+needless_cause a f event.KeeperMemory back h = absurd cc
+needless_cause a f (event.Clock r) back (h, k) = absurd cc
 
-pub by_look : {T : Type 0} (a : Terms T) (f : T) (es : List (LaneEvent T)) → HasReason (keeper_from a keeper.Fresh es) (reason.Needless f) ⊎ HasReason (keeper_from a keeper.Fresh es) (reason.Skip f)
-    → ((c : ℕ) × Looked c f es) × (a.needless f ≡ true)
-by_look {T} a f es h = elim h [
-  | inl x ↦ let k = caused a es (reason.Needless f) x in put k.front k.cause k.back k.is (needless_cause a f k.cause k.back (inl k.causes))
-  | inr x ↦ let k = caused a es (reason.Skip f) x in put k.front k.cause k.back k.is (needless_cause a f k.cause k.back (inr k.causes))
+-- a look showed the finding by which a job is skipped, and it skips the job
+skip_cause : {T : Type 0} (a : Terms T) (f : T) (e : LaneEvent T) (back : List (LaneEvent T)) → Causes a e (reason.Skip f) → ((c : ℕ) × Looked c f (e ∷ back)) × (a.skipped f ≡ true)
+skip_cause {T} a f (event.Look c (Some g)) back h = elim h [
+  | inl x ↦ let same = held x.0 in ((c, inl (refl, ap Some same)), subst (λ (v : T). a.skipped v ≡ true) same x.1)
+  | inr x ↦ absurd (apart x.0)
 ]
   where
-    put : (front : List (LaneEvent T)) (e : LaneEvent T) (back : List (LaneEvent T)) → es ≡ front ++ e ∷ back → ((c : ℕ) × Looked c f (e ∷ back)) × (a.needless f ≡ true)
-        → ((c : ℕ) × Looked c f es) × (a.needless f ≡ true)
-    put front e back is ((c, seen), needless) = ((c, subst (λ (l : List (LaneEvent T)). Looked c f l) (sym is) (looked_behind c f front (e ∷ back) seen)), needless)
+    apart : reason.Needless g ≡ reason.Skip f → ⊥
+    apart h = cc
+
+    held : reason.Skip g ≡ reason.Skip f → g ≡ f
+    held h = cc
+skip_cause a f (event.Look c None) back h = absurd h
+skip_cause a f (event.Read n p) back h = absurd h
+skip_cause a f (event.File n p) back h = absurd h
+skip_cause a f (event.Settle won) back h = absurd h
+skip_cause a f event.ReaderMemory back h = absurd h
+skip_cause a f (event.Turns n) back h = absurd h
+skip_cause a f (event.Poll polled.Exited) back h = absurd h
+skip_cause a f event.Kill back h = absurd h
+skip_cause a f event.Took back h = absurd h
+skip_cause a f event.Start back h = absurd h
+skip_cause a f event.Finish back h = absurd h
+skip_cause a f event.Gave back h = absurd h
+skip_cause a f (event.Poll polled.Failed) back h = absurd cc
+skip_cause a f event.KeeperMemory back h = absurd cc
+skip_cause a f (event.Clock r) back (h, k) = absurd cc
+
+put : {T : Type 0} (f : T) (P : Type 0) (es front : List (LaneEvent T)) (e : LaneEvent T) (back : List (LaneEvent T)) → es ≡ front ++ e ∷ back → ((c : ℕ) × Looked c f (e ∷ back)) × P → ((c : ℕ) × Looked c f es) × P
+put {T} f P es front e back is ((c, seen), holds) = ((c, subst (λ (l : List (LaneEvent T)). Looked c f l) (sym is) (looked_behind c f front (e ∷ back) seen)), holds)
+
+pub called_by_look : {T : Type 0} (a : Terms T) (f : T) (es : List (LaneEvent T)) → HasReason (keeper_from a keeper.Fresh es) (reason.Needless f) → ((c : ℕ) × Looked c f es) × (a.needless f ≡ true)
+called_by_look a f es h = let k = caused a es (reason.Needless f) h in put f (a.needless f ≡ true) es k.front k.cause k.back k.is (needless_cause a f k.cause k.back k.causes)
+
+pub skipped_by_look : {T : Type 0} (a : Terms T) (f : T) (es : List (LaneEvent T)) → HasReason (keeper_from a keeper.Fresh es) (reason.Skip f) → ((c : ℕ) × Looked c f es) × (a.skipped f ≡ true)
+skipped_by_look a f es h = let k = caused a es (reason.Skip f) h in put f (a.skipped f ≡ true) es k.front k.cause k.back k.is (skip_cause a f k.cause k.back k.causes)
 
 -- the last reading shows the limit by which a job is stopped
 limit_cause : {T : Type 0} (a : Terms T) (t : ℕ) (e : LaneEvent T) → Causes a e (reason.Limit t) → (e ≡ event.Clock t) × (shows_limit a.start a.limit t ≡ true)
@@ -214,8 +256,8 @@ limit_cause {T} a t (event.Clock r) (h, k) = (ap event.Clock (same h), subst (λ
   where
     same : ◌≡◌ {A = Reason T} (reason.Limit r) (reason.Limit t) → r ≡ t
     same h = cc
-limit_cause a t (event.Look c (Some g)) (inl h, k) = absurd cc
-limit_cause a t (event.Look c (Some g)) (inr h, k) = absurd cc
+limit_cause a t (event.Look c (Some g)) (inl (h, k)) = absurd cc
+limit_cause a t (event.Look c (Some g)) (inr (h, k)) = absurd cc
 limit_cause a t (event.Look c None) h = absurd h
 limit_cause a t (event.Poll polled.Failed) h = absurd cc
 limit_cause a t event.KeeperMemory h = absurd cc

@@ -7,12 +7,15 @@ use Rattle.sby_terms.specs.declared.names.Mode.{Mode}
 use Rattle.race_core.specs.Asking.{name_at}
 use Rattle.race_core.specs.Consistent.{end_at, events_at}
 use Rattle.race_core.specs.Ends.{IsLast}
+use Rattle.race_core.specs.Parts.{reader_from}
 use Rattle.race_core.specs.Report.{EventsOf, ReportOf, no_events}
 use Rattle.race_core.specs.declared.end.JobEnd.{JobEnd}
 use Rattle.race_core.specs.declared.end.JobEnd.TheVariants as end
 use Rattle.race_core.specs.declared.event.Judged.{Judged}
 use Rattle.race_core.specs.declared.event.LaneEvent.{LaneEvent}
-use Rattle.lane_child.specs.Reading.{IsProof}
+use Rattle.race_core.specs.declared.part.Reader.{Reader}
+use Rattle.race_core.specs.declared.part.Reader.TheVariants as reader
+use Rattle.lane_child.specs.Reading.{TookProof}
 use Rattle.lane_child.specs.Starting.{IsFrontOf, ReadsScript, with_starts}
 use Rattle.lane_run.specs.Done.{CameLate, Stand}
 use Rattle.lane_run.specs.Started.{JobStarts, LaneStarts, starts_upto}
@@ -32,33 +35,34 @@ front_before : (starts : List StartOf) (bay : Option BayOf) (job : JobName) (out
 front_before starts None job output rest h = tt
 front_before starts (Some bay) job output rest h = h
 
-proof_before : (starts : List StartOf) (bay : Option BayOf) (job : JobName) (most : ℕ) (proof : List ℕ)
-    → (proof ≡ []) ⊎ IsProof (option_map (with_starts starts) bay) job most proof → (proof ≡ []) ⊎ IsProof bay job most proof
-proof_before starts None job most proof (inl none) = inl none
-proof_before starts None job most proof (inr is) = inr tt
-proof_before starts (Some bay) job most proof h = h
+proof_before : {T : Type 0} (starts : List StartOf) (bay : Option BayOf) (job : JobName) (most : ℕ) (proof : List ℕ) (part : Reader T)
+    → TookProof (option_map (with_starts starts) bay) job most proof part → TookProof bay job most proof part
+proof_before starts None job most proof part (inl is) = inl tt
+proof_before starts None job most proof part (inr none) = inr none
+proof_before starts (Some bay) job most proof part h = h
 
-reads_before : {T : Type 0} (st en pr : List ℕ → Judged T → Type 0) (starts : List StartOf) (bay : Option BayOf) (job : JobName) (most : ℕ) (events : List (LaneEvent T))
-    → ReadsScript st en pr (option_map (with_starts starts) bay) job most events → ReadsScript st en pr bay job most events
-reads_before st en pr starts bay job most events h = record {
+reads_before : {T : Type 0} (st en pr : List ℕ → Judged T → Type 0) (starts : List StartOf) (bay : Option BayOf) (job : JobName) (most most_output : ℕ) (events : List (LaneEvent T))
+    → ReadsScript st en pr (option_map (with_starts starts) bay) job most most_output events → ReadsScript st en pr bay job most most_output events
+reads_before st en pr starts bay job most most_output events h = record {
   output = h.output;
   rest = h.rest;
   proof = h.proof;
   front = front_before starts bay job h.output h.rest h.front;
   read = h.read;
   filed = h.filed;
-  is_proof = proof_before starts bay job most h.proof h.is_proof;
+  is_proof = proof_before starts bay job most h.proof (reader_from reader.Fresh events) h.is_proof;
   comes = h.comes;
   closed = h.closed;
+  bound = h.bound;
 }
 
 -- so a job's starts are the same to a bay with fewer
-job_before : {T : Type 0} (words : JobName → List (List ℕ)) (file : JobName → List ℕ) (st en pr : JobName → List ℕ → Judged T → Type 0) (most : ℕ) (job : JobName) (first : List StartOf) (bay : Option BayOf)
+job_before : {T : Type 0} (words : JobName → List (List ℕ)) (file : JobName → List ℕ) (st en pr : JobName → List ℕ → Judged T → Type 0) (most most_output : ℕ) (job : JobName) (first : List StartOf) (bay : Option BayOf)
     (events : List (LaneEvent T)) (e : JobEnd T) (starts : List StartOf)
-    → JobStarts words file st en pr most job (option_map (with_starts first) bay) events e starts → JobStarts words file st en pr most job bay events e starts
-job_before words file st en pr most job first bay events e starts (inl h) = inl h
-job_before words file st en pr most job first bay events e starts (inr (inl h)) = inr (inl h)
-job_before words file st en pr most job first bay events e starts (inr (inr h)) = inr (inr (h.0, reads_before (st job) (en job) (pr job) first bay job most events h.1, h.2))
+    → JobStarts words file st en pr most most_output job (option_map (with_starts first) bay) events e starts → JobStarts words file st en pr most most_output job bay events e starts
+job_before words file st en pr most most_output job first bay events e starts (inl h) = inl h
+job_before words file st en pr most most_output job first bay events e starts (inr (inl h)) = inr (inl h)
+job_before words file st en pr most most_output job first bay events e starts (inr (inr h)) = inr (inr (h.0, reads_before (st job) (en job) (pr job) first bay job most most_output events h.1, h.2))
 
 -- the starts of each job, with those of one job put in
 with_job : ℕ → List StartOf → (ℕ → List StartOf) → ℕ → List StartOf
@@ -98,9 +102,9 @@ late_stands {T} n r r' j stand lt (l, lj, last, same, without) =
     let ln : l < n = omega (lj, lt, arith) in
     (l, lj, subst (λ (e : JobEnd T). IsLast e) (sym (stand l ln).0) last, (stand j lt).0 ∙ (same ∙ sym (stand l ln).0), (stand j lt).1 ∙ without)
 
-module _ {T : Type 0} (words : JobName → List (List ℕ)) (file : JobName → List ℕ) (st en pr : JobName → List ℕ → Judged T → Type 0) (most : ℕ) (mode : Mode) where
+module _ {T : Type 0} (words : JobName → List (List ℕ)) (file : JobName → List ℕ) (st en pr : JobName → List ℕ → Judged T → Type 0) (most most_output : ℕ) (mode : Mode) where
   -- a lane that has done nothing started nothing
-  pub lane_unstarted : (bay : Option BayOf) (r : ReportOf T) → LaneStarts words file st en pr most mode bay bay 0 r
+  pub lane_unstarted : (bay : Option BayOf) (r : ReportOf T) → LaneStarts words file st en pr most most_output mode bay bay 0 r
   lane_unstarted bay r = record {
     starts = λ j. [];
     told = no_more bay;
@@ -108,10 +112,10 @@ module _ {T : Type 0} (words : JobName → List (List ℕ)) (file : JobName → 
   }
 
   -- one more job
-  pub starts_more : (before mid now : Option BayOf) (n : ℕ) (r r' : ReportOf T) (new : List StartOf) → LaneStarts words file st en pr most mode before mid n r → Stand n r r'
+  pub starts_more : (before mid now : Option BayOf) (n : ℕ) (r r' : ReportOf T) (new : List StartOf) → LaneStarts words file st en pr most most_output mode before mid n r → Stand n r r'
       → now ≡ option_map (with_starts new) mid
-      → (CameLate r' n × (new ≡ [])) ⊎ JobStarts words file st en pr most (name_at mode n) mid (events_at r' n).reader (end_at r' n) new
-      → LaneStarts words file st en pr most mode before now (n + 1) r'
+      → (CameLate r' n × (new ≡ [])) ⊎ JobStarts words file st en pr most most_output (name_at mode n) mid (events_at r' n).reader (end_at r' n) new
+      → LaneStarts words file st en pr most most_output mode before now (n + 1) r'
   starts_more before mid now n r r' new lane stand told job = record {
     starts = all;
     told = told ∙ (ap (λ (b : Option BayOf). option_map (with_starts new) b) lane.told
@@ -126,30 +130,30 @@ module _ {T : Type 0} (words : JobName → List (List ℕ)) (file : JobName → 
       all = with_job n new lane.starts
 
       At : ℕ → Type 0
-      At j = (CameLate r' j × (all j ≡ [])) ⊎ JobStarts words file st en pr most (name_at mode j) before (events_at r' j).reader (end_at r' j) (all j)
+      At j = (CameLate r' j × (all j ≡ [])) ⊎ JobStarts words file st en pr most most_output (name_at mode j) before (events_at r' j).reader (end_at r' j) (all j)
 
       listed : starts_upto (n + 1) all ≡ starts_upto n lane.starts ++ new
       listed = upto_next n all ∙ (ap (λ (l : List StartOf). l ++ all n) (upto_same n all lane.starts (λ j lt. with_job_below n new lane.starts j lt))
           ∙ ap (λ (l : List StartOf). starts_upto n lane.starts ++ l) (with_job_there n new lane.starts))
 
-      put : (CameLate r' n × (new ≡ [])) ⊎ JobStarts words file st en pr most (name_at mode n) mid (events_at r' n).reader (end_at r' n) new
-          → (CameLate r' n × (new ≡ [])) ⊎ JobStarts words file st en pr most (name_at mode n) before (events_at r' n).reader (end_at r' n) new
+      put : (CameLate r' n × (new ≡ [])) ⊎ JobStarts words file st en pr most most_output (name_at mode n) mid (events_at r' n).reader (end_at r' n) new
+          → (CameLate r' n × (new ≡ [])) ⊎ JobStarts words file st en pr most most_output (name_at mode n) before (events_at r' n).reader (end_at r' n) new
       put (inl late) = inl late
-      put (inr h) = inr (job_before words file st en pr most (name_at mode n) (starts_upto n lane.starts) before (events_at r' n).reader (end_at r' n) new
-          (subst (λ (b : Option BayOf). JobStarts words file st en pr most (name_at mode n) b (events_at r' n).reader (end_at r' n) new) lane.told h))
+      put (inr h) = inr (job_before words file st en pr most most_output (name_at mode n) (starts_upto n lane.starts) before (events_at r' n).reader (end_at r' n) new
+          (subst (λ (b : Option BayOf). JobStarts words file st en pr most most_output (name_at mode n) b (events_at r' n).reader (end_at r' n) new) lane.told h))
 
       here : At n
-      here = subst (λ (l : List StartOf). (CameLate r' n × (l ≡ [])) ⊎ JobStarts words file st en pr most (name_at mode n) before (events_at r' n).reader (end_at r' n) l)
+      here = subst (λ (l : List StartOf). (CameLate r' n × (l ≡ [])) ⊎ JobStarts words file st en pr most most_output (name_at mode n) before (events_at r' n).reader (end_at r' n) l)
           (sym (with_job_there n new lane.starts)) (put job)
 
       earlier : (j : ℕ) → j < n
-          → (CameLate r j × (lane.starts j ≡ [])) ⊎ JobStarts words file st en pr most (name_at mode j) before (events_at r j).reader (end_at r j) (lane.starts j)
+          → (CameLate r j × (lane.starts j ≡ [])) ⊎ JobStarts words file st en pr most most_output (name_at mode j) before (events_at r j).reader (end_at r j) (lane.starts j)
           → At j
       earlier j lt (inl late) = inl (late_stands n r r' j stand lt late.0, with_job_below n new lane.starts j lt ∙ late.1)
       earlier j lt (inr h) = inr (
-          subst (λ (l : List StartOf). JobStarts words file st en pr most (name_at mode j) before (events_at r' j).reader (end_at r' j) l) (sym (with_job_below n new lane.starts j lt))
-          (subst (λ (e : JobEnd T). JobStarts words file st en pr most (name_at mode j) before (events_at r' j).reader e (lane.starts j)) (sym (stand j lt).0)
-          (subst (λ (es : EventsOf T). JobStarts words file st en pr most (name_at mode j) before es.reader (end_at r j) (lane.starts j)) (sym (stand j lt).1) h)))
+          subst (λ (l : List StartOf). JobStarts words file st en pr most most_output (name_at mode j) before (events_at r' j).reader (end_at r' j) l) (sym (with_job_below n new lane.starts j lt))
+          (subst (λ (e : JobEnd T). JobStarts words file st en pr most most_output (name_at mode j) before (events_at r' j).reader e (lane.starts j)) (sym (stand j lt).0)
+          (subst (λ (es : EventsOf T). JobStarts words file st en pr most most_output (name_at mode j) before es.reader (end_at r j) (lane.starts j)) (sym (stand j lt).1) h)))
 
 -- the report with one more job: the earlier ones stand
 module _ {T : Type 0} (n : ℕ) (r r' : ReportOf T) (e : JobEnd T) (es : EventsOf T) (ends : length r.ends ≡ n) (is : r' ≡ record r { events = set r.events n es; ends = r.ends ++ e ∷ [] }) where
@@ -187,9 +191,9 @@ module _ {T : Type 0} (n : ℕ) (r r' : ReportOf T) (e : JobEnd T) (ends : lengt
       new_end = ap (λ (x : ReportOf T). end_at x n) is ∙ subst (λ (k : ℕ). get_or (r.ends ++ e ∷ []) k end.NotServed ≡ e) (omega (ends, arith)) (get_or-append-add r.ends (e ∷ []) 0 end.NotServed)
 
 -- the starts of a job, as its report tells of it
-pub in_report : {T : Type 0} (words : JobName → List (List ℕ)) (file : JobName → List ℕ) (st en pr : JobName → List ℕ → Judged T → Type 0) (most : ℕ) (job : JobName) (bay : Option BayOf) (n : ℕ) (r : ReportOf T)
+pub in_report : {T : Type 0} (words : JobName → List (List ℕ)) (file : JobName → List ℕ) (st en pr : JobName → List ℕ → Judged T → Type 0) (most most_output : ℕ) (job : JobName) (bay : Option BayOf) (n : ℕ) (r : ReportOf T)
     (e : JobEnd T) (es : EventsOf T) (starts : List StartOf) → end_at r n ≡ e → events_at r n ≡ es
-    → JobStarts words file st en pr most job bay es.reader e starts → JobStarts words file st en pr most job bay (events_at r n).reader (end_at r n) starts
-in_report {T} words file st en pr most job bay n r e es starts ended told h =
-    subst (λ (x : JobEnd T). JobStarts words file st en pr most job bay (events_at r n).reader x starts) (sym ended)
-    (subst (λ (x : EventsOf T). JobStarts words file st en pr most job bay x.reader e starts) (sym told) h)
+    → JobStarts words file st en pr most most_output job bay es.reader e starts → JobStarts words file st en pr most most_output job bay (events_at r n).reader (end_at r n) starts
+in_report {T} words file st en pr most most_output job bay n r e es starts ended told h =
+    subst (λ (x : JobEnd T). JobStarts words file st en pr most most_output job bay (events_at r n).reader x starts) (sym ended)
+    (subst (λ (x : EventsOf T). JobStarts words file st en pr most most_output job bay x.reader e starts) (sym told) h)

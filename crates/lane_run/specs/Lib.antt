@@ -1,4 +1,5 @@
 pub mod Asked
+pub mod Complete
 pub mod Done
 pub mod Raced
 pub mod Started

@@ -13,10 +13,10 @@ use Rattle.lane_child.specs.Starting.{ReadsScript, Starts, with_starts}
 use Rattle.lane_run.specs.Done.{CameLate}
 
 -- The starts of one job: none or one, which has its words and its file; what its reader read is of the script that the bay tells for it.
-abbrev pub JobStarts : {T : Type 0} → (JobName → List (List ℕ)) → (JobName → List ℕ) → (stands ends proves : JobName → List ℕ → Judged T → Type 0) → ℕ → JobName
+abbrev pub JobStarts : {T : Type 0} → (JobName → List (List ℕ)) → (JobName → List ℕ) → (stands ends proves : JobName → List ℕ → Judged T → Type 0) → ℕ → ℕ → JobName
     → Option BayOf → List (LaneEvent T) → JobEnd T → List StartOf → Type 0
-JobStarts words file stands ends proves most job bay events e starts =
-    Starts job (words job) (file job) (ReadsScript (stands job) (ends job) (proves job) bay job most events) events e starts
+JobStarts words file stands ends proves most most_output job bay events e starts =
+    Starts job (words job) (file job) (ReadsScript (stands job) (ends job) (proves job) bay job most most_output events) events e starts
 
 -- the starts of the first jobs, one job's behind the other's
 abbrev pub starts_upto : ℕ → (ℕ → List StartOf) → List StartOf
@@ -24,10 +24,10 @@ starts_upto zero starts = []
 starts_upto (suc n) starts = starts_upto n starts ++ starts n
 
 -- The starts that a lane's first jobs added to its bay's, job by job; a job behind one that ended the lane's work has none.
-pub record LaneStarts {T : Type 0} (words : JobName → List (List ℕ)) (file : JobName → List ℕ) (stands ends proves : JobName → List ℕ → Judged T → Type 0) (most : ℕ) (mode : Mode)
+pub record LaneStarts {T : Type 0} (words : JobName → List (List ℕ)) (file : JobName → List ℕ) (stands ends proves : JobName → List ℕ → Judged T → Type 0) (most most_output : ℕ) (mode : Mode)
     (before now : Option BayOf) (n : ℕ) (r : ReportOf T) : Type 0 where
   pub starts : ℕ → List StartOf
   pub told : now ≡ option_map (with_starts (starts_upto n starts)) before
   pub each : (j : ℕ) → j < n
       → (CameLate r j × (starts j ≡ []))
-      ⊎ JobStarts words file stands ends proves most (name_at mode j) before (events_at r j).reader (end_at r j) (starts j)
+      ⊎ JobStarts words file stands ends proves most most_output (name_at mode j) before (events_at r j).reader (end_at r j) (starts j)

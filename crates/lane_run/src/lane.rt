@@ -55,7 +55,7 @@ fn do_job<R: Threads + Wait + Sync, L: Launch, M: Makes<T>, T: Settled + Drop + 
     ensures faults { JobFaults (record { starts = L.start_faults bay.old; reads = L.read_faults bay.old; holds = L.hold_faults bay.old }) (record { starts = L.start_faults bay.new; reads = L.read_faults bay.new; holds = L.hold_faults bay.new }) result.end }
     ensures starts { (starts : List StartOf) × (L.told bay.new ≡ option_map (with_starts starts) (L.told bay.old))
         × JobStarts (M.words task.now.makes.now report.now.lane) (M.file task.now.makes.now) (M.stands task.now.makes.now report.now.lane) (M.ends task.now.makes.now report.now.lane) (M.proves task.now.makes.now report.now.lane)
-        (M.most task.now.makes.now) (name_at task.now.mode place) (L.told bay.old) result.events.events result.end starts }
+        (M.most task.now.makes.now) (M.most_output task.now.makes.now report.now.lane) (name_at task.now.mode place) (L.told bay.old) result.events.events result.end starts }
 {
     let terms = task.terms(place);
     let watch = Watch {
@@ -136,7 +136,7 @@ fn run_job<R: Threads + Wait + Sync, L: Launch, M: Makes<T>, T: Settled + Drop +
     ensures stand { Stand place report.old report.new }
     ensures starts { (starts : List StartOf) × (L.told bay.new ≡ option_map (with_starts starts) (L.told bay.old))
         × JobStarts (M.words task.now.makes.now report.old.lane) (M.file task.now.makes.now) (M.stands task.now.makes.now report.old.lane) (M.ends task.now.makes.now report.old.lane) (M.proves task.now.makes.now report.old.lane)
-        (M.most task.now.makes.now) (name_at task.now.mode place) (L.told bay.old) (events_at report.new place).reader (end_at report.new place) starts }
+        (M.most task.now.makes.now) (M.most_output task.now.makes.now report.old.lane) (name_at task.now.mode place) (L.told bay.old) (events_at report.new place).reader (end_at report.new place) starts }
 {
     let Ok(reader) = EventList::new(alloc, 1) else {
         return want_lists(task, place, report);
@@ -181,7 +181,7 @@ fn run_next<R: Threads + Wait + Sync, L: Launch, M: Makes<T>, T: Settled + Drop 
     ensures stand { Stand place report.old report.new }
     ensures starts { (starts : List StartOf) × (L.told bay.new ≡ option_map (with_starts starts) (L.told bay.old))
         × ((CameLate report.new place × (starts ≡ [])) ⊎ JobStarts (M.words task.now.makes.now report.old.lane) (M.file task.now.makes.now) (M.stands task.now.makes.now report.old.lane) (M.ends task.now.makes.now report.old.lane) (M.proves task.now.makes.now report.old.lane)
-        (M.most task.now.makes.now) (name_at task.now.mode place) (L.told bay.old) (events_at report.new place).reader (end_at report.new place) starts) }
+        (M.most task.now.makes.now) (M.most_output task.now.makes.now report.old.lane) (name_at task.now.mode place) (L.told bay.old) (events_at report.new place).reader (end_at report.new place) starts) }
 {
     match lasting_end(report.ends()) {
         Some(end) => report.push_end(end),
@@ -220,7 +220,7 @@ pub fn run_lane<
     ensures same { (report.new.lane ≡ report.old.lane) × (report.new.jobs ≡ report.old.jobs) }
     ensures faults { LaneFaults (record { starts = L.start_faults bay.old; reads = L.read_faults bay.old; holds = L.hold_faults bay.old }) (record { starts = L.start_faults bay.new; reads = L.read_faults bay.new; holds = L.hold_faults bay.new }) report.old.jobs report.new }
     ensures starts { LaneStarts (M.words task.now.makes.now report.old.lane) (M.file task.now.makes.now) (M.stands task.now.makes.now report.old.lane) (M.ends task.now.makes.now report.old.lane) (M.proves task.now.makes.now report.old.lane)
-        (M.most task.now.makes.now) task.now.mode (L.told bay.old) (L.told bay.new) report.old.jobs report.new }
+        (M.most task.now.makes.now) (M.most_output task.now.makes.now report.old.lane) task.now.mode (L.told bay.old) (L.told bay.new) report.old.jobs report.new }
     ensures stopped { LaneStops (C.may_read task.now.clock.now) task.now.limit report.old.jobs report.new }
 {
     for place in 0..report.jobs() {

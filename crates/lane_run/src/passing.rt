@@ -11,7 +11,7 @@ ghost use Rattle.lane_child.specs.Keeping.{IsOfCell, Keeps};
 ghost use Rattle.lane_child.specs.Starting.{NoStart};
 ghost use Rattle.lane_run.specs.Done.{KnownIn};
 
-use crate::known::known_needless;
+use crate::known::known_skipping;
 use lane_child::{Asks, Watch, look_first, want};
 use race_cells::Notes;
 use race_core::{EventList, JobEnd, Report};
@@ -38,7 +38,7 @@ pub(crate) fn pass_job<J: Asks<T>, T: Settled + Drop, C: Clock>(
     if let Some(end) = look_first(watch, notes, events) {
         return end;
     }
-    let Some(value) = known_needless(report, watch.terms) else {
+    let Some(value) = known_skipping(report, watch.terms) else {
         return JobEnd::NotServed;
     };
     match value.copy() {

@@ -44,7 +44,7 @@ fn run_one<R: Threads + Wait + Sync, L: Launch, M: Makes<T>, T: Settled + Drop +
     ensures lane { lane.new.report.lane ≡ lane.old.report.lane }
     ensures faults { LaneFaults (record { starts = L.start_faults lane.old.bay; reads = L.read_faults lane.old.bay; holds = L.hold_faults lane.old.bay })
         (record { starts = L.start_faults lane.new.bay; reads = L.read_faults lane.new.bay; holds = L.hold_faults lane.new.bay }) (length task.now.cells.now) lane.new.report }
-    ensures starts { LaneStarts (M.words task.now.makes.now lane.old.report.lane) (M.file task.now.makes.now) (M.stands task.now.makes.now lane.old.report.lane) (M.ends task.now.makes.now lane.old.report.lane) (M.proves task.now.makes.now lane.old.report.lane) (M.most task.now.makes.now) task.now.mode
+    ensures starts { LaneStarts (M.words task.now.makes.now lane.old.report.lane) (M.file task.now.makes.now) (M.stands task.now.makes.now lane.old.report.lane) (M.ends task.now.makes.now lane.old.report.lane) (M.proves task.now.makes.now lane.old.report.lane) (M.most task.now.makes.now) (M.most_output task.now.makes.now lane.old.report.lane) task.now.mode
         (L.told lane.old.bay) (L.told lane.new.bay) (length task.now.cells.now) lane.new.report }
     ensures stopped { LaneStops (C.may_read task.now.clock.now) task.now.limit (length task.now.cells.now) lane.new.report }
 {
@@ -74,7 +74,7 @@ pub fn run_lanes<
     ensures faults { (i : ℕ) (d : Lane L T) → i < length lanes.old → LaneFaults (record { starts = L.start_faults (slice_index_or lanes.old i d).bay; reads = L.read_faults (slice_index_or lanes.old i d).bay; holds = L.hold_faults (slice_index_or lanes.old i d).bay })
         (record { starts = L.start_faults (slice_index_or lanes.new i d).bay; reads = L.read_faults (slice_index_or lanes.new i d).bay; holds = L.hold_faults (slice_index_or lanes.new i d).bay }) (length task.now.cells.now) (slice_index_or lanes.new i d).report }
     ensures starts { (i : ℕ) (d : Lane L T) → i < length lanes.old
-        → LaneStarts (M.words task.now.makes.now (slice_index_or lanes.old i d).report.lane) (M.file task.now.makes.now) (M.stands task.now.makes.now (slice_index_or lanes.old i d).report.lane) (M.ends task.now.makes.now (slice_index_or lanes.old i d).report.lane) (M.proves task.now.makes.now (slice_index_or lanes.old i d).report.lane) (M.most task.now.makes.now) task.now.mode
+        → LaneStarts (M.words task.now.makes.now (slice_index_or lanes.old i d).report.lane) (M.file task.now.makes.now) (M.stands task.now.makes.now (slice_index_or lanes.old i d).report.lane) (M.ends task.now.makes.now (slice_index_or lanes.old i d).report.lane) (M.proves task.now.makes.now (slice_index_or lanes.old i d).report.lane) (M.most task.now.makes.now) (M.most_output task.now.makes.now (slice_index_or lanes.old i d).report.lane) task.now.mode
         (L.told (slice_index_or lanes.old i d).bay) (L.told (slice_index_or lanes.new i d).bay) (length task.now.cells.now) (slice_index_or lanes.new i d).report }
     ensures stopped { All (λ l. LaneStops (C.may_read task.now.clock.now) task.now.limit (length task.now.cells.now) l.report) lanes.new }
 {
@@ -87,7 +87,7 @@ pub fn run_lanes<
         ensures lane { lane.new.report.lane ≡ lane.old.report.lane }
         ensures faults { LaneFaults (record { starts = L.start_faults lane.old.bay; reads = L.read_faults lane.old.bay; holds = L.hold_faults lane.old.bay })
             (record { starts = L.start_faults lane.new.bay; reads = L.read_faults lane.new.bay; holds = L.hold_faults lane.new.bay }) (length task.entry.now.cells.now) lane.new.report }
-        ensures starts { LaneStarts (M.words task.entry.now.makes.now lane.old.report.lane) (M.file task.entry.now.makes.now) (M.stands task.entry.now.makes.now lane.old.report.lane) (M.ends task.entry.now.makes.now lane.old.report.lane) (M.proves task.entry.now.makes.now lane.old.report.lane) (M.most task.entry.now.makes.now) task.entry.now.mode
+        ensures starts { LaneStarts (M.words task.entry.now.makes.now lane.old.report.lane) (M.file task.entry.now.makes.now) (M.stands task.entry.now.makes.now lane.old.report.lane) (M.ends task.entry.now.makes.now lane.old.report.lane) (M.proves task.entry.now.makes.now lane.old.report.lane) (M.most task.entry.now.makes.now) (M.most_output task.entry.now.makes.now lane.old.report.lane) task.entry.now.mode
             (L.told lane.old.bay) (L.told lane.new.bay) (length task.entry.now.cells.now) lane.new.report }
         ensures stopped { LaneStops (C.may_read task.entry.now.clock.now) task.entry.now.limit (length task.entry.now.cells.now) lane.new.report }
     { run_one(rt, alloc, task, lane) };
@@ -123,7 +123,7 @@ pub fn race<
     ensures faults { IfOk result (λ r. (i : ℕ) (b d : L) (q : ReportOf T) → slice_get bays.items i ≡ Some b → slice_get r.bays.items i ≡ Some d → slice_get r.reports.items i ≡ Some q
         → LaneFaults (record { starts = L.start_faults b; reads = L.read_faults b; holds = L.hold_faults b }) (record { starts = L.start_faults d; reads = L.read_faults d; holds = L.hold_faults d }) (length task.now.cells.now) q) }
     ensures starts { IfOk result (λ r. (i : ℕ) (b d : L) (q : ReportOf T) → slice_get bays.items i ≡ Some b → slice_get r.bays.items i ≡ Some d → slice_get r.reports.items i ≡ Some q
-        → LaneStarts (M.words task.now.makes.now i) (M.file task.now.makes.now) (M.stands task.now.makes.now i) (M.ends task.now.makes.now i) (M.proves task.now.makes.now i) (M.most task.now.makes.now) task.now.mode (L.told b) (L.told d) (length task.now.cells.now) q) }
+        → LaneStarts (M.words task.now.makes.now i) (M.file task.now.makes.now) (M.stands task.now.makes.now i) (M.ends task.now.makes.now i) (M.proves task.now.makes.now i) (M.most task.now.makes.now) (M.most_output task.now.makes.now i) task.now.mode (L.told b) (L.told d) (length task.now.cells.now) q) }
     ensures stopped { IfOk result (λ r. All (λ q. LaneStops (C.may_read task.now.clock.now) task.now.limit (length task.now.cells.now) q) r.reports.items) }
 {
     let Fresh {

@@ -1,6 +1,6 @@
--- Which findings make a job needless.
+-- Which findings make a job needless, and which skip one that isn't started.
 use Rattle.std.specs.Prelude.{ℕ, zero, suc, Bool, true, false, ◌==◌}
-use Rattle.std.proofs.Common.{not, ◌&&◌}
+use Rattle.std.proofs.Common.{not, leb, ◌&&◌}
 use Rattle.race_core.specs.Parts.{Terms}
 use Rattle.race_core.specs.declared.step.JobTerms.{JobTerms}
 use Rattle.sby_terms.specs.declared.names.Mode.{Mode}
@@ -24,12 +24,30 @@ needless_by (Cover m) a (Base n) = false
 needless_by (Cover m) a Step = false
 needless_by (Cover m) a (Cover n) = m == n
 
+-- a finding for this job with this answer skips that job before its start: one that makes it needless, and for a slice one that an
+-- earlier slice is Sat
+abbrev pub skipped_by : JobName → Answer → JobName → Bool
+skipped_by (Base m) Sat (Base n) = leb m n
+skipped_by (Base m) Unsat (Base n) = m == n
+skipped_by (Base m) Sat Step = m == 0
+skipped_by (Base m) Unsat Step = false
+skipped_by (Base m) a (Cover n) = false
+skipped_by Step a (Base n) = false
+skipped_by Step a Step = true
+skipped_by Step a (Cover n) = false
+skipped_by (Cover m) a (Base n) = false
+skipped_by (Cover m) a Step = false
+skipped_by (Cover m) a (Cover n) = m == n
+
 abbrev pub is_needless : {T : Type 0} → (T → JobName) → (T → Answer) → JobTerms → T → Bool
 is_needless job answer a f = not a.wait && needless_by (job f) (answer f) a.job
 
+abbrev pub is_skipped : {T : Type 0} → (T → JobName) → (T → Answer) → JobTerms → T → Bool
+is_skipped job answer a f = not a.wait && skipped_by (job f) (answer f) a.job
+
 -- what a job's first state keeps, as the steps see it
 abbrev pub terms_of : {T : Type 0} → (T → JobName) → (T → Answer) → JobTerms → Terms T
-terms_of job answer a = record { cell = a.cell; needless = is_needless job answer a; start = a.start; limit = a.limit }
+terms_of job answer a = record { cell = a.cell; needless = is_needless job answer a; skipped = is_skipped job answer a; start = a.start; limit = a.limit }
 
 -- the job at a place; past a task's jobs the names stand for nothing
 abbrev pub name_at : Mode → ℕ → JobName

@@ -90,7 +90,7 @@ EndIs a known r k (end.Bad number at) = HasEnd r (end.Bad number at) × (Yields 
 EndIs a known r k end.ReadFailed = HasEnd r end.ReadFailed
 EndIs a known r k (end.Stopped t) = Leaves r k × HasReason k (reason.Limit t)
 EndIs a known r k (end.CalledOff f) = Leaves r k × HasReason k (reason.Needless f)
-EndIs a known r k (end.Skipped f) = IsUnread r × (HasReason k (reason.Skip f) ⊎ (NoReason k × known f × (a.needless f ≡ true)))
+EndIs a known r k (end.Skipped f) = IsUnread r × (HasReason k (reason.Skip f) ⊎ (NoReason k × known f × (a.skipped f ≡ true)))
 EndIs a known r k end.HoldFailed = Leaves r k × (HasReason k reason.Fault ⊎ HasReason k reason.Memory ⊎ (NoReason k × IsShort r))
 EndIs a known r k end.StartFailed = IsUnread r × NoReason k
 EndIs a known r k end.Memory = Leaves r k × (HasReason k reason.Memory ⊎ (NoReason k × IsShort r))
@@ -98,7 +98,7 @@ EndIs a known r k end.NotServed = ⊥
 
 -- The end of a job that isn't served: by what was known before, else not served.
 abbrev pub UnservedEndIs : {T : Type 0} → Terms T → (T → Type 0) → Reader T → Keeper T → JobEnd T → Type 0
-UnservedEndIs {T} a known r k end.NotServed = IsUnread r × NoReason k × ((f : T) → known f → a.needless f ≡ true → ⊥)
+UnservedEndIs {T} a known r k end.NotServed = IsUnread r × NoReason k × ((f : T) → known f → a.skipped f ≡ true → ⊥)
 UnservedEndIs a known r k (end.Skipped f) = EndIs a known r k (end.Skipped f)
 UnservedEndIs a known r k end.Memory = EndIs a known r k end.Memory
 UnservedEndIs a known r k (end.Found f) = ⊥

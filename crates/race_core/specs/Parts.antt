@@ -19,10 +19,12 @@ use Rattle.race_core.specs.declared.part.Reason.TheVariants as reason
 use Rattle.race_core.specs.declared.part.Place.{Place}
 use Rattle.race_core.specs.declared.part.Place.TheVariants as place
 
--- What a job's first state keeps: the place of its cell, which findings make it needless (none with `wait on`), and the limit.
+-- What a job's first state keeps: the place of its cell, which findings make it needless and which skip it before its start (none with
+-- `wait` on), and the limit.
 pub record Terms (T : Type 0) : Type 0 where
   pub cell : ℕ
   pub needless : T → Bool
+  pub skipped : T → Bool
   pub start : ℕ
   pub limit : Option ℕ
 
@@ -101,10 +103,20 @@ after_look own (Some f) true keeper.Turning = keeper.Due (reason.Needless f)
 after_look own known tells keeper.Turning = keeper.Turning
 after_look own known tells k = keeper.Wrong
 
--- whether what is known makes the job needless
-abbrev pub tells_needless : {T : Type 0} → (T → Bool) → Option T → Bool
-tells_needless needless None = false
-tells_needless needless (Some f) = needless f
+-- which findings end the job, by where its keeper stands: before the start those that skip it, from then on those that make it needless
+abbrev pub ending : {T : Type 0} → Terms T → Bool → Keeper T → T → Bool
+ending a own keeper.Fresh = a.skipped
+ending a true keeper.Looked = a.needless
+ending a false keeper.Looked = a.skipped
+ending a own keeper.Turning = a.needless
+ending a own (keeper.Due why) = a.needless
+ending a own (keeper.Killed why) = a.needless
+ending a own keeper.Wrong = a.needless
+
+-- whether what is known ends the job
+abbrev pub tells_ending : {T : Type 0} → (T → Bool) → Option T → Bool
+tells_ending ends None = false
+tells_ending ends (Some f) = ends f
 
 -- whether a reading shows the limit
 abbrev pub shows_limit : ℕ → Option ℕ → ℕ → Bool
@@ -122,7 +134,7 @@ keeper_after a (event.Poll polled.Failed) k = comes_due reason.Fault k
 keeper_after a (event.Poll polled.Exited) k = turns k
 keeper_after a (event.Turns n) k = turns k
 keeper_after a (event.Clock r) k = cond (shows_limit a.start a.limit r) (comes_due (reason.Limit r) k) (turns k)
-keeper_after a (event.Look c known) k = after_look (c == a.cell) known (tells_needless a.needless known) k
+keeper_after a (event.Look c known) k = after_look (c == a.cell) known (tells_ending (ending a (c == a.cell) k) known) k
 keeper_after a event.Kill k = after_kill k
 keeper_after a event.KeeperMemory k = comes_due reason.Memory k
 keeper_after a event.Took k = k

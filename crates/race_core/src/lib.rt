@@ -22,6 +22,3 @@ pub use printing::printing_lane;
 pub use report::{JobEvents, Report};
 pub use status::{Outcome, collect};
 pub use step::{JobTerms, LaneState, keeper_step, lane_step, place_step, reader_step};
-
-#[cfg(test)]
-mod tests;

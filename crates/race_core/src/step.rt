@@ -1,9 +1,9 @@
 // How an event changes the parts of a lane's job.
 
 ghost use Rattle.std.specs.Prelude.{◌≡◌, false, Option, None};
-ghost use Rattle.race_core.specs.Parts.{reader_after, keeper_after, place_after, judged, by_of, comes_due, turns, after_look, tells_needless, shows_limit};
+ghost use Rattle.race_core.specs.Parts.{reader_after, keeper_after, place_after, judged, by_of, comes_due, turns, after_look, ending, tells_ending, shows_limit};
 ghost use Rattle.race_core.specs.Stepped.{IsStep};
-ghost use Rattle.race_core.specs.Asking.{terms_of, is_needless, needless_by};
+ghost use Rattle.race_core.specs.Asking.{terms_of, is_needless, is_skipped, needless_by, skipped_by};
 
 use crate::event::{Judged, LaneEvent, Polled};
 use crate::part::{By, Keeper, Place, Reader, Reason};
@@ -107,6 +107,14 @@ impl JobTerms {
         !self.wait && is_needless_by(value.job(), value.answer(), self.job)
     }
 
+    /// Whether a finding skips the job before its start: one that makes it needless; or `wait` is off, the job is a slice, and the finding
+    /// is that an earlier slice is Sat.
+    pub fn is_skipped_by<T: Settled>(&self, value: &T) -> bool
+        ensures { result ≡ is_skipped T.job T.answer self.now value.now }
+    {
+        !self.wait && is_job_skipped_by(value.job(), value.answer(), self.job)
+    }
+
     /// Whether a reading of the clock, in milliseconds, shows the limit.
     pub fn is_shown(&self, reading: u64) -> bool
         ensures { result ≡ shows_limit self.now.start self.now.limit reading }
@@ -130,6 +138,15 @@ fn is_needless_by(job: JobName, answer: Answer, other: JobName) -> bool
     }
 }
 
+fn is_job_skipped_by(job: JobName, answer: Answer, other: JobName) -> bool
+    ensures { result ≡ skipped_by job answer other }
+{
+    match (job, answer, other) {
+        (JobName::Base(m), Answer::Sat, JobName::Base(n)) => m <= n,
+        _ => is_needless_by(job, answer, other),
+    }
+}
+
 fn due<T: Drop>(why: Reason<T>, part: Keeper<T>) -> Keeper<T>
     ensures { result ≡ comes_due why part }
 {
@@ -148,16 +165,27 @@ fn turned<T: Drop>(part: Keeper<T>) -> Keeper<T>
     }
 }
 
+// Whether a finding ends the job, by where its keeper stands.
+fn ends_job<T: Settled>(terms: &JobTerms, own: bool, part: &Keeper<T>, value: &T) -> bool
+    ensures { result ≡ ending (terms_of T.job T.answer terms.now) own part.now value.now }
+{
+    match part {
+        Keeper::Fresh => terms.is_skipped_by(value),
+        Keeper::Looked if !own => terms.is_skipped_by(value),
+        _ => terms.is_needless(value),
+    }
+}
+
 fn looked<T: Settled + Drop>(
     terms: &JobTerms,
     own: bool,
     known: Option<T>,
     part: Keeper<T>,
 ) -> Keeper<T>
-    ensures { result ≡ after_look own known (tells_needless (is_needless T.job T.answer terms.now) known) part }
+    ensures { result ≡ after_look own known (tells_ending (ending (terms_of T.job T.answer terms.now) own part) known) part }
 {
     match known {
-        Some(value) if terms.is_needless(&value) => match part {
+        Some(value) if ends_job(terms, own, &part, &value) => match part {
             Keeper::Fresh => Keeper::Due(Reason::Skip(value)),
             Keeper::Looked if own => Keeper::Due(Reason::Needless(value)),
             Keeper::Looked => Keeper::Due(Reason::Skip(value)),
@@ -168,7 +196,7 @@ fn looked<T: Settled + Drop>(
     }
 }
 
-// A look that shows nothing that makes the job needless.
+// A look that shows nothing that ends the job.
 fn passed<T: Drop>(own: bool, part: Keeper<T>) -> Keeper<T>
     ensures { result ≡ after_look own None false part }
 {

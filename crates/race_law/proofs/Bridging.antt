@@ -24,7 +24,7 @@ found-at xs x c = (c.0, slice_get-get_or xs c.0 x c.1 ∙ ap (λ y. Some y) c.2)
 some-is : {X : Type 0} (x y : X) → Some x ≡ Some y → x ≡ y
 some-is x y e = cc
 
-at-found : {X : Type 0} (xs : List X) (i : ℕ) (x : X) → slice_get xs i ≡ Some x → Contains xs x
+pub at-found : {X : Type 0} (xs : List X) (i : ℕ) (x : X) → slice_get xs i ≡ Some x → Contains xs x
 at-found xs i x e =
     let lt = slice_get_within xs i x e in
     (i, lt, some-is (get_or xs i x) x (sym (slice_get-get_or xs i x lt) ∙ e))

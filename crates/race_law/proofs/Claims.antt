@@ -3,7 +3,7 @@ use Rattle.race_core.specs.Carrying.{KnewBy, Carries}
 use Rattle.std.proofs.Common.{◌≡◌, ◌⊎◌, ℕ, ◌<◌, true, Option, Some, None, refl, sym, ap, ◌∙◌, subst, inl, inr}
 use Rattle.race_core.specs.Parts.{reader_of, keeper_of}
 use Rattle.race_core.specs.Ends.{IsKilled, HasReason, HasEnd, EndIs, IsLast}
-use Rattle.race_law.specs.World.{Script, Race, World, IsRace, read_bytes, plain}
+use Rattle.race_law.specs.World.{Script, Race, World, IsRace, ends_job, read_bytes, plain}
 use Rattle.race_law.specs.Invariant.{FromScript, PlainHas, Inv}
 use Rattle.race_law.specs.Ended.{EndOf, AllEnded, IsCalm, IsSettled, RaceHas, end_of, plain_end}
 use Rattle.race_core.specs.declared.event.Judged.{Judged}
@@ -11,6 +11,7 @@ use Rattle.race_core.specs.declared.event.Judged.TheVariants as progress
 use Rattle.race_core.specs.declared.end.JobEnd.{JobEnd}
 use Rattle.race_core.specs.declared.end.JobEnd.TheVariants as end
 use Rattle.race_core.specs.declared.part.Reason.TheVariants as reason
+use Rattle.race_law.proofs.Keeping.{skipped-ends}
 use Rattle.race_law.proofs.Running.{of-script, killed-known, fatal-on, found-has}
 use Rattle.race_law.proofs.Ending.{end-found, end-unknown, end-bad, found-end, looked-cell, skip-known, needless-known}
 
@@ -59,15 +60,15 @@ module _ {T : Type 0} (IsFor : ℕ → T → Type 0) (Fatal : ℕ → T → Type
 
   -- the findings of an end, by its variants
   skipped-has : (i j : ℕ) (f : T) → EndIs (race.terms j) (KnewBy (w.events i) j) (reader_of (w.events i j)) (keeper_of (race.terms j) (w.events i j)) (end.Skipped f)
-      → ((race.terms j).needless f ≡ true) × ((c : ℕ) × IsFor c f × PlainHas IsFor Fatal race c)
+      → ((ends_job (race.terms j)) f ≡ true) × ((c : ℕ) × IsFor c f × PlainHas IsFor Fatal race c)
   skipped-has i j f h = elim h.1 [
-    | inl r ↦ let k = skip-known (race.terms j).needless w.cells ⊥ (keeper_of (race.terms j) (w.events i j)) f (inv.seat i j).keeper r in (k.0, (k.1.0, (cell-has k.1.0 f k.1.1).0, (cell-has k.1.0 f k.1.1).1))
-    | inr n ↦ (n.2, knew-has i j f n.1)
+    | inl r ↦ let k = skip-known (ends_job (race.terms j)) w.cells ⊥ (keeper_of (race.terms j) (w.events i j)) f (inv.seat i j).keeper r in (k.0, (k.1.0, (cell-has k.1.0 f k.1.1).0, (cell-has k.1.0 f k.1.1).1))
+    | inr n ↦ (skipped-ends (race.terms j) f n.2, knew-has i j f n.1)
   ]
 
   called-has : (i j : ℕ) (f : T) → HasReason (keeper_of (race.terms j) (w.events i j)) (reason.Needless f)
-      → ((race.terms j).needless f ≡ true) × ((c : ℕ) × IsFor c f × PlainHas IsFor Fatal race c)
-  called-has i j f h = let k = needless-known (race.terms j).needless w.cells ⊥ (keeper_of (race.terms j) (w.events i j)) f (inv.seat i j).keeper h in (k.0, (k.1.0, (cell-has k.1.0 f k.1.1).0, (cell-has k.1.0 f k.1.1).1))
+      → ((ends_job (race.terms j)) f ≡ true) × ((c : ℕ) × IsFor c f × PlainHas IsFor Fatal race c)
+  called-has i j f h = let k = needless-known (ends_job (race.terms j)) w.cells ⊥ (keeper_of (race.terms j) (w.events i j)) f (inv.seat i j).keeper h in (k.0, (k.1.0, (cell-has k.1.0 f k.1.1).0, (cell-has k.1.0 f k.1.1).1))
 
   end-has : (i j : ℕ) (f : T) (script : Option (Script T)) (e : JobEnd T) → EndOf script (race.terms j) (KnewBy (w.events i) j) (w.events i j) e → Carries e f → (c : ℕ) × IsFor c f × PlainHas IsFor Fatal race c
   end-has i j f (Some s) (end.Found g) h same = let o = own-has i j g h in subst (λ x. (c : ℕ) × IsFor c x × PlainHas IsFor Fatal race c) same (j, o.0, o.1)
@@ -104,7 +105,7 @@ module _ {T : Type 0} (IsFor : ℕ → T → Type 0) (Fatal : ℕ → T → Type
       (there.0, (i, c, f, range.0, range.1, subst (λ x. Carries x f) (sym found) refl, there.0))
 
   -- a finding that makes the job needless, and is carried
-  needless-race : (j c : ℕ) (f : T) → (race.terms j).needless f ≡ true → IsFor c f → (a b : ℕ) → a < race.lanes → b < race.jobs → Carries (ends a b) f → RaceHas IsFor Fatal race ends j
+  needless-race : (j c : ℕ) (f : T) → (ends_job (race.terms j)) f ≡ true → IsFor c f → (a b : ℕ) → a < race.lanes → b < race.jobs → Carries (ends a b) f → RaceHas IsFor Fatal race ends j
   needless-race j c f n for a b al bl carried = elim (good.needless j c f n for) [
     | inl own ↦ inl (a, b, f, al, bl, carried, own)
     | inr fatal ↦ inr (a, b, c, f, al, bl, carried, for, fatal)
@@ -112,7 +113,7 @@ module _ {T : Type 0} (IsFor : ℕ → T → Type 0) (Fatal : ℕ → T → Type
 
   -- after a kill the job is had
   killed-race : (i j : ℕ) → IsKilled (keeper_of (race.terms j) (w.events i j)) → RaceHas IsFor Fatal race ends j
-  killed-race i j killed = elim (killed-known (race.terms j).needless w.cells ⊥ (keeper_of (race.terms j) (w.events i j)) (inv.seat i j).keeper killed) [
+  killed-race i j killed = elim (killed-known (ends_job (race.terms j)) w.cells ⊥ (keeper_of (race.terms j) (w.events i j)) (inv.seat i j).keeper killed) [
     | inl k ↦
         let s = cell-settled k.2.0 k.0 k.2.1 in
         elim (good.needless j k.2.0 k.0 k.1 s.0) [

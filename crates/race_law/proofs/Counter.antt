@@ -30,7 +30,7 @@ scripts f zero (suc j) = None
 scripts f (suc i) j = None
 
 abbrev the_race : {T : Type 0} → T → Race T
-the_race f = record { lanes = 1; jobs = 1; terms = λ k. record { cell = k; needless = λ g. false; start = 0; limit = Some 1 }; script = scripts f }
+the_race f = record { lanes = 1; jobs = 1; terms = λ k. record { cell = k; needless = λ g. false; skipped = λ g. false; start = 0; limit = Some 1 }; script = scripts f }
 
 abbrev cell_of : {T : Type 0} → Option T → ℕ → Option T
 cell_of o zero = o

@@ -1,10 +1,10 @@
 -- What one event does to what is kept of a keeper, of looks and of a settle.
-use Rattle.std.proofs.Common.{◌≡◌, ◌⊎◌, ℕ, Bool, true, false, cond, ◌==◌, List, [], ◌∷◌, ◌++◌, Option, Some, None, refl, sym, ap, ◌∙◌, subst, inl, inr}
+use Rattle.std.proofs.Common.{◌≡◌, ◌⊎◌, ℕ, Bool, true, false, cond, ◌==◌, ◌||◌, List, [], ◌∷◌, ◌++◌, Option, Some, None, refl, sym, ap, ◌∙◌, subst, inl, inr}
 use Rattle.std.proofs.lemmas.Bool.{cases_eq}
 use Rattle.race_core.specs.Report.{EventsOf}
-use Rattle.race_core.specs.Parts.{Terms, by_of, judged, after_read, after_file, after_settle, after_want, reader_after, reader_of, after_look, tells_needless, shows_limit, comes_due, turns, after_kill, keeper_after, RightReader, RightKeeper}
+use Rattle.race_core.specs.Parts.{Terms, by_of, judged, after_read, after_file, after_settle, after_want, reader_after, reader_of, after_look, ending, tells_ending, shows_limit, comes_due, turns, after_kill, keeper_after, RightReader, RightKeeper}
 use Rattle.race_core.specs.Ends.{IsKilled}
-use Rattle.race_law.specs.World.{Script, Holds, Exchanges, Stays, Meets, IsQuiet}
+use Rattle.race_law.specs.World.{Script, Holds, Exchanges, Stays, Meets, IsQuiet, ends_job}
 use Rattle.race_law.specs.Invariant.{FromScript, ReasonOk, KeeperOk, LooksOk, WonOk}
 use Rattle.race_core.specs.declared.event.Judged.{Judged}
 use Rattle.race_core.specs.declared.event.Judged.TheVariants as progress
@@ -92,9 +92,33 @@ look-ok needless cells Q own (Some f) true (keeper.Killed why) h = tt
 look-ok needless cells Q own None tells k h = look-none needless cells Q own tells k
 look-ok needless cells Q own (Some f) false k h = look-other needless cells Q own f k
 
-tells-known : {T : Type 0} (needless : T → Bool) (known : Option T) (f : T) → known ≡ Some f → tells_needless needless known ≡ true → needless f ≡ true
+tells-known : {T : Type 0} (needless : T → Bool) (known : Option T) (f : T) → known ≡ Some f → tells_ending needless known ≡ true → needless f ≡ true
 tells-known needless None f e t = absurd (let h : None ≡ Some f = e in cc)
 tells-known needless (Some g) f e t = let h : g ≡ f = cc in subst (λ x. needless x ≡ true) h t
+
+or-left : (x y : Bool) → x ≡ true → x || y ≡ true
+or-left true y h = refl
+or-left false y h = absurd (let e : false ≡ true = h in cc)
+
+or-right : (x y : Bool) → y ≡ true → x || y ≡ true
+or-right true y h = refl
+or-right false y h = h
+
+-- a finding that skips the job ends it
+pub skipped-ends : {T : Type 0} (a : Terms T) (f : T) → a.skipped f ≡ true → ends_job a f ≡ true
+skipped-ends a f h = or-left (a.skipped f) (a.needless f) h
+
+needless-ends : {T : Type 0} (a : Terms T) (f : T) → a.needless f ≡ true → ends_job a f ≡ true
+needless-ends a f h = or-right (a.skipped f) (a.needless f) h
+
+ending-ends : {T : Type 0} (a : Terms T) (own : Bool) (k : Keeper T) (f : T) → ending a own k f ≡ true → ends_job a f ≡ true
+ending-ends a own keeper.Fresh f h = skipped-ends a f h
+ending-ends a true keeper.Looked f h = needless-ends a f h
+ending-ends a false keeper.Looked f h = skipped-ends a f h
+ending-ends a own keeper.Turning f h = needless-ends a f h
+ending-ends a own (keeper.Due why) f h = needless-ends a f h
+ending-ends a own (keeper.Killed why) f h = needless-ends a f h
+ending-ends a own keeper.Wrong f h = needless-ends a f h
 
 clock-ok : {T : Type 0} (needless : T → Bool) (cells : ℕ → Option T) (Q : Type 0) (t : ℕ) (k : Keeper T) (shows : Bool) → (shows ≡ false) ⊎ Q → KeeperOk needless cells Q (cond shows (comes_due (reason.Limit t) k) (turns k))
 clock-ok needless cells Q t k true o = due-ok needless cells Q (reason.Limit t) k (elim o [ inl e ↦ absurd (let h : true ≡ false = e in cc) | inr q ↦ q ])
@@ -106,15 +130,15 @@ LookMeets cells (event.Look c known) = known ≡ cells c
 LookMeets cells e = Unit
 
 pub keeper-step : {T : Type 0} (a : Terms T) (cells : ℕ → Option T) (Q : Type 0) (e : LaneEvent T) (k : Keeper T)
-    → KeeperOk a.needless cells Q k → LookMeets cells e → IsQuiet a e ⊎ Q → KeeperOk a.needless cells Q (keeper_after a e k)
-keeper-step a cells Q (event.Poll polled.Failed) k o m q = due-ok a.needless cells Q reason.Fault k (elim q [ inl quiet ↦ absurd (quiet refl) | inr x ↦ x ])
-keeper-step a cells Q (event.Poll polled.Exited) k o m q = turns-ok a.needless cells Q k
-keeper-step a cells Q (event.Turns n) k o m q = turns-ok a.needless cells Q k
-keeper-step a cells Q (event.Clock t) k o m q = clock-ok a.needless cells Q t k (shows_limit a.start a.limit t) q
+    → KeeperOk (ends_job a) cells Q k → LookMeets cells e → IsQuiet a e ⊎ Q → KeeperOk (ends_job a) cells Q (keeper_after a e k)
+keeper-step a cells Q (event.Poll polled.Failed) k o m q = due-ok (ends_job a) cells Q reason.Fault k (elim q [ inl quiet ↦ absurd (quiet refl) | inr x ↦ x ])
+keeper-step a cells Q (event.Poll polled.Exited) k o m q = turns-ok (ends_job a) cells Q k
+keeper-step a cells Q (event.Turns n) k o m q = turns-ok (ends_job a) cells Q k
+keeper-step a cells Q (event.Clock t) k o m q = clock-ok (ends_job a) cells Q t k (shows_limit a.start a.limit t) q
 keeper-step a cells Q (event.Look c known) k o m q =
-    look-ok a.needless cells Q (c == a.cell) known (tells_needless a.needless known) k (λ f e t. (tells-known a.needless known f e t, (c, sym m ∙ e)))
-keeper-step a cells Q event.Kill k o m q = kill-ok a.needless cells Q k o
-keeper-step a cells Q event.KeeperMemory k o m q = due-ok a.needless cells Q reason.Memory k (elim q [ inl quiet ↦ absurd quiet | inr x ↦ x ])
+    look-ok (ends_job a) cells Q (c == a.cell) known (tells_ending (ending a (c == a.cell) k) known) k (λ f e t. (ending-ends a (c == a.cell) k f (tells-known (ending a (c == a.cell) k) known f e t), (c, sym m ∙ e)))
+keeper-step a cells Q event.Kill k o m q = kill-ok (ends_job a) cells Q k o
+keeper-step a cells Q event.KeeperMemory k o m q = due-ok (ends_job a) cells Q reason.Memory k (elim q [ inl quiet ↦ absurd quiet | inr x ↦ x ])
 keeper-step a cells Q event.Took k o m q = o
 keeper-step a cells Q event.Start k o m q = o
 keeper-step a cells Q event.Finish k o m q = o
@@ -149,7 +173,7 @@ killed-stays a (event.Poll polled.Failed) k right killed = absurd (poll-right re
 killed-stays a (event.Poll polled.Exited) k right killed = absurd (turn-right k killed right)
 killed-stays a (event.Turns n) k right killed = absurd (turn-right k killed right)
 killed-stays a (event.Clock t) k right killed = absurd (clock-right t (shows_limit a.start a.limit t) k killed right)
-killed-stays a (event.Look c known) k right killed = absurd (look-right (c == a.cell) known (tells_needless a.needless known) k killed right)
+killed-stays a (event.Look c known) k right killed = absurd (look-right (c == a.cell) known (tells_ending (ending a (c == a.cell) k) known) k killed right)
 killed-stays a event.Kill k right killed = absurd (kill-right k killed right)
 killed-stays a event.KeeperMemory k right killed = absurd (poll-right reason.Memory k killed right)
 killed-stays a event.Took k right killed = killed

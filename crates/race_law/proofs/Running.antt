@@ -4,7 +4,7 @@ use Rattle.std.proofs.lemmas.Bool.{cases_eq}
 use Rattle.race_core.specs.Report.{EventsOf}
 use Rattle.race_core.specs.Parts.{reader_after, reader_of, keeper_of, after_settle, RightReader, RightKeeper}
 use Rattle.race_core.specs.Ends.{IsKilled}
-use Rattle.race_law.specs.World.{Script, Race, World, Step, Steps, WorldRun, IsNew, QuietRun, OfScript, Holds, with_event, IsQuiet, IsRace, read_bytes, plain}
+use Rattle.race_law.specs.World.{Script, Race, World, Step, Steps, WorldRun, IsNew, QuietRun, OfScript, Holds, with_event, IsQuiet, IsRace, ends_job, read_bytes, plain}
 use Rattle.race_law.specs.Invariant.{FromScript, ReasonOk, KeeperOk, SeatInv, PlainHas, Inv}
 use Rattle.race_core.specs.declared.event.Judged.TheVariants as progress
 use Rattle.race_core.specs.declared.event.LaneEvent.{LaneEvent}
@@ -56,7 +56,7 @@ module _ {T : Type 0} (IsFor : ℕ → T → Type 0) (Fatal : ℕ → T → Type
       ]
 
   -- what is known to make a job needless, Plain has
-  pub known-has : (w : World T) → Inv IsFor Fatal Q race w → (j : ℕ) (g : T) (c : ℕ) → (race.terms j).needless g ≡ true → w.cells c ≡ Some g
+  pub known-has : (w : World T) → Inv IsFor Fatal Q race w → (j : ℕ) (g : T) (c : ℕ) → (ends_job (race.terms j)) g ≡ true → w.cells c ≡ Some g
       → ((c ≡ j) × IsFor j g) ⊎ PlainHas IsFor Fatal race j ⊎ Q
   known-has w inv j g c n at =
       let there = inv.cell c g at in
@@ -72,7 +72,7 @@ module _ {T : Type 0} (IsFor : ℕ → T → Type 0) (Fatal : ℕ → T → Type
       let there = of-script (race.script i j) _ o in
       elim there.2.1 [
         | inl p ↦ inl (there.2.0, inl (inl (i, there.0, f, there.1, p, there.2.0)))
-        | inr killed ↦ elim (killed-known (race.terms j).needless w.cells Q (keeper_of (race.terms j) (w.events i j)) (inv.seat i j).keeper killed) [
+        | inr killed ↦ elim (killed-known (ends_job (race.terms j)) w.cells Q (keeper_of (race.terms j) (w.events i j)) (inv.seat i j).keeper killed) [
           | inl known ↦ elim (known-has w inv j known.0 known.2.0 known.1 known.2.1) [
             | inl own ↦ inr (there.2.0, (known.0, ap (λ (c : ℕ). w.cells c) (sym own.0) ∙ known.2.1))
             | inr has ↦ inl (there.2.0, has)

@@ -3,7 +3,7 @@ use Rattle.std.proofs.Common.{◌≡◌, ◌⊎◌, ℕ, ◌+◌, [], ◌∷◌,
 use Rattle.race_core.specs.Report.{EventsOf}
 use Rattle.race_core.specs.Parts.{Terms, reader_after, keeper_after, reader_from, keeper_from, reader_of, keeper_of, after_read, after_file, after_settle, RightReader, RightKeeper}
 use Rattle.race_core.specs.Ends.{IsKilled}
-use Rattle.race_law.specs.World.{Script, Meets, with_event, IsScript, IsQuiet, read_bytes}
+use Rattle.race_law.specs.World.{Script, Meets, with_event, IsScript, IsQuiet, ends_job, read_bytes}
 use Rattle.race_law.specs.Invariant.{FromScript, KeeperOk, LooksOk, WonOk, SeatInv}
 use Rattle.race_core.specs.declared.event.LaneEvent.{LaneEvent}
 use Rattle.race_core.specs.declared.event.LaneEvent.TheVariants as event
@@ -18,7 +18,7 @@ module _ {T : Type 0} (P : T → Type 0) (Q : Type 0) (script : Option (Script T
   pub seat-grows : (es : EventsOf T) (before after : ℕ → Option T) → Grows before after → SeatInv P Q script a j es before → SeatInv P Q script a j es after
   seat-grows es before after h o = record {
     from = o.from;
-    keeper = keeper-grows a.needless before after Q h (keeper_of a es) o.keeper;
+    keeper = keeper-grows (ends_job a) before after Q h (keeper_of a es) o.keeper;
     looks = looks-grow before after h es.keeper o.looks;
     won = won-grows before after h j (reader_of es) o.won;
     right_reader = o.right_reader;
@@ -33,7 +33,7 @@ module _ {T : Type 0} (P : T → Type 0) (Q : Type 0) (script : Option (Script T
   reader-seat es e before after h o f w right = record {
     from = subst (λ n. FromScript P script n (IsKilled (keeper_of a es)) (reader_from reader.Fresh (es.reader ++ e ∷ []))) (sym (read_bytes-append es.reader e))
         (subst (λ r. FromScript P script (read_bytes es.reader + read_bytes (e ∷ [])) (IsKilled (keeper_of a es)) r) (sym (reader_from-append reader.Fresh es.reader e)) f);
-    keeper = keeper-grows a.needless before after Q h (keeper_of a es) o.keeper;
+    keeper = keeper-grows (ends_job a) before after Q h (keeper_of a es) o.keeper;
     looks = looks-grow before after h es.keeper o.looks;
     won = subst (λ r. WonOk after j r) (sym (reader_from-append reader.Fresh es.reader e)) w;
     right_reader = right;
@@ -52,8 +52,8 @@ module _ {T : Type 0} (P : T → Type 0) (Q : Type 0) (script : Option (Script T
       record {
         from = kill-step P script (read_bytes es.reader) (IsKilled (keeper_of a es)) (IsKilled (keeper_from a keeper.Fresh (es.keeper ++ e ∷ [])))
             (λ killed. subst (λ k. IsKilled k) (sym (keeper_from-append a keeper.Fresh es.keeper e)) (killed-stays a e (keeper_of a es) right_after killed)) (reader_of es) o.from;
-        keeper = keeper-grows a.needless before after Q h (keeper_from a keeper.Fresh (es.keeper ++ e ∷ []))
-            (subst (λ k. KeeperOk a.needless before Q k) (sym (keeper_from-append a keeper.Fresh es.keeper e)) (keeper-step a before Q e (keeper_of a es) o.keeper m q));
+        keeper = keeper-grows (ends_job a) before after Q h (keeper_from a keeper.Fresh (es.keeper ++ e ∷ []))
+            (subst (λ k. KeeperOk (ends_job a) before Q k) (sym (keeper_from-append a keeper.Fresh es.keeper e)) (keeper-step a before Q e (keeper_of a es) o.keeper m q));
         looks = looks-append after es.keeper e (looks-grow before after h es.keeper o.looks) l;
         won = won-grows before after h j (reader_of es) o.won;
         right_reader = o.right_reader;

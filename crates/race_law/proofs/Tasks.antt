@@ -1,6 +1,6 @@
 -- The theorem for the jobs of a task.
 use Rattle.race_core.specs.Carrying.{Carries}
-use Rattle.std.proofs.Common.{◌≡◌, ◌⊎◌, ℕ, zero, suc, ◌<◌, Bool, true, false, not, ◌&&◌, List, Option, Some, refl, sym, ap, ◌∙◌, subst, inl, inr, arith}
+use Rattle.std.proofs.Common.{◌≡◌, ◌⊎◌, ℕ, zero, suc, ◌<◌, Bool, true, false, not, leb, ◌&&◌, ◌||◌, List, Option, Some, refl, sym, ap, ◌∙◌, subst, inl, inr, arith}
 use Rattle.std.specs.Prelude.{slice_get}
 use Rattle.sby_terms.specs.Problem.{ProblemOf}
 use Rattle.sby_terms.specs.Decide.{Decides}
@@ -13,12 +13,12 @@ use Rattle.sby_terms.specs.declared.names.Answer.TheVariants as answer
 use Rattle.sby_terms.specs.declared.names.Verdict.{Verdict}
 use Rattle.sby_terms.specs.declared.names.Verdict.TheVariants as verdict
 use Rattle.sby_terms.specs.declared.names.Status.{Status}
-use Rattle.race_core.specs.Asking.{needless_by, name_at}
-use Rattle.race_law.specs.World.{Script, Serves, World, Step, WorldRun, IsNew, QuietRun, IsRace}
+use Rattle.race_core.specs.Asking.{needless_by, skipped_by, name_at}
+use Rattle.race_law.specs.World.{Script, Serves, World, Step, WorldRun, IsNew, QuietRun, IsRace, ends_job}
 use Rattle.race_law.specs.Invariant.{PlainHas, Inv}
 use Rattle.race_law.specs.Ended.{AllEnded, IsCalm, RaceHas, plain_end}
 use Rattle.race_law.specs.Status.{TaskStatus, RaceSettles, PlainSettles}
-use Rattle.race_law.specs.Theorem.{TaskOf, IsFor, DecidesAway, race_of, AreScripts, Agree, WasFound}
+use Rattle.race_law.specs.Theorem.{TaskOf, IsFor, IsBefore, DecidesAway, race_of, AreScripts, Agree, WasFound}
 use Rattle.race_core.specs.declared.end.JobEnd.{JobEnd}
 use Rattle.race_law.proofs.Running.{runs-keep}
 use Rattle.race_law.proofs.Claims.{race-plain, plain-race, ends-plain}
@@ -26,13 +26,14 @@ use Rattle.race_law.proofs.Deciding.{Has, same-status}
 use Rattle.race_core.specs.Report.{ReportOf}
 use Rattle.race_core.specs.Consistent.{Consistent, AreOf}
 use Rattle.race_core.specs.Collect.{IsOutcome}
-use Rattle.race_law.proofs.Bridging.{collected-status}
+use Rattle.race_law.proofs.Bridging.{at-found, collected-status}
 use Rattle.race_law.proofs.Reports.{consistent}
 use Rattle.race_law.proofs.Whole.{all-agree, all-found}
 
-needless-cases : (j : JobName) (a : Answer) (k : JobName) → needless_by j a k ≡ true → (j ≡ k) ⊎ ((j ≡ name.Base 0) × (a ≡ answer.Sat) × (k ≡ name.Step))
+-- what makes a job needless is for it, or decides it away
+needless-cases : (j : JobName) (a : Answer) (k : JobName) → needless_by j a k ≡ true → (j ≡ k) ⊎ ((a ≡ answer.Sat) × IsBefore j k)
 needless-cases (name.Base m) a (name.Base n) h = inl (let e : m ≡ n = grind arith in ap (λ (x : ℕ). name.Base x) e)
-needless-cases (name.Base m) answer.Sat name.Step h = inr (let e : m ≡ 0 = grind arith in (ap (λ (x : ℕ). name.Base x) e, refl, refl))
+needless-cases (name.Base m) answer.Sat name.Step h = inr (let e : m ≡ 0 = grind arith in (refl, e))
 needless-cases (name.Base m) answer.Unsat name.Step h = absurd (let e : false ≡ true = h in cc)
 needless-cases (name.Base m) a (name.Cover n) h = absurd (let e : false ≡ true = h in cc)
 needless-cases name.Step a name.Step h = inl refl
@@ -41,6 +42,27 @@ needless-cases name.Step a (name.Cover n) h = absurd (let e : false ≡ true = h
 needless-cases (name.Cover m) a (name.Cover n) h = inl (let e : m ≡ n = grind arith in ap (λ (x : ℕ). name.Cover x) e)
 needless-cases (name.Cover m) a (name.Base n) h = absurd (let e : false ≡ true = h in cc)
 needless-cases (name.Cover m) a name.Step h = absurd (let e : false ≡ true = h in cc)
+
+up-to : (m n : ℕ) → leb m n ≡ true → (m ≡ n) ⊎ (m < n)
+up-to m n h = grind (arith, h)
+
+-- so is what skips it
+skipped-cases : (j : JobName) (a : Answer) (k : JobName) → skipped_by j a k ≡ true → (j ≡ k) ⊎ ((a ≡ answer.Sat) × IsBefore j k)
+skipped-cases (name.Base m) answer.Sat (name.Base n) h = elim (up-to m n h) [ inl e ↦ inl (ap (λ (x : ℕ). name.Base x) e) | inr lt ↦ inr (refl, lt) ]
+skipped-cases (name.Base m) answer.Unsat (name.Base n) h = inl (let e : m ≡ n = grind arith in ap (λ (x : ℕ). name.Base x) e)
+skipped-cases (name.Base m) answer.Sat name.Step h = inr (let e : m ≡ 0 = grind arith in (refl, e))
+skipped-cases (name.Base m) answer.Unsat name.Step h = absurd (let e : false ≡ true = h in cc)
+skipped-cases (name.Base m) a (name.Cover n) h = absurd (let e : false ≡ true = h in cc)
+skipped-cases name.Step a name.Step h = inl refl
+skipped-cases name.Step a (name.Base n) h = absurd (let e : false ≡ true = h in cc)
+skipped-cases name.Step a (name.Cover n) h = absurd (let e : false ≡ true = h in cc)
+skipped-cases (name.Cover m) a (name.Cover n) h = inl (let e : m ≡ n = grind arith in ap (λ (x : ℕ). name.Cover x) e)
+skipped-cases (name.Cover m) a (name.Base n) h = absurd (let e : false ≡ true = h in cc)
+skipped-cases (name.Cover m) a name.Step h = absurd (let e : false ≡ true = h in cc)
+
+either : (a b : Bool) → a || b ≡ true → (a ≡ true) ⊎ (b ≡ true)
+either true b h = inl refl
+either false b h = inr h
 
 both : (a b : Bool) → a && b ≡ true → b ≡ true
 both true b h = h
@@ -74,13 +96,23 @@ one-name mode.Prove (suc (suc j)) (suc zero) e = absurd (step-cover name.Step j 
 one-name mode.Prove (suc (suc j)) (suc (suc k)) e = ap (λ (x : ℕ). suc (suc x)) (cover-same j k e)
 one-name mode.Cover j k e = cover-same j k e
 
--- a Base finding that is Sat decides the task
-base-fails : (m : Mode) (k l : ℕ) → name_at m l ≡ name.Base 0 → name_at m k ≡ name.Step → (answers : List (Option Answer)) → slice_get answers l ≡ Some (Some answer.Sat) → Decides m answers verdict.Fail
-base-fails mode.Bmc k l e s answers at = absurd (base-step (name.Base k) k refl s)
-base-fails mode.Prove k zero e s answers at = at
-base-fails mode.Prove k (suc zero) e s answers at = absurd (base-step (name.Base 0) 0 refl (sym e))
-base-fails mode.Prove k (suc (suc l)) e s answers at = absurd (base-cover (name.Base 0) 0 l refl (sym e))
-base-fails mode.Cover k l e s answers at = absurd (base-cover (name.Base 0) 0 l refl (sym e))
+-- what is before one that is before a third is before that one
+before-through : (a b c : JobName) → IsBefore a b → IsBefore b c → IsBefore a c
+before-through (name.Base m) (name.Base n) (name.Base k) h i = omega (h, i, arith)
+before-through (name.Base m) (name.Base n) name.Step h i = absurd (omega (h, i, arith))
+before-through (name.Base m) (name.Base n) (name.Cover k) h i = absurd i
+before-through (name.Base m) name.Step c h i = absurd i
+before-through (name.Base m) (name.Cover n) c h i = absurd h
+before-through name.Step b c h i = absurd h
+before-through (name.Cover m) b c h i = absurd h
+
+-- one that is Sat, of a job that is before another, decides the task
+before-fails : (m : Mode) (k l : ℕ) → IsBefore (name_at m l) (name_at m k) → (answers : List (Option Answer)) → slice_get answers l ≡ Some (Some answer.Sat) → Decides m answers verdict.Fail
+before-fails mode.Bmc k l h answers at = at-found answers l (Some answer.Sat) at
+before-fails mode.Prove k zero h answers at = at
+before-fails mode.Prove k (suc zero) h answers at = absurd h
+before-fails mode.Prove k (suc (suc l)) h answers at = absurd h
+before-fails mode.Cover k l h answers at = absurd h
 
 module _ {T : Type 0} (problem : T → ProblemOf) (job : T → JobName) (answer_of : T → Answer) (is_true : T → Type 0)
     (one_answer : (a b : T) → is_true a → is_true b → problem a ≡ problem b → job a ≡ job b → answer_of a ≡ answer_of b)
@@ -95,25 +127,38 @@ module _ {T : Type 0} (problem : T → ProblemOf) (job : T → JobName) (answer_
   same-answer k f g a b = one_answer f g a.holds b.holds (a.of_problem ∙ sym b.of_problem) (a.of_job ∙ sym b.of_job)
 
   alike : (j c : ℕ) (f g : T) → IsFor problem job is_true task c f → IsFor problem job is_true task c g → DecidesAway job answer_of task j g → DecidesAway job answer_of task j f
-  alike j c f g a b d = record { base = a.of_job ∙ sym b.of_job ∙ d.base; sat = same-answer c f g a b ∙ d.sat; step = d.step }
+  alike j c f g a b d = record {
+    sat = same-answer c f g a b ∙ d.sat;
+    before = subst (λ (n : JobName). IsBefore n (name_at task.mode j)) (b.of_job ∙ sym a.of_job) d.before;
+  }
+
+  -- a finding that ends a job, before its start or behind it
+  ends-cases : (j : ℕ) (f : T) → ends_job ((race_of job answer_of task script).terms j) f ≡ true → (job f ≡ name_at task.mode j) ⊎ ((answer_of f ≡ answer.Sat) × IsBefore (job f) (name_at task.mode j))
+  ends-cases j f n = elim (either (not task.wait && skipped_by (job f) (answer_of f) (name_at task.mode j)) (not task.wait && needless_by (job f) (answer_of f) (name_at task.mode j)) n) [
+    | inl s ↦ skipped-cases (job f) (answer_of f) (name_at task.mode j) (both (not task.wait) _ s)
+    | inr m ↦ needless-cases (job f) (answer_of f) (name_at task.mode j) (both (not task.wait) _ m)
+  ]
 
   is-race : IsRace (IsFor problem job is_true task) (DecidesAway job answer_of task) (race_of job answer_of task script)
   is-race = record {
     within = are.within;
     scripts = are.are;
-    needless = λ j c f n for. elim (needless-cases (job f) (answer_of f) (name_at task.mode j) (both (not task.wait) _ n)) [
+    needless = λ j c f n for. elim (ends-cases j f n) [
       | inl e ↦ inl (subst (λ (x : ℕ). IsFor problem job is_true task x f) (one-name task.mode c j (sym for.of_job ∙ e)) for)
-      | inr e ↦ inr (record { base = e.0; sat = e.1; step = e.2 })
+      | inr e ↦ inr (record { sat = e.0; before = e.1 })
     ];
     for_job = λ j f for. for.within;
     one_job = λ j k f a b. one-name task.mode j k (sym a.of_job ∙ b.of_job);
     alike = alike;
-    onward = λ j c f g for away far. absurd (base-step (job g) 0 far.base (for.of_job ∙ away.step));
+    onward = λ j c f g for away far. record {
+      sat = away.sat;
+      before = before-through (job f) (name_at task.mode c) (name_at task.mode j) away.before (subst (λ (n : JobName). IsBefore n (name_at task.mode j)) for.of_job far.before);
+    };
   }
 
   decides : (k l : ℕ) (f : T) → IsFor problem job is_true task l f → DecidesAway job answer_of task k f → (answers : List (Option Answer))
       → slice_get answers l ≡ Some (Some (answer_of f)) → Decides task.mode answers verdict.Fail
-  decides k l f for away answers at = base-fails task.mode k l (sym for.of_job ∙ away.base) away.step answers (at ∙ ap (λ (a : Answer). Some (Some a)) away.sat)
+  decides k l f for away answers at = before-fails task.mode k l (subst (λ (n : JobName). IsBefore n (name_at task.mode k)) for.of_job away.before) answers (at ∙ ap (λ (a : Answer). Some (Some a)) away.sat)
 
   module _ (w v : World T) (ss : List (Step T)) (new : IsNew w) (run : WorldRun (race_of job answer_of task script) w ss v) where
     pub run-agrees : Agree v

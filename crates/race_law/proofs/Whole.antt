@@ -3,7 +3,7 @@ use Rattle.race_core.specs.Carrying.{KnewBy, Carries}
 use Rattle.std.proofs.Common.{◌≡◌, ℕ, ◌<◌, Option, Some, None, refl, sym, ◌∙◌, subst, inl, inr}
 use Rattle.race_core.specs.Parts.{reader_of, keeper_of}
 use Rattle.race_core.specs.Ends.{HasEnd, EndIs, IsLast}
-use Rattle.race_law.specs.World.{Script, Race, World, read_bytes}
+use Rattle.race_law.specs.World.{Script, Race, World, ends_job, read_bytes}
 use Rattle.race_law.specs.Invariant.{Inv, WonOk}
 use Rattle.race_law.specs.Ended.{EndOf, AllEnded}
 use Rattle.race_law.specs.Theorem.{Knows, Agree, WasFound}
@@ -36,7 +36,7 @@ module _ {T : Type 0} (For : ℕ → T → Type 0) (Fatal : ℕ → T → Type 0
 
   skipped-found : (i j : ℕ) (f : T) → EndIs (race.terms j) (KnewBy (w.events i) j) (reader_of (w.events i j)) (keeper_of (race.terms j) (w.events i j)) (end.Skipped f) → WasFound For w f
   skipped-found i j f h = elim h.1 [
-    | inl r ↦ let k = skip-known (race.terms j).needless w.cells (Unit {0}) (keeper_of (race.terms j) (w.events i j)) f (inv.seat i j).keeper r in cell-found k.1.0 f k.1.1
+    | inl r ↦ let k = skip-known (ends_job (race.terms j)) w.cells (Unit {0}) (keeper_of (race.terms j) (w.events i j)) f (inv.seat i j).keeper r in cell-found k.1.0 f k.1.1
     | inr n ↦ elim n.1.2 [
       | inl own ↦ own-found i n.1.0 f own
       | inr look ↦ cell-found look.0 f (looked-cell w.cells (w.events i n.1.0).keeper look.0 f (inv.seat i n.1.0).looks look.1)
@@ -47,7 +47,7 @@ module _ {T : Type 0} (For : ℕ → T → Type 0) (Fatal : ℕ → T → Type 0
   end-was i j f (Some s) (end.Found g) h same = subst (λ x. WasFound For w x) same (own-found i j g h)
   end-was i j f (Some s) (end.Skipped g) h same = subst (λ x. WasFound For w x) same (skipped-found i j g h)
   end-was i j f (Some s) (end.CalledOff g) h same =
-      let k = needless-known (race.terms j).needless w.cells (Unit {0}) (keeper_of (race.terms j) (w.events i j)) g (inv.seat i j).keeper h.1 in
+      let k = needless-known (ends_job (race.terms j)) w.cells (Unit {0}) (keeper_of (race.terms j) (w.events i j)) g (inv.seat i j).keeper h.1 in
       subst (λ x. WasFound For w x) same (cell-found k.1.0 g k.1.1)
   end-was i j f None (end.Skipped g) h same = subst (λ x. WasFound For w x) same (skipped-found i j g h)
   end-was i j f None (end.Found g) h same = absurd h

@@ -1,14 +1,12 @@
 -- The ends of a world in which all lanes have ended.
-use Rattle.std.specs.Prelude.{◌≡◌, ◌⊎◌, ℕ, ◌<◌, List, [], ◌∷◌, Option, Some, None}
+use Rattle.std.specs.Prelude.{◌≡◌, ◌⊎◌, ℕ, ◌<◌, Option, Some, None}
 use Rattle.race_core.specs.Carrying.{KnewBy, Carries}
 use Rattle.race_core.specs.Report.{EventsOf, no_events}
 use Rattle.race_core.specs.Parts.{Terms, reader_of, keeper_of}
-use Rattle.race_core.specs.Ends.{HasEnd, EndIs, UnservedEndIs, IsLast}
+use Rattle.race_core.specs.Ends.{EndIs, UnservedEndIs, IsLast}
 use Rattle.race_law.specs.World.{Script, Race, World, plain}
 use Rattle.race_core.specs.declared.event.Judged.{Judged}
 use Rattle.race_core.specs.declared.event.Judged.TheVariants as progress
-use Rattle.race_core.specs.declared.event.LaneEvent.{LaneEvent}
-use Rattle.race_core.specs.declared.event.LaneEvent.TheVariants as event
 use Rattle.race_core.specs.declared.end.JobEnd.{JobEnd}
 use Rattle.race_core.specs.declared.end.JobEnd.TheVariants as end
 

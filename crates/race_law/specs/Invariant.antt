@@ -3,7 +3,7 @@ use Rattle.std.specs.Prelude.{◌≡◌, ◌⊎◌, ℕ, Bool, true, List, [], �
 use Rattle.race_core.specs.Ends.{IsKilled}
 use Rattle.race_core.specs.Report.{EventsOf}
 use Rattle.race_core.specs.Parts.{Terms, reader_of, keeper_of, RightReader, RightKeeper}
-use Rattle.race_law.specs.World.{Script, Race, World, OfScript, plain, read_bytes}
+use Rattle.race_law.specs.World.{Script, Race, World, OfScript, ends_job, plain, read_bytes}
 use Rattle.race_core.specs.declared.part.By.{By}
 use Rattle.race_core.specs.declared.event.Judged.TheVariants as progress
 use Rattle.race_core.specs.declared.event.LaneEvent.{LaneEvent}
@@ -27,7 +27,7 @@ FromScript P script taken K (reader.Unknown b) = OfScript script (λ s. (plain s
 FromScript P script taken K (reader.Bad number at b) = OfScript script (λ s. (plain s ≡ progress.Bad number at) ⊎ K)
 FromScript P script taken K r = Unit
 
--- A keeper's reason is a finding that stands in a cell and makes the job needless, or else Q.
+-- A keeper's reason is a finding that stands in a cell and ends the job, or else Q.
 abbrev pub ReasonOk : {T : Type 0} → (T → Bool) → (ℕ → Option T) → Type 0 → Reason T → Type 0
 ReasonOk needless cells Q (reason.Skip f) = (needless f ≡ true) × ((c : ℕ) × (cells c ≡ Some f))
 ReasonOk needless cells Q (reason.Needless f) = (needless f ≡ true) × ((c : ℕ) × (cells c ≡ Some f))
@@ -52,7 +52,7 @@ WonOk cells j r = Unit
 -- What every step keeps of one lane's job. Q is what noise leaves open: nothing in a quiet run, all in another.
 pub record SeatInv {T : Type 0} (P : T → Type 0) (Q : Type 0) (script : Option (Script T)) (a : Terms T) (j : ℕ) (es : EventsOf T) (cells : ℕ → Option T) : Type 0 where
   pub from : FromScript P script (read_bytes es.reader) (IsKilled (keeper_of a es)) (reader_of es)
-  pub keeper : KeeperOk a.needless cells Q (keeper_of a es)
+  pub keeper : KeeperOk (ends_job a) cells Q (keeper_of a es)
   pub looks : LooksOk cells es.keeper
   pub won : WonOk cells j (reader_of es)
   pub right_reader : RightReader (reader_of es)

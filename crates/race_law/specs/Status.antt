@@ -2,16 +2,13 @@
 use Rattle.race_core.specs.Told.{told_by, Decided}
 use Rattle.race_core.specs.Carrying.{Carries}
 use Rattle.std.specs.Prelude.{◌≡◌, ℕ, ◌<◌, List, Option, Some, None, slice_get, length, Contains}
-use Rattle.sby_terms.specs.Decide.{Decides}
 use Rattle.sby_terms.specs.Status.{HasStatus}
 use Rattle.sby_terms.specs.declared.names.Mode.{Mode}
 use Rattle.sby_terms.specs.declared.names.Answer.{Answer}
 use Rattle.sby_terms.specs.declared.names.Verdict.{Verdict}
 use Rattle.sby_terms.specs.declared.names.Event.{Event}
-use Rattle.sby_terms.specs.declared.names.Event.TheVariants as told
 use Rattle.sby_terms.specs.declared.names.Status.{Status}
 use Rattle.race_core.specs.declared.end.JobEnd.{JobEnd}
-use Rattle.race_core.specs.declared.end.JobEnd.TheVariants as end
 use Rattle.race_core.specs.declared.event.Judged.TheVariants as progress
 use Rattle.race_law.specs.World.{Script, Race, plain}
 

@@ -1,9 +1,8 @@
 -- The race's theorem, of a type of findings.
 use Rattle.race_core.specs.Carrying.{Looked}
-use Rattle.std.specs.Prelude.{◌≡◌, ◌⊎◌, ℕ, zero, suc, ◌<◌, Bool, true, List, Option, Some}
+use Rattle.std.specs.Prelude.{◌≡◌, ◌⊎◌, ℕ, ◌<◌, Bool, true, List, Option, Some}
 use Rattle.sby_terms.specs.Problem.{ProblemOf}
 use Rattle.sby_terms.specs.declared.names.Mode.{Mode}
-use Rattle.sby_terms.specs.declared.names.Mode.TheVariants as mode
 use Rattle.sby_terms.specs.declared.names.JobName.{JobName}
 use Rattle.sby_terms.specs.declared.names.JobName.TheVariants as name
 use Rattle.sby_terms.specs.declared.names.Answer.{Answer}
@@ -37,11 +36,18 @@ pub record IsFor {T : Type 0} (problem : T → ProblemOf) (job : T → JobName) 
   pub of_problem : problem f ≡ task.problem
   pub holds : is_true f
 
--- a finding that decides the task whatever this job comes to: Base is Sat, and the job is Step
+-- a finding that is Sat for the first job decides the task whatever the second comes to: Base's, of Step; a slice's, of a later slice
+abbrev pub IsBefore : JobName → JobName → Type 0
+IsBefore (name.Base m) (name.Base n) = m < n
+IsBefore (name.Base m) name.Step = m ≡ 0
+IsBefore (name.Base m) (name.Cover n) = ⊥
+IsBefore name.Step k = ⊥
+IsBefore (name.Cover m) k = ⊥
+
+-- a finding that decides the task whatever this job comes to
 pub record DecidesAway {T : Type 0} (job : T → JobName) (answer_of : T → Answer) (task : TaskOf) (k : ℕ) (f : T) : Type 0 where
-  pub base : job f ≡ name.Base 0
   pub sat : answer_of f ≡ answer.Sat
-  pub step : name_at task.mode k ≡ name.Step
+  pub before : IsBefore (job f) (name_at task.mode k)
 
 -- the race of a task with these scripts
 abbrev pub race_of : {T : Type 0} → (T → JobName) → (T → Answer) → TaskOf → (ℕ → ℕ → Option (Script T)) → Race T

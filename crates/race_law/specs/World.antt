@@ -1,5 +1,5 @@
 -- A world of lanes: what each has read and seen so far, and one set-once cell per job.
-use Rattle.std.specs.Prelude.{◌≡◌, ◌⊎◌, ℕ, zero, suc, ◌+◌, ◌≤◌, ◌<◌, Bool, true, false, List, [], ◌∷◌, ◌++◌, Option, Some, None}
+use Rattle.std.specs.Prelude.{◌≡◌, ◌⊎◌, ℕ, zero, suc, ◌+◌, ◌≤◌, ◌<◌, Bool, true, false, ◌||◌, List, [], ◌∷◌, ◌++◌, Option, Some, None}
 use Rattle.race_core.specs.Report.{EventsOf, no_events}
 use Rattle.race_core.specs.Parts.{Terms, reader_of, keeper_of, shows_limit, RightReader, RightKeeper}
 use Rattle.race_core.specs.declared.event.Polled.TheVariants as polled
@@ -11,7 +11,6 @@ use Rattle.race_core.specs.declared.event.LaneEvent.TheVariants as event
 use Rattle.race_core.specs.declared.part.Reader.{Reader}
 use Rattle.race_core.specs.declared.part.Reader.TheVariants as reader
 use Rattle.race_core.specs.declared.part.Keeper.{Keeper}
-use Rattle.race_core.specs.declared.part.Keeper.TheVariants as keeper
 
 -- What a lane's child gives for a job: the progress at each count of bytes, what it comes to if the stream ends there, what the proof
 -- file comes to, and how many bytes there are.
@@ -149,12 +148,16 @@ pub record IsScript {T : Type 0} (IsFor : T → Type 0) (s : Script T) : Type 0 
   pub ended_for : (n : ℕ) (f : T) → s.ended n ≡ progress.Found f → IsFor f
   pub file_for : (f : T) → s.file ≡ progress.Found f → IsFor f
 
--- What makes a race: scripts that are scripts, findings for one job each, and a finding that makes a job needless is for that job or
+-- a finding ends a job, before its start or behind it
+abbrev pub ends_job : {T : Type 0} → Terms T → T → Bool
+ends_job a f = a.skipped f || a.needless f
+
+-- What makes a race: scripts that are scripts, findings for one job each, and a finding that ends a job is for that job or
 -- decides the task whatever that job comes to; what decides so against what decides, decides.
 pub record IsRace {T : Type 0} (IsFor : ℕ → T → Type 0) (Fatal : ℕ → T → Type 0) (race : Race T) : Type 0 where
   pub within : (i j : ℕ) (s : Script T) → race.script i j ≡ Some s → (i < race.lanes) × (j < race.jobs)
   pub scripts : (i j : ℕ) (s : Script T) → race.script i j ≡ Some s → IsScript (IsFor j) s
-  pub needless : (j c : ℕ) (f : T) → (race.terms j).needless f ≡ true → IsFor c f → IsFor j f ⊎ Fatal j f
+  pub needless : (j c : ℕ) (f : T) → ends_job (race.terms j) f ≡ true → IsFor c f → IsFor j f ⊎ Fatal j f
   pub for_job : (j : ℕ) (f : T) → IsFor j f → j < race.jobs
   pub one_job : (j k : ℕ) (f : T) → IsFor j f → IsFor k f → j ≡ k
   pub alike : (j c : ℕ) (f g : T) → IsFor c f → IsFor c g → Fatal j g → Fatal j f

@@ -1,13 +1,13 @@
-use Rattle.std.proofs.Common.{◌≡◌, ◌⊎◌, ℕ, ◌<◌, [], subst, ◌∙◌}
+use Rattle.std.proofs.Common.{◌≡◌, ℕ, ◌<◌, subst, ◌∙◌}
 use Rattle.race_core.specs.Asking.{terms_of}
 use Rattle.race_core.specs.Parts.{keeper_from, reader_from}
 use Rattle.race_core.specs.declared.part.Keeper.TheVariants as keeper
 use Rattle.race_core.specs.declared.part.Reader.TheVariants as reader
 use Rattle.lane_child.specs.Keeping.{IsOfCell}
-use Rattle.lane_child.specs.Reading.{IsProof, NoneLeft, Proves}
+use Rattle.lane_child.specs.Reading.{NoneLeft, Proves, TookProof}
 use Rattle.lane_child.specs.Sides.{kept_by}
 use Rattle.race_core.specs.Ends.{IsKilled}
-use Rattle.lane_child.proofs.Endings.{comes_finished, ends_kept, kept_looked, proof_or_none, right_kept}
+use Rattle.lane_child.proofs.Endings.{comes_finished, ends_kept, kept_looked, proof_finished, right_kept}
 use Rattle.lane_child.proofs.Keepers.{keeps_remember, keeps_then}
 use Rattle.lane_child.proofs.job.run_started.Goals as goal
 
@@ -37,13 +37,15 @@ returns-clause-ran g c =
       r.2.took,
       c.conclude.ensures.read ∙ r.2.counted,
       asks.1,
-      proof_or_none (g.L.Launch.told c.live-lived.new.bay) (g.L.Launch.told c.conclude.new.bay) c.args.asked.now.job c.args.asked.now.most asks.0
-          (f.0 ≡ c.live-lived.result.part) (c.live-lived.result.part ≡ reader.Asking → IsKilled (kept_by c.live-lived.result.why))
-          (c.live-lived.result.part ≡ reader.Asking) (Proves (g.S.Subject.proves c.live-lived.result.subject) asks.0 f.0) c.conclude.ensures.told asks.2,
+      proof_finished (g.L.Launch.told c.live-lived.new.bay) (g.L.Launch.told c.conclude.new.bay) c.args.asked.now.job c.args.asked.now.most asks.0
+          c.live-lived.result.part f.0 (reader_from reader.Fresh c.conclude.result.events.events)
+          (c.live-lived.result.part ≡ reader.Asking → IsKilled (kept_by c.live-lived.result.why))
+          (c.live-lived.result.part ≡ reader.Asking) (Proves (g.S.Subject.proves c.live-lived.result.subject) asks.0 f.0) c.conclude.ensures.told c.live-lived.ensures.has_read asks.2 f.2,
       comes_finished (g.S.Subject.stands c.args.subject) (g.S.Subject.ends c.args.subject) (g.S.Subject.proves c.args.subject) (g.S.Subject.proves c.live-lived.result.subject)
           (NoneLeft r.0) (g.S.Subject.taken c.live-lived.result.subject) asks.0 c.live-lived.result.part f.0 (reader_from reader.Fresh c.conclude.result.events.events)
           (c.live-lived.result.part ≡ reader.Asking → IsKilled (kept_by c.live-lived.result.why))
-          ((asks.0 ≡ []) ⊎ IsProof (g.L.Launch.told c.live-lived.new.bay) c.args.asked.now.job c.args.asked.now.most asks.0)
+          (TookProof (g.L.Launch.told c.live-lived.new.bay) c.args.asked.now.job c.args.asked.now.most asks.0 f.0)
           r.3 c.live-lived.ensures.proves asks.2 f.2,
-      λ some. r.2.closed (subst (λ (n : ℕ). 0 < n) c.conclude.ensures.empty some),
+      (λ some. r.2.closed (subst (λ (n : ℕ). 0 < n) c.conclude.ensures.empty some)),
+      c.live-lived.ensures.most,
     )

@@ -18,7 +18,7 @@ returns-in-Err-Memory-clause-starts g c =
       [],
       none_started c.start.result c.in-Err-Memory.field-0 c.args.watch.now.terms.now.job (map string_bytes c.args.child.words.items) c.args.bytes.now bay (g.L.Launch.told c.start.new.self) c.in-Err-Memory.is c.in-Err-Memory.field-0-is told,
       none_for_want c.args.watch.now.terms.now.job (map string_bytes c.args.child.words.items) c.args.bytes.now
-          (ReadsScript (g.S.Subject.stands c.args.child.subject) (g.S.Subject.ends c.args.child.subject) (g.S.Subject.proves c.args.child.subject) bay c.args.watch.now.terms.now.job c.args.most c.args.reader_events.events)
+          (ReadsScript (g.S.Subject.stands c.args.child.subject) (g.S.Subject.ends c.args.child.subject) (g.S.Subject.proves c.args.child.subject) bay c.args.watch.now.terms.now.job c.args.most (g.S.Subject.most c.args.child.subject) c.args.reader_events.events)
           c.args.reader_events.events c.want.result c.want.ensures.is c.requires.fresh.1,
     )
 
@@ -39,7 +39,7 @@ returns-clause-starts g c =
     let words = map string_bytes c.args.child.words.items in
     let events = c.run_started.result.events.events in
     let told = rw c.as_slice.ensures.value at c.in-Ok.ensures.told in
-    let l = life (g.S.Subject.stands s) (g.S.Subject.ends s) (g.S.Subject.proves s) job words c.args.bytes.now c.args.most events
+    let l = life (g.S.Subject.stands s) (g.S.Subject.ends s) (g.S.Subject.proves s) job words c.args.bytes.now c.args.most (g.S.Subject.most s) events
     (g.L.Launch.told c.args.bay.now) (g.L.Launch.told c.start.new.self) (g.L.Launch.told c.run_started.new.bay) (g.L.Pipe.Pipe.told c.in-Ok.started.0)
     c.in-Ok.started told c.in-Ok.ensures.pipe c.run_started.ensures.ran in
     (start_of job words c.args.bytes.now (Some (bytes_read events)) ∷ [], l.told, inr (inr (c.run_started.ensures.started, l.reads, refl)))

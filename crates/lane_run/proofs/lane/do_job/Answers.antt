@@ -67,9 +67,9 @@ returns-then-serves-clause-starts g c =
     let bay' = L.told c.run_child.new.bay in
     let events = c.run_child.result.events.events in
     subst (λ (l : ℕ). (starts : List StartOf) × (bay' ≡ option_map (with_starts starts) bay)
-    × JobStarts (g.M.Makes.words m l) (g.M.Makes.file m) (g.M.Makes.stands m l) (g.M.Makes.ends m l) (g.M.Makes.proves m l) (g.M.Makes.most m) (name_at c.args.task.now.mode c.args.place) bay events c.run_child.result.end starts) c.lane-then-serves.ensures
+    × JobStarts (g.M.Makes.words m l) (g.M.Makes.file m) (g.M.Makes.stands m l) (g.M.Makes.ends m l) (g.M.Makes.proves m l) (g.M.Makes.most m) (g.M.Makes.most_output m l) (name_at c.args.task.now.mode c.args.place) bay events c.run_child.result.end starts) c.lane-then-serves.ensures
     (subst (λ (x : JobTerms). (starts : List StartOf) × (bay' ≡ option_map (with_starts starts) bay)
-    × JobStarts (g.M.Makes.words m c.lane-then-serves.result) (g.M.Makes.file m) (g.M.Makes.stands m c.lane-then-serves.result) (g.M.Makes.ends m c.lane-then-serves.result) (g.M.Makes.proves m c.lane-then-serves.result) (g.M.Makes.most m) x.job bay events c.run_child.result.end starts)
+    × JobStarts (g.M.Makes.words m c.lane-then-serves.result) (g.M.Makes.file m) (g.M.Makes.stands m c.lane-then-serves.result) (g.M.Makes.ends m c.lane-then-serves.result) (g.M.Makes.proves m c.lane-then-serves.result) (g.M.Makes.most m) (g.M.Makes.most_output m c.lane-then-serves.result) x.job bay events c.run_child.result.end starts)
     c.terms-terms.ensures c.run_child.ensures.starts)
 
 pub returns-else-serves-clause-starts : goal.returns-else-serves-clause-starts

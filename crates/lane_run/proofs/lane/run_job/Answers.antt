@@ -98,7 +98,7 @@ returns-in_default-clause-starts g c =
     let few : n < length r.events = omega (c.requires.place.1, c.requires.so_far.events, arith) in (
       [],
       no_more (g.L.Launch.told c.args.bay.now),
-      in_report (g.M.Makes.words m lane) (g.M.Makes.file m) (g.M.Makes.stands m lane) (g.M.Makes.ends m lane) (g.M.Makes.proves m lane) (g.M.Makes.most m) (name_at t.mode n) (g.L.Launch.told c.args.bay.now) n now end.Memory es []
+      in_report (g.M.Makes.words m lane) (g.M.Makes.file m) (g.M.Makes.stands m lane) (g.M.Makes.ends m lane) (g.M.Makes.proves m lane) (g.M.Makes.most m) (g.M.Makes.most_output m lane) (name_at t.mode n) (g.L.Launch.told c.args.bay.now) n now end.Memory es []
           (one_end n r now end.Memory es c.requires.so_far.ends c.want_lists.ensures.report) (one_events n r now end.Memory es c.requires.so_far.ends c.want_lists.ensures.report few) (inl (tt, refl, refl)),
     )
 
@@ -118,7 +118,7 @@ returns-in_default-new-clause-starts g c =
     let few : n < length r.events = omega (c.requires.place.1, c.requires.so_far.events, arith) in (
       [],
       no_more (g.L.Launch.told c.args.bay.now),
-      in_report (g.M.Makes.words m lane) (g.M.Makes.file m) (g.M.Makes.stands m lane) (g.M.Makes.ends m lane) (g.M.Makes.proves m lane) (g.M.Makes.most m) (name_at t.mode n) (g.L.Launch.told c.args.bay.now) n now end.Memory es []
+      in_report (g.M.Makes.words m lane) (g.M.Makes.file m) (g.M.Makes.stands m lane) (g.M.Makes.ends m lane) (g.M.Makes.proves m lane) (g.M.Makes.most m) (g.M.Makes.most_output m lane) (name_at t.mode n) (g.L.Launch.told c.args.bay.now) n now end.Memory es []
           (one_end n r now end.Memory es c.requires.so_far.ends c.want_lists-in_default-new.ensures.report) (one_events n r now end.Memory es c.requires.so_far.ends c.want_lists-in_default-new.ensures.report few) (inl (tt, refl, refl)),
     )
 
@@ -143,6 +143,6 @@ returns-clause-starts g c =
     let h = c.do_job-end.ensures.starts in (
       h.0,
       h.1,
-      in_report (g.M.Makes.words m lane) (g.M.Makes.file m) (g.M.Makes.stands m lane) (g.M.Makes.ends m lane) (g.M.Makes.proves m lane) (g.M.Makes.most m) (name_at t.mode n) (g.L.Launch.told c.args.bay.now) n now e es h.0
+      in_report (g.M.Makes.words m lane) (g.M.Makes.file m) (g.M.Makes.stands m lane) (g.M.Makes.ends m lane) (g.M.Makes.proves m lane) (g.M.Makes.most m) (g.M.Makes.most_output m lane) (name_at t.mode n) (g.L.Launch.told c.args.bay.now) n now e es h.0
           (one_end n r now e es c.requires.so_far.ends is) (one_events n r now e es c.requires.so_far.ends is few) h.2,
     )

@@ -20,7 +20,7 @@ loop-place-init g c =
       remember = record { cells = refl; knows = λ place f h. h };
       same = (refl, refl);
       faults = record { later = (omega arith, omega arith, omega arith); each = λ j lt. absurd (omega (lt, arith)) };
-      starts = lane_unstarted (g.M.Makes.words t.makes.now c.args.report.now.lane) (g.M.Makes.file t.makes.now) (g.M.Makes.stands t.makes.now c.args.report.now.lane) (g.M.Makes.ends t.makes.now c.args.report.now.lane) (g.M.Makes.proves t.makes.now c.args.report.now.lane) (g.M.Makes.most t.makes.now) t.mode (g.L.Launch.told c.args.bay.now) c.args.report.now;
+      starts = lane_unstarted (g.M.Makes.words t.makes.now c.args.report.now.lane) (g.M.Makes.file t.makes.now) (g.M.Makes.stands t.makes.now c.args.report.now.lane) (g.M.Makes.ends t.makes.now c.args.report.now.lane) (g.M.Makes.proves t.makes.now c.args.report.now.lane) (g.M.Makes.most t.makes.now) (g.M.Makes.most_output t.makes.now c.args.report.now.lane) t.mode (g.L.Launch.told c.args.bay.now) c.args.report.now;
       of = c.requires.notes;
     }
 
@@ -45,9 +45,9 @@ loop-place-preserved g c =
       same = (e.same.0 ∙ l.invariant.same.0, e.same.1 ∙ l.invariant.same.1);
       faults = faults_more (record { starts = g.L.Launch.start_faults c.args.bay.now; reads = g.L.Launch.read_faults c.args.bay.now; holds = g.L.Launch.hold_faults c.args.bay.now }) (record { starts = g.L.Launch.start_faults l.bay; reads = g.L.Launch.read_faults l.bay; holds = g.L.Launch.hold_faults l.bay }) (record { starts = g.L.Launch.start_faults c.run_next.new.bay; reads = g.L.Launch.read_faults c.run_next.new.bay; holds = g.L.Launch.hold_faults c.run_next.new.bay })
           l.place l.report c.run_next.new.report e.faults.0 l.invariant.faults l.invariant.so_far.ends e.faults.1 e.faults.2;
-      starts = starts_more (g.M.Makes.words t.makes.now c.args.report.now.lane) (g.M.Makes.file t.makes.now) (g.M.Makes.stands t.makes.now c.args.report.now.lane) (g.M.Makes.ends t.makes.now c.args.report.now.lane) (g.M.Makes.proves t.makes.now c.args.report.now.lane) (g.M.Makes.most t.makes.now) t.mode
+      starts = starts_more (g.M.Makes.words t.makes.now c.args.report.now.lane) (g.M.Makes.file t.makes.now) (g.M.Makes.stands t.makes.now c.args.report.now.lane) (g.M.Makes.ends t.makes.now c.args.report.now.lane) (g.M.Makes.proves t.makes.now c.args.report.now.lane) (g.M.Makes.most t.makes.now) (g.M.Makes.most_output t.makes.now c.args.report.now.lane) t.mode
           (g.L.Launch.told c.args.bay.now) (g.L.Launch.told l.bay) (g.L.Launch.told c.run_next.new.bay) l.place l.report c.run_next.new.report e.starts.0 l.invariant.starts e.stand e.starts.1
-          (subst (λ (lane : ℕ). (CameLate c.run_next.new.report l.place × (e.starts.0 ≡ [])) ⊎ JobStarts (g.M.Makes.words t.makes.now lane) (g.M.Makes.file t.makes.now) (g.M.Makes.stands t.makes.now lane) (g.M.Makes.ends t.makes.now lane) (g.M.Makes.proves t.makes.now lane) (g.M.Makes.most t.makes.now) (name_at t.mode l.place)
+          (subst (λ (lane : ℕ). (CameLate c.run_next.new.report l.place × (e.starts.0 ≡ [])) ⊎ JobStarts (g.M.Makes.words t.makes.now lane) (g.M.Makes.file t.makes.now) (g.M.Makes.stands t.makes.now lane) (g.M.Makes.ends t.makes.now lane) (g.M.Makes.proves t.makes.now lane) (g.M.Makes.most t.makes.now) (g.M.Makes.most_output t.makes.now lane) (name_at t.mode l.place)
           (g.L.Launch.told l.bay) (events_at c.run_next.new.report l.place).reader (end_at c.run_next.new.report l.place) e.starts.0) l.invariant.same.0 e.starts.2);
       of = e.remember.cells ∙ l.invariant.of;
     }
@@ -80,7 +80,7 @@ returns-clause-starts g c =
     let t = c.args.task.now in
     let l = c.loop-place in
     let at : l.place ≡ c.args.report.now.jobs = omega (c.loop-place-test.false, c.loop-place.auto.place-end, c.jobs-place-end.ensures.jobs, arith) in
-    subst (λ (n : ℕ). LaneStarts (g.M.Makes.words t.makes.now c.args.report.now.lane) (g.M.Makes.file t.makes.now) (g.M.Makes.stands t.makes.now c.args.report.now.lane) (g.M.Makes.ends t.makes.now c.args.report.now.lane) (g.M.Makes.proves t.makes.now c.args.report.now.lane) (g.M.Makes.most t.makes.now) t.mode
+    subst (λ (n : ℕ). LaneStarts (g.M.Makes.words t.makes.now c.args.report.now.lane) (g.M.Makes.file t.makes.now) (g.M.Makes.stands t.makes.now c.args.report.now.lane) (g.M.Makes.ends t.makes.now c.args.report.now.lane) (g.M.Makes.proves t.makes.now c.args.report.now.lane) (g.M.Makes.most t.makes.now) (g.M.Makes.most_output t.makes.now c.args.report.now.lane) t.mode
     (g.L.Launch.told c.args.bay.now) (g.L.Launch.told l.bay) n l.report) at l.invariant.starts
 
 pub returns-clause-stopped : goal.returns-clause-stopped

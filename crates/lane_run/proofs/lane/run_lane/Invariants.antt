@@ -16,6 +16,6 @@ invariant-loop-place g l = record {
   faults : LaneFaults (record { starts = g.L.Launch.start_faults l.fn.bay; reads = g.L.Launch.read_faults l.fn.bay; holds = g.L.Launch.hold_faults l.fn.bay })
       (record { starts = g.L.Launch.start_faults l.bay; reads = g.L.Launch.read_faults l.bay; holds = g.L.Launch.hold_faults l.bay }) l.place l.report;
   starts : LaneStarts (g.M.Makes.words l.task.makes.now l.fn.report.lane) (g.M.Makes.file l.task.makes.now) (g.M.Makes.stands l.task.makes.now l.fn.report.lane) (g.M.Makes.ends l.task.makes.now l.fn.report.lane) (g.M.Makes.proves l.task.makes.now l.fn.report.lane)
-      (g.M.Makes.most l.task.makes.now) l.task.mode (g.L.Launch.told l.fn.bay) (g.L.Launch.told l.bay) l.place l.report;
+      (g.M.Makes.most l.task.makes.now) (g.M.Makes.most_output l.task.makes.now l.fn.report.lane) l.task.mode (g.L.Launch.told l.fn.bay) (g.L.Launch.told l.bay) l.place l.report;
   of : AreNotesOf l.task.cells.now l.notes;
 }

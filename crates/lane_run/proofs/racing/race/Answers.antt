@@ -111,12 +111,12 @@ returns-clause-starts g c = λ i b d q was is told.
     let n = length c.args.task.now.cells.now in
     let told_of = g.L.Launch.told in
     let old = c.as_mut_slice.result.now in
-    related bay report (λ (k h : g.row.L.Denot) (r : ReportOf g.row.T.Denot). LaneStarts (g.M.Makes.words m i) (g.M.Makes.file m) (g.M.Makes.stands m i) (g.M.Makes.ends m i) (g.M.Makes.proves m i) (g.M.Makes.most m) c.args.task.now.mode (told_of k) (told_of h) n r)
+    related bay report (λ (k h : g.row.L.Denot) (r : ReportOf g.row.T.Denot). LaneStarts (g.M.Makes.words m i) (g.M.Makes.file m) (g.M.Makes.stands m i) (g.M.Makes.ends m i) (g.M.Makes.proves m i) (g.M.Makes.most m) (g.M.Makes.most_output m i) c.args.task.now.mode (told_of k) (told_of h) n r)
     old now i b d q (ap (λ (l : List g.row.L.Denot). slice_get l i) before ∙ was) (ap (λ (l : List g.row.L.Denot). slice_get l i) (sym bays) ∙ is) (ap (λ (l : List (ReportOf g.row.T.Denot)). slice_get l i) (sym reports) ∙ told)
     (λ x lt.
     let at : (slice_index_or old i x).report.lane ≡ i = ap (λ (l : List (Lane g.row.L.Denot g.row.T.Denot)). (slice_index_or l i x).report.lane) c.as_mut_slice.ensures.value
     ∙ c.in_ok-lanes.ensures.places i x (subst (λ (l : List (Lane g.row.L.Denot g.row.T.Denot)). i < length l) c.as_mut_slice.ensures.value lt) in
-    subst (λ (lane : ℕ). LaneStarts (g.M.Makes.words m lane) (g.M.Makes.file m) (g.M.Makes.stands m lane) (g.M.Makes.ends m lane) (g.M.Makes.proves m lane) (g.M.Makes.most m) c.args.task.now.mode (told_of (slice_index_or old i x).bay) (told_of (slice_index_or now i x).bay) n (slice_index_or now i x).report) at
+    subst (λ (lane : ℕ). LaneStarts (g.M.Makes.words m lane) (g.M.Makes.file m) (g.M.Makes.stands m lane) (g.M.Makes.ends m lane) (g.M.Makes.proves m lane) (g.M.Makes.most m) (g.M.Makes.most_output m lane) c.args.task.now.mode (told_of (slice_index_or old i x).bay) (told_of (slice_index_or now i x).bay) n (slice_index_or now i x).report) at
     (c.run_lanes.ensures.starts i x lt))
 
 pub returns-clause-stopped : goal.returns-clause-stopped

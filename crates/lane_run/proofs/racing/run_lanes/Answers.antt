@@ -34,9 +34,9 @@ returns-clause-starts g c = λ k d lt.
     let n = length c.args.task.now.cells.now in
     let m = c.args.task.now.makes.now in
     let told = g.L.Launch.told in
-    subst (λ (l : Lane g.row.L.Denot g.row.T.Denot). LaneStarts (g.M.Makes.words m l.report.lane) (g.M.Makes.file m) (g.M.Makes.stands m l.report.lane) (g.M.Makes.ends m l.report.lane) (g.M.Makes.proves m l.report.lane) (g.M.Makes.most m) c.args.task.now.mode
+    subst (λ (l : Lane g.row.L.Denot g.row.T.Denot). LaneStarts (g.M.Makes.words m l.report.lane) (g.M.Makes.file m) (g.M.Makes.stands m l.report.lane) (g.M.Makes.ends m l.report.lane) (g.M.Makes.proves m l.report.lane) (g.M.Makes.most m) (g.M.Makes.most_output m l.report.lane) c.args.task.now.mode
     (told l.bay) (told (slice_index_or c.for_each_mut.new.s k d).bay) n (slice_index_or c.for_each_mut.new.s k d).report) at.argument_is
-    (subst (λ (l : Lane g.row.L.Denot g.row.T.Denot). LaneStarts (g.M.Makes.words m at.argument.now.report.lane) (g.M.Makes.file m) (g.M.Makes.stands m at.argument.now.report.lane) (g.M.Makes.ends m at.argument.now.report.lane) (g.M.Makes.proves m at.argument.now.report.lane) (g.M.Makes.most m) c.args.task.now.mode
+    (subst (λ (l : Lane g.row.L.Denot g.row.T.Denot). LaneStarts (g.M.Makes.words m at.argument.now.report.lane) (g.M.Makes.file m) (g.M.Makes.stands m at.argument.now.report.lane) (g.M.Makes.ends m at.argument.now.report.lane) (g.M.Makes.proves m at.argument.now.report.lane) (g.M.Makes.most m) (g.M.Makes.most_output m at.argument.now.report.lane) c.args.task.now.mode
     (told at.argument.now.bay) (told l.bay) n l.report) at.left at.call.1.1.1.0)
 
 pub returns-clause-stopped : goal.returns-clause-stopped

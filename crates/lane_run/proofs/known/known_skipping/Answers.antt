@@ -2,7 +2,7 @@ use Rattle.std.proofs.Common.{inl, inr, List, Contains, sym, subst}
 use Rattle.race_core.specs.Report.{EventsOf}
 use Rattle.race_core.specs.declared.end.JobEnd.{JobEnd}
 use Rattle.race_core.specs.declared.end.JobEnd.TheVariants as end
-use Rattle.lane_run.proofs.known.known_needless.Goals as goal
+use Rattle.lane_run.proofs.known.known_skipping.Goals as goal
 
 pub returns-in-None : goal.returns-in-None
 returns-in-None g c = λ f known needless. elim known [
