@@ -4,3 +4,4 @@ pub mod Solving
 pub mod Playing
 pub mod Origins
 pub mod OneBit
+pub mod Refusing

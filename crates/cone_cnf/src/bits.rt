@@ -4,9 +4,9 @@ ghost use Rattle.std.specs.Prelude.{◌≡◌, ◌↔◌, ◌≤◌, ◌^◌, If
 ghost use Rattle.cnf_form.specs.Cnf.{Assignment, Satisfies};
 ghost use Rattle.model_core.specs.Choices.{AreChoicesFor};
 ghost use Rattle.sby_terms.specs.Span.{IsSpan};
-ghost use Rattle.job_cnf.specs.Encoding.{CanBeSatisfied, CanPass, IsDecoded, Propagates, decoded, empty_job};
-ghost use Rattle.job_cnf.specs.Jobs.{AsksNothing, IsJob, Solvable, frames};
-ghost use Rattle.cone_cnf.specs.Asking.{HasOriginsInBits};
+ghost use Rattle.job_cnf.specs.Encoding.{CanBeSatisfied, IsDecoded, Propagates, decoded, empty_job};
+ghost use Rattle.job_cnf.specs.Jobs.{AsksNothing, IsJob, Solvable};
+ghost use Rattle.cone_cnf.specs.Asking.{HasOriginsInBits, IsTooMany};
 
 use crate::encoding::{Encoded, encode_registers};
 use job_cnf::TooMany;
@@ -31,8 +31,7 @@ pub fn encode(
     requires job { IsJob model.now job span }
     requires high { span.depth ≤ 100000 }
     ensures solvable { IfOk result (λ r. IfOk r (λ e. CanBeSatisfied e.formula ↔ Solvable model.now job span)) }
-    ensures too_many { IfOk result (λ r. IfErr r (λ _. CanPass model.now (frames job span))) }
-    ensures asks { IfOk result (λ r. IfErr r (λ _. AsksNothing model.now job → ⊥)) }
+    ensures too_many { IfOk result (λ r. IfErr r (λ _. IsTooMany model.now job span)) }
     ensures vars { IfOk result (λ r. IfOk r (λ e. (1 ≤ e.formula.vars) × (e.formula.vars ≤ 2 ^ 27))) }
     ensures propagates { IfOk result (λ r. IfOk r (λ e. Propagates e)) }
     ensures origins { IfOk result (λ r. IfOk r (λ e. HasOriginsInBits model.now job span e)) }

@@ -4,8 +4,10 @@
 mod bits;
 mod encoding;
 mod kept;
+mod laws;
 mod spreading;
 
 pub use bits::encode;
 pub use encoding::Encoded;
 pub use job_cnf::TooMany;
+pub use laws::cones_take_no_more;

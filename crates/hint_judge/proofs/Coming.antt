@@ -9,12 +9,13 @@ use Rattle.std.proofs.lemmas.List.Elements.{Contains-append_left, Contains-push}
 use Rattle.lrat_check.specs.Hints.{Live, put}
 use Rattle.lrat_check.proofs.Admitting.{Hinted-admitted, LiveAmong, numbered_among}
 use Rattle.hint_stream.specs.declared.mode.Hint.{Hint}
-use Rattle.hint_judge.specs.declared.stream.CertKind.TheVariants.{BadHint}
+use Rattle.stream_judge.specs.declared.stream.CertKind.TheVariants.{BadHint}
 use Rattle.hint_stream.specs.Lines.{sayings}
 use Rattle.hint_stream.specs.Telling.{HintSaying, IsClause, IsDelete, IsValue, IsValuesEnd, IsUnknown, IsFault}
 use Rattle.sby_terms.specs.declared.names.Answer.TheVariants.{Sat, Unsat}
-use Rattle.hint_judge.specs.Fate.{Fate, Found, Bad, ByHints, ComesTo, FateSoFar, FateOf, Held, HintsComeTo, added, deleted, first_bad, held_first, ids_of, without}
-use Rattle.hint_judge.specs.Values.{named, unnamed}
+use Rattle.hint_judge.specs.Fate.{ByHints, ComesTo, FateSoFar, FateOf, Held, HintsComeTo, added, deleted, first_bad, held_first, ids_of, without}
+use Rattle.stream_judge.specs.Fate.{Fate, Found, Bad}
+use Rattle.stream_judge.specs.Values.{named, unnamed}
 
 -- what a clause comes to that completes the certificate for Unsat, or behind which it is completed
 pub by_hints : (o : Option Hint) (rest : Type 0) (fate : Fate) → ((h : Hint) → Some fate ≡ Some (Bad BadHint h.place) → ⊥) → ByHints o rest (Some fate) → rest

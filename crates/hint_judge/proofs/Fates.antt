@@ -9,13 +9,14 @@ use Rattle.hint_stream.specs.Lines.{sayings}
 use Rattle.hint_stream.specs.Telling.{HintSaying, IsClause, IsDelete, IsValue, IsValuesEnd, IsUnknown, IsFault}
 use Rattle.hint_stream.proofs.GoingOn.{sayings_more, sayings_end}
 use Rattle.sby_terms.specs.declared.names.Answer.TheVariants.{Sat, Unsat}
-use Rattle.hint_judge.specs.declared.stream.CertKind.TheVariants.{EarlyEnd, TooLong}
-use Rattle.hint_judge.specs.Values.{named, unnamed}
-use Rattle.hint_judge.specs.Fate.{Fate, Found, Bad, ByHints, Comes, ComesTo, Held, HintsComeTo, added, deleted, first_bad, held_first, FateSoFar, FateOf, IsFate, IsFateSoFar}
+use Rattle.stream_judge.specs.declared.stream.CertKind.TheVariants.{EarlyEnd, TooLong}
+use Rattle.stream_judge.specs.Values.{named, unnamed}
+use Rattle.hint_judge.specs.Fate.{ByHints, Comes, ComesTo, Held, HintsComeTo, added, deleted, first_bad, held_first, FateSoFar, FateOf, IsFate, IsFateSoFar}
+use Rattle.stream_judge.specs.Fate.{Fate, Found, Bad}
 use Rattle.lrat_check.specs.Hints.{Live}
 use Rattle.hint_stream.specs.declared.mode.Hint.{Hint}
 use Rattle.hint_judge.proofs.Coming.{sides, refuted_at_end, satisfied_at_end}
-use Rattle.hint_judge.proofs.Valuing.{values_once}
+use Rattle.stream_judge.proofs.Valuing.{values_once}
 
 -- what is said later changes no fate
 hints_more : (o : Option Hint) (A B : Type 0) (fate : Option Fate) → (A → B) → ByHints o A fate → ByHints o B fate
@@ -142,6 +143,18 @@ module _ (f : FormulaOf) (most : ℕ) where
       elim (sides (length bytes) most) [
         | inl l ↦ one_within bytes x y (h.within l) (k.within l)
         | inr l ↦ some_same x y (one_so_far bytes (Some x) (Some y) (h.beyond l) (k.beyond l))
+      ]
+
+  past_none : (bytes : List ℕ) → Beyond bytes None → ⊥
+  past_none bytes (inl (v, a, e)) = absurd (let q = e in cc)
+  past_none bytes (inr (a, e)) = absurd (let q = e in cc)
+
+  -- where there is no fate yet, no byte is too much
+  pub within_so_far : (bytes : List ℕ) → FateSoFar f bytes most None → length bytes ≤ most
+  within_so_far bytes h =
+      elim (sides (length bytes) most) [
+        | inl l ↦ l
+        | inr l ↦ absurd (past_none bytes (h.beyond l))
       ]
 
 -- of the formula that a job's file is

@@ -10,15 +10,17 @@ use Rattle.cert_stream.specs.Telling.{answer, is_stopped}
 use Rattle.cert_stream.specs.declared.feeding.Fed.{Fed}
 use Rattle.cert_stream.specs.declared.feeding.Fed.TheVariants.{More, Stopped}
 use Rattle.cert_stream.specs.declared.mode.WireFault.{WireFault}
-use Rattle.hint_judge.specs.declared.stream.CertKind.{CertKind}
-use Rattle.hint_judge.specs.declared.stream.CertKind.TheVariants.{NotSatisfying, BadId, BadHint, NotHinted}
-use Rattle.hint_judge.specs.declared.stream.Outcome.{Outcome}
-use Rattle.hint_judge.specs.declared.stream.Outcome.TheVariants.{Refuted, Satisfied, Unknown as UnknownOutcome, Bad as BadOutcome}
-use Rattle.hint_judge.specs.Fate.{Fate, ByHints, ComesTo, Held, is_good, HintsComeTo, added, cert_kind, deleted, first_bad, held, held_first, ids_of, without}
+use Rattle.stream_judge.specs.declared.stream.CertKind.{CertKind}
+use Rattle.stream_judge.specs.declared.stream.CertKind.TheVariants.{NotSatisfying, BadId, BadHint, NotHinted}
+use Rattle.stream_judge.specs.declared.stream.Outcome.{Outcome}
+use Rattle.stream_judge.specs.declared.stream.Outcome.TheVariants.{Refuted, Satisfied, Unknown as UnknownOutcome, Bad as BadOutcome}
+use Rattle.hint_judge.specs.Fate.{ByHints, ComesTo, Held, is_good, HintsComeTo, added, deleted, first_bad, held, held_first, ids_of, without}
+use Rattle.stream_judge.specs.Fate.{Fate, cert_kind}
 use Rattle.lrat_check.specs.Hints.{IsHinted, Live, numbered, put}
 use Rattle.lrat_check.specs.Checking.{HasAdded, HintedOf, Starts, live_of}
 use Rattle.hint_stream.specs.declared.mode.Hint.{Hint}
-use Rattle.hint_judge.specs.Values.{IsFirstUnsatisfied, named, named_from, value_lits, values_of}
+use Rattle.hint_judge.specs.Values.{value_lits}
+use Rattle.stream_judge.specs.Values.{IsFirstUnsatisfied, named, named_from, values_of}
 use Rattle.hint_judge.specs.Leading.{CertificateOf, ComesBy, NamesBy, Leads, Heard, Hears, concluded, with_outcome}
 
 -- nothing more

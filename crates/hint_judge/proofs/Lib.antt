@@ -1,4 +1,3 @@
-pub mod Valuing
 pub mod Coming
 pub mod Fates
 pub mod Leading

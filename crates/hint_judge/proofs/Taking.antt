@@ -10,14 +10,17 @@ use Rattle.hint_stream.proofs.Cutting.{after_append, said_append, stands_append}
 use Rattle.hint_stream.proofs.Streams.{stream_spoken}
 use Rattle.hint_stream.proofs.GoingOn.{sayings_more, sayings_end}
 use Rattle.sby_terms.specs.declared.names.Answer.TheVariants.{Sat}
-use Rattle.hint_judge.specs.declared.stream.CertKind.TheVariants.{EarlyEnd, TooLong}
-use Rattle.hint_judge.specs.declared.stream.Outcome.{Outcome}
-use Rattle.hint_judge.specs.declared.stream.Outcome.TheVariants.{Refuted, Satisfied, Unknown as UnknownOutcome, Bad as BadOutcome}
-use Rattle.hint_judge.specs.Fate.{Fate, Found, Bad, Comes, ComesTo, Held, HintsComeTo, added, deleted, first_bad, held, held_first, FateOf, FateSoFar}
-use Rattle.hint_judge.specs.Outcomes.{fate_of, fate_told}
-use Rattle.hint_judge.specs.Values.{named, named_from, stream_values, unnamed, value_lits, values_of, values_said}
+use Rattle.stream_judge.specs.declared.stream.CertKind.TheVariants.{EarlyEnd, TooLong}
+use Rattle.stream_judge.specs.declared.stream.Outcome.{Outcome}
+use Rattle.stream_judge.specs.declared.stream.Outcome.TheVariants.{Refuted, Satisfied, Unknown as UnknownOutcome, Bad as BadOutcome}
+use Rattle.hint_judge.specs.Fate.{Comes, ComesTo, Held, HintsComeTo, added, deleted, first_bad, held, held_first, FateOf, FateSoFar}
+use Rattle.stream_judge.specs.Fate.{Fate, Found, Bad}
+use Rattle.stream_judge.specs.Outcomes.{fate_of, fate_told}
+use Rattle.hint_judge.specs.Values.{stream_values, value_lits, values_said}
+use Rattle.stream_judge.specs.Values.{named, named_from, unnamed, values_of}
 use Rattle.hint_judge.specs.Leading.{Begins, CertificateOf, ComesBy, NamesBy, Leads, Heard, TakesPiece, TakesEnd, outcome_or, with_outcome}
-use Rattle.hint_judge.specs.Judging.{AreValuesOf, AreValuesTold, Ends, Feeds, HasOutcome, IsAt, IsOver, JudgeOf, Stands, StandsBy}
+use Rattle.hint_judge.specs.Judging.{Ends, Feeds, HasOutcome, IsAt, IsOver, JudgeOf, Stands, StandsBy}
+use Rattle.stream_judge.specs.Judging.{AreValuesOf, AreValuesTold}
 use Rattle.hint_judge.proofs.Coming.{by_hints, sides}
 use Rattle.hint_judge.proofs.Fates.{fate_stays, fate_at_end, take_front}
 use Rattle.hint_judge.proofs.Leading.{certificate}

@@ -1,34 +1,16 @@
 -- What a stream comes to: a certificate, or why it is none.
 use Rattle.std.specs.Prelude.{◌&&◌, cond, not, is_some, map, ◌≡◌, ◌≢◌, ◌⊎◌, ℕ, ◌<◌, ◌≤◌, Bool, true, false, List, [], ◌∷◌, ◌++◌, length, take, Option, Some, None}
-use Rattle.cnf_form.specs.Cnf.{LitOf, FormulaOf, Assignment, Satisfies}
+use Rattle.cnf_form.specs.Cnf.{LitOf, FormulaOf, Assignment}
 use Rattle.cnf_form.specs.Dimacs.{IsDimacs}
 use Rattle.hint_stream.specs.Lines.{sayings}
 use Rattle.hint_stream.specs.Telling.{HintSaying, IsClause, IsDelete, IsValue, IsValuesEnd, IsUnknown, IsFault}
-use Rattle.cert_stream.specs.declared.mode.WireFaultKind.{WireFaultKind}
-use Rattle.cert_stream.specs.declared.mode.WireFaultKind.TheVariants.{BadLine, BadLiteral, LineTooLong}
-use Rattle.sby_terms.specs.declared.names.Answer.{Answer}
-use Rattle.sby_terms.specs.declared.names.Answer.TheVariants.{Sat, Unsat}
-use Rattle.hint_judge.specs.declared.stream.CertKind.{CertKind}
-use Rattle.hint_judge.specs.declared.stream.CertKind.TheVariants.{BadLine as BadLineKind, BadLiteral as BadLiteralKind, LineTooLong as LineTooLongKind, NotSatisfying, TooLong, EarlyEnd, BadId, BadHint, NotHinted}
-use Rattle.hint_judge.specs.Values.{IsFirstUnsatisfied, named, unnamed}
+use Rattle.sby_terms.specs.declared.names.Answer.TheVariants.{Unsat}
+use Rattle.stream_judge.specs.Fate.{Fate, Found, Unknown, Bad, ValuesComeTo, cert_kind}
+use Rattle.stream_judge.specs.Values.{named, unnamed}
+use Rattle.stream_judge.specs.declared.stream.CertKind.TheVariants.{TooLong, EarlyEnd, BadId, BadHint, NotHinted}
 use Rattle.lrat_check.specs.Checking.{HintedOf, live_of}
 use Rattle.lrat_check.specs.Hints.{IsHinted, Live, numbered, put}
 use Rattle.hint_stream.specs.declared.mode.Hint.{Hint}
-
--- a certificate for an answer; the engine doesn't know; or a fault, by its kind and place
-pub data Fate : Type 0 where
-  Found : Answer → Fate
-  Unknown : Fate
-  Bad : CertKind → ℕ → Fate
-
-abbrev pub cert_kind : WireFaultKind → CertKind
-cert_kind BadLine = BadLineKind
-cert_kind BadLiteral = BadLiteralKind
-cert_kind LineTooLong = LineTooLongKind
-
--- What values that end come to: a certificate where they satisfy all clauses, else the first clause that they don't satisfy.
-abbrev pub ValuesComeTo : List (List LitOf) → Assignment → Option Fate → Type 0
-ValuesComeTo C x fate = (Satisfies x C × (fate ≡ Some (Found Sat))) ⊎ ((n : ℕ) × IsFirstUnsatisfied x C n × (fate ≡ Some (Bad NotSatisfying n)))
 
 -- the live clauses with their ids, and the highest id so far
 pub record Held : Type 0 where

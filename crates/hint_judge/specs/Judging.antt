@@ -1,15 +1,17 @@
 -- A judge of a stream, and what its answers tell.
 use Rattle.std.specs.Prelude.{◌≡◌, ℕ, ◌+◌, ◌≤◌, Bool, true, false, List, ◌++◌, length, Option, Some, None}
-use Rattle.cnf_form.specs.Cnf.{LitOf, Assignment, FormulaOf, Satisfies}
+use Rattle.cnf_form.specs.Cnf.{FormulaOf}
 use Rattle.cnf_form.specs.Dimacs.{IsDimacs}
 use Rattle.hint_stream.specs.Machine.{HintOf, fault_of}
 use Rattle.hint_stream.specs.Telling.{HintSaying, StandsFor, fresh, said}
-use Rattle.hint_judge.specs.Values.{named_from, stream_values, value_lits, values_of, values_said}
-use Rattle.hint_judge.specs.Fate.{Fate, held, Comes, ComesTo, FateOf, FateSoFar, IsFate, IsFateSoFar}
+use Rattle.hint_judge.specs.Values.{stream_values, value_lits, values_said}
+use Rattle.stream_judge.specs.Values.{named_from, values_of}
+use Rattle.hint_judge.specs.Fate.{held, Comes, ComesTo, FateOf, FateSoFar, IsFate, IsFateSoFar}
+use Rattle.stream_judge.specs.Fate.{Fate}
 use Rattle.lrat_check.specs.Checking.{HintedOf}
-use Rattle.hint_judge.specs.Outcomes.{fate_of, fate_told}
-use Rattle.hint_judge.specs.declared.stream.Outcome.{Outcome}
-use Rattle.hint_judge.specs.declared.stream.Outcome.TheVariants.{Refuted, Satisfied, Unknown as IsUnknown, Bad as IsBad}
+use Rattle.stream_judge.specs.Outcomes.{fate_of, fate_told}
+use Rattle.stream_judge.specs.declared.stream.Outcome.{Outcome}
+use Rattle.stream_judge.specs.Judging.{AreValuesOf, AreValuesTold}
 
 -- the formula, the greatest number of bytes, what is kept of the bytes so far, the clauses that are present, the values so far, the
 -- outcome once there is one, and whether memory was wanting
@@ -21,17 +23,6 @@ pub record JudgeOf : Type 0 where
   pub bits : List Bool
   pub outcome : Option Outcome
   pub wanting : Bool
-
--- where the outcome is Satisfied, the values, one for each variable, are x, and they satisfy the formula
-abbrev pub AreValuesOf : FormulaOf → Assignment → List Bool → Outcome → Type 0
-AreValuesOf f x bits Refuted = Unit {0}
-AreValuesOf f x bits Satisfied = (length bits ≡ f.vars + 1) × (values_of bits ≡ x) × Satisfies (values_of bits) f.clauses
-AreValuesOf f x bits IsUnknown = Unit {0}
-AreValuesOf f x bits (IsBad b) = Unit {0}
-
-abbrev pub AreValuesTold : FormulaOf → Assignment → List Bool → Option Outcome → Type 0
-AreValuesTold f x bits None = Unit {0}
-AreValuesTold f x bits (Some o) = AreValuesOf f x bits o
 
 -- The bytes, `most` at most, came to nothing yet, and no fault is in them: the wire stands for them; and whatever more is said comes
 -- from the present clauses and the values so far to what it comes to behind all that they say.

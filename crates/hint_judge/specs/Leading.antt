@@ -5,13 +5,15 @@ use Rattle.hint_stream.specs.Machine.{HintOf, at_end, fault_of}
 use Rattle.hint_stream.specs.Telling.{HintSaying, after, fault_said, said, told_by}
 use Rattle.cert_stream.specs.declared.feeding.Fed.{Fed}
 use Rattle.cert_stream.specs.declared.mode.WireFault.{WireFault}
-use Rattle.hint_judge.specs.Values.{named_from, value_lits, values_of}
-use Rattle.hint_judge.specs.Fate.{Fate, held, ComesTo, cert_kind, held_first}
+use Rattle.hint_judge.specs.Values.{value_lits}
+use Rattle.stream_judge.specs.Values.{named_from, values_of}
+use Rattle.hint_judge.specs.Fate.{held, ComesTo, held_first}
+use Rattle.stream_judge.specs.Fate.{Fate, cert_kind}
 use Rattle.lrat_check.specs.Checking.{HintedOf}
-use Rattle.hint_judge.specs.Outcomes.{fate_of}
-use Rattle.hint_judge.specs.declared.stream.CertKind.TheVariants.{EarlyEnd, TooLong}
-use Rattle.hint_judge.specs.declared.stream.Outcome.{Outcome}
-use Rattle.hint_judge.specs.declared.stream.Outcome.TheVariants.{Satisfied, Bad}
+use Rattle.stream_judge.specs.Outcomes.{fate_of}
+use Rattle.stream_judge.specs.declared.stream.CertKind.TheVariants.{EarlyEnd, TooLong}
+use Rattle.stream_judge.specs.declared.stream.Outcome.{Outcome}
+use Rattle.stream_judge.specs.declared.stream.Outcome.TheVariants.{Satisfied, Bad}
 
 -- the formula, the clauses that are present, the values so far, and the outcome once there is one
 pub record CertificateOf : Type 0 where

@@ -1,7 +1,5 @@
 -- Definitions.
 pub mod Values
 pub mod Fate
-pub mod Outcomes
 pub mod Leading
 pub mod Judging
-pub mod Numbers

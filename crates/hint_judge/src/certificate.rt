@@ -4,18 +4,18 @@ ghost use Rattle.std.specs.Prelude.{◌≡◌, ◌↔◌, ◌≤◌, ◌<◌, �
 ghost use Rattle.cnf_form.specs.Cnf.{ClauseWithin, FormulaOf};
 ghost use Rattle.hint_stream.specs.Machine.{HintOf, at_end, fault_of};
 ghost use Rattle.hint_stream.specs.Telling.{after, fault_said, said, told_by};
-ghost use Rattle.hint_judge.specs.Fate.{cert_kind, first_bad, ids_of, without};
+ghost use Rattle.hint_judge.specs.Fate.{first_bad, ids_of, without};
+ghost use Rattle.stream_judge.specs.Fate.{cert_kind};
 ghost use Rattle.lrat_check.specs.Checking.{live_of};
 ghost use Rattle.hint_judge.specs.Leading.{Begins, CertificateOf, Heard, Hears, Leads, concluded, outcome_or, with_outcome};
 
-use crate::stream::{BadCert, CertKind, Outcome};
-use crate::values::Values;
-use cert_stream::{Fed, WireFault, WireFaultKind};
+use cert_stream::{Fed, WireFault};
 use cnf_form::{Formula, Lit};
 use hint_stream::{Hint, HintReceiver, HintWire};
 use lrat_check::{Added, Hinted};
 use std::alloc::{AllocError, Global};
 use std::marker::Model;
+use stream_judge::{BadCert, CertKind, Outcome, Values, cert_kind};
 
 /// The clauses that are present and the values so far, for a formula, and the outcome once there is one.
 #[derive(Drop)]
@@ -180,16 +180,6 @@ fn delete_all(checker: &mut Hinted, ids: &[Hint])
 {
     for id in ids {
         checker.delete(id.id);
-    }
-}
-
-fn cert_kind(kind: WireFaultKind) -> CertKind
-    ensures { result ≡ cert_kind kind }
-{
-    match kind {
-        WireFaultKind::BadLine => CertKind::BadLine,
-        WireFaultKind::BadLiteral => CertKind::BadLiteral,
-        WireFaultKind::LineTooLong => CertKind::LineTooLong,
     }
 }
 

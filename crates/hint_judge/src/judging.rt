@@ -4,14 +4,14 @@ ghost use Rattle.std.specs.Prelude.{◌≡◌, ◌≤◌, ◌<◌, ◌+◌, ◌^
 ghost use Rattle.cnf_form.specs.Cnf.{FormulaOf};
 ghost use Rattle.hint_judge.specs.Judging.{Ends, Feeds, IsOver, IsSameJudge, JudgeOf, Stands};
 ghost use Rattle.hint_judge.specs.Leading.{TakesEnd, TakesPiece};
-ghost use Rattle.hint_judge.specs.declared.stream.Outcome.{Outcome};
+ghost use Rattle.stream_judge.specs.declared.stream.Outcome.{Outcome};
 
 use crate::certificate::Certificate;
-use crate::stream::{CertKind, Outcome};
 use cnf_form::Formula;
 use hint_stream::HintWire;
 use std::alloc::{AllocError, Global};
 use std::marker::Model;
+use stream_judge::{CertKind, Outcome};
 
 /// A judge of one stream as a certificate for a formula. It keeps no earlier bytes: a clause goes to the checker as it ends.
 #[derive(Drop)]

@@ -5,7 +5,8 @@ ghost use Rattle.cnf_form.specs.Cnf.{Assignment, FormulaOf, IsUnsatisfiable, Sat
 ghost use Rattle.cnf_form.specs.Dimacs.{IsDimacs};
 ghost use Rattle.sby_terms.specs.declared.names.Answer.{Answer};
 ghost use Rattle.sby_terms.specs.declared.names.Answer.TheVariants.{Sat, Unsat};
-ghost use Rattle.hint_judge.specs.Fate.{Fate, Found, IsFate, IsFateSoFar};
+ghost use Rattle.hint_judge.specs.Fate.{IsFate, IsFateSoFar};
+ghost use Rattle.stream_judge.specs.Fate.{Fate, Found};
 
 /// A fate that stands in the first bytes stays, whatever bytes follow, and is the stream's: so it doesn't matter how a stream is
 /// cut into pieces.

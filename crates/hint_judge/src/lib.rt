@@ -4,12 +4,9 @@
 mod certificate;
 mod judging;
 mod laws;
-mod stream;
-mod values;
 
 pub use judging::HintJudge;
 pub use laws::{
     fate_so_far_is_the_fate, fates_stay, found_sat_is_satisfiable, found_unsat_is_unsatisfiable,
     one_fate,
 };
-pub use stream::{BadCert, CertKind, Outcome};

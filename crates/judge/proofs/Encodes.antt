@@ -1,7 +1,6 @@
 -- The model of a design, and its jobs as they are encoded.
-use Rattle.std.proofs.Common.{◌≡◌, ℕ, zero, suc, ◌+◌, ◌-◌, ◌*◌, ◌^◌, ◌<◌, ◌≤◌, List, [], ◌∷◌, ◌++◌, length, map, take, All, Some, get_or, refl, sym, ap, subst, ◌∙◌, arith}
+use Rattle.std.proofs.Common.{◌≡◌, ℕ, zero, suc, ◌+◌, ◌-◌, ◌^◌, ◌<◌, ◌≤◌, List, [], ◌∷◌, ◌++◌, length, map, take, All, Some, get_or, refl, sym, ap, subst, ◌∙◌, arith}
 use Rattle.std.specs.Prelude.{◌↔◌, slice_get}
-use Rattle.std.proofs.Math.Nat.{mul-le-mul_left}
 use Rattle.std.proofs.lemmas.List.{length-map, map-append, take_more}
 use Rattle.std.proofs.lemmas.List.Elements.{All-contains, All-nil, All-push}
 use Rattle.std.proofs.lemmas.List.FromFn.{length-map-range_with_len}
@@ -14,12 +13,11 @@ use Rattle.design_core.proofs.Lists.{Contains-from_place}
 use Rattle.design_core.specs.Shape.{CellOf, DesignOf}
 use Rattle.design_meaning.specs.Meaning.{covers, is_cover}
 use Rattle.design_reader.specs.Grammar.{Reads}
-use Rattle.cone_cnf.specs.Asking.{HasOriginsInBits}
-use Rattle.job_cnf.specs.Encoding.{CanBeSatisfied, CanPass, EncodedOf, IsDecoded, Propagates, decoded, empty_job, frame_cost}
-use Rattle.job_cnf.specs.Jobs.{AsksNothing as AsksNothingOf, IsJob as IsJobOf, Solvable as SolvableOf, frames}
+use Rattle.cone_cnf.specs.Asking.{HasOriginsInBits, IsTooMany as IsTooManyOf}
+use Rattle.job_cnf.specs.Encoding.{CanBeSatisfied, EncodedOf, IsDecoded, Propagates, decoded, empty_job}
+use Rattle.job_cnf.specs.Jobs.{AsksNothing as AsksNothingOf, IsJob as IsJobOf, Solvable as SolvableOf}
 use Rattle.model_core.specs.Choices.{AreChoicesFor}
-use Rattle.model_core.specs.Shape.{ModelOf, states}
-use Rattle.model_laws.specs.Cost.{cost}
+use Rattle.model_core.specs.Shape.{ModelOf}
 use Rattle.sby_terms.specs.Problem.{ProblemOf}
 use Rattle.sby_terms.specs.Span.{IsSpan, slices_of}
 use Rattle.sby_terms.specs.declared.names.JobName.{JobName}
@@ -29,11 +27,12 @@ use Rattle.sby_terms.specs.declared.names.Mode.TheVariants.{Bmc, Prove, Cover as
 use Rattle.sby_terms.specs.declared.span.Span.{Span}
 use Rattle.judge.proofs.Carrying.{asks-from, solvable-from, solvable-to}
 use Rattle.judge.proofs.Problems.{numbered}
-use Rattle.judge.proofs.Slices.{slice-some, slices-some}
-use Rattle.judge.specs.Fault.{IsProblemFault}
-use Rattle.judge.specs.Jobs.{AsksNothing, IsSpanFor, jobs_in, jobs_of, span_of}
+use Rattle.judge.proofs.Refusing.{earlier_at, past_cost}
+use Rattle.judge.proofs.Slices.{slices-some}
+use Rattle.judge.specs.Fault.{IsProblemFault, IsTooMany}
+use Rattle.judge.specs.Jobs.{IsSpanFor, jobs_in, jobs_of, span_of}
 use Rattle.judge.specs.Problem.{IsEncodedJob}
-use Rattle.judge.specs.Stored.{AreEncoded, IsBuiltFor, IsStored, IsTooMany, JobOf, asked_by, names_in}
+use Rattle.judge.specs.Stored.{AreEncoded, IsBuiltFor, IsRefusedAmong, IsStored, JobOf, asked_by, names_in}
 use Rattle.judge.specs.declared.problem.ProblemFault.TheVariants.{TooMany}
 
 module _ (d : DesignOf) (m : ModelOf) (built : IsBuiltFor d m) where
@@ -71,28 +70,21 @@ module _ (d : DesignOf) (m : ModelOf) (built : IsBuiltFor d m) where
       let below : 0 + i < length m.covers = omega (arith, room, length-map-range_with_len Cover 0 (length (covers d)), built.model.covers) in
       subst (λ (j : JobName). IsJobOf m j span) (sym h) below
 
-  -- so many frames that the variables of the model can pass the bound pass it by the design's cost
-  pub past_cost : (n : ℕ) → 0 < n → CanPass m n → 2 ^ 27 < n * cost d
-  past_cost zero lt past = absurd (omega arith)
-  past_cost (suc n) lt past =
-      let each : suc n * (1 + length (states m) + frame_cost m) ≤ suc n * cost d = mul-le-mul_left (suc n) built.within in
-      let more : 1 + length (states m) + suc n * frame_cost m ≤ suc n * (1 + length (states m) + frame_cost m) = spread (length (states m)) (frame_cost m) n in
-      omega (arith, each, more, past)
-    where
-      spread : (s f n : ℕ) → 1 + s + suc n * f ≤ suc n * (1 + s + f)
-      spread s f n = omega arith
-
-  frames_some : (job : JobName) (span : Span) → IsSpan span → IsJobOf m job span → 0 < frames job span
-  frames_some (Base i) span is fits = omega (arith, slice-some span i is fits)
-  frames_some Step span is fits = omega arith
-  frames_some (Cover k) span is fits = omega (arith, is.some)
-
-  -- a job that has too many variables is a fault of the problem
-  pub too_many : (p : ProblemOf) (job : JobName) → IsSpan (span_of p) → Reads p.text d → IsFlat d → IsTooMany d m (span_of p) (jobs_of p d) job → IsProblemFault p (TooMany job)
+  -- a job that is refused is a fault of the problem
+  pub too_many : (p : ProblemOf) (job : JobName) → IsSpan (span_of p) → Reads p.text d → IsFlat d → IsRefusedAmong d m (span_of p) (jobs_of p d) job → IsProblemFault p (TooMany job)
   too_many p job is reads flat h =
-      let n = frames job (span_of p) in
-      let some : 0 < n = frames_some job (span_of p) is (job_fits p.mode (span_of p) h.0.0 job h.0.1) in
-      (d, reads, flat, h.0, h.1, past_cost n some h.2, (built.built.0, m, built.built.1, built.built.2, h.2, h.3))
+      let refused : IsTooMany d job (span_of p) = record {
+        asks = λ none. h.refused.asks (asks-from d m built.model job none);
+        order = built.built.0;
+        model = m;
+        ordered = built.built.1;
+        built = built.built.2;
+        refused = h.refused;
+        before = λ earlier is_earlier.
+            let w = earlier_at p.mode (span_of p) d h.place job earlier h.at is_earlier in
+            h.before w.0 earlier w.1 w.2;
+      } in
+      (d, reads, flat, (h.place, h.at), refused, past_cost d job (span_of p) built.design flat is refused)
 
 module _ (d : DesignOf) (m : ModelOf) (span : Span) (names : List JobName) where
   pub encoded_none : AreEncoded d m span (take 0 names) []
@@ -123,9 +115,9 @@ at-take (x ∷ xs) (suc i) zero lt = refl
 at-take (x ∷ xs) (suc i) (suc j) lt = at-take xs i j (omega (arith, lt))
 
 -- jobs of which all so far are encoded, and the next has too many variables
-pub refused_next : (d : DesignOf) (m : ModelOf) (span : Span) (names : List JobName) (i : ℕ) (job : JobName) (jobs : List JobOf) → slice_get names i ≡ Some job → (AsksNothing d job → ⊥) → CanPass m (frames job span)
-    → AreEncoded d m span (take i names) jobs → IsTooMany d m span names job
-refused_next d m span names i job jobs at asks passes h = ((i, at), asks, passes, (i, at, earlier))
+pub refused_next : (d : DesignOf) (m : ModelOf) (span : Span) (names : List JobName) (i : ℕ) (job : JobName) (jobs : List JobOf) → slice_get names i ≡ Some job → IsTooManyOf m job span
+    → AreEncoded d m span (take i names) jobs → IsRefusedAmong d m span names job
+refused_next d m span names i job jobs at refused h = record { place = i; at = at; refused = refused; before = earlier }
   where
     earlier : (j : ℕ) (name : JobName) → j < i → slice_get names j ≡ Some name → (e : EncodedOf) × IsEncodedJob d m name span e
     earlier j name lt here =

@@ -3,9 +3,11 @@ pub mod Cycles
 pub mod Problems
 pub mod Slices
 pub mod Carrying
+pub mod Refusing
 pub mod Encodes
 pub mod Truth
 pub mod Telling
 pub mod Zeros
 pub mod Files
 pub mod Claims
+pub mod Solving

@@ -2,23 +2,24 @@
 use Rattle.std.proofs.Common.{◌≡◌, ◌⊎◌, ℕ, Bool, true, false, List, Some, None, inl, inr, refl, sym, ap, subst, ◌∙◌}
 use Rattle.std.specs.Prelude.{IfOk, MatchOption, Option, Result, Ok, Err}
 use Rattle.std.specs.declared.alloc.AllocError.{AllocError}
-use Rattle.cnf_form.specs.Cnf.{Assignment, FormulaOf, IsUnsatisfiable}
+use Rattle.cnf_form.specs.Cnf.{Assignment, FormulaOf}
 use Rattle.cnf_form.specs.Dimacs.{IsDimacs}
 use Rattle.job_cnf.specs.Decoding.{values_of}
 use Rattle.job_cnf.specs.Encoding.{EncodedOf}
+use Rattle.kind_judge.specs.Fates.{IsFate, IsFateSoFar, stream_values}
+use Rattle.kind_judge.specs.Judging.{Feeds as StreamFeeds, IsOver, IsSameJudge as IsSameStream, KindOf, Stands, bits_of, formula_of, is_wanting, kind_of, most_of, outcome_of}
 use Rattle.sby_terms.specs.declared.names.Answer.{Answer}
 use Rattle.sby_terms.specs.declared.names.Answer.TheVariants.{Sat}
 use Rattle.sby_terms.specs.declared.names.JobName.{JobName}
-use Rattle.stream_judge.proofs.Coming.{refuted_at_end, refuted_so_far}
-use Rattle.stream_judge.specs.Fate.{Fate, Found, IsFate, IsFateSoFar}
-use Rattle.stream_judge.specs.Judging.{AreValuesTold, Ends as StreamEnds, Feeds as StreamFeeds, HasOutcome, IsSameJudge as IsSameStream, JudgeOf as StreamJudgeOf, Stands, StandsBy}
+use Rattle.stream_judge.specs.Fate.{Fate, Found}
+use Rattle.stream_judge.specs.Judging.{AreValuesTold}
 use Rattle.stream_judge.specs.Outcomes.{fate_of, fate_told as outcome_told}
-use Rattle.stream_judge.specs.Values.{stream_values}
 use Rattle.stream_judge.specs.declared.stream.BadCert.{BadCert}
 use Rattle.stream_judge.specs.declared.stream.Outcome.{Outcome}
 use Rattle.stream_judge.specs.declared.stream.Outcome.TheVariants.{Refuted, Satisfied, Unknown as UnknownOutcome, Bad as BadOutcome}
+use Rattle.stream_judge.specs.declared.stream.StreamKind.{StreamKind}
 use Rattle.judge.proofs.Problems.{one_formula}
-use Rattle.judge.specs.Judging.{Ends, Feeds, Finds, FindsPlayed, FindsRun, Heard, IsForJob, IsJudge, IsTrueOutcome, JudgeOf, fate_told, state_behind, state_told}
+use Rattle.judge.specs.Judging.{Ends, Feeds, Finds, FindsPlayed, FindsRunOf, Heard, IsForJob, IsJudge, IsTrueOutcome, JudgeOf, fate_told, state_behind, state_told}
 use Rattle.judge.specs.Played.{IsPlayed}
 use Rattle.judge.specs.Problem.{AskedOf, IsEncodedOf, IsFormulaOf}
 use Rattle.judge.specs.declared.judging.Progress.{Progress}
@@ -27,20 +28,18 @@ use Rattle.judge.specs.declared.judging.State.{State}
 use Rattle.judge.specs.declared.judging.State.TheVariants.{Reading, Over}
 
 -- what a stream's judge answers is true of its formula
-pub true_so_far : (old new : StreamJudgeOf) (bytes : List ℕ) (o : Option Outcome) → new.formula ≡ old.formula → StreamFeeds old new bytes o → IsTrueOutcome old.formula new.bits o
-true_so_far old new bytes None same f = tt
-true_so_far old new bytes (Some Refuted) same f =
-    let stands : HasOutcome new bytes Refuted = subst (λ (o : Option Outcome). StandsBy new bytes o) f.outcome f.stands in
-    subst (λ (z : FormulaOf). IsUnsatisfiable z.clauses) same (refuted_so_far new.formula bytes new.most stands.fate)
-true_so_far old new bytes (Some Satisfied) same f = let v = f.values in v.2
-true_so_far old new bytes (Some UnknownOutcome) same f = tt
-true_so_far old new bytes (Some (BadOutcome b)) same f = tt
+pub true_so_far : (old new : KindOf) (bytes : List ℕ) (o : Option Outcome) → StreamFeeds old new bytes o → IsTrueOutcome (formula_of old) (bits_of new) o
+true_so_far old new bytes None f = tt
+true_so_far old new bytes (Some Refuted) f = f.refuted refl
+true_so_far old new bytes (Some Satisfied) f = let v = f.values in v.2
+true_so_far old new bytes (Some UnknownOutcome) f = tt
+true_so_far old new bytes (Some (BadOutcome b)) f = tt
 
-pub true_at_end : (old new : StreamJudgeOf) (bytes : List ℕ) (o : Outcome) → new.formula ≡ old.formula → StreamEnds old new bytes o → IsTrueOutcome old.formula new.bits (Some o)
-true_at_end old new bytes Refuted same f = subst (λ (z : FormulaOf). IsUnsatisfiable z.clauses) same (refuted_at_end new.formula bytes new.most f.over.fate)
-true_at_end old new bytes Satisfied same f = let v = f.values in v.2
-true_at_end old new bytes UnknownOutcome same f = tt
-true_at_end old new bytes (BadOutcome b) same f = tt
+pub true_at_end : (j : KindOf) (bytes : List ℕ) (o : Outcome) → IsOver j bytes o → IsTrueOutcome (formula_of j) (bits_of j) (Some o)
+true_at_end j bytes Refuted f = f.refuted refl
+true_at_end j bytes Satisfied f = let v = f.values in v.2
+true_at_end j bytes UnknownOutcome f = tt
+true_at_end j bytes (BadOutcome b) f = tt
 
 -- where the fate is that the formula can be satisfied, the values are those that the stream names
 values_found : (f : FormulaOf) (x : Assignment) (bits : List Bool) (o : Option Outcome) (answer : Answer) → Some (Found answer) ≡ outcome_told o → answer ≡ Sat → AreValuesTold f x bits o → values_of bits ≡ x
@@ -51,51 +50,62 @@ values_found f x bits (Some UnknownOutcome) answer told sat v = cc
 values_found f x bits (Some (BadOutcome b)) answer told sat v = cc
 
 -- a run that is found is the stream's
-finds_run : (j : JudgeOf) (ended : Bool) (bytes : List ℕ) (bits : List Bool) (o : Option Outcome) (r : Result Progress BadCert) → IsFormulaOf j.asked j.job j.stream.formula
-    → FindsPlayed j.asked j.job (values_of bits) r → fate_told r ≡ outcome_told o → AreValuesTold j.stream.formula (stream_values j.stream.formula.vars ended bytes j.most) bits o → FindsRun j ended bytes r
-finds_run j ended bytes bits o (Ok More) formula played told v = tt
-finds_run j ended bytes bits o (Ok (Done f)) formula played told v = λ sat apart.
+pub finds_run : (p : AskedOf) (job : JobName) (kind : StreamKind) (most : ℕ) (g : FormulaOf) (ended : Bool) (bytes : List ℕ) (bits : List Bool) (o : Option Outcome) (r : Result Progress BadCert) → IsFormulaOf p job g
+    → FindsPlayed p job (values_of bits) r → fate_told r ≡ outcome_told o → AreValuesTold g (stream_values kind g.vars ended bytes most) bits o → FindsRunOf p job kind ended bytes most r
+finds_run p job kind most g ended bytes bits o (Ok More) formula played told v = tt
+finds_run p job kind most g ended bytes bits o (Ok (Done f)) formula played told v = λ sat apart.
     let s = played sat apart in
-    let one : s.0.formula ≡ j.stream.formula = one_formula j.asked j.job s.0.formula j.stream.formula (s.0, s.3, refl) formula in
-    let named = values_found j.stream.formula (stream_values j.stream.formula.vars ended bytes j.most) bits o f.answer told sat v in
-    let same = named ∙ sym (ap (λ (g : FormulaOf). stream_values g.vars ended bytes j.most) one) in
-    (s.1, s.2, (s.0, s.3, subst (λ (x : Assignment). IsPlayed j.asked s.0 x s.1) same s.4))
-finds_run j ended bytes bits o (Ok Unknown) formula played told v = tt
-finds_run j ended bytes bits o (Err b) formula played told v = tt
+    let one : s.0.formula ≡ g = one_formula p job s.0.formula g (s.0, s.3, refl) formula in
+    let named = values_found g (stream_values kind g.vars ended bytes most) bits o f.answer told sat v in
+    let same = named ∙ sym (ap (λ (z : FormulaOf). stream_values kind z.vars ended bytes most) one) in
+    (s.1, s.2, (s.0, s.3, subst (λ (x : Assignment). IsPlayed p s.0 x s.1) same s.4))
+finds_run p job kind most g ended bytes bits o (Ok Unknown) formula played told v = tt
+finds_run p job kind most g ended bytes bits o (Err b) formula played told v = tt
 
-abbrev pub judge_of : AskedOf → JobName → ℕ → StreamJudgeOf → State → JudgeOf
-judge_of p job most stream state = record { asked = p; job = job; most = most; stream = stream; state = state }
+abbrev pub judge_of : AskedOf → JobName → StreamKind → ℕ → KindOf → State → JudgeOf
+judge_of p job kind most stream state = record { asked = p; job = job; kind = kind; most = most; stream = stream; state = state }
 
-abbrev behind : JudgeOf → StreamJudgeOf → Result Progress BadCert → JudgeOf
+abbrev behind : JudgeOf → KindOf → Result Progress BadCert → JudgeOf
 behind j stream r = record j { stream = stream; state = state_behind r }
 
 -- more of a stream
-module _ (j : JudgeOf) (is : IsForJob j) (stream : StreamJudgeOf) (bytes : List ℕ) (r : Result Progress BadCert) (finds : Finds j.asked j.job r) (played : FindsPlayed j.asked j.job (values_of stream.bits) r) where
-  pub feeds : (o : Option Outcome) → StreamFeeds j.stream stream bytes o → fate_told r ≡ outcome_told o → Feeds j (behind j stream r) bytes r
-  feeds o f told = record {
-    same = (refl, refl, refl);
+module _ (j : JudgeOf) (stream : KindOf) (bytes : List ℕ) (r : Result Progress BadCert) (finds : Finds j.asked j.job r) (played : FindsPlayed j.asked j.job (values_of (bits_of stream)) r) where
+  pub feeds : IsForJob j → (o : Option Outcome) → StreamFeeds j.stream stream bytes o → fate_told r ≡ outcome_told o → Feeds j (behind j stream r) bytes r
+  feeds is o f told = record {
+    same = (refl, refl, refl, refl);
     state = refl;
     stands = λ reading. record { state = reading; stands = f.stands };
     over = λ over. record { state = over; heard = inl f.stands };
     finds = finds;
-    run = finds_run j false bytes stream.bits o r is.formula played told (subst (λ (most : ℕ). AreValuesTold j.stream.formula (stream_values j.stream.formula.vars false bytes most) stream.bits o) is.most f.values);
+    run =
+        let g = formula_of j.stream in
+        finds_run j.asked j.job j.kind j.most g false bytes (bits_of stream) o r is.formula played told
+        (subst (λ (kind : StreamKind). AreValuesTold g (stream_values kind g.vars false bytes j.most) (bits_of stream) o) is.kind
+        (subst (λ (most : ℕ). AreValuesTold g (stream_values (kind_of j.stream) g.vars false bytes most) (bits_of stream) o) is.most f.values));
     fate = λ file w.
-        let one = one_formula j.asked j.job w.0 j.stream.formula w.1 is.formula in
-        subst (λ (most : ℕ). IsFateSoFar file bytes most (fate_told r)) is.most
-        (subst (λ (fate : Option Fate). IsFateSoFar file bytes j.stream.most fate) (sym told) (f.fate file (subst (λ (g : FormulaOf). IsDimacs file g) one w.3)));
+        let one = one_formula j.asked j.job w.0 (formula_of j.stream) w.1 is.formula in
+        subst (λ (kind : StreamKind). IsFateSoFar kind file bytes j.most (fate_told r)) is.kind
+        (subst (λ (most : ℕ). IsFateSoFar (kind_of j.stream) file bytes most (fate_told r)) is.most
+        (subst (λ (fate : Option Fate). IsFateSoFar (kind_of j.stream) file bytes (most_of j.stream) fate) (sym told) (f.fate file (subst (λ (g : FormulaOf). IsDimacs file g) one w.3))));
   }
 
-  pub ends : (o : Outcome) → StreamEnds j.stream stream bytes o → fate_told r ≡ Some (fate_of o) → Ends j (behind j stream r) bytes r
-  ends o f told = record {
-    same = (refl, refl, refl);
+  pub ends : IsFormulaOf j.asked j.job (formula_of stream) → kind_of stream ≡ j.kind → most_of stream ≡ j.most → (o : Outcome) → IsOver stream bytes o → fate_told r ≡ Some (fate_of o) → Ends j (behind j stream r) bytes r
+  ends formula same_kind same_most o f told = record {
+    same = (refl, refl, refl, refl);
     state = refl;
-    over = λ over. record { state = over; heard = inr (o, f.over) };
+    over = λ over. record { state = over; heard = inr (o, f) };
     finds = finds;
-    run = finds_run j true bytes stream.bits (Some o) r is.formula played told (subst (λ (most : ℕ). AreValuesTold j.stream.formula (stream_values j.stream.formula.vars true bytes most) stream.bits (Some o)) is.most f.values);
+    run =
+        let g = formula_of stream in
+        finds_run j.asked j.job j.kind j.most g true bytes (bits_of stream) (Some o) r formula played told
+        (subst (λ (kind : StreamKind). AreValuesTold g (stream_values kind g.vars true bytes j.most) (bits_of stream) (Some o)) same_kind
+        (subst (λ (most : ℕ). AreValuesTold g (stream_values (kind_of stream) g.vars true bytes most) (bits_of stream) (Some o)) same_most f.values));
     fate = λ file w.
-        let one = one_formula j.asked j.job w.0 j.stream.formula w.1 is.formula in
-        let fate : IsFate file bytes j.stream.most (fate_of o) = f.fate file (subst (λ (g : FormulaOf). IsDimacs file g) one w.3) in
-        subst (λ (t : Option Fate). MatchOption t ⊥ (IsFate file bytes j.most)) (sym told) (subst (λ (most : ℕ). IsFate file bytes most (fate_of o)) is.most fate);
+        let one = one_formula j.asked j.job w.0 (formula_of stream) w.1 formula in
+        let fate : IsFate (kind_of stream) file bytes (most_of stream) (fate_of o) = f.fate file (subst (λ (g : FormulaOf). IsDimacs file g) one w.3) in
+        subst (λ (t : Option Fate). MatchOption t ⊥ (IsFate j.kind file bytes j.most)) (sym told)
+        (subst (λ (kind : StreamKind). IsFate kind file bytes j.most (fate_of o)) same_kind
+        (subst (λ (most : ℕ). IsFate (kind_of stream) file bytes most (fate_of o)) same_most fate));
   }
 
 -- a judge that told a fate doesn't read on
@@ -111,14 +121,14 @@ not_wanting true h = sym (h refl)
 not_wanting false h = refl
 
 -- the stream's judge tells the fate of what was taken, or tells it again
-pub ended : (old new : StreamJudgeOf) (bytes : List ℕ) (o : Outcome) → (old.wanting ≡ true → false ≡ true) → ((p : Outcome) → old.wanting ≡ false → old.outcome ≡ Some p → ◌≡◌ {A = Result Outcome AllocError} (Ok o) (Ok p) × (new ≡ old))
-    → (Stands old bytes → StreamEnds old new bytes o) → Heard old bytes → StreamEnds old new bytes o
+pub ended : (old new : KindOf) (bytes : List ℕ) (o : Outcome) → (is_wanting old ≡ true → false ≡ true)
+    → ((p : Outcome) → is_wanting old ≡ false → outcome_of old ≡ Some p → ◌≡◌ {A = Result Outcome AllocError} (Ok o) (Ok p) × (new ≡ old))
+    → (Stands old bytes → IsOver new bytes o) → Heard old bytes → IsOver new bytes o
 ended old new bytes o kept again ends (inl stands) = ends stands
 ended old new bytes o kept again ends (inr (p, over)) =
-    let w = again p (not_wanting old.wanting kept) over.outcome in
+    let w = again p (not_wanting (is_wanting old) kept) over.outcome in
     let same : o ≡ p = let e = w.0 in cc in
-    let told : StreamEnds old old bytes p = record { over = over; fate = λ file is. (old.formula, is, over.fate); values = over.values } in
-    subst (λ (q : Outcome). StreamEnds old new bytes q) (sym same) (subst (λ (s : StreamJudgeOf). StreamEnds old s bytes p) (sym w.1) told)
+    subst (λ (q : Outcome). IsOver new bytes q) (sym same) (subst (λ (s : KindOf). IsOver s bytes p) (sym w.1) over)
 
 -- a judge that reads or is over
 pub heard_so_far : (j : JudgeOf) → IsJudge j → (j.state ≡ Reading) ⊎ (j.state ≡ Over) → IsForJob j × ((bytes : List ℕ) × Heard j.stream bytes)
@@ -126,42 +136,45 @@ heard_so_far j is (inl reading) = let r = is.reading reading in (r.0, (r.1.0, in
 heard_so_far j is (inr over) = is.over over
 
 -- what a judge's answer rests on, and how it stands behind it
-module _ (j : JudgeOf) (is : IsForJob j) (stream : StreamJudgeOf) (same : IsSameStream j.stream stream) where
-  outcome_of : (bits : List Bool) (o : Option Outcome) → bits ≡ stream.bits → IsTrueOutcome j.stream.formula stream.bits o → (e : EncodedOf) × IsEncodedOf j.asked j.job e × IsTrueOutcome e.formula bits o
-  outcome_of bits o at tells =
-      let w = is.formula in
-      (w.0, w.1, subst (λ (f : FormulaOf). IsTrueOutcome f bits o) w.2 (subst (λ (b : List Bool). IsTrueOutcome j.stream.formula b o) (sym at) tells))
+module _ (j : JudgeOf) (is : IsForJob j) (stream : KindOf) (same : IsSameStream j.stream stream) where
+  outcome_of_job : (g : FormulaOf) (bits : List Bool) (o : Option Outcome) → IsFormulaOf j.asked j.job g → bits ≡ bits_of stream → IsTrueOutcome g (bits_of stream) o
+      → (e : EncodedOf) × IsEncodedOf j.asked j.job e × IsTrueOutcome e.formula bits o
+  outcome_of_job g bits o w at tells =
+      (w.0, w.1, subst (λ (f : FormulaOf). IsTrueOutcome f bits o) w.2 (subst (λ (b : List Bool). IsTrueOutcome g b o) (sym at) tells))
+
+  formula_now : IsFormulaOf j.asked j.job (formula_of stream)
+  formula_now = subst (λ (g : FormulaOf). IsFormulaOf j.asked j.job g) (sym same.formula) is.formula
 
   for_job : (s : State) → IsForJob (record j { stream = stream; state = s })
-  for_job s = record { formula = subst (λ (g : FormulaOf). IsFormulaOf j.asked j.job g) (sym same.0) is.formula; most = same.1 ∙ is.most }
+  for_job s = record { formula = formula_now; kind = same.kind ∙ is.kind; most = same.most ∙ is.most }
 
   module _ (bytes : List ℕ) (o : Option Outcome) (f : StreamFeeds j.stream stream bytes o) where
-    pub feeds_outcome : (bits : List Bool) → bits ≡ stream.bits → (e : EncodedOf) × IsEncodedOf j.asked j.job e × IsTrueOutcome e.formula bits o
-    feeds_outcome bits at = outcome_of bits o at (true_so_far j.stream stream bytes o same.0 f)
+    pub feeds_outcome : (bits : List Bool) → bits ≡ bits_of stream → (e : EncodedOf) × IsEncodedOf j.asked j.job e × IsTrueOutcome e.formula bits o
+    feeds_outcome bits at = outcome_of_job (formula_of j.stream) bits o is.formula at (true_so_far j.stream stream bytes o f)
 
     pub judges_on : (s : State) → IsJudge (record j { stream = stream; state = s })
     judges_on s = record { reading = λ _. (for_job s, (bytes, f.stands)); over = λ _. (for_job s, (bytes, inl f.stands)) }
 
-    pub feeds_told : (told : Result (Result Progress BadCert) AllocError) (state : State) (bits : List Bool) → bits ≡ stream.bits → state ≡ state_told told → IfOk told (λ r. Finds j.asked j.job r)
+    pub feeds_told : (told : Result (Result Progress BadCert) AllocError) (state : State) (bits : List Bool) → bits ≡ bits_of stream → state ≡ state_told told → IfOk told (λ r. Finds j.asked j.job r)
         → IfOk told (λ r. FindsPlayed j.asked j.job (values_of bits) r) → IfOk told (λ r. fate_told r ≡ outcome_told o) → IfOk told (λ r. Feeds j (record j { stream = stream; state = state }) bytes r)
     feeds_told (Ok r) state bits at stood finds played told =
         subst (λ (s : State). Feeds j (record j { stream = stream; state = s }) bytes r) (sym stood)
-        (feeds j is stream bytes r finds (subst (λ (b : List Bool). FindsPlayed j.asked j.job (values_of b) r) at played) o f told)
+        (feeds j stream bytes r finds (subst (λ (b : List Bool). FindsPlayed j.asked j.job (values_of b) r) at played) is o f told)
     feeds_told (Err e) state bits at stood finds played told = tt
 
-  module _ (bytes : List ℕ) (o : Outcome) (f : StreamEnds j.stream stream bytes o) where
-    pub ends_outcome : (bits : List Bool) → bits ≡ stream.bits → (e : EncodedOf) × IsEncodedOf j.asked j.job e × IsTrueOutcome e.formula bits (Some o)
-    ends_outcome bits at = outcome_of bits (Some o) at (true_at_end j.stream stream bytes o same.0 f)
+  module _ (bytes : List ℕ) (o : Outcome) (f : IsOver stream bytes o) where
+    pub ends_outcome : (bits : List Bool) → bits ≡ bits_of stream → (e : EncodedOf) × IsEncodedOf j.asked j.job e × IsTrueOutcome e.formula bits (Some o)
+    ends_outcome bits at = outcome_of_job (formula_of stream) bits (Some o) formula_now at (true_at_end stream bytes o f)
 
     pub judges_ended : (told : Result (Result Progress BadCert) AllocError) (state : State) → state ≡ state_told told → IfOk told (λ r. fate_told r ≡ outcome_told (Some o)) → IsJudge (record j { stream = stream; state = state })
     judges_ended told state stood fate = record {
       reading = λ reading. absurd (never_more told o (sym stood ∙ reading) fate);
-      over = λ _. (for_job state, (bytes, inr (o, f.over)));
+      over = λ _. (for_job state, (bytes, inr (o, f)));
     }
 
-    pub ends_told : (told : Result (Result Progress BadCert) AllocError) (state : State) (bits : List Bool) → bits ≡ stream.bits → state ≡ state_told told → IfOk told (λ r. Finds j.asked j.job r)
+    pub ends_told : (told : Result (Result Progress BadCert) AllocError) (state : State) (bits : List Bool) → bits ≡ bits_of stream → state ≡ state_told told → IfOk told (λ r. Finds j.asked j.job r)
         → IfOk told (λ r. FindsPlayed j.asked j.job (values_of bits) r) → IfOk told (λ r. fate_told r ≡ outcome_told (Some o)) → IfOk told (λ r. Ends j (record j { stream = stream; state = state }) bytes r)
     ends_told (Ok r) state bits at stood finds played told =
         subst (λ (s : State). Ends j (record j { stream = stream; state = s }) bytes r) (sym stood)
-        (ends j is stream bytes r finds (subst (λ (b : List Bool). FindsPlayed j.asked j.job (values_of b) r) at played) o f told)
+        (ends j stream bytes r finds (subst (λ (b : List Bool). FindsPlayed j.asked j.job (values_of b) r) at played) formula_now (same.kind ∙ is.kind) (same.most ∙ is.most) o f told)
     ends_told (Err e) state bits at stood finds played told = tt

@@ -26,7 +26,8 @@ use Rattle.word_model.proofs.Alike.{alike-turned, assumed-alike, broken-alike, f
 use Rattle.word_model.proofs.Runs.{reach-to, shows-to}
 use Rattle.word_model.specs.Layout.{HasConstants, IsAlike, valued}
 use Rattle.judge.proofs.Carrying.{constants}
-use Rattle.stream_judge.specs.Values.{stream_values}
+use Rattle.kind_judge.specs.Fates.{stream_values}
+use Rattle.stream_judge.specs.declared.stream.StreamKind.{StreamKind}
 use Rattle.judge.proofs.Problems.{one_encoded}
 use Rattle.judge.proofs.Cycles.{alike-on, rows-alike, rows-fit, runs-same, valued-alike}
 use Rattle.judge.specs.Finding.{Claim, FindingOf, IsTrueFinding}
@@ -242,9 +243,9 @@ one_run_played p h e x run other a b =
     (alike-turned p.design (valuations p.design other t) (valued p.design (es t)) (b.plays.2 t now))))
 
 -- and so a stream has one run of a job
-pub one_stream_run : (p : AskedOf) (job : JobName) (ended : Bool) (bytes : List ℕ) (most : ℕ) (run other : List CycleOf) → IsProblem p → IsStreamsRun p job ended bytes most run
-    → IsStreamsRun p job ended bytes most other → run ≡ other
-one_stream_run p job ended bytes most run other h a b =
+pub one_stream_run : (p : AskedOf) (job : JobName) (kind : StreamKind) (ended : Bool) (bytes : List ℕ) (most : ℕ) (run other : List CycleOf) → IsProblem p → IsStreamsRun p job kind ended bytes most run
+    → IsStreamsRun p job kind ended bytes most other → run ≡ other
+one_stream_run p job kind ended bytes most run other h a b =
     let one : b.0 ≡ a.0 = one_encoded p job b.0 a.0 b.1 a.1 in
-    one_run_played p h a.0 (stream_values a.0.formula.vars ended bytes most) run other a.2
-    (subst (λ (e : EncodedOf). IsPlayed p e (stream_values e.formula.vars ended bytes most) other) one b.2)
+    one_run_played p h a.0 (stream_values kind a.0.formula.vars ended bytes most) run other a.2
+    (subst (λ (e : EncodedOf). IsPlayed p e (stream_values kind e.formula.vars ended bytes most) other) one b.2)

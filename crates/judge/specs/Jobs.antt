@@ -28,6 +28,18 @@ jobs_in Bmc span d = map Base (range_with_len 0 (slices_of span))
 jobs_in Prove span d = Base 0 ∷ Step ∷ []
 jobs_in CoverMode span d = map Cover (range_with_len 0 (length (covers d)))
 
+-- a job of a mode that comes before another: an earlier slice, Base before Step, an earlier statement
+abbrev pub IsEarlier : JobName → JobName → Type 0
+IsEarlier (Base i) (Base j) = i < j
+IsEarlier (Base i) Step = i ≡ 0
+IsEarlier (Base i) (Cover j) = ⊥
+IsEarlier Step (Base j) = ⊥
+IsEarlier Step Step = ⊥
+IsEarlier Step (Cover j) = ⊥
+IsEarlier (Cover i) (Base j) = ⊥
+IsEarlier (Cover i) Step = ⊥
+IsEarlier (Cover i) (Cover j) = i < j
+
 -- the jobs of a problem of which the design is d
 abbrev pub jobs_of : ProblemOf → DesignOf → List JobName
 jobs_of p d = jobs_in p.mode (span_of p) d

@@ -7,11 +7,13 @@ use Rattle.job_cnf.specs.Decoding.{values_of}
 use Rattle.sby_terms.specs.declared.names.Answer.TheVariants.{Sat}
 use Rattle.sby_terms.specs.declared.names.JobName.{JobName}
 use Rattle.sby_terms.specs.declared.names.JobName.TheVariants.{Step}
-use Rattle.stream_judge.specs.Fate.{Fate, Found, Unknown, Bad, IsFate, IsFateSoFar}
-use Rattle.stream_judge.specs.Judging.{IsOver, Stands, JudgeOf as StreamJudgeOf}
+use Rattle.kind_judge.specs.Fates.{IsFate, IsFateSoFar}
+use Rattle.kind_judge.specs.Judging.{IsOver, KindOf, Stands, formula_of, kind_of, most_of}
+use Rattle.stream_judge.specs.Fate.{Fate, Found, Unknown, Bad}
 use Rattle.stream_judge.specs.declared.stream.BadCert.{BadCert}
 use Rattle.stream_judge.specs.declared.stream.Outcome.{Outcome}
 use Rattle.stream_judge.specs.declared.stream.Outcome.TheVariants.{Refuted, Satisfied, Unknown as UnknownOutcome, Bad as BadOutcome}
+use Rattle.stream_judge.specs.declared.stream.StreamKind.{StreamKind}
 use Rattle.judge.specs.Finding.{FindingOf}
 use Rattle.judge.specs.Played.{IsStreamsRun, ShowsPlayed}
 use Rattle.judge.specs.Problem.{AskedOf, IsFormulaOf, IsJobFile}
@@ -20,21 +22,23 @@ use Rattle.judge.specs.declared.judging.Progress.TheVariants.{More, Done, Unknow
 use Rattle.judge.specs.declared.judging.State.{State}
 use Rattle.judge.specs.declared.judging.State.TheVariants.{Reading, Refused, Over, Wanting}
 
--- the problem and its job, the greatest number of bytes, what is kept of the stream so far, and how the judge stands
+-- the problem and its job, the stream's kind, the greatest number of bytes, what is kept of the stream so far, and how the judge stands
 pub record JudgeOf : Type 0 where
   pub asked : AskedOf
   pub job : JobName
+  pub kind : StreamKind
   pub most : ℕ
-  pub stream : StreamJudgeOf
+  pub stream : KindOf
   pub state : State
 
 -- the stream is judged for the job's formula
 pub record IsForJob (j : JudgeOf) : Type 0 where
-  pub formula : IsFormulaOf j.asked j.job j.stream.formula
-  pub most : j.stream.most ≡ j.most
+  pub formula : IsFormulaOf j.asked j.job (formula_of j.stream)
+  pub kind : kind_of j.stream ≡ j.kind
+  pub most : most_of j.stream ≡ j.most
 
 -- the bytes were taken; the stream may have ended with them
-abbrev pub Heard : StreamJudgeOf → List ℕ → Type 0
+abbrev pub Heard : KindOf → List ℕ → Type 0
 Heard stream bytes = Stands stream bytes ⊎ ((o : Outcome) × IsOver stream bytes o)
 
 -- some bytes were taken, and more may be, or they came to an outcome
@@ -52,9 +56,9 @@ pub record TookAll (j : JudgeOf) (bytes : List ℕ) : Type 0 where
   pub state : j.state ≡ Over
   pub heard : Heard j.stream bytes
 
--- the same problem, job and number of bytes
+-- the same problem, job, number of bytes and kind
 abbrev pub IsSameJudge : JudgeOf → JudgeOf → Type 0
-IsSameJudge old new = (new.asked ≡ old.asked) × (new.job ≡ old.job) × (new.most ≡ old.most)
+IsSameJudge old new = (new.asked ≡ old.asked) × (new.job ≡ old.job) × (new.most ≡ old.most) × (new.kind ≡ old.kind)
 
 -- the fate that an answer tells; More tells that there is none yet
 abbrev pub fate_told : Result Progress BadCert → Option Fate
@@ -101,14 +105,17 @@ IsTrueOutcome f bits (Some UnknownOutcome) = Unit {0}
 IsTrueOutcome f bits (Some (BadOutcome b)) = Unit {0}
 
 -- a finding that Base or Cover can be solved has the run that is played from the values that the bytes name
-abbrev pub HasPlayedRun : JudgeOf → Bool → List ℕ → FindingOf → Type 0
-HasPlayedRun j ended bytes f = f.answer ≡ Sat → (j.job ≡ Step → ⊥) → (run : List CycleOf) × (f.run ≡ Some run) × IsStreamsRun j.asked j.job ended bytes j.most run
+abbrev pub HasPlayedRun : AskedOf → JobName → StreamKind → Bool → List ℕ → ℕ → FindingOf → Type 0
+HasPlayedRun p job kind ended bytes most f = f.answer ≡ Sat → (job ≡ Step → ⊥) → (run : List CycleOf) × (f.run ≡ Some run) × IsStreamsRun p job kind ended bytes most run
+
+abbrev pub FindsRunOf : AskedOf → JobName → StreamKind → Bool → List ℕ → ℕ → Result Progress BadCert → Type 0
+FindsRunOf p job kind ended bytes most (Ok More) = Unit {0}
+FindsRunOf p job kind ended bytes most (Ok (Done f)) = HasPlayedRun p job kind ended bytes most f
+FindsRunOf p job kind ended bytes most (Ok IsUnknown) = Unit {0}
+FindsRunOf p job kind ended bytes most (Err b) = Unit {0}
 
 abbrev pub FindsRun : JudgeOf → Bool → List ℕ → Result Progress BadCert → Type 0
-FindsRun j ended bytes (Ok More) = Unit {0}
-FindsRun j ended bytes (Ok (Done f)) = HasPlayedRun j ended bytes f
-FindsRun j ended bytes (Ok IsUnknown) = Unit {0}
-FindsRun j ended bytes (Err b) = Unit {0}
+FindsRun j ended bytes r = FindsRunOf j.asked j.job j.kind ended bytes j.most r
 
 -- The judge took the bytes, and answers their fate so far for its job's file, whatever pieces they came in.
 pub record Feeds (old new : JudgeOf) (bytes : List ℕ) (r : Result Progress BadCert) : Type 0 where
@@ -118,7 +125,7 @@ pub record Feeds (old new : JudgeOf) (bytes : List ℕ) (r : Result Progress Bad
   pub over : new.state ≡ Over → TookAll new bytes
   pub finds : Finds old.asked old.job r
   pub run : FindsRun old false bytes r
-  pub fate : (file : List ℕ) → IsJobFile old.asked old.job file → IsFateSoFar file bytes old.most (fate_told r)
+  pub fate : (file : List ℕ) → IsJobFile old.asked old.job file → IsFateSoFar old.kind file bytes old.most (fate_told r)
 
 -- The judge answers the fate of the bytes taken, as the whole stream, for its job's file.
 pub record Ends (old new : JudgeOf) (bytes : List ℕ) (r : Result Progress BadCert) : Type 0 where
@@ -127,4 +134,4 @@ pub record Ends (old new : JudgeOf) (bytes : List ℕ) (r : Result Progress BadC
   pub over : new.state ≡ Over → TookAll new bytes
   pub finds : Finds old.asked old.job r
   pub run : FindsRun old true bytes r
-  pub fate : (file : List ℕ) → IsJobFile old.asked old.job file → MatchOption (fate_told r) ⊥ (IsFate file bytes old.most)
+  pub fate : (file : List ℕ) → IsJobFile old.asked old.job file → MatchOption (fate_told r) ⊥ (IsFate old.kind file bytes old.most)

@@ -10,3 +10,4 @@ pub mod Places
 pub mod Stored
 pub mod Played
 pub mod Judging
+pub mod Solver

@@ -5,7 +5,8 @@ use Rattle.design_meaning.specs.Runs.{CycleOf, IsRunOf, valuations}
 use Rattle.job_cnf.specs.Encoding.{EncodedOf, decoded}
 use Rattle.model_core.specs.Choices.{Plays}
 use Rattle.model_core.specs.Meaning.{Cycle}
-use Rattle.stream_judge.specs.Values.{stream_values}
+use Rattle.kind_judge.specs.Fates.{stream_values}
+use Rattle.stream_judge.specs.declared.stream.StreamKind.{StreamKind}
 use Rattle.word_model.specs.Layout.{IsAlike, valued}
 use Rattle.sby_terms.specs.declared.names.JobName.{JobName}
 use Rattle.sby_terms.specs.declared.names.JobName.TheVariants.{Step}
@@ -19,10 +20,10 @@ pub record IsPlayed (p : AskedOf) (e : EncodedOf) (x : Assignment) (run : List C
   pub cycles : length run ≡ length (decoded e x).inputs
   pub plays : (cs : ℕ → Cycle) × Plays p.model (decoded e x) cs × ((t : ℕ) → t < length run → IsAlike p.design (valuations p.design run t) (valued p.design (cs t)))
 
--- the run is played from the values that the bytes of a stream name, `most` of them at most: where it ends with them, or where more may
--- follow
-abbrev pub IsStreamsRun : AskedOf → JobName → Bool → List ℕ → ℕ → List CycleOf → Type 0
-IsStreamsRun p job ended bytes most run = (e : EncodedOf) × IsEncodedOf p job e × IsPlayed p e (stream_values e.formula.vars ended bytes most) run
+-- the run is played from the values that the bytes of a stream of a kind name, `most` of them at most: where it ends with them, or where
+-- more may follow
+abbrev pub IsStreamsRun : AskedOf → JobName → StreamKind → Bool → List ℕ → ℕ → List CycleOf → Type 0
+IsStreamsRun p job kind ended bytes most run = (e : EncodedOf) × IsEncodedOf p job e × IsPlayed p e (stream_values kind e.formula.vars ended bytes most) run
 
 -- but for Step, the run is there, and is played from the values
 abbrev pub ShowsPlayed : AskedOf → JobName → Assignment → Option (List CycleOf) → Type 0

@@ -1,5 +1,5 @@
 -- A problem: a text, the design that it reads, its model, and each of its jobs as a formula.
-use Rattle.std.specs.Prelude.{◌≡◌, ◌↔◌, ◌<◌, ◌≤◌, ◌^◌, ℕ, List, length, Some, slice_get}
+use Rattle.std.specs.Prelude.{◌≡◌, ◌↔◌, ◌≤◌, ◌^◌, ℕ, List, length, Some, slice_get}
 use Rattle.cnf_form.specs.Cnf.{Assignment, FormulaOf, Satisfies}
 use Rattle.cnf_form.specs.Dimacs.{IsDimacs, dimacs_text}
 use Rattle.cone_cnf.specs.Asking.{HasOriginsInBits}
@@ -59,12 +59,6 @@ pub record IsEncodedJob (d : DesignOf) (m : ModelOf) (job : JobName) (span : Spa
   pub empty : AsksNothing d job → e.formula ≡ empty_job
   pub choices : (job ≡ Step → ⊥) → (x : Assignment) → AreChoicesFor m (decoded e x)
   pub decodes : (job ≡ Step → ⊥) → (x : Assignment) → Satisfies x e.formula.clauses → IsDecoded m job span (decoded e x)
-
--- each job before this one is encoded
-abbrev pub AreEncodedBefore : DesignOf → ModelOf → Span → List JobName → JobName → Type 0
-AreEncodedBefore d m span jobs job =
-    (i : ℕ) × (slice_get jobs i ≡ Some job)
-    × ((j : ℕ) (earlier : JobName) → j < i → slice_get jobs j ≡ Some earlier → (e : EncodedOf) × IsEncodedJob d m earlier span e)
 
 -- the span is one that the mode may have; the text reads the design and no other, which is flat; the model is the design's, made of its
 -- parts; and each job is encoded

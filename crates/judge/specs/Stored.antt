@@ -1,8 +1,8 @@
 -- How a problem is kept: its model with what is known of it, and its jobs by their names.
-use Rattle.std.specs.Prelude.{◌≡◌, ℕ, ◌+◌, ◌≤◌, List, All, length, map, Some, slice_get}
+use Rattle.std.specs.Prelude.{◌≡◌, ℕ, ◌+◌, ◌<◌, ◌≤◌, List, All, length, map, Some, slice_get}
+use Rattle.cone_cnf.specs.Asking.{IsTooMany as IsTooManyOf}
 use Rattle.design_core.specs.Shape.{DesignOf, IsDesign}
-use Rattle.job_cnf.specs.Encoding.{CanPass, EncodedOf, frame_cost}
-use Rattle.job_cnf.specs.Jobs.{frames}
+use Rattle.job_cnf.specs.Encoding.{EncodedOf, frame_cost}
 use Rattle.model_core.specs.Served.{IsModel}
 use Rattle.model_core.specs.Shape.{ModelOf, states}
 use Rattle.model_laws.specs.Cost.{cost}
@@ -13,8 +13,8 @@ use Rattle.word_model.specs.Model.{IsModelOf}
 use Rattle.sby_terms.specs.declared.names.JobName.{JobName}
 use Rattle.sby_terms.specs.declared.names.Mode.{Mode}
 use Rattle.sby_terms.specs.declared.span.Span.{Span}
-use Rattle.judge.specs.Jobs.{AsksNothing, jobs_of}
-use Rattle.judge.specs.Problem.{AreEncodedBefore, AskedOf, IsEncodedJob, IsProblem}
+use Rattle.judge.specs.Jobs.{jobs_of}
+use Rattle.judge.specs.Problem.{AskedOf, IsEncodedJob, IsProblem}
 
 -- an encoded job by its name
 pub record JobOf : Type 0 where
@@ -46,6 +46,9 @@ pub record AreEncoded (d : DesignOf) (m : ModelOf) (span : Span) (names : List J
   pub named : names_in jobs ≡ names
   pub each : All (λ (j : JobOf). IsEncodedJob d m j.name span j.encoded) jobs
 
--- one of these jobs asks something, and has too many variables; those before it are encoded
-abbrev pub IsTooMany : DesignOf → ModelOf → Span → List JobName → JobName → Type 0
-IsTooMany d m span names job = ((i : ℕ) × (slice_get names i ≡ Some job)) × (AsksNothing d job → ⊥) × CanPass m (frames job span) × AreEncodedBefore d m span names job
+-- one of these jobs has too many variables; each before it is encoded
+pub record IsRefusedAmong (d : DesignOf) (m : ModelOf) (span : Span) (names : List JobName) (job : JobName) : Type 0 where
+  pub place : ℕ
+  pub at : slice_get names place ≡ Some job
+  pub refused : IsTooManyOf m job span
+  pub before : (i : ℕ) (earlier : JobName) → i < place → slice_get names i ≡ Some earlier → (e : EncodedOf) × IsEncodedJob d m earlier span e

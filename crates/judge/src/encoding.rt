@@ -2,13 +2,13 @@
 
 ghost use Rattle.std.specs.Prelude.{◌≡◌, ◌≤◌, ℕ, IfErr, IfOk, length};
 ghost use Rattle.cnf_form.specs.Dimacs.{IsDimacs, dimacs_text};
+ghost use Rattle.cone_cnf.specs.Asking.{IsTooMany};
 ghost use Rattle.design_core.specs.Shape.{DesignOf};
 ghost use Rattle.design_meaning.specs.Meaning.{covers as covers_in};
-ghost use Rattle.job_cnf.specs.Encoding.{CanPass};
-ghost use Rattle.job_cnf.specs.Jobs.{IsJob, frames};
-ghost use Rattle.judge.specs.Jobs.{AsksNothing, jobs_in};
+ghost use Rattle.job_cnf.specs.Jobs.{IsJob};
+ghost use Rattle.judge.specs.Jobs.{jobs_in};
 ghost use Rattle.judge.specs.Problem.{IsEncodedJob};
-ghost use Rattle.judge.specs.Stored.{AreEncoded, IsBuiltFor, IsTooMany};
+ghost use Rattle.judge.specs.Stored.{AreEncoded, IsBuiltFor, IsRefusedAmong};
 ghost use Rattle.sby_terms.specs.Span.{IsSpan};
 
 use cnf_form::write_dimacs;
@@ -125,8 +125,7 @@ fn encode_job(
     requires job { IsJob model.now name span }
     ensures name { IfOk result (λ r. IfOk r (λ job. job.name ≡ name)) }
     ensures encoded { IfOk result (λ r. IfOk r (λ job. IsEncodedJob flat.now model.now name span job.encoded)) }
-    ensures too_many { IfOk result (λ r. IfErr r (λ _. CanPass model.now (frames name span))) }
-    ensures asks { IfOk result (λ r. IfErr r (λ _. AsksNothing flat.now name → ⊥)) }
+    ensures too_many { IfOk result (λ r. IfErr r (λ _. IsTooMany model.now name span)) }
 {
     match encode(alloc, model, name, span)? {
         Ok(encoded) => {
@@ -149,7 +148,7 @@ pub(crate) fn encode_all(
     requires span { IsSpan span }
     requires most { span.depth ≤ 100000 }
     ensures jobs { IfOk result (λ r. IfOk r (λ jobs. AreEncoded flat.now model.now span (jobs_in mode span flat.now) jobs.items)) }
-    ensures refused { IfOk result (λ r. IfErr r (λ job. IsTooMany flat.now model.now span (jobs_in mode span flat.now) job)) }
+    ensures refused { IfOk result (λ r. IfErr r (λ job. IsRefusedAmong flat.now model.now span (jobs_in mode span flat.now) job)) }
 {
     let covers = model.covers().len() as u32;
     let names = names_of(alloc, mode, span, covers)?;

@@ -10,10 +10,11 @@ ghost use Rattle.stream_judge.specs.declared.stream.BadCert.{BadCert};
 
 use crate::finding::{Finding, sat, unsat};
 use crate::problem::Problem;
+use kind_judge::KindJudge;
 use sby_terms::JobName;
 use std::alloc::{AllocError, Global};
 use std::marker::Model;
-use stream_judge::{BadCert, Outcome, StreamJudge, StreamKind};
+use stream_judge::{BadCert, Outcome, StreamKind};
 
 /// What a judge answers to a piece of its stream.
 #[derive(Drop)]
@@ -39,14 +40,15 @@ pub enum State {
     Wanting,
 }
 
-/// A judge of one stream as a certificate for a job of a problem. It keeps no bytes of the stream: each is looked at once.
+/// A judge of one stream, of any kind, as a certificate for a job of a problem. It keeps no bytes of the stream: each is looked at once.
 #[derive(Drop)]
 pub struct Judge<'a> {
     alloc: Global,
     problem: &'a Problem,
     job: JobName,
+    kind: StreamKind,
     most: u64,
-    stream: StreamJudge<'a>,
+    stream: KindJudge<'a>,
     state: State,
 }
 
@@ -57,9 +59,9 @@ impl<'a> Model for Judge<'a> {
 
     ghost use Rattle.judge.specs.Judging.{IsJudge};
 
-    ghost view = { λ a. record { asked = a.problem.now; job = a.job; most = a.most; stream = a.stream; state = a.state } };
+    ghost view = { λ a. record { asked = a.problem.now; job = a.job; kind = a.kind; most = a.most; stream = a.stream; state = a.state } };
 
-    ghost invariant = { λ a. IsJudge (record { asked = a.problem.now; job = a.job; most = a.most; stream = a.stream; state = a.state }) };
+    ghost invariant = { λ a. IsJudge (record { asked = a.problem.now; job = a.job; kind = a.kind; most = a.most; stream = a.stream; state = a.state }) };
 }
 
 impl<'a> Judge<'a> {
@@ -76,15 +78,17 @@ impl<'a> Judge<'a> {
         requires limit { most ≤ 2 ^ 32 }
         ensures asked { IfOk result (λ j. j.asked ≡ problem.now) }
         ensures job { IfOk result (λ j. j.job ≡ job) }
+        ensures kind { IfOk result (λ j. j.kind ≡ kind) }
         ensures most { IfOk result (λ j. j.most ≡ most) }
         ensures took { IfOk result (λ j. Took j []) }
     {
         let formula = problem.encoded(job).formula();
-        let stream = StreamJudge::new(alloc, formula, kind, most)?;
+        let stream = KindJudge::new(alloc, formula, kind, most)?;
         Ok(Judge {
             alloc,
             problem,
             job,
+            kind,
             most,
             stream,
             state: State::Reading,
@@ -144,7 +148,7 @@ impl<'a> Judge<'a> {
 }
 
 // The answer to an outcome of a stream for a job, with these values where it is Satisfied.
-fn answer(
+pub(crate) fn answer(
     alloc: Global,
     problem: &Problem,
     job: JobName,

@@ -1,11 +1,12 @@
 // Laws of problems, and of what their findings say.
 
-ghost use Rattle.std.specs.Prelude.{◌≡◌, ◌↔◌, ◌<◌, ◌≤◌, ◌++◌, ◌∷◌, [], ℕ, suc, Bool, false, Contains, List, codes, length, Some, slice_get};
+ghost use Rattle.std.specs.Prelude.{◌≡◌, ◌↔◌, ◌<◌, ◌≤◌, ◌*◌, ◌^◌, ◌++◌, ◌∷◌, [], ℕ, suc, Bool, false, Contains, List, codes, length, Some, slice_get};
 ghost use Rattle.cnf_form.specs.Cnf.{FormulaOf};
 ghost use Rattle.cnf_form.specs.Dimacs.{IsDimacs};
 ghost use Rattle.cone_cnf.specs.Asking.{HasOriginsInBits};
+ghost use Rattle.design_check.specs.Faults.{IsFlat};
 ghost use Rattle.design_core.specs.Places.{place_of};
-ghost use Rattle.design_core.specs.Shape.{CellOf, DesignOf};
+ghost use Rattle.design_core.specs.Shape.{CellOf, DesignOf, IsDesign};
 ghost use Rattle.design_core.specs.Table.{role_of};
 ghost use Rattle.design_meaning.specs.Claims.{NeverBreak, NoBreak, ReachRun, Shows};
 ghost use Rattle.design_meaning.specs.Meaning.{Broken, Frame, IsCell, Reached, Run, bit_in};
@@ -15,20 +16,25 @@ ghost use Rattle.design_reader.specs.Grammar.{Reads};
 ghost use Rattle.design_signals.specs.declared.sig_bit.SigBit.{SigBit};
 ghost use Rattle.job_cnf.specs.Encoding.{CanBeSatisfied, EncodedOf};
 ghost use Rattle.job_cnf.specs.Encoding.Origin.{First, Input};
+ghost use Rattle.job_cnf.specs.Jobs.{frames};
 ghost use Rattle.model_core.specs.Choices.{AreChoicesFor, ChoicesOf, Plays};
 ghost use Rattle.model_core.specs.Meaning.{Cycle};
 ghost use Rattle.model_core.specs.Shape.{states};
+ghost use Rattle.model_laws.specs.Cost.{cost};
 ghost use Rattle.model_laws.specs.Reads.{IsReadOtherwise, IsStateRead};
 ghost use Rattle.sby_terms.specs.Span.{IsSpan, first_of, last_of, slices_of, whole};
 ghost use Rattle.sby_terms.specs.declared.names.Answer.TheVariants.{Sat, Unsat};
 ghost use Rattle.sby_terms.specs.declared.names.JobName.{JobName};
 ghost use Rattle.sby_terms.specs.declared.names.JobName.TheVariants.{Base, Cover, Step};
+ghost use Rattle.sby_terms.specs.declared.names.Mode.{Mode};
 ghost use Rattle.sby_terms.specs.declared.names.Mode.TheVariants.{Bmc};
 ghost use Rattle.sby_terms.specs.declared.span.Span.{Span};
+ghost use Rattle.stream_judge.specs.declared.stream.StreamKind.{StreamKind};
 ghost use Rattle.word_model.specs.Layout.{state_place, valued};
 ghost use Rattle.word_model.specs.Registers.{BeginsWith};
+ghost use Rattle.judge.specs.Fault.{IsTooMany};
 ghost use Rattle.judge.specs.Finding.{FindingOf, IsTrueFinding};
-ghost use Rattle.judge.specs.Jobs.{AsksNothing, Solvable, jobs_in, span_of};
+ghost use Rattle.judge.specs.Jobs.{AsksNothing, IsEarlier, Solvable, jobs_in, span_of};
 ghost use Rattle.judge.specs.Played.{IsStreamsRun};
 ghost use Rattle.judge.specs.Problem.{AskedOf, IsEncodedOf, IsFormulaOf, IsJobFile, IsProblem};
 
@@ -47,6 +53,17 @@ pub fn files_tell_what_jobs_ask()
         → bytes ≡ codes "p cnf 1 1" ++ 10 ∷ 48 ∷ 10 ∷ [] }
 {}
 
+/// A job has too many variables only where its frames come to more than 2^27 by the design's cost.
+pub fn too_many_only_past_the_cost()
+    ensures { (d : DesignOf) (job : JobName) (span : Span) → IsDesign d → IsFlat d → IsSpan span → IsTooMany d job span → 2 ^ 27 < frames job span * cost d }
+{}
+
+/// The jobs of a mode stand in the order in which they are encoded.
+pub fn jobs_stand_in_their_order()
+    ensures { (mode : Mode) (span : Span) (d : DesignOf) (i j : ℕ) (earlier job : JobName) → slice_get (jobs_in mode span d) i ≡ Some earlier → slice_get (jobs_in mode span d) j ≡ Some job
+        → (i < j) ↔ IsEarlier earlier job }
+{}
+
 /// A finding tells of each design that its text reads whether its job can be solved: Sat says that it can, Unsat that it can't.
 pub fn findings_tell_what_can_be_solved()
     ensures sat { (f : FindingOf) (d : DesignOf) → IsTrueFinding f → Reads f.problem.text d → f.answer ≡ Sat → Solvable d f.job (span_of f.problem) }
@@ -56,22 +73,22 @@ pub fn findings_tell_what_can_be_solved()
 /// A stream's run of a job shows what the job asks for, in its last cycle: of Base(i) a broken assertion in a cycle of slice i, of Cover(k)
 /// that statement k is reached; and no earlier cycle that counts has it.
 pub fn played_run_ends_at_first_goal()
-    ensures base { (p : AskedOf) (i : ℕ) (ended : Bool) (bytes : List ℕ) (most : ℕ) (run : List CycleOf) → IsProblem p → IsStreamsRun p (Base i) ended bytes most run
+    ensures base { (p : AskedOf) (i : ℕ) (kind : StreamKind) (ended : Bool) (bytes : List ℕ) (most : ℕ) (run : List CycleOf) → IsProblem p → IsStreamsRun p (Base i) kind ended bytes most run
         → (a : ℕ) × Shows p.design (length run) (valuations p.design run) a }
-    ensures slice { (p : AskedOf) (i : ℕ) (ended : Bool) (bytes : List ℕ) (most : ℕ) (run : List CycleOf) → IsProblem p → IsStreamsRun p (Base i) ended bytes most run
+    ensures slice { (p : AskedOf) (i : ℕ) (kind : StreamKind) (ended : Bool) (bytes : List ℕ) (most : ℕ) (run : List CycleOf) → IsProblem p → IsStreamsRun p (Base i) kind ended bytes most run
         → (first_of (span_of p.problem) i < length run) × (length run ≤ last_of (span_of p.problem) i) }
-    ensures first { (p : AskedOf) (i : ℕ) (ended : Bool) (bytes : List ℕ) (most : ℕ) (run : List CycleOf) → IsProblem p → IsStreamsRun p (Base i) ended bytes most run
+    ensures first { (p : AskedOf) (i : ℕ) (kind : StreamKind) (ended : Bool) (bytes : List ℕ) (most : ℕ) (run : List CycleOf) → IsProblem p → IsStreamsRun p (Base i) kind ended bytes most run
         → (t a : ℕ) → first_of (span_of p.problem) i ≤ t → suc t < length run → Broken p.design (valuations p.design run t) a → ⊥ }
-    ensures cover { (p : AskedOf) (k : ℕ) (ended : Bool) (bytes : List ℕ) (most : ℕ) (run : List CycleOf) → IsProblem p → IsStreamsRun p (Cover k) ended bytes most run
+    ensures cover { (p : AskedOf) (k : ℕ) (kind : StreamKind) (ended : Bool) (bytes : List ℕ) (most : ℕ) (run : List CycleOf) → IsProblem p → IsStreamsRun p (Cover k) kind ended bytes most run
         → ReachRun p.design (length run) (valuations p.design run) k × (length run ≤ (span_of p.problem).depth) }
-    ensures first_reach { (p : AskedOf) (k : ℕ) (ended : Bool) (bytes : List ℕ) (most : ℕ) (run : List CycleOf) → IsProblem p → IsStreamsRun p (Cover k) ended bytes most run
+    ensures first_reach { (p : AskedOf) (k : ℕ) (kind : StreamKind) (ended : Bool) (bytes : List ℕ) (most : ℕ) (run : List CycleOf) → IsProblem p → IsStreamsRun p (Cover k) kind ended bytes most run
         → (t : ℕ) → suc t < length run → Reached p.design (valuations p.design run t) k → ⊥ }
 {}
 
 /// A stream has one run of a job.
 pub fn one_played_run()
-    ensures { (p : AskedOf) (job : JobName) (ended : Bool) (bytes : List ℕ) (most : ℕ) (run other : List CycleOf) → IsProblem p
-        → IsStreamsRun p job ended bytes most run → IsStreamsRun p job ended bytes most other → run ≡ other }
+    ensures { (p : AskedOf) (job : JobName) (kind : StreamKind) (ended : Bool) (bytes : List ℕ) (most : ℕ) (run other : List CycleOf) → IsProblem p
+        → IsStreamsRun p job kind ended bytes most run → IsStreamsRun p job kind ended bytes most other → run ≡ other }
 {}
 
 /// Whatever is chosen for the bits that a run leaves open, the problem's design has a run with it, and whatever the state bits and the inputs
@@ -95,9 +112,9 @@ pub fn free_variables_are_read()
 /// In a stream's run what is open and isn't read is 0: the inputs in each cycle, and the state bits without a start digit in the first. A
 /// bit that only clocks read isn't read.
 pub fn played_run_is_zero_where_nothing_reads()
-    ensures inputs { (p : AskedOf) (job : JobName) (ended : Bool) (bytes : List ℕ) (most : ℕ) (run : List CycleOf) → IsProblem p → IsStreamsRun p job ended bytes most run → (job ≡ Step → ⊥)
+    ensures inputs { (p : AskedOf) (job : JobName) (kind : StreamKind) (ended : Bool) (bytes : List ℕ) (most : ℕ) (run : List CycleOf) → IsProblem p → IsStreamsRun p job kind ended bytes most run → (job ≡ Step → ⊥)
         → (t : ℕ) (b : SigBit) → t < length run → Contains (input_bits p.design) b → ¬ IsReadOtherwise p.design b → bit_in (valuations p.design run t) b ≡ false }
-    ensures starts { (p : AskedOf) (job : JobName) (ended : Bool) (bytes : List ℕ) (most : ℕ) (run : List CycleOf) → IsProblem p → IsStreamsRun p job ended bytes most run → (job ≡ Step → ⊥)
+    ensures starts { (p : AskedOf) (job : JobName) (kind : StreamKind) (ended : Bool) (bytes : List ℕ) (most : ℕ) (run : List CycleOf) → IsProblem p → IsStreamsRun p job kind ended bytes most run → (job ≡ Step → ⊥)
         → (i k : ℕ) (c : CellOf) (s : StateBit) → IsCell p.design i c → slice_get (state_of (i, c)) k ≡ Some s → ((x : Bool) → BeginsWith (role_of c.kind) p.design i k x → ⊥)
         → (IsStateRead p.design s → ⊥) → state_in (valuations p.design run 0) s ≡ false }
 {}

@@ -7,16 +7,19 @@ mod judging;
 mod laws;
 mod problem;
 mod run;
+mod solver;
 mod text;
 
 pub use finding::Finding;
 pub use judging::{Judge, Progress, State};
 pub use laws::{
     base_and_step_show_that_nothing_breaks, every_choice_has_a_run_of_the_design,
-    files_tell_what_jobs_ask, findings_tell_what_can_be_solved, free_variables_are_read, one_file,
-    one_played_run, played_run_ends_at_first_goal, played_run_is_zero_where_nothing_reads,
-    slices_show_that_nothing_breaks,
+    files_tell_what_jobs_ask, findings_tell_what_can_be_solved, free_variables_are_read,
+    jobs_stand_in_their_order, one_file, one_played_run, played_run_ends_at_first_goal,
+    played_run_is_zero_where_nothing_reads, slices_show_that_nothing_breaks,
+    too_many_only_past_the_cost,
 };
 pub use problem::{Problem, ProblemFault};
 pub use run::PlayedRun;
+pub use solver::SolverJudge;
 pub use text::Text;

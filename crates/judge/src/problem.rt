@@ -9,7 +9,7 @@ ghost use Rattle.judge.specs.Jobs.{jobs_in, jobs_of};
 ghost use Rattle.judge.specs.Places.{place_of};
 ghost use Rattle.judge.specs.Played.{IsPlayed};
 ghost use Rattle.judge.specs.Problem.{AskedOf, IsEncodedOf, IsJob, IsJobFile, IsProblem};
-ghost use Rattle.judge.specs.Stored.{AreEncoded, IsBuiltFor, IsTooMany};
+ghost use Rattle.judge.specs.Stored.{AreEncoded, IsBuiltFor, IsRefusedAmong};
 ghost use Rattle.sby_terms.specs.Span.{IsSpan, whole};
 
 use crate::encoding::{Job, encode_all, model_of};

@@ -1,2 +1,4 @@
 mod Files
 mod Answering
+mod Marking
+mod Subjects

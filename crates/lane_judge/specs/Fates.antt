@@ -1,24 +1,36 @@
--- What a child's output comes to, as a certificate for a job.
-use Rattle.std.specs.Prelude.{◌≡◌, ◌≢◌, ◌⊎◌, ◌^◌, ℕ, List, ◌++◌, Option, None, Some, Result, Ok, Err, refl}
+-- What a child's output, and the proof file behind it, come to, as a certificate for a job.
+use Rattle.std.specs.Prelude.{◌≡◌, ◌≢◌, ◌⊎◌, ◌+◌, ◌^◌, ℕ, Bool, true, List, ◌++◌, Option, None, Some, MatchOption, Result, Ok, Err, refl}
 use Rattle.std.proofs.Common.{inl, inr, subst}
 use Rattle.sby_terms.specs.Problem.{ProblemOf}
 use Rattle.sby_terms.specs.declared.names.JobName.{JobName}
 use Rattle.race_core.specs.declared.event.Judged.{Judged}
 use Rattle.race_core.specs.declared.event.Judged.TheVariants as judged
-use Rattle.stream_judge.specs.Fate.{Fate, Found, Unknown, Bad, IsFate, IsFateSoFar}
+use Rattle.stream_judge.specs.Fate.{Fate, Found, Unknown, Bad}
 use Rattle.stream_judge.specs.Numbers.{number_of}
 use Rattle.stream_judge.specs.declared.stream.BadCert.{BadCert}
 use Rattle.stream_judge.specs.declared.stream.CertKind.{CertKind}
-use Rattle.stream_judge.proofs.Fates.{fate_at_end, fate_stays}
+use Rattle.stream_judge.specs.declared.stream.StreamKind.{StreamKind}
+use Rattle.kind_judge.proofs.Fates.{stays}
+use Rattle.kind_judge.specs.Fates.{IsFate, IsFateSoFar}
+use Rattle.output_judge.proofs.Fates.{output_at_end, output_stays}
+use Rattle.output_judge.specs.Fate.{IsOutputFate, IsOutputFateSoFar}
 use Rattle.judge.specs.Finding.{FindingOf}
 use Rattle.judge.specs.Judging.{JudgeOf, Took}
 use Rattle.judge.specs.Problem.{AskedOf, IsJob, IsJobFile}
+use Rattle.judge.specs.Solver.{SolverOf, Took as SolverTook}
 use Rattle.judge.specs.declared.judging.Progress.{Progress}
 use Rattle.judge.specs.declared.judging.Progress.TheVariants as progress
+use Rattle.lane_judge.specs.declared.evidence.Evidence.{Evidence}
+use Rattle.lane_judge.specs.declared.evidence.Evidence.TheVariants.{Output, ProofFile}
 
 -- a stream has at most this many bytes
 abbrev pub most_bytes : ℕ
 most_bytes = 2 ^ 32
+
+-- How many bytes of output come to nothing at most. A byte that may be a word alone is known by the next.
+abbrev pub most_output : Evidence → ℕ
+most_output (Output kind) = most_bytes
+most_output (ProofFile kind) = most_bytes + 1
 
 -- what is said is this fate; a finding is one for the job of the problem
 abbrev pub Tells : ProblemOf → JobName → Judged FindingOf → Option Fate → Type 0
@@ -29,29 +41,53 @@ Tells p job (judged.Bad number at) fate = (kind : CertKind) × (number ≡ numbe
 Tells p job judged.Failed fate = ⊥
 Tells p job judged.Unjudged fate = ⊥
 
--- the fate so far of these bytes as a certificate for the job's file
-abbrev pub Stands : AskedOf → JobName → List ℕ → Judged FindingOf → Type 0
-Stands p job bytes said =
-    (fate : Option Fate) × Tells p.problem job said fate × ((file : List ℕ) → IsJobFile p job file → IsFateSoFar file bytes most_bytes fate)
+-- the fate so far of the bytes of an output as a certificate for a job's file: of a stream of a kind; or of values, where a proof file may
+-- decide
+abbrev pub IsSoFar : Evidence → List ℕ → List ℕ → Option Fate → Type 0
+IsSoFar (Output kind) file bytes fate = IsFateSoFar kind file bytes most_bytes fate
+IsSoFar (ProofFile kind) file bytes fate = IsOutputFateSoFar file bytes most_bytes fate
 
--- their fate as the whole stream
-abbrev pub Ends : AskedOf → JobName → List ℕ → Judged FindingOf → Type 0
-Ends p job bytes said =
-    (fate : Fate) × Tells p.problem job said (Some fate) × ((file : List ℕ) → IsJobFile p job file → IsFate file bytes most_bytes fate)
+-- the fate of a whole output; None where the proof file decides
+abbrev pub IsWhole : Evidence → List ℕ → List ℕ → Option Fate → Type 0
+IsWhole (Output kind) file bytes fate = MatchOption fate ⊥ (IsFate kind file bytes most_bytes)
+IsWhole (ProofFile kind) file bytes fate = IsOutputFate file bytes most_bytes fate
 
--- no engine that is served leaves a proof file
-abbrev pub Proves : List ℕ → Judged FindingOf → Type 0
-Proves bytes said = ⊥
+-- what is said of these bytes of an output, whatever follows
+abbrev pub Stands : AskedOf → JobName → Evidence → List ℕ → Judged FindingOf → Type 0
+Stands p job by bytes said = (fate : Option Fate) × Tells p.problem job said fate × ((file : List ℕ) → IsJobFile p job file → IsSoFar by file bytes fate)
 
--- a judge of the job that goes on, and has taken these bytes
-pub record GoesOn (p : AskedOf) (job : JobName) (j : JudgeOf) (bytes : List ℕ) : Type 0 where
+-- what is said of them as the whole output
+abbrev pub Ends : AskedOf → JobName → Evidence → List ℕ → Judged FindingOf → Type 0
+Ends p job by bytes said = (fate : Option Fate) × Tells p.problem job said fate × ((file : List ℕ) → IsJobFile p job file → IsWhole by file bytes fate)
+
+-- what is said of the bytes of a whole proof file of a kind
+abbrev pub ProvesAs : AskedOf → JobName → StreamKind → List ℕ → Judged FindingOf → Type 0
+ProvesAs p job kind bytes said =
+    (fate : Fate) × Tells p.problem job said (Some fate) × ((file : List ℕ) → IsJobFile p job file → IsFate kind file bytes most_bytes fate)
+
+-- no stream leaves anything to a proof file
+abbrev pub Proves : AskedOf → JobName → Evidence → List ℕ → Judged FindingOf → Type 0
+Proves p job (Output kind) bytes said = ⊥
+Proves p job (ProofFile kind) bytes said = ProvesAs p job kind bytes said
+
+-- a judge of the job's stream of a kind that goes on, and has taken these bytes
+pub record GoesOn (p : AskedOf) (job : JobName) (kind : StreamKind) (j : JudgeOf) (bytes : List ℕ) : Type 0 where
+  pub is_job : IsJob p job
+  pub asked : j.asked ≡ p
+  pub job_is : j.job ≡ job
+  pub kind_is : j.kind ≡ kind
+  pub most : j.most ≡ most_bytes
+  pub took : Took j bytes
+
+-- a judge of the job's output that goes on
+pub record SolverGoesOn (p : AskedOf) (job : JobName) (j : SolverOf) (bytes : List ℕ) : Type 0 where
   pub is_job : IsJob p job
   pub asked : j.asked ≡ p
   pub job_is : j.job ≡ job
   pub most : j.most ≡ most_bytes
-  pub took : Took j bytes
+  pub took : SolverTook j bytes
 
--- an answer of the judge, as a lane's list has it
+-- an answer of a judge, as a lane's list has it
 abbrev pub judged_as : Result Progress BadCert → Judged FindingOf
 judged_as (Ok progress.More) = judged.More
 judged_as (Ok (progress.Done f)) = judged.Found f
@@ -70,15 +106,22 @@ nothing_said p job (judged.Bad number at) tells = absurd (subst IsNothing tells.
 nothing_said p job judged.Failed tells = absurd tells
 nothing_said p job judged.Unjudged tells = absurd tells
 
+whole_stays : (by : Evidence) (file bytes more : List ℕ) (fate : Fate) → IsSoFar by file bytes (Some fate) → IsWhole by file (bytes ++ more) (Some fate)
+whole_stays (Output kind) file bytes more fate h = stays kind file bytes more most_bytes fate h
+whole_stays (ProofFile kind) file bytes more fate h = output_at_end file (bytes ++ more) most_bytes fate (output_stays file bytes more most_bytes fate h)
+
 -- what stands, stays, also where the output ends there
-pub stays_law : (p : AskedOf) (job : JobName) (bytes more : List ℕ) (said : Judged FindingOf) → said ≢ judged.More → Stands p job bytes said → Ends p job (bytes ++ more) said
-stays_law p job bytes more said some (None, tells, so_far) = absurd (some (nothing_said p.problem job said tells))
-stays_law p job bytes more said some (Some fate, tells, so_far) =
-    (fate, tells, λ file is. let w = so_far file is in (w.0, w.1, fate_at_end w.0 most_bytes (bytes ++ more) fate (fate_stays w.0 most_bytes bytes more fate w.2)))
+pub stays_law : (p : AskedOf) (job : JobName) (by : Evidence) (bytes more : List ℕ) (said : Judged FindingOf) → said ≢ judged.More → Stands p job by bytes said → Ends p job by (bytes ++ more) said
+stays_law p job by bytes more said some (None, tells, so_far) = absurd (some (nothing_said p.problem job said tells))
+stays_law p job by bytes more said some (Some fate, tells, so_far) = (Some fate, tells, λ file is. whole_stays by file bytes more fate (so_far file is))
+
+proof_for : (p : AskedOf) (job : JobName) (by : Evidence) (bytes : List ℕ) (f : FindingOf) → Proves p job by bytes (judged.Found f) → (f.problem ≡ p.problem) × (f.job ≡ job)
+proof_for p job (Output kind) bytes f h = absurd h
+proof_for p job (ProofFile kind) bytes f h = (h.1.1, h.1.2)
 
 -- a finding is one for the job of the problem
-pub for_law : (p : AskedOf) (job : JobName) (bytes : List ℕ) (f : FindingOf) → Stands p job bytes (judged.Found f) ⊎ (Ends p job bytes (judged.Found f) ⊎ Proves bytes (judged.Found f))
-    → (f.problem ≡ p.problem) × (f.job ≡ job)
-for_law p job bytes f (inl h) = (h.1.1, h.1.2)
-for_law p job bytes f (inr (inl h)) = (h.1.1, h.1.2)
-for_law p job bytes f (inr (inr h)) = absurd h
+pub for_law : (p : AskedOf) (job : JobName) (by : Evidence) (bytes : List ℕ) (f : FindingOf)
+    → Stands p job by bytes (judged.Found f) ⊎ (Ends p job by bytes (judged.Found f) ⊎ Proves p job by bytes (judged.Found f)) → (f.problem ≡ p.problem) × (f.job ≡ job)
+for_law p job by bytes f (inl h) = (h.1.1, h.1.2)
+for_law p job by bytes f (inr (inl h)) = (h.1.1, h.1.2)
+for_law p job by bytes f (inr (inr h)) = proof_for p job by bytes f h

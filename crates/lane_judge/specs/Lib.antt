@@ -2,3 +2,4 @@
 pub mod Fates
 pub mod Serving
 pub mod Words
+pub mod Watching

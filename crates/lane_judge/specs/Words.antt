@@ -1,8 +1,10 @@
 -- The words of a lane's child.
-use Rattle.std.specs.Prelude.{ℕ, List, [], ◌∷◌, ◌++◌, Option, None, Some, codes}
+use Rattle.std.specs.Prelude.{ℕ, Bool, cond, List, [], ◌∷◌, ◌++◌, length, take, drop, map, Option, None, Some, option_map, codes, bytes_eq}
 use Rattle.std.specs.Fmt.{decimal}
 use Rattle.sby_terms.specs.declared.engine.Engine.{Engine}
 use Rattle.sby_terms.specs.declared.engine.Engine.TheVariants as engine
+use Rattle.sby_terms.specs.declared.names.JobName.{JobName}
+use Rattle.sby_terms.specs.Path.{job_text}
 
 unfoldable pub solver_word : List ℕ
 solver_word = codes "cdcl_program"
@@ -10,17 +12,59 @@ solver_word = codes "cdcl_program"
 unfoldable pub budget_word : List ℕ
 budget_word = codes "--conflicts"
 
--- the words of an engine's child, for the job's file at this path; there are none for the kinds that serve no job
-abbrev pub words_of : Engine → List ℕ → List (List ℕ)
-words_of (engine.Sat None) path = solver_word ∷ path ∷ []
-words_of (engine.Sat (Some n)) path = solver_word ∷ budget_word ∷ decimal n ∷ path ∷ []
-words_of (engine.Drup words) path = words ++ path ∷ []
-words_of (engine.Btor words) path = []
-words_of (engine.Lrat words) path = []
-words_of (engine.Proof words) path = []
-words_of (engine.ProofBinary words) path = []
+-- what stands for the path of the job's file, and for that of the proof file
+unfoldable pub formula_mark : List ℕ
+formula_mark = codes "{cnf}"
+
+unfoldable pub proof_mark : List ℕ
+proof_mark = codes "{proof}"
+
+-- a word begins with a mark
+abbrev pub begins : List ℕ → List ℕ → Bool
+begins mark word = bytes_eq mark (take (length mark) word)
+
+-- what stands before a mark in a word and behind it, at its first place; nothing where it doesn't stand there
+abbrev pub parted : List ℕ → List ℕ → Option (List ℕ × List ℕ)
+parted mark [] = None
+parted mark (b ∷ bs) = cond (begins mark (b ∷ bs)) (Some ([], drop (length mark) (b ∷ bs))) (option_map (λ (p : List ℕ × List ℕ). (b ∷ p.0, p.1)) (parted mark bs))
+
+-- a path in place of a mark
+abbrev pub joined : List ℕ → List ℕ → Option (List ℕ × List ℕ) → List ℕ
+joined path word None = word
+joined path word (Some (front, back)) = front ++ path ++ back
+
+abbrev pub replaced : List ℕ → List ℕ → List ℕ → List ℕ
+replaced mark path word = joined path word (parted mark word)
+
+-- a word with these paths in place of the marks
+abbrev pub both_joined : List ℕ → List ℕ → List ℕ → Option (List ℕ × List ℕ) → List ℕ
+both_joined path proof word None = replaced proof_mark proof word
+both_joined path proof word (Some (front, back)) = replaced proof_mark proof front ++ path ++ replaced proof_mark proof back
+
+abbrev pub with_paths : List ℕ → List ℕ → List ℕ → List ℕ
+with_paths path proof word = both_joined path proof word (parted formula_mark word)
+
+-- the words of an engine's child, for the job's file and the proof file at these paths; there are none for the kind that serves no job
+abbrev pub words_of : Engine → List ℕ → List ℕ → List (List ℕ)
+words_of (engine.Sat None) path proof = solver_word ∷ path ∷ []
+words_of (engine.Sat (Some n)) path proof = solver_word ∷ budget_word ∷ decimal n ∷ path ∷ []
+words_of (engine.Drup words) path proof = words ++ path ∷ []
+words_of (engine.Btor words) path proof = []
+words_of (engine.Lrat words) path proof = words ++ path ∷ []
+words_of (engine.Proof words) path proof = map (with_paths path proof) words
+words_of (engine.ProofBinary words) path proof = map (with_paths path proof) words
 
 -- those of a lane, if it has an engine
-abbrev pub words_at : Option Engine → List ℕ → List (List ℕ)
-words_at None path = []
-words_at (Some e) path = words_of e path
+abbrev pub words_at : Option Engine → List ℕ → List ℕ → List (List ℕ)
+words_at None path proof = []
+words_at (Some e) path proof = words_of e path proof
+
+unfoldable pub file_text : ℕ → List ℕ → List ℕ
+file_text lane job = codes "engine_" ++ decimal lane ++ codes "_" ++ job
+
+unfoldable pub proof_text : List ℕ → List ℕ → List ℕ
+proof_text folder file = folder ++ codes "/model/" ++ file ++ codes ".proof"
+
+-- the path of the proof file that a lane's child leaves for a job of a task with so many slices
+abbrev pub proof_path : List ℕ → ℕ → ℕ → JobName → List ℕ
+proof_path folder lane slices job = proof_text folder (file_text lane (job_text slices job))

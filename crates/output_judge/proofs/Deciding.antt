@@ -16,13 +16,14 @@ use Rattle.stream_judge.specs.Fate.{Bad, Comes, Fate, FateOf, Unknown}
 use Rattle.stream_judge.specs.Values.{unnamed}
 use Rattle.stream_judge.specs.declared.stream.CertKind.TheVariants.{EarlyEnd}
 use Rattle.stream_judge.proofs.Coming.{sides}
-use Rattle.output_judge.specs.Fate.{IsOutputFate, own_fate}
+use Rattle.stream_judge.proofs.Fates.{within_so_far}
+use Rattle.output_judge.specs.Fate.{IsOutputFate, IsOutputFateSoFar, own_fate}
 use Rattle.output_judge.specs.Output.{any_unknown, any_values, claim_read, has_unknown, has_values, is_alone, is_claim, is_unknown_line, is_values_line, line_read, lines_read, stream_of}
 use Rattle.output_judge.specs.Spots.{ends_word, given, given_at_end, given_by, next_spot, spot_after}
 use Rattle.output_judge.specs.declared.spot.Spot.{Spot}
 use Rattle.output_judge.specs.declared.spot.Spot.TheVariants.{Start, Held, Within}
 use Rattle.output_judge.proofs.Fates.{IsLate, comes_late, so_far_late}
-use Rattle.output_judge.proofs.Reading.{and_true, given_whole}
+use Rattle.output_judge.proofs.Reading.{and_true, given_is, given_whole}
 
 -- words with the same texts
 abbrev Alike : List Word → List Word → Type 0
@@ -197,6 +198,20 @@ stream_length bytes =
     let q = all_length Start bytes in
     let r = ap length (given_whole bytes) in
     omega (arith, p, q, r)
+
+held_one : (spot : Spot) → length (given_at_end spot) ≤ 1
+held_one Start = omega arith
+held_one (Held head) = omega arith
+held_one Within = omega arith
+
+-- bytes that have no fate yet are, but for one that is held, no more than are taken
+pub output_within : (job bytes : List ℕ) (most : ℕ) → IsOutputFateSoFar job bytes most None → length bytes ≤ most + 1
+output_within job bytes most (f, d, h) =
+    let n = within_so_far f most (stream_of false bytes) h in
+    let q = all_length Start bytes in
+    let r = ap length (given_is bytes) in
+    let o = held_one (spot_after Start bytes) in
+    omega (arith, n, q, r, o)
 
 -- UNKNOWN comes to a fate
 none_unknown : (f : FormulaOf) (ts : List (List ℕ)) → Comes f (unknowns ts) None → any_unknown ts ≡ false

@@ -1,6 +1,6 @@
 -- Fates of outputs: one, and for good.
 use Rattle.std.proofs.Common.{◌≡◌, ℕ, Bool, true, false, List, [], ◌∷◌, ◌++◌, length, take, Option, Some, refl, ap, sym, ◌∙◌, inl, inr, subst}
-use Rattle.cnf_form.specs.Cnf.{Assignment, FormulaOf, LitOf, Satisfies}
+use Rattle.cnf_form.specs.Cnf.{Assignment, FormulaOf, IsUnsatisfiable, LitOf, Satisfies}
 use Rattle.cnf_form.specs.Dimacs.{IsDimacs}
 use Rattle.cert_stream.specs.Telling.{Saying, IsClause, IsDelete, IsValue, IsValuesEnd, IsUnknown, IsFault}
 use Rattle.cert_stream.specs.Stream.{sayings}
@@ -8,11 +8,11 @@ use Rattle.cert_stream.specs.declared.mode.WireFaultKind.{WireFaultKind}
 use Rattle.cert_stream.specs.declared.mode.WireFaultKind.TheVariants.{BadLine as BadLineFault, BadLiteral as BadLiteralFault, LineTooLong as LineTooLongFault}
 use Rattle.stream_judge.specs.Fate.{Fate, ComesTo, FateSoFar, Found, Unknown, Bad, IsFate, cert_kind}
 use Rattle.sby_terms.specs.declared.names.Answer.{Answer}
-use Rattle.sby_terms.specs.declared.names.Answer.TheVariants.{Sat}
-use Rattle.stream_judge.specs.declared.stream.CertKind.TheVariants.{BadLine, BadLiteral, LineTooLong, NotRup, NotSatisfying, TooLong, EarlyEnd}
+use Rattle.sby_terms.specs.declared.names.Answer.TheVariants.{Sat, Unsat}
+use Rattle.stream_judge.specs.declared.stream.CertKind.TheVariants.{BadLine, BadLiteral, LineTooLong, NotRup, NotSatisfying, TooLong, EarlyEnd, BadId, BadHint, NotHinted}
 use Rattle.stream_judge.specs.Values.{named, unnamed}
 use Rattle.stream_judge.proofs.Coming.{sides}
-use Rattle.stream_judge.proofs.Fates.{fate_at_end, fate_stays, file_fate, file_satisfied}
+use Rattle.stream_judge.proofs.Fates.{fate_at_end, fate_stays, file_fate, file_refuted, file_satisfied}
 use Rattle.output_judge.specs.Fate.{IsOutputFate, IsOutputFateSoFar, own_fate}
 use Rattle.output_judge.specs.Output.{has_values, stream_of}
 use Rattle.output_judge.specs.Spots.{given, given_at_end, spot_after}
@@ -115,7 +115,14 @@ own_same false (Bad NotRup n) y e = some_same (Bad NotRup n) y (sym e)
 own_same false (Bad NotSatisfying n) y e = some_same (Bad NotSatisfying n) y (sym e)
 own_same false (Bad TooLong n) y e = some_same (Bad TooLong n) y (sym e)
 own_same false (Bad EarlyEnd n) y e = absurd (let k = e in cc)
+own_same false (Bad BadId n) y e = some_same (Bad BadId n) y (sym e)
+own_same false (Bad BadHint n) y e = some_same (Bad BadHint n) y (sym e)
+own_same false (Bad NotHinted n) y e = some_same (Bad NotHinted n) y (sym e)
 
 pub output_satisfied : (job bytes : List ℕ) (most : ℕ) (f : FormulaOf) → IsDimacs job f → IsOutputFate job bytes most (Some (Found Sat)) → (x : Assignment) × Satisfies x f.clauses
 output_satisfied job bytes most f d (x, h, e) =
     file_satisfied job (stream_of true bytes) most f d (subst (IsFate job (stream_of true bytes) most) (own_same (has_values bytes) x (Found Sat) e) h)
+
+pub output_refuted : (job bytes : List ℕ) (most : ℕ) (f : FormulaOf) → IsDimacs job f → IsOutputFate job bytes most (Some (Found Unsat)) → IsUnsatisfiable f.clauses
+output_refuted job bytes most f d (x, h, e) =
+    file_refuted job (stream_of true bytes) most f d (subst (IsFate job (stream_of true bytes) most) (own_same (has_values bytes) x (Found Unsat) e) h)

@@ -2,7 +2,7 @@
 use Rattle.std.specs.Prelude.{◌≡◌, ℕ, Bool, true, false, List, Option, Some, None}
 use Rattle.stream_judge.specs.Fate.{Fate, Found, Unknown, Bad, IsFate, IsFateSoFar}
 use Rattle.stream_judge.specs.declared.stream.CertKind.{CertKind}
-use Rattle.stream_judge.specs.declared.stream.CertKind.TheVariants.{BadLine, BadLiteral, LineTooLong, NotRup, NotSatisfying, TooLong, EarlyEnd}
+use Rattle.stream_judge.specs.declared.stream.CertKind.TheVariants.{BadLine, BadLiteral, LineTooLong, NotRup, NotSatisfying, TooLong, EarlyEnd, BadId, BadHint, NotHinted}
 use Rattle.output_judge.specs.Output.{stream_of, has_values}
 
 -- an early end is no fate
@@ -14,6 +14,9 @@ unless_early NotRup byte = Some (Bad NotRup byte)
 unless_early NotSatisfying clause = Some (Bad NotSatisfying clause)
 unless_early TooLong byte = Some (Bad TooLong byte)
 unless_early EarlyEnd byte = None
+unless_early BadId byte = Some (Bad BadId byte)
+unless_early BadHint byte = Some (Bad BadHint byte)
+unless_early NotHinted byte = Some (Bad NotHinted byte)
 
 -- Without a line of values an output that ends early has no fate of its own: the proof file decides.
 abbrev pub own_fate : Bool → Fate → Option Fate

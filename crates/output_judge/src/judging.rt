@@ -16,7 +16,7 @@ use cnf_form::Formula;
 use memchr::memchr;
 use std::alloc::{AllocError, Global};
 use std::marker::Model;
-use stream_judge::{CertKind, Outcome, StreamJudge, StreamKind};
+use stream_judge::{CertKind, Outcome, StreamJudge};
 
 /// A judge of the standard output of a solver that leaves a proof file. It keeps no earlier bytes, and passes over every line that is
 /// neither one of values nor a status line.
@@ -117,7 +117,7 @@ impl<'a> OutputJudge<'a> {
         ensures open { IfOk result (λ o. o.judge.outcome ≡ None) }
     {
         Ok(OutputJudge {
-            judge: StreamJudge::new(alloc, formula, StreamKind::Drup, most)?,
+            judge: StreamJudge::new(alloc, formula, most)?,
             spot: Spot::Start,
             values: false,
         })

@@ -5,8 +5,6 @@
 mod judging;
 mod laws;
 mod spot;
-#[cfg(test)]
-mod tests;
 
 pub use judging::OutputJudge;
 pub use laws::{

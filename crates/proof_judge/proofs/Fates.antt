@@ -9,7 +9,7 @@ use Rattle.cnf_form.proofs.Rup.{Admitted-true, Satisfies-push}
 use Rattle.cnf_form.proofs.Members.{Contains-empty}
 use Rattle.cnf_form.proofs.Removal.{Deletes-within}
 use Rattle.cert_stream.specs.Telling.{Saying, IsClause, IsDelete, IsValue, IsValuesEnd, IsUnknown, IsFault}
-use Rattle.sby_terms.specs.declared.names.Answer.TheVariants.{Unsat}
+use Rattle.sby_terms.specs.declared.names.Answer.TheVariants.{Sat, Unsat}
 use Rattle.stream_judge.specs.declared.stream.CertKind.TheVariants.{TooLong}
 use Rattle.stream_judge.specs.Fate.{Fate, Found, Unknown, Bad}
 use Rattle.stream_judge.proofs.Coming.{sides}
@@ -65,6 +65,17 @@ refuted F (IsValue c ∷ ss) h y s = refuted F ss h y s
 refuted F (IsValuesEnd ∷ ss) h y s = refuted F ss h y s
 refuted F (IsUnknown ∷ ss) h y s = refuted F ss h y s
 refuted F (IsFault f ∷ ss) e y s = cc
+
+never_satisfied : (F : Clauses) (ss : List Saying) → ComesTo F ss (Some (Found Sat)) → ⊥
+never_satisfied F [] e = absurd (let k = e in cc)
+never_satisfied F (IsClause c place ∷ ss) (inl (a, n, e)) = absurd (let k = e in cc)
+never_satisfied F (IsClause c place ∷ ss) (inr (inl (a, n, h))) = never_satisfied (F ++ c ∷ []) ss h
+never_satisfied F (IsClause c place ∷ ss) (inr (inr (n, e))) = absurd (let k = e in cc)
+never_satisfied F (IsDelete c ∷ ss) (G, d, h) = never_satisfied G ss h
+never_satisfied F (IsValue c ∷ ss) h = never_satisfied F ss h
+never_satisfied F (IsValuesEnd ∷ ss) h = never_satisfied F ss h
+never_satisfied F (IsUnknown ∷ ss) h = never_satisfied F ss h
+never_satisfied F (IsFault f ∷ ss) e = absurd (let k = e in cc)
 
 pub some_same : (x y : Fate) → Some x ≡ Some y → x ≡ y
 some_same x y e = cc
@@ -153,7 +164,7 @@ module _ (f : FormulaOf) (form : Form) (most : ℕ) where
   found_at_end n Unknown e = absurd (let k = e in cc)
   found_at_end n (Bad kind byte) e = absurd (let k = e in cc)
 
-  refuted_so_far : (bytes : List ℕ) → FateSoFar f form bytes most (Some (Found Unsat)) → IsUnsatisfiable f.clauses
+  pub refuted_so_far : (bytes : List ℕ) → FateSoFar f form bytes most (Some (Found Unsat)) → IsUnsatisfiable f.clauses
   refuted_so_far bytes h =
       elim (sides (length bytes) most) [
         | inl l ↦ let w = h.within l in refuted f.clauses w.0 w.2
@@ -164,6 +175,37 @@ module _ (f : FormulaOf) (form : Form) (most : ℕ) where
   refuted_at_end bytes (inl h) = refuted_so_far bytes h
   refuted_at_end bytes (inr (h, (ss, x, s, k, e))) =
       refuted f.clauses (tried (length bytes) ss) (subst (λ z. ComesTo f.clauses (tried (length bytes) ss) (Some z)) (found_at_end (length bytes) x e) k)
+
+  satisfied_or : (x : Option Fate) → Some (Found Sat) ≡ Some (fate_or x (Bad TooLong most)) → x ≡ Some (Found Sat)
+  satisfied_or None e = absurd (let k = e in cc)
+  satisfied_or (Some x) e = sym e
+
+  satisfied_at_end : (n : ℕ) (x : Fate) → Found Sat ≡ at_end n x → x ≡ Found Sat
+  satisfied_at_end n (Found a) e = sym e
+  satisfied_at_end n Unknown e = absurd (let k = e in cc)
+  satisfied_at_end n (Bad kind byte) e = absurd (let k = e in cc)
+
+  pub no_values_so_far : (bytes : List ℕ) → FateSoFar f form bytes most (Some (Found Sat)) → ⊥
+  no_values_so_far bytes h =
+      elim (sides (length bytes) most) [
+        | inl l ↦ let w = h.within l in never_satisfied f.clauses w.0 w.2
+        | inr l ↦ let w = h.beyond l in never_satisfied f.clauses w.0 (subst (λ z. ComesTo f.clauses w.0 z) (satisfied_or w.1 w.4) w.3)
+      ]
+
+  pub no_values_at_end : (bytes : List ℕ) → FateOf f form bytes most (Found Sat) → ⊥
+  no_values_at_end bytes (inl h) = no_values_so_far bytes h
+  no_values_at_end bytes (inr (h, (ss, x, s, k, e))) =
+      never_satisfied f.clauses (tried (length bytes) ss) (subst (λ z. ComesTo f.clauses (tried (length bytes) ss) (Some z)) (satisfied_at_end (length bytes) x e) k)
+
+  past_none : (bytes : List ℕ) → Beyond bytes None → ⊥
+  past_none bytes (ss, x, s, k, e) = absurd (let q = e in cc)
+
+  pub within_so_far : (bytes : List ℕ) → FateSoFar f form bytes most None → length bytes ≤ most
+  within_so_far bytes h =
+      elim (sides (length bytes) most) [
+        | inl l ↦ l
+        | inr l ↦ absurd (past_none bytes (h.beyond l))
+      ]
 
 -- of the formula that a job's file is
 pub file_fate : (job : List ℕ) (form : Form) (bytes : List ℕ) (most : ℕ) (x y : Fate) → IsProofFate job form bytes most x → IsProofFate job form bytes most y → x ≡ y

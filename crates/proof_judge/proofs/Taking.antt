@@ -72,7 +72,7 @@ module _ (j : JudgeOf) (o : Outcome) (e : j.outcome ≡ Some o) (bytes : List �
       record { stands = subst (StandsBy j (bytes ++ piece)) (sym e) fate; outcome = e; fate = λ file d. (j.formula, d, fate) }
 
   pub ends_again : Ends j j bytes o
-  ends_again = record { outcome = e; fate = λ file d. (j.formula, d, inl outcome_had) }
+  ends_again = record { outcome = e; over = inl outcome_had; fate = λ file d. (j.formula, d, inl outcome_had) }
 
 abbrev pub judge : FormulaOf → Form → ℕ → FileOf → ProofOf → Bool → JudgeOf
 judge f form most w p wanting = record { formula = f; form = form; most = most; wire = w; present = p.present; outcome = p.outcome; wanting = wanting }
@@ -237,4 +237,4 @@ module _ (form : Form) (most : ℕ) (w : FileOf) (p : ProofOf) (wanting : Bool) 
   )
 
   pub ends_piece : (v : FileOf) (d : ProofOf) (o : Outcome) → TakesEnd w p d o → d.outcome ≡ Some o → Ends old (judge d.formula form most v d wanting) bytes o
-  ends_piece v d o (k, x, h, q, r) n = record { outcome = n; fate = λ file i. (p.formula, i, inr (nothing_yet, end_fate k x o h q)) }
+  ends_piece v d o (k, x, h, q, r) n = record { outcome = n; over = inr (nothing_yet, end_fate k x o h q); fate = λ file i. (p.formula, i, inr (nothing_yet, end_fate k x o h q)) }

@@ -8,7 +8,7 @@ use Rattle.stream_judge.specs.Outcomes.{fate_of, fate_told}
 use Rattle.stream_judge.specs.declared.stream.Outcome.{Outcome}
 use Rattle.proof_stream.specs.File.{FileOf, StandsFor, fault, fresh, said}
 use Rattle.proof_stream.specs.declared.spot.Form.{Form}
-use Rattle.proof_judge.specs.Fate.{ComesTo, FateSoFar, IsProofFate, IsProofFateSoFar}
+use Rattle.proof_judge.specs.Fate.{ComesTo, FateOf, FateSoFar, IsProofFate, IsProofFateSoFar}
 
 -- the formula, the file's form, the greatest number of bytes, what is kept of the bytes so far, the clauses that are present, the outcome once
 -- there is one, and whether memory was wanting
@@ -51,4 +51,5 @@ pub record Feeds (old new : JudgeOf) (bytes : List ℕ) (o : Option Outcome) : T
 -- The judge answers the fate of the bytes as the whole proof file.
 pub record Ends (old new : JudgeOf) (bytes : List ℕ) (o : Outcome) : Type 0 where
   pub outcome : new.outcome ≡ Some o
+  pub over : FateOf old.formula old.form bytes old.most (fate_of o)
   pub fate : (file : List ℕ) → IsDimacs file old.formula → IsProofFate file old.form bytes old.most (fate_of o)

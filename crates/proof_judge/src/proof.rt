@@ -7,13 +7,13 @@ ghost use Rattle.stream_judge.specs.Fate.{cert_kind};
 ghost use Rattle.proof_stream.specs.File.{FileOf, end_fault, end_says, taken_of, vars_of};
 ghost use Rattle.proof_judge.specs.Leading.{Heard, HeardEnd, Hears, Leads, ProofOf, Tries, concluded, outcome_or, with_outcome};
 
-use cert_stream::{Fed, Receiver, WireFault, WireFaultKind};
+use cert_stream::{Fed, Receiver, WireFault};
 use cnf_form::{Formula, Lit};
 use drup_check::{Added, Checker};
 use proof_stream::ProofWire;
 use std::alloc::{AllocError, Global};
 use std::marker::Model;
-use stream_judge::{BadCert, CertKind, Outcome};
+use stream_judge::{BadCert, CertKind, Outcome, cert_kind};
 
 /// The clauses that are present, for a formula, and the outcome once there is one.
 #[derive(Drop)]
@@ -107,16 +107,6 @@ impl<'a> Receiver for Proof<'a> {
 
     fn unknown(&mut self) -> Result<bool, AllocError> {
         Ok(self.outcome.is_some())
-    }
-}
-
-fn cert_kind(kind: WireFaultKind) -> CertKind
-    ensures { result ≡ cert_kind kind }
-{
-    match kind {
-        WireFaultKind::BadLine => CertKind::BadLine,
-        WireFaultKind::BadLiteral => CertKind::BadLiteral,
-        WireFaultKind::LineTooLong => CertKind::LineTooLong,
     }
 }
 

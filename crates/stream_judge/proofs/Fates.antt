@@ -168,6 +168,18 @@ module _ (f : FormulaOf) (most : ℕ) where
       there l None h = k (Bad EarlyEnd (length bytes)) (record { within = λ _. inr (h, refl); beyond = λ b. absurd (omega arith) })
       there l (Some x) h = k x (record { within = λ _. inl h; beyond = λ b. absurd (omega arith) })
 
+  past_none : (bytes : List ℕ) → Beyond bytes None → ⊥
+  past_none bytes (inl (v, a, e)) = absurd (let q = e in cc)
+  past_none bytes (inr (a, e)) = absurd (let q = e in cc)
+
+  -- where there is no fate yet, no byte is too much
+  pub within_so_far : (bytes : List ℕ) → FateSoFar f bytes most None → length bytes ≤ most
+  within_so_far bytes h =
+      elim (sides (length bytes) most) [
+        | inl l ↦ l
+        | inr l ↦ absurd (past_none bytes (h.beyond l))
+      ]
+
 -- of the formula that a job's file is
 pub file_fate : (job bytes : List ℕ) (most : ℕ) (x y : Fate) → IsFate job bytes most x → IsFate job bytes most y → x ≡ y
 file_fate job bytes most x y v w =

@@ -8,3 +8,4 @@ pub mod Taking
 pub mod Lines
 pub mod Accepting
 pub mod Certs
+pub mod Numbering

@@ -4,12 +4,11 @@ ghost use Rattle.std.specs.Prelude.{◌≡◌, ◌↔◌, ◌≤◌, ◌<◌, �
 ghost use Rattle.cnf_form.specs.Cnf.{ClauseWithin, FormulaOf};
 ghost use Rattle.cert_stream.specs.Machine.{WireOf, at_end, fault_of};
 ghost use Rattle.cert_stream.specs.Telling.{after, fault_said, said, told_by};
-ghost use Rattle.stream_judge.specs.Fate.{cert_kind};
 ghost use Rattle.stream_judge.specs.Leading.{Begins, CertificateOf, Heard, Hears, Leads, concluded, outcome_or, with_outcome};
 
-use crate::stream::{BadCert, CertKind, Outcome};
+use crate::stream::{BadCert, CertKind, Outcome, cert_kind};
 use crate::values::Values;
-use cert_stream::{Fed, Receiver, Wire, WireFault, WireFaultKind};
+use cert_stream::{Fed, Receiver, Wire, WireFault};
 use cnf_form::{Formula, Lit};
 use drup_check::{Added, Checker};
 use std::alloc::{AllocError, Global};
@@ -128,16 +127,6 @@ impl<'a> Receiver for Certificate<'a> {
     fn unknown(&mut self) -> Result<bool, AllocError> {
         self.settle(Outcome::Unknown);
         Ok(self.outcome.is_some())
-    }
-}
-
-fn cert_kind(kind: WireFaultKind) -> CertKind
-    ensures { result ≡ cert_kind kind }
-{
-    match kind {
-        WireFaultKind::BadLine => CertKind::BadLine,
-        WireFaultKind::BadLiteral => CertKind::BadLiteral,
-        WireFaultKind::LineTooLong => CertKind::LineTooLong,
     }
 }
 

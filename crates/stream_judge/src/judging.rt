@@ -7,7 +7,7 @@ ghost use Rattle.stream_judge.specs.Leading.{TakesEnd, TakesPiece};
 ghost use Rattle.stream_judge.specs.declared.stream.Outcome.{Outcome};
 
 use crate::certificate::Certificate;
-use crate::stream::{CertKind, Outcome, StreamKind};
+use crate::stream::{CertKind, Outcome};
 use cert_stream::Wire;
 use cnf_form::Formula;
 use std::alloc::{AllocError, Global};
@@ -44,12 +44,7 @@ impl<'a> Model for StreamJudge<'a> {
 
 impl<'a> StreamJudge<'a> {
     /// A judge that has taken nothing yet, and takes at most `most` bytes, from 1 to 2^32.
-    pub fn new(
-        alloc: Global,
-        formula: &'a Formula,
-        kind: StreamKind,
-        most: u64,
-    ) -> Result<Self, AllocError>
+    pub fn new(alloc: Global, formula: &'a Formula, most: u64) -> Result<Self, AllocError>
         requires least { 1 ≤ most }
         requires limit { most ≤ 2 ^ 32 }
         ensures formula { IfOk result (λ j. j.formula ≡ formula.now) }
@@ -57,7 +52,6 @@ impl<'a> StreamJudge<'a> {
         ensures stands { IfOk result (λ j. Stands j []) }
         ensures open { IfOk result (λ j. j.outcome ≡ None) }
     {
-        let _ = kind;
         let certificate = Certificate::new(alloc, formula)?;
         Ok(StreamJudge {
             most,

@@ -5,8 +5,6 @@ mod certificate;
 mod judging;
 mod laws;
 mod stream;
-#[cfg(test)]
-mod tests;
 mod values;
 
 pub use judging::StreamJudge;
@@ -15,4 +13,5 @@ pub use laws::{
     found_fate_begins_certificate, found_fate_stays_before_more, found_sat_is_satisfiable,
     found_unsat_is_unsatisfiable, one_fate, some_fate,
 };
-pub use stream::{BadCert, CertKind, Outcome, StreamKind};
+pub use stream::{BadCert, CertKind, Outcome, StreamKind, cert_kind};
+pub use values::Values;

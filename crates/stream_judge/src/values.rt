@@ -45,7 +45,7 @@ fn first_unsatisfied(values: &[bool], formula: &Formula) -> Option<u64>
 
 /// The values that a stream named so far, of the variables up to the greatest one.
 #[derive(Drop)]
-pub(crate) struct Values {
+pub struct Values {
     bits: Vec<bool>,
 }
 
@@ -59,7 +59,7 @@ impl Model for Values {
 
 impl Values {
     /// Before any variable is named.
-    pub(crate) fn new(alloc: Global, vars: u32) -> Result<Values, AllocError>
+    pub fn new(alloc: Global, vars: u32) -> Result<Values, AllocError>
         ensures size { IfOk result (λ values. length values ≡ vars + 1) }
         ensures unnamed { IfOk result (λ values. (v : ℕ) → values_of values v ≡ false) }
     {
@@ -68,14 +68,14 @@ impl Values {
     }
 
     /// A bit for each variable, at its number; place 0 is no variable's.
-    pub(crate) fn bits(&self) -> &[bool]
+    pub fn bits(&self) -> &[bool]
         ensures { result.now ≡ self.now }
     {
         self.bits.as_slice()
     }
 
     /// A literal gives its variable its sign.
-    pub(crate) fn name(&mut self, l: Lit)
+    pub fn name(&mut self, l: Lit)
         requires { l.var < length self.old }
         ensures size { length self.new ≡ length self.old }
         ensures named { (v : ℕ) → values_of self.new v ≡ named (values_of self.old) l v }
@@ -84,7 +84,7 @@ impl Values {
     }
 
     /// The number of the formula's first clause, from 1, that they don't satisfy.
-    pub(crate) fn first_unsatisfied(&self, formula: &Formula) -> Option<u64>
+    pub fn first_unsatisfied(&self, formula: &Formula) -> Option<u64>
         requires { length self.now ≡ formula.now.vars + 1 }
         ensures some { IfSome result (IsFirstUnsatisfied (values_of self.now) formula.now.clauses) }
         ensures none { IfNone result (Satisfies (values_of self.now) formula.now.clauses) }

@@ -1,111 +1,48 @@
 -- Why jobs of lanes end so.
-use Rattle.std.proofs.Common.{◌≡◌, ◌≢◌, ℕ, zero, suc, ◌-◌, ◌<◌, ◌≤◌, inl, inr, Bool, true, false, List, [], ◌∷◌, ◌++◌, length, append-nil, refl, sym, ap, subst, ◌∙◌, arith}
+use Rattle.std.proofs.Common.{◌≡◌, ◌⊎◌, ℕ, zero, suc, ◌-◌, ◌<◌, ◌≤◌, inl, inr, Bool, true, false, List, [], ◌∷◌, ◌++◌, length, refl, sym, subst, ◌∙◌, arith}
 use Rattle.std.proofs.Common.{not, ◌&&◌}
 use Rattle.std.specs.Prelude.{Option, Some, None, IsSome, IsSomeAnd, Contains, slice_get, slice_index_or, unwrap_or}
 use Rattle.sby_edge.specs.Cause.{CountsOf}
 use Rattle.sby_edge.specs.Child.{YardOf}
 use Rattle.sby_terms.specs.declared.names.JobName.{JobName}
 use Rattle.judge.specs.Finding.{FindingOf}
-use Rattle.judge.specs.Problem.{AskedOf}
-use Rattle.race_core.specs.Asking.{needless_by}
+use Rattle.race_core.specs.Asking.{needless_by, skipped_by}
 use Rattle.race_core.specs.Carrying.{Carries, KnewBy}
 use Rattle.race_core.specs.Consistent.{Replayed, end_at, events_at}
-use Rattle.race_core.specs.Ends.{EndIs, HasEnd, IsLast}
+use Rattle.race_core.specs.Ends.{EndIs, IsLast}
 use Rattle.race_core.specs.Parts.{keeper_of, reader_of}
 use Rattle.race_core.specs.Report.{ReportOf}
 use Rattle.race_core.specs.declared.end.JobEnd.{JobEnd}
 use Rattle.race_core.specs.declared.end.JobEnd.TheVariants as end
 use Rattle.race_core.specs.declared.event.Judged.{Judged}
 use Rattle.race_core.specs.declared.event.Judged.TheVariants as judged
-use Rattle.race_core.specs.declared.part.By.{By}
-use Rattle.race_core.specs.declared.part.By.TheVariants as by
-use Rattle.race_core.specs.declared.part.Reader.{Reader}
-use Rattle.race_core.specs.declared.part.Reader.TheVariants as reader
-use Rattle.lane_child.specs.Reading.{Comes, ComesBy}
+use Rattle.lane_child.specs.Reading.{Comes, IsProof, NotByFile}
 use Rattle.lane_child.specs.Starting.{IsFrontOf, NoStart, ReadsScript}
-use Rattle.lane_run.proofs.Reasons.{by_look}
-use Rattle.lane_judge.specs.Fates.{Ends, Proves, Stands, most_bytes, stays_law}
+use Rattle.lane_run.proofs.Plains.{plain_bad, plain_found, plain_unknown}
+use Rattle.lane_run.proofs.Reasons.{called_by_look, skipped_by_look}
+use Rattle.lane_run.specs.Complete.{ComesTo}
+use Rattle.lane_judge.specs.Fates.{Ends, Proves, Stands, most_bytes, most_output, stays_law}
 use Rattle.lane_judge.specs.Serving.{IsServing}
 use Rattle.task_race.specs.Bays.{bay_at}
-use Rattle.task_race.specs.Ends.{HasEndCause, IsJudgedAs, IsLimitShown, IsCalledOffBy, IsSkippedBy, IsStreamOf, script_of}
-use Rattle.task_race.specs.Ran.{RacingOf, IsStart, LanesRan, Serves, job_count, name_in, terms_in}
+use Rattle.task_race.specs.Ends.{HasEndCause, IsJudgedAs, IsLimitShown, IsCalledOffBy, IsProofOf, IsSkippedBy, IsStreamOf, script_of}
+use Rattle.task_race.specs.Ran.{RacingOf, IsStart, LanesRan, Serves, evidence_in, job_count, name_in, terms_in}
 use Rattle.task_race.proofs.JobLemmas.{job_named}
 use Rattle.task_race.proofs.PlaceLemmas.{contains_at}
 
--- ---- what a stream comes to
-
--- what an output comes to by its bytes, or by its close, the whole stream comes to
-stream_ends : (p : AskedOf) (job : JobName) (output rest proof : List ℕ) (b : By) (said : Judged FindingOf) → said ≢ judged.More
-    → ComesBy (Stands p job) (Ends p job) Proves (rest ≡ []) output proof b said → Ends p job (output ++ rest) said
-stream_ends p job output rest proof by.Bytes said some comes = stays_law p job output rest said some comes
-stream_ends p job output rest proof by.Close said some comes =
-    subst (λ (stream : List ℕ). Ends p job stream said) (sym (ap (λ (more : List ℕ). output ++ more) comes.0 ∙ append-nil output)) comes.1
-stream_ends p job output rest proof by.File said some comes = absurd comes.2
-
-found_is_some : (f : FindingOf) → judged.Found f ≢ judged.More
-found_is_some f is = cc
-
-unknown_is_some : ◌≢◌ {A = Judged FindingOf} judged.Unknown judged.More
-unknown_is_some is = cc
-
-bad_is_some : (number at : ℕ) → ◌≢◌ {A = Judged FindingOf} (judged.Bad number at) judged.More
-bad_is_some number at is = cc
-
--- a reader with this end says that of the stream
-module _ (p : AskedOf) (job : JobName) (output rest proof : List ℕ) where
-  found_ends : (r : Reader FindingOf) (f : FindingOf) → HasEnd r (end.Found f) → Comes (Stands p job) (Ends p job) Proves (rest ≡ []) output proof r → Ends p job (output ++ rest) (judged.Found f)
-  found_ends (reader.Holding g b) f is comes =
-      let same : g ≡ f = cc in
-      subst (λ (x : FindingOf). Ends p job (output ++ rest) (judged.Found x)) same (stream_ends p job output rest proof b (judged.Found g) (found_is_some g) comes)
-  found_ends (reader.Found g b won) f is comes =
-      let same : g ≡ f = cc in
-      subst (λ (x : FindingOf). Ends p job (output ++ rest) (judged.Found x)) same (stream_ends p job output rest proof b (judged.Found g) (found_is_some g) comes)
-  found_ends (reader.Unknown b) f is comes = absurd (cc)
-  found_ends (reader.Bad number at b) f is comes = absurd (cc)
-  found_ends reader.Failed f is comes = absurd (cc)
-  found_ends reader.Fresh f is comes = absurd is
-  found_ends reader.Reading f is comes = absurd is
-  found_ends reader.Asking f is comes = absurd is
-  found_ends reader.Unjudged f is comes = absurd is
-  found_ends reader.Short f is comes = absurd is
-  found_ends reader.Wrong f is comes = absurd is
-
-  unknown_ends : (r : Reader FindingOf) → HasEnd r end.Unknown → Comes (Stands p job) (Ends p job) Proves (rest ≡ []) output proof r → Ends p job (output ++ rest) judged.Unknown
-  unknown_ends (reader.Unknown b) is comes = stream_ends p job output rest proof b judged.Unknown unknown_is_some comes
-  unknown_ends (reader.Holding g b) is comes = absurd (cc)
-  unknown_ends (reader.Found g b won) is comes = absurd (cc)
-  unknown_ends (reader.Bad number at b) is comes = absurd (cc)
-  unknown_ends reader.Failed is comes = absurd (cc)
-  unknown_ends reader.Fresh is comes = absurd is
-  unknown_ends reader.Reading is comes = absurd is
-  unknown_ends reader.Asking is comes = absurd is
-  unknown_ends reader.Unjudged is comes = absurd is
-  unknown_ends reader.Short is comes = absurd is
-  unknown_ends reader.Wrong is comes = absurd is
-
-  bad_ends : (r : Reader FindingOf) (number at : ℕ) → HasEnd r (end.Bad number at) → Comes (Stands p job) (Ends p job) Proves (rest ≡ []) output proof r
-      → Ends p job (output ++ rest) (judged.Bad number at)
-  bad_ends (reader.Bad n a b) number at is comes =
-      let number_is : n ≡ number = cc in
-      let at_is : a ≡ at = cc in
-      subst (λ (x : ℕ). Ends p job (output ++ rest) (judged.Bad number x)) at_is
-      (subst (λ (x : ℕ). Ends p job (output ++ rest) (judged.Bad x a)) number_is (stream_ends p job output rest proof b (judged.Bad n a) (bad_is_some n a) comes))
-  bad_ends (reader.Unknown b) number at is comes = absurd (cc)
-  bad_ends (reader.Holding g b) number at is comes = absurd (cc)
-  bad_ends (reader.Found g b won) number at is comes = absurd (cc)
-  bad_ends reader.Failed number at is comes = absurd (cc)
-  bad_ends reader.Fresh number at is comes = absurd is
-  bad_ends reader.Reading number at is comes = absurd is
-  bad_ends reader.Asking number at is comes = absurd is
-  bad_ends reader.Unjudged number at is comes = absurd is
-  bad_ends reader.Short number at is comes = absurd is
-  bad_ends reader.Wrong number at is comes = absurd is
+-- ---- what a child leaves
 
 -- an output and what is left behind it are the stream of the job's child
 front_streams : (told : Option YardOf) (task lane : ℕ) (job : JobName) (output rest : List ℕ) → IsFrontOf (bay_at told task lane) job output rest
     → IsStreamOf (script_of told task lane job) (output ++ rest)
 front_streams None task lane job output rest front = tt
 front_streams (Some scripts) task lane job output rest front = front
+
+-- what is got of a lane's proof file is that of the job's script
+proof_streams : {A : Type 0} (told : Option YardOf) (task lane : ℕ) (job : JobName) (proof : List ℕ) → IsProof (bay_at told task lane) job most_bytes proof ⊎ A
+    → IsProofOf (script_of told task lane job) proof ⊎ A
+proof_streams None task lane job proof (inl is) = inl tt
+proof_streams (Some scripts) task lane job proof (inl is) = inl is
+proof_streams told task lane job proof (inr none) = inr none
 
 -- ---- who spares a job
 
@@ -143,7 +80,8 @@ module _ (racing : RacingOf) (may_read : ℕ → Type 0) (told : Option YardOf) 
 
   -- an end of a child that ran, and what its reader read
   read_out : (e : JobEnd FindingOf) → end_at r place ≡ e → (IsLast e → ⊥) → (NoStart e → ⊥) → (e ≡ end.StartFailed → ⊥)
-      → ReadsScript (Stands racing.problem (name_in racing place)) (Ends racing.problem (name_in racing place)) Proves (bay_at told racing.task lane) (name_in racing place) most_bytes
+      → ReadsScript (Stands racing.problem (name_in racing place) (evidence_in racing lane)) (Ends racing.problem (name_in racing place) (evidence_in racing lane))
+      (Proves racing.problem (name_in racing place) (evidence_in racing lane)) (bay_at told racing.task lane) (name_in racing place) most_bytes (most_output (evidence_in racing lane))
       (events_at r place).reader
   read_out e is goes_on started ran_on = elim ((ran.starts lane r at).1.each place lt) [
     | inl late ↦ absurd (goes_on (subst (λ (x : JobEnd FindingOf). IsLast x) (sym late.0.3 ∙ is) late.0.2))
@@ -157,31 +95,46 @@ module _ (racing : RacingOf) (may_read : ℕ → Type 0) (told : Option YardOf) 
   ]
 
   judged_as : (said : Judged FindingOf) (e : JobEnd FindingOf) → end_at r place ≡ e → (IsLast e → ⊥) → (NoStart e → ⊥) → (e ≡ end.StartFailed → ⊥) → Serves racing lane place
-      → ((output rest proof : List ℕ) → Comes (Stands racing.problem (name_in racing place)) (Ends racing.problem (name_in racing place)) Proves (rest ≡ []) output proof (reader_of (events_at r place))
-      → Ends racing.problem (name_in racing place) (output ++ rest) said)
+      → ((output rest proof : List ℕ) → IsProofOf (script_of told racing.task lane (name_in racing place)) proof ⊎ ((proof ≡ []) × NotByFile (reader_of (events_at r place)))
+      → Comes (Stands racing.problem (name_in racing place) (evidence_in racing lane)) (Ends racing.problem (name_in racing place) (evidence_in racing lane))
+      (Proves racing.problem (name_in racing place) (evidence_in racing lane)) (rest ≡ []) output proof (reader_of (events_at r place))
+      → ComesTo (Ends racing.problem (name_in racing place) (evidence_in racing lane)) (Proves racing.problem (name_in racing place) (evidence_in racing lane))
+      (IsProofOf (script_of told racing.task lane (name_in racing place))) (output ++ rest) said)
       → IsJudgedAs racing told lane (name_in racing place) said
-  judged_as said e is goes_on started ran_on serves ends =
-      let read = read_out e is goes_on started ran_on in
-      (serves, (read.output ++ read.rest, front_streams told racing.task lane (name_in racing place) read.output read.rest read.front, ends read.output read.rest read.proof read.comes))
+  judged_as said e is goes_on started ran_on serves comes =
+      let read = read_out e is goes_on started ran_on in (
+        serves,
+        (
+          read.output ++ read.rest,
+          front_streams told racing.task lane (name_in racing place) read.output read.rest read.front,
+          comes read.output read.rest read.proof (proof_streams told racing.task lane (name_in racing place) read.proof read.is_proof) read.comes,
+        ),
+      )
 
   found_cause : (f : FindingOf) → end_at r place ≡ end.Found f → IsJudgedAs racing told lane (name_in racing place) (judged.Found f)
   found_cause f is = elim (replayed (end.Found f) is (λ last. last)) [
     | inl own ↦ judged_as (judged.Found f) (end.Found f) is (λ last. last) (λ none. none) (λ failed. cc) own.0
-        (λ output rest proof comes. found_ends racing.problem (name_in racing place) output rest proof (reader_of (events_at r place)) f own.1 comes)
+        (λ output rest proof got comes. plain_found (Stands racing.problem (name_in racing place) (evidence_in racing lane)) (Ends racing.problem (name_in racing place) (evidence_in racing lane))
+        (Proves racing.problem (name_in racing place) (evidence_in racing lane)) (stays_law racing.problem (name_in racing place) (evidence_in racing lane))
+        (IsProofOf (script_of told racing.task lane (name_in racing place))) output rest proof (output ++ rest) refl f (reader_of (events_at r place)) own.1 got comes)
     | inr passed ↦ absurd passed.1
   ]
 
   unknown_cause : end_at r place ≡ end.Unknown → IsJudgedAs racing told lane (name_in racing place) judged.Unknown
   unknown_cause is = elim (replayed end.Unknown is (λ last. last)) [
     | inl own ↦ judged_as judged.Unknown end.Unknown is (λ last. last) (λ none. none) (λ failed. cc) own.0
-        (λ output rest proof comes. unknown_ends racing.problem (name_in racing place) output rest proof (reader_of (events_at r place)) own.1.0 comes)
+        (λ output rest proof got comes. plain_unknown (Stands racing.problem (name_in racing place) (evidence_in racing lane)) (Ends racing.problem (name_in racing place) (evidence_in racing lane))
+        (Proves racing.problem (name_in racing place) (evidence_in racing lane)) (stays_law racing.problem (name_in racing place) (evidence_in racing lane))
+        (IsProofOf (script_of told racing.task lane (name_in racing place))) output rest proof (output ++ rest) refl (reader_of (events_at r place)) own.1.0 got comes)
     | inr passed ↦ absurd passed.1
   ]
 
   bad_cause : (number place_in : ℕ) → end_at r place ≡ end.Bad number place_in → IsJudgedAs racing told lane (name_in racing place) (judged.Bad number place_in)
   bad_cause number place_in is = elim (replayed (end.Bad number place_in) is (λ last. last)) [
     | inl own ↦ judged_as (judged.Bad number place_in) (end.Bad number place_in) is (λ last. last) (λ none. none) (λ failed. cc) own.0
-        (λ output rest proof comes. bad_ends racing.problem (name_in racing place) output rest proof (reader_of (events_at r place)) number place_in own.1.0 comes)
+        (λ output rest proof got comes. plain_bad (Stands racing.problem (name_in racing place) (evidence_in racing lane)) (Ends racing.problem (name_in racing place) (evidence_in racing lane))
+        (Proves racing.problem (name_in racing place) (evidence_in racing lane)) (stays_law racing.problem (name_in racing place) (evidence_in racing lane))
+        (IsProofOf (script_of told racing.task lane (name_in racing place))) output rest proof (output ++ rest) refl number place_in (reader_of (events_at r place)) own.1.0 got comes)
     | inr passed ↦ absurd passed.1
   ]
 
@@ -196,28 +149,28 @@ module _ (racing : RacingOf) (may_read : ℕ → Type 0) (told : Option YardOf) 
   called_off_cause : (f : FindingOf) → end_at r place ≡ end.CalledOff f → IsCalledOffBy racing (name_in racing place) f
   called_off_cause f is = elim (replayed (end.CalledOff f) is (λ last. last)) [
     | inl own ↦
-        let needless = (by_look (terms_in racing start place) f (events_at r place).keeper (inl own.1.1)).1 in
+        let needless = (called_by_look (terms_in racing start place) f (events_at r place).keeper own.1.1).1 in
         let parts = and_parts (not racing.wait) (needless_by f.job f.answer (name_in racing place)) needless in
         (not_true racing.wait parts.0, of_problem (end.CalledOff f) f is refl, parts.1)
     | inr passed ↦ absurd passed.1
   ]
 
   -- or skips it
-  skip_needless : (f : FindingOf)
+  skip_skips : (f : FindingOf)
       → EndIs (terms_in racing start place) (KnewBy (events_at r) place) (reader_of (events_at r place)) (keeper_of (terms_in racing start place) (events_at r place)) (end.Skipped f)
-      → (terms_in racing start place).needless f ≡ true
-  skip_needless f (unread, inl looked) = (by_look (terms_in racing start place) f (events_at r place).keeper (inr looked)).1
-  skip_needless f (unread, inr knew) = knew.2
+      → (terms_in racing start place).skipped f ≡ true
+  skip_skips f (unread, inl looked) = (skipped_by_look (terms_in racing start place) f (events_at r place).keeper looked).1
+  skip_skips f (unread, inr knew) = knew.2
 
-  skipped_by_it : (f : FindingOf) → end_at r place ≡ end.Skipped f → (terms_in racing start place).needless f ≡ true → IsSkippedBy racing (name_in racing place) f
-  skipped_by_it f is needless =
-      let parts = and_parts (not racing.wait) (needless_by f.job f.answer (name_in racing place)) needless in
+  skipped_by_it : (f : FindingOf) → end_at r place ≡ end.Skipped f → (terms_in racing start place).skipped f ≡ true → IsSkippedBy racing (name_in racing place) f
+  skipped_by_it f is skips =
+      let parts = and_parts (not racing.wait) (skipped_by f.job f.answer (name_in racing place)) skips in
       (not_true racing.wait parts.0, of_problem (end.Skipped f) f is refl, parts.1)
 
   skipped_cause : (f : FindingOf) → end_at r place ≡ end.Skipped f → IsSkippedBy racing (name_in racing place) f
   skipped_cause f is = elim (replayed (end.Skipped f) is (λ last. last)) [
-    | inl own ↦ skipped_by_it f is (skip_needless f own.1)
-    | inr passed ↦ skipped_by_it f is (skip_needless f passed.1)
+    | inl own ↦ skipped_by_it f is (skip_skips f own.1)
+    | inr passed ↦ skipped_by_it f is (skip_skips f passed.1)
   ]
 
   stopped_cause : (t : ℕ) → end_at r place ≡ end.Stopped t → IsLimitShown may_read racing.limit start t

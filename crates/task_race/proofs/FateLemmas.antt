@@ -1,43 +1,103 @@
--- Jobs end by the fates of their children's streams.
-use Rattle.std.proofs.Common.{◌≡◌, ℕ, inl, inr, List, subst}
+-- Jobs end by the fates of what their children leave.
+use Rattle.std.proofs.Common.{◌≡◌, ◌≢◌, ℕ, ◌+◌, inl, inr, List, take, refl, sym, subst, ◌∙◌}
 use Rattle.std.specs.Prelude.{Option, Some, None, IsSomeAnd, slice_get}
 use Rattle.sby_edge.specs.Cause.{CountsOf}
 use Rattle.sby_edge.specs.Child.{YardOf, up_to}
 use Rattle.sby_edge.specs.Script.{GateOf, ScriptOf}
 use Rattle.sby_terms.specs.declared.names.JobName.{JobName}
-use Rattle.stream_judge.specs.Fate.{Fate, Found, Unknown, Bad, IsFate}
-use Rattle.stream_judge.proofs.Fates.{file_fate}
+use Rattle.stream_judge.specs.Fate.{Fate, Found, Unknown, Bad}
+use Rattle.stream_judge.specs.declared.stream.StreamKind.{StreamKind}
+use Rattle.kind_judge.proofs.Fates.{one_whole}
+use Rattle.kind_judge.specs.Fates.{IsFate}
+use Rattle.output_judge.proofs.Fates.{output_fate}
+use Rattle.output_judge.specs.Fate.{IsOutputFate}
 use Rattle.judge.specs.Finding.{FindingOf}
-use Rattle.judge.specs.Problem.{IsJobFile}
+use Rattle.judge.specs.Problem.{AskedOf, IsJobFile}
 use Rattle.race_core.specs.declared.end.JobEnd.{JobEnd}
 use Rattle.race_core.specs.declared.end.JobEnd.TheVariants as end
 use Rattle.race_core.specs.declared.event.Judged.{Judged}
 use Rattle.race_core.specs.declared.event.Judged.TheVariants as judged
-use Rattle.lane_judge.specs.Fates.{Tells, most_bytes}
+use Rattle.lane_run.specs.Complete.{ComesTo}
+use Rattle.lane_judge.specs.Fates.{Ends, Proves, Tells, most_bytes}
 use Rattle.lane_judge.specs.Serving.{IsServing}
-use Rattle.task_race.specs.Ends.{HasEndCause, IsEndOfFate, IsJudgedAs, IsStreamOf, script_of}
-use Rattle.task_race.specs.Ran.{RacingOf}
+use Rattle.lane_judge.specs.declared.evidence.Evidence.{Evidence}
+use Rattle.lane_judge.specs.declared.evidence.Evidence.TheVariants.{Output, ProofFile}
+use Rattle.task_race.specs.Ends.{HasEndCause, IsEndOfFate, IsFateOf, IsJudgedAs, IsProofOf, IsStreamOf, script_of}
+use Rattle.task_race.specs.Ran.{RacingOf, evidence_in}
 
 -- without a gate there is one stream
 one_stream : (script : ScriptOf) (stream : List ℕ) → script.gate ≡ None → IsStreamOf (Some script) stream → stream ≡ up_to script.stalls script.bytes
 one_stream script stream none (inl is) = is
 one_stream script stream none (inr other) = absurd (subst (λ (gate : Option GateOf). IsSomeAnd gate (λ g. stream ≡ up_to script.stalls g.instead)) none other)
 
+-- what says something says it of some fate
+none_tells : (p : AskedOf) (job : JobName) (said : Judged FindingOf) (fate : Fate) → said ≢ judged.More → Tells p.problem job said None → Tells p.problem job said (Some fate)
+none_tells p job judged.More fate some tells = absurd (some refl)
+none_tells p job (judged.Found f) fate some tells = absurd (let none = tells.0 in cc)
+none_tells p job judged.Unknown fate some tells = absurd cc
+none_tells p job (judged.Bad number at) fate some tells = absurd (let none = tells.2 in cc)
+none_tells p job judged.Failed fate some tells = tells
+none_tells p job judged.Unjudged fate some tells = tells
+
+none_some : (fate : Fate) → (let o : Option Fate = None in o) ≡ Some fate → ⊥
+none_some fate is = cc
+
+-- what is said of what a child left is said of its fate
+module _ (p : AskedOf) (job : JobName) (said : Judged FindingOf) (some : said ≢ judged.More) (file stream proof : List ℕ) (is_file : IsJobFile p job file) (fate : Fate) where
+  -- of a stream
+  of_stream : (kind : StreamKind) → IsFate kind file stream most_bytes fate
+      → ComesTo (Ends p job (Output kind)) (Proves p job (Output kind)) (λ (got : List ℕ). got ≡ proof) stream said → Tells p.problem job said (Some fate)
+  of_stream kind is (inl (None, tells, whole)) = absurd (whole file is_file)
+  of_stream kind is (inl (Some own, tells, whole)) = subst (λ (x : Fate). Tells p.problem job said (Some x)) (one_whole kind file stream most_bytes own fate (whole file is_file) is) tells
+  of_stream kind is (inr (more, (got, same, proves))) = absurd proves
+
+  -- of an output that doesn't leave it to the proof file
+  of_output : (kind : StreamKind) → IsOutputFate file stream most_bytes (Some fate)
+      → ComesTo (Ends p job (ProofFile kind)) (Proves p job (ProofFile kind)) (λ (got : List ℕ). got ≡ proof) stream said → Tells p.problem job said (Some fate)
+  of_output kind is (inl (own, tells, whole)) = subst (λ (o : Option Fate). Tells p.problem job said o) (output_fate file stream most_bytes own (Some fate) (whole file is_file) is) tells
+  of_output kind is (inr ((own, none, whole), proved)) = absurd (none_some fate (sym none ∙ output_fate file stream most_bytes own (Some fate) (whole file is_file) is))
+
+  -- of one that does
+  of_proof : (kind : StreamKind) → IsOutputFate file stream most_bytes None → IsFate kind file proof most_bytes fate
+      → ComesTo (Ends p job (ProofFile kind)) (Proves p job (ProofFile kind)) (λ (got : List ℕ). got ≡ proof) stream said → Tells p.problem job said (Some fate)
+  of_proof kind none is (inl (own, tells, whole)) =
+      none_tells p job said fate some (subst (λ (o : Option Fate). Tells p.problem job said o) (output_fate file stream most_bytes own None (whole file is_file) none) tells)
+  of_proof kind none is (inr (more, (got, same, (own, tells, whole)))) =
+      subst (λ (x : Fate). Tells p.problem job said (Some x))
+      (one_whole kind file proof most_bytes own fate (subst (λ (bytes : List ℕ). IsFate kind file bytes most_bytes own) same (whole file is_file)) is) tells
+
+  pub of_fate : (evidence : Evidence) → IsFateOf evidence file stream proof fate
+      → ComesTo (Ends p job evidence) (Proves p job evidence) (λ (got : List ℕ). got ≡ proof) stream said → Tells p.problem job said (Some fate)
+  of_fate (Output kind) is comes = of_stream kind is comes
+  of_fate (ProofFile kind) (inl is) comes = of_output kind is comes
+  of_fate (ProofFile kind) (inr is) comes = of_proof kind is.0 is.1 comes
+
 module _ (racing : RacingOf) (may_read : ℕ → Type 0) (told : Option YardOf) (before now : CountsOf) (start : Option ℕ) (lane : ℕ) (job : JobName)
     (script : ScriptOf) (file : List ℕ) (fate : Fate) (serving : IsServing (slice_get racing.engines lane)) (script_is : script_of told racing.task lane job ≡ Some script) (none : script.gate ≡ None)
-    (is_file : IsJobFile racing.problem job file) (is_fate : IsFate file (up_to script.stalls script.bytes) most_bytes fate) where
-  -- what is said of the stream is said of its fate
-  said_of : (said : Judged FindingOf) → IsJudgedAs racing told lane job said → Tells racing.problem.problem job said (Some fate)
-  said_of said (served, (stream, of_script, (own, tells, is))) =
+    (is_file : IsJobFile racing.problem job file)
+    (is_fate : IsFateOf (evidence_in racing lane) file (up_to script.stalls script.bytes) (take (most_bytes + 1) script.proof) fate) where
+  -- what is said of what the child left is said of its fate
+  said_of : (said : Judged FindingOf) → said ≢ judged.More → IsJudgedAs racing told lane job said → Tells racing.problem.problem job said (Some fate)
+  said_of said some (served, (stream, of_script, comes)) =
       let same = one_stream script stream none (subst (λ (o : Option ScriptOf). IsStreamOf o stream) script_is of_script) in
-      let one = file_fate file (up_to script.stalls script.bytes) most_bytes own fate (subst (λ (bytes : List ℕ). IsFate file bytes most_bytes own) same (is file is_file)) is_fate in
-      subst (λ (x : Fate). Tells racing.problem.problem job said (Some x)) one tells
+      of_fate racing.problem job said some file (up_to script.stalls script.bytes) (take (most_bytes + 1) script.proof) is_file fate (evidence_in racing lane) is_fate
+      (subst (λ (bytes : List ℕ). ComesTo (Ends racing.problem job (evidence_in racing lane)) (Proves racing.problem job (evidence_in racing lane)) (λ (got : List ℕ). got ≡ take (most_bytes + 1) script.proof) bytes said) same
+      (subst (λ (o : Option ScriptOf). ComesTo (Ends racing.problem job (evidence_in racing lane)) (Proves racing.problem job (evidence_in racing lane)) (IsProofOf o) stream said) script_is comes))
+
+  found_some : (f : FindingOf) → judged.Found f ≢ judged.More
+  found_some f is = cc
+
+  unknown_some : ◌≢◌ {A = Judged FindingOf} judged.Unknown judged.More
+  unknown_some is = cc
+
+  bad_some : (number at : ℕ) → ◌≢◌ {A = Judged FindingOf} (judged.Bad number at) judged.More
+  bad_some number at is = cc
 
   pub end_of_fate : (e : JobEnd FindingOf) → HasEndCause racing may_read told before now start lane job e → IsEndOfFate fate e
-  end_of_fate (end.Found f) cause = let tells = (said_of (judged.Found f) cause).0 in let same : fate ≡ Found f.answer = cc in same
-  end_of_fate end.Unknown cause = let tells = said_of judged.Unknown cause in let same : fate ≡ Unknown = cc in same
+  end_of_fate (end.Found f) cause = let tells = (said_of (judged.Found f) (found_some f) cause).0 in let same : fate ≡ Found f.answer = cc in same
+  end_of_fate end.Unknown cause = let tells = said_of judged.Unknown unknown_some cause in let same : fate ≡ Unknown = cc in same
   end_of_fate (end.Bad number at) cause =
-      let tells = said_of (judged.Bad number at) cause in
+      let tells = said_of (judged.Bad number at) (bad_some number at) cause in
       let told = tells.2 in
       let same : fate ≡ Bad tells.0 at = cc in
       (tells.0, tells.1, same)

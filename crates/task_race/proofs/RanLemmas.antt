@@ -17,14 +17,11 @@ use Rattle.lane_run.specs.Asked.{IsFor, terms_at}
 use Rattle.lane_run.specs.Done.{JobFaults, LaneFaults, LaneStops}
 use Rattle.lane_run.specs.Raced.{LanesDone}
 use Rattle.lane_run.specs.Started.{LaneStarts}
-use Rattle.lane_judge.specs.Fates.{Ends, Proves, Stands, most_bytes}
+use Rattle.lane_judge.specs.Fates.{Ends, Proves, Stands, most_bytes, most_output}
 use Rattle.lane_judge.specs.Serving.{IsServed, file_of}
-use Rattle.lane_judge.specs.Words.{words_at}
-use Rattle.sby_terms.specs.Path.{job_path}
-use Rattle.sby_terms.specs.Span.{slices_of}
 use Rattle.sby_terms.specs.declared.names.Mode.{Mode}
 use Rattle.task_race.specs.Bays.{AreLater, CameBack, HaveRisenFor, bay_at, none_failed}
-use Rattle.task_race.specs.Ran.{RacingOf, AreConsistent, AreDone, AreStarts, EachLane, IsStart, LanesRan, Serves, WinnersFind, answer_in, job_count, job_in, limit_from, name_in, problem_in, terms_in}
+use Rattle.task_race.specs.Ran.{RacingOf, AreConsistent, AreDone, AreStarts, EachLane, IsStart, LanesRan, Serves, WinnersFind, answer_in, evidence_in, job_count, job_in, limit_from, name_in, problem_in, terms_in, words_in}
 use Rattle.task_race.proofs.PlaceLemmas.{all_at, at_contains, at_map, contains_at, stands_at}
 use Rattle.task_race.proofs.WonLemmas.{winner_finds}
 use Rattle.std.proofs.lemmas.List.{get_or_default}
@@ -142,13 +139,13 @@ module _ (racing : RacingOf) (start : Option ℕ) (mode : Mode) (begun jobs : �
       (λ place. terms_of job_in answer_in (terms_at mode (record { start = begun; millis = racing.limit; wait = racing.wait }) place)) may_read n notes reports) jobs_are done))
 
   pub raced_starts : (before now : Option BayOf) (lane : ℕ) (r : ReportOf FindingOf)
-      → LaneStarts (λ job. words_at (slice_get racing.engines lane) (job_path racing.folder (slices_of racing.problem.problem.span) job)) (file_of racing.problem)
-      (Stands racing.problem) (Ends racing.problem) (λ job. Proves) most_bytes mode before now jobs r → AreStarts racing before now lane r
+      → LaneStarts (words_in racing lane) (file_of racing.problem)
+      (λ job. Stands racing.problem job (evidence_in racing lane)) (λ job. Ends racing.problem job (evidence_in racing lane)) (λ job. Proves racing.problem job (evidence_in racing lane)) most_bytes (most_output (evidence_in racing lane)) mode before now jobs r → AreStarts racing before now lane r
   raced_starts before now lane r starts =
-      subst (λ (m : Mode). LaneStarts (λ job. words_at (slice_get racing.engines lane) (job_path racing.folder (slices_of racing.problem.problem.span) job)) (file_of racing.problem)
-      (Stands racing.problem) (Ends racing.problem) (λ job. Proves) most_bytes m before now (job_count racing) r) mode_is
-      (subst (λ (n : ℕ). LaneStarts (λ job. words_at (slice_get racing.engines lane) (job_path racing.folder (slices_of racing.problem.problem.span) job)) (file_of racing.problem)
-      (Stands racing.problem) (Ends racing.problem) (λ job. Proves) most_bytes mode before now n r) jobs_are starts)
+      subst (λ (m : Mode). LaneStarts (words_in racing lane) (file_of racing.problem)
+      (λ job. Stands racing.problem job (evidence_in racing lane)) (λ job. Ends racing.problem job (evidence_in racing lane)) (λ job. Proves racing.problem job (evidence_in racing lane)) most_bytes (most_output (evidence_in racing lane)) m before now (job_count racing) r) mode_is
+      (subst (λ (n : ℕ). LaneStarts (words_in racing lane) (file_of racing.problem)
+      (λ job. Stands racing.problem job (evidence_in racing lane)) (λ job. Ends racing.problem job (evidence_in racing lane)) (λ job. Proves racing.problem job (evidence_in racing lane)) most_bytes (most_output (evidence_in racing lane)) mode before now n r) jobs_are starts)
 
   pub raced_stopped : (may_read : ℕ → Type 0) (reports : List (ReportOf FindingOf))
       → All (λ q. LaneStops may_read (record { start = begun; millis = racing.limit; wait = racing.wait }) jobs q) reports

@@ -1,5 +1,5 @@
 -- Why a job of a lane ended so.
-use Rattle.std.specs.Prelude.{◌≡◌, ◌⊎◌, ℕ, ◌-◌, ◌≤◌, false, true, List, Option, None, Some, IsSomeAnd, option_map, slice_get}
+use Rattle.std.specs.Prelude.{◌≡◌, ◌⊎◌, ℕ, ◌+◌, ◌-◌, ◌≤◌, false, true, List, Option, None, Some, IsSomeAnd, option_map, slice_get, take}
 use Rattle.sby_edge.specs.Cause.{CountsOf, Rose}
 use Rattle.sby_edge.specs.Child.{YardOf, up_to}
 use Rattle.sby_edge.specs.Script.{ScriptOf}
@@ -7,15 +7,20 @@ use Rattle.sby_terms.specs.declared.names.JobName.{JobName}
 use Rattle.stream_judge.specs.Fate.{Fate, Found, Unknown, Bad}
 use Rattle.stream_judge.specs.Numbers.{number_of}
 use Rattle.stream_judge.specs.declared.stream.CertKind.{CertKind}
+use Rattle.kind_judge.specs.Fates.{IsFate}
+use Rattle.output_judge.specs.Fate.{IsOutputFate}
 use Rattle.judge.specs.Finding.{FindingOf}
-use Rattle.race_core.specs.Asking.{needless_by}
+use Rattle.race_core.specs.Asking.{needless_by, skipped_by}
 use Rattle.race_core.specs.declared.end.JobEnd.{JobEnd}
 use Rattle.race_core.specs.declared.end.JobEnd.TheVariants as end
 use Rattle.race_core.specs.declared.event.Judged.{Judged}
 use Rattle.race_core.specs.declared.event.Judged.TheVariants as judged
-use Rattle.lane_judge.specs.Fates.{Ends}
+use Rattle.lane_run.specs.Complete.{ComesTo}
+use Rattle.lane_judge.specs.Fates.{Ends, Proves, most_bytes}
 use Rattle.lane_judge.specs.Serving.{IsServed, IsServing}
-use Rattle.task_race.specs.Ran.{RacingOf}
+use Rattle.lane_judge.specs.declared.evidence.Evidence.{Evidence}
+use Rattle.lane_judge.specs.declared.evidence.Evidence.TheVariants.{Output, ProofFile}
+use Rattle.task_race.specs.Ran.{RacingOf, evidence_in}
 
 -- the script of a lane's job, where it is told
 abbrev pub script_of : Option YardOf → ℕ → ℕ → JobName → Option ScriptOf
@@ -27,19 +32,26 @@ IsStreamOf None stream = Unit {0}
 IsStreamOf (Some script) stream =
     (stream ≡ up_to script.stalls script.bytes) ⊎ IsSomeAnd script.gate (λ gate. stream ≡ up_to script.stalls gate.instead)
 
--- the lane's engine serves the job, and its child's stream comes to this as a certificate for the job's file
+-- what is got of the proof file that a script leaves: all of it, or one byte more than is judged; any bytes, where it isn't told
+abbrev pub IsProofOf : Option ScriptOf → List ℕ → Type 0
+IsProofOf None proof = Unit {0}
+IsProofOf (Some script) proof = proof ≡ take (most_bytes + 1) script.proof
+
+-- The lane's engine serves the job, and its child's stream comes to this as a certificate for the job's file; or the stream leaves that to
+-- the proof file, which comes to this.
 abbrev pub IsJudgedAs : RacingOf → Option YardOf → ℕ → JobName → Judged FindingOf → Type 0
 IsJudgedAs racing told lane job said =
     IsServed racing.engines racing.problem lane job
-    × ((stream : List ℕ) × IsStreamOf (script_of told racing.task lane job) stream × Ends racing.problem job stream said)
+    × ((stream : List ℕ) × IsStreamOf (script_of told racing.task lane job) stream
+    × ComesTo (Ends racing.problem job (evidence_in racing lane)) (Proves racing.problem job (evidence_in racing lane)) (IsProofOf (script_of told racing.task lane job)) stream said)
 
 -- lanes don't wait, and a finding of the problem calls the job off: one for the job itself, and for Step one that Base is Sat
 abbrev pub IsCalledOffBy : RacingOf → JobName → FindingOf → Type 0
 IsCalledOffBy racing job f = (racing.wait ≡ false) × (f.problem ≡ racing.problem.problem) × (needless_by f.job f.answer job ≡ true)
 
--- such a one skips a job that isn't started
+-- one that skips it: such a one, and for a slice one that an earlier slice is Sat
 abbrev pub IsSkippedBy : RacingOf → JobName → FindingOf → Type 0
-IsSkippedBy racing job f = (racing.wait ≡ false) × (f.problem ≡ racing.problem.problem) × (needless_by f.job f.answer job ≡ true)
+IsSkippedBy racing job f = (racing.wait ≡ false) × (f.problem ≡ racing.problem.problem) × (skipped_by f.job f.answer job ≡ true)
 
 -- a reading that the clock may give shows the limit: so many milliseconds behind the start
 pub record IsLimitShown (may_read : ℕ → Type 0) (limit start : Option ℕ) (t : ℕ) : Type 0 where
@@ -67,7 +79,15 @@ module _ (racing : RacingOf) (may_read : ℕ → Type 0) (told : Option YardOf) 
   HasEndCause (end.Stopped t) = IsLimitShown may_read racing.limit start t
   HasEndCause end.Memory = Unit {0}
 
--- the end of a job whose child's stream has this fate: the fate's own; or a call failed, the job was skipped, called off or stopped, or memory
+-- The fate of what a child leaves, as a certificate for a job's file: of a stream of a kind; or of an output, and, where that leaves it to
+-- the proof file, of what is got of that.
+abbrev pub IsFateOf : Evidence → List ℕ → List ℕ → List ℕ → Fate → Type 0
+IsFateOf (Output kind) file stream proof fate = IsFate kind file stream most_bytes fate
+IsFateOf (ProofFile kind) file stream proof fate =
+    IsOutputFate file stream most_bytes (Some fate)
+    ⊎ (IsOutputFate file stream most_bytes None × IsFate kind file proof most_bytes fate)
+
+-- the end of a job whose child leaves what has this fate: the fate's own; or a call failed, the job was skipped, called off or stopped, or memory
 -- was wanting
 abbrev pub IsEndOfFate : Fate → JobEnd FindingOf → Type 0
 IsEndOfFate fate (end.Found f) = fate ≡ Found f.answer

@@ -22,9 +22,10 @@ use Rattle.lane_run.specs.Done.{LaneFaults, LaneStops}
 use Rattle.lane_run.specs.Raced.{LanesDone}
 use Rattle.lane_run.specs.Started.{LaneStarts}
 use Rattle.lane_run.specs.declared.task.Limit.{Limit}
-use Rattle.lane_judge.specs.Fates.{Ends, Proves, Stands, most_bytes}
-use Rattle.lane_judge.specs.Serving.{IsServed, file_of}
-use Rattle.lane_judge.specs.Words.{words_at}
+use Rattle.lane_judge.specs.Fates.{Ends, Proves, Stands, most_bytes, most_output}
+use Rattle.lane_judge.specs.Serving.{IsServed, evidence_at, file_of}
+use Rattle.lane_judge.specs.Words.{proof_path, words_at}
+use Rattle.lane_judge.specs.declared.evidence.Evidence.{Evidence}
 use Rattle.task_race.specs.Bays.{bay_at}
 use Rattle.task_race.specs.declared.racing.Racing.{Racing}
 
@@ -97,11 +98,21 @@ AreDone racing may_read start notes reports = LanesDone (IsFor problem_in job_in
 abbrev pub WinnersFind : RacingOf → List (ReportOf FindingOf) → Type 0
 WinnersFind racing reports = EachLane reports (λ lane r. (place : ℕ) → HasWon r place → HasFinding job_in (name_in racing place) r)
 
+-- where the certificates of a lane's children come from
+abbrev pub evidence_in : RacingOf → ℕ → Evidence
+evidence_in racing lane = evidence_at (slice_get racing.engines lane)
+
+-- the words of a lane's child for a job, for the files of the work folder
+abbrev pub words_in : RacingOf → ℕ → JobName → List (List ℕ)
+words_in racing lane job = words_at (slice_get racing.engines lane) (job_path racing.folder (slices_of racing.problem.problem.span) job)
+    (proof_path racing.folder lane (slices_of racing.problem.problem.span) job)
+
 -- The starts of a lane's jobs, with the words of its engine line, over the scripts that are told for it, up to what its bay tells then.
 abbrev pub AreStarts : RacingOf → Option BayOf → Option BayOf → ℕ → ReportOf FindingOf → Type 0
 AreStarts racing before now lane r =
-    LaneStarts (λ job. words_at (slice_get racing.engines lane) (job_path racing.folder (slices_of racing.problem.problem.span) job)) (file_of racing.problem)
-    (Stands racing.problem) (Ends racing.problem) (λ job. Proves) most_bytes racing.problem.problem.mode before now (job_count racing) r
+    LaneStarts (words_in racing lane) (file_of racing.problem)
+    (λ job. Stands racing.problem job (evidence_in racing lane)) (λ job. Ends racing.problem job (evidence_in racing lane)) (λ job. Proves racing.problem job (evidence_in racing lane))
+    most_bytes (most_output (evidence_in racing lane)) racing.problem.problem.mode before now (job_count racing) r
 
 -- What lanes that started at this reading report, over what their yard tells, between two moments of its counts. What they carry is true;
 -- an end that tells of a failed call comes only where its count rose; and they stop by readings alone which the clock may give.

@@ -1,10 +1,10 @@
 // What follows of lanes that ran.
 
-ghost use Rattle.std.specs.Prelude.{◌≡◌, ℕ, ◌<◌, List, Option, Contains, IsSome, None, Some, length, slice_get};
+ghost use Rattle.std.specs.Prelude.{◌≡◌, ℕ, ◌+◌, ◌<◌, List, Option, Contains, IsSome, None, Some, length, slice_get, take};
 ghost use Rattle.sby_edge.specs.Cause.{CountsOf};
 ghost use Rattle.sby_edge.specs.Child.{YardOf, up_to};
 ghost use Rattle.sby_edge.specs.Script.{ScriptOf};
-ghost use Rattle.stream_judge.specs.Fate.{Fate, IsFate};
+ghost use Rattle.stream_judge.specs.Fate.{Fate};
 ghost use Rattle.judge.specs.Finding.{FindingOf};
 ghost use Rattle.judge.specs.Problem.{IsJobFile};
 ghost use Rattle.race_core.specs.Carrying.{Carries};
@@ -13,8 +13,8 @@ ghost use Rattle.race_core.specs.Report.{ReportOf};
 ghost use Rattle.race_core.specs.declared.end.JobEnd.TheVariants as end;
 ghost use Rattle.lane_judge.specs.Fates.{most_bytes};
 ghost use Rattle.lane_judge.specs.Serving.{IsServing};
-ghost use Rattle.task_race.specs.Ends.{HasEndCause, IsEndOfFate, script_of};
-ghost use Rattle.task_race.specs.Ran.{EachLane, LanesRan, RacingOf, WinnersFind, job_count, name_in};
+ghost use Rattle.task_race.specs.Ends.{HasEndCause, IsEndOfFate, IsFateOf, script_of};
+ghost use Rattle.task_race.specs.Ran.{EachLane, LanesRan, RacingOf, WinnersFind, evidence_in, job_count, name_in};
 
 use sby_edge::Clock;
 
@@ -25,13 +25,15 @@ pub fn ends_have_causes<C: Clock>(clock: &C)
         → HasEndCause racing (C.may_read clock.now) told before now start lane (name_in racing place) (end_at r place)) }
 {}
 
-/// A job ends by the fate of its child's stream as a certificate for the job's file, where the lane's engine serves jobs and its script is told
-/// and has no gate; unless a call failed, the job was skipped, called off or stopped, or memory was wanting.
+/// A job ends by the fate of what its child leaves as a certificate for the job's file: its stream, or, where its output leaves that to it,
+/// its proof file. So it is where the lane's engine serves jobs and its script is told and has no gate; unless a call failed, the job was
+/// skipped, called off or stopped, or memory was wanting.
 pub fn streams_give_their_fates<C: Clock>(clock: &C)
     ensures { (racing : RacingOf) (told : Option YardOf) (before now : CountsOf) (start : Option ℕ) (reports : List (ReportOf FindingOf)) → LanesRan racing (C.may_read clock.now) told before now start reports
         → EachLane reports (λ lane r. (place : ℕ) (script : ScriptOf) (file : List ℕ) (fate : Fate) → place < job_count racing
         → IsServing (slice_get racing.engines lane) → script_of told racing.task lane (name_in racing place) ≡ Some script → script.gate ≡ None
-        → IsJobFile racing.problem (name_in racing place) file → IsFate file (up_to script.stalls script.bytes) most_bytes fate → IsEndOfFate fate (end_at r place)) }
+        → IsJobFile racing.problem (name_in racing place) file → IsFateOf (evidence_in racing lane) file (up_to script.stalls script.bytes) (take (most_bytes + 1) script.proof) fate
+        → IsEndOfFate fate (end_at r place)) }
 {}
 
 /// The reports are those of lanes 0, 1 and so on, one for each engine line, and each has an end and events for each job.

@@ -2,8 +2,8 @@ use Rattle.std.proofs.Common.{subst, sym}
 use Rattle.std.proofs.lemmas.Result.{IfErr-weaker, IfOk-weaker}
 use Rattle.model_core.specs.Shape.{ModelOf}
 use Rattle.job_cnf.specs.Encoding.{decoded}
-use Rattle.job_cnf.specs.Jobs.{IsJob, frames}
-use Rattle.cone_cnf.proofs.OneBit.{asks-split, asks-whole, can-pass, choices-whole, decoded-whole, job-split, origins-whole, solvable-split, solvable-whole}
+use Rattle.job_cnf.specs.Jobs.{IsJob}
+use Rattle.cone_cnf.proofs.OneBit.{asks-split, choices-whole, decoded-whole, job-split, origins-whole, solvable-split, solvable-whole}
 use Rattle.cone_cnf.proofs.bits.encode.Goals as goal
 
 pub encode_registers-requires-clause-job : goal.encode_registers-requires-clause-job
@@ -17,12 +17,8 @@ returns-clause-solvable c = IfOk-weaker c.encode_registers.result _ _ (λ r h. I
     (rw c.in_ok-bits.ensures at c.encode_registers.ensures.solvable)
 
 pub returns-clause-too_many : goal.returns-clause-too_many
-returns-clause-too_many c = IfOk-weaker c.encode_registers.result _ _ (λ r h. IfErr-weaker r _ _ (λ e k. can-pass c.args.model.now c.size.ensures.model (frames c.args.job c.args.span) k) h)
+returns-clause-too_many c = IfOk-weaker c.encode_registers.result _ _ (λ r h. IfErr-weaker r _ _ (λ e k. record { asks = λ none. k.0 (asks-split c.args.model.now c.size.ensures.model c.args.job none); past = k.1 }) h)
     (rw c.in_ok-bits.ensures at c.encode_registers.ensures.too_many)
-
-pub returns-clause-asks : goal.returns-clause-asks
-returns-clause-asks c = IfOk-weaker c.encode_registers.result _ _ (λ r h. IfErr-weaker r _ _ (λ e k asks. k (asks-split c.args.model.now c.size.ensures.model c.args.job asks)) h)
-    (rw c.in_ok-bits.ensures at c.encode_registers.ensures.asks)
 
 pub returns-clause-origins : goal.returns-clause-origins
 returns-clause-origins c = IfOk-weaker c.encode_registers.result _ _ (λ r h. IfOk-weaker r _ _ (λ e k. origins-whole c.args.model.now c.size.ensures.model c.args.job c.args.span e k) h)

@@ -2,14 +2,12 @@ use Rattle.std.proofs.Common.{◌≡◌, ◌∙◌, Bool, List, map, ap, sym, su
 use Rattle.model_core.specs.Choices.{AreChoicesFor, open_states}
 use Rattle.model_core.specs.Served.{IsModel}
 use Rattle.model_core.specs.Shape.{ModelOf}
-use Rattle.job_cnf.specs.Encoding.{CanPass, HasOrigins, IsDecoded, decoded}
-use Rattle.job_cnf.specs.Jobs.{AsksNothing, IsJob, Solvable, frames}
+use Rattle.job_cnf.specs.Encoding.{HasOrigins, IsDecoded, decoded}
+use Rattle.job_cnf.specs.Jobs.{AsksNothing, IsJob, Solvable}
 use Rattle.model_cone.specs.Cone.{IsCone}
 use Rattle.model_cone.specs.Slice.{kept_by, sliced}
 use Rattle.model_cone.specs.declared.asked.Asked.{Asked}
-use Rattle.model_cone.proofs.Closing.{whole-cone}
 use Rattle.cone_cnf.specs.Asking.{asked_of}
-use Rattle.cone_cnf.proofs.Costing.{pass-more}
 use Rattle.cone_cnf.proofs.Origins.{decoded-of, origins-too}
 use Rattle.cone_cnf.proofs.Playing.{choices-fit, decoded-too}
 use Rattle.cone_cnf.proofs.Solving.{asks-of-slice, job-of-slice, solvable-from, solvable-to}
@@ -93,7 +91,9 @@ returns-in-Ok-clause-decoded c =
 pub returns-clause-too_many : goal.returns-clause-too_many
 returns-clause-too_many c =
     let i = (goal.at.returns-clause-too_many c).In_ok-inputs in
-    let m = c.args.model.now in
     let keep = kept_by c.in_ok-marks.marks.items in
-    let h = rw c.in-Err.is at c.in_ok-slice-2.ensures.too_many in
-    pass-more m keep (whole-cone m (asked_of c.args.job) keep (cone-is i)) (frames c.args.job c.args.span) (subst (λ (z : ModelOf). CanPass z (frames c.args.job c.args.span)) (made i) h)
+    let asks = rw c.in-Err.is at c.in_ok-slice-2.ensures.asks in
+    let past = rw c.in-Err.is at c.in_ok-slice-2.ensures.too_many in (
+      (λ none. asks (subst (λ (z : ModelOf). AsksNothing z c.args.job) (sym (made i)) (asks-of-slice keep c.args.model.now c.args.job none))),
+      (c.in_ok-slice.slice, record { keep = keep; cone = cone-is i; is = made i }, past),
+    )

@@ -4,7 +4,7 @@ use Rattle.std.proofs.lemmas.Option.{slice_get-get_or}
 use Rattle.sby_terms.specs.declared.names.JobName.{JobName}
 use Rattle.sby_terms.specs.declared.names.JobName.TheVariants.{Base}
 use Rattle.judge.proofs.Encodes.{covers_few, encoded_more, job_fits, refused_next}
-use Rattle.judge.specs.Stored.{IsTooMany}
+use Rattle.judge.specs.Stored.{IsRefusedAmong}
 use Rattle.judge.proofs.encoding.encode_all.Goals as goal
 
 pub overflow_cast-covers : goal.overflow_cast-covers
@@ -26,9 +26,8 @@ returns-in-Err-clause-refused c =
     let all = c.deref-name-items.ensures.value ∙ c.in_ok-names.ensures c.args.flat.now (sym c.requires.built.model.covers ∙ ap length (sym c.covers.ensures)) in
     let at = slice_get-get_or names i (Base 0) c.loop-name-test.true in
     let refused =
-    refused_next c.args.flat.now c.args.model.now c.args.span names i (get_or names i (Base 0)) c.loop-name.jobs.items at (rw c.in-Err.is at c.in_ok-job.ensures.asks) (rw c.in-Err.is at c.in_ok-job.ensures.too_many)
-    c.loop-name.invariant in
-    subst (λ (js : List JobName). IsTooMany c.args.flat.now c.args.model.now c.args.span js (get_or names i (Base 0))) all refused
+    refused_next c.args.flat.now c.args.model.now c.args.span names i (get_or names i (Base 0)) c.loop-name.jobs.items at (rw c.in-Err.is at c.in_ok-job.ensures.too_many) c.loop-name.invariant in
+    subst (λ (js : List JobName). IsRefusedAmong c.args.flat.now c.args.model.now c.args.span js (get_or names i (Base 0))) all refused
 
 pub loop-name-preserved : goal.loop-name-preserved
 loop-name-preserved c =

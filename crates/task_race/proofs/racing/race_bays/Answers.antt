@@ -4,18 +4,15 @@ use Rattle.judge.specs.Finding.{FindingOf}
 use Rattle.race_core.specs.Asking.{name_at, terms_of}
 use Rattle.race_core.specs.Consistent.{Consistent}
 use Rattle.race_core.specs.Report.{ReportOf}
-use Rattle.sby_terms.specs.Path.{job_path}
-use Rattle.sby_terms.specs.Span.{slices_of}
-use Rattle.lane_judge.specs.Fates.{Ends, Proves, Stands, most_bytes}
+use Rattle.lane_judge.specs.Fates.{Ends, Proves, Stands, most_bytes, most_output}
 use Rattle.lane_judge.specs.Serving.{IsServed, file_of}
-use Rattle.lane_judge.specs.Words.{words_at}
 use Rattle.lane_run.specs.Asked.{IsFor, terms_at}
 use Rattle.lane_run.specs.Done.{LaneFaults}
 use Rattle.lane_run.specs.Raced.{LanesDone}
 use Rattle.lane_run.specs.Started.{LaneStarts}
 use Rattle.lane_run.specs.declared.gather.Raced.{Raced}
 use Rattle.task_race.specs.Bays.{counts_at}
-use Rattle.task_race.specs.Ran.{AreConsistent, AreDone, AreStarts, answer_in, job_count, job_in, problem_in, racing_seen}
+use Rattle.task_race.specs.Ran.{AreConsistent, AreDone, AreStarts, answer_in, evidence_in, job_count, job_in, problem_in, racing_seen, words_in}
 use Rattle.task_race.proofs.RanLemmas.{if_ok, raced_consistent, raced_done, raced_starts}
 use Rattle.task_race.proofs.racing.race_bays.Goals as goal
 
@@ -57,8 +54,8 @@ returns-clause-starts g c =
     let mode = c.mode.result in
     let tells = g.L.Launch.told in
     if_ok (λ (r : Raced g.row.L.Denot FindingOf). (i : ℕ) (b d : g.row.L.Denot) (q : ReportOf FindingOf) → slice_get c.args.bays.items i ≡ Some b → slice_get r.bays.items i ≡ Some d → slice_get r.reports.items i ≡ Some q
-    → LaneStarts (λ job. words_at (slice_get racing.engines i) (job_path racing.folder (slices_of racing.problem.problem.span) job)) (file_of racing.problem)
-    (Stands racing.problem) (Ends racing.problem) (λ job. Proves) most_bytes mode (tells b) (tells d) (length c.args.cells.now) q)
+    → LaneStarts (words_in racing i) (file_of racing.problem)
+    (λ job. Stands racing.problem job (evidence_in racing i)) (λ job. Ends racing.problem job (evidence_in racing i)) (λ job. Proves racing.problem job (evidence_in racing i)) most_bytes (most_output (evidence_in racing i)) mode (tells b) (tells d) (length c.args.cells.now) q)
     (λ (r : Raced g.row.L.Denot FindingOf). (i : ℕ) (b d : g.row.L.Denot) (q : ReportOf FindingOf) → slice_get c.args.bays.items i ≡ Some b → slice_get r.bays.items i ≡ Some d → slice_get r.reports.items i ≡ Some q
     → AreStarts racing (tells b) (tells d) i q) c.race.result
     (λ r h i b d q was is told. raced_starts racing c.args.start mode c.unwrap_or.result (length c.args.cells.now) c.mode.ensures c.unwrap_or.ensures c.requires.cells (tells b) (tells d) i q (h i b d q was is told))

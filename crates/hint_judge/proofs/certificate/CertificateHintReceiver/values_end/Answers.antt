@@ -1,7 +1,7 @@
 use Rattle.std.proofs.Common.{◌≡◌, sym, ◌∙◌, subst}
 use Rattle.hint_judge.specs.Leading.{CertificateOf, with_outcome}
-use Rattle.hint_judge.specs.declared.stream.Outcome.TheVariants.{Satisfied, Bad}
-use Rattle.hint_judge.specs.declared.stream.CertKind.TheVariants.{NotSatisfying}
+use Rattle.stream_judge.specs.declared.stream.Outcome.TheVariants.{Satisfied, Bad}
+use Rattle.stream_judge.specs.declared.stream.CertKind.TheVariants.{NotSatisfying}
 use Rattle.hint_judge.proofs.Leading.{heard_satisfied, heard_not_satisfying}
 use Rattle.hint_judge.proofs.certificate.CertificateHintReceiver.values_end.Goals as goal
 use Rattle.hint_judge.proofs.certificate.CertificateHintReceiver.values_end.Goals.{in-None, in-Some}

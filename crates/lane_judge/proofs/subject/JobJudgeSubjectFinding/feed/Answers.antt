@@ -1,38 +1,34 @@
-use Rattle.std.proofs.Common.{◌≡◌, ℕ, List, ◌++◌, length, ◌≤◌, Some, None, Option, sym, subst, ◌∙◌}
-use Rattle.lane_child.specs.Judging.{Says}
-use Rattle.race_core.specs.declared.event.Judged.{Judged}
-use Rattle.judge.specs.Finding.{FindingOf}
-use Rattle.judge.specs.Judging.{Took, fate_told}
-use Rattle.stream_judge.specs.Fate.{Fate, IsFateSoFar}
-use Rattle.lane_judge.specs.Fates.{Stands, most_bytes}
-use Rattle.lane_judge.proofs.Answering.{fate_fed, reads_on, says_fed, within_most}
+use Rattle.std.proofs.Common.{subst}
+use Rattle.lane_judge.proofs.Subjects.{solver_says, stream_says}
+use Rattle.lane_judge.specs.Watching.{Watches}
+use Rattle.lane_judge.specs.declared.subject.Watch.{Watch}
+use Rattle.lane_judge.specs.declared.subject.Watch.TheVariants.{Stream, Solver}
 use Rattle.lane_judge.proofs.subject.JobJudgeSubjectFinding.feed.Goals as goal
 
-pub returns-in-Ok-clause-says : goal.returns-in-Ok-clause-says
-returns-in-Ok-clause-says c =
+pub returns-in-Stream-clause-says : goal.returns-in-Stream-clause-says
+returns-in-Stream-clause-says c =
     let s = c.args.self.now in
-    let r = c.requires in
-    let fed = c.in-Ok.ensures.feeds s.output.bytes r.took in
-    let says = says_fed s.judge.asked s.problem.now s.judge.job s.job s.judge.most r.asked r.job_is r.most (s.output.bytes ++ c.args.piece.now) c.in-Ok.answer fed.finds fed.fate in
-    subst (λ (b : List ℕ). Says (Stands s.problem.now s.job) b c.judged_as.result) (sym c.with_piece.ensures)
-    (subst (λ (v : Judged FindingOf). Says (Stands s.problem.now s.job) (s.output.bytes ++ c.args.piece.now) v) (sym c.judged_as.ensures) says)
+    let watches : Watches s.problem.now s.job s.evidence (Stream c.in-Stream.judge) s.output.bytes = subst (λ (w : Watch). Watches s.problem.now s.job s.evidence w s.output.bytes) c.in-Stream.is c.requires in
+    let fed = stream_says s.problem.now s.job s.evidence c.in-Stream.judge c.feed_stream.new.judge s.output.bytes c.args.piece.now c.feed_stream.result watches c.feed_stream.ensures in
+    rw c.with_piece.ensures (fed.says c.job_bytes-file.result.now c.job_bytes-file.ensures)
 
-pub returns-in-Ok-clause-more : goal.returns-in-Ok-clause-more
-returns-in-Ok-clause-more c = λ more.
+pub returns-in-Stream-clause-more : goal.returns-in-Stream-clause-more
+returns-in-Stream-clause-more c =
     let s = c.args.self.now in
-    let r = c.requires in
-    let bytes = s.output.bytes ++ c.args.piece.now in
-    let fed = c.in-Ok.ensures.feeds s.output.bytes r.took in
-    let on = reads_on c.in-Ok.answer (sym c.judged_as.ensures ∙ more) in
-    let file = c.job_bytes-file.result.now in
-    let so_far = fate_fed s.judge.asked s.problem.now s.judge.job s.job s.judge.most r.asked r.job_is r.most bytes (fate_told c.in-Ok.answer) fed.fate file c.job_bytes-file.ensures in (
-      record {
-        is_job = r.is_job;
-        asked = fed.same.0 ∙ r.asked;
-        job_is = fed.same.1 ∙ r.job_is;
-        most = fed.same.2 ∙ r.most;
-        took = subst (λ (b : List ℕ). Took c.feed.new.self b) (sym c.with_piece.ensures) (fed.stands (fed.state ∙ on.0));
-      },
-      subst (λ (b : List ℕ). length b ≤ most_bytes) (sym c.with_piece.ensures)
-          (within_most file bytes most_bytes (subst (λ (o : Option Fate). IsFateSoFar file bytes most_bytes o) on.1 so_far)),
-    )
+    let watches : Watches s.problem.now s.job s.evidence (Stream c.in-Stream.judge) s.output.bytes = subst (λ (w : Watch). Watches s.problem.now s.job s.evidence w s.output.bytes) c.in-Stream.is c.requires in
+    let fed = stream_says s.problem.now s.job s.evidence c.in-Stream.judge c.feed_stream.new.judge s.output.bytes c.args.piece.now c.feed_stream.result watches c.feed_stream.ensures in
+    rw c.with_piece.ensures (fed.more c.job_bytes-file.result.now c.job_bytes-file.ensures)
+
+pub returns-in-Solver-clause-says : goal.returns-in-Solver-clause-says
+returns-in-Solver-clause-says c =
+    let s = c.args.self.now in
+    let watches : Watches s.problem.now s.job s.evidence (Solver c.in-Solver.judge) s.output.bytes = subst (λ (w : Watch). Watches s.problem.now s.job s.evidence w s.output.bytes) c.in-Solver.is c.requires in
+    let fed = solver_says s.problem.now s.job s.evidence c.in-Solver.judge c.feed_solver.new.judge s.output.bytes c.args.piece.now c.feed_solver.result watches c.feed_solver.ensures in
+    rw c.with_piece.ensures (fed.says c.job_bytes-file.result.now c.job_bytes-file.ensures)
+
+pub returns-in-Solver-clause-more : goal.returns-in-Solver-clause-more
+returns-in-Solver-clause-more c =
+    let s = c.args.self.now in
+    let watches : Watches s.problem.now s.job s.evidence (Solver c.in-Solver.judge) s.output.bytes = subst (λ (w : Watch). Watches s.problem.now s.job s.evidence w s.output.bytes) c.in-Solver.is c.requires in
+    let fed = solver_says s.problem.now s.job s.evidence c.in-Solver.judge c.feed_solver.new.judge s.output.bytes c.args.piece.now c.feed_solver.result watches c.feed_solver.ensures in
+    rw c.with_piece.ensures (fed.more c.job_bytes-file.result.now c.job_bytes-file.ensures)

@@ -1,0 +1,2 @@
+pub mod Fates
+mod Judges

@@ -1,0 +1,4 @@
+-- Definitions.
+pub mod Fates
+pub mod Judging
+pub mod Reading
