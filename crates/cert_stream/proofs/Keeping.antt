@@ -1,11 +1,11 @@
 -- A byte keeps the variables, and what is said with it is within them.
-use Rattle.std.proofs.Common.{◌≡◌, ℕ, ◌+◌, Bool, true, false, cond, not, ◌||◌, ◌&&◌, eqb, leb, length, Option, Some, None, refl, ap, sym, ◌∙◌, subst}
+use Rattle.std.proofs.Common.{◌≡◌, ℕ, Bool, true, false, cond, not, ◌||◌, eqb, leb, length, Option, Some, None, refl, ap, sym, ◌∙◌, subst}
 use Rattle.cert_stream.specs.Text.{is_blank, is_digit}
-use Rattle.cert_stream.specs.Machine.{WireOf, Turn, IsPartWithin, IsModeWithin, IsEventWithin, first_of_both, turn, quiet, fails, end_part, end_word, end_line, feed_behind, unended, visible, visible_part, visible_first, visible_digit, visible_plain, visible_start, visible_spelled, emptied, begins_literal, goes_on, literal, with_digit, spelling, read}
+use Rattle.cert_stream.specs.Machine.{WireOf, Turn, IsPartWithin, IsModeWithin, IsEventWithin, first_of_both, quiet, fails, end_part, end_word, end_line, feed_behind, unended, visible, visible_part, visible_first, visible_digit, visible_start, emptied, begins_literal, goes_on, literal, with_digit, read}
 use Rattle.cert_stream.specs.declared.mode.Event.{Event}
 use Rattle.cert_stream.specs.declared.mode.ListKind.{ListKind}
 use Rattle.cert_stream.specs.declared.mode.ListKind.TheVariants.{Clause as ClauseList, Deletion, Values}
-use Rattle.cert_stream.specs.declared.mode.WireFaultKind.TheVariants.{BadLine, BadLiteral, LineTooLong}
+use Rattle.cert_stream.specs.declared.mode.WireFaultKind.TheVariants.{BadLiteral}
 use Rattle.cert_stream.specs.declared.mode.Part.{Part}
 use Rattle.cert_stream.specs.declared.mode.Part.TheVariants.{Gap, Minus, Zero, Digits}
 use Rattle.cert_stream.specs.declared.mode.Mode.{Mode}

@@ -1,18 +1,16 @@
 -- The literals of a stream have variables from 1 to `vars`.
-use Rattle.std.proofs.Common.{◌≡◌, ℕ, ◌+◌, ◌<◌, ◌≤◌, Bool, true, false, cond, ◌&&◌, ◌||◌, eqb, leb, List, [], ◌∷◌, ◌++◌, length, Some, refl, ap, sym, ◌∙◌, inl, inr, arith, subst}
+use Rattle.std.proofs.Common.{◌≡◌, ℕ, ◌+◌, Bool, true, false, cond, ◌&&◌, ◌||◌, eqb, leb, List, [], ◌∷◌, ◌++◌, length, Some, arith}
 use Rattle.std.specs.Prelude.{slice_index}
-use Rattle.std.proofs.lemmas.Bool.{cases_Bool}
 use Rattle.std.proofs.lemmas.List.Elements.{All-push}
 use Rattle.cnf_form.specs.Cnf.{LitOf, LitWithin, ClauseWithin}
 use Rattle.cert_stream.specs.Text.{Word, is_digit, lines_of, literal_of, words_from}
 use Rattle.cert_stream.specs.Scan.{Scanned, Reads, Misfit, scan}
 use Rattle.cert_stream.specs.Words.{IsRead}
 use Rattle.cert_stream.specs.Telling.{Saying, IsUnknown}
-use Rattle.cert_stream.specs.Stream.{bad, ended_says, heard_says, unended_says, behind_says, list_says, is_unknown, status_says, alone, plain_says, visible_says, line_says, lines_say, sayings, AreWithin}
+use Rattle.cert_stream.specs.Stream.{bad, ended_says, heard_says, behind_says, list_says, is_unknown, status_says, alone, plain_says, line_says, lines_say, sayings, AreWithin}
 use Rattle.cert_stream.specs.declared.mode.ListKind.{ListKind}
 use Rattle.cert_stream.specs.declared.mode.ListKind.TheVariants.{Clause, Deletion, Values}
 use Rattle.cert_stream.specs.declared.mode.WireFaultKind.TheVariants.{BadLine}
-use Rattle.cert_stream.specs.declared.mode.Part.{Part}
 use Rattle.cert_stream.specs.declared.mode.Part.TheVariants.{Gap, Minus, Zero, Digits}
 use Rattle.cert_stream.proofs.Digits.{number_above, has_digits}
 use Rattle.cert_stream.proofs.Reading.{word_read}

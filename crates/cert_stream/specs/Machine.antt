@@ -1,6 +1,6 @@
 -- What each byte of a stream does to the little that is kept of the bytes before it.
 use Rattle.std.specs.Prelude.{ℕ, ◌+◌, ◌*◌, ◌-◌, Bool, true, false, cond, not, ◌&&◌, ◌||◌, eqb, leb, List, [], ◌∷◌, ◌++◌, length, Option, Some, None}
-use Rattle.cnf_form.specs.Cnf.{LitOf, LitWithin, ClauseWithin}
+use Rattle.cnf_form.specs.Cnf.{LitOf, LitWithin}
 use Rattle.cert_stream.specs.Text.{is_blank, is_digit}
 use Rattle.cert_stream.specs.declared.mode.ListKind.{ListKind}
 use Rattle.cert_stream.specs.declared.mode.ListKind.TheVariants.{Clause as ClauseList, Deletion, Values}

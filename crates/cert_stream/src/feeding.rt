@@ -7,9 +7,11 @@ ghost use Rattle.cert_stream.specs.Telling.{Saying, TakesMemory, IsClause, IsDel
 ghost use Rattle.cert_stream.specs.declared.mode.Mode.TheVariants.{Lost};
 
 use crate::mode::{Event, WireFault};
+use crate::steps::{Count, Steps, Uncounted};
 use crate::wire::Wire;
 use cnf_form::Lit;
 use std::alloc::AllocError;
+use std::sync::ledger::Ledger;
 
 /// Gets what a stream says. Each call answers whether no more is wanted, or want of memory.
 pub trait Receiver {
@@ -80,11 +82,12 @@ fn tell<R: Receiver>(wire: &Wire, receiver: &mut R, event: Event) -> Result<bool
     }
 }
 
-// Takes a piece, and answers whether the receiver stopped.
-fn take_piece<R: Receiver>(
+// Takes a piece, with a step for each turn, and answers whether the receiver stopped.
+fn take_piece<R: Receiver, N: Count>(
     wire: &mut Wire,
     piece: &[u8],
     receiver: &mut R,
+    steps: &mut N,
 ) -> Result<bool, AllocError>
     requires vars { R.vars receiver.old ≡ wire.old.vars }
     requires count { wire.old.taken + length piece.now < 2 ^ 64 }
@@ -93,9 +96,11 @@ fn take_piece<R: Receiver>(
     ensures vars { IfOk result (λ _. R.vars receiver.new ≡ wire.new.vars) }
     ensures count { IfOk result (λ _. wire.new.taken ≤ wire.old.taken + length piece.now) }
     ensures memory { OnErr result (TakesMemory wire.old piece.now) }
+    ensures steps { N.count steps.new ≤ N.count steps.old + length piece.now }
 {
     let mut i = 0;
     while i < piece.len() {
+        steps.step();
         i += wire.pass(&piece[i..]);
         if i >= piece.len() {
             return Ok(false);
@@ -173,7 +178,33 @@ impl Wire {
         if self.is_lost() {
             return Err(AllocError);
         }
-        let stopped = take_piece(self, piece, receiver);
+        let stopped = take_piece(self, piece, receiver, &mut Uncounted);
+        self.answer(stopped)
+    }
+
+    /// Does what `feed` does, and counts one step for each turn of the loop over the piece: at most one for each of its bytes.
+    pub fn feed_counted<R: Receiver, L: Ledger>(
+        &mut self,
+        piece: &[u8],
+        receiver: &mut R,
+        steps: &mut Steps<L>,
+    ) -> Result<Result<Fed, WireFault>, AllocError>
+        requires vars { R.vars receiver.old ≡ self.old.vars }
+        requires count { self.old.taken + length piece.now < 2 ^ 64 }
+        ensures told { IfOk result (λ fed. Gets R.gets R.stops receiver.old (said self.old piece.now) receiver.new (is_stopped fed)) }
+        ensures kept { IfOk result (λ fed. is_stopped fed ≡ false → self.new ≡ after self.old piece.now) }
+        ensures vars { IfOk result (λ _. R.vars receiver.new ≡ self.new.vars) }
+        ensures answer { IfOk result (λ fed. is_stopped fed ≡ false → fed ≡ answer (fault_of (after self.old piece.now).mode)) }
+        ensures count { self.new.taken ≤ self.old.taken + length piece.now }
+        ensures lost { OnErr result (self.new.mode ≡ Lost) }
+        ensures stays_lost { IfOk result (λ _. self.old.mode ≢ Lost) }
+        ensures memory { OnErr result ((self.old.mode ≡ Lost) ⊎ TakesMemory self.old piece.now) }
+        ensures steps { steps.new ≤ steps.old + length piece.now }
+    {
+        if self.is_lost() {
+            return Err(AllocError);
+        }
+        let stopped = take_piece(self, piece, receiver, steps);
         self.answer(stopped)
     }
 

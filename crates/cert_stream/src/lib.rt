@@ -4,8 +4,7 @@
 mod feeding;
 mod laws;
 mod mode;
-#[cfg(test)]
-mod tests;
+mod steps;
 mod wire;
 
 pub use feeding::{Fed, Receiver};
@@ -15,4 +14,5 @@ pub use laws::{
     streams_say_lines, whole_lines_are_said, words_are_read,
 };
 pub use mode::{Event, ListKind, Mode, Part, WireFault, WireFaultKind};
+pub use steps::Steps;
 pub use wire::Wire;

@@ -1,10 +1,11 @@
 -- The clauses that are present, after one came or went.
-use Rattle.std.proofs.Common.{◌≡◌, ◌≢◌, ℕ, ◌+◌, ◌*◌, ◌<◌, Bool, true, false, List, [], ◌∷◌, ◌++◌, length, set, refl, sym, ◌∙◌, ap, subst, inl, inr, arith, zero, suc}
+use Rattle.std.proofs.Common.{◌≡◌, ◌≢◌, ℕ, ◌+◌, ◌*◌, ◌<◌, Bool, true, false, List, [], ◌∷◌, ◌++◌, length, set, take, refl, sym, ◌∙◌, ap, subst, inl, inr, arith, zero, suc}
 use Rattle.std.specs.Prelude.{Contains, Option, Some, None}
 use Rattle.std.proofs.lemmas.Bool.{cases_Bool, cases_eq, cases_lt}
-use Rattle.std.proofs.lemmas.List.{get_or-set_same, get_or-set_other, get_or_past, get_or_append_left, get_or_push, length_push}
+use Rattle.std.proofs.lemmas.List.{get_or-set_same, get_or-set_other, get_or_past, get_or_default, get_or_append_left, get_or_push, length_push}
 use Rattle.std.proofs.lemmas.List.Elements.{Contains-append_left}
 use Rattle.cnf_form.specs.Cnf.{LitOf, SameClause, Conflict, IsReason, Removes, first, later, Deletes}
+use Rattle.cnf_form.proofs.Members.{take_one_more}
 use Rattle.cnf_form.proofs.Removal.{Closure-monotone, Closure-without, Removes-cases}
 use Rattle.unit_propagation.specs.Propagation.{HasFalsified, IsDerived}
 use Rattle.unit_propagation.specs.Propagator.{PropagatorOf, clauses_of, slot_at, IsPut, IsWanting}
@@ -118,6 +119,14 @@ module _ (p q : PropagatorOf) (w : IsWanting p q) where
           let s = slots_of_wanting q w.1 in
           let v = f.each k d (back k d e) in
           (v.0, subst (λ u. Weighs u d v.0) (sym s.0) v.1, keeps v.0 k v.2)
+
+-- the slots up to one of them, as a loop reads it
+module _ (slots : List (Option (List LitOf))) (k : ℕ) (room : k < length slots) where
+  pub clauses_more : (c : List LitOf) → slot_at slots k ≡ Some c → clauses_of (take (k + 1) slots) ≡ clauses_of (take k slots) ++ c ∷ []
+  clauses_more c e = ap clauses_of (take_one_more slots k (Some c) room (sym e ∙ get_or_default slots k None (Some c) room)) ∙ clauses_push (take k slots) c
+
+  pub clauses_same : slot_at slots k ≡ None → clauses_of (take (k + 1) slots) ≡ clauses_of (take k slots)
+  clauses_same e = ap clauses_of (take_one_more slots k None room (sym e)) ∙ clauses_none (take k slots)
 
 -- a clause is taken out that is no reason
 module _ (p : PropagatorOf) (k : ℕ) (c d : List LitOf) (at : slot_at p.slots k ≡ Some d) (same : SameClause c d) where

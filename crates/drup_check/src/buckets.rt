@@ -93,7 +93,7 @@ impl Buckets {
 }
 
 // A bucket has this many entries on average before there are twice as many buckets.
-const FULL: usize = 4;
+const FULL: usize = 16;
 
 // The table grows with its entries.
 #[derive(Drop)]

@@ -27,14 +27,21 @@ pub enum Added {
     NotRup,
 }
 
+// As many literals of deleted clauses keep their place at least.
+const FEW: usize = 65_536;
+
 /// A checker of DRUP proofs, which holds the clauses that are present.
 #[derive(Drop)]
 pub struct Checker {
+    alloc: Global,
     core: Propagator,
     copies: Copies,
     marks: Vec<bool>,
     others: Vec<bool>,
     negated: Vec<Lit>,
+    // The literals of the clauses that are present, and of those that were deleted.
+    live: usize,
+    dead: usize,
     refuted: bool,
     out_of_memory: bool,
 }
@@ -64,11 +71,14 @@ impl Checker {
         let marks = vec![in alloc; false; 2 * vars as usize + 2]?;
         let others = vec![in alloc; false; 2 * vars as usize + 2]?;
         Ok(Checker {
+            alloc,
             core,
             copies: Copies::new(alloc)?,
             marks,
             others,
             negated: Vec::new(alloc),
+            live: 0,
+            dead: 0,
             refuted: false,
             out_of_memory: false,
         })
@@ -95,6 +105,7 @@ impl Checker {
         let weight = weigh(clause, &mut self.marks);
         self.copies.put(weight, self.core.len() as u32)?;
         self.core.put(clause)?;
+        self.live = self.live.saturating_add(clause.len());
         Ok(())
     }
 
@@ -149,9 +160,8 @@ impl Checker {
         Ok(added)
     }
 
-    /// Deletes one copy of a clause over the formula's variables. Does nothing where there is none, where unit propagation
-    /// reaches a conflict, or where it derives one literal of the clause and the negations of all its others.
-    pub fn delete(&mut self, clause: &[Lit])
+    // Deletes one copy of a clause, whose literals keep their place.
+    fn drop_copy(&mut self, clause: &[Lit])
         requires { ClauseWithin self.old.vars clause.now }
         ensures deleted { Deletes self.old.clauses clause.now self.new.clauses }
         ensures rest { self.new ≡ record self.old { clauses = self.new.clauses } }
@@ -173,6 +183,52 @@ impl Checker {
         }
         self.copies.take(found.weight, found.clause);
         self.core.take_out(found.clause);
+        self.live = self.live.saturating_sub(clause.len());
+        self.dead = self.dead.saturating_add(clause.len());
+    }
+
+    // A checker of the clauses that are present.
+    fn anew(&self) -> Result<Self, AllocError>
+        ensures { IfOk result (λ k. k ≡ record { vars = self.now.vars; clauses = self.now.clauses; refuted = false; out_of_memory = false }) }
+    {
+        let mut checker = Checker::empty(self.alloc, self.core.vars())?;
+        for place in 0..self.core.len() {
+            if let Some(clause) = self.core.clause(place as u32) {
+                checker.keep(clause)?;
+            }
+        }
+        Ok(checker)
+    }
+
+    // Whether most literals are those of deleted clauses, and a table by variable is smaller.
+    fn is_sparse(&self) -> bool {
+        self.dead > FEW && self.dead > self.live && self.dead > self.core.vars() as usize
+    }
+
+    // Gives the place of deleted clauses back where most literals are theirs, if there is memory for that.
+    fn collect(&mut self)
+        ensures { self.new ≡ self.old }
+    {
+        if !self.is_sparse() {
+            return;
+        }
+        let Ok(mut checker) = self.anew() else {
+            return;
+        };
+        checker.refuted = self.refuted;
+        checker.out_of_memory = self.out_of_memory;
+        *self = checker;
+    }
+
+    /// Deletes one copy of a clause over the formula's variables. Does nothing where there is none, where unit propagation
+    /// reaches a conflict, or where it derives one literal of the clause and the negations of all its others.
+    pub fn delete(&mut self, clause: &[Lit])
+        requires { ClauseWithin self.old.vars clause.now }
+        ensures deleted { Deletes self.old.clauses clause.now self.new.clauses }
+        ensures rest { self.new ≡ record self.old { clauses = self.new.clauses } }
+    {
+        self.drop_copy(clause);
+        self.collect();
     }
 
     /// Whether an empty clause was admitted.
@@ -187,213 +243,5 @@ impl Checker {
         ensures { result ≡ self.now.out_of_memory }
     {
         self.out_of_memory
-    }
-}
-
-#[cfg(test)]
-mod tests {
-    use super::*;
-    use std::test::Fail;
-
-    // A checker of a formula that is lent, so that the tests have one value to let go.
-    fn checked(alloc: Global, f: &Formula) -> Result<Checker, Fail>
-        ensures { IfOk result (λ k. k.vars ≡ f.now.vars) }
-    {
-        Ok(Checker::new(alloc, f)?)
-    }
-
-    // All four clauses on two variables.
-    fn four(f: &mut Formula) -> Result<(), AllocError>
-        requires { f.old.vars ≡ 3 }
-        ensures { f.new.vars ≡ 3 }
-    {
-        let a = Lit::new(1, false);
-        let b = Lit::new(2, false);
-        f.push(&[a, b])?;
-        f.push(&[a.negate(), b])?;
-        f.push(&[a, b.negate()])?;
-        f.push(&[a.negate(), b.negate()])
-    }
-
-    // {1, 2}, {-1, 2}, {-2, 3}
-    fn three(f: &mut Formula) -> Result<(), AllocError>
-        requires { f.old.vars ≡ 3 }
-        ensures { f.new.vars ≡ 3 }
-    {
-        let a = Lit::new(1, false);
-        let b = Lit::new(2, false);
-        let d = Lit::new(3, false);
-        f.push(&[a, b])?;
-        f.push(&[a.negate(), b])?;
-        f.push(&[b.negate(), d])
-    }
-
-    // A unit that gives another literal, and its clause.
-    fn unit(f: &mut Formula) -> Result<(), AllocError>
-        requires { f.old.vars ≡ 3 }
-        ensures { f.new.vars ≡ 3 }
-    {
-        let a = Lit::new(1, false);
-        f.push(&[a])?;
-        f.push(&[a.negate(), Lit::new(2, false)])
-    }
-
-    // Doubled literals, and a tautology.
-    fn doubled(f: &mut Formula) -> Result<(), AllocError>
-        requires { f.old.vars ≡ 3 }
-        ensures { f.new.vars ≡ 3 }
-    {
-        let a = Lit::new(1, false);
-        let b = Lit::new(2, false);
-        f.push(&[a, b, a])?;
-        f.push(&[b, a])?;
-        f.push(&[a, a.negate()])?;
-        f.push(&[b.negate(), b.negate(), a])
-    }
-
-    fn refuted_by_two(checker: &mut Checker) -> Result<bool, AllocError>
-        requires { checker.old.vars ≡ 3 }
-    {
-        let b = Lit::new(2, false);
-        let early = checker.add(&[])?;
-        let first = checker.add(&[b])?;
-        let open = !checker.refuted();
-        let last = checker.add(&[])?;
-        Ok(
-            early == Added::NotRup
-                && first == Added::Admitted
-                && open
-                && last == Added::Admitted
-                && checker.refuted()
-                && !checker.out_of_memory(),
-        )
-    }
-
-    fn deleted_is_missing(checker: &mut Checker) -> Result<bool, AllocError>
-        requires { checker.old.vars ≡ 3 }
-    {
-        let b = Lit::new(2, false);
-        checker.delete(&[b, Lit::new(1, false)]);
-        Ok(checker.add(&[b])? == Added::NotRup && checker.add(&[b.negate()])? == Added::Admitted)
-    }
-
-    #[test]
-    fn all_four(rt: HostRuntime) -> Result<(), Fail> {
-        let mut f = Formula::new(rt.alloc(), 3);
-        four(&mut f)?;
-        assert!(rt; refuted_by_two(&mut checked(rt.alloc(), &f)?)?);
-        assert!(rt; deleted_is_missing(&mut checked(rt.alloc(), &f)?)?);
-        Ok(())
-    }
-
-    fn reason_is_kept(checker: &mut Checker) -> Result<bool, AllocError>
-        requires { checker.old.vars ≡ 3 }
-    {
-        let b = Lit::new(2, false);
-        checker.delete(&[Lit::new(1, true), b]);
-        Ok(checker.add(&[b])? == Added::Admitted)
-    }
-
-    fn all_is_admitted(checker: &mut Checker) -> Result<bool, AllocError>
-        requires { checker.old.vars ≡ 3 }
-    {
-        let first = checker.add(&[Lit::new(1, false)])?;
-        let open = !checker.refuted();
-        checker.delete(&[]);
-        let last = checker.add(&[])?;
-        Ok(first == Added::Admitted && open && last == Added::Admitted && checker.refuted())
-    }
-
-    fn with_empty(f: &mut Formula) -> Result<(), AllocError>
-        ensures { f.new.vars ≡ f.old.vars }
-    {
-        f.push(&[])
-    }
-
-    #[test]
-    fn units(rt: HostRuntime) -> Result<(), Fail> {
-        let mut f = Formula::new(rt.alloc(), 3);
-        unit(&mut f)?;
-        assert!(rt; reason_is_kept(&mut checked(rt.alloc(), &f)?)?);
-        with_empty(&mut f)?;
-        assert!(rt; all_is_admitted(&mut checked(rt.alloc(), &f)?)?);
-        Ok(())
-    }
-
-    fn follows(checker: &mut Checker) -> Result<bool, AllocError>
-        requires { checker.old.vars ≡ 3 }
-    {
-        Ok(checker.add(&[Lit::new(3, false)])? == Added::Admitted)
-    }
-
-    fn needs_each(checker: &mut Checker) -> Result<bool, AllocError>
-        requires { checker.old.vars ≡ 3 }
-    {
-        let a = Lit::new(1, false);
-        let b = Lit::new(2, false);
-        let d = Lit::new(3, false);
-        checker.delete(&[b, a.negate(), b]);
-        Ok(checker.add(&[d])? == Added::NotRup && checker.add(&[a, d])? == Added::Admitted)
-    }
-
-    #[test]
-    fn chained(rt: HostRuntime) -> Result<(), Fail> {
-        let mut f = Formula::new(rt.alloc(), 3);
-        three(&mut f)?;
-        assert!(rt; follows(&mut checked(rt.alloc(), &f)?)?);
-        assert!(rt; needs_each(&mut checked(rt.alloc(), &f)?)?);
-        Ok(())
-    }
-
-    fn reads_sets(checker: &mut Checker) -> Result<bool, AllocError>
-        requires { checker.old.vars ≡ 3 }
-    {
-        let a = Lit::new(1, false);
-        let b = Lit::new(2, false);
-        let both = checker.add(&[b, b.negate()])?;
-        checker.delete(&[a, b]);
-        let once = checker.add(&[a])?;
-        checker.delete(&[a]);
-        let twice = checker.add(&[a, a])?;
-        Ok(both == Added::Admitted && once == Added::Admitted && twice == Added::Admitted)
-    }
-
-    #[test]
-    fn sets(rt: HostRuntime) -> Result<(), Fail> {
-        let mut f = Formula::new(rt.alloc(), 3);
-        doubled(&mut f)?;
-        assert!(rt; reads_sets(&mut checked(rt.alloc(), &f)?)?);
-        Ok(())
-    }
-
-    const LINKS: u32 = 1000;
-
-    // 1, and each variable implies the next.
-    fn chain(alloc: Global) -> Result<Formula, AllocError>
-        ensures { IfOk result (λ f. f.vars ≡ LINKS) }
-    {
-        let mut f = Formula::new(alloc, LINKS);
-        f.push(&[Lit::new(1, false)])?;
-        for var in 1..LINKS {
-            f.push(&[Lit::new(var, true), Lit::new(var + 1, false)])?;
-        }
-        Ok(f)
-    }
-
-    fn is_followed(checker: &mut Checker) -> Result<bool, AllocError>
-        requires { checker.old.vars ≡ LINKS }
-    {
-        let last = Lit::new(LINKS, false);
-        Ok(
-            checker.add(&[last.negate()])? == Added::NotRup
-                && checker.add(&[last])? == Added::Admitted,
-        )
-    }
-
-    #[test]
-    fn follows_a_chain(rt: HostRuntime) -> Result<(), Fail> {
-        let f = chain(rt.alloc())?;
-        assert!(rt; is_followed(&mut checked(rt.alloc(), &f)?)?);
-        Ok(())
     }
 }

@@ -1,4 +1,4 @@
-use Rattle.std.proofs.Common.{◌≡◌, length, ◌-◌}
+use Rattle.std.proofs.Common.{◌≡◌, ◌≤◌, ◌+◌, length, ◌-◌}
 use Rattle.cert_stream.proofs.Pieces.{Left}
 use Rattle.cert_stream.proofs.feeding.take_piece.Given as goal
 
@@ -6,6 +6,7 @@ abbrev pub invariant-loop-i : goal.invariant-loop-i
 invariant-loop-i g l = record {
   left : Left g.R.Receiver.gets g.R.Receiver.stops l.initial.wire l.initial.receiver l.piece l.wire l.receiver l.i;
   vars : g.R.Receiver.vars l.receiver ≡ l.wire.vars;
+  steps : g.N.Count.count l.steps ≤ g.N.Count.count l.initial.steps + l.i;
 }
 
 abbrev pub decreases-loop-i : goal.decreases-loop-i

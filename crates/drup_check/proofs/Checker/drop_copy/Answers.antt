@@ -6,7 +6,7 @@ use Rattle.drup_check.specs.Checking.{CheckerOf}
 use Rattle.drup_check.proofs.Weights.{freed_back}
 use Rattle.drup_check.proofs.Decisions.{conflict_from, no_conflict}
 use Rattle.drup_check.proofs.Present.{root_without, filed_without, deletes_without}
-use Rattle.drup_check.proofs.Checker.delete.Goals as goal
+use Rattle.drup_check.proofs.Checker.drop_copy.Goals as goal
 
 pub returns-then-conflict-clause-deleted : goal.returns-then-conflict-clause-deleted
 returns-then-conflict-clause-deleted c =
