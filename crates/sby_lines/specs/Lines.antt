@@ -2,7 +2,7 @@
 use Rattle.std.specs.Prelude.{◌≡◌, ℕ, ◌+◌, ◌==◌, if◌then◌else◌, List, [], ◌∷◌, ◌++◌, map, slice_get, string_bytes, Option, Some, None}
 use Rattle.judge.specs.Finding.{FindingOf}
 use Rattle.stream_judge.specs.declared.stream.CertKind.{CertKind}
-use Rattle.stream_judge.specs.declared.stream.CertKind.TheVariants.{BadLine, BadLiteral, LineTooLong, NotRup, NotSatisfying, TooLong, EarlyEnd}
+use Rattle.stream_judge.specs.Numbers.{kind_of}
 use Rattle.race_core.specs.Report.{ReportOf}
 use Rattle.race_core.specs.Told.{Decided}
 use Rattle.race_core.specs.declared.end.JobEnd.{JobEnd}
@@ -31,11 +31,10 @@ use Rattle.sby_lines.specs.Texts.{answer_text, cert_kind_text, cert_text, design
 use Rattle.sby_lines.specs.declared.early.Early.{Early}
 use Rattle.sby_lines.specs.declared.early.Early.TheVariants.{File, Sby, Task, Read, Design, TooMany, Streams, Memory as MemoryEarly}
 
--- the kind of a certificate's fault by its number: 41 to 45, 47 or 48
-abbrev pub kind_numbered : ℕ → CertKind
-kind_numbered number =
-    if number == 41 then BadLine else if number == 42 then BadLiteral else if number == 43 then LineTooLong else if number == 44 then NotRup
-    else if number == 45 then NotSatisfying else if number == 47 then TooLong else EarlyEnd
+-- what is printed of a certificate's fault of a kind; a number that is no kind's has no line
+abbrev pub bad_text : Option CertKind → ℕ → Option (List ℕ)
+bad_text None at = None
+bad_text (Some kind) at = Some (cert_text (cert_kind_text kind) at)
 
 -- the line of a text, or no line
 abbrev pub line_if : List ℕ → Option (List ℕ) → List (List ℕ)
@@ -58,7 +57,7 @@ abbrev pub end_text : JobEnd FindingOf → Option (List ℕ)
 end_text (Found f) = None
 end_text Unknown = Some unknown_text
 end_text NotServed = Some not_served_text
-end_text (Bad number at) = Some (cert_text (cert_kind_text (kind_numbered number)) at)
+end_text (Bad number at) = bad_text (kind_of number) at
 end_text ReadFailed = Some read_failed_text
 end_text StartFailed = Some start_failed_text
 end_text HoldFailed = Some hold_failed_text
@@ -66,6 +65,20 @@ end_text (Skipped f) = None
 end_text (CalledOff f) = None
 end_text (Stopped reading) = None
 end_text MemoryEnd = Some memory_text
+
+-- an end that has a line whatever it carries
+abbrev pub HasLine : JobEnd FindingOf → Type 0
+HasLine Unknown = Unit {0}
+HasLine NotServed = Unit {0}
+HasLine ReadFailed = Unit {0}
+HasLine StartFailed = Unit {0}
+HasLine HoldFailed = Unit {0}
+HasLine MemoryEnd = Unit {0}
+HasLine (Bad number at) = ⊥
+HasLine (Found f) = ⊥
+HasLine (Skipped f) = ⊥
+HasLine (CalledOff f) = ⊥
+HasLine (Stopped reading) = ⊥
 
 -- the line of the cycles that are skipped
 abbrev pub skipped_lines : Request → List (List ℕ)

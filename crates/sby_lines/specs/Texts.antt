@@ -6,7 +6,7 @@ use Rattle.design_check.specs.declared.fault.FaultKind.TheVariants.{UnknownCell,
 use Rattle.design_reader.specs.declared.fault.ReadFaultKind.{ReadFaultKind}
 use Rattle.design_reader.specs.declared.fault.ReadFaultKind.TheVariants.{Limit, Syntax, NotUtf8Name, DoubleName, UnknownWire, Index, LeftOut, NoModule, SeveralModules}
 use Rattle.stream_judge.specs.declared.stream.CertKind.{CertKind}
-use Rattle.stream_judge.specs.declared.stream.CertKind.TheVariants.{BadLine, BadLiteral, LineTooLong, NotRup, NotSatisfying, TooLong, EarlyEnd}
+use Rattle.stream_judge.specs.declared.stream.CertKind.TheVariants.{BadLine, BadLiteral, LineTooLong, NotRup, NotSatisfying, TooLong, EarlyEnd, BadId, BadHint, NotHinted}
 use Rattle.sby_terms.specs.declared.names.Answer.{Answer}
 use Rattle.sby_terms.specs.declared.names.Answer.TheVariants.{Sat, Unsat}
 use Rattle.sby_terms.specs.declared.names.Status.{Status}
@@ -71,6 +71,9 @@ cert_kind_text NotRup = codes "NotRup at byte"
 cert_kind_text NotSatisfying = codes "NotSatisfying clause"
 cert_kind_text TooLong = codes "TooLong at byte"
 cert_kind_text EarlyEnd = codes "EarlyEnd at byte"
+cert_kind_text BadId = codes "BadId at byte"
+cert_kind_text BadHint = codes "BadHint at byte"
+cert_kind_text NotHinted = codes "NotHinted at byte"
 
 unfoldable pub sby_kind_text : SbyKind → List ℕ
 sby_kind_text sby.NotText = codes "NotText"

@@ -1,8 +1,9 @@
 // The texts of faults and ends.
 
 ghost use Rattle.std.specs.Prelude.{◌≡◌, ◌≢◌, IfOk, OnErr, None, Some, option_map, string_bytes};
-ghost use Rattle.sby_lines.specs.Lines.{IsStatus, early_text, end_text};
+ghost use Rattle.sby_lines.specs.Lines.{HasLine, IsStatus, bad_text, early_text, end_text};
 ghost use Rattle.sby_lines.specs.Told.{CameTo, Request};
+ghost use Rattle.stream_judge.specs.Numbers.{kind_of};
 
 use crate::early::Early;
 use crate::text;
@@ -10,6 +11,7 @@ use judge::Finding;
 use race_core::JobEnd;
 use sby_terms::{Status, job_text};
 use std::alloc::{AllocError, Global};
+use stream_judge::CertKind;
 
 fn fault_text(alloc: Global, slices: u32, early: &Early) -> Result<String, AllocError>
     requires { early_text slices early.now ≢ None }
@@ -44,23 +46,38 @@ pub fn early_text(alloc: Global, slices: u32, early: &Early) -> Result<Option<St
     Ok(Some(text))
 }
 
+// What is printed of a certificate's fault by its kind's number.
+fn bad_text(alloc: Global, no: u8, at: u64) -> Result<Option<String>, AllocError>
+    ensures ok { IfOk result (λ t. option_map string_bytes t ≡ bad_text (kind_of no) at) }
+    ensures err { OnErr result (bad_text (kind_of no) at ≢ None) }
+{
+    match CertKind::of_number(no) {
+        None => Ok(None),
+        Some(kind) => {
+            let text = text::cert_text(alloc, text::cert_kind_text(kind), at)?;
+            Ok(Some(text))
+        }
+    }
+}
+
+// What is printed of an end that always has a line.
 fn told_text(alloc: Global, end: &JobEnd<Finding>) -> Result<String, AllocError>
-    requires { end_text end.now ≢ None }
-    ensures { IfOk result (λ t. end_text end.now ≡ Some (string_bytes t)) }
+    requires { HasLine end.now }
+    ensures ok { IfOk result (λ t. end_text end.now ≡ Some (string_bytes t)) }
+    ensures line { end_text end.now ≢ None }
 {
     match end {
         JobEnd::Unknown => text::unknown_text(alloc),
         JobEnd::NotServed => text::not_served_text(alloc),
-        JobEnd::Bad { no, at } => {
-            text::cert_text(alloc, text::cert_kind_text(text::kind_numbered(*no)), *at)
-        }
         JobEnd::ReadFailed => text::read_failed_text(alloc),
         JobEnd::StartFailed => text::start_failed_text(alloc),
         JobEnd::HoldFailed => text::hold_failed_text(alloc),
         JobEnd::Memory => text::memory_text(alloc),
-        JobEnd::Found(_) | JobEnd::Skipped(_) | JobEnd::CalledOff(_) | JobEnd::Stopped(_) => {
-            unreachable!()
-        }
+        JobEnd::Bad { .. }
+        | JobEnd::Found(_)
+        | JobEnd::Skipped(_)
+        | JobEnd::CalledOff(_)
+        | JobEnd::Stopped(_) => { unreachable!() }
     }
 }
 
@@ -69,14 +86,21 @@ pub fn end_text(alloc: Global, end: &JobEnd<Finding>) -> Result<Option<String>, 
     ensures ok { IfOk result (λ t. option_map string_bytes t ≡ end_text end.now) }
     ensures err { OnErr result (end_text end.now ≢ None) }
 {
-    if matches!(
-        end,
-        JobEnd::Found(_) | JobEnd::Skipped(_) | JobEnd::CalledOff(_) | JobEnd::Stopped(_)
-    ) {
-        return Ok(None);
+    match end {
+        JobEnd::Found(_) | JobEnd::Skipped(_) | JobEnd::CalledOff(_) | JobEnd::Stopped(_) => {
+            Ok(None)
+        }
+        JobEnd::Bad { no, at } => bad_text(alloc, *no, *at),
+        JobEnd::Unknown
+        | JobEnd::NotServed
+        | JobEnd::ReadFailed
+        | JobEnd::StartFailed
+        | JobEnd::HoldFailed
+        | JobEnd::Memory => {
+            let text = told_text(alloc, end)?;
+            Ok(Some(text))
+        }
     }
-    let text = told_text(alloc, end)?;
-    Ok(Some(text))
 }
 
 /// The status of a task with a fault before its lanes.

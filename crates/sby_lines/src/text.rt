@@ -1,7 +1,6 @@
 // The texts of the lines.
 
 ghost use Rattle.std.specs.Prelude.{◌≡◌, ◌<◌, ◌∷◌, ◌++◌, [], IfOk, string_bytes};
-ghost use Rattle.sby_lines.specs.Lines.{kind_numbered};
 ghost use Rattle.sby_lines.specs.Texts.{answer_text, broken_text, cert_kind_text, cert_text, design_kind_text, design_text, done_text, fault_text, file_text, hold_failed_text, lane_text, line_of, memory_text, not_served_text, not_written_text, reached_text, read_failed_text, read_kind_text, read_text, sby_kind_text, sby_text, settled_text, skipped_text, start_failed_text, status_text, stopped_text, streams_text, task_kind_text, too_many_text, trace_path, unknown_text, unreached_text, usage_line};
 
 use crate::counts::Counts;
@@ -94,21 +93,6 @@ pub fn design_kind_text(kind: FaultKind) -> &'static str
     }
 }
 
-/// The kind of a certificate's fault by its number: 41 to 45, 47 or 48.
-pub fn kind_numbered(no: u8) -> CertKind
-    ensures { result ≡ kind_numbered no }
-{
-    match no {
-        41 => CertKind::BadLine,
-        42 => CertKind::BadLiteral,
-        43 => CertKind::LineTooLong,
-        44 => CertKind::NotRup,
-        45 => CertKind::NotSatisfying,
-        47 => CertKind::TooLong,
-        _ => CertKind::EarlyEnd,
-    }
-}
-
 #[tactic(auto, unfolding(crate::specs::Texts::cert_kind_text))]
 pub fn cert_kind_text(kind: CertKind) -> &'static str
     ensures { result.now ≡ cert_kind_text kind }
@@ -121,6 +105,9 @@ pub fn cert_kind_text(kind: CertKind) -> &'static str
         CertKind::NotSatisfying => "NotSatisfying clause",
         CertKind::TooLong => "TooLong at byte",
         CertKind::EarlyEnd => "EarlyEnd at byte",
+        CertKind::BadId => "BadId at byte",
+        CertKind::BadHint => "BadHint at byte",
+        CertKind::NotHinted => "NotHinted at byte",
     }
 }
 

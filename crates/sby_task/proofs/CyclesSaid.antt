@@ -11,7 +11,7 @@ use Rattle.sby_terms.proofs.Numbers.{both_true}
 use Rattle.sby_file.specs.Config.{ConfigOf}
 use Rattle.sby_task.specs.Values.{mode_of, count_of, number_of}
 use Rattle.sby_task.specs.Draft.{blank}
-use Rattle.sby_task.specs.Expand.{drafted, asked_text, Expand}
+use Rattle.sby_task.specs.Expand.{drafted, Expand}
 use Rattle.sby_task.specs.Cycles.{said_span, may_slice, fits, span_of, IsTaskSpan}
 use Rattle.sby_task.specs.Said.{AreKept, IsUnset, IsSet, HasOption, SaysSpan, AreRefused}
 use Rattle.sby_file.specs.declared.config.Row.{Row}
@@ -20,14 +20,14 @@ use Rattle.sby_task.specs.declared.draft.Draft.{Draft}
 use Rattle.sby_task.specs.declared.draft.OptionName.TheVariants as option
 use Rattle.sby_task.specs.declared.expansion.Task.{Task}
 use Rattle.sby_task.proofs.RowsSaid.{mode_says, skip_says, depth_says, stride_says, none_some, some_same}
-use Rattle.sby_task.proofs.Said.{answer, drafted_from, Finishes}
+use Rattle.sby_task.proofs.Said.{answer, drafted_from}
 use Rattle.sby_task.proofs.Spans.{cond_some, cond_none, value_bounds, none_are, some_is, good_span, bad_span}
 
-set_stands : (name : List ℕ) (Is : List (List ℕ) → Type 0) (rows : List Row) → IsSet name Is rows → HasOption name rows
+pub set_stands : (name : List ℕ) (Is : List (List ℕ) → Type 0) (rows : List Row) → IsSet name Is rows → HasOption name rows
 set_stands name Is rows (before, one, after, value, parts, is_one, none, others, r) =
     (one, value, subst (λ l. Contains l one) (sym parts) (Contains-append_right before (one ∷ after) one (0, omega arith, refl)), is_one)
 
-stands_set : (name : List ℕ) (rows : List Row) → IsUnset name rows → HasOption name rows → ⊥
+pub stands_set : (name : List ℕ) (rows : List Row) → IsUnset name rows → HasOption name rows → ⊥
 stands_set name rows unset (row, value, c, is) = unset row value c is
 
 set_value : (name : List ℕ) (most n : ℕ) (rows : List Row) → IsSet name (λ value. number_of most value ≡ Some n) rows → (1 ≤ n) × (n ≤ most)
@@ -56,6 +56,12 @@ module _ (files : List StoredFile) (rows : List Row) (d : Draft) (said : drafted
   mode_given mode m = elim (answer files rows option.Mode (λ i. cc) refl (λ x. x.mode) mode_of mode_says (λ x e. refl) (λ x s. refl) rows blank d said refl) as (λ _. IsSet (codes "mode") (λ value. mode_of value ≡ Some mode) rows) [
     | inl none ↦ absurd (none_some mode (sym none.1 ∙ m))
     | inr some ↦ subst (λ (x : Mode). IsSet (codes "mode") (λ value. mode_of value ≡ Some x) rows) (some_same some.0 mode (sym some.1 ∙ m)) some.2
+  ]
+
+  pub mode_unset : d.mode ≡ None → IsUnset (codes "mode") rows
+  mode_unset m = elim (answer files rows option.Mode (λ i. cc) refl (λ x. x.mode) mode_of mode_says (λ x e. refl) (λ x s. refl) rows blank d said refl) as (λ _. IsUnset (codes "mode") rows) [
+    | inl none ↦ none.0
+    | inr some ↦ absurd (none_some some.0 (sym m ∙ some.1))
   ]
 
   -- what is set, or the default
@@ -154,22 +160,14 @@ module _ (files : List StoredFile) (rows : List Row) (d : Draft) (said : drafted
   span_served mode span h (inr (inr many)) = let few = (task_span mode span h).is.few in omega (arith, few, many)
 
 module _ (c : ConfigOf) (asked : Option (List ℕ)) (t : Task) (rows : List Row) (h : Expand c asked t) (k : AreKept c asked rows) where
-  abbrev d : Draft
-  d = (drafted_from c asked t rows h k).0
-
-  said : drafted c.files rows (Ok blank) rows ≡ Ok d
-  said = (drafted_from c asked t rows h k).1
-
-  ends : Finishes c.files rows (asked_text asked) d t
-  ends = (drafted_from c asked t rows h k).2
-
   pub span_said : SaysSpan rows t.span
   span_said =
-      let p = cond_some (may_slice t.mode d.skip d.stride && fits (said_span d.skip d.depth d.stride)) (said_span d.skip d.depth d.stride) t.span ends.span in
-      subst (SaysSpan rows) p.1 (says_span c.files rows d said)
+      let f = drafted_from c asked t rows h k in
+      let p = cond_some (may_slice t.mode f.0.skip f.0.stride && fits (said_span f.0.skip f.0.depth f.0.stride)) (said_span f.0.skip f.0.depth f.0.stride) t.span f.2.span in
+      subst (SaysSpan rows) p.1 (says_span c.files rows f.0 f.1)
 
   pub span_fits : IsTaskSpan t.mode t.span
-  span_fits = task_span c.files rows d said t.mode t.span ends.span
+  span_fits = let f = drafted_from c asked t rows h k in task_span c.files rows f.0 f.1 t.mode t.span f.2.span
 
   pub not_refused : AreRefused rows t.mode t.span → ⊥
-  not_refused = span_served c.files rows d said t.mode t.span ends.span
+  not_refused = let f = drafted_from c asked t rows h k in span_served c.files rows f.0 f.1 t.mode t.span f.2.span

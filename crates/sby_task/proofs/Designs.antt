@@ -8,6 +8,7 @@ use Rattle.sby_task.specs.Paths.{IsLastPart}
 use Rattle.sby_task.specs.Task.{is_found}
 use Rattle.sby_task.specs.Expand.{design_path}
 use Rattle.sby_task.specs.Said.{NoneStands, Stands, GivesPath, IsPath, HasDesign}
+use Rattle.sby_task.specs.Faulty.{NoneGives}
 use Rattle.sby_file.specs.declared.config.Row.{Row}
 use Rattle.sby_file.specs.declared.config.StoredFile.{StoredFile}
 use Rattle.sby_task.specs.declared.expansion.Task.{Task}
@@ -16,11 +17,11 @@ use Rattle.sby_file.specs.declared.section.Section.TheVariants.{Nowhere, Tasks, 
 use Rattle.sby_task.proofs.Paths.{last_part}
 use Rattle.sby_task.proofs.RowsSaid.{none_some, some_same}
 
-first_or_later : {A : Type 0} (x : A) (xs : List A) (y : A) → Contains (x ∷ xs) y → (y ≡ x) ⊎ Contains xs y
+pub first_or_later : {A : Type 0} (x : A) (xs : List A) (y : A) → Contains (x ∷ xs) y → (y ≡ x) ⊎ Contains xs y
 first_or_later x xs y (zero, lt, at) = inl (sym at)
 first_or_later x xs y (suc k, lt, at) = inr (k, omega arith, at)
 
-nothing_in : {A : Type 0} (y : A) → Contains [] y → ⊥
+pub nothing_in : {A : Type 0} (y : A) → Contains [] y → ⊥
 nothing_in y h = omega (arith, h.1)
 
 none_more : (file : StoredFile) (files : List StoredFile) (name : List ℕ) → bytes_eq file.name name ≡ false → NoneStands files name → NoneStands (file ∷ files) name
@@ -29,7 +30,7 @@ none_more file files name n none other c e = elim (first_or_later file files oth
   | inr there ↦ none other there e
 ]
 
-stands : (files : List StoredFile) (name bytes : List ℕ) → bytes_in files name ≡ Some bytes → Stands files name bytes
+pub stands : (files : List StoredFile) (name bytes : List ℕ) → bytes_in files name ≡ Some bytes → Stands files name bytes
 stands [] name bytes h = absurd (none_some bytes h)
 stands (file ∷ files) name bytes h = elim (cases_Bool (bytes_eq file.name name)) as (λ _. Stands (file ∷ files) name bytes) [
   | inl y ↦ ([], file, files, refl, (bytes_eq-Decides file.name name).0 y, some_same file.bytes bytes (rw y at h), λ other c e. nothing_in other c)
@@ -38,7 +39,7 @@ stands (file ∷ files) name bytes h = elim (cases_Bool (bytes_eq file.name name
       (file ∷ r.0, r.1, r.2, ap (λ (l : List StoredFile). file ∷ l) r.3, r.4, r.5, none_more file r.0 name n r.6)
 ]
 
-none_stands : (files : List StoredFile) (name : List ℕ) → bytes_in files name ≡ None → NoneStands files name
+pub none_stands : (files : List StoredFile) (name : List ℕ) → bytes_in files name ≡ None → NoneStands files name
 none_stands [] name h = λ other c e. nothing_in other c
 none_stands (file ∷ files) name h = elim (cases_Bool (bytes_eq file.name name)) as (λ _. NoneStands (file ∷ files) name) [
   | inl y ↦ absurd (none_some file.bytes (sym (rw y at h)))
@@ -82,17 +83,14 @@ module _ (row : Row) (name path : List ℕ) where
       let here : bytes_eq name name ≡ true = (bytes_eq-Decides name name).1 refl in
       rw (s, w, here) refl
 
-abbrev NoneGive : List Row → List ℕ → Type 0
-NoneGive rows name = (later : Row) (other : List ℕ) → Contains rows later → GivesPath name other later → ⊥
-
-none_give : (row : Row) (rows : List Row) (name : List ℕ) → path_of row name ≡ None → NoneGive rows name → NoneGive (row ∷ rows) name
+none_give : (row : Row) (rows : List Row) (name : List ℕ) → path_of row name ≡ None → NoneGives rows name → NoneGives (row ∷ rows) name
 none_give row rows name n none later other c g = elim (first_or_later row rows later c) as (λ _. ⊥) [
   | inl same ↦ none_some other (sym n ∙ ap (λ (r : Row). path_of r name) (sym same) ∙ gives_path later name other g)
   | inr there ↦ none later other there g
 ]
 
 abbrev Last : Option (List ℕ) → List Row → List ℕ → List ℕ → Type 0
-Last found rows name path = ((found ≡ Some path) × NoneGive rows name) ⊎ IsPath rows name path
+Last found rows name path = ((found ≡ Some path) × NoneGives rows name) ⊎ IsPath rows name path
 
 path_last : (rows : List Row) (found : Option (List ℕ)) (name path : List ℕ) → path_in found rows name ≡ Some path → Last found rows name path
 path_last [] found name path h = inl (h, λ later other c g. nothing_in later c)
@@ -108,11 +106,22 @@ path_last (row ∷ rows) found name path h = by (path_of row name) refl (path_la
         let same : one ≡ path = some_same one path (ap (path_after found) (sym e) ∙ here.0) in
         inr ([], row, rows, refl, path_gives row name path (e ∙ ap Some same), here.1)
 
-is_path : (rows : List Row) (name path : List ℕ) → path_in None rows name ≡ Some path → IsPath rows name path
+pub is_path : (rows : List Row) (name path : List ℕ) → path_in None rows name ≡ Some path → IsPath rows name path
 is_path rows name path h = elim (path_last rows None name path h) as (λ _. IsPath rows name path) [
   | inl none ↦ absurd (none_some path none.0)
   | inr there ↦ there
 ]
+
+path_none : (rows : List Row) (found : Option (List ℕ)) (name : List ℕ) → path_in found rows name ≡ None → (found ≡ None) × NoneGives rows name
+path_none [] found name h = (h, λ later other c g. nothing_in later c)
+path_none (row ∷ rows) found name h = by (path_of row name) refl (path_none rows (path_after found (path_of row name)) name h)
+  where
+    by : (o : Option (List ℕ)) → path_of row name ≡ o → (path_after found (path_of row name) ≡ None) × NoneGives rows name → (found ≡ None) × NoneGives (row ∷ rows) name
+    by None e r = (ap (path_after found) (sym e) ∙ r.0, none_give row rows name e r.1)
+    by (Some one) e r = absurd (none_some one (sym r.0 ∙ ap (path_after found) e))
+
+pub none_gives : (rows : List Row) (name : List ℕ) → path_in None rows name ≡ None → NoneGives rows name
+none_gives rows name h = (path_none rows None name h).1
 
 some_path : (rows : List Row) (name : List ℕ) (o : Option (List ℕ)) → path_in None rows name ≡ o → is_some o ≡ true → IsPath rows name (unwrap_or (path_in None rows name) name)
 some_path rows name None e h = absurd (false≢true h)

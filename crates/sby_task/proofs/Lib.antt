@@ -13,3 +13,6 @@ pub mod CyclesSaid
 pub mod EngineLines
 pub mod Refusals
 pub mod Served
+pub mod LineFaults
+pub mod FirstFaults
+pub mod TasksThere

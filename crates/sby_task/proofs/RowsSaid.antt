@@ -8,6 +8,7 @@ use Rattle.sby_task.specs.Values.{mode_of, count_of, number_of, statuses_of, swi
 use Rattle.sby_task.specs.Engines.{engine_of}
 use Rattle.sby_task.specs.Draft.{option_name, option_after, read_command, once, off_only, with_engine}
 use Rattle.sby_task.specs.Task.{row_after, section_after, script_after, found, seek, is_found}
+use Rattle.sby_task.specs.Faulty.{spelled}
 use Rattle.sby_file.specs.declared.config.Row.{Row}
 use Rattle.sby_file.specs.declared.config.StoredFile.{StoredFile}
 use Rattle.sby_task.specs.declared.draft.Draft.{Draft}
@@ -29,7 +30,7 @@ none_some a h = cc
 pub some_same : {A : Type 0} (a b : A) → ◌≡◌ {A = Option A} (Some a) (Some b) → a ≡ b
 some_same a b h = cc
 
-none_is : {A : Type 0} (o : Option A) → is_some o ≡ false → o ≡ None
+pub none_is : {A : Type 0} (o : Option A) → is_some o ≡ false → o ≡ None
 none_is None h = refl
 none_is (Some a) h = absurd (cc)
 
@@ -91,18 +92,6 @@ module _ (files : List StoredFile) (all : List Row) (d : Draft) (row : Row) (e :
 
   pub row_says : row_after files all d row ≡ Ok e → RowSays files all d row e
   row_says h = said row.section row.words refl refl h
-
--- the names of options
-abbrev pub spelled : OptionName → List ℕ
-spelled option.Mode = codes "mode"
-spelled option.Skip = codes "skip"
-spelled option.Depth = codes "depth"
-spelled option.Stride = codes "stride"
-spelled option.Timeout = codes "timeout"
-spelled option.Expect = codes "expect"
-spelled option.Wait = codes "wait"
-spelled option.Multiclock = codes "multiclock"
-spelled option.Unknown = []
 
 abbrev Either : Bool → Type 0
 Either b = (b ≡ true) ⊎ (b ≡ false)
@@ -209,6 +198,17 @@ wait_says option.Expect d value e h = let p = once_is (is_some d.expect) (status
 wait_says option.Wait d value e h = let p = once_is (is_some d.wait) (switch_of value) (λ v. record d { wait = Some v }) e h in inl (refl, none_is d.wait p.0, (p.1.0, p.1.1, ap (λ (x : Draft). x.wait) p.1.2))
 wait_says option.Multiclock d value e h = let p = once_is (is_some d.multiclock) (off_only (switch_of value)) (λ v. record d { multiclock = Some v }) e h in inr (λ i. cc, ap (λ (x : Draft). x.wait) p.1.2)
 wait_says option.Unknown d value e h = absurd (err_ok e _ h)
+
+pub multiclock_says : (o : OptionName) (d : Draft) (value : List (List ℕ)) (e : Draft) → option_after d o value ≡ Ok e → OptionSays option.Multiclock (λ d. d.multiclock) (λ value. off_only (switch_of value)) o d value e
+multiclock_says option.Mode d value e h = let p = once_is (is_some d.mode) (mode_of value) (λ v. record d { mode = Some v }) e h in inr (λ i. cc, ap (λ (x : Draft). x.multiclock) p.1.2)
+multiclock_says option.Skip d value e h = let p = once_is (is_some d.skip) (count_of 99999 value) (λ v. record d { skip = Some v }) e h in inr (λ i. cc, ap (λ (x : Draft). x.multiclock) p.1.2)
+multiclock_says option.Depth d value e h = let p = once_is (is_some d.depth) (number_of 100000 value) (λ v. record d { depth = Some v }) e h in inr (λ i. cc, ap (λ (x : Draft). x.multiclock) p.1.2)
+multiclock_says option.Stride d value e h = let p = once_is (is_some d.stride) (number_of 100000 value) (λ v. record d { stride = Some v }) e h in inr (λ i. cc, ap (λ (x : Draft). x.multiclock) p.1.2)
+multiclock_says option.Timeout d value e h = let p = once_is (is_some d.timeout) (number_of 1000000 value) (λ v. record d { timeout = Some v }) e h in inr (λ i. cc, ap (λ (x : Draft). x.multiclock) p.1.2)
+multiclock_says option.Expect d value e h = let p = once_is (is_some d.expect) (statuses_of value) (λ v. record d { expect = Some v }) e h in inr (λ i. cc, ap (λ (x : Draft). x.multiclock) p.1.2)
+multiclock_says option.Wait d value e h = let p = once_is (is_some d.wait) (switch_of value) (λ v. record d { wait = Some v }) e h in inr (λ i. cc, ap (λ (x : Draft). x.multiclock) p.1.2)
+multiclock_says option.Multiclock d value e h = let p = once_is (is_some d.multiclock) (off_only (switch_of value)) (λ v. record d { multiclock = Some v }) e h in inl (refl, none_is d.multiclock p.0, (p.1.0, p.1.1, ap (λ (x : Draft). x.multiclock) p.1.2))
+multiclock_says option.Unknown d value e h = absurd (err_ok e _ h)
 
 -- an option line adds no engine and no script
 pub beside_options : (d : Draft) (o : OptionName) (value : List (List ℕ)) (e : Draft) → option_after d o value ≡ Ok e → (e.engines ≡ d.engines) × (e.script ≡ d.script)

@@ -1,8 +1,8 @@
 -- What the lines that are kept for a task say of it.
-use Rattle.std.proofs.Common.{◌≡◌, ◌⊎◌, ℕ, zero, suc, Bool, true, false, List, [], ◌∷◌, ◌++◌, Option, Some, None, Result, Ok, Err, eqb, length, map, refl, sym, ◌∙◌, ap, subst, inl, inr, arith, codes}
+use Rattle.std.proofs.Common.{◌≡◌, ◌⊎◌, ℕ, Bool, true, false, List, [], ◌∷◌, ◌++◌, Option, Some, None, Result, Ok, Err, eqb, length, map, refl, sym, ◌∙◌, ap, subst, inl, inr, arith, codes}
 use Rattle.std.proofs.lemmas.Bool.{cases_Bool}
 use Rattle.std.proofs.lemmas.List.{append-nil, append_assoc, map-append}
-use Rattle.std.specs.Prelude.{Contains, unwrap_or}
+use Rattle.std.specs.Prelude.{unwrap_or}
 use Rattle.sby_terms.specs.declared.engine.Engine.{Engine}
 use Rattle.sby_terms.specs.declared.names.Mode as modes
 use Rattle.sby_terms.specs.declared.span.Span.{Span}
@@ -18,6 +18,7 @@ use Rattle.sby_task.specs.Files.{bytes_in}
 use Rattle.sby_task.specs.Task.{row_after, is_found}
 use Rattle.sby_task.specs.Expand.{design_path, at_number, drafted, expected, with_span, with_design, with_mode, finish, task_of, expanded, asked_text, Expand}
 use Rattle.sby_task.specs.Cycles.{span_of}
+use Rattle.sby_task.specs.Faulty.{spelled}
 use Rattle.sby_task.specs.Said.{AreKept, IsOption, IsUnset, IsSet, HasDesign, is_engines, engine_lines, is_script, script_lines}
 use Rattle.sby_file.specs.declared.config.Row.{Row}
 use Rattle.sby_file.specs.declared.config.StoredFile.{StoredFile}
@@ -29,16 +30,12 @@ use Rattle.sby_file.specs.declared.section.Section.{Section}
 use Rattle.sby_file.specs.declared.section.Section.TheVariants.{Nowhere, Tasks, Options, Engines, Script, Files, File, Unknown}
 use Rattle.sby_task.specs.declared.task_fault.TaskFault.{TaskFault}
 use Rattle.sby_task.specs.declared.task_fault.TaskKind.{TaskKind}
-use Rattle.sby_task.proofs.Designs.{design_is}
-use Rattle.sby_task.proofs.RowsSaid.{RowSays, option_line, engine_line, script_line, other_line, row_says, OptionSays, spelled, is_spelled, ok_same, err_ok, none_some, some_same, mode_says, timeout_says, expect_says, wait_says, beside_options}
+use Rattle.sby_task.proofs.Designs.{first_or_later, design_is}
+use Rattle.sby_task.proofs.RowsSaid.{RowSays, option_line, engine_line, script_line, other_line, row_says, OptionSays, is_spelled, ok_same, err_ok, none_some, some_same, mode_says, timeout_says, expect_says, wait_says, beside_options}
 
-drafted_err : (files : List StoredFile) (all rows : List Row) (f : TaskFault) → drafted files all (Err f) rows ≡ Err f
+pub drafted_err : (files : List StoredFile) (all rows : List Row) (f : TaskFault) → drafted files all (Err f) rows ≡ Err f
 drafted_err files all [] f = refl
 drafted_err files all (row ∷ rows) f = drafted_err files all rows f
-
-head_is : (row : Row) (rows : List Row) (other : Row) → Contains (row ∷ rows) other → (other ≡ row) ⊎ Contains rows other
-head_is row rows other (zero, lt, at) = inl (sym at)
-head_is row rows other (suc k, lt, at) = inr (k, omega arith, at)
 
 module _ (files : List StoredFile) (all : List Row) where
   -- the first line is read, and then the others
@@ -77,7 +74,7 @@ module _ (files : List StoredFile) (all : List Row) where
     unset_none row value c is = absurd (omega (arith, c.1))
 
     unset_more : (row : Row) (rows : List Row) → ((value : List (List ℕ)) → IsOption (spelled this) value row → ⊥) → IsUnset (spelled this) rows → IsUnset (spelled this) (row ∷ rows)
-    unset_more row rows first later other value c is = elim (head_is row rows other c) as (λ _. ⊥) [
+    unset_more row rows first later other value c is = elim (first_or_later row rows other c) as (λ _. ⊥) [
       | inl same ↦ first value (subst (IsOption (spelled this) value) same is)
       | inr there ↦ later other value there is
     ]
@@ -224,6 +221,15 @@ module _ (files : List StoredFile) (all : List Row) where
         | inr p ↦
             let r = script_read rows m.0 e name m.2 (p.1 ∙ none) is in
             (skipped_script row rows p.0 ∙ r.0, r.1)
+      ]
+
+  pub script_unread : (rows : List Row) (d e : Draft) → drafted files all (Ok d) rows ≡ Ok e → e.script ≡ None → script_lines rows ≡ []
+  script_unread [] d e h none = refl
+  script_unread (row ∷ rows) d e h none =
+      let m = first_read d row rows e h in
+      elim (row_names d row m.0 m.1) as (λ _. script_lines (row ∷ rows) ≡ []) [
+        | inl p ↦ absurd (none_some p.0 (sym none ∙ (script_stays rows m.0 e p.0 m.2 p.5).0))
+        | inr p ↦ skipped_script row rows p.0 ∙ script_unread rows m.0 e m.2 none
       ]
 
 pub record Finishes (files : List StoredFile) (rows : List Row) (name : List ℕ) (d : Draft) (t : Task) : Type 0 where

@@ -10,3 +10,4 @@ pub mod Expand
 pub mod Paths
 pub mod Blocks
 pub mod Said
+pub mod Faulty

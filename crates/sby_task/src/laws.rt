@@ -6,8 +6,10 @@ ghost use Rattle.sby_terms.specs.declared.names.Status.{Status};
 ghost use Rattle.sby_terms.specs.declared.span.Span.{Span};
 ghost use Rattle.sby_task.specs.Blocks.{IsKept};
 ghost use Rattle.sby_file.specs.Config.{ConfigOf};
+ghost use Rattle.sby_file.specs.Sby.{SbyText};
 ghost use Rattle.sby_task.specs.Engines.{engine_of};
 ghost use Rattle.sby_task.specs.Expand.{Expand, expansion};
+ghost use Rattle.sby_task.specs.Faulty.{AreSound, IsFirstFault, IsThere};
 ghost use Rattle.sby_task.specs.Files.{part_of};
 ghost use Rattle.sby_task.specs.Paths.{IsLastPart};
 ghost use Rattle.sby_task.specs.Said.{AreKept, AreRefused, HasDesign, IsSet, IsUnset, LacksMarks, SaysSpan, engine_lines, script_lines};
@@ -16,6 +18,7 @@ ghost use Rattle.sby_task.specs.Values.{mode_of, number_of, statuses_of, switch_
 ghost use Rattle.sby_file.specs.declared.config.Row.{Row};
 ghost use Rattle.sby_task.specs.declared.expansion.Task.{Task};
 ghost use Rattle.sby_file.specs.declared.section.Section.{Section};
+ghost use Rattle.sby_task.specs.declared.task_fault.TaskFault.{TaskFault};
 ghost use Rattle.sby_task.specs.declared.task_fault.TaskKind.{TaskKind};
 
 /// A path's name is its part behind the last `/`.
@@ -79,4 +82,27 @@ pub fn marks_are_asked_for()
 pub fn script_names_the_design()
     ensures { (c : ConfigOf) (asked : Option (List ℕ)) (t : Task) (rows : List Row) → Expand c asked t → AreKept c asked rows
         → (name : List ℕ) × (script_lines rows ≡ (codes "read_rtlil" ∷ name ∷ []) ∷ []) × HasDesign c.files rows name t }
+{}
+
+/// A task that is asked for is there where the file has one of this name, or, without a name, where it has none; any other is
+/// answered with UnknownTask, at line 0.
+pub fn other_tasks_are_unknown()
+    ensures there { (bytes : List ℕ) (c : ConfigOf) (asked : Option (List ℕ)) → SbyText bytes c → IsThere c.tasks asked
+        → (rows : List Row) × AreKept c asked rows }
+    ensures unknown { (c : ConfigOf) (asked : Option (List ℕ)) → (IsThere c.tasks asked → ⊥)
+        → expansion c asked ≡ Err (record { line = 0; kind = TaskKind.UnknownTask }) }
+{}
+
+/// The fault of a task that is there is the first: of the first kept line at fault, the first kind, each by what stands in the line,
+/// in the lines kept before it and in the files; or, where no kept line is at fault, the first of what is missing from all of them, at
+/// line 0.
+pub fn first_fault_is_answered()
+    ensures { (c : ConfigOf) (asked : Option (List ℕ)) (fault : TaskFault) (rows : List Row)
+        → expansion c asked ≡ Err fault → AreKept c asked rows → IsFirstFault c.files rows fault }
+{}
+
+/// No line that is kept for a task is at fault.
+pub fn kept_lines_are_sound()
+    ensures { (c : ConfigOf) (asked : Option (List ℕ)) (t : Task) (rows : List Row) → Expand c asked t → AreKept c asked rows
+        → AreSound c.files rows rows }
 {}

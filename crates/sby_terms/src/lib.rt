@@ -18,6 +18,3 @@ pub use path::{job_path, job_text};
 pub use settled::Settled;
 pub use span::{MAX_DEPTH, MAX_SLICES, MAX_STREAM, Span};
 pub use tables::{decide, one_status, one_verdict, rc_of, status_of};
-
-#[cfg(test)]
-mod tests;

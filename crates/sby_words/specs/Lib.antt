@@ -3,3 +3,4 @@ pub mod Requests
 pub mod Folders
 pub mod Words
 pub mod Answers
+pub mod Kinds
