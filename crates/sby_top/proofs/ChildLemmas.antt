@@ -1,22 +1,20 @@
 -- A valid certificate of a child gives its verdict.
-use Rattle.std.proofs.Common.{◌≡◌, ℕ, zero, suc, ◌<◌, true, List, [], ◌∷◌, refl, ap, sym, ◌∙◌, subst, inl, inr, ◌⊎◌, length, map, eqb-true, arith}
-use Rattle.std.specs.Prelude.{Contains, ◌↔◌, Option, Some, None, slice_get}
+use Rattle.std.proofs.Common.{◌≡◌, ℕ, ◌+◌, zero, suc, ◌<◌, true, List, [], ◌∷◌, refl, ap, sym, ◌∙◌, subst, inl, inr, ◌⊎◌, length, map, take, eqb-true, arith}
+use Rattle.std.specs.Prelude.{Contains, Option, Some, None, slice_get}
+use Rattle.std.proofs.lemmas.Bool.{leb-true}
 use Rattle.std.specs.List.{range_with_len}
 use Rattle.std.proofs.lemmas.List.{get_or_default}
-use Rattle.cnf_form.specs.Cnf.{Assignment, FormulaOf, IsUnsatisfiable, Satisfies}
-use Rattle.cnf_form.specs.Dimacs.{IsDimacs}
-use Rattle.job_cnf.specs.Encoding.{CanBeSatisfied}
 use Rattle.sby_edge.specs.Cause.{CountsOf}
 use Rattle.sby_edge.specs.Child.{up_to}
 use Rattle.sby_edge.specs.Files.{Store}
 use Rattle.sby_edge.specs.Script.{ScriptOf}
-use Rattle.stream_judge.specs.Fate.{Found as FoundFate, IsFate, Unknown as UnknownFate, Bad as BadFate}
+use Rattle.stream_judge.specs.Fate.{Found as FoundFate, Unknown as UnknownFate, Bad as BadFate}
 use Rattle.design_core.specs.Shape.{DesignOf}
 use Rattle.design_reader.specs.Grammar.{Reads}
-use Rattle.judge.specs.Finding.{FindingOf, IsTrueFinding}
-use Rattle.judge.specs.Jobs.{Solvable, jobs_in as jobs_of_mode, span_of}
-use Rattle.judge.specs.Problem.{AskedOf, IsJobFile, IsProblem}
-use Rattle.race_core.specs.Asking.{name_at, needless_by}
+use Rattle.judge.specs.Finding.{FindingOf}
+use Rattle.judge.specs.Jobs.{jobs_in as jobs_of_mode}
+use Rattle.judge.specs.Problem.{IsJobFile}
+use Rattle.race_core.specs.Asking.{name_at, needless_by, skipped_by}
 use Rattle.race_core.specs.Carrying.{Carries}
 use Rattle.race_core.specs.Collect.{SettledIn}
 use Rattle.race_core.specs.Consistent.{end_at}
@@ -42,8 +40,8 @@ use Rattle.sby_terms.specs.declared.names.Verdict.{Verdict}
 use Rattle.sby_lines.specs.Lines.{IsStatus}
 use Rattle.sby_lines.specs.Told.{IsRaceStatus, job_of}
 use Rattle.lane_judge.specs.Fates.{most_bytes}
-use Rattle.lane_judge.specs.Serving.{IsServing}
-use Rattle.task_race.specs.Ends.{HasEndCause, IsEndOfFate, IsLimitShown, script_of}
+use Rattle.lane_judge.specs.Serving.{IsServing, evidence_at}
+use Rattle.task_race.specs.Ends.{HasEndCause, IsEndOfFate, IsFateOf, IsLimitShown, script_of}
 use Rattle.task_race.specs.Ran.{LanesRan}
 use Rattle.task_race.proofs.EndLemmas.{end_cause}
 use Rattle.task_race.proofs.FateLemmas.{end_of_fate}
@@ -56,37 +54,8 @@ use Rattle.sby_top.specs.Task.{Lanes, TaskOf}
 use Rattle.sby_top.specs.World.{World, files_of, race_of}
 use Rattle.sby_top.specs.declared.outcome.TaskEnd.{TaskEnd}
 use Rattle.sby_top.proofs.EventLemmas.{event_named}
+use Rattle.sby_top.proofs.EvidenceLemmas.{FileLaws, answers_agree, fate_says, judged_job}
 use Rattle.sby_top.proofs.LawLemmas.{answer_gives, nothing_decides, one_put_stands}
-
--- ---- a finding answers as the job's certificates do
-
--- the laws of the judge
-pub record FateLaws : Type 0 where
-  pub solvable : (p : AskedOf) (job : JobName) (bytes : List ℕ) (f : FormulaOf) → IsProblem p → IsJobFile p job bytes → IsDimacs bytes f → CanBeSatisfied f ↔ Solvable p.design job (span_of p.problem)
-  pub sat : (f : FindingOf) (d : DesignOf) → IsTrueFinding f → Reads f.problem.text d → f.answer ≡ Sat → Solvable d f.job (span_of f.problem)
-  pub unsat : (f : FindingOf) (d : DesignOf) → IsTrueFinding f → Reads f.problem.text d → f.answer ≡ Unsat → Solvable d f.job (span_of f.problem) → ⊥
-  pub satisfiable : (job stream : List ℕ) (most : ℕ) (f : FormulaOf) → IsDimacs job f → IsFate job stream most (FoundFate Sat) → (x : Assignment) × Satisfies x f.clauses
-  pub unsatisfiable : (job stream : List ℕ) (most : ℕ) (f : FormulaOf) → IsDimacs job f → IsFate job stream most (FoundFate Unsat) → IsUnsatisfiable f.clauses
-
-module _ (laws : FateLaws) (p : AskedOf) (job : JobName) (file stream : List ℕ) (most : ℕ) (f : FindingOf) (problem : IsProblem p) (is_file : IsJobFile p job file) (is_true : IsTrueFinding f)
-    (same : f.problem ≡ p.problem) (of_job : f.job ≡ job) where
-  own_reads : Reads f.problem.text p.design
-  own_reads = subst (λ (q : ProblemOf). Reads q.text p.design) (sym same) problem.reads
-
-  as_finding : Solvable p.design job (span_of p.problem) → Solvable p.design f.job (span_of f.problem)
-  as_finding s = subst (λ j. Solvable p.design j (span_of f.problem)) (sym of_job) (subst (λ (q : ProblemOf). Solvable p.design job (span_of q)) (sym same) s)
-
-  as_job : Solvable p.design f.job (span_of f.problem) → Solvable p.design job (span_of p.problem)
-  as_job s = subst (λ (q : ProblemOf). Solvable p.design job (span_of q)) same (subst (λ j. Solvable p.design j (span_of f.problem)) of_job s)
-
-  answers_agree : (a b : Answer) → IsFate file stream most (FoundFate a) → f.answer ≡ b → b ≡ a
-  answers_agree Sat Sat fate is = refl
-  answers_agree Unsat Unsat fate is = refl
-  answers_agree Sat Unsat fate is =
-      absurd (laws.unsat f p.design is_true own_reads is (as_finding ((laws.solvable p job file is_file.0 problem is_file is_file.3).0 (laws.satisfiable file stream most is_file.0 is_file.3 fate))))
-  answers_agree Unsat Sat fate is =
-      let can = (laws.solvable p job file is_file.0 problem is_file is_file.3).1 (as_job (laws.sat f p.design is_true own_reads is)) in
-      absurd (laws.unsatisfiable file stream most is_file.0 is_file.3 fate can.0 can.1)
 
 -- ---- the one job
 
@@ -106,15 +75,23 @@ needless_base (Base m) a is = ap Base (eqb-true m 0 is)
 needless_base Step a is = cc
 needless_base (Cover m) a is = cc
 
+-- nor does anything else skip it
+skipped_base : (job : JobName) (a : Answer) → skipped_by job a (Base 0) ≡ true → job ≡ Base 0
+skipped_base (Base m) Sat is = let none : m ≡ 0 = omega (arith, leb-true m 0 is) in ap Base none
+skipped_base (Base m) Unsat is = ap Base (eqb-true m 0 is)
+skipped_base Step a is = cc
+skipped_base (Cover m) a is = cc
+
 -- the ends of a job with a valid certificate that don't settle it
 abbrev pub Hinders : (ℕ → Type 0) → Option ℕ → CountsOf → CountsOf → Option ℕ → JobEnd FindingOf → Type 0
 Hinders may_read limit before after start e =
     ((told_by e ≡ FaultEvent) × HasFailedCall before after) ⊎ ((told_by e ≡ StoppedEvent) × ((t : ℕ) × IsLimitShown may_read limit start t)) ⊎ (told_by e ≡ MemoryEvent)
 
-module _ (laws : FateLaws) (may_read : ℕ → Type 0) (number : ℕ) (start finish : World) (task : TaskOf) (end : TaskEnd) (exit : Exit) (engines : List Engine) (lane : ℕ) (script : ScriptOf) (now : Store) (file : List ℕ)
+module _ (laws : FileLaws) (may_read : ℕ → Type 0) (number : ℕ) (start finish : World) (task : TaskOf) (end : TaskEnd) (exit : Exit) (engines : List Engine) (lane : ℕ) (script : ScriptOf) (now : Store) (file : List ℕ)
     (answer : Answer) (ran : TaskRan may_read number start finish task end exit) (judged : IsJudgedAt may_read number start finish task end now) (bmc : task.request.mode ≡ Bmc) (one : slices_of task.request.span ≡ 1)
     (service : task.service ≡ Lanes engines) (serving : IsServing (slice_get engines lane)) (script_is : script_of start.scripts number lane (Base 0) ≡ Some script) (no_gate : script.gate ≡ None)
-    (stands : now (job_path task.request.name 1 (Base 0)) ≡ Some file) (valid : IsFate file (up_to script.stalls script.bytes) most_bytes (FoundFate answer)) where
+    (stands : now (job_path task.request.name 1 (Base 0)) ≡ Some file)
+    (valid : IsFateOf (evidence_at (slice_get engines lane)) file (up_to script.stalls script.bytes) (take (most_bytes + 1) script.proof) (FoundFate answer)) where
   accepted : IsAccepted (files_of start).told task judged.done.problem
   accepted = judged.done.served.0
 
@@ -165,14 +142,15 @@ module _ (laws : FateLaws) (may_read : ℕ → Type 0) (number : ℕ) (start fin
   hinders : ((f : FindingOf) → SettledIn job_of end.reports.items (name_at task.request.mode 0) f → ⊥) → (e : JobEnd FindingOf) → end_at own_report.0 0 ≡ e
       → HasEndCause (racing_of task judged.done.problem number engines) may_read start.scripts start.children finish.children end.start lane (Base 0) e → IsEndOfFate (FoundFate answer) e
       → Hinders may_read task.request.limit start.children finish.children end.start e
-  hinders none (Found f) is cause fate = absurd (none f (end_settles f (subst (λ x. Carries x f) (sym is) refl) cause.1.2.1.2))
+  hinders none (Found f) is cause fate =
+      absurd (none f (end_settles f (subst (λ x. Carries x f) (sym is) refl) (judged_job (racing_of task judged.done.problem number engines) start.scripts lane (Base 0) f cause)))
   hinders none UnknownEnd is cause fate = let no : FoundFate answer ≡ UnknownFate = fate in cc
   hinders none (Bad kind at) is cause fate = let no : FoundFate answer ≡ BadFate fate.0 at = fate.2 in cc
   hinders none NotServed is cause fate = absurd fate
   hinders none ReadFailed is cause fate = inl (refl, inr (inl cause))
   hinders none StartFailed is cause fate = inl (refl, inl cause)
   hinders none HoldFailed is cause fate = inl (refl, inr (inr cause))
-  hinders none (Skipped f) is cause fate = absurd (none f (end_settles f (subst (λ x. Carries x f) (sym is) refl) (needless_base f.job f.answer cause.2)))
+  hinders none (Skipped f) is cause fate = absurd (none f (end_settles f (subst (λ x. Carries x f) (sym is) refl) (skipped_base f.job f.answer cause.2)))
   hinders none (CalledOff f) is cause fate = absurd (none f (end_settles f (subst (λ x. Carries x f) (sym is) refl) (needless_base f.job f.answer cause.2)))
   hinders none (Stopped t) is cause fate = inr (inl (refl, (t, cause)))
   hinders none MemoryEnd is cause fate = inr (inr refl)
@@ -211,8 +189,8 @@ module _ (laws : FateLaws) (may_read : ℕ → Type 0) (number : ℕ) (start fin
       let found = race.1.entry 0 (Some a) at in
       let true_of = lanes_ran.are_true found.1.0 found.0 found.1.1 found.1.2 in
       let of_job : found.0.job ≡ Base 0 = found.1.3 ∙ ap (λ m. name_at m 0) bmc in
-      let agree : a ≡ answer = answers_agree laws judged.done.problem (Base 0) file (up_to script.stalls script.bytes) most_bytes found.0 judged.done.served.0.problem own_file true_of.0 true_of.1 of_job
-      answer a valid found.2 in
+      let says = fate_says (evidence_at (slice_get engines lane)) file (up_to script.stalls script.bytes) (take (most_bytes + 1) script.proof) own_file.0 answer own_file.3 valid in
+      let agree : a ≡ answer = sym found.2 ∙ answers_agree laws judged.done.problem (Base 0) file found.0 judged.done.served.0.problem own_file true_of.0 true_of.1 of_job answer says in
       let decides : Decided Bmc (Some a ∷ []) race.2.decided = subst (λ m. Decided m (Some a ∷ []) race.2.decided) bmc (subst (λ xs. Decided task.request.mode xs race.2.decided) are race.2.decides) in
       inl (answer_gives a race.2.decided race.2.events end.status decides race.2.has_status ∙ ap status_for agree)
   by_answer d race None are =

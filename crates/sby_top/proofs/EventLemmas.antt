@@ -6,12 +6,14 @@ use Rattle.design_core.specs.Shape.{DesignOf}
 use Rattle.design_reader.specs.Grammar.{Reads}
 use Rattle.judge.specs.Finding.{FindingOf}
 use Rattle.judge.specs.Jobs.{jobs_in as jobs_of_mode}
+use Rattle.race_core.specs.Carrying.{Carries}
 use Rattle.race_core.specs.Consistent.{end_at}
 use Rattle.race_core.specs.Report.{ReportOf}
-use Rattle.race_core.specs.Told.{told_by}
+use Rattle.race_core.specs.Told.{Decided, told_by}
 use Rattle.race_core.specs.declared.end.JobEnd.{JobEnd}
 use Rattle.race_core.specs.declared.end.JobEnd.TheVariants.{Found, Unknown as UnknownEnd, NotServed, Bad, ReadFailed, StartFailed, HoldFailed, Skipped, CalledOff, Stopped, Memory as MemoryEnd}
 use Rattle.sby_terms.specs.Problem.{ProblemOf}
+use Rattle.sby_terms.specs.Decide.{Decides}
 use Rattle.sby_terms.specs.Status.{HasStatus}
 use Rattle.sby_terms.specs.declared.names.Answer.{Answer}
 use Rattle.sby_terms.specs.declared.names.Event.{Event}
@@ -25,13 +27,15 @@ use Rattle.sby_lines.proofs.PlaceLemmas.{at_contains, contains_at}
 use Rattle.sby_lines.specs.declared.early.Early.{Early}
 use Rattle.sby_lines.specs.declared.early.Early.TheVariants.{File, Sby, Task, Read, Design, TooMany, Streams, Memory as MemoryEarly}
 use Rattle.sby_top.specs.Causes.{IsOutcome}
-use Rattle.sby_top.specs.Claims.{IsCausedEnd, IsEvent, IsFaultyEnd, IsOpenEnd, IsQuietEnd, IsUnsettledEnd, WasJudged}
+use Rattle.sby_top.specs.Claims.{IsCausedEnd, IsEvent, IsFaultyEnd, IsLeftEnd, IsOpenEnd, IsUnsettledEnd, WasJudged}
 use Rattle.sby_top.specs.Headline.{NamesEvent, WasStopped}
 use Rattle.sby_top.specs.Task.{TaskOf}
 use Rattle.sby_top.specs.Served.{jobs_in}
 use Rattle.sby_top.specs.World.{World, files_of, race_of}
 use Rattle.sby_top.specs.declared.outcome.TaskEnd.{TaskEnd}
-use Rattle.sby_top.proofs.ReportLemmas.{caused, job_count}
+use Rattle.sby_top.proofs.OpenLemmas.{none_spared}
+use Rattle.sby_top.proofs.ReportLemmas.{caused, job_count, reported}
+use Rattle.sby_top.proofs.SpareLemmas.{carried_spares}
 use Rattle.sby_top.proofs.TruthLemmas.{own_design}
 
 early_status : (request : Request) (early : Early) (c : CameTo) (s : Status) → IsStatus request (Some early) c s → (s ≡ Error) ⊎ (s ≡ Memory)
@@ -44,18 +48,18 @@ early_status request (TooMany job) c s is = inl is
 early_status request Streams c s is = inl is
 early_status request MemoryEarly c s is = inr is
 
-quiet_end : (e : JobEnd FindingOf) → (told_by e ≡ FaultEvent → ⊥) → (told_by e ≡ StoppedEvent → ⊥) → (told_by e ≡ MemoryEvent → ⊥) → IsQuietEnd e
-quiet_end (Found f) fault stopped memory = tt
-quiet_end UnknownEnd fault stopped memory = tt
-quiet_end NotServed fault stopped memory = tt
-quiet_end (Bad number at) fault stopped memory = fault refl
-quiet_end ReadFailed fault stopped memory = fault refl
-quiet_end StartFailed fault stopped memory = fault refl
-quiet_end HoldFailed fault stopped memory = fault refl
-quiet_end (Skipped f) fault stopped memory = tt
-quiet_end (CalledOff f) fault stopped memory = tt
-quiet_end (Stopped reading) fault stopped memory = stopped refl
-quiet_end MemoryEnd fault stopped memory = memory refl
+left_end : (e : JobEnd FindingOf) → (told_by e ≡ FaultEvent → ⊥) → (told_by e ≡ StoppedEvent → ⊥) → (told_by e ≡ MemoryEvent → ⊥) → ((f : FindingOf) → Carries e f → ⊥) → IsLeftEnd e
+left_end (Found f) fault stopped memory none = none f refl
+left_end UnknownEnd fault stopped memory none = tt
+left_end NotServed fault stopped memory none = tt
+left_end (Bad number at) fault stopped memory none = fault refl
+left_end ReadFailed fault stopped memory none = fault refl
+left_end StartFailed fault stopped memory none = fault refl
+left_end HoldFailed fault stopped memory none = fault refl
+left_end (Skipped f) fault stopped memory none = none f refl
+left_end (CalledOff f) fault stopped memory none = none f refl
+left_end (Stopped reading) fault stopped memory none = stopped refl
+left_end MemoryEnd fault stopped memory none = memory refl
 
 stopped_end : (e : JobEnd FindingOf) → told_by e ≡ StoppedEvent → (t : ℕ) × (e ≡ Stopped t)
 stopped_end (Found f) is = cc
@@ -74,8 +78,8 @@ stopped_end MemoryEnd is = cc
 abbrev Says : List Event → Status → Type 0
 Says events status = HasStatus None events status
 
-says_unknown : (o : Option Verdict) (events : List Event) → HasStatus o events Unknown → Says events Unknown
-says_unknown None events h = h
+says_unknown : (o : Option Verdict) (events : List Event) → HasStatus o events Unknown → Says events Unknown × (o ≡ None)
+says_unknown None events h = (h, refl)
 says_unknown (Some v) events h = absurd h
 
 says_error : (o : Option Verdict) (events : List Event) → HasStatus o events Error → Says events Error
@@ -122,6 +126,23 @@ module _ (may_read : ℕ → Type 0) (number : ℕ) (start finish : World) (task
       caused may_read came.0.told task p (race_of number start finish end.start) task.service end.reports.items came.1.reports_are (ap (λ (q : ProblemOf). q.mode) came.1.served.0.asked)
       lane place is.report e is.at lt is.end_is
 
+  -- where the answers decide nothing, the end of an unsettled job carries no finding
+  none_carried : (d : DesignOf) (answers : List (Option Answer)) → Reads end.text d → AreAnswers task.request (Came d) answers → (came : Outcome) → ((v : Verdict) → Decides task.request.mode answers v → ⊥)
+      → (lane place : ℕ) (e : JobEnd FindingOf) → IsUnsettledEnd end.reports.items answers lane place e → (f : FindingOf) → Carries e f → ⊥
+  none_carried d answers reads are came left lane place e is f carries =
+      let p = came.1.problem in
+      let same : d ≡ came.1.problem.design = own_design came.1.problem end.text d came.1.served.0.problem came.1.text_is reads in
+      let count = job_count (files_of start).told task came.1.problem came.1.served.0 in
+      let own : AreAnswers task.request (Came came.1.problem.design) answers = subst (λ x. AreAnswers task.request (Came x) answers) same are in
+      let lt : place < length (jobs_of_mode task.request.mode task.request.span came.1.problem.design) = omega (arith, own.size, slice_get_within answers place None is.unsettled) in
+      let among = at_contains end.reports.items lane is.report is.at in
+      let here : Carries (end_at is.report place) f = subst (λ x. Carries x f) (sym is.end_is) carries in
+      let spares = carried_spares may_read came.0.told task p (race_of number start finish end.start) task.service end.reports.items came.1.reports_are came.1.served.0 lane place is.report is.at
+      (omega (arith, count, lt)) f here in
+      none_spared task.request.mode task.request.span p.design end.reports.items
+      (reported may_read (files_of start).told came.0.told task p (race_of number start finish end.start) task.service end.reports.items came.1.served.0 came.1.reports_are)
+      answers own left is.report place f among lt is.unsettled here spares
+
   -- what an event comes from
   from_end : (answers : List (Option Answer)) (e : Event) → ((r : ReportOf FindingOf) × (k : ℕ) × Contains end.reports.items r × (slice_get answers k ≡ Some None) × (told_by (end_at r k) ≡ e))
       → (lane : ℕ) × (place : ℕ) × (x : JobEnd FindingOf) × IsUnsettledEnd end.reports.items answers lane place x × (told_by x ≡ e)
@@ -144,12 +165,14 @@ module _ (may_read : ℕ → Type 0) (number : ℕ) (start finish : World) (task
         (stop.0, open_end d race.0 reads race.1 came from.0 from.1 (Stopped stop.0) (subst (IsUnsettledEnd end.reports.items race.0 from.0 from.1) stop.1 from.3)),
       )
   race_event d Unknown early reads race came =
-      let says = says_unknown race.2.decided race.2.events race.2.has_status in (
+      let unknown = says_unknown race.2.decided race.2.events race.2.has_status in
+      let says = unknown.0 in (
         was_judged d race.0 early reads race.1 came,
         (λ lane place e own.
             let told : Contains race.2.events (told_by e) = subst (λ (x : JobEnd FindingOf). Contains race.2.events (told_by x)) own.end_is
             (race.2.all own.report place (at_contains end.reports.items lane own.report own.at) own.unsettled) in (
-              quiet_end e (λ f. says.2 (subst (Contains race.2.events) f told)) (λ s. says.1 (subst (Contains race.2.events) s told)) (λ m. says.0 (subst (Contains race.2.events) m told)),
+              left_end e (λ f. says.2 (subst (Contains race.2.events) f told)) (λ s. says.1 (subst (Contains race.2.events) s told)) (λ m. says.0 (subst (Contains race.2.events) m told))
+                  (none_carried d race.0 reads race.1 came (subst (Decided task.request.mode race.0) unknown.1 race.2.decides) lane place e own),
               open_caused d race.0 reads race.1 came lane place e own,
             )),
       )

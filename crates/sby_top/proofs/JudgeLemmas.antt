@@ -1,14 +1,17 @@
 use Rattle.std.proofs.Common.{◌≡◌, ℕ, ◌+◌, ◌<◌, List, ◌++◌, refl, ap, sym, ◌∙◌, subst, inl, inr, length, take, drop, arith}
-use Rattle.std.specs.Prelude.{◌≢◌, Bool, true, false, ◌&&◌, leb, IsTrue, Some, None, MatchOption, Result, Ok, Err}
+use Rattle.std.specs.Prelude.{◌≢◌, Bool, true, false, leb, IsTrue, Some, None, MatchOption, Result, Ok, Err}
 use Rattle.std.proofs.lemmas.Bool.{cases_lt, lt-leb}
 use Rattle.std.proofs.lemmas.List.{length-take-le, take-append-drop, take-append-le, take_all}
-use Rattle.stream_judge.specs.Fate.{Fate, IsFate, IsFateSoFar, Found as FoundFate, Unknown as UnknownFate, Bad as BadFate}
+use Rattle.cnf_form.specs.Cnf.{Assignment}
+use Rattle.kind_judge.proofs.Fates.{within_most}
+use Rattle.kind_judge.specs.Fates.{IsFate, IsFateSoFar, stream_values}
+use Rattle.stream_judge.specs.Fate.{Fate, Found as FoundFate, Unknown as UnknownFate, Bad as BadFate}
+use Rattle.stream_judge.specs.declared.stream.StreamKind.{StreamKind}
+use Rattle.stream_judge.specs.declared.stream.StreamKind.TheVariants.{Drup, Lrat, Proof, ProofBinary}
 use Rattle.judge.specs.Finding.{FindingOf}
 use Rattle.race_core.specs.declared.end.JobEnd.{JobEnd}
-use Rattle.cert_stream.specs.Stream.{sayings}
 use Rattle.judge.specs.Judging.{Ends, Feeds, Finds, FindsRun, IsSameJudge, JudgeOf, Took, fate_told, state_behind}
 use Rattle.judge.specs.Played.{IsPlayed, IsStreamsRun}
-use Rattle.stream_judge.specs.Values.{stream_values, values_said}
 use Rattle.judge.specs.Problem.{AskedOf}
 use Rattle.judge.specs.declared.judging.Progress.{Progress}
 use Rattle.judge.specs.declared.judging.Progress.TheVariants.{More, Done, Unknown as UnknownProgress}
@@ -20,54 +23,51 @@ use Rattle.sby_top.specs.Judged.{EndsWithRun, IsEndOf, IsFateEnd}
 use Rattle.sby_top.specs.Steps.{end_of, IsBytesJudged, IsTrueEnd, WasFed}
 use Rattle.sby_top.specs.Served.{most_stream}
 
+-- the law that fates stay
+abbrev pub Stay : Type 0
+Stay = (kind : StreamKind) (job bytes rest : List ℕ) (most : ℕ) (fate : Fate) → IsFateSoFar kind job bytes most (Some fate) → IsFate kind job (bytes ++ rest) most fate
+
 -- behind `most` bytes there is always a fate
-never_more : (job bytes : List ℕ) (most : ℕ) → most < length bytes → IsFateSoFar job bytes most None → ⊥
-never_more job bytes most long h = elim (h.2.beyond long) [
-  | inl x ↦ let e : None ≡ Some x.0 = x.2 in cc
-  | inr y ↦ cc
-]
+never_more : (kind : StreamKind) (job bytes : List ℕ) (most : ℕ) → most < length bytes → IsFateSoFar kind job bytes most None → ⊥
+never_more kind job bytes most long h = let few = within_most kind job bytes most h in omega (arith, long, few)
 
 -- a cut stream goes on
 stream_goes_on : (bytes stream : List ℕ) (most : ℕ) → bytes ≡ take (most + 1) stream → stream ≡ bytes ++ drop (most + 1) stream
 stream_goes_on bytes stream most is = sym (take-append-drop (most + 1) stream) ∙ ap (λ b. b ++ drop (most + 1) stream) (sym is)
 
 -- a fate in the bytes that were got is the stream's
-pub fate_of_stream : ((job bytes rest : List ℕ) (most : ℕ) (fate : Fate) → IsFateSoFar job bytes most (Some fate) → IsFate job (bytes ++ rest) most fate)
-    → (file bytes stream : List ℕ) (most : ℕ) (fate : Fate) → bytes ≡ take (most + 1) stream → IsFateSoFar file bytes most (Some fate) → IsFate file stream most fate
-fate_of_stream stays file bytes stream most fate is h =
-    subst (λ s. IsFate file s most fate) (sym (stream_goes_on bytes stream most is)) (stays file bytes (drop (most + 1) stream) most fate h)
+fate_of_stream : Stay → (kind : StreamKind) (file bytes stream : List ℕ) (most : ℕ) (fate : Fate) → bytes ≡ take (most + 1) stream → IsFateSoFar kind file bytes most (Some fate)
+    → IsFate kind file stream most fate
+fate_of_stream stays kind file bytes stream most fate is h =
+    subst (λ s. IsFate kind file s most fate) (sym (stream_goes_on bytes stream most is)) (stays kind file bytes (drop (most + 1) stream) most fate h)
 
 -- where the bytes that were got have no fate yet, they are the whole stream
-pub stream_is_whole : (file bytes stream : List ℕ) (most : ℕ) → bytes ≡ take (most + 1) stream → IsFateSoFar file bytes most None → stream ≡ bytes
-stream_is_whole file bytes stream most is h = elim (cases_lt most (length stream)) [
+stream_is_whole : (kind : StreamKind) (file bytes stream : List ℕ) (most : ℕ) → bytes ≡ take (most + 1) stream → IsFateSoFar kind file bytes most None → stream ≡ bytes
+stream_is_whole kind file bytes stream most is h = elim (cases_lt most (length stream)) [
   | inl long ↦ let n : length bytes ≡ most + 1 = ap length is ∙ length-take-le (most + 1) stream (omega (arith, long)) in
-      absurd (never_more file bytes most (omega (arith, n)) h)
+      absurd (never_more kind file bytes most (omega (arith, n)) h)
   | inr short ↦ sym (take_all (most + 1) stream (omega (arith, short))) ∙ sym is
 ]
 
 -- the end by the fate that a judge told
-pub end_by_fate : (file stream : List ℕ) (r : Result Progress BadCert) → MatchOption (fate_told r) ⊥ (IsFate file stream most_stream) → IsFateEnd file stream (end_of r)
-end_by_fate file stream (Ok More) h = absurd h
-end_by_fate file stream (Ok (Done f)) h = h
-end_by_fate file stream (Ok UnknownProgress) h = h
-end_by_fate file stream (Err bad) h = (bad.kind, refl, h)
+end_by_fate : (kind : StreamKind) (file stream : List ℕ) (r : Result Progress BadCert) → MatchOption (fate_told r) ⊥ (IsFate kind file stream most_stream) → IsFateEnd kind file stream (end_of r)
+end_by_fate kind file stream (Ok More) h = absurd h
+end_by_fate kind file stream (Ok (Done f)) h = h
+end_by_fate kind file stream (Ok UnknownProgress) h = h
+end_by_fate kind file stream (Err bad) h = (bad.kind, refl, h)
 
--- the law that fates stay
-abbrev pub Stay : Type 0
-Stay = (job bytes rest : List ℕ) (most : ℕ) (fate : Fate) → IsFateSoFar job bytes most (Some fate) → IsFate job (bytes ++ rest) most fate
-
-told_fate : Stay → (file bytes stream : List ℕ) (most : ℕ) (r : Result Progress BadCert) → r ≢ Ok More → bytes ≡ take (most + 1) stream → IsFateSoFar file bytes most (fate_told r)
-    → MatchOption (fate_told r) ⊥ (IsFate file stream most)
-told_fate stay file bytes stream most (Ok More) apart is h = absurd (apart refl)
-told_fate stay file bytes stream most (Ok (Done f)) apart is h = fate_of_stream stay file bytes stream most (FoundFate f.answer) is h
-told_fate stay file bytes stream most (Ok UnknownProgress) apart is h = fate_of_stream stay file bytes stream most UnknownFate is h
-told_fate stay file bytes stream most (Err bad) apart is h = fate_of_stream stay file bytes stream most (BadFate bad.kind bad.at) is h
+told_fate : Stay → (kind : StreamKind) (file bytes stream : List ℕ) (most : ℕ) (r : Result Progress BadCert) → r ≢ Ok More → bytes ≡ take (most + 1) stream → IsFateSoFar kind file bytes most (fate_told r)
+    → MatchOption (fate_told r) ⊥ (IsFate kind file stream most)
+told_fate stay kind file bytes stream most (Ok More) apart is h = absurd (apart refl)
+told_fate stay kind file bytes stream most (Ok (Done f)) apart is h = fate_of_stream stay kind file bytes stream most (FoundFate f.answer) is h
+told_fate stay kind file bytes stream most (Ok UnknownProgress) apart is h = fate_of_stream stay kind file bytes stream most UnknownFate is h
+told_fate stay kind file bytes stream most (Err bad) apart is h = fate_of_stream stay kind file bytes stream most (BadFate bad.kind bad.at) is h
 
 -- a judge answered a fate at once
 pub fed_at_once : Stay → (j new : JudgeOf) (bytes : List ℕ) (r : Result Progress BadCert) → r ≢ Ok More → Feeds j new bytes r → WasFed j bytes r
 fed_at_once stay j new bytes r apart fed = record {
   finds = fed.finds;
-  fate = λ file stream is cut. told_fate stay file bytes stream j.most r apart cut (fed.fate file is);
+  fate = λ file stream is cut. told_fate stay j.kind file bytes stream j.most r apart cut (fed.fate file is);
   run = (false, fed.run);
 }
 
@@ -80,8 +80,8 @@ run_same j mid bytes (Ok More) same h = tt
 run_same j mid bytes (Ok (Done f)) same h = λ sat step. let found = h sat (λ e. step (sym same.1 ∙ e)) in (
   found.0,
   found.1,
-  subst (λ m. IsStreamsRun j.asked j.job true bytes m found.0) same.2
-      (subst (λ k. IsStreamsRun j.asked k true bytes mid.most found.0) same.1 (subst (λ p. IsStreamsRun p mid.job true bytes mid.most found.0) same.0 found.2)),
+  subst (λ k. IsStreamsRun j.asked j.job k true bytes j.most found.0) same.3 (subst (λ m. IsStreamsRun j.asked j.job mid.kind true bytes m found.0) same.2
+      (subst (λ k. IsStreamsRun j.asked k mid.kind true bytes mid.most found.0) same.1 (subst (λ p. IsStreamsRun p mid.job mid.kind true bytes mid.most found.0) same.0 found.2))),
 )
 run_same j mid bytes (Ok UnknownProgress) same h = tt
 run_same j mid bytes (Err bad) same h = tt
@@ -92,10 +92,11 @@ fed_to_end j mid new bytes r fed ended = record {
   finds = finds_same j mid r fed.same ended.finds;
   run = (true, run_same j mid bytes r fed.same ended.run);
   fate = λ file stream is cut.
-      let more : IsFateSoFar file bytes j.most None = fed.fate file is in
-      let last : MatchOption (fate_told r) ⊥ (IsFate file bytes mid.most) = ended.fate file (rw (fed.same.0, fed.same.1) is) in
-      let here : MatchOption (fate_told r) ⊥ (IsFate file bytes j.most) = subst (λ m. MatchOption (fate_told r) ⊥ (IsFate file bytes m)) fed.same.2 last in
-      subst (λ s. MatchOption (fate_told r) ⊥ (IsFate file s j.most)) (sym (stream_is_whole file bytes stream j.most cut more)) here;
+      let more : IsFateSoFar j.kind file bytes j.most None = fed.fate file is in
+      let last : MatchOption (fate_told r) ⊥ (IsFate mid.kind file bytes mid.most) = ended.fate file (rw (fed.same.0, fed.same.1) is) in
+      let here : MatchOption (fate_told r) ⊥ (IsFate j.kind file bytes j.most) =
+      subst (λ k. MatchOption (fate_told r) ⊥ (IsFate k file bytes j.most)) fed.same.3 (subst (λ m. MatchOption (fate_told r) ⊥ (IsFate mid.kind file bytes m)) fed.same.2 last) in
+      subst (λ s. MatchOption (fate_told r) ⊥ (IsFate j.kind file s j.most)) (sym (stream_is_whole j.kind file bytes stream j.most cut more)) here;
 }
 
 more_only : (r : Result Progress BadCert) → fate_told r ≡ None → r ≡ Ok More
@@ -139,38 +140,40 @@ fewer most stream = elim (cases_lt most (length stream)) [
   | inr short ↦ ap (take most) (take_all (most + 1) stream (omega (arith, short)))
 ]
 
-same_values : (vars : ℕ) (ended : Bool) (bytes stream : List ℕ) (most : ℕ) → bytes ≡ take (most + 1) stream → stream_values vars ended bytes most ≡ stream_values vars ended stream most
-same_values vars ended bytes stream most is =
-    ap (λ b. stream_values vars ended b most) is
-    ∙ ap (λ n. values_said (sayings vars (ended && n) (take most (take (most + 1) stream)))) (counted most stream)
-    ∙ ap (λ s. values_said (sayings vars (ended && leb (length stream) most) s)) (fewer most stream)
+same_values : (kind : StreamKind) (vars : ℕ) (ended : Bool) (bytes stream : List ℕ) (most : ℕ) → bytes ≡ take (most + 1) stream
+    → stream_values kind vars ended bytes most ≡ stream_values kind vars ended stream most
+same_values Drup vars ended bytes stream most is = rw (is, counted most stream, fewer most stream) refl
+same_values Lrat vars ended bytes stream most is = rw (is, counted most stream, fewer most stream) refl
+same_values Proof vars ended bytes stream most is = refl
+same_values ProofBinary vars ended bytes stream most is = refl
 
-same_run : (p : AskedOf) (job : JobName) (ended : Bool) (bytes stream : List ℕ) (most : ℕ) (run : List CycleOf) → bytes ≡ take (most + 1) stream
-    → IsStreamsRun p job ended bytes most run → IsStreamsRun p job ended stream most run
-same_run p job ended bytes stream most run cut h =
-    (h.0, h.1, subst (λ x. IsPlayed p h.0 x run) (same_values h.0.formula.vars ended bytes stream most cut) h.2)
+same_run : (p : AskedOf) (job : JobName) (kind : StreamKind) (ended : Bool) (bytes stream : List ℕ) (most : ℕ) (run : List CycleOf) → bytes ≡ take (most + 1) stream
+    → IsStreamsRun p job kind ended bytes most run → IsStreamsRun p job kind ended stream most run
+same_run p job kind ended bytes stream most run cut h =
+    (h.0, h.1, subst (λ (x : Assignment). IsPlayed p h.0 x run) (same_values kind h.0.formula.vars ended bytes stream most cut) h.2)
 
 -- the run of an end is played from the values of the stream
 end_run : (j : JudgeOf) (bytes stream : List ℕ) (ended : Bool) (r : Result Progress BadCert) → j.most ≡ most_stream → bytes ≡ take (most_stream + 1) stream
-    → FindsRun j ended bytes r → EndsWithRun j.asked j.job stream (end_of r)
+    → FindsRun j ended bytes r → EndsWithRun j.asked j.job j.kind stream (end_of r)
 end_run j bytes stream ended (Ok More) most cut found = tt
 end_run j bytes stream ended (Ok (Done f)) most cut found = λ sat step. let h = found sat step in
-    (ended, h.0, h.1, same_run j.asked j.job ended bytes stream most_stream h.0 cut (subst (λ m. IsStreamsRun j.asked j.job ended bytes m h.0) most h.2))
+    (ended, h.0, h.1, same_run j.asked j.job j.kind ended bytes stream most_stream h.0 cut (subst (λ m. IsStreamsRun j.asked j.job j.kind ended bytes m h.0) most h.2))
 end_run j bytes stream ended (Ok UnknownProgress) most cut found = tt
 end_run j bytes stream ended (Err bad) most cut found = tt
 
 -- a job whose judge was fed these bytes
-judged_by : (j : JudgeOf) (bytes : List ℕ) (r : Result Progress BadCert) → j.most ≡ most_stream → IsTrueEnd (end_of r) → WasFed j bytes r → IsBytesJudged j.asked j.job bytes (end_of r)
+judged_by : (j : JudgeOf) (bytes : List ℕ) (r : Result Progress BadCert) → j.most ≡ most_stream → IsTrueEnd (end_of r) → WasFed j bytes r → IsBytesJudged j.asked j.job j.kind bytes (end_of r)
 judged_by j bytes r most holds was = record {
   of = end_kind j r was.finds holds;
-  fate = λ file stream at cut. end_by_fate file stream r (subst (λ m. MatchOption (fate_told r) ⊥ (IsFate file stream m)) most (was.fate file stream at (subst (λ m. bytes ≡ take (m + 1) stream) (sym most) cut)));
+  fate = λ file stream at cut.
+      end_by_fate j.kind file stream r (subst (λ m. MatchOption (fate_told r) ⊥ (IsFate j.kind file stream m)) most (was.fate file stream at (subst (λ m. bytes ≡ take (m + 1) stream) (sym most) cut)));
   run = λ stream cut. end_run j bytes stream was.run.0 r most cut was.run.1;
 }
 
-pub bytes_judged : (p : AskedOf) (job : JobName) (bytes : List ℕ) (j : JudgeOf) (r : Result Progress BadCert) (end : JobEnd FindingOf) → j.asked ≡ p → j.job ≡ job → j.most ≡ most_stream
-    → end ≡ end_of r → IsTrueEnd end → WasFed j bytes r → IsBytesJudged p job bytes end
-bytes_judged p job bytes j r end asked is_job most is holds fed =
-    rw is (rw (← asked, ← is_job) (judged_by j bytes r most (subst IsTrueEnd is holds) fed))
+pub bytes_judged : (p : AskedOf) (job : JobName) (kind : StreamKind) (bytes : List ℕ) (j : JudgeOf) (r : Result Progress BadCert) (end : JobEnd FindingOf) → j.asked ≡ p → j.job ≡ job → j.kind ≡ kind
+    → j.most ≡ most_stream → end ≡ end_of r → IsTrueEnd end → WasFed j bytes r → IsBytesJudged p job kind bytes end
+bytes_judged p job kind bytes j r end asked is_job is_kind most is holds fed =
+    rw is (rw (← asked, ← is_job, ← is_kind) (judged_by j bytes r most (subst IsTrueEnd is holds) fed))
 
 pub never_both : (b : Bool) → b ≡ false → IsTrue b → ⊥
 never_both true is holds = cc

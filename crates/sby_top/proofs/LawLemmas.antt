@@ -5,7 +5,9 @@ use Rattle.std.specs.Str.{bytes_eq}
 use Rattle.std.proofs.lemmas.Slice.Eq.{bytes_eq-Decides}
 use Rattle.cnf_form.proofs.Members.{Contains-head, Contains-one}
 use Rattle.sby_edge.specs.Files.{Store, put_at}
-use Rattle.stream_judge.specs.Fate.{Fate, Found, IsFate}
+use Rattle.kind_judge.specs.Fates.{IsFate}
+use Rattle.stream_judge.specs.Fate.{Fate, Found}
+use Rattle.stream_judge.specs.declared.stream.StreamKind.{StreamKind}
 use Rattle.judge.specs.Fault.{IsProblemFault}
 use Rattle.judge.specs.Jobs.{jobs_in as jobs_of_mode}
 use Rattle.judge.specs.Problem.{AskedOf, IsJobFile}
@@ -31,6 +33,7 @@ use Rattle.sby_terms.specs.declared.names.Verdict.TheVariants.{Pass as PassVerdi
 use Rattle.sby_lines.specs.Lines.{IsStatus}
 use Rattle.sby_lines.specs.Told.{IsRaceStatus}
 use Rattle.sby_lines.specs.declared.early.Early.{Early}
+use Rattle.sby_words.specs.Kinds.{IsKindNamed}
 use Rattle.sby_words.specs.Requests.{JudgeRequest}
 use Rattle.sby_top.specs.Claims.{IsJudgedAt, status_for}
 use Rattle.sby_top.specs.Causes.{IsOutcome}
@@ -41,17 +44,18 @@ use Rattle.sby_top.specs.Turns.{judge_task}
 use Rattle.sby_top.specs.World.{World, files_of, race_of}
 use Rattle.sby_top.specs.declared.outcome.TaskEnd.{TaskEnd}
 use Rattle.sby_top.proofs.FailLemmas.{fail_status}
+use Rattle.sby_top.proofs.KindLemmas.{one_kind}
 use Rattle.sby_top.proofs.PlainLemmas.{done_gives, put_told}
 use Rattle.sby_top.proofs.ReportLemmas.{job_count}
 
 -- the judge's laws
 abbrev pub OneFate : Type 0
-OneFate = (job stream : List ℕ) (most : ℕ) (x y : Fate) → IsFate job stream most x → IsFate job stream most y → x ≡ y
+OneFate = (kind : StreamKind) (job stream : List ℕ) (most : ℕ) (x y : Fate) → IsFate kind job stream most x → IsFate kind job stream most y → x ≡ y
 
 abbrev pub OneFile : Type 0
 OneFile = (p : AskedOf) (job : JobName) (a b : List ℕ) → IsJobFile p job a → IsJobFile p job b → a ≡ b
 
-one_some : {X : Type 0} (o : Option X) (x y : X) → o ≡ Some x → o ≡ Some y → x ≡ y
+pub one_some : {X : Type 0} (o : Option X) (x y : X) → o ≡ Some x → o ≡ Some y → x ≡ y
 one_some o x y p q = let e : Some x ≡ Some y = sym p ∙ q in cc
 
 -- ---- the answer of the one job
@@ -98,22 +102,24 @@ one_put_stands p folder told now file one put stands =
 
 -- ---- the fate of the one stream
 
-fate_is_found : OneFate → OneFile → (p : AskedOf) (now : Store) (path stream file : List ℕ) (answer : Answer) (fates : List (Option Fate)) → IsJobFile p (Base 0) file
-    → now path ≡ Some stream → IsFate file stream most_stream (Found answer) → AreFates p now (Base 0 ∷ []) (path ∷ []) fates
+fate_is_found : OneFate → OneFile → (p : AskedOf) (now : Store) (path : List ℕ) (kind : StreamKind) (stream file : List ℕ) (answer : Answer) (fates : List (Option Fate)) → IsJobFile p (Base 0) file
+    → IsKindNamed path kind → now path ≡ Some stream → IsFate kind file stream most_stream (Found answer) → AreFates p now (Base 0 ∷ []) (path ∷ []) fates
     → AreWhole (path ∷ []) fates ⊎ IsDecided Bmc (map fate_answer fates) → fates ≡ Some (Found answer) ∷ []
-fate_is_found one_fate one_file p now path stream file answer [] own has valid fates_are whole = absurd fates_are
-fate_is_found one_fate one_file p now path stream file answer (None ∷ fates) own has valid fates_are whole = elim whole [
+fate_is_found one_fate one_file p now path kind stream file answer [] own named has valid fates_are whole = absurd fates_are
+fate_is_found one_fate one_file p now path kind stream file answer (None ∷ fates) own named has valid fates_are whole = elim whole [
   | inl all ↦ absurd all
   | inr decided ↦
       let none : fates ≡ [] = fates_are in
       absurd (nothing_decides decided.0 (subst (λ fs. Decides Bmc (None ∷ map fate_answer fs) decided.0) none decided.1))
 ]
-fate_is_found one_fate one_file p now path stream file answer (Some fate ∷ fates) own has valid fates_are whole =
+fate_is_found one_fate one_file p now path kind stream file answer (Some fate ∷ fates) own named has valid fates_are whole =
     let told = fates_are.0 in
-    let same_stream : told.0 ≡ stream = one_some (now path) told.0 stream told.2 has in
-    let same_file : told.1 ≡ file = one_file p (Base 0) told.1 file told.3 own in
-    let here : IsFate file stream most_stream fate = subst (λ s. IsFate file s most_stream fate) same_stream (subst (λ f. IsFate f told.0 most_stream fate) same_file told.4) in
-    let is : fate ≡ Found answer = one_fate file stream most_stream fate (Found answer) here valid in
+    let same_kind : told.0 ≡ kind = one_kind path told.0 kind told.3 named in
+    let same_stream : told.1 ≡ stream = one_some (now path) told.1 stream told.4 has in
+    let same_file : told.2 ≡ file = one_file p (Base 0) told.2 file told.5 own in
+    let here : IsFate kind file stream most_stream fate =
+    subst (λ k. IsFate k file stream most_stream fate) same_kind (subst (λ s. IsFate told.0 file s most_stream fate) same_stream (subst (λ f. IsFate told.0 f told.1 most_stream fate) same_file told.6)) in
+    let is : fate ≡ Found answer = one_fate kind file stream most_stream fate (Found answer) here valid in
     let none : fates ≡ [] = fates_are.1 in
     ap (λ f. Some f ∷ fates) is ∙ ap (λ fs. Some (Found answer) ∷ fs) none
 
@@ -126,10 +132,10 @@ one_slice : (told : Option Store) (j : JudgeRequest) (p : AskedOf) → IsAccepte
 one_slice told j p accepted = ap (λ (q : ProblemOf). slices_of q.span) accepted.asked
 
 -- a task that was judged has the verdict of its one certificate
-race_gives : OneFate → OneFile → (may_read : ℕ → Type 0) (number : ℕ) (start finish : World) (j : JudgeRequest) (end : TaskEnd) (now : Store) (d : DesignOf) (path stream file : List ℕ) (answer : Answer)
+race_gives : OneFate → OneFile → (may_read : ℕ → Type 0) (number : ℕ) (start finish : World) (j : JudgeRequest) (end : TaskEnd) (now : Store) (d : DesignOf) (path : List ℕ) (kind : StreamKind) (stream file : List ℕ) (answer : Answer)
     → (judged : IsJudgedAt may_read number start finish (judge_task j) end now) → Reads end.text d → IsRaceStatus (judge_task j).request (record { design = d; reports = end.reports.items; start = end.start }) end.status → j.mode ≡ Bmc → end.status ≢ Memory
-    → j.streams ≡ path ∷ [] → now path ≡ Some stream → now (job_path j.folder 1 (Base 0)) ≡ Some file → IsFate file stream most_stream (Found answer) → end.status ≡ status_for answer
-race_gives one_fate one_file may_read number start finish j end now d path stream file answer judged reads race bmc apart streams has stands valid =
+    → j.streams ≡ path ∷ [] → IsKindNamed path kind → now path ≡ Some stream → now (job_path j.folder 1 (Base 0)) ≡ Some file → IsFate kind file stream most_stream (Found answer) → end.status ≡ status_for answer
+race_gives one_fate one_file may_read number start finish j end now d path kind stream file answer judged reads race bmc apart streams named has stands valid =
     let jobs = one_job (files_of start).told j judged.done.problem judged.done.served.0 bmc in
     let put : ArePut judged.done.problem j.folder (Base 0 ∷ []) (files_of start).told (Some now) =
     subst (λ t. ArePut judged.done.problem j.folder (Base 0 ∷ []) (files_of start).told t) judged.told (subst (λ js. ArePut judged.done.problem j.folder js (files_of start).told judged.middle.told) jobs judged.done.put) in
@@ -139,17 +145,17 @@ race_gives one_fate one_file may_read number start finish j end now d path strea
     subst (λ js. AreFates judged.done.problem now js (path ∷ []) gives.fates) jobs (subst (λ ps. AreFates judged.done.problem now (jobs_in judged.done.problem) ps gives.fates) streams gives.are) in
     let whole : AreWhole (path ∷ []) gives.fates ⊎ IsDecided Bmc (map fate_answer gives.fates) =
     subst (λ m. AreWhole (path ∷ []) gives.fates ⊎ IsDecided m (map fate_answer gives.fates)) bmc (subst (λ ps. AreWhole ps gives.fates ⊎ IsDecided j.mode (map fate_answer gives.fates)) streams gives.give.0) in
-    let found = fate_is_found one_fate one_file judged.done.problem now path stream file answer gives.fates own has valid fates whole in
+    let found = fate_is_found one_fate one_file judged.done.problem now path kind stream file answer gives.fates own named has valid fates whole in
     let s : IsFateStatus Bmc (Some (Found answer) ∷ []) end.status = subst (λ fs. IsFateStatus Bmc fs end.status) found (subst (λ m. IsFateStatus m gives.fates end.status) bmc gives.give.1) in
     answer_gives answer s.0 _ end.status s.1 s.2
 
-pub certificate_gives : OneFate → OneFile → (may_read : ℕ → Type 0) (number : ℕ) (start finish : World) (j : JudgeRequest) (end : TaskEnd) (exit : Exit) (now : Store) (path stream file : List ℕ) (answer : Answer) → TaskRan may_read number start finish (judge_task j) end exit
-    → IsJudgedAt may_read number start finish (judge_task j) end now → j.mode ≡ Bmc → end.status ≢ Memory → j.streams ≡ path ∷ [] → now path ≡ Some stream → now (job_path j.folder 1 (Base 0)) ≡ Some file
-    → IsFate file stream most_stream (Found answer) → end.status ≡ status_for answer
-certificate_gives one_fate one_file may_read number start finish j end exit now path stream file answer ran judged bmc apart streams has stands valid = elim ran.named.status [
+pub certificate_gives : OneFate → OneFile → (may_read : ℕ → Type 0) (number : ℕ) (start finish : World) (j : JudgeRequest) (end : TaskEnd) (exit : Exit) (now : Store) (path : List ℕ) (kind : StreamKind) (stream file : List ℕ) (answer : Answer) → TaskRan may_read number start finish (judge_task j) end exit
+    → IsJudgedAt may_read number start finish (judge_task j) end now → j.mode ≡ Bmc → end.status ≢ Memory → j.streams ≡ path ∷ [] → IsKindNamed path kind → now path ≡ Some stream
+    → now (job_path j.folder 1 (Base 0)) ≡ Some file → IsFate kind file stream most_stream (Found answer) → end.status ≡ status_for answer
+certificate_gives one_fate one_file may_read number start finish j end exit now path kind stream file answer ran judged bmc apart streams named has stands valid = elim ran.named.status [
   | inl own ↦
-      race_gives one_fate one_file may_read number start finish j end now own.0 path stream file answer judged (own.1 judged.early)
-      (subst (λ e. IsStatus (judge_task j).request e (record { design = own.0; reports = end.reports.items; start = end.start }) end.status) judged.early own.2) bmc apart streams has stands valid
+      race_gives one_fate one_file may_read number start finish j end now own.0 path kind stream file answer judged (own.1 judged.early)
+      (subst (λ e. IsStatus (judge_task j).request e (record { design = own.0; reports = end.reports.items; start = end.start }) end.status) judged.early own.2) bmc apart streams named has stands valid
   | inr memory ↦ absurd (apart memory)
 ]
 

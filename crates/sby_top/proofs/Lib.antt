@@ -1,3 +1,5 @@
+pub mod KindLemmas
+pub mod AnswerLemmas
 pub mod JudgeLemmas
 pub mod JobLemmas
 pub mod ServeLemmas
@@ -13,8 +15,14 @@ pub mod RunLemmas
 pub mod TurnLemmas
 pub mod TopLemmas
 pub mod ClaimLemmas
+pub mod OpenLemmas
+pub mod MatchLemmas
+pub mod EvidenceLemmas
+pub mod SpareLemmas
+pub mod CompleteLemmas
 pub mod StoredLemmas
 pub mod EventLemmas
 pub mod HadLemmas
 pub mod LawLemmas
+pub mod CertificateLemmas
 pub mod ChildLemmas

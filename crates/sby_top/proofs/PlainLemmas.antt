@@ -6,7 +6,9 @@ use Rattle.std.proofs.lemmas.Option.{get_or_from_slice_get, slice_get-get_or, sl
 use Rattle.cnf_form.proofs.Members.{Contains-cases, Contains-empty, Contains-head, Contains-tail}
 use Rattle.sby_edge.specs.Cause.{Rose}
 use Rattle.sby_edge.specs.Files.{Store}
-use Rattle.stream_judge.specs.Fate.{Fate, IsFate, Found as FoundFate, Unknown as UnknownFate, Bad as BadFate}
+use Rattle.kind_judge.specs.Fates.{IsFate}
+use Rattle.stream_judge.specs.Fate.{Fate, Found as FoundFate, Unknown as UnknownFate, Bad as BadFate}
+use Rattle.stream_judge.specs.declared.stream.StreamKind.{StreamKind}
 use Rattle.design_core.specs.Shape.{DesignOf}
 use Rattle.design_reader.specs.Grammar.{Reads}
 use Rattle.judge.specs.Finding.{FindingOf}
@@ -35,6 +37,7 @@ use Rattle.sby_terms.specs.declared.names.Status.{Status}
 use Rattle.sby_terms.specs.declared.names.Status.TheVariants.{Pass, Fail, Unknown as UnknownStatus, Error, Timeout, Memory}
 use Rattle.sby_terms.specs.declared.names.Verdict.{Verdict}
 use Rattle.sby_terms.specs.declared.span.Span.{Span}
+use Rattle.sby_words.specs.Kinds.{IsKindNamed}
 use Rattle.sby_lines.specs.Lines.{IsStatus}
 use Rattle.sby_lines.specs.Told.{AreReported, IsRaceStatus, answer_of, job_of}
 use Rattle.sby_lines.specs.declared.early.Early.{Early}
@@ -63,7 +66,7 @@ abbrev event_of : JobEnd FindingOf → Event
 event_of end = told_by end
 
 -- the answer of the finding that an end is
-abbrev end_answer : JobEnd FindingOf → Option Answer
+abbrev pub end_answer : JobEnd FindingOf → Option Answer
 end_answer (Found f) = Some f.answer
 end_answer Unknown = None
 end_answer NotServed = None
@@ -83,40 +86,41 @@ record HasFates (p : AskedOf) (now : Store) (jobs : List JobName) (paths : List 
   answers : map fate_answer fates ≡ map end_answer ends
   whole : (Contains (map event_of ends) MemoryEvent → ⊥) → AreWhole paths fates × (map fate_event fates ≡ map event_of ends)
 
--- a job's file, and the stream at its path
-record IsStream (p : AskedOf) (now : Store) (job : JobName) (path file stream : List ℕ) : Type 0 where
+-- a job's file, and the stream at its path, which names its kind
+record IsStream (p : AskedOf) (now : Store) (job : JobName) (path : List ℕ) (kind : StreamKind) (file stream : List ℕ) : Type 0 where
+  named : IsKindNamed path kind
   file_is : IsJobFile p job file
   at : now path ≡ Some stream
 
-with_fate : (p : AskedOf) (now : Store) (job : JobName) (jobs : List JobName) (path file stream : List ℕ) (paths : List (List ℕ)) (end : JobEnd FindingOf) (ends : List (JobEnd FindingOf)) (fate : Fate)
-    → IsStream p now job path file stream → IsFate file stream most_stream fate → fate_answer (Some fate) ≡ end_answer end → fate_event (Some fate) ≡ event_of end
+with_fate : (p : AskedOf) (now : Store) (job : JobName) (jobs : List JobName) (path : List ℕ) (kind : StreamKind) (file stream : List ℕ) (paths : List (List ℕ)) (end : JobEnd FindingOf) (ends : List (JobEnd FindingOf)) (fate : Fate)
+    → IsStream p now job path kind file stream → IsFate kind file stream most_stream fate → fate_answer (Some fate) ≡ end_answer end → fate_event (Some fate) ≡ event_of end
     → HasFates p now jobs paths ends → HasFates p now (job ∷ jobs) (path ∷ paths) (end ∷ ends)
-with_fate p now job jobs path file stream paths end ends fate is of answer event rest = record {
+with_fate p now job jobs path kind file stream paths end ends fate is of answer event rest = record {
   fates = Some fate ∷ rest.fates;
-  are = ((stream, file, is.at, is.file_is, of), rest.are);
+  are = ((kind, stream, file, is.named, is.at, is.file_is, of), rest.are);
   answers = ap₂ (λ (a : Option Answer) (xs : List (Option Answer)). a ∷ xs) answer rest.answers;
   whole = λ none. let w = rest.whole (λ among. none (Contains-tail (event_of end) MemoryEvent (map event_of ends) among)) in
       (w.0, ap₂ (λ (e : Event) (es : List Event). e ∷ es) event w.1);
 }
 
-with_end : (p : AskedOf) (now : Store) (job : JobName) (jobs : List JobName) (path file stream : List ℕ) (paths : List (List ℕ)) (end : JobEnd FindingOf) (ends : List (JobEnd FindingOf))
-    → IsStream p now job path file stream → IsFateEnd file stream end → HasFates p now jobs paths ends → HasFates p now (job ∷ jobs) (path ∷ paths) (end ∷ ends)
-with_end p now job jobs path file stream paths (Found f) ends is of rest = with_fate p now job jobs path file stream paths (Found f) ends (FoundFate f.answer) is of refl refl rest
-with_end p now job jobs path file stream paths Unknown ends is of rest = with_fate p now job jobs path file stream paths Unknown ends UnknownFate is of refl refl rest
-with_end p now job jobs path file stream paths (Bad number at) ends is of rest = with_fate p now job jobs path file stream paths (Bad number at) ends (BadFate of.0 at) is of.2 refl refl rest
-with_end p now job jobs path file stream paths MemoryEnd ends is of rest = record {
+with_end : (p : AskedOf) (now : Store) (job : JobName) (jobs : List JobName) (path : List ℕ) (kind : StreamKind) (file stream : List ℕ) (paths : List (List ℕ)) (end : JobEnd FindingOf) (ends : List (JobEnd FindingOf))
+    → IsStream p now job path kind file stream → IsFateEnd kind file stream end → HasFates p now jobs paths ends → HasFates p now (job ∷ jobs) (path ∷ paths) (end ∷ ends)
+with_end p now job jobs path kind file stream paths (Found f) ends is of rest = with_fate p now job jobs path kind file stream paths (Found f) ends (FoundFate f.answer) is of refl refl rest
+with_end p now job jobs path kind file stream paths Unknown ends is of rest = with_fate p now job jobs path kind file stream paths Unknown ends UnknownFate is of refl refl rest
+with_end p now job jobs path kind file stream paths (Bad number at) ends is of rest = with_fate p now job jobs path kind file stream paths (Bad number at) ends (BadFate of.0 at) is of.2 refl refl rest
+with_end p now job jobs path kind file stream paths MemoryEnd ends is of rest = record {
   fates = None ∷ rest.fates;
   are = rest.are;
   answers = ap (λ (xs : List (Option Answer)). None ∷ xs) rest.answers;
   whole = λ none. absurd (none (Contains-head MemoryEvent (map event_of ends)));
 }
-with_end p now job jobs path file stream paths NotServed ends is of rest = absurd of
-with_end p now job jobs path file stream paths ReadFailed ends is of rest = absurd of
-with_end p now job jobs path file stream paths StartFailed ends is of rest = absurd of
-with_end p now job jobs path file stream paths HoldFailed ends is of rest = absurd of
-with_end p now job jobs path file stream paths (Skipped f) ends is of rest = absurd of
-with_end p now job jobs path file stream paths (CalledOff f) ends is of rest = absurd of
-with_end p now job jobs path file stream paths (Stopped reading) ends is of rest = absurd of
+with_end p now job jobs path kind file stream paths NotServed ends is of rest = absurd of
+with_end p now job jobs path kind file stream paths ReadFailed ends is of rest = absurd of
+with_end p now job jobs path kind file stream paths StartFailed ends is of rest = absurd of
+with_end p now job jobs path kind file stream paths HoldFailed ends is of rest = absurd of
+with_end p now job jobs path kind file stream paths (Skipped f) ends is of rest = absurd of
+with_end p now job jobs path kind file stream paths (CalledOff f) ends is of rest = absurd of
+with_end p now job jobs path kind file stream paths (Stopped reading) ends is of rest = absurd of
 
 no_fates_whole : (paths : List (List ℕ)) → AreWhole paths []
 no_fates_whole [] = tt
@@ -138,8 +142,8 @@ fates_exist p folder now (job ∷ jobs) before after [] (end ∷ ends) put judge
           (tt, ap₂ (λ (e : Event) (es : List Event). e ∷ es) event w.1);
     }
 fates_exist p folder now (job ∷ jobs) before after (path ∷ paths) (end ∷ ends) put judged =
-    let at = has_some (now path) (λ stream. IsFateEnd put.0 stream end) (judged.0.fate put.0 put.1) in
-    with_end p now job jobs path put.0 at.0 paths end ends (record { file_is = put.1; at = at.1 }) at.2 (fates_exist p folder now jobs _ after paths ends put.2 judged.1)
+    let at = has_some (now path) (λ stream. IsFateEnd judged.0.kind put.0 stream end) (judged.0.fate put.0 put.1) in
+    with_end p now job jobs path judged.0.kind put.0 at.0 paths end ends (record { named = judged.0.named; file_is = put.1; at = at.1 }) at.2 (fates_exist p folder now jobs _ after paths ends put.2 judged.1)
 
 -- the store tells on, when files were put
 pub put_told : (p : AskedOf) (folder : List ℕ) (jobs : List JobName) (before after : Option Store) (store : Store) → before ≡ Some store → ArePut p folder jobs before after → (now : Store) × (after ≡ Some now)
@@ -162,7 +166,7 @@ own_carried p job (CalledOff g) f of carries = absurd of
 own_carried p job (Stopped reading) f of carries = absurd carries
 own_carried p job MemoryEnd f of carries = absurd carries
 
-carried_at : (p : AskedOf) (told : Option Store) (jobs : List JobName) (paths : List (List ℕ)) (ends : List (JobEnd FindingOf)) (k : ℕ) (e : JobEnd FindingOf) (f : FindingOf) → AreJudged p told jobs paths ends
+pub carried_at : (p : AskedOf) (told : Option Store) (jobs : List JobName) (paths : List (List ℕ)) (ends : List (JobEnd FindingOf)) (k : ℕ) (e : JobEnd FindingOf) (f : FindingOf) → AreJudged p told jobs paths ends
     → slice_get ends k ≡ Some e → Carries e f → (e ≡ Found f) × (slice_get jobs k ≡ Some f.job)
 carried_at p told [] paths ends k e f judged at carries = absurd (Contains-empty e (subst (λ es. Contains es e) judged (at_contains ends k e at)))
 carried_at p told (job ∷ jobs) paths [] k e f judged at carries = absurd judged
@@ -176,7 +180,7 @@ carried_at p told (job ∷ jobs) (path ∷ paths) (end ∷ ends) zero e f judged
 carried_at p told (job ∷ jobs) (path ∷ paths) (end ∷ ends) (suc k) e f judged at carries = carried_at p told jobs paths ends k e f judged.1 at carries
 
 -- jobs at two places have two names
-one_place : (mode : Mode) (span : Span) (d : DesignOf) (j k : ℕ) → j < length (jobs_of_mode mode span d) → k < length (jobs_of_mode mode span d) → name_at mode j ≡ name_at mode k → j ≡ k
+pub one_place : (mode : Mode) (span : Span) (d : DesignOf) (j k : ℕ) → j < length (jobs_of_mode mode span d) → k < length (jobs_of_mode mode span d) → name_at mode j ≡ name_at mode k → j ≡ k
 one_place Bmc span d j k in_j in_k same = let own : Base j ≡ Base k = same in cc
 one_place Prove span d zero zero in_j in_k same = refl
 one_place Prove span d zero (suc zero) in_j in_k same = let own : Base 0 ≡ Step = same in cc
@@ -196,7 +200,7 @@ mapped_at v (x ∷ xs) (suc k) y at = mapped_at v xs k y at
 map_at : {X Y : Type 0} (v : X → Y) (xs : List X) (k : ℕ) (x : X) → slice_get xs k ≡ Some x → slice_get (map v xs) k ≡ Some (v x)
 map_at v xs k x at = slice_get-map v xs k ∙ ap (option_map v) at
 
-answer_found : (e : JobEnd FindingOf) (a : Answer) → end_answer e ≡ Some a → (f : FindingOf) × (e ≡ Found f) × (f.answer ≡ a)
+pub answer_found : (e : JobEnd FindingOf) (a : Answer) → end_answer e ≡ Some a → (f : FindingOf) × (e ≡ Found f) × (f.answer ≡ a)
 answer_found (Found f) a is = (f, refl, some_same f.answer a is)
 answer_found Unknown a is = cc
 answer_found NotServed a is = cc
@@ -256,7 +260,7 @@ ends_collected task p told paths r lane = record {
 -- ---- the events
 
 -- the status by other events that say the same
-status_by : (events others : List Event) (s : Status) → s ≢ Memory → ((e : Event) → e ≢ Quiet → Contains others e → Contains events e) → ((e : Event) → e ≢ Quiet → Contains events e → Contains others e)
+pub status_by : (events others : List Event) (s : Status) → s ≢ Memory → ((e : Event) → e ≢ Quiet → Contains others e → Contains events e) → ((e : Event) → e ≢ Quiet → Contains events e → Contains others e)
     → HasStatus None events s → HasStatus None others s
 status_by events others Pass apart back forth h = h
 status_by events others Fail apart back forth h = h

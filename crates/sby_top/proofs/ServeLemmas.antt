@@ -20,6 +20,7 @@ use Rattle.sby_top.specs.Judged.{EndsWithRun, Has, IsFateEnd}
 use Rattle.sby_top.specs.Served.{ArePut, IsAccepted, IsGot, IsServed, IsTextOf, jobs_in, most_stream, slices_in}
 use Rattle.sby_top.specs.Task.{Stored, TaskOf, problem_of, streams_in}
 use Rattle.sby_top.specs.World.{FilesOf, IsFailedAt}
+use Rattle.sby_top.specs.declared.judge_stream.Stream.{Stream}
 
 -- ---- what is got
 
@@ -48,15 +49,17 @@ pub path_among : {X Y : Type 0} (v : X → Y) (xs : List X) (i : ℕ) (r : Optio
 path_among v xs i r path h is = Contains-from_place (map v xs) i path (sym (path_given v xs i r h) ∙ is)
 
 -- a job's stream was judged
-pub path_judged : (p : AskedOf) (told : Option Store) (job : JobName) (path stream : Option (List ℕ)) (end : JobEnd FindingOf) → IsStreamGot told path stream → IsStreamJudged p job stream end
+pub path_judged : (p : AskedOf) (told : Option Store) (job : JobName) (path : Option (List ℕ)) (stream : Option Stream) (end : JobEnd FindingOf) → IsStreamGot told path stream → IsStreamJudged p job stream end
     → IsPathJudged p told job path end
 path_judged p told job None None end got judged = judged
-path_judged p told job (Some path) (Some bytes) end got judged = record {
+path_judged p told job (Some path) (Some s) end got judged = record {
+  kind = s.kind;
+  named = got.0;
   of = judged.of;
-  fate = λ file is. has_from told path bytes (λ s. IsFateEnd file s end) got (λ content cut. judged.fate file content is cut);
-  run = has_from told path bytes (λ s. EndsWithRun p job s end) got (λ content cut. judged.run content cut);
+  fate = λ file is. has_from told path s.bytes.items (λ stream. IsFateEnd s.kind file stream end) got.1 (λ content cut. judged.fate file content is cut);
+  run = has_from told path s.bytes.items (λ stream. EndsWithRun p job s.kind stream end) got.1 (λ content cut. judged.run content cut);
 }
-path_judged p told job None (Some bytes) end got judged = absurd got
+path_judged p told job None (Some s) end got judged = absurd got
 path_judged p told job (Some path) None end got judged = absurd got
 
 -- ---- failed calls

@@ -175,19 +175,19 @@ abbrev pub status_for : Answer → Status
 status_for Sat = Fail
 status_for Unsat = Pass
 
--- an end that tells no fault and no want of memory
-abbrev pub IsQuietEnd : JobEnd FindingOf → Type 0
-IsQuietEnd (Found f) = Unit {0}
-IsQuietEnd UnknownEnd = Unit {0}
-IsQuietEnd NotServed = Unit {0}
-IsQuietEnd (Bad number at) = ⊥
-IsQuietEnd ReadFailed = ⊥
-IsQuietEnd StartFailed = ⊥
-IsQuietEnd HoldFailed = ⊥
-IsQuietEnd (Skipped f) = Unit {0}
-IsQuietEnd (CalledOff f) = Unit {0}
-IsQuietEnd (Stopped reading) = ⊥
-IsQuietEnd MemoryEnd = ⊥
+-- an end that is left of a job where the status is UNKNOWN: its engine doesn't know, or doesn't serve it
+abbrev pub IsLeftEnd : JobEnd FindingOf → Type 0
+IsLeftEnd UnknownEnd = Unit {0}
+IsLeftEnd NotServed = Unit {0}
+IsLeftEnd (Found f) = ⊥
+IsLeftEnd (Bad number at) = ⊥
+IsLeftEnd ReadFailed = ⊥
+IsLeftEnd StartFailed = ⊥
+IsLeftEnd HoldFailed = ⊥
+IsLeftEnd (Skipped f) = ⊥
+IsLeftEnd (CalledOff f) = ⊥
+IsLeftEnd (Stopped reading) = ⊥
+IsLeftEnd MemoryEnd = ⊥
 
 -- a stream that is no certificate, or a call that failed
 abbrev pub IsFaultyEnd : JobEnd FindingOf → Type 0
@@ -247,9 +247,9 @@ pub record IsOpenEnd (may_read : ℕ → Type 0) (number : ℕ) (start finish : 
   pub is_end : IsUnsettledEnd end.reports.items answers lane place e
   pub caused : IsCausedEnd task.service may_read task p (race_of number start finish end.start) lane place e
 
--- The event that a status other than PASS and FAIL names: UNKNOWN that each end of an unsettled job is quiet, with the cause of each;
--- TIMEOUT a reading that shows the limit; ERROR a fault before the lanes, or the faulty end of an unsettled job, with its cause. Of want
--- of memory nothing is said.
+-- The event that a status other than PASS and FAIL names: UNKNOWN that each end of an unsettled job is Unknown or NotServed, with the cause
+-- of each; TIMEOUT a reading that shows the limit; ERROR a fault before the lanes, or the faulty end of an unsettled job, with its cause. Of
+-- want of memory nothing is said.
 abbrev pub IsEvent : (ℕ → Type 0) → ℕ → World → World → TaskOf → TaskEnd → Status → Type 0
 IsEvent may_read number start finish task end Pass = Unit {0}
 IsEvent may_read number start finish task end Fail = Unit {0}
@@ -258,7 +258,7 @@ IsEvent may_read number start finish task end Timeout =
     (judged : WasJudged may_read number start finish task end) × ((t : ℕ) × IsOpenEnd may_read number start finish task end judged.outcome.1.problem judged.answers (Stopped t))
 IsEvent may_read number start finish task end Unknown =
     (judged : WasJudged may_read number start finish task end) × ((lane place : ℕ) (e : JobEnd FindingOf) → IsUnsettledEnd end.reports.items judged.answers lane place e
-    → IsQuietEnd e × IsCausedEnd task.service may_read task judged.outcome.1.problem (race_of number start finish end.start) lane place e)
+    → IsLeftEnd e × IsCausedEnd task.service may_read task judged.outcome.1.problem (race_of number start finish end.start) lane place e)
 IsEvent may_read number start finish task end Error =
     ((early : Early) × (end.early ≡ Some early) × HasReason task (files_of start) (files_of finish) early)
     ⊎ ((judged : WasJudged may_read number start finish task end)

@@ -4,7 +4,9 @@ use Rattle.std.specs.List.{concat}
 use Rattle.sby_edge.specs.Cause.{Rose}
 use Rattle.sby_edge.specs.Sink.{AreAll}
 use Rattle.sby_edge.specs.Files.{Store}
-use Rattle.stream_judge.specs.Fate.{Fate, IsFate, Found, Unknown, Bad}
+use Rattle.kind_judge.specs.Fates.{IsFate}
+use Rattle.stream_judge.specs.Fate.{Fate, Found, Unknown, Bad}
+use Rattle.stream_judge.specs.declared.stream.StreamKind.{StreamKind}
 use Rattle.judge.specs.Finding.{FindingOf}
 use Rattle.judge.specs.Problem.{AskedOf, IsJobFile}
 use Rattle.judge.specs.declared.problem.ProblemFault.{ProblemFault}
@@ -31,6 +33,7 @@ use Rattle.sby_terms.specs.declared.names.Mode.TheVariants.{Bmc, Prove, Cover}
 use Rattle.sby_terms.specs.declared.names.Status.{Status}
 use Rattle.sby_terms.specs.declared.names.Status.TheVariants.{Pass, Fail, Error, Memory}
 use Rattle.sby_terms.specs.declared.names.Verdict.{Verdict}
+use Rattle.sby_words.specs.Kinds.{IsKindNamed}
 use Rattle.sby_lines.specs.Broken.{AreLinesOf, IsFirstBroken, broken_line, last_of}
 use Rattle.sby_lines.specs.Reached.{reached_line, unreached_line}
 use Rattle.sby_lines.specs.Lines.{HasLines, IsStatus}
@@ -162,14 +165,15 @@ fate_event (Some Unknown) = Quiet
 fate_event (Some (Bad kind at)) = Fault
 fate_event None = Quiet
 
--- the fates of the stored streams as certificates for the jobs' files, in the order of the jobs; none for a job without a stream, nor for
--- a stream that is left out
+-- the fates of the stored streams, each of the kind that its path names, as certificates for the jobs' files, in the order of the jobs;
+-- none for a job without a stream, nor for a stream that is left out
 abbrev pub AreFates : AskedOf → Store → List JobName → List (List ℕ) → List (Option Fate) → Type 0
 AreFates p store [] paths fates = fates ≡ []
 AreFates p store (job ∷ jobs) [] (None ∷ fates) = AreFates p store jobs [] fates
 AreFates p store (job ∷ jobs) (path ∷ paths) (None ∷ fates) = AreFates p store jobs paths fates
 AreFates p store (job ∷ jobs) (path ∷ paths) (Some fate ∷ fates) =
-    ((stream : List ℕ) × (file : List ℕ) × (store path ≡ Some stream) × IsJobFile p job file × IsFate file stream most_stream fate)
+    ((kind : StreamKind) × (stream : List ℕ) × (file : List ℕ) × IsKindNamed path kind × (store path ≡ Some stream) × IsJobFile p job file
+    × IsFate kind file stream most_stream fate)
     × AreFates p store jobs paths fates
 AreFates p store (job ∷ jobs) [] (Some fate ∷ fates) = ⊥
 AreFates p store (job ∷ jobs) paths [] = ⊥

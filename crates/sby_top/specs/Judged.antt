@@ -1,12 +1,14 @@
 -- How the jobs of a task end.
 use Rattle.std.specs.Prelude.{◌≡◌, ℕ, Bool, List, [], ◌∷◌, length, replicate, Option, Some, None, MatchOption}
 use Rattle.sby_edge.specs.Files.{Store}
-use Rattle.stream_judge.specs.Fate.{IsFate, Found as FoundFate, Unknown as UnknownFate, Bad as BadFate}
+use Rattle.kind_judge.specs.Fates.{IsFate}
+use Rattle.stream_judge.specs.Fate.{Found as FoundFate, Unknown as UnknownFate, Bad as BadFate}
 use Rattle.judge.specs.Finding.{FindingOf, IsTrueFinding}
 use Rattle.stream_judge.specs.Numbers.{number_of}
 use Rattle.judge.specs.Played.{IsStreamsRun}
 use Rattle.judge.specs.Problem.{AskedOf, IsJobFile}
 use Rattle.stream_judge.specs.declared.stream.CertKind.{CertKind}
+use Rattle.stream_judge.specs.declared.stream.StreamKind.{StreamKind}
 use Rattle.race_core.specs.Report.{ReportOf, no_events}
 use Rattle.race_core.specs.declared.end.JobEnd.{JobEnd}
 use Rattle.race_core.specs.declared.end.JobEnd.TheVariants.{Found, Unknown, NotServed, Bad, ReadFailed, StartFailed, HoldFailed, Skipped, CalledOff, Stopped, Memory}
@@ -15,6 +17,7 @@ use Rattle.sby_terms.specs.declared.names.Answer.TheVariants.{Sat}
 use Rattle.sby_terms.specs.declared.names.JobName.{JobName}
 use Rattle.sby_terms.specs.declared.names.JobName.TheVariants.{Step}
 use Rattle.sby_terms.specs.declared.engine.Engine.{Engine}
+use Rattle.sby_words.specs.Kinds.{IsKindNamed}
 use Rattle.sby_top.specs.Served.{jobs_in, most_stream}
 use Rattle.sby_top.specs.Task.{Lanes, Service, Streams, TaskOf}
 use Rattle.sby_top.specs.World.{RaceOf}
@@ -25,19 +28,19 @@ abbrev pub Has : Option Store → List ℕ → (List ℕ → Type 0) → Type 0
 Has None path P = (bytes : List ℕ) × P bytes
 Has (Some store) path P = MatchOption (store path) ⊥ P
 
--- the end of a job is its stream's fate, as a certificate for the job's file; or memory was wanting
-abbrev pub IsFateEnd : List ℕ → List ℕ → JobEnd FindingOf → Type 0
-IsFateEnd file stream (Found f) = IsFate file stream most_stream (FoundFate f.answer)
-IsFateEnd file stream Unknown = IsFate file stream most_stream UnknownFate
-IsFateEnd file stream (Bad number at) = (kind : CertKind) × (number ≡ number_of kind) × IsFate file stream most_stream (BadFate kind at)
-IsFateEnd file stream Memory = Unit {0}
-IsFateEnd file stream NotServed = ⊥
-IsFateEnd file stream ReadFailed = ⊥
-IsFateEnd file stream StartFailed = ⊥
-IsFateEnd file stream HoldFailed = ⊥
-IsFateEnd file stream (Skipped f) = ⊥
-IsFateEnd file stream (CalledOff f) = ⊥
-IsFateEnd file stream (Stopped reading) = ⊥
+-- the end of a job is the fate of its stream, which is of this kind, as a certificate for the job's file; or memory was wanting
+abbrev pub IsFateEnd : StreamKind → List ℕ → List ℕ → JobEnd FindingOf → Type 0
+IsFateEnd kind file stream (Found f) = IsFate kind file stream most_stream (FoundFate f.answer)
+IsFateEnd kind file stream Unknown = IsFate kind file stream most_stream UnknownFate
+IsFateEnd kind file stream (Bad number at) = (why : CertKind) × (number ≡ number_of why) × IsFate kind file stream most_stream (BadFate why at)
+IsFateEnd kind file stream Memory = Unit {0}
+IsFateEnd kind file stream NotServed = ⊥
+IsFateEnd kind file stream ReadFailed = ⊥
+IsFateEnd kind file stream StartFailed = ⊥
+IsFateEnd kind file stream HoldFailed = ⊥
+IsFateEnd kind file stream (Skipped f) = ⊥
+IsFateEnd kind file stream (CalledOff f) = ⊥
+IsFateEnd kind file stream (Stopped reading) = ⊥
 
 -- a finding is true, and is of this problem and job
 pub record IsFindingOf (p : AskedOf) (job : JobName) (f : FindingOf) : Type 0 where
@@ -59,28 +62,30 @@ IsEndOf p job (CalledOff f) = ⊥
 IsEndOf p job (Stopped reading) = ⊥
 
 -- a finding that Base or Cover can be solved has the run that is played from the values that the stream names
-abbrev pub HasStreamsRun : AskedOf → JobName → List ℕ → FindingOf → Type 0
-HasStreamsRun p job stream f =
-    f.answer ≡ Sat → (job ≡ Step → ⊥) → (ended : Bool) × (run : List CycleOf) × (f.run ≡ Some run) × IsStreamsRun p job ended stream most_stream run
+abbrev pub HasStreamsRun : AskedOf → JobName → StreamKind → List ℕ → FindingOf → Type 0
+HasStreamsRun p job kind stream f =
+    f.answer ≡ Sat → (job ≡ Step → ⊥) → (ended : Bool) × (run : List CycleOf) × (f.run ≡ Some run) × IsStreamsRun p job kind ended stream most_stream run
 
-abbrev pub EndsWithRun : AskedOf → JobName → List ℕ → JobEnd FindingOf → Type 0
-EndsWithRun p job stream (Found f) = HasStreamsRun p job stream f
-EndsWithRun p job stream Unknown = Unit {0}
-EndsWithRun p job stream NotServed = Unit {0}
-EndsWithRun p job stream (Bad number at) = Unit {0}
-EndsWithRun p job stream ReadFailed = Unit {0}
-EndsWithRun p job stream StartFailed = Unit {0}
-EndsWithRun p job stream HoldFailed = Unit {0}
-EndsWithRun p job stream (Skipped f) = Unit {0}
-EndsWithRun p job stream (CalledOff f) = Unit {0}
-EndsWithRun p job stream (Stopped reading) = Unit {0}
-EndsWithRun p job stream Memory = Unit {0}
+abbrev pub EndsWithRun : AskedOf → JobName → StreamKind → List ℕ → JobEnd FindingOf → Type 0
+EndsWithRun p job kind stream (Found f) = HasStreamsRun p job kind stream f
+EndsWithRun p job kind stream Unknown = Unit {0}
+EndsWithRun p job kind stream NotServed = Unit {0}
+EndsWithRun p job kind stream (Bad number at) = Unit {0}
+EndsWithRun p job kind stream ReadFailed = Unit {0}
+EndsWithRun p job kind stream StartFailed = Unit {0}
+EndsWithRun p job kind stream HoldFailed = Unit {0}
+EndsWithRun p job kind stream (Skipped f) = Unit {0}
+EndsWithRun p job kind stream (CalledOff f) = Unit {0}
+EndsWithRun p job kind stream (Stopped reading) = Unit {0}
+EndsWithRun p job kind stream Memory = Unit {0}
 
--- the stream at this path was judged
+-- the stream at this path was judged, by the kind that the path names
 pub record IsJudged (p : AskedOf) (told : Option Store) (job : JobName) (path : List ℕ) (end : JobEnd FindingOf) : Type 0 where
+  pub kind : StreamKind
+  pub named : IsKindNamed path kind
   pub of : IsEndOf p job end
-  pub fate : (file : List ℕ) → IsJobFile p job file → Has told path (λ stream. IsFateEnd file stream end)
-  pub run : Has told path (λ stream. EndsWithRun p job stream end)
+  pub fate : (file : List ℕ) → IsJobFile p job file → Has told path (λ stream. IsFateEnd kind file stream end)
+  pub run : Has told path (λ stream. EndsWithRun p job kind stream end)
 
 -- each job has an end, in the order of the jobs: its stream was judged, or it has none and isn't served
 abbrev pub AreJudged : AskedOf → Option Store → List JobName → List (List ℕ) → List (JobEnd FindingOf) → Type 0

@@ -12,3 +12,4 @@ pub mod Steps
 pub mod End
 pub mod Ending
 pub mod Claims
+pub mod Complete

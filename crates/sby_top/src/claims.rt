@@ -62,9 +62,9 @@ pub fn fail_of_cover_names_a_statement<C: Clock>(clock: &C)
         → IsNamedUnreached start finish task end }
 {}
 
-/// Each other status names its event. UNKNOWN: each end of a job without an answer tells no fault, nor that it was stopped, and has its
-/// cause. TIMEOUT: such an end was stopped by a reading of the clock that shows the limit. ERROR: a fault before the lanes, by its kind and
-/// place; or such an end is that of a stream which is no certificate, or of a call for a child that failed. Want of memory is free.
+/// Each other status names its event. UNKNOWN: each end of a job without an answer is Unknown or NotServed, and has its cause. TIMEOUT: such
+/// an end was stopped by a reading of the clock that shows the limit. ERROR: a fault before the lanes, by its kind and place; or such an end
+/// is that of a stream which is no certificate, or of a call for a child that failed. Want of memory is free.
 pub fn each_status_names_its_event<C: Clock>(clock: &C)
     ensures { (before start finish : World) (words : List (List ℕ)) (done : Done) (task : TaskOf) (end : TaskEnd) → (is : IsTaskOf (C.may_read clock.now) before words done start finish task end) → IsEvent (C.may_read clock.now) is.place start finish task end end.status }
 {}

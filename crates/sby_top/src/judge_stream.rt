@@ -1,15 +1,25 @@
 // A job's stream is judged.
 
-ghost use Rattle.std.specs.Prelude.{◌≡◌, ◌↔◌, [], IfOk, IsTrue, None, option_map};
+ghost use Rattle.std.specs.Prelude.{◌≡◌, ◌↔◌, [], IfOk, IsTrue, None};
 ghost use Rattle.judge.specs.Judging.{Took, fate_told};
 ghost use Rattle.judge.specs.Problem.{IsJob};
 ghost use Rattle.sby_top.specs.Steps.{end_of, IsBytesJudged, IsStreamJudged, IsTrueEnd, WasFed};
 
 use judge::{Finding, Judge, Problem, Progress};
+use kind_judge::fates_stay;
 use race_core::JobEnd;
 use sby_terms::{JobName, MAX_STREAM};
 use std::alloc::{AllocError, Global};
-use stream_judge::{BadCert, StreamKind, fates_stay};
+use stream_judge::{BadCert, StreamKind};
+
+/// A stored stream.
+#[derive(Drop)]
+pub struct Stream {
+    /// What its path names.
+    pub kind: StreamKind,
+    /// At most `MAX_STREAM + 1` bytes: it is cut behind them.
+    pub bytes: Vec<u8>,
+}
 
 fn is_more(answer: &Result<Progress, BadCert>) -> bool
     ensures { IsTrue result ↔ (fate_told answer.now ≡ None) }
@@ -54,29 +64,30 @@ fn judge_bytes(
     alloc: Global,
     problem: &Problem,
     job: JobName,
+    kind: StreamKind,
     bytes: &[u8],
 ) -> Result<JobEnd<Finding>, AllocError>
     requires { IsJob problem.now job }
-    ensures { IfOk result (λ end. IsBytesJudged problem.now job bytes.now end) }
+    ensures { IfOk result (λ end. IsBytesJudged problem.now job kind bytes.now end) }
 {
-    let mut judge = Judge::new(alloc, problem, job, StreamKind::Drup, MAX_STREAM)?;
+    let mut judge = Judge::new(alloc, problem, job, kind, MAX_STREAM)?;
     let answer = feed_all(&mut judge, bytes)?;
     Ok(end_of(answer))
 }
 
-/// The end of a job with this stream, or without one: by the stream's fate as a certificate for the job's file.
+/// The end of a job with this stream, or without one: by the fate of a stream of its kind as a certificate for the job's file.
 pub fn judge_job(
     alloc: Global,
     problem: &Problem,
     job: JobName,
-    stream: &Option<Vec<u8>>,
+    stream: &Option<Stream>,
 ) -> JobEnd<Finding>
     requires { IsJob problem.now job }
-    ensures { IsStreamJudged problem.now job (option_map (λ v. v.items) stream.now) result }
+    ensures { IsStreamJudged problem.now job stream.now result }
 {
     match stream {
         None => JobEnd::NotServed,
-        Some(bytes) => match judge_bytes(alloc, problem, job, bytes) {
+        Some(stream) => match judge_bytes(alloc, problem, job, stream.kind, &stream.bytes) {
             Ok(end) => end,
             Err(AllocError) => JobEnd::Memory,
         },

@@ -1,10 +1,13 @@
 // Laws of what is promised of designs and stored certificates. Each stands over the definitions, and its body is empty but for the laws of
 // the judge that it cites.
 
-ghost use Rattle.std.specs.Prelude.{◌≡◌, ◌≢◌, ◌⊎◌, ◌<◌, ◌≤◌, [], ◌∷◌, ◌++◌, ℕ, true, List, None, length, slice_get, Some};
+ghost use Rattle.std.specs.Prelude.{◌≡◌, ◌≢◌, ◌⊎◌, ◌+◌, ◌<◌, ◌≤◌, [], ◌∷◌, ◌++◌, ℕ, true, List, None, Option, length, map, slice_get, take, Some};
 ghost use Rattle.cert_stream.specs.Text.{is_blank};
 ghost use Rattle.stream_judge.specs.Cert.{IsCert};
-ghost use Rattle.stream_judge.specs.Fate.{Found, IsFate};
+ghost use Rattle.kind_judge.specs.Fates.{IsFate};
+ghost use Rattle.stream_judge.specs.Fate.{Fate, Found};
+ghost use Rattle.stream_judge.specs.declared.stream.StreamKind.{StreamKind};
+ghost use Rattle.stream_judge.specs.declared.stream.StreamKind.TheVariants.{Drup};
 ghost use Rattle.design_core.specs.Shape.{DesignOf};
 ghost use Rattle.design_reader.specs.Grammar.{Reads};
 ghost use Rattle.judge.specs.Fault.{IsProblemFault};
@@ -13,31 +16,35 @@ ghost use Rattle.judge.specs.declared.problem.ProblemFault.{ProblemFault};
 ghost use Rattle.sby_edge.specs.Child.{up_to};
 ghost use Rattle.sby_edge.specs.Files.{Store};
 ghost use Rattle.sby_edge.specs.Script.{ScriptOf};
-ghost use Rattle.lane_judge.specs.Serving.{IsServing};
+ghost use Rattle.lane_judge.specs.Serving.{IsServing, evidence_at};
+ghost use Rattle.sby_terms.specs.Decide.{Decides};
 ghost use Rattle.sby_terms.specs.Path.{job_path};
 ghost use Rattle.sby_terms.specs.Span.{slices_of};
+ghost use Rattle.sby_terms.specs.Status.{HasStatus};
 ghost use Rattle.sby_terms.specs.declared.engine.Engine.{Engine};
 ghost use Rattle.sby_terms.specs.declared.names.Answer.{Answer};
 ghost use Rattle.sby_terms.specs.declared.names.JobName.TheVariants.{Base};
 ghost use Rattle.sby_terms.specs.declared.names.Mode.TheVariants.{Bmc};
+ghost use Rattle.sby_terms.specs.declared.names.Status.{Status};
 ghost use Rattle.sby_terms.specs.declared.names.Status.TheVariants.{Memory};
+ghost use Rattle.sby_terms.specs.declared.names.Verdict.{Verdict};
+ghost use Rattle.sby_words.specs.Kinds.{IsKindNamed};
 ghost use Rattle.sby_words.specs.Requests.{JudgeRequest};
 ghost use Rattle.sby_top.specs.Claims.{IsInTime, IsJudgedAt, IsTaskOf, status_for};
-ghost use Rattle.sby_top.specs.Headline.{IsSmooth};
-ghost use Rattle.sby_top.specs.Served.{IsTextOf, most_stream};
+ghost use Rattle.sby_top.specs.Complete.{IsByLook, IsPlainLanesStatus, IsUndisturbed, IsVerdictStatus};
+ghost use Rattle.sby_top.specs.Headline.{AreFates, AreWhole, IsSmooth, fate_answer};
+ghost use Rattle.sby_top.specs.Served.{IsTextOf, jobs_in as jobs_asked, most_stream};
 ghost use Rattle.sby_top.specs.Task.{Lanes, TaskOf, problem_of, streams_in};
 ghost use Rattle.sby_top.specs.Turns.{judge_task};
 ghost use Rattle.sby_top.specs.World.{World};
 ghost use Rattle.sby_top.specs.declared.outcome.Done.{Done};
 ghost use Rattle.sby_top.specs.declared.outcome.TaskEnd.{TaskEnd};
-ghost use Rattle.task_race.specs.Ends.{script_of};
+ghost use Rattle.task_race.specs.Ends.{IsFateOf, script_of};
 
 use judge::{files_tell_what_jobs_ask, findings_tell_what_can_be_solved, one_file};
+use kind_judge::one_fate;
 use sby_edge::Clock;
-use stream_judge::{
-    certificate_is_found, certificate_is_found_before_more, found_sat_is_satisfiable,
-    found_unsat_is_unsatisfiable, one_fate,
-};
+use stream_judge::{certificate_is_found, certificate_is_found_before_more};
 
 /// A design that is not refused is judged: over a store that tells, where no call failed and memory was not wanting, and where there is a
 /// job for each stream, the task comes to its lanes, and there is a store at which it was judged; of `--judge` in bmc where there is one
@@ -54,26 +61,38 @@ pub fn accepted_design_is_judged<C: Clock>(clock: &C)
 {}
 
 /// A valid certificate gives its verdict, PASS for Unsat and FAIL for Sat: of `--judge` in bmc, where memory was not wanting, and the one
-/// stream is a certificate for this answer of the job's file, as both stand when the task is judged.
+/// stream, of the kind that its path names, is a certificate for this answer of the job's file, as both stand when the task is judged.
 pub fn valid_certificate_gives_its_verdict<C: Clock>(clock: &C)
-    ensures { (before start finish : World) (words : List (List ℕ)) (done : Done) (j : JudgeRequest) (end : TaskEnd) (now : Store) (path stream file : List ℕ) (answer : Answer)
+    ensures { (before start finish : World) (words : List (List ℕ)) (done : Done) (j : JudgeRequest) (end : TaskEnd) (now : Store) (path stream file : List ℕ) (kind : StreamKind) (answer : Answer)
         → (is : IsTaskOf (C.may_read clock.now) before words done start finish (judge_task j) end) → IsJudgedAt (C.may_read clock.now) is.place start finish (judge_task j) end now → j.mode ≡ Bmc → end.status ≢ Memory
-        → j.streams ≡ path ∷ [] → now path ≡ Some stream → now (job_path j.folder 1 (Base 0)) ≡ Some file → IsFate file stream most_stream (Found answer) → end.status ≡ status_for answer }
+        → j.streams ≡ path ∷ [] → IsKindNamed path kind → now path ≡ Some stream → now (job_path j.folder 1 (Base 0)) ≡ Some file → IsFate kind file stream most_stream (Found answer) → end.status ≡ status_for answer }
 {
     one_fate();
     one_file();
 }
 
-/// A stored certificate gives its verdict: of `--judge` in bmc, where memory was not wanting, and the one stream is a certificate of the
-/// job's file, of at most 2^32 bytes, as both stand when the task is judged; or where it goes on behind one, with white space or a line
-/// feed within these bytes and whatever comes then.
+/// Valid certificates give their verdict, in every mode: of `--judge`, where memory was not wanting, and each stream is there, with its fate, as
+/// one of the kind that its path names, for its job's file, as both stand when the task is judged: where the answers of these fates decide a
+/// verdict, the status is that verdict's.
+pub fn valid_certificates_give_their_verdict<C: Clock>(clock: &C)
+    ensures { (before start finish : World) (words : List (List ℕ)) (done : Done) (j : JudgeRequest) (end : TaskEnd) (now : Store) (fates : List (Option Fate)) (verdict : Verdict)
+        → (is : IsTaskOf (C.may_read clock.now) before words done start finish (judge_task j) end) → (judged : IsJudgedAt (C.may_read clock.now) is.place start finish (judge_task j) end now) → end.status ≢ Memory
+        → AreFates judged.done.problem now (jobs_asked judged.done.problem) j.streams fates → AreWhole j.streams fates → Decides j.mode (map fate_answer fates) verdict → HasStatus (Some verdict) [] end.status }
+{
+    one_fate();
+    one_file();
+}
+
+/// A stored certificate in DRUP text gives its verdict: of `--judge` in bmc, where memory was not wanting, and the one stream, whose path
+/// names no other kind, is a certificate of the job's file, of at most 2^32 bytes, as both stand when the task is judged; or where it goes on
+/// behind one, with white space or a line feed within these bytes and whatever comes then.
 pub fn stored_certificate_gives_its_verdict<C: Clock>(clock: &C)
     ensures alone { (before start finish : World) (words : List (List ℕ)) (done : Done) (j : JudgeRequest) (end : TaskEnd) (now : Store) (path cert file : List ℕ) (answer : Answer)
         → (is : IsTaskOf (C.may_read clock.now) before words done start finish (judge_task j) end) → IsJudgedAt (C.may_read clock.now) is.place start finish (judge_task j) end now → j.mode ≡ Bmc → end.status ≢ Memory
-        → j.streams ≡ path ∷ [] → now path ≡ Some cert → now (job_path j.folder 1 (Base 0)) ≡ Some file → IsCert file cert answer → length cert ≤ most_stream → end.status ≡ status_for answer }
+        → j.streams ≡ path ∷ [] → IsKindNamed path Drup → now path ≡ Some cert → now (job_path j.folder 1 (Base 0)) ≡ Some file → IsCert file cert answer → length cert ≤ most_stream → end.status ≡ status_for answer }
     ensures followed { (before start finish : World) (words : List (List ℕ)) (done : Done) (j : JudgeRequest) (end : TaskEnd) (now : Store) (path cert rest file : List ℕ) (b : ℕ) (answer : Answer)
         → (is : IsTaskOf (C.may_read clock.now) before words done start finish (judge_task j) end) → IsJudgedAt (C.may_read clock.now) is.place start finish (judge_task j) end now → j.mode ≡ Bmc → end.status ≢ Memory
-        → j.streams ≡ path ∷ [] → now path ≡ Some (cert ++ b ∷ rest) → now (job_path j.folder 1 (Base 0)) ≡ Some file
+        → j.streams ≡ path ∷ [] → IsKindNamed path Drup → now path ≡ Some (cert ++ b ∷ rest) → now (job_path j.folder 1 (Base 0)) ≡ Some file
         → IsCert file cert answer → (is_blank b ≡ true) ⊎ (b ≡ 10) → length cert < most_stream → end.status ≡ status_for answer }
 {
     one_fate();
@@ -83,19 +102,35 @@ pub fn stored_certificate_gives_its_verdict<C: Clock>(clock: &C)
 }
 
 /// A valid certificate of a child, judged in time, gives its verdict, PASS for Unsat and FAIL for Sat: of bmc of one slice, where the script
-/// of a lane's child is told and has no gate, the lane's engine serves jobs, and what the child writes, up to its stall, is a certificate for
-/// this answer of the job's file, as it stands when the task is judged. Else memory was wanting; a reading of the clock showed the limit, with
-/// TIMEOUT; or a call for a child failed, with ERROR.
+/// of a lane's child is told and has no gate, the lane's engine serves jobs, and what the child leaves is a certificate for this answer of the
+/// job's file, as it stands when the task is judged: what it writes, up to its stall; or, where the engine's kind is such and that comes to
+/// nothing, its proof file. Else memory was wanting; a reading of the clock showed the limit, with TIMEOUT; or a call for a child failed, with
+/// ERROR.
 pub fn valid_child_gives_its_verdict<C: Clock>(clock: &C)
     ensures { (before start finish : World) (words : List (List ℕ)) (done : Done) (task : TaskOf) (end : TaskEnd) (engines : List Engine) (lane : ℕ) (script : ScriptOf) (now : Store) (file : List ℕ) (answer : Answer)
         → (is : IsTaskOf (C.may_read clock.now) before words done start finish task end) → IsJudgedAt (C.may_read clock.now) is.place start finish task end now
         → task.request.mode ≡ Bmc → slices_of task.request.span ≡ 1 → task.service ≡ Lanes engines → IsServing (slice_get engines lane)
         → script_of start.scripts is.place lane (Base 0) ≡ Some script → script.gate ≡ None
-        → now (job_path task.request.name 1 (Base 0)) ≡ Some file → IsFate file (up_to script.stalls script.bytes) most_stream (Found answer)
+        → now (job_path task.request.name 1 (Base 0)) ≡ Some file → IsFateOf (evidence_at (slice_get engines lane)) file (up_to script.stalls script.bytes) (take (most_stream + 1) script.proof) (Found answer)
         → IsInTime (C.may_read clock.now) start finish task end (status_for answer) }
 {
     files_tell_what_jobs_ask();
     findings_tell_what_can_be_solved();
-    found_sat_is_satisfiable();
-    found_unsat_is_unsatisfiable();
+}
+
+/// Lanes that nothing disturbed give Plain's status, which goes by the scripts and the engine lines alone: always where that is a verdict; else
+/// so, or some job's finding came by a look, while no lane's end of that job is Found. Nothing disturbs them where the yard tells its scripts
+/// and the task's have no gates, no call for a child failed, there is no timeout or no two readings that the clock may give are the limit
+/// apart, and memory was not wanting.
+pub fn undisturbed_lanes_give_the_plain_status<C: Clock>(clock: &C)
+    ensures verdict { (before start finish : World) (words : List (List ℕ)) (done : Done) (task : TaskOf) (end : TaskEnd) (engines : List Engine) (now : Store) (status : Status)
+        → (is : IsTaskOf (C.may_read clock.now) before words done start finish task end) → (judged : IsJudgedAt (C.may_read clock.now) is.place start finish task end now) → task.service ≡ Lanes engines
+        → IsUndisturbed (C.may_read clock.now) is.place start finish task end → IsPlainLanesStatus start task judged.done.problem is.place engines status → IsVerdictStatus status → end.status ≡ status }
+    ensures other { (before start finish : World) (words : List (List ℕ)) (done : Done) (task : TaskOf) (end : TaskEnd) (engines : List Engine) (now : Store) (status : Status)
+        → (is : IsTaskOf (C.may_read clock.now) before words done start finish task end) → (judged : IsJudgedAt (C.may_read clock.now) is.place start finish task end now) → task.service ≡ Lanes engines
+        → IsUndisturbed (C.may_read clock.now) is.place start finish task end → IsPlainLanesStatus start task judged.done.problem is.place engines status
+        → (end.status ≡ status) ⊎ IsByLook task.request.mode end.reports.items }
+{
+    files_tell_what_jobs_ask();
+    findings_tell_what_can_be_solved();
 }

@@ -20,7 +20,8 @@ pub use claims::{
 };
 pub use laws::{
     accepted_design_is_judged, stored_certificate_gives_its_verdict,
-    valid_certificate_gives_its_verdict, valid_child_gives_its_verdict,
+    undisturbed_lanes_give_the_plain_status, valid_certificate_gives_its_verdict,
+    valid_certificates_give_their_verdict, valid_child_gives_its_verdict,
 };
 pub use outcome::{Done, TaskEnd};
 pub use top::run_sby;

@@ -6,9 +6,9 @@ ghost use Rattle.sby_edge.specs.Cause.{Rose};
 ghost use Rattle.sby_terms.specs.Span.{slices_of};
 ghost use Rattle.sby_terms.specs.declared.names.Status.{Status as StatusOf};
 ghost use Rattle.sby_terms.specs.declared.names.Status.TheVariants.{Memory as MemoryStatus};
-ghost use Rattle.sby_lines.specs.Lines.{HasJobLines, IsStatus, done_line, unput_lines};
+ghost use Rattle.sby_lines.specs.Lines.{HasJobLines, done_line, unput_lines};
 ghost use Rattle.sby_lines.specs.Telling.{Tells};
-ghost use Rattle.sby_lines.specs.Told.{AreLimited, AreReported, CameTo, IsCollected, Request, asked_by, came};
+ghost use Rattle.sby_lines.specs.Told.{AreLimited, AreReported, IsCollected, Request, asked_by, came};
 ghost use Rattle.sby_top.specs.Causes.{AreTracesPut};
 ghost use Rattle.sby_top.specs.End.{AreShownPut, IsEnd, IsFaultTold, ended, exit_seen};
 ghost use Rattle.sby_top.specs.Headline.{AreLines, HasOwnStatus, IsPrinted, TaskRan};
@@ -25,8 +25,8 @@ use crate::traces::{Shown, put_traces, shown_runs};
 use judge::{Text, base_and_step_show_that_nothing_breaks, slices_show_that_nothing_breaks};
 use sby_edge::{Clock, Files, Sink, Yard};
 use sby_lines::{
-    Early, Heading, Stop, fail_shows_its_run, job_lines_exist, settled_statement_is_shown,
-    tell_done, tell_early, tell_jobs, tell_unput,
+    Early, Heading, Stop, early_status, fail_shows_its_run, job_lines_exist,
+    settled_statement_is_shown, tell_done, tell_early, tell_jobs, tell_unput,
 };
 use sby_terms::{Expect, Status, rc_of};
 use std::alloc::Global;
@@ -51,22 +51,6 @@ fn heading(task: &Task) -> Heading<'_>
         mode: task.mode,
         span: task.span,
         limit: task.limit,
-    }
-}
-
-// The status of a task with a fault before its lanes.
-fn early_status(early: &Early) -> Status
-    ensures { (request : Request) (c : CameTo) → IsStatus request (Some early.now) c result }
-{
-    match early {
-        Early::Memory => Status::Memory,
-        Early::File(_)
-        | Early::Sby(_)
-        | Early::Task(_)
-        | Early::Read(_)
-        | Early::Design(_)
-        | Early::TooMany(_)
-        | Early::Streams => Status::Error,
     }
 }
 

@@ -18,13 +18,14 @@ ghost use Rattle.sby_top.specs.Task.{IsAskable, problem_of, design_seen, service
 ghost use Rattle.task_race.specs.Bays.{AreLater, counts_at};
 ghost use Rattle.task_race.specs.Ran.{LanesRan};
 
-use crate::judge_stream::judge_job;
+use crate::judge_stream::{Stream, judge_job};
 use crate::task::{DesignAt, Service, Task};
 use judge::{Finding, Problem, ProblemFault};
 use race_core::{JobEnd, Report};
 use sby_edge::{Clock, Fail, Files, Got, Yard};
 use sby_lines::{Collected, Early};
 use sby_terms::{Engine, JobName, MAX_STREAM, job_path};
+use sby_words::stream_kind;
 use std::alloc::Global;
 use std::sync::Wait;
 use std::thread::Threads;
@@ -227,8 +228,8 @@ fn get_stream<F: Files>(
     alloc: Global,
     files: &mut F,
     path: Option<&String>,
-) -> Result<Option<Vec<u8>>, Early>
-    ensures ok { IfOk result (λ stream. IsStreamGot (F.told files.old) (option_map (λ s. string_bytes s.now) path.entry) (option_map (λ v. v.items) stream)) }
+) -> Result<Option<Stream>, Early>
+    ensures ok { IfOk result (λ stream. IsStreamGot (F.told files.old) (option_map (λ s. string_bytes s.now) path.entry) stream) }
     ensures err { IfErr result (λ early. (at : List ℕ) × (option_map (λ s. string_bytes s.now) path.entry ≡ Some at)
         × IsFailedCall (files_at (F.told files.old) (F.faults files.old) (F.blamed files.old)) (files_at (F.told files.new) (F.faults files.new) (F.blamed files.new)) at early) }
     ensures told { F.told files.new ≡ F.told files.old }
@@ -239,7 +240,8 @@ fn get_stream<F: Files>(
     match path {
         Some(path) => {
             let bytes = get(alloc, files, path.as_str(), MAX_STREAM)?;
-            Ok(Some(bytes))
+            let kind = stream_kind(path.as_str());
+            Ok(Some(Stream { kind, bytes }))
         }
         None => Ok(None),
     }

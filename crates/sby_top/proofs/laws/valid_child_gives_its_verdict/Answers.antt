@@ -1,13 +1,12 @@
-use Rattle.sby_top.proofs.ChildLemmas.{FateLaws, child_gives}
+use Rattle.sby_top.proofs.ChildLemmas.{child_gives}
+use Rattle.sby_top.proofs.EvidenceLemmas.{FileLaws}
 use Rattle.sby_top.proofs.laws.valid_child_gives_its_verdict.Goals as goal
 
 pub returns : goal.returns
 returns g c = λ before start finish words done task end engines lane script now file answer is judged bmc one service serving script_is none stands valid.
-    let laws : FateLaws = record {
+    let laws : FileLaws = record {
       solvable = c.files_tell_what_jobs_ask.ensures.solvable;
       sat = c.findings_tell_what_can_be_solved.ensures.sat;
       unsat = c.findings_tell_what_can_be_solved.ensures.unsat;
-      satisfiable = c.found_sat_is_satisfiable.ensures;
-      unsatisfiable = c.found_unsat_is_unsatisfiable.ensures;
     } in
     child_gives laws (g.C.Clock.may_read c.args.clock.now) is.place start finish task end is.exit engines lane script now file answer is.ran judged bmc one service serving script_is none stands valid

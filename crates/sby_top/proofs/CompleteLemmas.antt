@@ -1,0 +1,227 @@
+-- Lanes that nothing disturbed come to Plain's status.
+use Rattle.std.proofs.Common.{◌≡◌, ℕ, zero, suc, ◌<◌, List, [], ◌∷◌, refl, ap, sym, ◌∙◌, subst, inl, inr, ◌⊎◌, length, arith}
+use Rattle.std.specs.Prelude.{Contains, IsSome, Option, Some, None, slice_get}
+use Rattle.sby_edge.specs.Child.{YardOf}
+use Rattle.sby_edge.specs.Files.{Store}
+use Rattle.sby_edge.specs.Script.{ScriptOf}
+use Rattle.stream_judge.specs.Fate.{Fate, Found as FoundFate, Unknown as UnknownFate, Bad as BadFate}
+use Rattle.judge.specs.Finding.{FindingOf}
+use Rattle.judge.specs.Jobs.{jobs_in as jobs_of_mode}
+use Rattle.judge.specs.Problem.{AskedOf, IsJobFile}
+use Rattle.race_core.specs.Asking.{name_at}
+use Rattle.race_core.specs.Carrying.{Carries}
+use Rattle.race_core.specs.Collect.{SettledIn}
+use Rattle.race_core.specs.Consistent.{end_at}
+use Rattle.race_core.specs.Report.{ReportOf}
+use Rattle.race_core.specs.Told.{told_by}
+use Rattle.race_core.specs.declared.end.JobEnd.{JobEnd}
+use Rattle.race_core.specs.declared.end.JobEnd.TheVariants.{Found, Unknown, NotServed, Bad, ReadFailed, StartFailed, HoldFailed, Skipped, CalledOff, Stopped, Memory as MemoryEnd}
+use Rattle.lane_judge.specs.Serving.{IsServing}
+use Rattle.sby_terms.specs.Problem.{ProblemOf}
+use Rattle.sby_terms.specs.declared.engine.Engine.{Engine}
+use Rattle.sby_terms.specs.declared.names.JobName.{JobName}
+use Rattle.sby_terms.specs.declared.names.Status.{Status}
+use Rattle.sby_lines.specs.Lines.{IsStatus}
+use Rattle.sby_lines.specs.Told.{AreReported, IsRaceStatus, job_of}
+use Rattle.sby_lines.proofs.PlaceLemmas.{at_contains, job_named}
+use Rattle.task_race.specs.Ends.{HasEndCause, IsEndOfFate, script_of}
+use Rattle.task_race.specs.Ran.{LanesRan}
+use Rattle.task_race.proofs.EndLemmas.{end_cause}
+use Rattle.task_race.proofs.FateLemmas.{end_of_fate}
+use Rattle.sby_top.specs.Claims.{IsJudgedAt}
+use Rattle.sby_top.specs.Complete.{ArePlain, IsByLook, IsPlainEnd, IsUndisturbed, IsVerdictStatus, PassesOn}
+use Rattle.sby_top.specs.Headline.{Exit, TaskRan, fate_answer, fate_event}
+use Rattle.sby_top.specs.Judged.{AreReports, racing_of}
+use Rattle.sby_top.specs.Served.{ArePut, jobs_in}
+use Rattle.sby_top.specs.Task.{Lanes, TaskOf}
+use Rattle.sby_top.specs.World.{World, files_of, race_of}
+use Rattle.sby_top.specs.declared.outcome.TaskEnd.{TaskEnd}
+use Rattle.sby_top.proofs.AnswerLemmas.{IsPlace, Spares, calling_spares, skipping_spares}
+use Rattle.sby_top.proofs.EvidenceLemmas.{FileLaws, answers_agree, judged_job, judged_says, plain_fate}
+use Rattle.sby_top.proofs.MatchLemmas.{AreMatched, Matches, plain_or_look, plain_verdict}
+use Rattle.sby_top.proofs.OpenLemmas.{is_place}
+use Rattle.sby_top.proofs.PlainLemmas.{end_answer}
+use Rattle.sby_top.proofs.ReportLemmas.{job_count as own_count, reported}
+use Rattle.sby_top.proofs.TruthLemmas.{own_design}
+
+-- the file that was put for a job
+file_put : (p : AskedOf) (folder : List ℕ) (jobs : List JobName) (before after : Option Store) → ArePut p folder jobs before after → (k : ℕ) (job : JobName) → slice_get jobs k ≡ Some job → (file : List ℕ) × IsJobFile p job file
+file_put p folder [] before after put k job at = let none : None ≡ Some job = at in cc
+file_put p folder (j ∷ jobs) before after put zero job at = let same : j ≡ job = cc in (put.0, subst (λ x. IsJobFile p x put.0) same put.1)
+file_put p folder (j ∷ jobs) before after put (suc k) job at = file_put p folder jobs _ after put.2 k job at
+
+-- an end by a fate says what the fate says
+module _ (fate : Fate) where
+  found_says : (f : FindingOf) → IsEndOfFate fate (Found f) → (end_answer (Found f) ≡ fate_answer (Some fate)) × (told_by (Found f) ≡ fate_event (Some fate))
+  found_says f is = let same : FoundFate f.answer ≡ fate = sym is in subst (λ x. (end_answer (Found f) ≡ fate_answer (Some x)) × (told_by (Found f) ≡ fate_event (Some x))) same (refl, refl)
+
+  unknown_says : IsEndOfFate fate Unknown → (end_answer Unknown ≡ fate_answer (Some fate)) × (told_by {T = FindingOf} Unknown ≡ fate_event (Some fate))
+  unknown_says is = let same : UnknownFate ≡ fate = sym is in subst (λ x. (end_answer Unknown ≡ fate_answer (Some x)) × (told_by {T = FindingOf} Unknown ≡ fate_event (Some x))) same (refl, refl)
+
+  bad_says : (number at : ℕ) → IsEndOfFate fate (Bad number at) → (end_answer (Bad number at) ≡ fate_answer (Some fate)) × (told_by {T = FindingOf} (Bad number at) ≡ fate_event (Some fate))
+  bad_says number at is =
+      let same : BadFate is.0 at ≡ fate = sym is.2 in
+      subst (λ x. (end_answer (Bad number at) ≡ fate_answer (Some x)) × (told_by {T = FindingOf} (Bad number at) ≡ fate_event (Some x))) same (refl, refl)
+
+module _ (laws : FileLaws) (may_read : ℕ → Type 0) (number : ℕ) (start finish : World) (task : TaskOf) (end : TaskEnd) (exit : Exit) (engines : List Engine) (now : Store)
+    (ran : TaskRan may_read number start finish task end exit) (judged : IsJudgedAt may_read number start finish task end now) (service : task.service ≡ Lanes engines)
+    (calm : IsUndisturbed may_read number start finish task end) (plain : List (ReportOf FindingOf)) (are_plain : ArePlain (racing_of task judged.done.problem number engines) start.scripts plain) where
+  lanes_ran : LanesRan (racing_of task judged.done.problem number engines) may_read start.scripts start.children finish.children end.start end.reports.items
+  lanes_ran = subst (λ s. AreReports s may_read task judged.done.problem judged.middle.told (race_of number start finish end.start) end.reports.items) service judged.done.reports_are
+
+  mode_is : judged.done.problem.problem.mode ≡ task.request.mode
+  mode_is = ap (λ (q : ProblemOf). q.mode) judged.done.served.0.asked
+
+  count : length (jobs_in judged.done.problem) ≡ length (jobs_of_mode task.request.mode task.request.span judged.done.problem.design)
+  count = own_count (files_of start).told task judged.done.problem judged.done.served.0
+
+  are_reported : AreReported task.request.mode task.request.span judged.done.problem.design end.reports.items
+  are_reported = reported may_read (files_of start).told judged.middle.told task judged.done.problem (race_of number start finish end.start) task.service end.reports.items judged.done.served.0 judged.done.reports_are
+
+  -- of one job of one lane
+  module _ (lane k : ℕ) (lt : k < length (jobs_in judged.done.problem)) where
+    own_file : (file : List ℕ) × IsJobFile judged.done.problem (name_at judged.done.problem.problem.mode k) file
+    own_file =
+        file_put judged.done.problem task.request.name (jobs_in judged.done.problem) (files_of start).told judged.middle.told judged.done.put k (name_at judged.done.problem.problem.mode k)
+        (job_named judged.done.problem.problem.mode judged.done.problem.problem.span judged.done.problem.design k lt)
+
+    place : IsPlace judged.done.problem.problem.mode k
+    place = is_place judged.done.problem.problem.mode judged.done.problem.problem.span judged.done.problem.design k lt
+
+    own_cause : (r : ReportOf FindingOf) → slice_get end.reports.items lane ≡ Some r
+        → HasEndCause (racing_of task judged.done.problem number engines) may_read start.scripts start.children finish.children end.start lane (name_at judged.done.problem.problem.mode k) (end_at r k)
+    own_cause r at = end_cause (racing_of task judged.done.problem number engines) may_read start.scripts start.children finish.children end.start end.reports.items lanes_ran lane k r at lt (end_at r k) refl
+
+    -- an end whose job's fate is known says it, or passes on a finding
+    by_fate : (r : ReportOf FindingOf) → Contains end.reports.items r → (fate : Fate) (e : JobEnd FindingOf) → end_at r k ≡ e
+        → HasEndCause (racing_of task judged.done.problem number engines) may_read start.scripts start.children finish.children end.start lane (name_at judged.done.problem.problem.mode k) e → IsEndOfFate fate e
+        → ((end_answer e ≡ fate_answer (Some fate)) × (told_by e ≡ fate_event (Some fate))) ⊎ ((f : FindingOf) × PassesOn e f × Spares judged.done.problem.problem.mode k f.job f.answer)
+    by_fate r among fate (Found f) is cause of = inl (found_says fate f of)
+    by_fate r among fate Unknown is cause of = inl (unknown_says fate of)
+    by_fate r among fate (Bad kind at) is cause of = inl (bad_says fate kind at of)
+    by_fate r among fate NotServed is cause of = absurd of
+    by_fate r among fate ReadFailed is cause of = absurd (calm.calls (inr (inl cause)))
+    by_fate r among fate StartFailed is cause of = absurd (calm.calls (inl cause))
+    by_fate r among fate HoldFailed is cause of = absurd (calm.calls (inr (inr cause)))
+    by_fate r among fate (Skipped f) is cause of = inr (f, (refl, λ g no. cc), skipping_spares judged.done.problem.problem.mode k f.job f.answer place cause.2)
+    by_fate r among fate (CalledOff f) is cause of = inr (f, (refl, λ g no. cc), calling_spares judged.done.problem.problem.mode k f.job f.answer place cause.2)
+    by_fate r among fate (Stopped t) is cause of = absurd (calm.in_time cause.begun t cause.millis cause.limit_is cause.may_start cause.may_stop cause.shows.0 cause.shows.1)
+    by_fate r among fate MemoryEnd is cause of = absurd (calm.lanes_memory r k among is)
+
+    -- an end of a job that isn't served says so, or passes on a finding
+    unserved : (e : JobEnd FindingOf) → (IsServing (slice_get engines lane) → ⊥) → (r : ReportOf FindingOf) → Contains end.reports.items r → end_at r k ≡ e
+        → HasEndCause (racing_of task judged.done.problem number engines) may_read start.scripts start.children finish.children end.start lane (name_at judged.done.problem.problem.mode k) e
+        → ((end_answer NotServed ≡ end_answer e) × (told_by {T = FindingOf} NotServed ≡ told_by e)) ⊎ ((f : FindingOf) × PassesOn e f × Spares judged.done.problem.problem.mode k f.job f.answer)
+    unserved NotServed apart r among is cause = inl (refl, refl)
+    unserved (Found f) apart r among is cause = absurd (apart cause.0.0)
+    unserved Unknown apart r among is cause = absurd (apart cause.0.0)
+    unserved (Bad kind at) apart r among is cause = absurd (apart cause.0.0)
+    unserved ReadFailed apart r among is cause = absurd (calm.calls (inr (inl cause)))
+    unserved StartFailed apart r among is cause = absurd (calm.calls (inl cause))
+    unserved HoldFailed apart r among is cause = absurd (calm.calls (inr (inr cause)))
+    unserved (Skipped f) apart r among is cause = inr (f, (refl, λ g no. cc), skipping_spares judged.done.problem.problem.mode k f.job f.answer place cause.2)
+    unserved (CalledOff f) apart r among is cause = inr (f, (refl, λ g no. cc), calling_spares judged.done.problem.problem.mode k f.job f.answer place cause.2)
+    unserved (Stopped t) apart r among is cause = absurd (calm.in_time cause.begun t cause.millis cause.limit_is cause.may_start cause.may_stop cause.shows.0 cause.shows.1)
+    unserved MemoryEnd apart r among is cause = absurd (calm.lanes_memory r k among is)
+
+    -- the script of the lane's job
+    own_script : (o : Option YardOf) → start.scripts ≡ o → IsSome o → (script : ScriptOf) × (script_of start.scripts number lane (name_at judged.done.problem.problem.mode k) ≡ Some script)
+    own_script None is some = absurd (cc)
+    own_script (Some scripts) is some = (scripts number lane (name_at judged.done.problem.problem.mode k), ap (λ (x : Option YardOf). script_of x number lane (name_at judged.done.problem.problem.mode k)) is)
+
+    -- the end matches Plain's
+    matches : (q r : ReportOf FindingOf) → slice_get plain lane ≡ Some q → slice_get end.reports.items lane ≡ Some r → Matches judged.done.problem.problem.mode k (end_at q k) (end_at r k)
+    matches q r at_q at_r =
+        let among = at_contains end.reports.items lane r at_r in
+        let script = own_script start.scripts refl calm.told in
+        let free = calm.ungated lane (name_at judged.done.problem.problem.mode k) script.0 script.1 in
+        let file = own_file in
+        let own = (are_plain.each lane q at_q).1 k lt in
+        elim (plain_fate (racing_of task judged.done.problem number engines) start.scripts lane (name_at judged.done.problem.problem.mode k) script.0 file.0 script.1 free file.1 (end_at q k) own) [
+          | inl none ↦ subst (λ (e : JobEnd FindingOf). Matches judged.done.problem.problem.mode k e (end_at r k)) (sym none.0) (unserved (end_at r k) none.1 r among refl (own_cause r at_r))
+          | inr served ↦
+              let fate = served.1.0 in
+              let of = end_of_fate (racing_of task judged.done.problem number engines) may_read start.scripts start.children finish.children end.start lane (name_at judged.done.problem.problem.mode k) script.0 file.0 fate
+              served.0 script.1 free file.1 served.1.1 (end_at r k) (own_cause r at_r) in
+              by_own fate (end_at q k) served.1.2 own (by_fate r among fate (end_at r k) refl (own_cause r at_r) of)
+        ]
+      where
+        by_own : (fate : Fate) (e : JobEnd FindingOf) → IsEndOfFate fate e → IsPlainEnd (racing_of task judged.done.problem number engines) start.scripts lane (name_at judged.done.problem.problem.mode k) e
+            → ((end_answer (end_at r k) ≡ fate_answer (Some fate)) × (told_by (end_at r k) ≡ fate_event (Some fate))) ⊎ ((f : FindingOf) × PassesOn (end_at r k) f × Spares judged.done.problem.problem.mode k f.job f.answer)
+            → Matches judged.done.problem.problem.mode k e (end_at r k)
+        by_own fate (Found f) of own (inl says) = let mine = found_says fate f of in inl (mine.0 ∙ sym says.0, mine.1 ∙ sym says.1)
+        by_own fate Unknown of own (inl says) = let mine = unknown_says fate of in inl (mine.0 ∙ sym says.0, mine.1 ∙ sym says.1)
+        by_own fate (Bad kind at) of own (inl says) = let mine = bad_says fate kind at of in inl (mine.0 ∙ sym says.0, mine.1 ∙ sym says.1)
+        by_own fate NotServed of own (inl says) = absurd of
+        by_own fate ReadFailed of own (inl says) = absurd own
+        by_own fate StartFailed of own (inl says) = absurd own
+        by_own fate HoldFailed of own (inl says) = absurd own
+        by_own fate (Skipped f) of own (inl says) = absurd own
+        by_own fate (CalledOff f) of own (inl says) = absurd own
+        by_own fate (Stopped t) of own (inl says) = absurd own
+        by_own fate MemoryEnd of own (inl says) = absurd own
+        by_own fate e of own (inr passed) = inr passed
+
+    -- Plain's ends carry what is found for their jobs
+    plain_own : (e : JobEnd FindingOf) → IsPlainEnd (racing_of task judged.done.problem number engines) start.scripts lane (name_at judged.done.problem.problem.mode k) e → (f : FindingOf) → Carries e f
+        → (e ≡ Found f) × (f.job ≡ name_at judged.done.problem.problem.mode k)
+    plain_own (Found g) own f carries =
+        (ap Found carries, ap (λ (x : FindingOf). x.job) (sym carries) ∙ judged_job (racing_of task judged.done.problem number engines) start.scripts lane (name_at judged.done.problem.problem.mode k) g own)
+    plain_own Unknown own f carries = absurd carries
+    plain_own NotServed own f carries = absurd carries
+    plain_own (Bad kind at) own f carries = absurd carries
+    plain_own ReadFailed own f carries = absurd carries
+    plain_own StartFailed own f carries = absurd carries
+    plain_own HoldFailed own f carries = absurd carries
+    plain_own (Skipped g) own f carries = absurd own
+    plain_own (CalledOff g) own f carries = absurd own
+    plain_own (Stopped t) own f carries = absurd carries
+    plain_own MemoryEnd own f carries = absurd carries
+
+    -- a finding that the reports carry for the job answers as Plain's does
+    agrees : (q : ReportOf FindingOf) (f g : FindingOf) → slice_get plain lane ≡ Some q → end_at q k ≡ Found f → SettledIn job_of end.reports.items (name_at judged.done.problem.problem.mode k) g → f.answer ≡ g.answer
+    agrees q f g at_q is settled =
+        let own = subst (λ (e : JobEnd FindingOf). IsPlainEnd (racing_of task judged.done.problem number engines) start.scripts lane (name_at judged.done.problem.problem.mode k) e) is ((are_plain.each lane q at_q).1 k lt) in
+        let file = own_file in
+        let says = judged_says (racing_of task judged.done.problem number engines) start.scripts lane (name_at judged.done.problem.problem.mode k) f file.0 file.1.0 file.1 file.1.3 own in
+        let true_of = lanes_ran.are_true settled.0 g settled.1 settled.2 in
+        sym (answers_agree laws judged.done.problem (name_at judged.done.problem.problem.mode k) file.0 g judged.done.served.0.problem file.1 true_of.0 true_of.1 settled.3 f.answer says)
+
+  -- ---- all of them
+
+  back_in : (k : ℕ) → k < length (jobs_of_mode task.request.mode task.request.span judged.done.problem.design) → k < length (jobs_in judged.done.problem)
+  back_in k lt = omega (arith, lt, count)
+
+  matched : AreMatched task.request.mode task.request.span judged.done.problem.design end.reports.items plain
+  matched = record {
+    lanes = are_plain.lanes_are ∙ sym lanes_ran.consistent.lanes_are;
+    ends = λ lane q at. (are_plain.each lane q at).0 ∙ count;
+    own = λ lane k q f at lt carries.
+        let both = plain_own lane k (back_in k lt) (end_at q k) ((are_plain.each lane q at).1 k (back_in k lt)) f carries in
+        (both.0, subst (λ m. f.job ≡ name_at m k) mode_is both.1);
+    found = λ lane k r f at lt is.
+        let cause = own_cause lane k (back_in k lt) r at in
+        let own = subst (λ (e : JobEnd FindingOf). HasEndCause (racing_of task judged.done.problem number engines) may_read start.scripts start.children finish.children end.start lane
+        (name_at judged.done.problem.problem.mode k) e) is cause in
+        subst (λ m. f.job ≡ name_at m k) mode_is (judged_job (racing_of task judged.done.problem number engines) start.scripts lane (name_at judged.done.problem.problem.mode k) f own);
+    matches = λ lane k q r at_q at_r lt. subst (λ m. Matches m k (end_at q k) (end_at r k)) mode_is (matches lane k (back_in k lt) q r at_q at_r);
+    agree = λ lane k q f g at lt is settled. agrees lane k (back_in k lt) q f g at is (subst (λ m. SettledIn job_of end.reports.items (name_at m k) g) (sym mode_is) settled);
+  }
+
+  -- the race's own status
+  own_race : IsRaceStatus task.request (record { design = judged.done.problem.design; reports = end.reports.items; start = end.start }) end.status
+  own_race = elim ran.named.status [
+    | inl own ↦
+        let same : own.0 ≡ judged.done.problem.design = own_design judged.done.problem end.text own.0 judged.done.served.0.problem judged.done.text_is (own.1 judged.early) in
+        let race : IsRaceStatus task.request (record { design = own.0; reports = end.reports.items; start = end.start }) end.status =
+        subst (λ e. IsStatus task.request e (record { design = own.0; reports = end.reports.items; start = end.start }) end.status) judged.early own.2 in
+        subst (λ d. IsRaceStatus task.request (record { design = d; reports = end.reports.items; start = end.start }) end.status) same race
+    | inr memory ↦ absurd (calm.memory memory)
+  ]
+
+  module _ (status : Status) (is : IsRaceStatus task.request (record { design = judged.done.problem.design; reports = plain; start = None }) status) where
+    pub lanes_plain : (end.status ≡ status) ⊎ IsByLook task.request.mode end.reports.items
+    lanes_plain = plain_or_look task.request.mode task.request.span judged.done.problem.design end.reports.items plain are_reported matched own_race.0 is.0 own_race.1 is.1 status end.status is.2 own_race.2 calm.memory
+
+    pub lanes_verdict : IsVerdictStatus status → end.status ≡ status
+    lanes_verdict closing = plain_verdict task.request.mode task.request.span judged.done.problem.design end.reports.items plain are_reported matched own_race.0 is.0 own_race.1 is.1 status end.status is.2 own_race.2 closing
