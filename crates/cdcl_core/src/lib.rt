@@ -18,6 +18,3 @@ mod solver;
 pub use crate::laws::logged_lines_are_a_proof;
 pub use crate::log::Log;
 pub use crate::solver::{Solved, solve};
-
-#[cfg(test)]
-mod tests;

@@ -10,6 +10,3 @@ mod values;
 
 pub use laws::promise_is_kept;
 pub use run::run_engine;
-
-#[cfg(test)]
-mod tests;

@@ -12,5 +12,3 @@ mod numbers;
 mod parameters;
 mod parts;
 mod ports;
-#[cfg(test)]
-mod tests;

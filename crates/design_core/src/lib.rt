@@ -9,6 +9,4 @@ pub mod names;
 pub mod next;
 pub mod parts;
 pub mod table;
-#[cfg(test)]
-mod tests;
 pub mod wire;

@@ -8,7 +8,5 @@ mod lowering;
 mod names;
 mod parts;
 mod starts;
-#[cfg(test)]
-mod tests;
 
 pub use lowering::lower;

@@ -3,6 +3,4 @@
 
 pub mod laws;
 pub mod run;
-#[cfg(test)]
-mod tests;
 pub mod worked;

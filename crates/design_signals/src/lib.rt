@@ -8,5 +8,3 @@ pub mod segments;
 pub mod sig_bit;
 pub mod signal;
 pub mod stored;
-#[cfg(test)]
-mod tests;

@@ -3,5 +3,3 @@
 
 pub mod input_bits;
 pub mod state_bits;
-#[cfg(test)]
-mod tests;

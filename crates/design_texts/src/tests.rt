@@ -1,9 +1,18 @@
-// Texts of designs.
+// Texts of designs, and designs built by hand.
 
+mod bits;
+mod cells;
+mod checks;
 mod designs;
 mod faults;
+mod lowering;
 mod models;
 mod reads;
+mod runs;
+mod signals;
+mod states;
+mod tokens;
+mod traces;
 
 use design_check::check::{DesignFault, check};
 use design_check::flat::Flat;

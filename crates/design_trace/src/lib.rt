@@ -13,6 +13,3 @@ pub use laws::{
 };
 pub use reading::{TextFault, read_text};
 pub use writing::{cycle_text, text};
-
-#[cfg(test)]
-mod tests;

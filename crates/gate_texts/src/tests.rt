@@ -1,5 +1,6 @@
 // The tests, by subject.
 
 mod closing;
+mod gates;
 mod rows;
 mod tables;

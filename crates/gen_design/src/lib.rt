@@ -160,6 +160,3 @@ read_rtlil gen.il
     put_design(&mut text, n)?;
     Ok(text.into_bytes())
 }
-
-#[cfg(test)]
-mod tests;

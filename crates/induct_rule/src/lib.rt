@@ -57,17 +57,3 @@ pub fn windows_may_start()
 {}
 
 pub mod counter;
-
-#[cfg(test)]
-mod tests {
-    use super::*;
-    use counter::Counter;
-
-    #[test]
-    fn rules_of_a_counter() {
-        k_induction::<Counter>();
-        window_of_break::<Counter>();
-        windows_may_start();
-        counter::never_three();
-    }
-}

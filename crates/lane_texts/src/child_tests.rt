@@ -1,6 +1,6 @@
-// What one child may send, and the calls that may fail on it.
+// What one child may send and leave, and the calls that may fail on it.
 
-use super::tests::{EMPTY, Ended, FREE, STOPS, Seen, TURNS, Terms, problem_of, raced, script_of};
+use super::tests::{EMPTY, Ended, FREE, Kind, STOPS, TURNS, Terms, problem_of, raced, script_of};
 use judge::Problem;
 use sby_edge::{Call, CallFault, Script, Scripted};
 use sby_terms::Answer;
@@ -10,141 +10,359 @@ use std::test::Fail;
 use std::thread::Threads;
 use std::time::Clock as SystemClock;
 
-// What was seen of one lane over this script.
-fn seen_of<R: Threads + Wait + SystemClock + Sync>(
+// A job, and the lane's child: what it writes, where it stalls, the call that fails on it the first time, and the proof file that it
+// leaves; how the job ends, and whether the child is reaped.
+#[derive(Clone, Copy)]
+struct Row {
+    design: &'static str,
+    depth: u32,
+    kind: Kind,
+    terms: Terms,
+    text: &'static str,
+    stalls: Option<u64>,
+    failing: Option<Call>,
+    proof: &'static [u8],
+    end: Ended,
+    is_reaped: bool,
+}
+
+// A job that is Unsat.
+const TURN: Row = Row {
+    design: TURNS,
+    depth: 1,
+    kind: Kind::Sat,
+    terms: FREE,
+    text: "0\n",
+    stalls: None,
+    failing: None,
+    proof: b"",
+    end: Ended::Found(Answer::Unsat),
+    is_reaped: true,
+};
+
+// One with the empty clause.
+const NONE: Row = Row {
+    design: EMPTY,
+    depth: 5,
+    ..TURN
+};
+
+// A child that stalls, of a lane that is stopped then.
+const STALLED: Row = Row {
+    terms: STOPS,
+    text: "c a\nc b\n-1 0\n0\n",
+    end: Ended::Stopped(1000),
+    ..TURN
+};
+
+// One on which a call may fail.
+const CALLED: Row = Row {
+    terms: STOPS,
+    ..TURN
+};
+
+// A hinted stream.
+const HINTED: Row = Row {
+    kind: Kind::Lrat,
+    ..NONE
+};
+
+// An output that leaves it to the proof file.
+const FILED: Row = Row {
+    kind: Kind::Proof,
+    text: "s UNSATISFIABLE\n",
+    ..TURN
+};
+
+const BINARY: Row = Row {
+    kind: Kind::ProofBinary,
+    ..FILED
+};
+
+// Streams over one cycle and over two.
+const STREAMS: [Row; 9] = [
+    Row {
+        text: "",
+        end: Ended::Bad(48, 0),
+        ..TURN
+    },
+    Row {
+        text: "c a\n",
+        end: Ended::Bad(48, 4),
+        ..TURN
+    },
+    Row { text: "0", ..TURN },
+    Row {
+        text: " \t\r\n0",
+        ..TURN
+    },
+    Row {
+        text: "0\n@@@ rubbish",
+        ..TURN
+    },
+    Row {
+        text: "s UNKNOWN x\n",
+        end: Ended::Bad(48, 12),
+        ..TURN
+    },
+    Row {
+        text: "x",
+        end: Ended::Bad(41, 0),
+        ..TURN
+    },
+    Row {
+        text: "vv 0",
+        end: Ended::Bad(41, 1),
+        ..TURN
+    },
+    Row {
+        depth: 2,
+        text: "0 1",
+        end: Ended::Bad(44, 0),
+        ..TURN
+    },
+];
+
+// Streams over the job with the empty clause.
+const CLAUSES: [Row; 10] = [
+    Row {
+        text: "0\n",
+        ..NONE
+    },
+    Row {
+        text: "2 0\n",
+        end: Ended::Bad(42, 0),
+        ..NONE
+    },
+    Row {
+        text: "-0",
+        end: Ended::Bad(42, 1),
+        ..NONE
+    },
+    Row {
+        text: "01",
+        end: Ended::Bad(42, 1),
+        ..NONE
+    },
+    Row {
+        text: "1 1 0\n",
+        end: Ended::Bad(43, 2),
+        ..NONE
+    },
+    Row {
+        text: "v 0\n",
+        end: Ended::Bad(45, 1),
+        ..NONE
+    },
+    Row {
+        text: "2 0 1 0\n",
+        ..HINTED
+    },
+    Row {
+        text: "2 0 0\n",
+        end: Ended::Bad(60, 0),
+        ..HINTED
+    },
+    Row {
+        text: "1 0 1 0\n",
+        end: Ended::Bad(58, 0),
+        ..HINTED
+    },
+    Row {
+        text: "2 0 -1 0\n",
+        end: Ended::Bad(59, 4),
+        ..HINTED
+    },
+];
+
+// Children that stall, and calls that fail.
+const CALLS: [Row; 13] = [
+    Row {
+        stalls: Some(4),
+        ..STALLED
+    },
+    Row {
+        stalls: Some(8),
+        ..STALLED
+    },
+    Row {
+        stalls: Some(13),
+        ..STALLED
+    },
+    Row {
+        stalls: Some(14),
+        end: Ended::Found(Answer::Unsat),
+        ..STALLED
+    },
+    Row {
+        stalls: Some(15),
+        end: Ended::Found(Answer::Unsat),
+        ..STALLED
+    },
+    Row {
+        failing: Some(Call::Start),
+        end: Ended::StartFailed,
+        is_reaped: false,
+        ..CALLED
+    },
+    Row {
+        failing: Some(Call::Read),
+        end: Ended::ReadFailed,
+        ..CALLED
+    },
+    Row {
+        text: "",
+        stalls: Some(0),
+        failing: Some(Call::Poll),
+        end: Ended::HoldFailed,
+        ..CALLED
+    },
+    Row {
+        text: "",
+        stalls: Some(0),
+        failing: Some(Call::Kill),
+        end: Ended::Stopped(1000),
+        ..CALLED
+    },
+    Row {
+        text: "",
+        stalls: Some(0),
+        failing: Some(Call::Reap),
+        end: Ended::Stopped(1000),
+        ..CALLED
+    },
+    Row {
+        failing: Some(Call::Poll),
+        ..CALLED
+    },
+    Row {
+        failing: Some(Call::Kill),
+        ..CALLED
+    },
+    Row {
+        failing: Some(Call::Reap),
+        ..CALLED
+    },
+];
+
+// Outputs with proof files.
+const FILES: [Row; 8] = [
+    FILED,
+    Row {
+        depth: 2,
+        end: Ended::Bad(48, 0),
+        ..FILED
+    },
+    Row {
+        text: "s UNKNOWN\n",
+        end: Ended::Unknown,
+        ..FILED
+    },
+    Row {
+        proof: b"v 1 0\n",
+        end: Ended::Bad(41, 0),
+        ..FILED
+    },
+    Row {
+        terms: STOPS,
+        stalls: Some(3),
+        end: Ended::Stopped(1000),
+        ..FILED
+    },
+    Row {
+        proof: &[0x61, 0x03, 0x00, 0x61, 0x00],
+        ..BINARY
+    },
+    Row {
+        proof: b"b",
+        end: Ended::Bad(41, 0),
+        ..BINARY
+    },
+    Row {
+        proof: &[0x61, 0x01],
+        end: Ended::Bad(42, 1),
+        ..BINARY
+    },
+];
+
+// The script of the child, cut into two at this byte.
+fn script_at(alloc: Global, row: &Row, cut: u64) -> Result<Script, AllocError> {
+    let mut script = script_of(alloc, row.text)?;
+    script.stalls = row.stalls;
+    script.cut = Some(cut);
+    script.proof.extend_from_slice(row.proof)?;
+    if let Some(call) = row.failing {
+        script.faults.push(CallFault { call, nth: 1 })?;
+    }
+    Ok(script)
+}
+
+// Whether the job ends so over this script.
+fn ends_so<R: Threads + Wait + SystemClock + Sync>(
     rt: &R,
     alloc: Global,
     problem: &Problem,
-    terms: Terms,
+    row: &Row,
     script: &Script,
-) -> Result<Option<Seen>, Fail> {
+) -> Result<bool, Fail> {
     let scripts = Vec::<Scripted>::new(alloc);
-    let (seen, _verdict) = raced(rt, alloc, problem, 1, terms, &scripts, script)?;
-    Ok(seen[0])
+    let course = raced(rt, alloc, problem, row.kind, 1, row.terms, &scripts, script)?;
+    match course.two[0] {
+        Some(seen) => Ok(seen.end == row.end && seen.is_reaped == row.is_reaped),
+        None => Ok(false),
+    }
 }
 
-// Whether the job ends so, and the child is reaped, wherever the script is cut into two. A cut at 0 or behind the end cuts nothing.
+// Whether it ends so wherever the script is cut into two. A cut at 0 or behind the end cuts nothing.
 fn always_ends<R: Threads + Wait + SystemClock + Sync>(
     rt: &R,
     alloc: Global,
-    problem: &Problem,
-    terms: Terms,
-    text: &str,
-    stalls: Option<u64>,
-    end: Ended,
+    row: &Row,
 ) -> Result<bool, Fail> {
+    let problem = problem_of(alloc, row.design, row.depth)?;
     for cut in 0..16u64 {
-        let script = Script {
-            stalls,
-            cut: Some(cut),
-            ..script_of(alloc, text)?
-        };
-        match seen_of(rt, alloc, problem, terms, &script)? {
-            Some(seen) if seen.end == end && seen.is_reaped => {}
-            _ => return Ok(false),
+        let script = script_at(alloc, row, cut)?;
+        if !ends_so(rt, alloc, &problem, row, &script)? {
+            return Ok(false);
         }
     }
     Ok(true)
 }
 
-#[test]
-fn streams_over_one_cycle(rt: HostRuntime) -> Result<(), Fail> {
-    let problem = problem_of(rt.alloc(), TURNS, 1)?;
-    for (text, end) in [
-        ("", Ended::Bad(48, 0)),
-        ("c a\n", Ended::Bad(48, 4)),
-        ("0", Ended::Found(Answer::Unsat)),
-        (" \t\r\n0", Ended::Found(Answer::Unsat)),
-        ("0\n@@@ rubbish", Ended::Found(Answer::Unsat)),
-        ("s UNKNOWN x\n", Ended::Bad(48, 12)),
-        ("x", Ended::Bad(41, 0)),
-        ("vv 0", Ended::Bad(41, 1)),
-    ] {
-        assert!(rt;
-            always_ends(&rt, rt.alloc(), &problem, FREE, text, None, end)?,
-            "{text}"
-        );
-    }
-    Ok(())
-}
-
-#[test]
-fn streams_over_two_cycles(rt: HostRuntime) -> Result<(), Fail> {
-    let problem = problem_of(rt.alloc(), TURNS, 2)?;
-    let end = Ended::Bad(44, 0);
-    assert!(rt; always_ends(&rt, rt.alloc(), &problem, FREE, "0 1", None, end)?);
-    Ok(())
-}
-
-#[test]
-fn streams_of_an_empty_job(rt: HostRuntime) -> Result<(), Fail> {
-    let problem = problem_of(rt.alloc(), EMPTY, 5)?;
-    for (text, end) in [
-        ("0\n", Ended::Found(Answer::Unsat)),
-        ("2 0\n", Ended::Bad(42, 0)),
-        ("-0", Ended::Bad(42, 1)),
-        ("01", Ended::Bad(42, 1)),
-        ("1 1 0\n", Ended::Bad(43, 2)),
-        ("v 0\n", Ended::Bad(45, 1)),
-    ] {
-        assert!(rt;
-            always_ends(&rt, rt.alloc(), &problem, FREE, text, None, end)?,
-            "{text}"
-        );
-    }
-    Ok(())
-}
-
-#[test]
-fn stalled_children_are_stopped(rt: HostRuntime) -> Result<(), Fail> {
-    let problem = problem_of(rt.alloc(), TURNS, 1)?;
-    for (stall, end) in [
-        (4, Ended::Stopped(1000)),
-        (8, Ended::Stopped(1000)),
-        (13, Ended::Stopped(1000)),
-        (14, Ended::Found(Answer::Unsat)),
-        (15, Ended::Found(Answer::Unsat)),
-    ] {
-        let text = "c a\nc b\n-1 0\n0\n";
-        assert!(rt;
-            always_ends(&rt, rt.alloc(), &problem, STOPS, text, Some(stall), end)?,
-            "{stall}"
-        );
-    }
-    Ok(())
-}
-
-// A script whose first such call fails.
-fn failing(
+// What the child writes in the first of these rows that doesn't hold.
+fn failing_row<R: Threads + Wait + SystemClock + Sync>(
+    rt: &R,
     alloc: Global,
-    text: &str,
-    stalls: Option<u64>,
-    call: Call,
-) -> Result<Script, AllocError> {
-    let mut script = script_of(alloc, text)?;
-    script.stalls = stalls;
-    script.faults.push(CallFault { call, nth: 1 })?;
-    Ok(script)
+    rows: &[Row],
+) -> Result<Option<&'static str>, Fail> {
+    for row in rows {
+        if !always_ends(rt, alloc, row)? {
+            return Ok(Some(row.text));
+        }
+    }
+    Ok(None)
 }
 
 #[test]
-fn failed_calls_end_the_job(rt: HostRuntime) -> Result<(), Fail> {
-    let problem = problem_of(rt.alloc(), TURNS, 1)?;
-    let found = Ended::Found(Answer::Unsat);
-    for (call, text, stalls, end, is_reaped) in [
-        (Call::Start, "0\n", None, Ended::StartFailed, false),
-        (Call::Read, "0\n", None, Ended::ReadFailed, true),
-        (Call::Poll, "", Some(0), Ended::HoldFailed, true),
-        (Call::Kill, "", Some(0), Ended::Stopped(1000), true),
-        (Call::Reap, "", Some(0), Ended::Stopped(1000), true),
-        (Call::Poll, "0\n", None, found, true),
-        (Call::Kill, "0\n", None, found, true),
-        (Call::Reap, "0\n", None, found, true),
-    ] {
-        let script = failing(rt.alloc(), text, stalls, call)?;
-        let seen = seen_of(&rt, rt.alloc(), &problem, STOPS, &script)?;
-        let ends = seen.map(|seen| (seen.end, seen.is_reaped));
-        assert_eq!(rt; ends, Some((end, is_reaped)), "{call:?}");
-    }
+fn streams_over_cycles(rt: HostRuntime) -> Result<(), Fail> {
+    assert_eq!(rt; failing_row(&rt, rt.alloc(), &STREAMS)?, None);
+    Ok(())
+}
+
+#[test]
+fn streams_over_an_empty_clause(rt: HostRuntime) -> Result<(), Fail> {
+    assert_eq!(rt; failing_row(&rt, rt.alloc(), &CLAUSES)?, None);
+    Ok(())
+}
+
+#[test]
+fn stalled_children_and_failed_calls(rt: HostRuntime) -> Result<(), Fail> {
+    assert_eq!(rt; failing_row(&rt, rt.alloc(), &CALLS)?, None);
+    Ok(())
+}
+
+#[test]
+fn proof_files(rt: HostRuntime) -> Result<(), Fail> {
+    assert_eq!(rt; failing_row(&rt, rt.alloc(), &FILES)?, None);
     Ok(())
 }

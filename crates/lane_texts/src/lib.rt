@@ -4,7 +4,11 @@
 #[cfg(test)]
 mod child_tests;
 #[cfg(test)]
+mod load_tests;
+#[cfg(test)]
 mod race_tests;
+#[cfg(test)]
+mod short_tests;
 #[cfg(test)]
 mod task_tests;
 #[cfg(test)]

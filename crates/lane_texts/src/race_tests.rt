@@ -2,7 +2,7 @@
 
 ghost use Rattle.std.specs.Prelude.{◌<◌};
 
-use super::tests::{Ended, FREE, Seen, TURNS, Terms, problem_of, raced, script_of};
+use super::tests::{Ended, FREE, Kind, Seen, TURNS, Terms, problem_of, raced, script_of};
 use sby_edge::{Call, CallFault, Gate, Script, Scripted};
 use sby_terms::{Answer, JobName, Verdict};
 use std::alloc::{AllocError, Global};
@@ -88,8 +88,9 @@ fn paired<R: Threads + Wait + SystemClock + Sync>(
 ) -> Result<Pair, Fail> {
     let problem = problem_of(alloc, TURNS, 1)?;
     let other = script_of(alloc, other)?;
-    let (seen, verdict) = raced(rt, alloc, &problem, 2, terms, scripts, &other)?;
-    match (seen[0], seen[1]) {
+    let course = raced(rt, alloc, &problem, Kind::Sat, 2, terms, scripts, &other)?;
+    let verdict = course.verdict;
+    match (course.two[0], course.two[1]) {
         (Some(first), Some(second)) => Ok(Pair {
             first,
             second,
@@ -103,10 +104,6 @@ fn are_reaped(pair: &Pair) -> bool {
     pair.first.is_reaped && pair.second.is_reaped
 }
 
-fn is_spared(end: Ended) -> bool {
-    matches!(end, Ended::CalledOff | Ended::Skipped)
-}
-
 // Whether one of the lanes won the cell, and the other lost it.
 fn is_won_once(pair: &Pair) -> bool {
     match (pair.first.won, pair.second.won) {
@@ -115,52 +112,113 @@ fn is_won_once(pair: &Pair) -> bool {
     }
 }
 
+// How a job ended. One that was called off may be skipped as well, by who comes first.
+fn ended(seen: Seen) -> Ended {
+    match seen.end {
+        Ended::Skipped => Ended::CalledOff,
+        end => end,
+    }
+}
+
+// What the children of two lanes do.
+#[derive(Clone, Copy)]
+enum Scene {
+    // Each waits for the other.
+    Gated,
+    // The first stalls in mid-stream.
+    Stalls,
+    // Both do the same.
+    Alike,
+    // The first doesn't start.
+    Fails,
+}
+
+fn scripts_of(alloc: Global, scene: Scene) -> Result<Vec<Scripted>, AllocError> {
+    match scene {
+        Scene::Gated => both_gated(alloc),
+        Scene::Stalls => first_stalls(alloc),
+        Scene::Alike => Ok(Vec::new(alloc)),
+        Scene::Fails => first_fails(alloc),
+    }
+}
+
+// What two lanes do, and how their jobs end, the second's where that is certain; whether both children are reaped, and whether both find and
+// one wins.
+#[derive(Clone, Copy)]
+struct Row {
+    scene: Scene,
+    terms: Terms,
+    other: &'static str,
+    first: Ended,
+    second: Option<Ended>,
+    are_reaped: bool,
+    is_won_once: bool,
+}
+
+const FOUND: Ended = Ended::Found(Answer::Unsat);
+
+const ROWS: [Row; 4] = [
+    Row {
+        scene: Scene::Gated,
+        terms: FREE,
+        other: "",
+        first: FOUND,
+        second: None,
+        are_reaped: true,
+        is_won_once: false,
+    },
+    Row {
+        scene: Scene::Stalls,
+        terms: Terms {
+            last: 999,
+            millis: Some(1000),
+            wait: false,
+        },
+        other: "0\n",
+        first: Ended::CalledOff,
+        second: Some(FOUND),
+        are_reaped: true,
+        is_won_once: false,
+    },
+    Row {
+        scene: Scene::Alike,
+        terms: Terms { wait: true, ..FREE },
+        other: "0\n",
+        first: FOUND,
+        second: Some(FOUND),
+        are_reaped: true,
+        is_won_once: true,
+    },
+    Row {
+        scene: Scene::Fails,
+        terms: Terms { wait: true, ..FREE },
+        other: "0\n",
+        first: Ended::StartFailed,
+        second: Some(FOUND),
+        are_reaped: false,
+        is_won_once: false,
+    },
+];
+
+// Whether two lanes end so.
+fn ends_so(pair: &Pair, row: &Row) -> bool {
+    let is_second = match row.second {
+        Some(end) => ended(pair.second) == end,
+        None => true,
+    };
+    ended(pair.first) == row.first
+        && is_second
+        && are_reaped(pair) == row.are_reaped
+        && is_won_once(pair) == row.is_won_once
+        && pair.verdict == Some(Verdict::Pass)
+}
+
 #[test]
 fn lanes_run_beside_each_other(rt: HostRuntime) -> Result<(), Fail> {
-    let scripts = both_gated(rt.alloc())?;
-    let pair = paired(&rt, rt.alloc(), FREE, &scripts, "")?;
-    assert_eq!(rt; pair.first.end, Ended::Found(Answer::Unsat));
-    assert!(rt; are_reaped(&pair));
-    assert_eq!(rt; pair.verdict, Some(Verdict::Pass));
-    Ok(())
-}
-
-#[test]
-fn findings_call_off(rt: HostRuntime) -> Result<(), Fail> {
-    let scripts = first_stalls(rt.alloc())?;
-    let terms = Terms {
-        last: 999,
-        millis: Some(1000),
-        wait: false,
-    };
-    let pair = paired(&rt, rt.alloc(), terms, &scripts, "0\n")?;
-    assert!(rt; is_spared(pair.first.end));
-    assert_eq!(rt; pair.second.end, Ended::Found(Answer::Unsat));
-    assert!(rt; are_reaped(&pair));
-    assert_eq!(rt; pair.verdict, Some(Verdict::Pass));
-    Ok(())
-}
-
-#[test]
-fn waiting_lanes_both_find(rt: HostRuntime) -> Result<(), Fail> {
-    let scripts = Vec::<Scripted>::new(rt.alloc());
-    let terms = Terms { wait: true, ..FREE };
-    let pair = paired(&rt, rt.alloc(), terms, &scripts, "0\n")?;
-    let found = Ended::Found(Answer::Unsat);
-    assert_eq!(rt; (pair.first.end, pair.second.end), (found, found));
-    assert!(rt; are_reaped(&pair));
-    assert!(rt; is_won_once(&pair));
-    assert_eq!(rt; pair.verdict, Some(Verdict::Pass));
-    Ok(())
-}
-
-#[test]
-fn a_failed_start_hurts_no_other_lane(rt: HostRuntime) -> Result<(), Fail> {
-    let scripts = first_fails(rt.alloc())?;
-    let terms = Terms { wait: true, ..FREE };
-    let pair = paired(&rt, rt.alloc(), terms, &scripts, "0\n")?;
-    assert_eq!(rt; pair.first.end, Ended::StartFailed);
-    assert_eq!(rt; pair.second.end, Ended::Found(Answer::Unsat));
-    assert_eq!(rt; pair.verdict, Some(Verdict::Pass));
+    for row in ROWS {
+        let scripts = scripts_of(rt.alloc(), row.scene)?;
+        let pair = paired(&rt, rt.alloc(), row.terms, &scripts, row.other)?;
+        assert!(rt; ends_so(&pair, &row));
+    }
     Ok(())
 }

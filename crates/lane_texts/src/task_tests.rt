@@ -1,10 +1,10 @@
 // Whole tasks, from the bays of a yard to what their lanes report.
 
-use super::tests::{Ended, TURNS, end_of, engines_of, problem_of, script_of};
-use judge::Finding;
+use super::tests::{Ended, Kind, TURNS, end_of, engines_of, problem_of, script_of};
+use judge::{Finding, Problem};
 use race_core::Report;
-use sby_edge::{Call, CallFault, ListClock, Script, ScriptYard, Scripted, Stage};
-use sby_terms::{Answer, JobName};
+use sby_edge::{Call, CallFault, Clock, ListClock, Script, ScriptYard, Scripted, Stage, Yard};
+use sby_terms::{Answer, Engine, JobName};
 use std::alloc::{AllocError, Global};
 use std::sync::Wait;
 use std::test::Fail;
@@ -73,29 +73,50 @@ fn clock_of(alloc: Global) -> Result<ListClock, AllocError> {
     Ok(ListClock::new(readings))
 }
 
+// Races lanes.
+fn race_over<R: Threads + Wait + Sync, Y: Yard, C: Clock>(
+    rt: &R,
+    alloc: Global,
+    yard: &mut Y,
+    clock: &C,
+    racing: &Racing<'_>,
+) -> Result<RanLanes, AllocError> {
+    race_task(rt, alloc, yard, clock, racing)
+}
+
+// Races these lanes over these scripts.
+fn race_scripts<R: Threads + Wait + SystemClock + Sync>(
+    rt: &R,
+    alloc: Global,
+    racing: &Racing<'_>,
+    scripts: &[Scripted],
+    other: &Script,
+) -> Result<RanLanes, AllocError> {
+    let clock = clock_of(alloc)?;
+    let stage = Stage::new(alloc);
+    let mut yard = ScriptYard::new(rt, &stage, scripts, other);
+    race_over(rt, alloc, &mut yard, &clock, racing)
+}
+
 // Races the lanes of the case, as those of the task with the number 7.
 fn ran<R: Threads + Wait + SystemClock + Sync>(
     rt: &R,
     alloc: Global,
+    problem: &Problem,
+    engines: &[Engine],
     case: &Case,
-) -> Result<RanLanes, Fail> {
-    let problem = problem_of(alloc, TURNS, 1)?;
-    let engines = engines_of(alloc, case.lanes)?;
+) -> Result<RanLanes, AllocError> {
     let scripts = scripts_of(alloc, case)?;
     let other = script_of(alloc, case.other)?;
-    let stage = Stage::new(alloc);
-    let mut yard = ScriptYard::new(rt, &stage, &scripts, &other);
-    let clock = clock_of(alloc)?;
     let racing = Racing {
-        problem: &problem,
-        engines: &engines,
+        problem,
+        engines,
         folder: "t",
         task: 7,
         wait: false,
         limit: case.limit,
     };
-    let ran = race_task(rt, alloc, &mut yard, &clock, &racing)?;
-    Ok(ran)
+    race_scripts(rt, alloc, &racing, &scripts, &other)
 }
 
 // How a lane's job ended. A job that was called off may be skipped as well, by who comes first.
@@ -108,34 +129,56 @@ fn ended(reports: &[Report<Finding>], lane: usize) -> Option<Ended> {
     }
 }
 
+// A case, how the first two lanes' job ends, and when the lanes start.
+type Row = (Case, Option<Ended>, Option<Ended>, Option<u64>);
+
+const FOUND: Option<Ended> = Some(Ended::Found(Answer::Unsat));
+
+const ROWS: [Row; 5] = [
+    (FINDS, FOUND, None, None),
+    (Case { lanes: 0, ..FINDS }, None, None, None),
+    (
+        Case {
+            limit: Some(1000),
+            ..STALLS
+        },
+        Some(Ended::Stopped(1005)),
+        None,
+        Some(5),
+    ),
+    (
+        Case {
+            is_failing: true,
+            ..FINDS
+        },
+        Some(Ended::StartFailed),
+        None,
+        None,
+    ),
+    (
+        Case {
+            lanes: 2,
+            other: "0\n",
+            ..STALLS
+        },
+        Some(Ended::CalledOff),
+        FOUND,
+        None,
+    ),
+];
+
+// Whether these are the ends of the first two lanes' jobs, and that the start.
+fn is_ran(ran: &RanLanes, first: Option<Ended>, second: Option<Ended>, start: Option<u64>) -> bool {
+    ran.start == start && ended(&ran.reports, 0) == first && ended(&ran.reports, 1) == second
+}
+
 #[test]
 fn tasks_race_to_their_ends(rt: HostRuntime) -> Result<(), Fail> {
-    let found = Some(Ended::Found(Answer::Unsat));
-    let none = Case { lanes: 0, ..FINDS };
-    let stops = Case {
-        limit: Some(1000),
-        ..STALLS
-    };
-    let fails = Case {
-        is_failing: true,
-        ..FINDS
-    };
-    let pair = Case {
-        lanes: 2,
-        other: "0\n",
-        ..STALLS
-    };
-    for (case, first, second, start) in [
-        (FINDS, found, None, None),
-        (none, None, None, None),
-        (stops, Some(Ended::Stopped(1005)), None, Some(5)),
-        (fails, Some(Ended::StartFailed), None, None),
-        (pair, Some(Ended::CalledOff), found, None),
-    ] {
-        let ran = ran(&rt, rt.alloc(), &case)?;
-        assert_eq!(rt; ran.start, start);
-        assert_eq!(rt; ended(&ran.reports, 0), first);
-        assert_eq!(rt; ended(&ran.reports, 1), second);
+    let problem = problem_of(rt.alloc(), TURNS, 1)?;
+    for (case, first, second, start) in ROWS {
+        let engines = engines_of(rt.alloc(), Kind::Sat, case.lanes)?;
+        let ran = ran(&rt, rt.alloc(), &problem, &engines, &case)?;
+        assert!(rt; is_ran(&ran, first, second, start));
     }
     Ok(())
 }

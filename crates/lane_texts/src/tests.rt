@@ -1,14 +1,17 @@
 // Races of the lanes of a problem, by children of scripts.
 
-ghost use Rattle.std.specs.Prelude.{◌≡◌, ◌<◌, ◌≤◌, IfOk, length};
+ghost use Rattle.std.specs.Prelude.{◌≡◌, ◌<◌, ◌^◌, IfOk, length};
 
 use judge::{Finding, Problem};
+use lane_child::Makes;
 use lane_judge::ProblemLanes;
 use lane_run::{Limit, Raced, Task, race};
 use race_cells::Cells;
 use race_core::{JobEnd, JobEvents, LaneEvent, Report, answer_among};
-use sby_edge::{CallFault, Exit, ListClock, Script, ScriptBay, ScriptYard, Scripted, Stage, Yard};
-use sby_terms::{Answer, Engine, JobName, Mode, Settled, Span, Verdict, decide};
+use sby_edge::{
+    CallFault, Clock, Exit, ListClock, Script, ScriptBay, ScriptYard, Scripted, Stage, Yard,
+};
+use sby_terms::{Answer, Engine, JobName, Mode, Settled, Span, Verdict, Words, decide};
 use std::alloc::{AllocError, Global};
 use std::sync::Wait;
 use std::test::Fail;
@@ -70,11 +73,11 @@ pub const STOPS: Terms = Terms {
     wait: false,
 };
 
-/// The bmc problem of a text, over so many cycles.
-pub fn problem_of(alloc: Global, text: &str, depth: u32) -> Result<Problem, Fail>
-    requires some { 0 < depth }
-    requires few { depth ≤ 1000 }
-{
+/// The bmc problem of a text, over so many cycles, from 1 to 1,000.
+pub fn problem_of(alloc: Global, text: &str, depth: u32) -> Result<Problem, Fail> {
+    if depth == 0 || depth > 1000 {
+        return Err(Fail::from("no such depth"));
+    }
     let bytes = Vec::from_slice(alloc, text.as_bytes())?;
     match Problem::new(alloc, bytes, Mode::Bmc, Span::whole(depth))? {
         Ok(problem) => Ok(problem),
@@ -134,6 +137,26 @@ fn seen_lane<R: Wait + SystemClock>(report: &Report<Finding>, bay: &ScriptBay<'_
     }
 }
 
+/// What was seen of a race: of its first two lanes, the verdict, and how many lanes found the job's answer and reaped each child.
+#[derive(Drop)]
+pub struct Course {
+    pub two: [Option<Seen>; 2],
+    pub verdict: Option<Verdict>,
+    pub finders: usize,
+}
+
+// How many lanes found the job's answer and reaped each child.
+fn finders<R: Wait + SystemClock>(raced: &Raced<ScriptBay<'_, R>, Finding>) -> usize {
+    let mut count = 0usize;
+    for (report, bay) in raced.reports.iter().zip(raced.bays.iter()) {
+        let seen = seen_lane(report, bay);
+        if matches!(seen.end, Ended::Found(_)) && seen.is_reaped {
+            count = count.wrapping_add(1);
+        }
+    }
+    count
+}
+
 // What was seen of the first two lanes.
 fn seen_two<R: Wait + SystemClock>(raced: &Raced<ScriptBay<'_, R>, Finding>) -> [Option<Seen>; 2] {
     let mut two = [None; 2];
@@ -152,11 +175,29 @@ fn clock_of(alloc: Global, last: u64) -> Result<ListClock, AllocError> {
     Ok(ListClock::new(readings))
 }
 
-/// As many engines of the own kind.
-pub fn engines_of(alloc: Global, lanes: u32) -> Result<Vec<Engine>, AllocError> {
+/// The kinds of engine lines that are tried.
+#[derive(Clone, Copy)]
+pub enum Kind {
+    Sat,
+    Lrat,
+    Proof,
+    ProofBinary,
+}
+
+fn engine_of(alloc: Global, kind: Kind) -> Engine {
+    match kind {
+        Kind::Sat => Engine::Sat(None),
+        Kind::Lrat => Engine::Lrat(Words::new(Vec::new(alloc))),
+        Kind::Proof => Engine::Proof(Words::new(Vec::new(alloc))),
+        Kind::ProofBinary => Engine::ProofBinary(Words::new(Vec::new(alloc))),
+    }
+}
+
+/// So many engines of a kind.
+pub fn engines_of(alloc: Global, kind: Kind, lanes: u32) -> Result<Vec<Engine>, AllocError> {
     let mut engines = Vec::new(alloc);
     for _ in 0..lanes {
-        engines.push(Engine::Sat(None))?;
+        engines.push(engine_of(alloc, kind))?;
     }
     Ok(engines)
 }
@@ -184,32 +225,25 @@ fn bays_of<Y: Yard>(alloc: Global, yard: &mut Y, lanes: u32) -> Result<Vec<Y::Ba
     Ok(bays)
 }
 
-/// Races so many lanes over these scripts, lanes without one of their own over the other script. What was seen of the first two, and
-/// the verdict.
-pub fn raced<R: Threads + Wait + SystemClock + Sync>(
+// Races the lanes of these bays over one job. Where memory is wanting, the bays go back to their yard.
+fn race_bays<R: Threads + Wait + Sync, Y: Yard, C: Clock, M: Makes<Finding> + Sync>(
     rt: &R,
     alloc: Global,
-    problem: &Problem,
-    lanes: u32,
+    yard: &mut Y,
+    makes: &M,
+    cells: &Cells<Finding>,
+    clock: &C,
     terms: Terms,
-    scripts: &[Scripted],
-    other: &Script,
-) -> Result<([Option<Seen>; 2], Option<Verdict>), Fail> {
-    let stage = Stage::new(alloc);
-    let mut yard = ScriptYard::new(rt, &stage, scripts, other);
-    let engines = engines_of(alloc, lanes)?;
-    let makes = ProblemLanes {
-        problem,
-        engines: &engines,
-        folder: "t",
-    };
-    let cells = Cells::new(alloc, 1)?;
-    let clock = clock_of(alloc, terms.last)?;
-    let start = sby_edge::Clock::now(&clock);
+    bays: Vec<Y::Bay>,
+) -> Option<Raced<Y::Bay, Finding>>
+    requires cells { length cells.now ≡ 1 }
+    requires few { length bays.items < 2 ^ 32 }
+{
+    let start = clock.now();
     let task = Task {
-        makes: &makes,
-        cells: &cells,
-        clock: &clock,
+        makes,
+        cells,
+        clock,
         mode: Mode::Bmc,
         limit: Limit {
             start,
@@ -217,14 +251,64 @@ pub fn raced<R: Threads + Wait + SystemClock + Sync>(
             wait: terms.wait,
         },
     };
-    let bays = bays_of(alloc, &mut yard, lanes)?;
-    let raced = match race(rt, alloc, &task, 1, bays) {
-        Ok(raced) => raced,
+    match race(rt, alloc, &task, 1, bays) {
+        Ok(raced) => Some(raced),
         Err(bays) => {
-            give_back(&mut yard, bays);
-            return Err(Fail::from("want of memory"));
+            give_back(yard, bays);
+            None
         }
-    };
+    }
+}
+
+fn course_of<R: Wait + SystemClock>(raced: &Raced<ScriptBay<'_, R>, Finding>) -> Course {
     let answer = answer_among(&raced.reports, JobName::Base(0));
-    Ok((seen_two(&raced), decide(Mode::Bmc, &[answer])))
+    Course {
+        two: seen_two(raced),
+        verdict: decide(Mode::Bmc, &[answer]),
+        finders: finders(raced),
+    }
+}
+
+/// Races these lanes in bays of a yard of scripts.
+pub fn race_over<R: Threads + Wait + SystemClock + Sync, M: Makes<Finding> + Sync>(
+    rt: &R,
+    alloc: Global,
+    makes: &M,
+    lanes: u32,
+    cells: &Cells<Finding>,
+    terms: Terms,
+    scripts: &[Scripted],
+    other: &Script,
+) -> Result<Course, Fail>
+    requires cells { length cells.now ≡ 1 }
+{
+    let clock = clock_of(alloc, terms.last)?;
+    let stage = Stage::new(alloc);
+    let mut yard = ScriptYard::new(rt, &stage, scripts, other);
+    let bays = bays_of(alloc, &mut yard, lanes)?;
+    match race_bays(rt, alloc, &mut yard, makes, cells, &clock, terms, bays) {
+        Some(raced) => Ok(course_of(&raced)),
+        None => Err(Fail::from("want of memory")),
+    }
+}
+
+/// Races so many lanes of a kind over these scripts, lanes without one of their own over the other script.
+pub fn raced<R: Threads + Wait + SystemClock + Sync>(
+    rt: &R,
+    alloc: Global,
+    problem: &Problem,
+    kind: Kind,
+    lanes: u32,
+    terms: Terms,
+    scripts: &[Scripted],
+    other: &Script,
+) -> Result<Course, Fail> {
+    let engines = engines_of(alloc, kind, lanes)?;
+    let makes = ProblemLanes {
+        problem,
+        engines: &engines,
+        folder: "t",
+    };
+    let cells = Cells::new(alloc, 1)?;
+    race_over(rt, alloc, &makes, lanes, &cells, terms, scripts, other)
 }

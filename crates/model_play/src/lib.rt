@@ -9,7 +9,5 @@ pub mod kept;
 pub mod player;
 mod registers;
 mod table;
-#[cfg(test)]
-mod tests;
 mod walk;
 pub mod whole;

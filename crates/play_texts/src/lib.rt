@@ -1,4 +1,4 @@
-//! Tests of the player over whole texts.
+//! Tests of the player, and of the cone of a job, over whole texts.
 #![tactic(auto)]
 
 #[cfg(test)]

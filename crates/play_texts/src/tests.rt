@@ -1,5 +1,7 @@
-// Runs of designs that are read from texts.
+// Runs of designs that are read from texts and of a counter, and formulas of their jobs.
 
+mod cone;
+mod counters;
 mod designs;
 mod played;
 mod registers;

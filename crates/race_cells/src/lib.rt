@@ -6,6 +6,3 @@ mod notes;
 
 pub use cells::{Cells, Settling};
 pub use notes::Notes;
-
-#[cfg(test)]
-mod tests;

@@ -5,6 +5,3 @@ mod lexer;
 mod scan;
 
 pub use lexer::{LexFault, Lexer, Token, first_tokens_agree, one_list_of_tokens};
-
-#[cfg(test)]
-mod tests;

@@ -14,6 +14,3 @@ pub use arithmetic::{add, div, mul, rem, sub};
 pub use comparisons::{equal, less, reduce_and, reduce_or, reduce_xor};
 pub use parts::{concat, extend, slice};
 pub use shifts::{shift_any, shift_left, shift_right};
-
-#[cfg(test)]
-mod tests;

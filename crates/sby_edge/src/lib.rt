@@ -24,8 +24,3 @@ pub use script_child::{ScriptHold, ScriptPipe};
 pub use script_yard::{ScriptBay, ScriptYard, Started};
 pub use scripted::Scripted;
 pub use stage::Stage;
-
-#[cfg(test)]
-mod script_tests;
-#[cfg(test)]
-mod tests;

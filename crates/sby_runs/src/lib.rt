@@ -4,7 +4,13 @@
 #[cfg(test)]
 mod cell_tests;
 #[cfg(test)]
+mod children;
+#[cfg(test)]
+mod fault_tests;
+#[cfg(test)]
 mod judge_tests;
+#[cfg(test)]
+mod kind_tests;
 #[cfg(test)]
 mod mode_tests;
 #[cfg(test)]

@@ -1,7 +1,12 @@
 // Whole runs of task files, with their exact lines.
 
-use crate::tests::{END, HEAD, NOT, REGISTER, T, TWO_DRIVERS, prints, run_files};
+use crate::tests::{END, HEAD, NOT, REGISTER, T, TWO_DRIVERS, prints, put, run, run_files};
+use sby_edge::MemFiles;
+use std::alloc::Global;
+use std::sync::Wait;
 use std::test::Fail;
+use std::thread::Threads;
+use std::time::Clock as SystemClock;
 
 // `two.sby`, without its line of what is expected.
 const TASKS: &str = "[tasks]\na quick\nb\n";
@@ -42,7 +47,7 @@ type Row = (
     &'static [&'static str],
 );
 
-const ROWS: [Row; 12] = [
+const ROWS: [Row; 13] = [
     (
         &[TASKS, OPTIONS, "b: expect fail\n", REST],
         &["two.sby"],
@@ -111,6 +116,12 @@ const ROWS: [Row; 12] = [
         &["SBY [v] ERROR: file v.sby", "SBY [v] DONE (ERROR, rc=16)"],
     ),
     (
+        &[ONE],
+        &["v.sby", "a"],
+        16,
+        &["SBY [v] ERROR: file v.sby", "SBY [v] DONE (ERROR, rc=16)"],
+    ),
+    (
         &[CRLF],
         &["-d", "w", "two.sby", "a"],
         4,
@@ -169,8 +180,20 @@ const THIRTEEN: &str = "sat\nsat\nsat\nsat\nsat\nsat\nsat\nsat\nsat\nsat\nsat\ns
 // A task file that is refused, and its line.
 type Refusal = (&'static [&'static str], &'static str);
 
-const REFUSALS: [Refusal; 23] = [
+const REFUSALS: [Refusal; 31] = [
     (&["mode bmc\n"], "SBY [two] ERROR: sby line 1: StrayLine"),
+    (
+        &["[options]\n--\n"],
+        "SBY [two] ERROR: sby line 2: StrayLine",
+    ),
+    (
+        &["[tasks]\na\n[options]\na:\nmode bmc\n[engines]\n"],
+        "SBY [two] ERROR: sby line 4: StrayLine",
+    ),
+    (
+        &["[tasks]\na b-c\n"],
+        "SBY [two] ERROR: sby line 2: StrayLine",
+    ),
     (
         &["[autotune]\n"],
         "SBY [two] ERROR: sby line 1: UnknownSection",
@@ -240,6 +263,18 @@ const REFUSALS: [Refusal; 23] = [
         "SBY [two] ERROR: sby line 4: BadValue",
     ),
     (
+        &["[options]\nmode bmc\n[engines]\nsat --conflicts 0\n"],
+        "SBY [two] ERROR: sby line 4: BadValue",
+    ),
+    (
+        &["[options]\nmode bmc\nexpect pass, memory\n"],
+        "SBY [two] ERROR: sby line 3: BadValue",
+    ),
+    (
+        &["[files]\nt.il a/t.il b\n"],
+        "SBY [two] ERROR: sby line 2: BadValue",
+    ),
+    (
         &["[options]\nmode bmc\n[engines]\nproof p {cnf}\n"],
         "SBY [two] ERROR: sby line 4: Marks",
     ),
@@ -252,8 +287,18 @@ const REFUSALS: [Refusal; 23] = [
         "SBY [two] ERROR: sby line 6: Script",
     ),
     (
+        &["[file t.il]\n[script]\nread_rtlil t.il\nread_rtlil t.il\n"],
+        "SBY [two] ERROR: sby line 4: Script",
+    ),
+    (
         &["[options]\nmode bmc\n[engines]\nsat\n[script]\nread_rtlil t.il\n"],
         "SBY [two] ERROR: sby line 6: MissingFile",
+    ),
+    (
+        &[
+            "[options]\nmode bmc\ndepth 2\nskip 2\n[engines]\nsat\n[script]\nread_rtlil t.il\n[files]\nt.il\n",
+        ],
+        "SBY [two] ERROR: sby line 0: Slices",
     ),
     (
         &[
@@ -277,6 +322,30 @@ fn refused_task_files_are_told(rt: HostRuntime) -> Result<(), Fail> {
     Ok(())
 }
 
+// Whether a task file of so many bytes, none of which is text, is refused with this line.
+fn is_refused<H: Threads + Wait + SystemClock + Sync + Alloc<A = Global>>(
+    rt: &H,
+    size: usize,
+    line: &str,
+) -> Result<bool, Fail> {
+    let alloc = rt.alloc();
+    let mut files = MemFiles::new(alloc, Vec::new(alloc));
+    let bytes = vec![in alloc; 0xffu8; size]?;
+    put(alloc, &mut files, "two.sby", bytes.as_slice())?;
+    let printed = run(rt, &mut files, &["two.sby"], Vec::new(alloc))?;
+    let lines = [line, "SBY [two] DONE (ERROR, rc=16)"];
+    Ok(prints(&printed, 16, &lines))
+}
+
+#[test]
+fn other_bytes_are_refused(rt: HostRuntime) -> Result<(), Fail> {
+    assert!(rt; is_refused(&rt, 3, "SBY [two] ERROR: sby line 1: NotText")?);
+    // The most bytes of a task file, and one more.
+    assert!(rt; is_refused(&rt, 0x100_0000, "SBY [two] ERROR: sby line 1: NotText")?);
+    assert!(rt; is_refused(&rt, 0x100_0001, "SBY [two] ERROR: sby line 0: Limit")?);
+    Ok(())
+}
+
 #[test]
 fn outside_faults_of_tasks_are_told(rt: HostRuntime) -> Result<(), Fail> {
     let text: &[&str] = &[TASKS, OPTIONS, REST];
@@ -297,17 +366,39 @@ fn outside_faults_of_tasks_are_told(rt: HostRuntime) -> Result<(), Fail> {
     Ok(())
 }
 
+// A size, and the lines.
+type Size = (&'static str, &'static [&'static str]);
+
+const SIZES: [Size; 2] = [
+    (
+        "2",
+        &[
+            "SBY [gen_2] design: 2 register bits, 2 assert, 0 assume, 0 cover",
+            "SBY [gen_2] engine_0 base: unknown",
+            "SBY [gen_2] engine_0 step: unknown",
+            "SBY [gen_2] engine_1 base: unknown",
+            "SBY [gen_2] engine_1 step: unknown",
+            "SBY [gen_2] DONE (UNKNOWN, rc=4)",
+        ],
+    ),
+    (
+        "200",
+        &[
+            "SBY [gen_200] design: 200 register bits, 200 assert, 0 assume, 0 cover",
+            "SBY [gen_200] engine_0 base: unknown",
+            "SBY [gen_200] engine_0 step: unknown",
+            "SBY [gen_200] engine_1 base: unknown",
+            "SBY [gen_200] engine_1 step: unknown",
+            "SBY [gen_200] DONE (UNKNOWN, rc=4)",
+        ],
+    ),
+];
+
 #[test]
-fn the_generated_task_file_is_run(rt: HostRuntime) -> Result<(), Fail> {
-    let printed = run_files(&rt, &[], &["--gen", "2"], &[], &[])?;
-    let lines = [
-        "SBY [gen_2] design: 2 register bits, 2 assert, 0 assume, 0 cover",
-        "SBY [gen_2] engine_0 base: unknown",
-        "SBY [gen_2] engine_0 step: unknown",
-        "SBY [gen_2] engine_1 base: unknown",
-        "SBY [gen_2] engine_1 step: unknown",
-        "SBY [gen_2] DONE (UNKNOWN, rc=4)",
-    ];
-    assert!(rt; prints(&printed, 4, &lines));
+fn generated_task_files_are_run(rt: HostRuntime) -> Result<(), Fail> {
+    for (size, lines) in SIZES {
+        let printed = run_files(&rt, &[], &["--gen", size], &[], &[])?;
+        assert!(rt; prints(&printed, 4, lines), "{size}");
+    }
     Ok(())
 }

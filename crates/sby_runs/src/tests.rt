@@ -79,7 +79,12 @@ fn owned(alloc: Global, words: &[&str]) -> Result<Vec<String>, AllocError> {
     Ok(list)
 }
 
-fn put(alloc: Global, files: &mut MemFiles, path: &str, bytes: &[u8]) -> Result<(), FileFail> {
+pub(crate) fn put(
+    alloc: Global,
+    files: &mut MemFiles,
+    path: &str,
+    bytes: &[u8],
+) -> Result<(), FileFail> {
     files.put(alloc, path, bytes)
 }
 
@@ -138,19 +143,24 @@ fn run_into<H: Threads + Wait + SystemClock + Sync + Alloc<A = Global>, S: Sink>
     run_children(rt, files, words, out, &[], &StillClock(0))
 }
 
-// A run of the task file `two.sby` with the design `t.il`, over children of these scripts and this clock.
-pub(crate) fn run_race<H: Threads + Wait + SystemClock + Sync + Alloc<A = Global>, C: Clock>(
+// A run over these files, over children of these scripts and this clock. Calls of the file store, from the first that puts one of the
+// files, and of the sink fail where they are listed.
+pub(crate) fn run_scene<H: Threads + Wait + SystemClock + Sync + Alloc<A = Global>, C: Clock>(
     rt: &H,
-    text: &[&str],
+    files: &[(&str, &[&str])],
+    words: &[&str],
+    failing: &[u64],
+    cut: &[u64],
     scripts: &[Scripted],
     clock: &C,
 ) -> Result<Printed, Fail> {
     let alloc = rt.alloc();
-    let mut files = MemFiles::new(alloc, Vec::new(alloc));
-    put(alloc, &mut files, "t.il", &joined(alloc, T)?)?;
-    put(alloc, &mut files, "two.sby", &joined(alloc, text)?)?;
-    let mut out = MemSink::new(alloc, 2000, Vec::new(alloc))?;
-    let rc = run_children(rt, &mut files, &["two.sby"], &mut out, scripts, clock)?;
+    let mut store = MemFiles::new(alloc, Vec::from_slice(alloc, failing)?);
+    for (path, parts) in files {
+        put(alloc, &mut store, path, &joined(alloc, parts)?)?;
+    }
+    let mut out = MemSink::new(alloc, 2000, Vec::from_slice(alloc, cut)?)?;
+    let rc = run_children(rt, &mut store, words, &mut out, scripts, clock)?;
     let bytes = Vec::from_slice(alloc, out.bytes())?;
     Ok(Printed { rc, bytes })
 }
@@ -163,12 +173,7 @@ pub(crate) fn run_files<H: Threads + Wait + SystemClock + Sync + Alloc<A = Globa
     failing: &[u64],
     cut: &[u64],
 ) -> Result<Printed, Fail> {
-    let alloc = rt.alloc();
-    let mut store = MemFiles::new(alloc, Vec::from_slice(alloc, failing)?);
-    for (path, parts) in files {
-        put(alloc, &mut store, path, &joined(alloc, parts)?)?;
-    }
-    Ok(run(rt, &mut store, words, Vec::from_slice(alloc, cut)?)?)
+    run_scene(rt, files, words, failing, cut, &[], &StillClock(0))
 }
 
 pub(crate) fn run<H: Threads + Wait + SystemClock + Sync + Alloc<A = Global>>(

@@ -1,10 +1,11 @@
 // Words that are asked, and words that are refused.
 
 use sby_terms::Mode;
-use sby_words::{Asked, JudgeWords, asked_of};
+use sby_words::{Asked, JudgeWords, asked_of, stream_kind};
 use std::alloc::{AllocError, Global};
 use std::process::Abort;
 use std::test::Fail;
+use stream_judge::StreamKind;
 
 fn ask(alloc: Global, words: &[&str]) -> Result<Option<Asked>, AllocError> {
     let mut list = Vec::new(alloc);
@@ -172,6 +173,22 @@ fn is_asked(alloc: Global, row: Row) -> Result<bool, AllocError> {
 fn judged_designs_are_asked(rt: HostRuntime) -> Result<(), Fail> {
     for row in ASKED {
         assert!(rt; is_asked(rt.alloc(), row)?, "{row:?}");
+    }
+    Ok(())
+}
+
+#[test]
+fn streams_are_of_the_kinds_of_their_names(rt: HostRuntime) -> Result<(), Fail> {
+    for (name, kind) in [
+        ("t.lrat", StreamKind::Lrat),
+        ("a/t.proof", StreamKind::Proof),
+        (".proofb", StreamKind::ProofBinary),
+        ("t.drup", StreamKind::Drup),
+        ("t.proofb.gz", StreamKind::Drup),
+        ("lrat", StreamKind::Drup),
+        ("", StreamKind::Drup),
+    ] {
+        assert_eq!(rt; stream_kind(name), kind, "{name}");
     }
     Ok(())
 }

@@ -21,7 +21,8 @@ pub struct Played {
     pub said: String,
 }
 
-fn flat_of(alloc: Global, text: &str) -> Result<Flat, Fail> {
+/// The flat design that a text reads.
+pub fn flat_of(alloc: Global, text: &str) -> Result<Flat, Fail> {
     let Ok(design) = read(alloc, text.as_bytes())? else {
         return Err(Fail::from("not read"));
     };

@@ -1,0 +1,9 @@
+// The tests, by subject.
+
+mod cells;
+mod induction;
+mod memory;
+mod reports;
+mod rings;
+mod scripts;
+mod terms;

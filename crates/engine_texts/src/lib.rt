@@ -1,0 +1,5 @@
+//! Tests of the solver, of its words, and of the engine over files in memory.
+#![tactic(auto)]
+
+#[cfg(test)]
+mod tests;

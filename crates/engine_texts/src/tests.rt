@@ -1,0 +1,5 @@
+// The tests, by subject.
+
+mod asking;
+mod engine;
+mod solving;

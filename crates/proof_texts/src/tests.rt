@@ -1,0 +1,8 @@
+// The tests, by subject.
+
+mod drup;
+mod formulas;
+mod judges;
+mod lrat;
+mod outputs;
+mod streams;
