@@ -1,5 +1,5 @@
 mod Weights
-mod Rows
+mod Chains
 mod Decisions
 mod Reasons
 mod Present

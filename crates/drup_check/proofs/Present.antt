@@ -1,17 +1,16 @@
 -- The clauses that are present, after one came or went.
-use Rattle.std.proofs.Common.{◌≡◌, ◌≢◌, ℕ, ◌+◌, ◌*◌, ◌<◌, Bool, true, false, List, [], ◌∷◌, ◌++◌, length, set, take, refl, sym, ◌∙◌, ap, subst, inl, inr, arith, zero, suc}
+use Rattle.std.proofs.Common.{◌≡◌, ℕ, ◌+◌, ◌*◌, ◌<◌, ◌≤◌, Bool, true, false, List, [], ◌∷◌, ◌++◌, length, set, take, refl, sym, ◌∙◌, ap, subst, inl, inr, arith, zero, suc}
 use Rattle.std.specs.Prelude.{Contains, Option, Some, None}
 use Rattle.std.proofs.lemmas.Bool.{cases_Bool, cases_eq, cases_lt}
-use Rattle.std.proofs.lemmas.List.{get_or-set_same, get_or-set_other, get_or_past, get_or_default, get_or_append_left, get_or_push, length_push}
+use Rattle.std.proofs.lemmas.List.{get_or-set_same, get_or-set_other, get_or_past, get_or_default, get_or_append_left, get_or_push, length_push, length-set}
 use Rattle.std.proofs.lemmas.List.Elements.{Contains-append_left}
 use Rattle.cnf_form.specs.Cnf.{LitOf, SameClause, Conflict, IsReason, Removes, first, later, Deletes}
 use Rattle.cnf_form.proofs.Members.{take_one_more}
 use Rattle.cnf_form.proofs.Removal.{Closure-monotone, Closure-without, Removes-cases}
 use Rattle.unit_propagation.specs.Propagation.{HasFalsified, IsDerived}
 use Rattle.unit_propagation.specs.Propagator.{PropagatorOf, clauses_of, slot_at, IsPut, IsWanting}
-use Rattle.drup_check.specs.declared.buckets.Entry.{Entry}
 use Rattle.drup_check.specs.Marks.{Weighs, weight}
-use Rattle.drup_check.specs.Copies.{Holds, bucket}
+use Rattle.drup_check.specs.Copies.{CopiesOf, Holds, beginning, after}
 use Rattle.drup_check.specs.Inside.{IsRoot, IsFree, IsFiled}
 use Rattle.drup_check.specs.Checking.{CheckerOf}
 use Rattle.unit_propagation.specs.Marks.{Shows}
@@ -68,17 +67,20 @@ module _ (p q : PropagatorOf) (c : List LitOf) (r : IsRoot p) (w : IsPut p c q) 
         | inr n ↦ w.falsified n e
       ]
 
-  pub filed_put : (rows rows' : List (List Entry)) (h n : ℕ) → IsFiled p rows → ((a k : ℕ) → Holds rows a k → Holds rows' a k) → n ≡ length p.slots
-      → Weighs p.vars c h → Holds rows' h n → IsFiled q rows'
-  filed_put rows rows' h n f keeps size weighs held = record { each = each }
+  pub filed_put : (t t' : CopiesOf) (h n : ℕ) → IsFiled p t → ((a k : ℕ) → Holds t a k → Holds t' a k) → n ≡ length p.slots
+      → t'.count ≡ n + 1 → n < length t'.nexts → Weighs p.vars c h → Holds t' h n → IsFiled q t'
+  filed_put t t' h n f keeps size count place weighs held = record { each = each; counted = omega (arith, size, count, grown); placed = omega (arith, size, place, grown) }
     where
-      each : (k : ℕ) (d : List LitOf) → slot_at q.slots k ≡ Some d → (a : ℕ) × Weighs q.vars d a × Holds rows' a k
+      grown : length q.slots ≡ length p.slots + 1
+      grown = ap length w.slots ∙ length_push p.slots (Some c)
+
+      each : (k : ℕ) (d : List LitOf) → slot_at q.slots k ≡ Some d → (a : ℕ) × Weighs q.vars d a × Holds t' a k
       each k d e =
           let e' : slot_at (p.slots ++ Some c ∷ []) k ≡ Some d = subst (λ z. slot_at z k ≡ Some d) w.slots e in
           elim (cases_eq k (length p.slots)) [
             | inl s ↦ let g : Some c ≡ Some d = sym (get_or_push p.slots (Some c) None k (sym s)) ∙ e' in
                 let same : c ≡ d = cc in
-                (h, subst (λ v. Weighs v d h) (sym w.vars) (subst (λ z. Weighs p.vars z h) same weighs), subst (Holds rows' h) (size ∙ sym s) held)
+                (h, subst (λ v. Weighs v d h) (sym w.vars) (subst (λ z. Weighs p.vars z h) same weighs), subst (Holds t' h) (size ∙ sym s) held)
             | inr ne ↦ let inside : k < length p.slots = omega (arith, slot_room (p.slots ++ Some c ∷ []) k d e', length_push p.slots (Some c), ne) in
                 let v = f.each k d (sym (get_or_append_left p.slots (Some c ∷ []) None k inside) ∙ e') in
                 (v.0, subst (λ u. Weighs u d v.0) (sym w.vars) v.1, keeps v.0 k v.2)
@@ -100,9 +102,15 @@ module _ (p q : PropagatorOf) (w : IsWanting p q) where
         falsified = λ e. subst (HasFalsified q.trail) (sym clauses_wanting) (subst (λ z. HasFalsified z (clauses_of p.slots)) (sym s.2) (r.falsified (sym s.3 ∙ e)));
       }
 
-  pub filed_wanting : (rows rows' : List (List Entry)) → ((a k : ℕ) → Holds rows a k → Holds rows' a k) → IsFiled p rows → IsFiled q rows'
-  filed_wanting rows rows' keeps f = record { each = each }
+  pub filed_wanting : (t t' : CopiesOf) → ((a k : ℕ) → Holds t a k → Holds t' a k) → t'.count ≡ t.count → length t'.nexts ≡ length t.nexts + 1 → IsFiled p t → IsFiled q t'
+  filed_wanting t t' keeps count place f = record { each = each; counted = omega (arith, count, f.counted, grown.0); placed = omega (arith, place, f.placed, grown.1) }
     where
+      grown : (length p.slots ≤ length q.slots) × (length q.slots ≤ length p.slots + 1)
+      grown = elim w.0 [
+        | inl s ↦ let e = ap length s in (omega (arith, e), omega (arith, e))
+        | inr s ↦ let e = ap length s ∙ length_push p.slots (let x : Option (List LitOf) = None in x) in (omega (arith, e), omega (arith, e))
+      ]
+
       back : (k : ℕ) (d : List LitOf) → slot_at q.slots k ≡ Some d → slot_at p.slots k ≡ Some d
       back k d e = elim w.0 [
         | inl s ↦ subst (λ z. slot_at z k ≡ Some d) s e
@@ -114,7 +122,7 @@ module _ (p q : PropagatorOf) (w : IsWanting p q) where
             ]
       ]
 
-      each : (k : ℕ) (d : List LitOf) → slot_at q.slots k ≡ Some d → (a : ℕ) × Weighs q.vars d a × Holds rows' a k
+      each : (k : ℕ) (d : List LitOf) → slot_at q.slots k ≡ Some d → (a : ℕ) × Weighs q.vars d a × Holds t' a k
       each k d e =
           let s = slots_of_wanting q w.1 in
           let v = f.each k d (back k d e) in
@@ -143,35 +151,56 @@ module _ (p : PropagatorOf) (k : ℕ) (c d : List LitOf) (at : slot_at p.slots k
     falsified = λ e. absurd (let f : true ≡ false = sym e ∙ free in cc);
   }
 
-  pub filed_without : (rows rows' : List (List Entry)) → ((a j : ℕ) → Holds rows a j → j ≢ k → Holds rows' a j) → IsFiled p rows → IsFiled without rows'
-  filed_without rows rows' keeps f = record { each = each }
+  pub filed_without : (t : CopiesOf) → IsFiled p t → IsFiled without t
+  filed_without t f = record { each = each; counted = omega (arith, f.counted, same_size); placed = omega (arith, f.placed, same_size) }
     where
-      each : (j : ℕ) (x : List LitOf) → slot_at (set p.slots k None) j ≡ Some x → (a : ℕ) × Weighs p.vars x a × Holds rows' a j
+      same_size : length (set p.slots k None) ≡ length p.slots
+      same_size = length-set p.slots k None
+
+      each : (j : ℕ) (x : List LitOf) → slot_at (set p.slots k None) j ≡ Some x → (a : ℕ) × Weighs p.vars x a × Holds t a j
       each j x e =
           elim (cases_eq j k) [
             | inl s ↦ absurd (let g : None ≡ Some x = sym (get_or-set_same p.slots k None None (slot_room p.slots k d at)) ∙ subst (λ n. slot_at (set p.slots k None) n ≡ Some x) s e in cc)
-            | inr ne ↦ let v = f.each j x (sym (get_or-set_other p.slots k j None None ne) ∙ e) in (v.0, v.1, keeps v.0 j v.2 ne)
+            | inr ne ↦ let v = f.each j x (sym (get_or-set_other p.slots k j None None ne) ∙ e) in (v.0, v.1, v.2)
           ]
 
   pub deletes_without : IsRoot p → p.conflict ≡ false → (Conflict (clauses_of p.slots) → ⊥) → (IsReason (clauses_of p.slots) c → ⊥) → Deletes (clauses_of p.slots) c (clauses_of (set p.slots k None))
   deletes_without r free calm kept = inl (removes_at p.slots k c d at same, calm, kept)
 
-pub filed_more : (p : PropagatorOf) (rows rows' : List (List Entry)) → ((a k : ℕ) → Holds rows a k → Holds rows' a k) → IsFiled p rows → IsFiled p rows'
-filed_more p rows rows' keeps f = record { each = λ k d e. let v = f.each k d e in (v.0, v.1, keeps v.0 k v.2) }
+-- the clauses below a number are on their chains
+abbrev pub IsFiledTo : PropagatorOf → CopiesOf → ℕ → Type 0
+IsFiledTo p t k = (j : ℕ) (d : List LitOf) → j < k → slot_at p.slots j ≡ Some d → (h : ℕ) × Weighs p.vars d h × Holds t h j
 
-pub checker_wanting : (p q : PropagatorOf) (rows rows' : List (List Entry)) (marks others : List Bool) → IsWanting p q → ((a k : ℕ) → Holds rows a k → Holds rows' a k)
-    → IsRoot p → IsFree p.vars marks → IsFree p.vars others → IsFiled p rows → IsRoot q × IsFree q.vars marks × IsFree q.vars others × IsFiled q rows'
-checker_wanting p q rows rows' marks others w keeps r m o f =
+pub filed_more : (p : PropagatorOf) (t t' : CopiesOf) (k h : ℕ) (c : List LitOf) → slot_at p.slots k ≡ Some c → Weighs p.vars c h → Holds t' h k → ((a j : ℕ) → Holds t a j → Holds t' a j)
+    → IsFiledTo p t k → IsFiledTo p t' (k + 1)
+filed_more p t t' k h c at weighs held keeps f j d b e =
+    elim (cases_eq j k) [
+      | inl q ↦ let g : Some c ≡ Some d = sym at ∙ subst (λ z. slot_at p.slots z ≡ Some d) q e in
+          let same : c ≡ d = cc in
+          (h, subst (λ z. Weighs p.vars z h) same weighs, subst (Holds t' h) (sym q) held)
+      | inr ne ↦ let v = f j d (omega (arith, b, ne)) e in (v.0, v.1, keeps v.0 j v.2)
+    ]
+
+pub filed_none : (p : PropagatorOf) (t : CopiesOf) (k : ℕ) → slot_at p.slots k ≡ None → IsFiledTo p t k → IsFiledTo p t (k + 1)
+filed_none p t k at f j d b e =
+    elim (cases_eq j k) [
+      | inl q ↦ absurd (let g : None ≡ Some d = sym at ∙ subst (λ z. slot_at p.slots z ≡ Some d) q e in cc)
+      | inr ne ↦ f j d (omega (arith, b, ne)) e
+    ]
+
+pub checker_wanting : (p q : PropagatorOf) (t t' : CopiesOf) (marks others : List Bool) → IsWanting p q → ((a k : ℕ) → Holds t a k → Holds t' a k)
+    → t'.count ≡ t.count → length t'.nexts ≡ length t.nexts + 1 → IsRoot p → IsFree p.vars marks → IsFree p.vars others → IsFiled p t → IsRoot q × IsFree q.vars marks × IsFree q.vars others × IsFiled q t'
+checker_wanting p q t t' marks others w keeps count place r m o f =
     let e : q.vars ≡ p.vars = ap (λ (z : PropagatorOf). z.vars) w.1 in
-    (root_wanting p q w r, subst (λ v. IsFree v marks) (sym e) m, subst (λ v. IsFree v others) (sym e) o, filed_wanting p q w rows rows' keeps f)
+    (root_wanting p q w r, subst (λ v. IsFree v marks) (sym e) m, subst (λ v. IsFree v others) (sym e) o, filed_wanting p q w t t' keeps count place f)
 
-pub checker_put : (p q : PropagatorOf) (c : List LitOf) (rows rows' : List (List Entry)) (marks others : List Bool) (h n : ℕ) → IsPut p c q → ((a k : ℕ) → Holds rows a k → Holds rows' a k)
-    → n ≡ length p.slots → Weighs p.vars c h → Holds rows' h n → IsRoot p → IsFree p.vars marks → IsFree p.vars others → IsFiled p rows → IsRoot q × IsFree q.vars marks × IsFree q.vars others × IsFiled q rows'
-checker_put p q c rows rows' marks others h n w keeps size weighs held r m o f = (
+pub checker_put : (p q : PropagatorOf) (c : List LitOf) (t t' : CopiesOf) (marks others : List Bool) (h n : ℕ) → IsPut p c q → ((a k : ℕ) → Holds t a k → Holds t' a k)
+    → n ≡ length p.slots → t'.count ≡ n + 1 → n < length t'.nexts → Weighs p.vars c h → Holds t' h n → IsRoot p → IsFree p.vars marks → IsFree p.vars others → IsFiled p t → IsRoot q × IsFree q.vars marks × IsFree q.vars others × IsFiled q t'
+checker_put p q c t t' marks others h n w keeps size count place weighs held r m o f = (
   root_put p q c r w,
   subst (λ v. IsFree v marks) (sym w.vars) m,
   subst (λ v. IsFree v others) (sym w.vars) o,
-  filed_put p q c r w rows rows' h n f keeps size weighs held,
+  filed_put p q c r w t t' h n f keeps size count place weighs held,
 )
 
 pub checker_of : (v v' : ℕ) (F G : List (List LitOf)) (r o : Bool) → v ≡ v' → F ≡ G → (let k : CheckerOf = record { vars = v; clauses = F; refuted = r; out_of_memory = o } in k) ≡ record { vars = v'; clauses = G; refuted = r; out_of_memory = o }
@@ -179,13 +208,12 @@ checker_of v v' F G r o e f =
     let mk : ℕ → List (List LitOf) → CheckerOf = λ a b. record { vars = a; clauses = b; refuted = r; out_of_memory = o } in
     ap (λ a. mk a F) e ∙ ap (mk v') f
 
--- no copy is found where the table has none
-pub not_present : (p : PropagatorOf) (rows : List (List Entry)) (entries : List Entry) (marks : List Bool) (c : List LitOf) (w : ℕ) → entries ≡ bucket rows w → w ≡ weight marks → length marks ≡ 2 * p.vars + 2 → Shows marks c
-    → ((k : ℕ) (d : List LitOf) → Contains entries (record { weight = w; clause = k }) → slot_at p.slots k ≡ Some d → SameClause c d → ⊥) → IsFiled p rows → (d : List LitOf) → Contains (clauses_of p.slots) d → SameClause c d → ⊥
-not_present p rows entries marks c w is e size shows none f d h s =
+-- no copy is found where its chain has none
+pub not_present : (p : PropagatorOf) (t : CopiesOf) (marks : List Bool) (c : List LitOf) (w : ℕ) → w ≡ weight marks → length marks ≡ 2 * p.vars + 2 → Shows marks c
+    → ((n k : ℕ) (d : List LitOf) → after t.nexts (beginning t.firsts w) n ≡ k + 1 → slot_at p.slots k ≡ Some d → SameClause c d → ⊥) → IsFiled p t → (d : List LitOf) → Contains (clauses_of p.slots) d → SameClause c d → ⊥
+not_present p t marks c w e size shows none f d h s =
     let k = clauses_of-slot p.slots d h in
     let v = f.each k.0 d k.2 in
     let same : w ≡ v.0 = e ∙ weighs_same p.vars v.0 marks c d v.1 size shows s in
     let held = v.2 in
-    none k.0 d (subst (λ z. Contains z (let x : Entry = record { weight = w; clause = k.0 } in x)) (sym is)
-    (subst (λ a. Contains (bucket rows a) (let x : Entry = record { weight = a; clause = k.0 } in x)) (sym same) held.entry)) k.2 s
+    none held.steps k.0 d (ap (λ a. after t.nexts (beginning t.firsts a) held.steps) same ∙ held.there) k.2 s

@@ -1,17 +1,28 @@
--- The table from the weight of a clause to its copies.
-use Rattle.std.specs.Prelude.{ℕ, ◌%◌, List, [], length, map, Contains, slice_index_or}
-use Rattle.std.specs.declared.vec.Vec.{Vec}
-use Rattle.std.specs.declared.alloc.Global.{Global}
-use Rattle.drup_check.specs.declared.buckets.Entry.{Entry}
+-- Chains of clauses by what they weigh. A link is one more than the number of a clause, or 0.
+use Rattle.std.specs.Prelude.{◌≡◌, ℕ, zero, suc, ◌+◌, ◌-◌, ◌%◌, ◌<◌, ◌≤◌, List, length, slice_index_or}
 
--- the buckets, as lists of entries
-abbrev pub rows_of : List (Vec Entry Global) → List (List Entry)
-rows_of buckets = map (λ (v : Vec Entry Global). v.items) buckets
+-- the links that begin the chains, those from clause to clause, and a bound of them all
+pub record CopiesOf : Type 0 where
+  pub firsts : List ℕ
+  pub nexts : List ℕ
+  pub count : ℕ
 
--- the bucket of a weight
-abbrev pub bucket : List (List Entry) → ℕ → List Entry
-bucket rows h = slice_index_or rows (h % length rows) []
+-- each link is at most the bound, and leads to a lower number
+pub record AreChains (firsts nexts : List ℕ) (count : ℕ) : Type 0 where
+  pub some : 0 < length firsts
+  pub below : (i : ℕ) → slice_index_or firsts i 0 ≤ count
+  pub falls : (k : ℕ) → slice_index_or nexts k 0 ≤ k
 
--- the table has the clause under the weight
-pub record Holds (rows : List (List Entry)) (h k : ℕ) : Type 0 where
-  pub entry : Contains (bucket rows h) (record { weight = h; clause = k })
+-- the link that begins the chain of a weight
+abbrev pub beginning : List ℕ → ℕ → ℕ
+beginning firsts h = slice_index_or firsts (h % length firsts) 0
+
+-- the link that is so many steps after a link
+abbrev pub after : List ℕ → ℕ → ℕ → ℕ
+after nexts at zero = at
+after nexts at (suc n) = after nexts (slice_index_or nexts (at - 1) 0) n
+
+-- the clause is on the chain of the weight
+pub record Holds (t : CopiesOf) (h k : ℕ) : Type 0 where
+  pub steps : ℕ
+  pub there : after t.nexts (beginning t.firsts h) steps ≡ k + 1

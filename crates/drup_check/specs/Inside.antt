@@ -1,12 +1,11 @@
 -- What holds of a checker's fields.
-use Rattle.std.specs.Prelude.{◌≡◌, ℕ, ◌+◌, ◌*◌, Bool, true, List, [], length, Some}
+use Rattle.std.specs.Prelude.{◌≡◌, ℕ, ◌+◌, ◌*◌, ◌≤◌, Bool, true, List, [], length, Some}
 use Rattle.cnf_form.specs.Cnf.{LitOf}
 use Rattle.unit_propagation.specs.Marks.{Shows}
 use Rattle.unit_propagation.specs.Propagation.{HasFalsified, IsDerived}
 use Rattle.unit_propagation.specs.Propagator.{PropagatorOf, clauses_of, slot_at}
-use Rattle.drup_check.specs.declared.buckets.Entry.{Entry}
 use Rattle.drup_check.specs.Marks.{Weighs}
-use Rattle.drup_check.specs.Copies.{Holds}
+use Rattle.drup_check.specs.Copies.{CopiesOf, Holds}
 
 -- no level is open, what is true is in the closure, and a conflict is one of the clauses
 pub record IsRoot (p : PropagatorOf) : Type 0 where
@@ -19,6 +18,8 @@ pub record IsFree (vars : ℕ) (marks : List Bool) : Type 0 where
   pub sized : length marks ≡ 2 * vars + 2
   pub clear : Shows marks []
 
--- the table has each clause that is present
-pub record IsFiled (p : PropagatorOf) (rows : List (List Entry)) : Type 0 where
-  pub each : (k : ℕ) (c : List LitOf) → slot_at p.slots k ≡ Some c → (h : ℕ) × Weighs p.vars c h × Holds rows h k
+-- the chains have each clause that is present, and there is a place for each number
+pub record IsFiled (p : PropagatorOf) (t : CopiesOf) : Type 0 where
+  pub each : (k : ℕ) (c : List LitOf) → slot_at p.slots k ≡ Some c → (h : ℕ) × Weighs p.vars c h × Holds t h k
+  pub counted : t.count ≤ length p.slots
+  pub placed : length p.slots ≤ length t.nexts

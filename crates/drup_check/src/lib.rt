@@ -7,14 +7,14 @@ ghost use Rattle.cnf_form.specs.declared.literal.TheConstants.{MAX_VARS};
 ghost use Rattle.drup_check.specs.Checking.{CheckerOf, start, with_clause};
 
 mod admission;
-mod buckets;
+mod copies;
 mod lookup;
 mod marks;
 
 use admission::{is_reason, reaches_conflict};
-use buckets::Copies;
 use cnf_form::{Formula, Lit, MAX_VARS};
-use lookup::find_clause;
+use copies::Copies;
+use lookup::{file_all, find_clause};
 use marks::weigh;
 use std::alloc::{AllocError, Global};
 use std::marker::Model;
@@ -26,6 +26,9 @@ pub enum Added {
     Admitted,
     NotRup,
 }
+
+// A checker begins with this many chains of clauses.
+const CHAINS: usize = 64;
 
 // As many literals of deleted clauses keep their place at least.
 const FEW: usize = 65_536;
@@ -52,13 +55,12 @@ impl Model for Checker {
 
     ghost Value = { CheckerOf };
 
-    ghost use Rattle.drup_check.specs.Copies.{rows_of};
     ghost use Rattle.drup_check.specs.Inside.{IsRoot, IsFree, IsFiled};
 
     ghost view = { λ k. record { vars = k.core.vars; clauses = clauses_of k.core.slots; refuted = k.refuted; out_of_memory = k.out_of_memory } };
 
     ghost invariant = { λ k. IsRoot k.core × IsFree k.core.vars k.marks.items × IsFree k.core.vars k.others.items
-        × IsFiled k.core (rows_of k.copies.buckets.buckets.items) };
+        × IsFiled k.core k.copies };
 }
 
 impl Checker {
@@ -73,7 +75,7 @@ impl Checker {
         Ok(Checker {
             alloc,
             core,
-            copies: Copies::new(alloc)?,
+            copies: Copies::new(alloc, CHAINS, 0)?,
             marks,
             others,
             negated: Vec::new(alloc),
@@ -96,15 +98,30 @@ impl Checker {
         Ok(checker)
     }
 
+    // Doubles the chains where they are long.
+    fn make_room(&mut self) -> Result<(), AllocError>
+        ensures { self.new ≡ self.old }
+    {
+        if !self.copies.is_full() {
+            return Ok(());
+        }
+        let chains = self.copies.chains().saturating_mul(2);
+        self.copies = file_all(self.alloc, &self.core, chains, &mut self.marks)?;
+        Ok(())
+    }
+
     // Keeps a clause, and what follows from it.
     fn keep(&mut self, clause: &[Lit]) -> Result<(), AllocError>
         requires { ClauseWithin self.old.vars clause.now }
         ensures ok { OnOk result (self.new ≡ record self.old { clauses = self.old.clauses ++ clause.now ∷ [] }) }
         ensures err { OnErr result (self.new ≡ self.old) }
     {
+        self.make_room()?;
         let weight = weigh(clause, &mut self.marks);
-        self.copies.put(weight, self.core.len() as u32)?;
+        self.copies.make_place()?;
+        let k = self.core.len() as u32;
         self.core.put(clause)?;
+        self.copies.enter(weight, k);
         self.live = self.live.saturating_add(clause.len());
         Ok(())
     }
@@ -181,8 +198,7 @@ impl Checker {
         if is_reason(&self.core, clause) {
             return;
         }
-        self.copies.take(found.weight, found.clause);
-        self.core.take_out(found.clause);
+        self.core.take_out(found);
         self.live = self.live.saturating_sub(clause.len());
         self.dead = self.dead.saturating_add(clause.len());
     }

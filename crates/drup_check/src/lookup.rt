@@ -1,15 +1,16 @@
 // The search for a copy of a clause.
 
-ghost use Rattle.std.specs.Prelude.{◌≡◌, ◌↔◌, ℕ, ◌+◌, ◌*◌, ◌<◌, [], List, length, IsTrue, IfSome, IfNone, Some, Contains};
+ghost use Rattle.std.specs.Prelude.{◌≡◌, ◌↔◌, ℕ, ◌+◌, ◌*◌, ◌<◌, ◌≤◌, [], List, length, IsTrue, IfOk, IfSome, IfNone, Some, Contains, slice_index_or};
 ghost use Rattle.cnf_form.specs.Cnf.{LitOf, ClauseWithin, SameClause};
 ghost use Rattle.unit_propagation.specs.Marks.{Shows};
 ghost use Rattle.unit_propagation.specs.Propagator.{clauses_of, slot_at};
 ghost use Rattle.drup_check.specs.Inside.{IsFree, IsFiled};
-ghost use Rattle.drup_check.specs.Copies.{rows_of};
+ghost use Rattle.drup_check.specs.Copies.{after};
 
-use crate::buckets::{Copies, Entry};
-use crate::marks::{is_same, mark_all, unmark_all};
+use crate::copies::Copies;
+use crate::marks::{is_same, mark_all, unmark_all, weigh};
 use cnf_form::Lit;
+use std::alloc::{AllocError, Global};
 use unit_propagation::Propagator;
 
 // Whether the clause with a number is the same set.
@@ -31,11 +32,11 @@ fn is_copy(core: &Propagator, k: u32, clause: &[Lit], marks: &[bool], other: &mu
     }
 }
 
-// The number of a copy among the entries of its weight, which is the number of a clause that is present.
+// The number of a copy, from a link on.
 fn find(
     core: &Propagator,
-    entries: &[Entry],
-    weight: u32,
+    copies: &Copies,
+    start: u32,
     clause: &[Lit],
     marks: &[bool],
     other: &mut [bool],
@@ -44,46 +45,65 @@ fn find(
     requires sized { length marks.now ≡ 2 * core.now.vars + 2 }
     requires shows { Shows marks.now clause.now }
     requires free { IsFree core.now.vars other.old }
+    requires falls { (i : ℕ) → slice_index_or copies.now.nexts i 0 ≤ i }
     ensures free { IsFree core.now.vars other.new }
     ensures found { IfSome result (λ k. (d : List LitOf) × (slot_at core.now.slots k ≡ Some d) × SameClause clause.now d) }
-    ensures none { IfNone result ((k : ℕ) (d : List LitOf) → Contains entries.now (record { weight = weight; clause = k })
+    ensures none { IfNone result ((n k : ℕ) (d : List LitOf) → after copies.now.nexts start n ≡ k + 1
         → slot_at core.now.slots k ≡ Some d → SameClause clause.now d → ⊥) }
 {
-    for entry in entries {
-        let Entry {
-            weight: same,
-            clause: k,
-        } = *entry;
-        if same == weight && is_copy(core, k, clause, marks, other) {
+    let mut at = start;
+    while at != 0 {
+        let k = at - 1;
+        if is_copy(core, k, clause, marks, other) {
             return Some(k);
         }
+        at = copies.next(k);
     }
     None
 }
 
-// The entry of a copy that is present.
+// The number of a copy that is present.
 pub(crate) fn find_clause(
     core: &Propagator,
     copies: &Copies,
     clause: &[Lit],
     marks: &mut [bool],
     others: &mut [bool],
-) -> Option<Entry>
+) -> Option<u32>
     requires within { ClauseWithin core.now.vars clause.now }
     requires free { IsFree core.now.vars marks.old }
     requires others_free { IsFree core.now.vars others.old }
     ensures free { IsFree core.now.vars marks.new }
     ensures others_free { IsFree core.now.vars others.new }
-    ensures found { IfSome result (λ e. (e.clause < length core.now.slots)
-        × ((d : List LitOf) × (slot_at core.now.slots e.clause ≡ Some d) × SameClause clause.now d)) }
-    ensures none { IfNone result (IsFiled core.now (rows_of copies.now.buckets.buckets.items)
+    ensures found { IfSome result (λ k. (k < length core.now.slots)
+        × ((d : List LitOf) × (slot_at core.now.slots k ≡ Some d) × SameClause clause.now d)) }
+    ensures none { IfNone result (IsFiled core.now copies.now
         → (d : List LitOf) → Contains (clauses_of core.now.slots) d → SameClause clause.now d → ⊥) }
 {
     let weight = mark_all(clause, marks);
-    let found = find(core, copies.entries(weight), weight, clause, marks, others);
+    let found = find(core, copies, copies.first(weight), clause, marks, others);
     unmark_all(clause, marks);
-    match found {
-        Some(k) => Some(Entry { weight, clause: k }),
-        None => None,
+    found
+}
+
+// The clauses that are present in so many chains.
+pub(crate) fn file_all(
+    alloc: Global,
+    core: &Propagator,
+    chains: usize,
+    marks: &mut [bool],
+) -> Result<Copies, AllocError>
+    requires chains { 0 < chains }
+    requires free { IsFree core.now.vars marks.old }
+    ensures free { IsFree core.now.vars marks.new }
+    ensures filed { IfOk result (λ t. IsFiled core.now t) }
+{
+    let mut copies = Copies::new(alloc, chains, core.len())?;
+    for k in 0..core.len() {
+        if let Some(clause) = core.clause(k as u32) {
+            let weight = weigh(clause, marks);
+            copies.enter(weight, k as u32);
+        }
     }
+    Ok(copies)
 }

@@ -1,15 +1,14 @@
 -- Clauses that are put on a level, and levels that a decision opens.
 use Rattle.std.proofs.Common.{◌≡◌, ◌≢◌, ℕ, ◌<◌, ◌≤◌, Bool, true, false, List, [], ◌∷◌, ◌++◌, length, get_or, take, refl, sym, ◌∙◌, ap, subst, inl, inr, arith, append_assoc}
 use Rattle.std.specs.Prelude.{Contains, Option, Some, None, Ok, is_some}
-use Rattle.std.proofs.lemmas.Bool.{cases_eq, cases_lt, false≢true}
+use Rattle.std.proofs.lemmas.Bool.{cases_eq, cases_lt}
 use Rattle.std.proofs.lemmas.List.{take-append-le, length-append, length_push}
 use Rattle.std.proofs.lemmas.List.Elements.{Contains-append_left, Contains-push}
 use Rattle.cnf_form.specs.Cnf.{LitOf, negate, ClauseWithin}
-use Rattle.cnf_form.proofs.Literals.{lit_cases}
 use Rattle.unit_propagation.specs.declared.watch.Head.{Head}
 use Rattle.unit_propagation.specs.declared.watch.Watch.{Watch}
 use Rattle.unit_propagation.specs.Propagation.{IsConsistent, IsOpen, IsFixpoint, IsSatisfied, IsFalsified, IsFalsifiedBut, Propagates}
-use Rattle.unit_propagation.specs.Propagator.{PropagatorOf, EndsDecided, slot_at, clauses_of, Assumes, Same}
+use Rattle.unit_propagation.specs.Propagator.{PropagatorOf, EndsDecided, slot_at, clauses_of, Same}
 use Rattle.unit_propagation.specs.Visit.{State, IsKept, AllKept, IsFiled, Walks, SettleFits}
 use Rattle.unit_propagation.specs.Assumption.{AssumeWalks}
 use Rattle.unit_propagation.specs.Inside.{IsPropagator}

@@ -1,14 +1,14 @@
 -- A trail that grows by one literal, or loses its last one.
-use Rattle.std.proofs.Common.{◌≡◌, ◌⊎◌, ℕ, ◌+◌, ◌-◌, ◌*◌, ◌<◌, ◌≤◌, Bool, true, false, not, cond, List, [], ◌∷◌, ◌++◌, length, get_or, set, take, refl, sym, ◌∙◌, ap, subst, inl, inr, arith}
+use Rattle.std.proofs.Common.{◌≡◌, ◌⊎◌, ℕ, ◌+◌, ◌-◌, ◌*◌, ◌<◌, ◌≤◌, Bool, true, false, not, cond, List, [], ◌∷◌, ◌++◌, length, get_or, set, take, drop, refl, sym, ◌∙◌, ap, subst, inl, inr, arith}
 use Rattle.std.specs.Prelude.{Contains}
 use Rattle.std.proofs.lemmas.Bool.{both_ways, cases_eq, cases_lt, cases_Bool}
-use Rattle.std.proofs.lemmas.List.{get_or-set_same, get_or-set_other, take-append-le, take_at, take_all, get_or-take, length-take, get_or_append_left, get_or_push, length_push, length-set}
+use Rattle.std.proofs.lemmas.List.{get_or-set_same, get_or-set_other, take-append-le, take_at, take_all, get_or-take, length-take, get_or_append_left, get_or_push, length_push, length-set, take-append-drop}
 use Rattle.std.proofs.lemmas.List.Sums.{sum_by-set}
 use Rattle.std.proofs.lemmas.List.Elements.{All-push, Contains-append_left, Contains-push, Contains-push_cases, Contains-get_or}
 use Rattle.cnf_form.specs.Cnf.{LitOf, negate, index_of}
 use Rattle.cnf_form.proofs.Literals.{index_of-injective, lit_cases, negate-negate}
-use Rattle.cnf_form.proofs.Members.{take_one_more}
-use Rattle.unit_propagation.specs.Marks.{is_marked, IsBelow, IsTrail, IsPlaced, TrailOf}
+use Rattle.cnf_form.proofs.Members.{take_one_more, Contains-read}
+use Rattle.unit_propagation.specs.Marks.{is_marked, IsBelow, IsDistinct, IsTrail, IsPlaced, TrailOf}
 use Rattle.unit_propagation.specs.declared.watch.Origin.{Origin}
 use Rattle.unit_propagation.specs.Propagation.{IsConsistent, IsOpen}
 
@@ -203,3 +203,10 @@ placed_cut vars origins t t' n w e = rw e (record {
       let short = length-take n t in
       ap (λ (z : LitOf). (get_or origins z.var o).place) (get_or-take n t i d (omega (arith, h, short))) ∙ w.placed i d o (omega (arith, h, short));
 })
+
+-- a literal is open where only those before it are true
+pub open_next : (t : List LitOf) (i : ℕ) (l : LitOf) → i < length t → l ≡ get_or t i l → IsDistinct t → IsConsistent t → IsOpen (take i t) l
+open_next t i l room is d c = record {
+  not_true = λ h. d.once i l room (subst (Contains (take i t)) is h);
+  not_false = λ h. c.apart l (Contains-read t i l room is) (subst (λ z. Contains z (negate l)) (take-append-drop i t) (Contains-append_left (take i t) (drop i t) (negate l) h));
+}

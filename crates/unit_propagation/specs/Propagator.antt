@@ -1,5 +1,5 @@
 -- What a propagator holds.
-use Rattle.std.specs.Prelude.{◌≡◌, ◌⊎◌, ℕ, Bool, true, false, List, [], ◌∷◌, ◌++◌, length, Option, Some, None, Contains, slice_index_or}
+use Rattle.std.specs.Prelude.{◌≡◌, ◌⊎◌, ℕ, Bool, true, false, List, [], ◌∷◌, ◌++◌, length, map, Option, Some, None, Contains, slice_index_or}
 use Rattle.cnf_form.specs.Cnf.{LitOf, negate}
 use Rattle.unit_propagation.specs.declared.outcome.Outcome.{Outcome}
 use Rattle.unit_propagation.specs.declared.outcome.Outcome.TheVariants.{Complete, Falsified, Opposed}
@@ -19,6 +19,10 @@ abbrev pub clauses_of : List (Option (List LitOf)) → List (List LitOf)
 clauses_of [] = []
 clauses_of (Some c ∷ ss) = c ∷ clauses_of ss
 clauses_of (None ∷ ss) = clauses_of ss
+
+-- the slots of those clauses alone
+abbrev pub present : List (Option (List LitOf)) → List (Option (List LitOf))
+present slots = map (λ (c : List LitOf). Some c) (clauses_of slots)
 
 -- the clause at a number
 abbrev pub slot_at : List (Option (List LitOf)) → ℕ → Option (List LitOf)

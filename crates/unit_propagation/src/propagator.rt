@@ -3,9 +3,9 @@
 ghost use Rattle.std.specs.Prelude.{ℕ, ◌≡◌, ◌≢◌, ◌↔◌, ◌⊎◌, ◌+◌, ◌*◌, ◌<◌, ◌≤◌, ◌^◌, ◌++◌, ◌∷◌, [], true, false, List, Option, length, take, Contains, All, IfOk, IfSome, IfNone, OnOk, OnErr, IsTrue, Some, None, slice_get, slice_index_or, slice_set};
 ghost use Rattle.cnf_form.specs.Cnf.{LitOf, negate, LitWithin, ClauseWithin};
 ghost use Rattle.cnf_form.specs.declared.literal.TheConstants.{MAX_VARS};
-ghost use Rattle.unit_propagation.specs.Propagation.{IsConsistent, IsOpen, IsSatisfied, IsFalsified, IsFalsifiedBut, IsFixpoint, Propagates};
+ghost use Rattle.unit_propagation.specs.Propagation.{IsConsistent, IsOpen, IsSatisfied, IsFalsified, IsFalsifiedBut, IsSettled, IsFixpoint, Propagates};
 ghost use Rattle.unit_propagation.specs.Marks.{IsBelow, IsDistinct};
-ghost use Rattle.unit_propagation.specs.Propagator.{clauses_of, slot_at, IsPut, IsWanting, IsAssumed, EndsAssumed, IsDecided, EndsDecided, is_conflict};
+ghost use Rattle.unit_propagation.specs.Propagator.{clauses_of, slot_at, present, IsPut, IsWanting, IsAssumed, EndsAssumed, IsDecided, EndsDecided, is_conflict};
 
 use crate::assume::assume;
 use crate::file::{file_clause, take_out};
@@ -283,6 +283,59 @@ impl Propagator {
             Standing::One(l) => self.put_unit(clause, l),
             Standing::Two(l, m) => self.attach(clause, l, m),
         }
+    }
+
+    // Puts a clause at which nothing is left to do.
+    fn put_settled(&mut self, clause: &[Lit]) -> Result<(), AllocError>
+        requires level { self.old.limits ≡ [] }
+        requires within { ClauseWithin self.old.vars clause.now }
+        requires settled { self.old.conflict ≡ false → IsSettled self.old.trail clause.now }
+        ensures ok { OnOk result (self.new ≡ record self.old { slots = self.old.slots ++ Some clause.now ∷ [] }) }
+        ensures err { OnErr result (IsWanting self.old self.new) }
+    {
+        match scan_clause(clause, &self.trail) {
+            Standing::Two(l, m) => self.attach(clause, l, m),
+            Standing::Satisfied => self.put_loose(clause),
+            Standing::Falsified => self.put_loose(clause),
+            Standing::One(_) => self.put_loose(clause),
+        }
+    }
+
+    // The same literals true, and no clauses.
+    fn without_clauses(&self) -> Result<Self, AllocError>
+        requires level { self.now.limits ≡ [] }
+        ensures { IfOk result (λ p. p ≡ record self.now { slots = [] }) }
+    {
+        let lists = WatchLists::new(self.alloc, self.vars)?;
+        let pairs = WatchLists::new(self.alloc, self.vars)?;
+        let trail = self.trail.again(self.alloc)?;
+        Ok(Propagator {
+            alloc: self.alloc,
+            vars: self.vars,
+            store: ClauseStore::new(self.alloc, self.vars),
+            lists,
+            pairs,
+            trail,
+            limits: Vec::new(self.alloc),
+            conflict: self.conflict,
+        })
+    }
+
+    /// Gives the place of the clauses that were taken out back, at level 0: the others keep their order and are numbered from 0
+    /// on. What made a literal true is told no more. If memory runs out, nothing changes.
+    pub fn collect(&mut self) -> Result<(), AllocError>
+        requires level { self.old.limits ≡ [] }
+        ensures ok { OnOk result (self.new ≡ record self.old { slots = present self.old.slots }) }
+        ensures err { OnErr result (self.new ≡ self.old) }
+    {
+        let mut rest = self.without_clauses()?;
+        for k in 0..self.store.len() {
+            if let Some(clause) = self.clause(k as u32) {
+                rest.put_settled(clause)?;
+            }
+        }
+        *self = rest;
+        Ok(())
     }
 
     /// Opens a level, makes the literals true one after another, and then what follows from them. If memory runs out, nothing

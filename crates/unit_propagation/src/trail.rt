@@ -48,6 +48,18 @@ impl Trail {
         })
     }
 
+    // The same literals, of which no clause is told.
+    pub fn again(&self, alloc: Global) -> Result<Self, AllocError>
+        ensures { IfOk result (λ t. t ≡ self.now) }
+    {
+        let mut trail = Trail::new(alloc, self.vars)?;
+        let lits = self.lits();
+        for place in 0..lits.len() {
+            trail.assign(lits[place], GONE)?;
+        }
+        Ok(trail)
+    }
+
     #[inline(always)]
     pub fn is_true(&self, l: Lit) -> bool
         requires { l.var ≤ self.now.vars }

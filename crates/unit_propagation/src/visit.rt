@@ -59,8 +59,8 @@ fn place_of_open(clause: &[Lit], other: Lit, marks: &[bool]) -> Option<usize>
 {
     for k in 0..clause.len() {
         let m = clause[k];
-        if m != other {
-            if !marks[m.negate().index()] {
+        if !marks[m.negate().index()] {
+            if m != other {
                 return Some(k);
             }
         }
@@ -68,7 +68,7 @@ fn place_of_open(clause: &[Lit], other: Lit, marks: &[bool]) -> Option<usize>
     None
 }
 
-// The same, from a place on, and then from the start.
+// The same, from a place on, and then before it.
 #[inline(always)]
 fn find_open(clause: &[Lit], from: usize, other: Lit, marks: &[bool]) -> Option<usize>
     requires from { from ≤ length clause.now }
@@ -80,7 +80,7 @@ fn find_open(clause: &[Lit], from: usize, other: Lit, marks: &[bool]) -> Option<
 {
     match place_of_open(&clause[from..], other, marks) {
         Some(k) => Some(from + k),
-        None => place_of_open(clause, other, marks),
+        None => place_of_open(&clause[..from], other, marks),
     }
 }
 
@@ -90,14 +90,18 @@ fn other_watch(left: Lit, right: Lit, l: Lit) -> Option<Lit>
     ensures some { IfSome result (λ other. (((left ≡ l) × (right ≡ other)) ⊎ ((right ≡ l) × (left ≡ other))) × (left ≢ right)) }
     ensures none { IfNone result ((left ≡ right) ⊎ ((left ≢ l) × (right ≢ l))) }
 {
-    if left == right {
-        None
-    } else if left == l {
-        Some(right)
-    } else if right == l {
-        Some(left)
+    // Which side it is can't be foreseen: two moves without a branch.
+    let (this, other) = if left == l {
+        (left, right)
     } else {
+        (right, left)
+    };
+    if this != l {
         None
+    } else if this == other {
+        None
+    } else {
+        Some(other)
     }
 }
 
@@ -117,7 +121,8 @@ fn look_at(head: Head, lits: &[Lit], trail: &Trail, falsified: Lit) -> Visit
     }
     let clause = &lits[head.start as usize..head.end as usize];
     match find_open(clause, (head.from - head.start) as usize, other, marks) {
-        Some(k) => Visit::Move(head.start + k as u32, clause[k], other),
+        // The next search begins behind the new watch.
+        Some(k) => Visit::Move(head.start + k as u32 + 1, clause[k], other),
         None => {
             if marks[other.negate().index()] {
                 Visit::Falsify(other)

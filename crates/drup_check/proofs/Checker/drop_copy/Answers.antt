@@ -46,10 +46,10 @@ invariant_of-self-2 c =
     let a' : others.len ≡ length others.items = search rules in
     let b' : length c.find_clause.new.others ≡ length others.items = search rules in
     rw c.take_out.ensures (
-      root_without p c.in-Some.found.clause c.args.clause.now d.0 d.1 d.2 i.0 e kept,
+      root_without p c.in-Some.found c.args.clause.now d.0 d.1 d.2 i.0 e kept,
       freed_back p.vars marks.items c.find_clause.new.marks marks.len a b s.free,
       freed_back p.vars others.items c.find_clause.new.others others.len a' b' s.others_free,
-      filed_without p c.in-Some.found.clause c.args.clause.now d.0 d.1 d.2 _ _ c.take.ensures i.3,
+      filed_without p c.in-Some.found c.args.clause.now d.0 d.1 d.2 _ i.3,
     )
 
 pub returns-clause-deleted : goal.returns-clause-deleted
@@ -65,4 +65,4 @@ returns-clause-deleted c =
     let d = found.1 in
     let slots = ap (λ (q : PropagatorOf). clauses_of q.slots) c.take_out.ensures in
     subst (λ (k : CheckerOf). Deletes k.clauses c.args.clause.now (clauses_of c.take_out.new.self.slots)) c.self.view_is
-    (subst (Deletes (clauses_of p.slots) c.args.clause.now) (sym slots) (deletes_without p c.in-Some.found.clause c.args.clause.now d.0 d.1 d.2 i.0 e calm kept))
+    (subst (Deletes (clauses_of p.slots) c.args.clause.now) (sym slots) (deletes_without p c.in-Some.found c.args.clause.now d.0 d.1 d.2 i.0 e calm kept))

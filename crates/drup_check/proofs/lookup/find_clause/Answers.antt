@@ -1,16 +1,18 @@
-use Rattle.std.proofs.Common.{◌≡◌, ◌+◌, ◌*◌, length, rules}
-use Rattle.drup_check.specs.Copies.{rows_of}
-use Rattle.drup_check.proofs.Present.{slot_room, not_present}
+use Rattle.std.proofs.Common.{◌≡◌, ◌+◌, ◌*◌, ℕ, length, ap, ◌∙◌, rules}
+use Rattle.std.specs.Prelude.{Option, Some, None, IfNone}
+use Rattle.drup_check.specs.Copies.{after}
+use Rattle.drup_check.proofs.Present.{not_present}
 use Rattle.drup_check.proofs.lookup.find_clause.Goals as goal
 
-pub returns-in-Some-clause-found : goal.returns-in-Some-clause-found
-returns-in-Some-clause-found c =
-    let f = c.in-Some.ensures.found in
-    (slot_room c.args.core.now.slots c.in-Some.k f.0 f.1, f)
+if_none : (r : Option ℕ) (P Q : Type 0) → (P → Q) → IfNone r P → IfNone r Q
+if_none None P Q f h = f h
+if_none (Some k) P Q f h = tt
 
-pub returns-in-None-clause-none : goal.returns-in-None-clause-none
-returns-in-None-clause-none c =
+pub returns-clause-none : goal.returns-clause-none
+returns-clause-none c =
     let m = c.mark_all-weight.ensures in
+    let t = c.args.copies.now in
     let size : length c.mark_all-weight.new.marks ≡ 2 * c.args.core.now.vars + 2 = search rules in
-    not_present c.args.core.now (rows_of c.args.copies.now.buckets.buckets.items) c.entries.result.now c.mark_all-weight.new.marks c.args.clause.now c.mark_all-weight.result c.entries.ensures m.weight size m.shows
-    c.in-None.ensures.none
+    if_none c.find-found.result _ _
+    (λ none. not_present c.args.core.now t c.mark_all-weight.new.marks c.args.clause.now c.mark_all-weight.result m.weight size m.shows (λ n k d e. none n k d (ap (λ a. after t.nexts a n) c.first.ensures.first ∙ e)))
+    c.find-found.ensures.none

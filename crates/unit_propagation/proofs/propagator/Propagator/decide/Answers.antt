@@ -1,8 +1,8 @@
 use Rattle.std.proofs.Common.{◌≡◌, ◌++◌, ◌∷◌, [], false, length, take, refl, rules, subst, sym, ap, ◌∙◌}
 use Rattle.std.specs.Prelude.{Ok, Err}
 use Rattle.std.proofs.lemmas.List.{take_at}
-use Rattle.unit_propagation.specs.Propagation.{IsOpen, Propagates}
-use Rattle.unit_propagation.specs.Propagator.{PropagatorOf, IsDecided, EndsDecided, clauses_of}
+use Rattle.unit_propagation.specs.Propagation.{IsOpen}
+use Rattle.unit_propagation.specs.Propagator.{PropagatorOf, IsDecided}
 use Rattle.unit_propagation.specs.Watch.{slots_of, rows_of}
 use Rattle.unit_propagation.specs.Visit.{State, SettleFits}
 use Rattle.unit_propagation.proofs.States.{settle_ok}

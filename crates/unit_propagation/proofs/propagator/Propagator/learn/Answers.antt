@@ -7,7 +7,7 @@ use Rattle.unit_propagation.specs.declared.watch.Head.{Head}
 use Rattle.unit_propagation.specs.Propagation.{IsOpen, IsFalsifiedBut, Propagates, HasFalsified}
 use Rattle.unit_propagation.specs.Propagator.{PropagatorOf, clauses_of, slot_at, IsPut, Same}
 use Rattle.unit_propagation.specs.Watch.{slots_of, rows_of}
-use Rattle.unit_propagation.specs.Visit.{State, IsFiled, IsFiledBut, AllKept, SettleFits, Walks, IsKept}
+use Rattle.unit_propagation.specs.Visit.{State, IsFiled, IsFiledBut, AllKept, SettleFits, IsKept}
 use Rattle.unit_propagation.proofs.Stores.{length-slots}
 use Rattle.unit_propagation.proofs.States.{settle_ok, filed_trail, taken}
 use Rattle.unit_propagation.proofs.Filing.{kept_push, slots_last, filed_but}

@@ -1,0 +1,29 @@
+use Rattle.std.proofs.Common.{◌≡◌, ◌+◌, ◌*◌, length, ◌∙◌, arith, rules}
+use Rattle.drup_check.proofs.Present.{filed_more, filed_none}
+use Rattle.drup_check.proofs.lookup.file_all.Goals.{in-Some, in_default}
+use Rattle.drup_check.proofs.lookup.file_all.Goals as goal
+
+pub loop-k-preserved : goal.loop-k-preserved
+loop-k-preserved c =
+    let p = c.args.core.now in
+    let k = c.loop-k.k in
+    let v = c.loop-k.invariant in
+    elim c.match-clause.branch [
+      | in-Some w ↦
+          let e = w.enter.ensures in
+          let m = w.weigh-weight.ensures in
+          let size : length w.weigh-weight.new.marks ≡ 2 * p.vars + 2 = search rules in
+          rw (w.marks-is, w.copies-is) (record {
+            free = record { sized = size; clear = m.clear };
+            counted = omega (arith, e.count);
+            placed = e.places ∙ v.placed;
+            filed = filed_more p _ _ k w.weigh-weight.result w.in-Some.clause.now w.in-Some.ensures.there (m.weighs p.vars v.free.sized) e.holds e.keeps v.filed;
+          })
+      | in_default w ↦
+          rw (w.marks-is, w.copies-is) (record {
+            free = v.free;
+            counted = omega (arith, v.counted);
+            placed = v.placed;
+            filed = filed_none p _ k w.in_default.ensures.gone v.filed;
+          })
+    ]
