@@ -180,9 +180,9 @@ fn conclude<L: Launch, S: Subject<T> + Drop, T: Settled + Drop>(
 pub fn run_started<
     R: Threads + Wait + Sync,
     L: Launch,
-    S: Subject<T> + Send + Drop,
-    J: Asks<T>,
-    T: Settled + Drop + Send,
+    S: Subject<T> + Drop,
+    J: Asks<T> + Sync,
+    T: Settled + Drop + Send + Sync,
     C: Clock,
 >(
     rt: &R,

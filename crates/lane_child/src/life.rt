@@ -40,15 +40,16 @@ pub(crate) trait Side {
         ensures { runs self.old result self.new };
 }
 
-// The reader's side and the keeper beside each other, the reader as the first half.
+// The reader's side and the keeper beside each other. Where no thread can be made, `join_mut` calls its second closure first. That has to be
+// the reader's side: it needs nothing of the keeper to come to its end, and a keeper without it would wait for ever.
 fn run_beside<
     R: Threads + Wait + Sync,
-    A: Side<Output = X> + Send,
-    J: Asks<T>,
-    T: Settled + Drop,
+    A: Side<Output = X>,
+    J: Asks<T> + Sync,
+    T: Settled + Drop + Send + Sync,
     C: Clock,
-    H: Hold,
-    X: Send,
+    H: Hold + Send,
+    X,
 >(
     rt: &R,
     reader: &mut A,
@@ -71,11 +72,8 @@ fn run_beside<
     ensures killed { MatchOption result.1.why (H.is_killed hold.new ≡ false) (λ why. H.is_killed hold.new ≡ true) }
     ensures reaped { H.is_reaped hold.new ≡ H.is_reaped hold.old }
 {
-    join_mut(
+    let (kept, given) = join_mut(
         rt,
-        &mut || -> X
-            requires { A.can_run reader.now }
-        { reader.run() },
         &mut || -> Kept<T>
             requires cell { watch.now.terms.now.cell < length watch.now.cells.now }
             requires other { IfSome watch.now.other (λ o. o.0 < length watch.now.cells.now) }
@@ -83,7 +81,11 @@ fn run_beside<
             requires room { 2 ≤ events.now.room }
             requires turns { TakesTurns (keeper_from (terms_of T.job T.answer watch.now.terms.now) keeper.Fresh events.now.events) }
         { keep(rt, watch, has_ended, hold, notes, events) },
-    )
+        &mut || -> X
+            requires { A.can_run reader.now }
+        { reader.run() },
+    );
+    (given, kept)
 }
 
 // The reader's side.
@@ -145,9 +147,9 @@ fn end_child<H: Hold, T>(hold: &mut H, kept: &Kept<T>) -> bool
 pub(crate) fn live<
     R: Threads + Wait + Sync,
     L: Launch,
-    S: Subject<T> + Send,
-    J: Asks<T>,
-    T: Settled + Drop + Send,
+    S: Subject<T>,
+    J: Asks<T> + Sync,
+    T: Settled + Drop + Send + Sync,
     C: Clock,
 >(
     rt: &R,

@@ -205,9 +205,9 @@ fn findings_are_for<S: Subject<T>, T: Settled>(subject: &S)
 fn start_child<
     R: Threads + Wait + Sync,
     L: Launch,
-    S: Subject<T> + Send + Drop,
-    J: Asks<T>,
-    T: Settled + Drop + Send,
+    S: Subject<T> + Drop,
+    J: Asks<T> + Sync,
+    T: Settled + Drop + Send + Sync,
     C: Clock,
 >(
     rt: &R,
@@ -290,8 +290,8 @@ fn start_child<
 pub fn run_child<
     R: Threads + Wait + Sync,
     L: Launch,
-    M: Makes<T>,
-    T: Settled + Drop + Send,
+    M: Makes<T> + Sync,
+    T: Settled + Drop + Send + Sync,
     C: Clock,
 >(
     rt: &R,

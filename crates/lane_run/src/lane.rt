@@ -30,7 +30,13 @@ use std::sync::Wait;
 use std::thread::Threads;
 
 // The next job, where no earlier end stops it. Answers its end, and its reader's events.
-fn do_job<R: Threads + Wait + Sync, L: Launch, M: Makes<T>, T: Settled + Drop + Send, C: Clock>(
+fn do_job<
+    R: Threads + Wait + Sync,
+    L: Launch,
+    M: Makes<T> + Sync,
+    T: Settled + Drop + Send + Sync,
+    C: Clock,
+>(
     rt: &R,
     alloc: Global,
     bay: &mut L,
@@ -114,7 +120,13 @@ fn want_lists<M: Makes<T>, T: Settled + Drop, C: Clock>(
 }
 
 // The next job, where no earlier end stops it.
-fn run_job<R: Threads + Wait + Sync, L: Launch, M: Makes<T>, T: Settled + Drop + Send, C: Clock>(
+fn run_job<
+    R: Threads + Wait + Sync,
+    L: Launch,
+    M: Makes<T> + Sync,
+    T: Settled + Drop + Send + Sync,
+    C: Clock,
+>(
     rt: &R,
     alloc: Global,
     bay: &mut L,
@@ -160,7 +172,13 @@ fn run_job<R: Threads + Wait + Sync, L: Launch, M: Makes<T>, T: Settled + Drop +
 }
 
 // The next job: done, or behind an end that ended the lane's work.
-fn run_next<R: Threads + Wait + Sync, L: Launch, M: Makes<T>, T: Settled + Drop + Send, C: Clock>(
+fn run_next<
+    R: Threads + Wait + Sync,
+    L: Launch,
+    M: Makes<T> + Sync,
+    T: Settled + Drop + Send + Sync,
+    C: Clock,
+>(
     rt: &R,
     alloc: Global,
     bay: &mut L,
@@ -197,8 +215,8 @@ fn run_next<R: Threads + Wait + Sync, L: Launch, M: Makes<T>, T: Settled + Drop 
 pub fn run_lane<
     R: Threads + Wait + Sync,
     L: Launch,
-    M: Makes<T>,
-    T: Settled + Drop + Send,
+    M: Makes<T> + Sync,
+    T: Settled + Drop + Send + Sync,
     C: Clock,
 >(
     rt: &R,

@@ -31,12 +31,13 @@ pub struct Lane<L, T> {
 }
 
 // Runs one lane.
-fn run_one<R: Threads + Wait + Sync, L: Launch, M: Makes<T>, T: Settled + Drop + Send, C: Clock>(
-    rt: &R,
-    alloc: Global,
-    task: &Task<'_, M, T, C>,
-    lane: &mut Lane<L, T>,
-)
+fn run_one<
+    R: Threads + Wait + Sync,
+    L: Launch,
+    M: Makes<T> + Sync,
+    T: Settled + Drop + Send + Sync,
+    C: Clock,
+>(rt: &R, alloc: Global, task: &Task<'_, M, T, C>, lane: &mut Lane<L, T>)
     requires ready { IsReady task.now.cells.now lane.old.report lane.old.notes }
     requires start { IfSome task.now.limit.millis (λ millis. C.may_read task.now.clock.now task.now.limit.start) }
     ensures done { HasDone (IsFor T.problem T.job (M.problem task.now.makes.now) task.now.mode) (λ i k. M.is_served task.now.makes.now i (name_at task.now.mode k))
