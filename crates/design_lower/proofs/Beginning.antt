@@ -21,7 +21,7 @@ use Rattle.design_lower.specs.Lowering.{FitsReset, IsKeptWire, kept_signal, regi
 use Rattle.design_lower.proofs.Alike.{IsWired, cell-wired, connect-wired}
 use Rattle.design_lower.proofs.Cells.{enabled-form, form-of, lowered-cases, other-there, place-cases, plain-form, register-there}
 use Rattle.design_lower.proofs.Fitting.{output-width}
-use Rattle.design_lower.proofs.Made.{IsSeenOnce, choice-role, lowered-held, no-register, same-held}
+use Rattle.design_lower.proofs.Made.{IsSeenOnce, lowered-held, no-register, same-held}
 
 -- the bits of a wire, by their places
 pub wire-bit : (w s j n k : ℕ) → k < n → slice_get (bits_from (Wire w s) j n) k ≡ Some (Wire w (s + (j + k)))
@@ -193,11 +193,11 @@ module _ (d : DesignOf) (wired : IsWired d) (i : ℕ) (c : CellOf) (at : IsCell 
         | inr rest ↦ elim rest as (λ _. slice_get (held_row w j z) k ≡ Some x) [
           | inl o ↦
               ap (λ (r : Row). slice_get r k) (sym (same-held d wired i c at fits wire v w seen j z o.1 o.0)) ∙ s.digits j k z x o.1 (other-from j z o.1 o.0 k x start)
-          | inr q ↦
+          | inr e ↦
               let bit = start.4 in
               let same : bit.0 ≡ z = one_at (with_lowered d i c wire).cells j bit.0 z bit.1 there in
               let role : is_register Combinational ≡ true =
-              ap is_register (sym (choice-role d wired i c at fits wire z q.0 q.1)) ∙ subst (λ (y : CellOf). is_register (role_of y.kind) ≡ true) same bit.2 in
+              ap (λ (y : CellOf). is_register (role_of y.kind)) (sym e) ∙ subst (λ (y : CellOf). is_register (role_of y.kind) ≡ true) same bit.2 in
               absurd cc
         ]
       ];
@@ -205,7 +205,7 @@ module _ (d : DesignOf) (wired : IsWired d) (i : ℕ) (c : CellOf) (at : IsCell 
         | inl e ↦ let r : Register ≡ Initial = sym (no-register d wired i c at fits wire) ∙ (ap (λ (y : CellOf). role_of y.kind) (sym e.1) ∙ role) in absurd cc
         | inr rest ↦ elim rest as (λ _. held_row w j z ≡ true ∷ []) [
           | inl o ↦ sym (same-held d wired i c at fits wire v w seen j z o.1 o.0) ∙ s.initial j z o.1 role
-          | inr q ↦ let r : Combinational ≡ Initial = sym (choice-role d wired i c at fits wire z q.0 q.1) ∙ role in absurd cc
+          | inr e ↦ let r : Combinational ≡ Initial = ap (λ (y : CellOf). role_of y.kind) (sym e) ∙ role in absurd cc
         ]
       ];
     }

@@ -1,5 +1,5 @@
 -- The cells of a design in which one cell is lowered.
-use Rattle.std.proofs.Common.{◌≡◌, ◌⊎◌, inl, inr, ℕ, zero, suc, ◌+◌, Bool, true, false, cond, [], ◌∷◌, length, set, Some, refl, ap, subst, ◌∙◌}
+use Rattle.std.proofs.Common.{◌≡◌, ◌⊎◌, inl, inr, ℕ, zero, suc, ◌+◌, Bool, true, false, cond, [], ◌∷◌, length, set, Some, ap, subst, ◌∙◌}
 use Rattle.std.specs.Prelude.{slice_get}
 use Rattle.std.specs.List.{list_any}
 use Rattle.cell_table.specs.declared.kind.Kind.{Kind}
@@ -14,7 +14,7 @@ use Rattle.design_core.proofs.Lists.{one_at}
 use Rattle.design_meaning.specs.Meaning.{IsCell}
 use Rattle.std.proofs.lemmas.Bool.{cases_eq}
 use Rattle.digraph.proofs.Lists.{get-set-other, get-set-same}
-use Rattle.design_lower.specs.Lowering.{FitsReset, choices, enabled_register, has_enable, opened, plain_register, register, shown, taken, with_lowered}
+use Rattle.design_lower.specs.Lowering.{FitsReset, enabled_register, has_enable, plain_register, register, shown, with_lowered}
 use Rattle.design_lower.proofs.Fitting.{kind-cases}
 use Rattle.design_lower.proofs.Lists.{get-behind, get-either, get-written}
 
@@ -34,28 +34,21 @@ plain-form w c h = ap (λ (b : Bool). cond b (enabled_register w c) (plain_regis
 pub enabled-form : (w : ℕ) (c : CellOf) → has_enable c ≡ true → register w c ≡ enabled_register w c
 enabled-form w c h = ap (λ (b : Bool). cond b (enabled_register w c) (plain_register w c)) h
 
-pub choice-cases : (w : ℕ) (c x : CellOf) (j : ℕ) → slice_get (choices w c) j ≡ Some x → (x ≡ shown w c) ⊎ ((x ≡ taken w c) ⊎ ((has_enable c ≡ true) × (x ≡ opened w c)))
-choice-cases w c x zero h = inl cc
-choice-cases w c x (suc zero) h = inr (inl cc)
-choice-cases w c x (suc (suc j)) h = inr (inr (by (has_enable c) refl j h))
-  where
-    by : (b : Bool) → has_enable c ≡ b → (k : ℕ) → slice_get (cond b (opened w c ∷ []) []) k ≡ Some x → (has_enable c ≡ true) × (x ≡ opened w c)
-    by true e zero g = (e, cc)
-    by true e (suc k) g = absurd cc
-    by false e k g = absurd cc
+pub only-one : (x y : CellOf) (j : ℕ) → slice_get (y ∷ []) j ≡ Some x → x ≡ y
+only-one x y zero h = cc
+only-one x y (suc j) h = absurd cc
 
 module _ (d : DesignOf) (i : ℕ) (c : CellOf) (at : IsCell d i c) (wire : WireOf) where
   pub register-there : IsCell (with_lowered d i c wire) i (register (length d.wires) c)
   register-there =
-      slice_get-append (set d.cells i (register (length d.wires) c)) (choices (length d.wires) c) i (register (length d.wires) c) (get-set-same d.cells i (register (length d.wires) c) c at)
+      slice_get-append (set d.cells i (register (length d.wires) c)) (shown (length d.wires) c ∷ []) i (register (length d.wires) c) (get-set-same d.cells i (register (length d.wires) c) c at)
 
   pub other-there : (j : ℕ) (x : CellOf) → IsCell d j x → (j ≡ i → ⊥) → IsCell (with_lowered d i c wire) j x
   other-there j x there n =
-      slice_get-append (set d.cells i (register (length d.wires) c)) (choices (length d.wires) c) j x (get-set-other d.cells i j (register (length d.wires) c) n ∙ there)
+      slice_get-append (set d.cells i (register (length d.wires) c)) (shown (length d.wires) c ∷ []) j x (get-set-other d.cells i j (register (length d.wires) c) n ∙ there)
 
-  pub choice-there : (k : ℕ) (x : CellOf) → slice_get (choices (length d.wires) c) k ≡ Some x
-      → IsCell (with_lowered d i c wire) (length (set d.cells i (register (length d.wires) c)) + k) x
-  choice-there k x h = get-behind (set d.cells i (register (length d.wires) c)) (choices (length d.wires) c) k ∙ h
+  pub shown-there : IsCell (with_lowered d i c wire) (length (set d.cells i (register (length d.wires) c)) + 0) (shown (length d.wires) c)
+  shown-there = get-behind (set d.cells i (register (length d.wires) c)) (shown (length d.wires) c ∷ []) 0
 
   -- a cell of d is the lowered one or another
   pub place-cases : (j : ℕ) (x : CellOf) → IsCell d j x → ((j ≡ i) × (x ≡ c)) ⊎ (j ≡ i → ⊥)
@@ -64,15 +57,15 @@ module _ (d : DesignOf) (i : ℕ) (c : CellOf) (at : IsCell d i c) (wire : WireO
     | inr n ↦ inr n
   ]
 
-  -- a cell of the lowered design is the register, another cell of d, or a new `$mux`
+  -- a cell of the lowered design is the register, another cell of d, or the new `$mux`
   pub lowered-cases : (j : ℕ) (x : CellOf) → IsCell (with_lowered d i c wire) j x
-      → ((j ≡ i) × (x ≡ register (length d.wires) c)) ⊎ (((j ≡ i → ⊥) × IsCell d j x) ⊎ ((k : ℕ) × (slice_get (choices (length d.wires) c) k ≡ Some x)))
+      → ((j ≡ i) × (x ≡ register (length d.wires) c)) ⊎ (((j ≡ i → ⊥) × IsCell d j x) ⊎ (x ≡ shown (length d.wires) c))
   lowered-cases j x h =
-      elim (get-either (set d.cells i (register (length d.wires) c)) (choices (length d.wires) c) j x h)
-      as (λ _. ((j ≡ i) × (x ≡ register (length d.wires) c)) ⊎ (((j ≡ i → ⊥) × IsCell d j x) ⊎ ((k : ℕ) × (slice_get (choices (length d.wires) c) k ≡ Some x)))) [
-        | inl front ↦ elim (get-written d.cells i j (register (length d.wires) c) c x at front) as (λ _. ((j ≡ i) × (x ≡ register (length d.wires) c)) ⊎ (((j ≡ i → ⊥) × IsCell d j x) ⊎ ((k : ℕ) × (slice_get (choices (length d.wires) c) k ≡ Some x)))) [
+      elim (get-either (set d.cells i (register (length d.wires) c)) (shown (length d.wires) c ∷ []) j x h)
+      as (λ _. ((j ≡ i) × (x ≡ register (length d.wires) c)) ⊎ (((j ≡ i → ⊥) × IsCell d j x) ⊎ (x ≡ shown (length d.wires) c))) [
+        | inl front ↦ elim (get-written d.cells i j (register (length d.wires) c) c x at front) as (λ _. ((j ≡ i) × (x ≡ register (length d.wires) c)) ⊎ (((j ≡ i → ⊥) × IsCell d j x) ⊎ (x ≡ shown (length d.wires) c))) [
           | inl here ↦ inl here
           | inr other ↦ inr (inl other)
         ]
-        | inr behind ↦ inr (inr (behind.0, behind.2))
+        | inr behind ↦ inr (inr (only-one x (shown (length d.wires) c) behind.0 behind.2))
       ]

@@ -1,5 +1,5 @@
--- What the `$mux` cells of a lowered register give.
-use Rattle.std.proofs.Common.{◌≡◌, Bool, true, false, cond, not, List, [], ◌∷◌, map, Option, Some, None, refl, ap, sym, ◌∙◌}
+-- What the `$mux` of a lowered register gives.
+use Rattle.std.proofs.Common.{◌≡◌, ℕ, Bool, true, false, cond, not, List, [], ◌∷◌, map, Option, Some, None, refl, ap, sym, ◌∙◌}
 use Rattle.sby_bits.specs.Rows.{Row}
 use Rattle.cell_table.specs.declared.kind.Kind.TheVariants.{Mux}
 use Rattle.design_signals.specs.declared.sig_bit.SigBit.{SigBit}
@@ -13,7 +13,7 @@ use Rattle.design_core.specs.declared.names.ParameterName.TheVariants.{ArstPolar
 use Rattle.design_core.specs.declared.table.Role.TheVariants.{ResetRegister}
 use Rattle.design_check.specs.Faults.{flag}
 use Rattle.design_meaning.specs.Meaning.{Valuation, row_in, digit_in, digits_in, parameters_in, ports_in}
-use Rattle.design_lower.specs.Lowering.{FitsReset, choice, digit_bit, digits_or_none, reset_signal}
+use Rattle.design_lower.specs.Lowering.{FitsReset, digit_bit, digits_or_none, kept_signal, reset_signal, shown}
 use Rattle.design_lower.proofs.Fitting.{flag-set, has-reset}
 
 -- the cell is reset in w
@@ -46,11 +46,11 @@ module _ (w : Valuation) where
   chosen false true x y = refl
   chosen false false x y = refl
 
-  -- such a `$mux` gives the one row while the cell is reset, else the other
-  pub choice-row : (c : CellOf) → FitsReset c → (width : List Digit) (reset other output : List SigBit)
-      → cell_fn Mux (parameters_in w (choice c width reset other output)) (ports_in w (choice c width reset other output)) ≡ cond (reset_in w c) (row_in w reset) (row_in w other)
-  choice-row c fits width reset other output =
+  -- the `$mux` gives ARST_VALUE while the cell is reset, else the kept row
+  pub shown-gives : (n : ℕ) (c : CellOf) → FitsReset c
+      → cell_fn Mux (parameters_in w (shown n c)) (ports_in w (shown n c)) ≡ cond (reset_in w c) (row_in w (reset_signal c)) (row_in w (kept_signal n c))
+  shown-gives n c fits =
       let s : Bool = is_set (row_in w (signal_at c.ports Arst)) in
-      chosen (flag c ArstPolarity) s reset other
-      ∙ ap (λ (f : Bool). cond (cond f (is_set (row_in w (signal_at c.ports Arst))) (not (is_set (row_in w (signal_at c.ports Arst))))) (row_in w reset) (row_in w other))
+      chosen (flag c ArstPolarity) s (reset_signal c) (kept_signal n c)
+      ∙ ap (λ (f : Bool). cond (cond f (is_set (row_in w (signal_at c.ports Arst))) (not (is_set (row_in w (signal_at c.ports Arst))))) (row_in w (reset_signal c)) (row_in w (kept_signal n c)))
       (sym (flag-set w c.parameters ArstPolarity (has-reset c fits).polarity))

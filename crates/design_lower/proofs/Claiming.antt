@@ -4,13 +4,13 @@ use Rattle.std.specs.Prelude.{slice_get}
 use Rattle.std.specs.List.{filter}
 use Rattle.std.proofs.lemmas.List.Elements.{filter-append}
 use Rattle.cell_table.specs.declared.kind.Kind.{Kind}
-use Rattle.cell_table.specs.declared.kind.Kind.TheVariants.{Adff, Adffe, Dff, Dffe, Mux}
+use Rattle.cell_table.specs.declared.kind.Kind.TheVariants.{Adff, Adffe, Sdff, Sdffe, Mux}
 use Rattle.design_core.specs.Cells.{Ports, is_set}
 use Rattle.design_core.specs.Shape.{CellOf, DesignOf}
 use Rattle.design_core.specs.declared.names.PortName.TheVariants.{A, En}
 use Rattle.design_meaning.specs.Claims.{NoBreak, NoReach, ReachRun, Shows}
 use Rattle.design_meaning.specs.Meaning.{Valuation, Assumed, Broken, IsCell, Reached, asserts, assumes, covers, is_assert, is_assume, is_cover, ports_in}
-use Rattle.design_lower.specs.Lowering.{FitsReset, LowersSome, choices, has_enable, opened, register, shown, taken, with_lowered}
+use Rattle.design_lower.specs.Lowering.{FitsReset, LowersSome, register, shown, with_lowered}
 use Rattle.design_lower.specs.Seen.{IsSeen}
 use Rattle.design_lower.proofs.Alike.{IsWired, cell-wired, ports-alike}
 use Rattle.design_lower.proofs.Cells.{enabled-form, form-of, plain-form}
@@ -40,20 +40,11 @@ append-none {X = X} xs ys e = ap (λ (r : List X). xs ++ r) e ∙ by xs
 pub record IsApart (test : Kind → Bool) : Type 0 where
   pub plain : test Adff ≡ false
   pub enabled : test Adffe ≡ false
-  pub register : test Dff ≡ false
-  pub held : test Dffe ≡ false
-  pub choice : test Mux ≡ false
+  pub register : test Sdff ≡ false
+  pub held : test Sdffe ≡ false
+  pub shown : test Mux ≡ false
 
 module _ (test : Kind → Bool) (apart : IsApart test) where
-  choices-none : (n : ℕ) (c : CellOf) → filter (λ (x : CellOf). test x.kind) (choices n c) ≡ []
-  choices-none n c =
-      let rest : List CellOf = cond (has_enable c) (opened n c ∷ []) [] in
-      filter-past (λ (x : CellOf). test x.kind) (shown n c) (taken n c ∷ rest) apart.choice ∙ (filter-past (λ (x : CellOf). test x.kind) (taken n c) rest apart.choice ∙ by (has_enable c))
-    where
-      by : (b : Bool) → filter (λ (x : CellOf). test x.kind) (cond b (opened n c ∷ []) []) ≡ []
-      by true = ap (λ (b : Bool). cond b (opened n c ∷ []) []) apart.choice
-      by false = refl
-
   lowered-statements : (d : DesignOf) (i : ℕ) (c : CellOf) → IsCell d i c → FitsReset c → (wire : _) → filter (λ (x : CellOf). test x.kind) (with_lowered d i c wire).cells ≡ filter (λ (x : CellOf). test x.kind) d.cells
   lowered-statements d i c at fits wire =
       let f : CellOf → Bool = λ x. test x.kind in
@@ -63,8 +54,8 @@ module _ (test : Kind → Bool) (apart : IsApart test) where
         | inl plain ↦ ap (λ (x : CellOf). test x.kind) (plain-form (length d.wires) c plain.1) ∙ apart.register
         | inr enabled ↦ ap (λ (x : CellOf). test x.kind) (enabled-form (length d.wires) c enabled.1) ∙ apart.held
       ] in
-      filter-append f (set d.cells i r) (choices (length d.wires) c)
-      ∙ (append-none (filter f (set d.cells i r)) (filter f (choices (length d.wires) c)) (choices-none (length d.wires) c)
+      filter-append f (set d.cells i r) (shown (length d.wires) c ∷ [])
+      ∙ (append-none (filter f (set d.cells i r)) (filter f (shown (length d.wires) c ∷ [])) (filter-past f (shown (length d.wires) c) [] apart.shown)
       ∙ filter-set f d.cells i c r at old new)
 
   pub same-statements : (n : ℕ) (d e : DesignOf) → LowersSome n d e → filter (λ (x : CellOf). test x.kind) e.cells ≡ filter (λ (x : CellOf). test x.kind) d.cells
@@ -88,13 +79,13 @@ from-filter {X = X} test (y ∷ xs) k x h = by (test y) h (λ j g. let r = from-
     by false g later = later k g
 
 assert-apart : IsApart is_assert
-assert-apart = record { plain = refl; enabled = refl; register = refl; held = refl; choice = refl }
+assert-apart = record { plain = refl; enabled = refl; register = refl; held = refl; shown = refl }
 
 assume-apart : IsApart is_assume
-assume-apart = record { plain = refl; enabled = refl; register = refl; held = refl; choice = refl }
+assume-apart = record { plain = refl; enabled = refl; register = refl; held = refl; shown = refl }
 
 cover-apart : IsApart is_cover
-cover-apart = record { plain = refl; enabled = refl; register = refl; held = refl; choice = refl }
+cover-apart = record { plain = refl; enabled = refl; register = refl; held = refl; shown = refl }
 
 -- ---- claims
 

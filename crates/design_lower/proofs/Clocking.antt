@@ -4,7 +4,7 @@ use Rattle.design_signals.specs.declared.sig_bit.SigBit.{SigBit}
 use Rattle.design_core.specs.Asked.{number_of}
 use Rattle.design_core.specs.Ports.{digits_at}
 use Rattle.design_core.specs.Shape.{WireOf, CellOf, DesignOf}
-use Rattle.design_core.specs.Table.{is_clocked}
+use Rattle.design_core.specs.Table.{is_clocked, role_of}
 use Rattle.design_core.specs.declared.digit.Digit.{Digit}
 use Rattle.design_core.specs.declared.names.ParameterName.TheVariants.{ClkPolarity}
 use Rattle.design_check.specs.Faults.{IsConflict, IsFirstClocked, IsOneClock, IsOtherClock, clock_of, flag}
@@ -13,8 +13,7 @@ use Rattle.design_meaning.specs.Meaning.{IsCell, IsStart, is_register}
 use Rattle.design_lower.specs.Lowering.{FitsReset, IsKeptWire, digits_or_none, register, with_lowered}
 use Rattle.design_lower.proofs.Alike.{IsWired}
 use Rattle.design_lower.proofs.Beginning.{chain-from, chain-to, other-from, other-to, start-from, start-to}
-use Rattle.design_lower.proofs.Cells.{choice-cases, enabled-form, form-of, lowered-cases, other-there, place-cases, plain-form, register-there}
-use Rattle.design_lower.proofs.Made.{choice-role}
+use Rattle.design_lower.proofs.Cells.{enabled-form, form-of, lowered-cases, other-there, place-cases, plain-form, register-there}
 
 pub number-kept : (o : Option (List Digit)) → number_of (Some (digits_or_none o)) ≡ number_of o
 number-kept None = refl
@@ -59,15 +58,9 @@ module _ (d : DesignOf) (wired : IsWired d) (i : ℕ) (c : CellOf) (at : IsCell 
     | inl e ↦ (c, subst (λ (n : ℕ). IsCell d n c) (sym e.0) at, subst (λ (z : CellOf). IsSameClock c z) (sym e.1) register-clock)
     | inr rest ↦ elim rest as (λ _. (x : CellOf) × IsCell d j x × IsSameClock x y) [
       | inl o ↦ (y, o.1, same-clock y)
-      | inr q ↦ absurd (elim (choice-cases (length d.wires) c y q.0 q.1) as (λ _. ⊥) [
-        | inl e ↦ not-clocked (ap (λ (z : CellOf). is_clocked z.kind) e)
-        | inr more ↦ elim more as (λ _. ⊥) [ inl e ↦ not-clocked (ap (λ (z : CellOf). is_clocked z.kind) e) | inr e ↦ not-clocked (ap (λ (z : CellOf). is_clocked z.kind) e.1) ]
-      ])
+      | inr e ↦ let clash : true ≡ false = sym clocked ∙ ap (λ (z : CellOf). is_clocked z.kind) e in absurd cc
     ]
   ]
-    where
-      not-clocked : is_clocked y.kind ≡ false → ⊥
-      not-clocked e = let clash : true ≡ false = sym clocked ∙ e in absurd cc
 
   net-to : (a b : SigBit) → IsOneNet d a b → IsOneNet (with_lowered d i c wire) a b
   net-to a b h = (h.0, h.1, h.2, chain-to d wired i c at fits wire kept h.0 a h.2 h.3, chain-to d wired i c at fits wire kept h.1 b h.2 h.4)
@@ -122,9 +115,7 @@ module _ (d : DesignOf) (wired : IsWired d) (i : ℕ) (c : CellOf) (at : IsCell 
         | inl e ↦ subst (λ (n : ℕ). IsStart d n k x) (sym e.0) (start-from d wired i c at fits wire kept k x (subst (λ (n : ℕ). IsStart (with_lowered d i c wire) n k x) e.0 h))
         | inr rest ↦ elim rest as (λ _. IsStart d j k x) [
           | inl o ↦ other-from d wired i c at fits wire kept j bit.0 o.1 o.0 k x h
-          | inr q ↦
-              let role : false ≡ true = ap is_register (sym (choice-role d wired i c at fits wire bit.0 q.0 q.1)) ∙ bit.2 in
-              absurd cc
+          | inr e ↦ let role : false ≡ true = ap (λ (y : CellOf). is_register (role_of y.kind)) (sym e) ∙ bit.2 in absurd cc
         ]
       ]
 

@@ -1,5 +1,5 @@
 -- Bits are driven once in a design exactly where they are in the design with one cell lowered.
-use Rattle.std.proofs.Common.{◌≡◌, ◌⊎◌, inl, inr, ℕ, zero, suc, ◌+◌, ◌<◌, Bool, true, false, cond, List, [], ◌∷◌, length, set, Some, IsTrue, Option, refl, ap, sym, subst, ◌∙◌, arith}
+use Rattle.std.proofs.Common.{◌≡◌, ◌⊎◌, inl, inr, ℕ, zero, suc, ◌+◌, ◌<◌, true, false, List, [], ◌∷◌, length, set, Some, IsTrue, Option, refl, ap, sym, subst, ◌∙◌, arith}
 use Rattle.std.specs.Prelude.{slice_get}
 use Rattle.std.proofs.lemmas.Option.{slice_get_within}
 use Rattle.std.proofs.lemmas.List.{length-set}
@@ -18,11 +18,11 @@ use Rattle.design_graph.specs.declared.item.Item.TheVariants.{Cell, Connect}
 use Rattle.design_graph.proofs.Unique.{one-drive}
 use Rattle.digraph.proofs.Lists.{get-below, get-push-either}
 use Rattle.design_meaning.specs.Meaning.{IsCell}
-use Rattle.design_lower.specs.Lowering.{FitsReset, IsKeptWire, choices, has_enable, kept_signal, opened, register, shown, taken, with_lowered}
+use Rattle.design_lower.specs.Lowering.{FitsReset, IsKeptWire, kept_signal, register, shown, with_lowered}
 use Rattle.design_lower.proofs.Alike.{IsWired, connect-wired}
 use Rattle.design_lower.proofs.Beginning.{length-bits_from, no-wire, output-wired, wire-bit}
 use Rattle.design_lower.proofs.Lists.{get-either, get-written}
-use Rattle.design_lower.proofs.Cells.{choice-there, enabled-form, form-of, other-there, place-cases, plain-form}
+use Rattle.design_lower.proofs.Cells.{enabled-form, form-of, other-there, place-cases, plain-form, shown-there}
 
 -- each bit that is driven is a wire's, no input's, and is driven at one place
 pub record IsUnique (d : DesignOf) : Type 0 where
@@ -71,7 +71,7 @@ wire-bits w s n k a h =
     (lt, one ∙ ap (λ (x : ℕ). Wire w (s + x)) e)
 
 module _ (d : DesignOf) (wired : IsWired d) (i : ℕ) (c : CellOf) (at : IsCell d i c) (fits : FitsReset c) (wire : WireOf) (kept : IsKeptWire d i c wire) where
-  -- where the `$mux` cells stand
+  -- where the `$mux` stands
   abbrev behind : ℕ
   behind = length (set d.cells i (register (length d.wires) c))
 
@@ -108,7 +108,7 @@ module _ (d : DesignOf) (wired : IsWired d) (i : ℕ) (c : CellOf) (at : IsCell 
     | inl e ↦
         let first : behind + 0 ≡ behind = omega arith in
         let there : IsCell (with_lowered d i c wire) behind (shown (length d.wires) c) =
-        subst (λ (n : ℕ). IsCell (with_lowered d i c wire) n (shown (length d.wires) c)) first (choice-there d i c at wire 0 (shown (length d.wires) c) refl) in
+        subst (λ (n : ℕ). IsCell (with_lowered d i c wire) n (shown (length d.wires) c)) first (shown-there d i c at wire) in
         let bit : slice_get (output_of c) k ≡ Some a = subst (λ (x : CellOf). slice_get (output_of x) k ≡ Some a) e.1 h.2 in
         (Cell behind, inl (ap (λ (n : ℕ). Cell n) e.0, refl), (shown (length d.wires) c, there, bit))
     | inr n ↦
@@ -116,75 +116,46 @@ module _ (d : DesignOf) (wired : IsWired d) (i : ℕ) (c : CellOf) (at : IsCell 
         (Cell j, inr (λ e. n (one-cell j i e), refl, λ e. let same = one-cell j behind e in absurd (omega (arith, lt, same, behind-all))), (h.0, other-there d i c at wire j h.0 h.1 n, h.2))
   ]
 
-  -- what is driven in the lowered design: what d drives, or a bit of the new wire, by the register or a `$mux`
+  -- what is driven in the lowered design: what d drives, or a bit of the new wire, by the register
   abbrev pub DrivesNew : Item → ℕ → SigBit → Type 0
-  DrivesNew f k a = ((f ≡ Cell i) × (k < number_at c.parameters Width) × (a ≡ Wire (length d.wires) k))
-      ⊎ (((f ≡ Cell (behind + 1)) × (k < number_at c.parameters Width) × (a ≡ Wire (length d.wires) (number_at c.parameters Width + k)))
-      ⊎ ((f ≡ Cell (behind + 2)) × (k < 1) × (a ≡ Wire (length d.wires) (number_at c.parameters Width + number_at c.parameters Width + k))))
+  DrivesNew f k a = (f ≡ Cell i) × (k < number_at c.parameters Width) × (a ≡ Wire (length d.wires) k)
 
-  drives-choice : (j : ℕ) (x : CellOf) (k : ℕ) (a : SigBit) → slice_get (choices (length d.wires) c) j ≡ Some x → slice_get (output_of x) k ≡ Some a
-      → ((e : Item) × IsMoved e (Cell (behind + j)) × DrivesBit d e k a) ⊎ DrivesNew (Cell (behind + j)) k a
-  drives-choice zero x k a h g =
+  drives-shown : (j : ℕ) (x : CellOf) (k : ℕ) (a : SigBit) → slice_get (shown (length d.wires) c ∷ []) j ≡ Some x → slice_get (output_of x) k ≡ Some a
+      → (e : Item) × IsMoved e (Cell (behind + j)) × DrivesBit d e k a
+  drives-shown zero x k a h g =
       let same : x ≡ shown (length d.wires) c = cc in
       let first : behind + 0 ≡ behind = omega arith in
-      inl (Cell i, inl (refl, ap (λ (n : ℕ). Cell n) first), (c, at, subst (λ (y : CellOf). slice_get (output_of y) k ≡ Some a) same g))
-  drives-choice (suc zero) x k a h g =
-      let same : x ≡ taken (length d.wires) c = cc in
-      let bit = wire-bits (length d.wires) (number_at c.parameters Width) (number_at c.parameters Width) k a (subst (λ (y : CellOf). slice_get (output_of y) k ≡ Some a) same g) in
-      inr (inr (inl (refl, bit.0, bit.1)))
-  drives-choice (suc (suc j)) x k a h g = by (has_enable c) j h
-    where
-      by : (b : Bool) (n : ℕ) → slice_get (cond b (opened (length d.wires) c ∷ []) []) n ≡ Some x
-          → ((e : Item) × IsMoved e (Cell (behind + suc (suc n))) × DrivesBit d e k a) ⊎ DrivesNew (Cell (behind + suc (suc n))) k a
-      by true zero e =
-          let same : x ≡ opened (length d.wires) c = cc in
-          let bit = wire-bits (length d.wires) (number_at c.parameters Width + number_at c.parameters Width) 1 k a (subst (λ (y : CellOf). slice_get (output_of y) k ≡ Some a) same g) in
-          inr (inr (inr (refl, bit.0, bit.1)))
-      by true (suc n) e = absurd cc
-      by false n e = absurd cc
+      (Cell i, inl (refl, ap (λ (n : ℕ). Cell n) first), (c, at, subst (λ (y : CellOf). slice_get (output_of y) k ≡ Some a) same g))
+  drives-shown (suc j) x k a h g = absurd cc
 
   drives-from : (f : Item) (k : ℕ) (a : SigBit) → DrivesBit (with_lowered d i c wire) f k a → ((e : Item) × IsMoved e f × DrivesBit d e k a) ⊎ DrivesNew f k a
   drives-from (Connect j) k a h = inl (Connect j, inr (λ e. other-item i j (sym e), refl, λ e. other-item behind j (sym e)), h)
   drives-from (Cell j) k a h =
-      elim (get-either (set d.cells i (register (length d.wires) c)) (choices (length d.wires) c) j h.0 h.1) as (λ _. ((e : Item) × IsMoved e (Cell j) × DrivesBit d e k a) ⊎ DrivesNew (Cell j) k a) [
+      elim (get-either (set d.cells i (register (length d.wires) c)) (shown (length d.wires) c ∷ []) j h.0 h.1) as (λ _. ((e : Item) × IsMoved e (Cell j) × DrivesBit d e k a) ⊎ DrivesNew (Cell j) k a) [
         | inl front ↦ elim (get-written d.cells i j (register (length d.wires) c) c h.0 at front) as (λ _. ((e : Item) × IsMoved e (Cell j) × DrivesBit d e k a) ⊎ DrivesNew (Cell j) k a) [
           | inl e ↦
               let bit : slice_get (kept_signal (length d.wires) c) k ≡ Some a =
               ap (λ (s : List SigBit). slice_get s k) (sym register-output) ∙ subst (λ (x : CellOf). slice_get (output_of x) k ≡ Some a) e.1 h.2 in
               let is = wire-bits (length d.wires) 0 (number_at c.parameters Width) k a bit in
               let zero-first : 0 + k ≡ k = omega arith in
-              inr (inl (ap (λ (n : ℕ). Cell n) e.0, is.0, is.1 ∙ ap (λ (n : ℕ). Wire (length d.wires) n) zero-first))
+              inr (ap (λ (n : ℕ). Cell n) e.0, is.0, is.1 ∙ ap (λ (n : ℕ). Wire (length d.wires) n) zero-first)
           | inr o ↦
               let lt = get-below d.cells j h.0 o.1 in
               inl (Cell j, inr (λ e. o.0 (one-cell j i e), refl, λ e. let same = one-cell j behind e in absurd (omega (arith, lt, same, behind-all))), (h.0, o.1, h.2))
         ]
-        | inr q ↦ subst (λ (n : ℕ). ((e : Item) × IsMoved e (Cell n) × DrivesBit d e k a) ⊎ DrivesNew (Cell n) k a) (sym q.1) (drives-choice q.0 h.0 k a q.2 h.2)
+        | inr q ↦ inl (subst (λ (n : ℕ). (e : Item) × IsMoved e (Cell n) × DrivesBit d e k a) (sym q.1) (drives-shown q.0 h.0 k a q.2 h.2))
       ]
 
   drives-wired : (e : Item) (k : ℕ) (a : SigBit) → DrivesBit d e k a → IsDeclared d.wires d.free a
   drives-wired (Cell j) k a h = output-wired d wired j k h.0 a h.1 h.2
   drives-wired (Connect j) k a h = All-contains (IsDeclared d.wires d.free) h.0.left a (connect-wired d wired j h.0 h.1).0 (Contains-from_place h.0.left k a h.2)
 
-  new-wire : (f : Item) (k : ℕ) (a : SigBit) → DrivesNew f k a → (p : ℕ) × (a ≡ Wire (length d.wires) p)
-  new-wire f k a (inl h) = (k, h.2)
-  new-wire f k a (inr (inl h)) = (number_at c.parameters Width + k, h.2)
-  new-wire f k a (inr (inr h)) = (number_at c.parameters Width + number_at c.parameters Width + k, h.2)
-
   not-both : (e f : Item) (k l : ℕ) (a : SigBit) → DrivesBit d e k a → DrivesNew f l a → ⊥
   not-both e f k l a h g =
-      let n = new-wire f l a g in
-      no-wire d wired n.0 (subst (λ (b : SigBit). IsDeclared d.wires d.free b) n.1 (drives-wired e k a h))
+      no-wire d wired l (subst (λ (b : SigBit). IsDeclared d.wires d.free b) g.2 (drives-wired e k a h))
 
   new-one : (e f : Item) (k l : ℕ) (a : SigBit) → DrivesNew e k a → DrivesNew f l a → (e ≡ f) × (k ≡ l)
-  new-one e f k l a (inl h) (inl g) = (h.0 ∙ sym g.0, let p = one-bit _ _ _ _ (sym h.2 ∙ g.2) in omega (arith, p))
-  new-one e f k l a (inl h) (inr (inl g)) = let p = one-bit _ _ _ _ (sym h.2 ∙ g.2) in let lt = h.1 in absurd (omega (arith, p, lt))
-  new-one e f k l a (inl h) (inr (inr g)) = let p = one-bit _ _ _ _ (sym h.2 ∙ g.2) in let lt = h.1 in absurd (omega (arith, p, lt))
-  new-one e f k l a (inr (inl h)) (inl g) = let p = one-bit _ _ _ _ (sym h.2 ∙ g.2) in let lt = g.1 in absurd (omega (arith, p, lt))
-  new-one e f k l a (inr (inl h)) (inr (inl g)) = (h.0 ∙ sym g.0, let p = one-bit _ _ _ _ (sym h.2 ∙ g.2) in omega (arith, p))
-  new-one e f k l a (inr (inl h)) (inr (inr g)) = let p = one-bit _ _ _ _ (sym h.2 ∙ g.2) in let lt = h.1 in absurd (omega (arith, p, lt))
-  new-one e f k l a (inr (inr h)) (inl g) = let p = one-bit _ _ _ _ (sym h.2 ∙ g.2) in let lt = g.1 in absurd (omega (arith, p, lt))
-  new-one e f k l a (inr (inr h)) (inr (inl g)) = let p = one-bit _ _ _ _ (sym h.2 ∙ g.2) in let lt = g.1 in absurd (omega (arith, p, lt))
-  new-one e f k l a (inr (inr h)) (inr (inr g)) = (h.0 ∙ sym g.0, let p = one-bit _ _ _ _ (sym h.2 ∙ g.2) in omega (arith, p))
+  new-one e f k l a h g = (h.0 ∙ sym g.0, one-bit _ _ _ _ (sym h.2 ∙ g.2))
 
   input-to : (a : SigBit) → IsInput d a → IsInput (with_lowered d i c wire) a
   input-to (Wire w b) h = (h.0, slice_get-append d.wires (wire ∷ []) w h.0 h.1, h.2)
@@ -230,13 +201,12 @@ module _ (d : DesignOf) (wired : IsWired d) (i : ℕ) (c : CellOf) (at : IsCell 
     no_input = λ e k a h g. elim (drives-from e k a h) as (λ _. ⊥) [
       | inl x ↦ u.no_input x.0 k a x.2 (input-from a g)
       | inr x ↦
-          let n = new-wire e k a x in
-          let there = input-from (Wire (length d.wires) n.0) (subst (λ (b : SigBit). IsInput (with_lowered d i c wire) b) n.1 g) in
+          let there = input-from (Wire (length d.wires) k) (subst (λ (b : SigBit). IsInput (with_lowered d i c wire) b) x.2 g) in
           let lt = get-below d.wires (length d.wires) there.0 there.1 in
           absurd (omega (arith, lt))
     ];
     wire = λ e k a h g. elim (drives-from e k a h) as (λ _. ⊥) [
       | inl x ↦ u.wire x.0 k a x.2 g
-      | inr x ↦ let n = new-wire e k a x in subst (λ (b : SigBit). IsNoWire b) n.1 g
+      | inr x ↦ subst (λ (b : SigBit). IsNoWire b) x.2 g
     ];
   }

@@ -18,12 +18,12 @@ use Rattle.design_meaning.specs.Meaning.{IsCell}
 use Rattle.design_meaning.specs.Rests.{IsOnLoop}
 use Rattle.design_lower.specs.Lowering.{FitsReset, IsKeptWire, LowersOne, LowersSome, register, shown, with_lowered}
 use Rattle.design_lower.proofs.Alike.{IsWired, cell-wired}
-use Rattle.design_lower.proofs.Cells.{choice-there, lowered-cases, other-there, place-cases}
+use Rattle.design_lower.proofs.Cells.{lowered-cases, other-there, place-cases, shown-there}
 use Rattle.design_lower.proofs.Clocking.{clock-other-from, clock-other-to, conflict-from, conflict-to}
 use Rattle.design_lower.proofs.Driven.{IsUnique, once-unique, unique-from, unique-once, unique-to}
 use Rattle.design_lower.proofs.Looping.{drives-rest, loop-from, rests-to}
 use Rattle.design_lower.proofs.Running.{one-wired}
-use Rattle.design_lower.proofs.Sound.{IsSound, choices-wide, register-wide, sound-choices, sound-itself, sound-register, wide-from, wide-shown, wide-to}
+use Rattle.design_lower.proofs.Sound.{IsSound, register-wide, shown-wide, sound-itself, sound-register, sound-shown, wide-from, wide-shown, wide-to}
 
 -- a sound cell has no fault of its own, but for its width
 sound-fault : (x : CellOf) → IsSound x → (k : FaultKind) → (k ≡ WidthLimit → ⊥) → IsPartFault k x → ⊥
@@ -38,7 +38,7 @@ sound-fault x s MultiClock n h = h
 sound-fault x s InitConflict n h = h
 sound-fault x s Loop n h = h
 
-flat-once : (d : DesignOf) → IsFlat d → IsDrivenOnce d
+pub flat-once : (d : DesignOf) → IsFlat d → IsDrivenOnce d
 flat-once d flat e k w = flat TwoDrivers (Bit e k) (e, k, refl, w)
 
 -- a bit on a loop is a wire's, where each driven bit is
@@ -70,7 +70,7 @@ module _ (d : DesignOf) (wired : IsWired d) (i : ℕ) (c : CellOf) (at : IsCell 
     | inl e ↦ by k x (subst (λ (y : CellOf). IsSound y) (sym e.1) (sound-register c fits (length d.wires))) (λ w. register-wide c fits (cell-wired d wired i c at).one_port (length d.wires) (subst (λ (y : CellOf). IsTooWide y) e.1 w)) h
     | inr rest ↦ elim rest as (λ _. (l : ℕ) × (y : CellOf) × IsCell d l y × IsPartFault k y) [
       | inl o ↦ (j, x, o.1, h)
-      | inr q ↦ by k x (sound-choices c fits (length d.wires) q.0 x q.1) (λ w. choices-wide c fits (cell-wired d wired i c at).one_port (length d.wires) q.0 x q.1 w) h
+      | inr e ↦ by k x (subst (λ (y : CellOf). IsSound y) (sym e) (sound-shown c fits (length d.wires))) (λ w. shown-wide c fits (cell-wired d wired i c at).one_port (length d.wires) (subst (λ (y : CellOf). IsTooWide y) e w)) h
     ]
   ]
     where
@@ -96,7 +96,7 @@ module _ (d : DesignOf) (wired : IsWired d) (i : ℕ) (c : CellOf) (at : IsCell 
       by WidthLimit g = (
         length (set d.cells i (register (length d.wires) c)) + 0,
         shown (length d.wires) c,
-        choice-there d i c at wire 0 (shown (length d.wires) c) refl,
+        shown-there d i c at wire,
         wide-shown c fits (cell-wired d wired i c at).one_port (length d.wires) (wide-from c fits (cell-wired d wired i c at).one_port g),
       )
       by UnknownCell g = absurd (sound-fault c (sound-itself c fits) UnknownCell (λ e. absurd cc) g)

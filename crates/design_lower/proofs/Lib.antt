@@ -13,6 +13,10 @@ pub mod Distinct
 pub mod Lines
 pub mod Naming
 pub mod Midway
+pub mod Rooms
+pub mod Numbering
+pub mod Counting
+pub mod Leaving
 pub mod Reaching
 pub mod Ending
 pub mod Listed

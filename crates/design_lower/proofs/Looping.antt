@@ -1,38 +1,36 @@
 -- Loops of a design, and of the design with one cell lowered.
 use Rattle.std.proofs.Common.{◌≡◌, ◌⊎◌, inl, inr, ℕ, zero, suc, ◌+◌, ◌<◌, Bool, true, false, cond, List, [], ◌∷◌, length, map, set, Option, Some, None, Contains, All, refl, ap, sym, subst, ◌∙◌, arith}
 use Rattle.std.specs.Prelude.{slice_get}
-use Rattle.std.proofs.lemmas.List.Elements.{All-cons, All-contains, All-nil}
+use Rattle.std.proofs.lemmas.List.Elements.{All-contains}
 use Rattle.cell_table.specs.declared.kind.Kind.{Kind}
-use Rattle.design_signals.specs.Chunks.{bits_from}
 use Rattle.design_signals.specs.declared.sig_bit.SigBit.{SigBit}
 use Rattle.design_signals.specs.declared.sig_bit.SigBit.TheVariants.{Wire, Const, Free}
 use Rattle.design_core.specs.Asked.{number_at, output_of}
 use Rattle.design_core.specs.Ports.{signal_at, digits_at}
 use Rattle.design_core.specs.Shape.{WireOf, CellOf, DesignOf, IsCellOf, IsDeclared}
 use Rattle.design_core.specs.Table.{ports_in_cycle, ports_of, ports_read, role_of}
-use Rattle.design_core.specs.Digits.{number_digits}
 use Rattle.design_core.specs.declared.table.PortLine.{PortLine}
 use Rattle.design_core.specs.declared.table.Role.{Role}
 use Rattle.design_core.specs.declared.digit.Digit.{Digit}
 use Rattle.design_core.specs.declared.digit.Digit.TheVariants.{Const as ConstDigit, Free as FreeDigit, Marker}
 use Rattle.design_core.specs.declared.names.PortName.{PortName}
-use Rattle.design_core.specs.declared.names.PortName.TheVariants.{A, B, S, D, En, Arst}
-use Rattle.design_core.specs.declared.names.ParameterName.TheVariants.{ArstPolarity, ArstValue, EnPolarity, Width}
+use Rattle.design_core.specs.declared.names.PortName.TheVariants.{A, B, S, Arst}
+use Rattle.design_core.specs.declared.names.ParameterName.TheVariants.{ArstPolarity, ArstValue, Width}
 use Rattle.design_core.specs.declared.table.Role.TheVariants.{Combinational, Register, ResetRegister}
 use Rattle.design_core.proofs.Lists.{Contains-from_place, one_at, place-from_Contains}
 use Rattle.design_check.specs.Faults.{flag}
 use Rattle.design_meaning.specs.Meaning.{IsCell}
 use Rattle.design_meaning.specs.Rests.{IsDigit, IsOnLoop, IsPortBit, IsResetBit, Rests, RestsOn}
-use Rattle.design_lower.specs.Lowering.{FitsReset, IsKeptWire, choice, choices, digit_bit, digits_of_cell, digits_or_none, enabled_register, kept_signal, next_signal, open_signal, plain_register, register, reset_signal, shown, with_lowered}
+use Rattle.design_lower.specs.Lowering.{FitsReset, IsKeptWire, digit_bit, digits_or_none, enabled_register, kept_signal, plain_register, register, reset_signal, shown, with_lowered}
 use Rattle.design_lower.proofs.Alike.{IsWired, cell-wired, connect-wired}
 use Rattle.design_lower.proofs.Beginning.{first-bit, first-bits, no-wire}
-use Rattle.design_lower.proofs.Driven.{IsUnique, one-cell, other-item, register-output, wire-bits}
+use Rattle.design_lower.proofs.Driven.{IsUnique, one-cell, other-item, register-output}
 use Rattle.design_lower.proofs.Wiring.{reset-declared, signal-declared}
 use Rattle.design_graph.specs.Items.{DrivesBit, IsNoWire}
 use Rattle.design_graph.specs.declared.item.Item.{Item}
 use Rattle.design_graph.specs.declared.item.Item.TheVariants.{Cell, Connect}
 use Rattle.design_graph.proofs.Declared.{read-numbered}
-use Rattle.design_lower.proofs.Cells.{choice-cases, choice-there, enabled-form, form-of, lowered-cases, other-there, place-cases, plain-form, register-there}
+use Rattle.design_lower.proofs.Cells.{enabled-form, form-of, lowered-cases, other-there, place-cases, plain-form, register-there, shown-there}
 use Rattle.design_lower.proofs.Fitting.{kind-cases}
 
 -- a free digit of ARST_VALUE is a bit of the signal
@@ -90,7 +88,7 @@ module _ (d : DesignOf) (wired : IsWired d) (i : ℕ) (c : CellOf) (at : IsCell 
     | inl e ↦
         let out : Contains (output_of c) a = subst (λ (x : CellOf). Contains (output_of x) a) e.1 h.3 in
         let reads : IsPortBit c b ⊎ IsResetBit c b = subst (λ (x : CellOf). IsPortBit x b ⊎ IsResetBit x b) e.1 h.4 in
-        inl (shown-place, shown (length d.wires) c, choice-there d i c at wire 0 (shown (length d.wires) c) refl, out, inl (shown-reads b reads))
+        inl (shown-place, shown (length d.wires) c, shown-there d i c at wire, out, inl (shown-reads b reads))
     | inr n ↦ inl (h.0, h.1, other-there d i c at wire h.0 h.1 h.2 n, h.3, h.4)
   ]
 
@@ -127,24 +125,26 @@ module _ (d : DesignOf) (wired : IsWired d) (i : ℕ) (c : CellOf) (at : IsCell 
       by x role (inl g) = none (role_of x.kind) (map (λ (l : PortLine). l.name) (ports_of x.kind)) role g.0 g.1
       by x role (inr g) = let clash : Register ≡ ResetRegister = sym role ∙ g.0 in absurd cc
 
-  -- what a `$mux` reads
-  choice-reads : (width : List Digit) (reset other output : List SigBit) (b : SigBit) → IsPortBit (choice c width reset other output) b ⊎ IsResetBit (choice c width reset other output) b
-      → Contains reset b ⊎ (Contains other b ⊎ Contains (signal_at c.ports Arst) b)
-  choice-reads width reset other output b (inr g) = let clash : Combinational ≡ ResetRegister = g.0 in absurd cc
-  choice-reads width reset other output b (inl g) = let q = place-from_Contains (A ∷ B ∷ S ∷ []) g.0 g.1 in by q.0 q.1
+  -- what the `$mux` reads
+  muxed : (b : SigBit) → IsPortBit (shown (length d.wires) c) b ⊎ IsResetBit (shown (length d.wires) c) b
+      → Contains (reset_signal c) b ⊎ (Contains (kept_signal (length d.wires) c) b ⊎ Contains (signal_at c.ports Arst) b)
+  muxed b (inr g) = let clash : Combinational ≡ ResetRegister = g.0 in absurd cc
+  muxed b (inl g) = let q = place-from_Contains (A ∷ B ∷ S ∷ []) g.0 g.1 in by q.0 q.1
     where
-      low : (f : Bool) → Contains (cond f other reset) b → Contains reset b ⊎ (Contains other b ⊎ Contains (signal_at c.ports Arst) b)
+      low : (f : Bool) → Contains (cond f (kept_signal (length d.wires) c) (reset_signal c)) b
+          → Contains (reset_signal c) b ⊎ (Contains (kept_signal (length d.wires) c) b ⊎ Contains (signal_at c.ports Arst) b)
       low true h = inr (inl h)
       low false h = inl h
 
-      high : (f : Bool) → Contains (cond f reset other) b → Contains reset b ⊎ (Contains other b ⊎ Contains (signal_at c.ports Arst) b)
+      high : (f : Bool) → Contains (cond f (reset_signal c) (kept_signal (length d.wires) c)) b
+          → Contains (reset_signal c) b ⊎ (Contains (kept_signal (length d.wires) c) b ⊎ Contains (signal_at c.ports Arst) b)
       high true h = inl h
       high false h = inr (inl h)
 
-      by : (k : ℕ) → slice_get (A ∷ B ∷ S ∷ []) k ≡ Some g.0 → Contains reset b ⊎ (Contains other b ⊎ Contains (signal_at c.ports Arst) b)
-      by zero e = let same : A ≡ g.0 = cc in low (flag c ArstPolarity) (subst (λ (p : PortName). Contains (signal_at (choice c width reset other output).ports p) b) (sym same) g.2)
-      by (suc zero) e = let same : B ≡ g.0 = cc in high (flag c ArstPolarity) (subst (λ (p : PortName). Contains (signal_at (choice c width reset other output).ports p) b) (sym same) g.2)
-      by (suc (suc zero)) e = let same : S ≡ g.0 = cc in inr (inr (subst (λ (p : PortName). Contains (signal_at (choice c width reset other output).ports p) b) (sym same) g.2))
+      by : (k : ℕ) → slice_get (A ∷ B ∷ S ∷ []) k ≡ Some g.0 → Contains (reset_signal c) b ⊎ (Contains (kept_signal (length d.wires) c) b ⊎ Contains (signal_at c.ports Arst) b)
+      by zero e = let same : A ≡ g.0 = cc in low (flag c ArstPolarity) (subst (λ (p : PortName). Contains (signal_at (shown (length d.wires) c).ports p) b) (sym same) g.2)
+      by (suc zero) e = let same : B ≡ g.0 = cc in high (flag c ArstPolarity) (subst (λ (p : PortName). Contains (signal_at (shown (length d.wires) c).ports p) b) (sym same) g.2)
+      by (suc (suc zero)) e = let same : S ≡ g.0 = cc in inr (inr (subst (λ (p : PortName). Contains (signal_at (shown (length d.wires) c).ports p) b) (sym same) g.2))
       by (suc (suc (suc k))) e = absurd cc
 
   abbrev pub IsKeptBit : SigBit → Type 0
@@ -161,34 +161,14 @@ module _ (d : DesignOf) (wired : IsWired d) (i : ℕ) (c : CellOf) (at : IsCell 
       let q = place-from_Contains (kept_signal (length d.wires) c) b h in
       let bit = first-bits (length d.wires) (number_at c.parameters Width) q.0 b q.1 in (q.0, bit.0, bit.1)
 
-  choice-target : (x : CellOf) (k : ℕ) → slice_get (choices (length d.wires) c) k ≡ Some x → (b : SigBit) → IsPortBit x b ⊎ IsResetBit x b → IsDeclared d.wires d.free b ⊎ IsKeptBit b
-  choice-target x k e b h =
-      let P : CellOf → Type 0 = λ y. IsPortBit y b ⊎ IsResetBit y b in
-      elim (choice-cases (length d.wires) c x k e) as (λ _. IsDeclared d.wires d.free b ⊎ IsKeptBit b) [
-        | inl f ↦ elim (choice-reads (digits_of_cell c Width) (reset_signal c) (kept_signal (length d.wires) c) (output_of c) b (subst P f h)) as (λ _. IsDeclared d.wires d.free b ⊎ IsKeptBit b) [
-          | inl reset ↦ inl (in-all (reset_signal c) b (reset-declared d.wires d.free c is) reset)
-          | inr rest ↦ elim rest as (λ _. IsDeclared d.wires d.free b ⊎ IsKeptBit b) [
-            | inl other ↦ inr (kept-bit b other)
-            | inr arst ↦ inl (in-all (signal_at c.ports Arst) b (signal-declared d.wires d.free c is Arst) arst)
-          ]
-        ]
-        | inr more ↦ elim more as (λ _. IsDeclared d.wires d.free b ⊎ IsKeptBit b) [
-          | inl f ↦ elim (choice-reads (digits_of_cell c Width) (reset_signal c) (signal_at c.ports D) (next_signal (length d.wires) c) b (subst P f h)) as (λ _. IsDeclared d.wires d.free b ⊎ IsKeptBit b) [
-            | inl reset ↦ inl (in-all (reset_signal c) b (reset-declared d.wires d.free c is) reset)
-            | inr rest ↦ elim rest as (λ _. IsDeclared d.wires d.free b ⊎ IsKeptBit b) [
-              | inl other ↦ inl (in-all (signal_at c.ports D) b (signal-declared d.wires d.free c is D) other)
-              | inr arst ↦ inl (in-all (signal_at c.ports Arst) b (signal-declared d.wires d.free c is Arst) arst)
-            ]
-          ]
-          | inr f ↦ elim (choice-reads (number_digits 1 1) (Const (flag c EnPolarity) ∷ []) (signal_at c.ports En) (open_signal (length d.wires) c) b (subst P f.1 h)) as (λ _. IsDeclared d.wires d.free b ⊎ IsKeptBit b) [
-            | inl level ↦ inl (in-all (Const (flag c EnPolarity) ∷ []) b (All-cons (IsDeclared d.wires d.free) (Const (flag c EnPolarity)) [] tt (All-nil (IsDeclared d.wires d.free))) level)
-            | inr rest ↦ elim rest as (λ _. IsDeclared d.wires d.free b ⊎ IsKeptBit b) [
-              | inl other ↦ inl (in-all (signal_at c.ports En) b (signal-declared d.wires d.free c is En) other)
-              | inr arst ↦ inl (in-all (signal_at c.ports Arst) b (signal-declared d.wires d.free c is Arst) arst)
-            ]
-          ]
-        ]
-      ]
+  shown-target : (b : SigBit) → IsPortBit (shown (length d.wires) c) b ⊎ IsResetBit (shown (length d.wires) c) b → IsDeclared d.wires d.free b ⊎ IsKeptBit b
+  shown-target b h = elim (muxed b h) as (λ _. IsDeclared d.wires d.free b ⊎ IsKeptBit b) [
+    | inl reset ↦ inl (in-all (reset_signal c) b (reset-declared d.wires d.free c is) reset)
+    | inr rest ↦ elim rest as (λ _. IsDeclared d.wires d.free b ⊎ IsKeptBit b) [
+      | inl other ↦ inr (kept-bit b other)
+      | inr arst ↦ inl (in-all (signal_at c.ports Arst) b (signal-declared d.wires d.free c is Arst) arst)
+    ]
+  ]
 
   -- what something rests on is a bit of d, or is kept
   target : (a b : SigBit) → RestsOn (with_lowered d i c wire) a b → IsDeclared d.wires d.free b ⊎ IsKeptBit b
@@ -197,7 +177,7 @@ module _ (d : DesignOf) (wired : IsWired d) (i : ℕ) (c : CellOf) (at : IsCell 
     | inl e ↦ absurd (register-reads b (subst (λ (x : CellOf). IsPortBit x b ⊎ IsResetBit x b) e.1 h.4))
     | inr rest ↦ elim rest as (λ _. IsDeclared d.wires d.free b ⊎ IsKeptBit b) [
       | inl o ↦ inl (read-numbered d.wires d.free h.1 (cell-wired d wired h.0 h.1 o.1) b h.4)
-      | inr q ↦ choice-target h.1 q.0 q.1 b h.4
+      | inr e ↦ shown-target b (subst (λ (x : CellOf). IsPortBit x b ⊎ IsResetBit x b) e h.4)
     ]
   ]
 
@@ -270,29 +250,17 @@ module _ (d : DesignOf) (wired : IsWired d) (i : ℕ) (c : CellOf) (at : IsCell 
     | inl e ↦ absurd (register-reads b (subst (λ (x : CellOf). IsPortBit x b ⊎ IsResetBit x b) e.1 h.4))
     | inr rest ↦ elim rest as (λ _. RestsOn d a b) [
       | inl o ↦ inl (h.0, h.1, o.1, h.3, h.4)
-      | inr q ↦ elim (choice-cases (length d.wires) c h.1 q.0 q.1) as (λ _. RestsOn d a b) [
-        | inl f ↦
-            let out : Contains (output_of c) a = subst (λ (x : CellOf). Contains (output_of x) a) f h.3 in
-            elim (choice-reads (digits_of_cell c Width) (reset_signal c) (kept_signal (length d.wires) c) (output_of c) b (subst (λ (x : CellOf). IsPortBit x b ⊎ IsResetBit x b) f h.4)) as (λ _. RestsOn d a b) [
-              | inl reset ↦ inl (i, c, at, out, inr (reset-bit b reset gb.1))
-              | inr more ↦ elim more as (λ _. RestsOn d a b) [
-                | inl other ↦ let k = kept-bit b other in absurd (not-new b k.0 gb.0 k.2)
-                | inr arst ↦ inl (i, c, at, out, inl (Arst, reads-arst, arst))
-              ]
+      | inr f ↦
+          let out : Contains (output_of c) a = subst (λ (x : CellOf). Contains (output_of x) a) f h.3 in
+          elim (muxed b (subst (λ (x : CellOf). IsPortBit x b ⊎ IsResetBit x b) f h.4)) as (λ _. RestsOn d a b) [
+            | inl reset ↦ inl (i, c, at, out, inr (reset-bit b reset gb.1))
+            | inr more ↦ elim more as (λ _. RestsOn d a b) [
+              | inl other ↦ let k = kept-bit b other in absurd (not-new b k.0 gb.0 k.2)
+              | inr arst ↦ inl (i, c, at, out, inl (Arst, reads-arst, arst))
             ]
-        | inr more ↦ absurd (elim more as (λ _. ⊥) [
-          | inl f ↦ new-output (next_signal (length d.wires) c) (number_at c.parameters Width) (number_at c.parameters Width) refl (subst (λ (x : CellOf). Contains (output_of x) a) f h.3)
-          | inr f ↦ new-output (open_signal (length d.wires) c) (number_at c.parameters Width + number_at c.parameters Width) 1 refl (subst (λ (x : CellOf). Contains (output_of x) a) f.1 h.3)
-        ])
-      ]
+          ]
     ]
   ]
-    where
-      new-output : (s : List SigBit) (from n : ℕ) → s ≡ bits_from (Wire (length d.wires) from) 0 n → Contains s a → ⊥
-      new-output s from n e g =
-          let q = place-from_Contains s a g in
-          let bit = wire-bits (length d.wires) from n q.0 a (ap (λ (l : List SigBit). slice_get l q.0) (sym e) ∙ q.1) in
-          not-new a (from + q.0) ga.0 bit.1
 
   rests-from : (n : ℕ) (a b z : SigBit) → Rests (with_lowered d i c wire) n a b → IsGood a → IsGood b → RestsOn (with_lowered d i c wire) b z → Rests d n a b
   rests-from zero a b z h ga gb next = h

@@ -1,34 +1,27 @@
 -- Cycles and their successors, of a design and of the design with one cell lowered.
-use Rattle.std.proofs.Common.{◌≡◌, ◌↔◌, inl, inr, ℕ, ◌+◌, Bool, true, false, cond, not, [], ◌∷◌, length, set, Some, refl, ap, sym, subst, ◌∙◌}
-use Rattle.std.specs.Prelude.{slice_get}
+use Rattle.std.proofs.Common.{◌≡◌, ◌↔◌, inl, inr, ℕ, ◌+◌, cond, length, set, refl, ap, sym, subst, ◌∙◌}
 use Rattle.sby_bits.specs.Rows.{Row}
 use Rattle.cell_table.specs.declared.kind.Kind.{Kind}
 use Rattle.design_signals.specs.declared.sig_bit.SigBit.{SigBit}
-use Rattle.design_signals.specs.declared.sig_bit.SigBit.TheVariants.{Const}
 use Rattle.design_core.specs.Asked.{output_of}
-use Rattle.design_core.specs.Cells.{Parameters, Ports, cell_fn, is_active, is_reset, is_set, next_fn, next_row, reset_value}
-use Rattle.design_core.specs.Digits.{number_digits}
+use Rattle.design_core.specs.Cells.{Parameters, Ports, cell_fn, is_active, is_reset, next_fn, next_row, reset_value}
 use Rattle.design_core.specs.Ports.{signal_at, digits_at}
 use Rattle.design_core.specs.Shape.{WireOf, CellOf, DesignOf, IsDeclared}
 use Rattle.design_core.specs.Table.{role_of}
-use Rattle.design_core.specs.declared.names.PortName.TheVariants.{D, En}
-use Rattle.design_core.specs.declared.names.ParameterName.TheVariants.{ArstValue, EnPolarity, SrstValue, Width}
+use Rattle.design_core.specs.declared.names.PortName.TheVariants.{Arst, D, En}
+use Rattle.design_core.specs.declared.names.ParameterName.TheVariants.{ArstPolarity, ArstValue, EnPolarity, SrstPolarity, SrstValue}
 use Rattle.design_core.specs.declared.next.NextState.TheVariants.{Data, ResetValue, Held}
 use Rattle.design_core.specs.declared.table.Role.{Role}
 use Rattle.design_core.specs.declared.table.Role.TheVariants.{Combinational, Register, ResetRegister, Constant, Initial, Source, Statement, Unsupported}
-use Rattle.design_check.specs.Faults.{flag}
-use Rattle.design_meaning.specs.Meaning.{Valuation, Frame, Follows, IsCell, bit_in, row_in, digits_in, parameters_in, ports_in, kept_row, shown_row, held_row, row_of_role}
-use Rattle.design_lower.specs.Lowering.{FitsReset, choices, digits_of_cell, enabled_register, has_enable, kept_signal, next_signal, open_signal, opened, register, reset_signal, shown, taken, with_lowered}
+use Rattle.design_meaning.specs.Meaning.{Valuation, Frame, Follows, IsCell, bit_in, row_in, parameters_in, ports_in, kept_row, shown_row, held_row, row_of_role}
+use Rattle.design_lower.specs.Lowering.{FitsReset, enabled_register, kept_signal, plain_register, register, reset_signal, shown, with_lowered}
 use Rattle.design_lower.proofs.Alike.{IsWired, cell-wired, connect-wired, output-alike, parameters-alike, ports-alike, row-alike}
-use Rattle.design_lower.proofs.Cells.{choice-cases, choice-there, enabled-form, form-of, lowered-cases, other-there, place-cases, plain-form, register-there}
-use Rattle.design_lower.proofs.Choosing.{choice-row, digits-kept, reset-row, reset_in}
-use Rattle.design_lower.proofs.Fitting.{flag-set, has-enable}
+use Rattle.design_lower.proofs.Cells.{enabled-form, form-of, lowered-cases, other-there, place-cases, plain-form, register-there, shown-there}
+use Rattle.design_lower.proofs.Choosing.{digits-kept, reset-row, reset_in, shown-gives}
 
--- what the new `$mux` cells give, where the new wire is wire n
-pub record IsMade (n : ℕ) (c : CellOf) (w : Valuation) : Type 0 where
-  pub shown : row_in w (output_of c) ≡ cond (reset_in w c) (row_in w (reset_signal c)) (row_in w (kept_signal n c))
-  pub taken : row_in w (next_signal n c) ≡ cond (reset_in w c) (row_in w (reset_signal c)) (row_in w (signal_at c.ports D))
-  pub opened : has_enable c ≡ true → row_in w (open_signal n c) ≡ cond (reset_in w c) (flag c EnPolarity ∷ []) (row_in w (signal_at c.ports En))
+-- what the new `$mux` gives, where the new wire is wire n
+abbrev pub IsMade : ℕ → CellOf → Valuation → Type 0
+IsMade n c w = row_in w (output_of c) ≡ cond (reset_in w c) (row_in w (reset_signal c)) (row_in w (kept_signal n c))
 
 -- v is w, looked at on d: its bits, the row that the lowered cell keeps, and the other kept rows
 pub record IsSeenOnce (d : DesignOf) (i : ℕ) (c : CellOf) (v w : Valuation) : Type 0 where
@@ -38,48 +31,28 @@ pub record IsSeenOnce (d : DesignOf) (i : ℕ) (c : CellOf) (v w : Valuation) : 
 
 -- ---- the register
 
-next-plain : (r : Bool) (taken reset held : Row) → next_row (cond r ResetValue Data) taken reset held ≡ cond r reset taken
-next-plain true taken reset held = refl
-next-plain false taken reset held = refl
-
-next-same : (x : Bool) (taken reset held other : Row) → next_row (cond x Data Held) taken other held ≡ next_row (cond x Data Held) taken reset held
-next-same true taken reset held other = refl
-next-same false taken reset held other = refl
-
-next-enabled : (f r : Bool) (en taken reset held other : Row)
-    → next_row (cond (cond f (is_set (cond r (f ∷ []) en)) (not (is_set (cond r (f ∷ []) en)))) Data Held) (cond r reset taken) other held
-    ≡ next_row (cond r ResetValue (cond (cond f (is_set en) (not (is_set en))) Data Held)) taken reset held
-next-enabled true true en taken reset held other = refl
-next-enabled false true en taken reset held other = refl
-next-enabled true false en taken reset held other = next-same (is_set en) taken reset held other
-next-enabled false false en taken reset held other = next-same (not (is_set en)) taken reset held other
-
 module _ (n : ℕ) (c : CellOf) (fits : FitsReset c) (w : Valuation) where
-  -- the lowered register takes what the cell takes
-  pub next-register : IsMade n c w → (held : Row)
-      → next_fn (register n c).kind (parameters_in w (register n c)) (ports_in w (register n c)) held ≡ next_fn c.kind (parameters_in w c) (ports_in w c) held
-  next-register made held =
-      let P = parameters_in w c in
-      let I = ports_in w c in
-      let r = reset_in w c in
-      let reset : Row = parameters_in w c ArstValue in
-      let rows : row_in w (next_signal n c) ≡ cond (reset_in w c) (parameters_in w c ArstValue) (row_in w (signal_at c.ports D)) =
-      made.taken ∙ ap (λ (x : Row). cond (reset_in w c) x (row_in w (signal_at c.ports D))) (reset-row w c) in
+  -- the register takes what the cell takes
+  pub next-register : (held : Row) → next_fn (register n c).kind (parameters_in w (register n c)) (ports_in w (register n c)) held ≡ next_fn c.kind (parameters_in w c) (ports_in w c) held
+  next-register held =
+      let arst : Row = row_in w (signal_at c.ports Arst) in
+      let d : Row = row_in w (signal_at c.ports D) in
+      let en : Row = row_in w (signal_at c.ports En) in
+      let polarity : Row = parameters_in w c ArstPolarity in
       elim (form-of c fits) as (λ _. next_fn (register n c).kind (parameters_in w (register n c)) (ports_in w (register n c)) held ≡ next_fn c.kind (parameters_in w c) (ports_in w c) held) [
         | inl plain ↦
             ap (λ (x : CellOf). next_fn x.kind (parameters_in w x) (ports_in w x) held) (plain-form n c plain.1)
-            ∙ (rows ∙ (sym (next-plain r (I D) reset held) ∙ ap (λ (k : Kind). next_fn k (parameters_in w c) (ports_in w c) held) (sym plain.0)))
+            ∙ (ap (λ (p : Row). next_row (cond (is_active p arst) ResetValue Data) d (parameters_in w (plain_register n c) SrstValue) held) (digits-kept w (digits_at c.parameters ArstPolarity))
+            ∙ (ap (λ (r : Row). next_row (cond (is_active polarity arst) ResetValue Data) d r held) (digits-kept w (digits_at c.parameters ArstValue))
+            ∙ ap (λ (k : Kind). next_fn k (parameters_in w c) (ports_in w c) held) (sym plain.0)))
         | inr enabled ↦
-            let f : Bool = is_set (digits_in w (digits_at c.parameters EnPolarity)) in
-            let is_flag : flag c EnPolarity ≡ f = sym (flag-set w c.parameters EnPolarity (has-enable c fits enabled.0).0) in
-            let opens : row_in w (open_signal n c) ≡ cond (reset_in w c) (f ∷ []) (row_in w (signal_at c.ports En)) =
-            made.opened enabled.1 ∙ ap (λ (b : Bool). cond (reset_in w c) (b ∷ []) (row_in w (signal_at c.ports En))) is_flag in
-            let other : Row = parameters_in w (enabled_register n c) SrstValue in
             ap (λ (x : CellOf). next_fn x.kind (parameters_in w x) (ports_in w x) held) (enabled-form n c enabled.1)
-            ∙ (ap (λ (p : Row). next_row (cond (is_active p (row_in w (open_signal n c))) Data Held) (row_in w (next_signal n c)) other held) (digits-kept w (digits_at c.parameters EnPolarity))
-            ∙ (ap (λ (o : Row). next_row (cond (cond f (is_set o) (not (is_set o))) Data Held) (row_in w (next_signal n c)) other held) opens
-            ∙ (ap (λ (t : Row). next_row (cond (cond f (is_set (cond r (f ∷ []) (I En))) (not (is_set (cond r (f ∷ []) (I En))))) Data Held) t other held) rows
-            ∙ (next-enabled f r (I En) (I D) reset held other ∙ ap (λ (k : Kind). next_fn k (parameters_in w c) (ports_in w c) held) (sym enabled.0)))))
+            ∙ (ap (λ (p : Row). next_row (cond (is_active (parameters_in w (enabled_register n c) SrstPolarity) arst) ResetValue (cond (is_active p en) Data Held)) d (parameters_in w (enabled_register n c) SrstValue) held)
+            (digits-kept w (digits_at c.parameters EnPolarity))
+            ∙ (ap (λ (p : Row). next_row (cond (is_active p arst) ResetValue (cond (is_active (parameters_in w c EnPolarity) en) Data Held)) d (parameters_in w (enabled_register n c) SrstValue) held)
+            (digits-kept w (digits_at c.parameters ArstPolarity))
+            ∙ (ap (λ (r : Row). next_row (cond (is_active polarity arst) ResetValue (cond (is_active (parameters_in w c EnPolarity) en) Data Held)) d r held) (digits-kept w (digits_at c.parameters ArstValue))
+            ∙ ap (λ (k : Kind). next_fn k (parameters_in w c) (ports_in w c) held) (sym enabled.0))))
       ]
 
   pub held-register : (i : ℕ) → held_row w i (register n c) ≡ row_in w (kept_signal n c)
@@ -91,34 +64,15 @@ module _ (n : ℕ) (c : CellOf) (fits : FitsReset c) (w : Valuation) where
 -- ---- cycles
 
 module _ (d : DesignOf) (wired : IsWired d) (i : ℕ) (c : CellOf) (at : IsCell d i c) (fits : FitsReset c) (wire : WireOf) where
-  muxed : (w : Valuation) (j : ℕ) (x : CellOf) → Frame (with_lowered d i c wire) w → slice_get (choices (length d.wires) c) j ≡ Some x → role_of x.kind ≡ Combinational
-      → row_in w (output_of x) ≡ cell_fn x.kind (parameters_in w x) (ports_in w x)
-  muxed w j x f h role = f.cells (length (set d.cells i (register (length d.wires) c)) + j) x (choice-there d i c at wire j x h) role
-
-  opened-there : has_enable c ≡ true → slice_get (choices (length d.wires) c) 2 ≡ Some (opened (length d.wires) c)
-  opened-there e = ap (λ (b : Bool). slice_get (shown (length d.wires) c ∷ taken (length d.wires) c ∷ cond b (opened (length d.wires) c ∷ []) []) 2) e
-
   pub frame-made : (w : Valuation) → Frame (with_lowered d i c wire) w → IsMade (length d.wires) c w
-  frame-made w f = record {
-    shown = muxed w 0 (shown (length d.wires) c) f refl refl ∙ choice-row w c fits (digits_of_cell c Width) (reset_signal c) (kept_signal (length d.wires) c) (output_of c);
-    taken = muxed w 1 (taken (length d.wires) c) f refl refl ∙ choice-row w c fits (digits_of_cell c Width) (reset_signal c) (signal_at c.ports D) (next_signal (length d.wires) c);
-    opened = λ e. muxed w 2 (opened (length d.wires) c) f (opened-there e) refl
-        ∙ choice-row w c fits (number_digits 1 1) (Const (flag c EnPolarity) ∷ []) (signal_at c.ports En) (open_signal (length d.wires) c);
-  }
+  frame-made w f =
+      f.cells (length (set d.cells i (register (length d.wires) c)) + 0) (shown (length d.wires) c) (shown-there d i c at wire) refl
+      ∙ shown-gives w (length d.wires) c fits
 
   pub no-register : role_of (register (length d.wires) c).kind ≡ Register
   no-register = elim (form-of c fits) as (λ _. role_of (register (length d.wires) c).kind ≡ Register) [
     | inl plain ↦ ap (λ (x : CellOf). role_of x.kind) (plain-form (length d.wires) c plain.1)
     | inr enabled ↦ ap (λ (x : CellOf). role_of x.kind) (enabled-form (length d.wires) c enabled.1)
-  ]
-
-  pub choice-role : (x : CellOf) (j : ℕ) → slice_get (choices (length d.wires) c) j ≡ Some x → role_of x.kind ≡ Combinational
-  choice-role x j h = elim (choice-cases (length d.wires) c x j h) as (λ _. role_of x.kind ≡ Combinational) [
-    | inl e ↦ ap (λ (y : CellOf). role_of y.kind) e
-    | inr rest ↦ elim rest as (λ _. role_of x.kind ≡ Combinational) [
-      | inl e ↦ ap (λ (y : CellOf). role_of y.kind) e
-      | inr e ↦ ap (λ (y : CellOf). role_of y.kind) e.1
-    ]
   ]
 
   module _ (v w : Valuation) (seen : IsSeenOnce d i c v w) where
@@ -188,7 +142,7 @@ module _ (d : DesignOf) (wired : IsWired d) (i : ℕ) (c : CellOf) (at : IsCell 
       ];
       resets = λ j x there role. elim (place-cases d i c at wire j x there) as (λ _. row_in v (output_of x) ≡ shown_row v j x) [
         | inl e ↦
-            let here = shown-seen.1 (frame-made w f).shown in
+            let here = shown-seen.1 (frame-made w f) in
             subst (λ (k : ℕ). row_in v (output_of x) ≡ shown_row v k x) (sym e.0) (subst (λ (y : CellOf). row_in v (output_of y) ≡ shown_row v i y) (sym e.1) here)
         | inr n ↦
             same-output j x there ∙ (f.resets j x (other-there d i c at wire j x there n) role ∙ sym (same-shown j x there (kept_row v j x) (kept_row w j x) (seen.others j x there n)))
@@ -198,33 +152,21 @@ module _ (d : DesignOf) (wired : IsWired d) (i : ℕ) (c : CellOf) (at : IsCell 
           row-alike d.wires d.free v w seen.bits j.left both.0 ∙ (f.connects k j there ∙ sym (row-alike d.wires d.free v w seen.bits j.right both.1));
     }
 
-    made-choice : IsMade (length d.wires) c w → (x : CellOf) (j : ℕ) → slice_get (choices (length d.wires) c) j ≡ Some x
-        → row_in w (output_of x) ≡ cell_fn x.kind (parameters_in w x) (ports_in w x)
-    made-choice made x j h =
-        let P : CellOf → Type 0 = λ y. row_in w (output_of y) ≡ cell_fn y.kind (parameters_in w y) (ports_in w y) in
-        elim (choice-cases (length d.wires) c x j h) as (λ _. row_in w (output_of x) ≡ cell_fn x.kind (parameters_in w x) (ports_in w x)) [
-          | inl e ↦ subst P (sym e) (made.shown ∙ sym (choice-row w c fits (digits_of_cell c Width) (reset_signal c) (kept_signal (length d.wires) c) (output_of c)))
-          | inr rest ↦ elim rest as (λ _. row_in w (output_of x) ≡ cell_fn x.kind (parameters_in w x) (ports_in w x)) [
-            | inl e ↦ subst P (sym e) (made.taken ∙ sym (choice-row w c fits (digits_of_cell c Width) (reset_signal c) (signal_at c.ports D) (next_signal (length d.wires) c)))
-            | inr e ↦ subst P (sym e.1) (made.opened e.0
-                ∙ sym (choice-row w c fits (number_digits 1 1) (Const (flag c EnPolarity) ∷ []) (signal_at c.ports En) (open_signal (length d.wires) c)))
-          ]
-        ]
-
     pub frame-up : Frame d v → IsMade (length d.wires) c w → Frame (with_lowered d i c wire) w
     frame-up f made = record {
       cells = λ j x there role. elim (lowered-cases d i c at wire j x there) as (λ _. row_in w (output_of x) ≡ cell_fn x.kind (parameters_in w x) (ports_in w x)) [
         | inl e ↦ let r : Combinational ≡ Register = sym role ∙ (ap (λ (y : CellOf). role_of y.kind) e.1 ∙ no-register) in absurd cc
         | inr rest ↦ elim rest as (λ _. row_in w (output_of x) ≡ cell_fn x.kind (parameters_in w x) (ports_in w x)) [
           | inl o ↦ sym (same-output j x o.1) ∙ (f.cells j x o.1 role ∙ same-fn j x o.1)
-          | inr k ↦ made-choice made x k.0 k.1
+          | inr e ↦
+              subst (λ (y : CellOf). row_in w (output_of y) ≡ cell_fn y.kind (parameters_in w y) (ports_in w y)) (sym e) (made ∙ sym (shown-gives w (length d.wires) c fits))
         ]
       ];
       resets = λ j x there role. elim (lowered-cases d i c at wire j x there) as (λ _. row_in w (output_of x) ≡ shown_row w j x) [
         | inl e ↦ let r : ResetRegister ≡ Register = sym role ∙ (ap (λ (y : CellOf). role_of y.kind) e.1 ∙ no-register) in absurd cc
         | inr rest ↦ elim rest as (λ _. row_in w (output_of x) ≡ shown_row w j x) [
           | inl o ↦ sym (same-output j x o.1) ∙ (f.resets j x o.1 role ∙ same-shown j x o.1 (kept_row v j x) (kept_row w j x) (seen.others j x o.1 o.0))
-          | inr k ↦ let r : ResetRegister ≡ Combinational = sym role ∙ choice-role x k.0 k.1 in absurd cc
+          | inr e ↦ let r : ResetRegister ≡ Combinational = sym role ∙ ap (λ (y : CellOf). role_of y.kind) e in absurd cc
         ]
       ];
       connects = λ k j there.
@@ -234,12 +176,12 @@ module _ (d : DesignOf) (wired : IsWired d) (i : ℕ) (c : CellOf) (at : IsCell 
 
   -- ---- successors
 
-  module _ (v w x y : Valuation) (seen : IsSeenOnce d i c v w) (next : IsSeenOnce d i c x y) (made : IsMade (length d.wires) c w) where
+  module _ (v w x y : Valuation) (seen : IsSeenOnce d i c v w) (next : IsSeenOnce d i c x y) where
     next-lowered : next_fn c.kind (parameters_in v c) (ports_in v c) (held_row v i c)
         ≡ next_fn (register (length d.wires) c).kind (parameters_in w (register (length d.wires) c)) (ports_in w (register (length d.wires) c)) (held_row w i (register (length d.wires) c))
     next-lowered =
         same-next v w seen i c at (held_row v i c) (held_row w i (register (length d.wires) c)) (lowered-held v w seen)
-        ∙ sym (next-register (length d.wires) c fits w made (held_row w i (register (length d.wires) c)))
+        ∙ sym (next-register (length d.wires) c fits w (held_row w i (register (length d.wires) c)))
 
     pub follows-down : Follows (with_lowered d i c wire) w y → Follows d v x
     follows-down f = λ j z there. elim (place-cases d i c at wire j z there) as (λ _. held_row x j z ≡ next_fn z.kind (parameters_in v z) (ports_in v z) (held_row v j z)) [
@@ -252,17 +194,6 @@ module _ (d : DesignOf) (wired : IsWired d) (i : ℕ) (c : CellOf) (at : IsCell 
           same-held x y next j z there n ∙ (f j z (other-there d i c at wire j z there n) ∙ sym (same-next v w seen j z there (held_row v j z) (held_row w j z) (same-held v w seen j z there n)))
     ]
 
-    held-choice : (j : ℕ) (z : CellOf) (k : ℕ) → slice_get (choices (length d.wires) c) k ≡ Some z → held_row y j z ≡ next_fn z.kind (parameters_in w z) (ports_in w z) (held_row w j z)
-    held-choice j z k h =
-        let P : CellOf → Type 0 = λ q. held_row y j q ≡ next_fn q.kind (parameters_in w q) (ports_in w q) (held_row w j q) in
-        elim (choice-cases (length d.wires) c z k h) as (λ _. held_row y j z ≡ next_fn z.kind (parameters_in w z) (ports_in w z) (held_row w j z)) [
-          | inl e ↦ subst P (sym e) refl
-          | inr rest ↦ elim rest as (λ _. held_row y j z ≡ next_fn z.kind (parameters_in w z) (ports_in w z) (held_row w j z)) [
-            | inl e ↦ subst P (sym e) refl
-            | inr e ↦ subst P (sym e.1) refl
-          ]
-        ]
-
     pub follows-up : Follows d v x → Follows (with_lowered d i c wire) w y
     follows-up f = λ j z there. elim (lowered-cases d i c at wire j z there) as (λ _. held_row y j z ≡ next_fn z.kind (parameters_in w z) (ports_in w z) (held_row w j z)) [
       | inl e ↦
@@ -271,6 +202,6 @@ module _ (d : DesignOf) (wired : IsWired d) (i : ℕ) (c : CellOf) (at : IsCell 
           (subst (λ (q : CellOf). held_row y i q ≡ next_fn q.kind (parameters_in w q) (ports_in w q) (held_row w i q)) (sym e.1) here)
       | inr rest ↦ elim rest as (λ _. held_row y j z ≡ next_fn z.kind (parameters_in w z) (ports_in w z) (held_row w j z)) [
         | inl o ↦ sym (same-held x y next j z o.1 o.0) ∙ (f j z o.1 ∙ same-next v w seen j z o.1 (held_row v j z) (held_row w j z) (same-held v w seen j z o.1 o.0))
-        | inr k ↦ held-choice j z k.0 k.1
+        | inr e ↦ subst (λ (q : CellOf). held_row y j q ≡ next_fn q.kind (parameters_in w q) (ports_in w q) (held_row w j q)) (sym e) refl
       ]
     ]

@@ -3,18 +3,20 @@ use Rattle.std.proofs.Common.{◌≡◌, ◌⊎◌, ◌↔◌, inl, inr, ℕ, ze
 use Rattle.std.specs.Prelude.{slice_get}
 use Rattle.std.proofs.lemmas.Bool.{cases_lt}
 use Rattle.std.proofs.lemmas.List.{drop_all}
-use Rattle.design_core.specs.Shape.{WireOf, CellOf, DesignOf}
+use Rattle.design_core.specs.Asked.{number_at}
+use Rattle.design_core.specs.Shape.{WireOf, CellOf, DesignOf, IsWire}
 use Rattle.design_core.specs.Table.{role_of}
+use Rattle.design_core.specs.declared.names.ParameterName.TheVariants.{Width}
 use Rattle.design_core.specs.declared.table.Role.TheVariants.{Combinational, Register, ResetRegister}
 use Rattle.design_core.proofs.Designs.{slice_get-append}
 use Rattle.design_meaning.specs.Meaning.{IsCell, IsStart}
 use Rattle.digraph.proofs.Lists.{get-at, get-below}
-use Rattle.design_lower.specs.Lowering.{FitsReset, HasDigit, IsKeptWire, IsLowered, LowersOne, LowersSome, choices, kept_name, kept_width, names, register, with_lowered}
+use Rattle.design_lower.specs.Lowering.{FitsReset, HasDigit, IsKeptWire, IsLowered, LowersOne, LowersSome, kept_name, names, register, shown, with_lowered}
 use Rattle.design_lower.specs.Progress.{IsMidway, IsNames, has, midway}
 use Rattle.design_lower.proofs.Alike.{IsWired}
 use Rattle.design_lower.proofs.Beginning.{other-from, other-to}
 use Rattle.design_lower.proofs.Lists.{get-behind, get-either}
-use Rattle.design_lower.proofs.Made.{choice-role, no-register}
+use Rattle.design_lower.proofs.Made.{no-register}
 use Rattle.design_lower.proofs.Naming.{names-kept, names-new, new-name, same-number}
 use Rattle.design_lower.proofs.Running.{one-wired}
 
@@ -22,7 +24,7 @@ append-nil : {X : Type 0} (xs : List X) → xs ++ [] ≡ xs
 append-nil [] = refl
 append-nil {X = X} (x ∷ xs) = ap (λ (l : List X). x ∷ l) (append-nil xs)
 
-drop-at : {X : Type 0} (xs : List X) (i : ℕ) (x : X) → slice_get xs i ≡ Some x → drop i xs ≡ x ∷ drop (i + 1) xs
+pub drop-at : {X : Type 0} (xs : List X) (i : ℕ) (x : X) → slice_get xs i ≡ Some x → drop i xs ≡ x ∷ drop (i + 1) xs
 drop-at [] i x h = cc
 drop-at {X = X} (y ∷ xs) zero x h = let same : y ≡ x = cc in ap (λ (z : X). z ∷ xs) same
 drop-at {X = X} (y ∷ xs) (suc i) x h = let e : (suc i) + 1 ≡ suc (i + 1) = omega arith in drop-at xs i x h ∙ ap (λ (n : ℕ). x ∷ drop n (y ∷ xs)) (sym e)
@@ -122,9 +124,9 @@ module _ (d : DesignOf) (i : ℕ) (ws : List WireOf) (cs ch : List CellOf) (numb
     here : IsCell (midway d i ws cs ch) i c
     here = midway-there i c (omega arith) at
 
-    pub midway-kept : number ≤ n → n + 1 < 2 ^ 64 → ((k : ℕ) → number ≤ k → k < n → has list (kept_name k) ≡ true) → wire.name ≡ kept_name n → has list (kept_name n) ≡ false
-        → wire.width ≡ kept_width c → wire.input ≡ false → ((k : ℕ) (x : Bool) → HasDigit wire k x ↔ IsStart d i k x) → IsKeptWire (midway d i ws cs ch) i c wire
-    midway-kept from few taken name free width input digits = record {
+    pub midway-kept : number ≤ n → n < 2 ^ 32 → ((k : ℕ) → number ≤ k → k < n → has list (kept_name k) ≡ true) → wire.name ≡ kept_name n → has list (kept_name n) ≡ false
+        → IsWire wire → wire.width ≡ number_at c.parameters Width → wire.input ≡ false → ((k : ℕ) (x : Bool) → HasDigit wire k x ↔ IsStart d i k x) → IsKeptWire (midway d i ws cs ch) i c wire
+    midway-kept from few taken name free well width input digits = record {
       number = n;
       name = name;
       unused = λ h. elim (mid.new (kept_name n) h) as (λ _. ⊥) [
@@ -135,6 +137,7 @@ module _ (d : DesignOf) (i : ℕ) (ws : List WireOf) (cs ch : List CellOf) (numb
         | inl less ↦ mid.used k less
         | inr most ↦ mid.old (kept_name k) ((known (kept_name k)).0 (taken k most lt))
       ];
+      wire = well;
       width = width;
       input = input;
       digits = λ k x.
@@ -145,19 +148,19 @@ module _ (d : DesignOf) (i : ℕ) (ws : List WireOf) (cs ch : List CellOf) (numb
 
     module _ (kept : IsKeptWire (midway d i ws cs ch) i c wire) (name : wire.name ≡ kept_name n) (from : number ≤ n)
         (taken : (k : ℕ) → number ≤ k → k < n → has list (kept_name k) ≡ true) where
-      lowered-same : with_lowered (midway d i ws cs ch) i c wire ≡ midway d (i + 1) (ws ++ wire ∷ []) (cs ++ register (length ws) c ∷ []) (ch ++ choices (length ws) c)
+      lowered-same : with_lowered (midway d i ws cs ch) i c wire ≡ midway d (i + 1) (ws ++ wire ∷ []) (cs ++ register (length ws) c ∷ []) (ch ++ shown (length ws) c ∷ [])
       lowered-same =
           let r : CellOf = register (length ws) c in
-          let more : List CellOf = choices (length ws) c in
+          let more : List CellOf = shown (length ws) c ∷ [] in
           let cells : set (cs ++ (drop i d.cells ++ ch)) i r ++ more ≡ (cs ++ r ∷ []) ++ (drop (i + 1) d.cells ++ (ch ++ more)) =
-          ap (λ (l : List CellOf). set (cs ++ (l ++ ch)) i (register (length ws) c) ++ choices (length ws) c) (drop-at d.cells i c at)
-          ∙ (ap (λ (l : List CellOf). l ++ choices (length ws) c) (set-behind cs c r (drop (i + 1) d.cells ++ ch) i mid.through)
+          ap (λ (l : List CellOf). set (cs ++ (l ++ ch)) i (register (length ws) c) ++ shown (length ws) c ∷ []) (drop-at d.cells i c at)
+          ∙ (ap (λ (l : List CellOf). l ++ shown (length ws) c ∷ []) (set-behind cs c r (drop (i + 1) d.cells ++ ch) i mid.through)
           ∙ (append_assoc cs (r ∷ (drop (i + 1) d.cells ++ ch)) more
           ∙ (ap (λ (l : List CellOf). cs ++ (register (length ws) c ∷ l)) (append_assoc (drop (i + 1) d.cells) ch more)
           ∙ push-front cs r (drop (i + 1) d.cells ++ (ch ++ more))))) in
           ap (λ (l : List CellOf). record d { wires = ws ++ wire ∷ []; cells = l }) cells
 
-      one : LowersOne (midway d i ws cs ch) (midway d (i + 1) (ws ++ wire ∷ []) (cs ++ register (length ws) c ∷ []) (ch ++ choices (length ws) c))
+      one : LowersOne (midway d i ws cs ch) (midway d (i + 1) (ws ++ wire ∷ []) (cs ++ register (length ws) c ∷ []) (ch ++ shown (length ws) c ∷ []))
       one = record {
         place = i;
         cell = c;
@@ -169,8 +172,8 @@ module _ (d : DesignOf) (i : ℕ) (ws : List WireOf) (cs ch : List CellOf) (numb
         lowered = sym lowered-same;
       }
 
-      new-low : (k : ℕ) (x : CellOf) → slice_get ((cs ++ register (length ws) c ∷ []) ++ (ch ++ choices (length ws) c)) k ≡ Some x → FitsReset x → ⊥
-      new-low k x h f = elim (get-either (cs ++ register (length ws) c ∷ []) (ch ++ choices (length ws) c) k x h) as (λ _. ⊥) [
+      new-low : (k : ℕ) (x : CellOf) → slice_get ((cs ++ register (length ws) c ∷ []) ++ (ch ++ shown (length ws) c ∷ [])) k ≡ Some x → FitsReset x → ⊥
+      new-low k x h f = elim (get-either (cs ++ register (length ws) c ∷ []) (ch ++ shown (length ws) c ∷ []) k x h) as (λ _. ⊥) [
         | inl front ↦ elim (get-either cs (register (length ws) c ∷ []) k x front) as (λ _. ⊥) [
           | inl old ↦ mid.low k x (slice_get-append cs ch k x old) f
           | inr new ↦
@@ -178,10 +181,11 @@ module _ (d : DesignOf) (i : ℕ) (ws : List WireOf) (cs ch : List CellOf) (numb
               let role : ResetRegister ≡ Register = sym f.role ∙ (ap (λ (y : CellOf). role_of y.kind) same ∙ no-register (midway d i ws cs ch) m-wired i c here fits wire) in
               absurd cc
         ]
-        | inr rest ↦ elim (get-either ch (choices (length ws) c) rest.0 x rest.2) as (λ _. ⊥) [
+        | inr rest ↦ elim (get-either ch (shown (length ws) c ∷ []) rest.0 x rest.2) as (λ _. ⊥) [
           | inl old ↦ mid.low (length cs + rest.0) x (get-behind cs ch rest.0 ∙ old) f
           | inr new ↦
-              let role : ResetRegister ≡ Combinational = sym f.role ∙ choice-role (midway d i ws cs ch) m-wired i c here fits wire x new.0 new.2 in
+              let same : x ≡ shown (length ws) c = only new.0 x (shown (length ws) c) new.2 in
+              let role : ResetRegister ≡ Combinational = sym f.role ∙ ap (λ (y : CellOf). role_of y.kind) same in
               absurd cc
         ]
       ]
@@ -190,13 +194,13 @@ module _ (d : DesignOf) (i : ℕ) (ws : List WireOf) (cs ch : List CellOf) (numb
           only zero y z e = cc
           only (suc j) y z e = absurd cc
 
-      pub midway-lower : IsMidway d (i + 1) (ws ++ wire ∷ []) (cs ++ register (length ws) c ∷ []) (ch ++ choices (length ws) c) (n + 1)
+      pub midway-lower : IsMidway d (i + 1) (ws ++ wire ∷ []) (cs ++ register (length ws) c ∷ []) (ch ++ shown (length ws) c ∷ []) (n + 1)
       midway-lower =
-          let e = midway d (i + 1) (ws ++ wire ∷ []) (cs ++ register (length ws) c ∷ []) (ch ++ choices (length ws) c) in
+          let e = midway d (i + 1) (ws ++ wire ∷ []) (cs ++ register (length ws) c ∷ []) (ch ++ shown (length ws) c ∷ []) in
           let m = midway d i ws cs ch in
           record {
             count = suc mid.count;
-            steps = steps-push mid.count d (midway d i ws cs ch) (midway d (i + 1) (ws ++ wire ∷ []) (cs ++ register (length ws) c ∷ []) (ch ++ choices (length ws) c)) mid.steps one;
+            steps = steps-push mid.count d (midway d i ws cs ch) (midway d (i + 1) (ws ++ wire ∷ []) (cs ++ register (length ws) c ∷ []) (ch ++ shown (length ws) c ∷ [])) mid.steps one;
             through = length-push cs (register (length ws) c) i mid.through;
             low = new-low;
             starts = λ j k x le lt.

@@ -7,8 +7,8 @@ use Rattle.design_core.specs.Shape.{WireOf, CellOf, DesignOf}
 use Rattle.design_core.proofs.Lists.{Contains-from_place, place-from_Contains}
 use Rattle.design_core.proofs.Designs.{slice_get-append}
 use Rattle.design_meaning.specs.Meaning.{IsCell}
-use Rattle.design_lower.specs.Lowering.{FitsReset, choices, kept_name, names, register, with_lowered}
-use Rattle.design_lower.proofs.Cells.{choice-cases, enabled-form, form-of, lowered-cases, other-there, place-cases, plain-form, register-there}
+use Rattle.design_lower.specs.Lowering.{FitsReset, kept_name, names, register, with_lowered}
+use Rattle.design_lower.proofs.Cells.{enabled-form, form-of, lowered-cases, other-there, place-cases, plain-form, register-there}
 use Rattle.design_lower.proofs.Lists.{get-behind, get-either}
 
 tail : (a b : ℕ) (xs ys : List ℕ) → a ∷ xs ≡ b ∷ ys → xs ≡ ys
@@ -62,12 +62,6 @@ module _ (d : DesignOf) (i : ℕ) (c : CellOf) (at : IsCell d i c) (fits : FitsR
     | inr enabled ↦ ap (λ (x : CellOf). x.name) (enabled-form (length d.wires) c enabled.1)
   ]
 
-  choice-name : (x : CellOf) (k : ℕ) → slice_get (choices (length d.wires) c) k ≡ Some x → x.name ≡ c.name
-  choice-name x k h = elim (choice-cases (length d.wires) c x k h) as (λ _. x.name ≡ c.name) [
-    | inl e ↦ ap (λ (y : CellOf). y.name) e
-    | inr rest ↦ elim rest as (λ _. x.name ≡ c.name) [ inl e ↦ ap (λ (y : CellOf). y.name) e | inr e ↦ ap (λ (y : CellOf). y.name) e.1 ]
-  ]
-
   pub names-kept : (n : List ℕ) → Contains (names d) n → Contains (names (with_lowered d i c wire)) n
   names-kept n h = named-to (with_lowered d i c wire) n (elim (named-from d n h) as (λ _. IsNamed (with_lowered d i c wire) n) [
     | inl w ↦ inl (w.0, w.1, slice_get-append d.wires (wire ∷ []) w.0 w.1 w.2, w.3)
@@ -90,7 +84,7 @@ module _ (d : DesignOf) (i : ℕ) (c : CellOf) (at : IsCell d i c) (fits : FitsR
       | inl e ↦ inl (named-to d n (inr (i, c, at, sym register-name ∙ (ap (λ (y : CellOf). y.name) (sym e.1) ∙ x.3))))
       | inr rest ↦ elim rest as (λ _. Contains (names d) n ⊎ (n ≡ wire.name)) [
         | inl o ↦ inl (named-to d n (inr (x.0, x.1, o.1, x.3)))
-        | inr k ↦ inl (named-to d n (inr (i, c, at, sym (choice-name x.1 k.0 k.1) ∙ x.3)))
+        | inr e ↦ inl (named-to d n (inr (i, c, at, ap (λ (y : CellOf). y.name) (sym e) ∙ x.3)))
       ]
     ]
   ]

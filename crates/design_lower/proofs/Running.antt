@@ -1,5 +1,5 @@
 -- Runs of a lowered design, looked at as runs of the design, and back.
-use Rattle.std.proofs.Common.{◌≡◌, inl, inr, ℕ, zero, suc, ◌<◌, length, refl, ap, sym, subst, ◌∙◌, arith}
+use Rattle.std.proofs.Common.{◌≡◌, inl, inr, ℕ, zero, suc, length, refl, ap, sym, subst, ◌∙◌}
 use Rattle.design_signals.specs.declared.sig_bit.SigBit.{SigBit}
 use Rattle.design_core.specs.Shape.{WireOf, CellOf, DesignOf, IsDeclared}
 use Rattle.design_core.proofs.Designs.{IsDeclared-wire}
@@ -10,7 +10,7 @@ use Rattle.design_lower.specs.Seen.{IsSeen}
 use Rattle.design_lower.proofs.Alike.{IsWired}
 use Rattle.design_lower.proofs.Beginning.{starts-down, starts-up}
 use Rattle.design_lower.proofs.Cells.{other-there, place-cases, register-there}
-use Rattle.design_lower.proofs.Made.{IsSeenOnce, follows-down, follows-up, frame-down, frame-made, frame-up, lowered-held, same-held}
+use Rattle.design_lower.proofs.Made.{IsSeenOnce, follows-down, follows-up, frame-down, frame-up, lowered-held, same-held}
 use Rattle.design_lower.proofs.Viewing.{IsWired-lowered, down, made-up, seen-down, seen-up, up}
 
 -- what is in d is in e too: a bit stays declared, and at the place of a cell there is one
@@ -44,9 +44,7 @@ module _ (d : DesignOf) (wired : IsWired d) (i : ℕ) (c : CellOf) (at : IsCell 
             some = r.window.some;
             frames = λ t lt. frame-down d wired i c at fits wire (down d wired i c at fits wire (ws t)) (ws t) (seen t) (r.window.frames t lt);
             follows = λ t lt.
-                let now : t < n = omega (arith, lt) in
-                follows-down d wired i c at fits wire (down d wired i c at fits wire (ws t)) (ws t) (down d wired i c at fits wire (ws (suc t))) (ws (suc t)) (seen t) (seen (suc t))
-                (frame-made d wired i c at fits wire (ws t) (r.window.frames t now)) (r.window.follows t lt);
+                follows-down d wired i c at fits wire (down d wired i c at fits wire (ws t)) (ws t) (down d wired i c at fits wire (ws (suc t))) (ws (suc t)) (seen t) (seen (suc t)) (r.window.follows t lt);
           };
           starts = starts-down d wired i c at fits wire kept (down d wired i c at fits wire (ws 0)) (ws 0) (seen 0) r.starts;
         },
@@ -56,17 +54,14 @@ module _ (d : DesignOf) (wired : IsWired d) (i : ℕ) (c : CellOf) (at : IsCell 
   run-up : (n : ℕ) (vs : ℕ → Valuation) → Run d n vs
       → (ws : ℕ → Valuation) × Run (with_lowered d i c wire) n ws × ((t : ℕ) → IsSeen d (with_lowered d i c wire) (vs t) (ws t))
   run-up n vs r =
-      let seen = λ (t : ℕ). seen-up d wired i c at fits wire (vs t) in
-      let made = λ (t : ℕ) (lt : t < n). made-up d wired i c at fits wire (vs t) (r.window.frames t lt) in (
+      let seen = λ (t : ℕ). seen-up d wired i c at fits wire (vs t) in (
         λ t. up d wired i c at fits wire (vs t),
         record {
           window = record {
             some = r.window.some;
-            frames = λ t lt. frame-up d wired i c at fits wire (vs t) (up d wired i c at fits wire (vs t)) (seen t) (r.window.frames t lt) (made t lt);
+            frames = λ t lt. frame-up d wired i c at fits wire (vs t) (up d wired i c at fits wire (vs t)) (seen t) (r.window.frames t lt) (made-up d wired i c at fits wire (vs t) (r.window.frames t lt));
             follows = λ t lt.
-                let now : t < n = omega (arith, lt) in
-                follows-up d wired i c at fits wire (vs t) (up d wired i c at fits wire (vs t)) (vs (suc t)) (up d wired i c at fits wire (vs (suc t))) (seen t) (seen (suc t))
-                (made t now) (r.window.follows t lt);
+                follows-up d wired i c at fits wire (vs t) (up d wired i c at fits wire (vs t)) (vs (suc t)) (up d wired i c at fits wire (vs (suc t))) (seen t) (seen (suc t)) (r.window.follows t lt);
           };
           starts = starts-up d wired i c at fits wire kept (vs 0) (up d wired i c at fits wire (vs 0)) (seen 0) r.starts;
         },

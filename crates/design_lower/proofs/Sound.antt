@@ -5,26 +5,26 @@ use Rattle.std.specs.List.{find, list_any}
 use Rattle.std.proofs.lemmas.Bool.{eq-eqb, eqb-true}
 use Rattle.std.proofs.lemmas.List.{length-map}
 use Rattle.cell_table.specs.declared.kind.Kind.{Kind}
-use Rattle.cell_table.specs.declared.kind.Kind.TheVariants.{Adff, Adffe, Dff, Dffe, Mux, LeftOut as LeftOutCell, Unknown}
+use Rattle.cell_table.specs.declared.kind.Kind.TheVariants.{Adff, Adffe, Sdff, Sdffe, Mux, LeftOut as LeftOutCell, Unknown}
 use Rattle.design_signals.specs.declared.sig_bit.SigBit.{SigBit}
-use Rattle.design_signals.specs.declared.sig_bit.SigBit.TheVariants.{Wire, Const}
-use Rattle.design_core.specs.Asked.{are_number, count_of, has_number, has_parameters, number_at, number_of, output_of, HasPort, HasPorts}
-use Rattle.design_core.specs.Digits.{digits_number, is_number, number_digits}
+use Rattle.design_signals.specs.declared.sig_bit.SigBit.TheVariants.{Wire}
+use Rattle.design_core.specs.Asked.{are_number, are_values, count_of, has_number, has_parameters, number_at, number_of, output_of, HasPort, HasPorts}
+use Rattle.design_core.specs.Digits.{digits_number, is_number}
 use Rattle.design_core.specs.Ports.{are_distinct, digits_at, is_port, port_number, signal_at, signal_in}
 use Rattle.design_core.specs.Shape.{CellOf}
 use Rattle.design_core.specs.Table.{asks_one_sign, ports_of, port as line, width_limit, width_of}
 use Rattle.design_core.specs.declared.digit.Digit.{Digit}
 use Rattle.design_core.specs.declared.names.PortName.{PortName}
-use Rattle.design_core.specs.declared.names.PortName.TheVariants.{A, B, S, En, Y, Clk, D, Q, Arst}
+use Rattle.design_core.specs.declared.names.PortName.TheVariants.{A, B, S, En, Y, Clk, D, Q, Srst, Arst}
 use Rattle.design_core.specs.declared.names.ParameterName.TheVariants.{Width, ClkPolarity, EnPolarity, ArstPolarity, ArstValue}
 use Rattle.design_core.specs.declared.parts.Port.{Port}
 use Rattle.design_core.specs.declared.table.PortLine.{PortLine}
 use Rattle.design_core.specs.declared.table.PortWidth.TheVariants.{One, Of}
 use Rattle.design_core.proofs.Lists.{Contains-from_place, place-from_Contains}
 use Rattle.design_check.specs.Faults.{IsTooWide, flag}
-use Rattle.design_lower.specs.Lowering.{FitsReset, choice, choices, digit_bit, digits_of_cell, digits_or_none, enabled_register, has_enable, kept_signal, next_signal, open_signal, opened, plain_register, port, register, reset_signal, shown, taken}
+use Rattle.design_lower.specs.Lowering.{FitsReset, digit_bit, digits_of_cell, digits_or_none, enabled_register, has_enable, kept_signal, plain_register, port, register, reset_signal, shown}
 use Rattle.design_lower.proofs.Beginning.{length-bits_from}
-use Rattle.design_lower.proofs.Cells.{choice-cases, enabled-form, form-of, plain-form}
+use Rattle.design_lower.proofs.Cells.{enabled-form, form-of, plain-form}
 use Rattle.design_lower.proofs.Clocking.{number-kept}
 use Rattle.design_lower.proofs.Fitting.{has-enable, has-reset, has-signals, output-width}
 use Rattle.design_lower.proofs.Lists.{eqb-other}
@@ -48,6 +48,14 @@ is-some n h = ap not (eqb-other n 0 (λ e. absurd (omega (arith, e, h))))
 binary-kept : (o : Option (List Digit)) → are_number o ≡ true → are_number (Some (digits_or_none o)) ≡ true
 binary-kept None h = absurd cc
 binary-kept (Some xs) h = h
+
+values-kept : (o : Option (List Digit)) → are_values o ≡ true → are_values (Some (digits_or_none o)) ≡ true
+values-kept None h = absurd cc
+values-kept (Some xs) h = h
+
+count-kept : (o : Option (List Digit)) → count_of (Some (digits_or_none o)) ≡ count_of o
+count-kept None = refl
+count-kept (Some xs) = refl
 
 either-long : (b : Bool) (xs ys : List SigBit) (n : ℕ) → length xs ≡ n → length ys ≡ n → length (cond b xs ys) ≡ n
 either-long true xs ys n h g = h
@@ -73,25 +81,6 @@ module _ (c : CellOf) (fits : FitsReset c) where
   arst : length (signal_at c.ports Arst) ≡ 1
   arst = (has-signals c fits).reset.wide
 
-  module _ (width : List Digit) (reset other output : List SigBit) (binary : is_number width ≡ true) (some : 0 < digits_number width) (lr : length reset ≡ digits_number width)
-      (lo : length other ≡ digits_number width) (ly : length output ≡ digits_number width) where
-    pub sound-choice : IsSound (choice c width reset other output)
-    sound-choice = record {
-      known = λ e. absurd cc;
-      served = λ k e. absurd cc;
-      parameters = and-true _ true (and-true _ true (and-true _ _ binary (is-some (digits_number width) some)) refl) refl;
-      ports = record { all = λ l at. let p = place-from_Contains (ports_of Mux) l at in lines p.0 l p.1; only = refl; no_other = refl };
-      one_sign = refl;
-      limit = refl;
-    }
-      where
-        lines : (k : ℕ) (l : PortLine) → slice_get (ports_of Mux) k ≡ Some l → HasPort (choice c width reset other output) l
-        lines zero l e = let same : line A (Of Width) ≡ l = cc in subst (λ (x : PortLine). HasPort (choice c width reset other output) x) same (record { there = refl; wide = either-long (flag c ArstPolarity) other reset (digits_number width) lo lr })
-        lines (suc zero) l e = let same : line B (Of Width) ≡ l = cc in subst (λ (x : PortLine). HasPort (choice c width reset other output) x) same (record { there = refl; wide = either-long (flag c ArstPolarity) reset other (digits_number width) lr lo })
-        lines (suc (suc zero)) l e = let same : line S One ≡ l = cc in subst (λ (x : PortLine). HasPort (choice c width reset other output) x) same (record { there = refl; wide = arst })
-        lines (suc (suc (suc zero))) l e = let same : line Y (Of Width) ≡ l = cc in subst (λ (x : PortLine). HasPort (choice c width reset other output) x) same (record { there = refl; wide = ly })
-        lines (suc (suc (suc (suc k)))) l e = absurd cc
-
   reset-long : length (reset_signal c) ≡ number_at c.parameters Width
   reset-long = length-map (digits_of_cell c ArstValue) digit_bit ∙ (by (digits_at c.parameters ArstValue) ∙ (has-reset c fits).count)
     where
@@ -108,78 +97,96 @@ module _ (c : CellOf) (fits : FitsReset c) where
   width-some : 0 < digits_number (digits_of_cell c Width)
   width-some = let some = (has-reset c fits).some in omega (arith, some, width-number)
 
-  sound-shown : (w : ℕ) → IsSound (shown w c)
-  sound-shown w =
-      sound-choice (digits_of_cell c Width) (reset_signal c) (kept_signal w c) (output_of c) width-binary width-some (reset-long ∙ sym width-number)
-      (length-bits_from (Wire w 0) 0 (number_at c.parameters Width) ∙ sym width-number) (output-width c fits ∙ sym width-number)
+  kept-long : (w : ℕ) → length (kept_signal w c) ≡ number_of (Some (digits_of_cell c Width))
+  kept-long w = length-bits_from (Wire w 0) 0 (number_at c.parameters Width) ∙ sym width-number
 
-  sound-taken : (w : ℕ) → IsSound (taken w c)
-  sound-taken w =
-      sound-choice (digits_of_cell c Width) (reset_signal c) (signal_at c.ports D) (next_signal w c) width-binary width-some (reset-long ∙ sym width-number)
-      ((has-signals c fits).taken.wide ∙ sym width-number) (length-bits_from (Wire w (number_at c.parameters Width)) 0 (number_at c.parameters Width) ∙ sym width-number)
+  pub sound-shown : (w : ℕ) → IsSound (shown w c)
+  sound-shown w = record {
+    known = λ e. absurd cc;
+    served = λ k e. absurd cc;
+    parameters = and-true _ true (and-true _ true (and-true _ _ width-binary (is-some (digits_number (digits_of_cell c Width)) width-some)) refl) refl;
+    ports = record { all = λ l at. let p = place-from_Contains (ports_of Mux) l at in lines p.0 l p.1; only = refl; no_other = refl };
+    one_sign = refl;
+    limit = refl;
+  }
+    where
+      long : length (reset_signal c) ≡ number_of (Some (digits_of_cell c Width))
+      long = reset-long ∙ sym width-number
 
-  enable-long : has_enable c ≡ true → (has_number c.parameters EnPolarity ≡ true) × (length (signal_at c.ports En) ≡ 1)
-  enable-long e = elim (form-of c fits) as (λ _. (has_number c.parameters EnPolarity ≡ true) × (length (signal_at c.ports En) ≡ 1)) [
-    | inl plain ↦ let clash : true ≡ false = sym e ∙ plain.1 in absurd cc
-    | inr enabled ↦ has-enable c fits enabled.0
-  ]
-
-  sound-opened : (w : ℕ) → has_enable c ≡ true → IsSound (opened w c)
-  sound-opened w e = sound-choice (number_digits 1 1) (Const (flag c EnPolarity) ∷ []) (signal_at c.ports En) (open_signal w c) refl (omega arith) refl (enable-long e).1 refl
-
-  pub sound-choices : (w k : ℕ) (x : CellOf) → slice_get (choices w c) k ≡ Some x → IsSound x
-  sound-choices w k x h = elim (choice-cases w c x k h) as (λ _. IsSound x) [
-    | inl e ↦ subst (λ (y : CellOf). IsSound y) (sym e) (sound-shown w)
-    | inr rest ↦ elim rest as (λ _. IsSound x) [
-      | inl e ↦ subst (λ (y : CellOf). IsSound y) (sym e) (sound-taken w)
-      | inr e ↦ subst (λ (y : CellOf). IsSound y) (sym e.1) (sound-opened w e.0)
-    ]
-  ]
+      lines : (k : ℕ) (l : PortLine) → slice_get (ports_of Mux) k ≡ Some l → HasPort (shown w c) l
+      lines zero l e = let same : line A (Of Width) ≡ l = cc in subst (λ (x : PortLine). HasPort (shown w c) x) same
+          (record { there = refl; wide = either-long (flag c ArstPolarity) (kept_signal w c) (reset_signal c) (number_of (Some (digits_of_cell c Width))) (kept-long w) long })
+      lines (suc zero) l e = let same : line B (Of Width) ≡ l = cc in subst (λ (x : PortLine). HasPort (shown w c) x) same
+          (record { there = refl; wide = either-long (flag c ArstPolarity) (reset_signal c) (kept_signal w c) (number_of (Some (digits_of_cell c Width))) long (kept-long w) })
+      lines (suc (suc zero)) l e = let same : line S One ≡ l = cc in subst (λ (x : PortLine). HasPort (shown w c) x) same (record { there = refl; wide = arst })
+      lines (suc (suc (suc zero))) l e = let same : line Y (Of Width) ≡ l = cc in subst (λ (x : PortLine). HasPort (shown w c) x) same (record { there = refl; wide = output-width c fits ∙ sym width-number })
+      lines (suc (suc (suc (suc k)))) l e = absurd cc
 
   -- ---- the register
 
   clock-binary : are_number (Some (digits_of_cell c ClkPolarity)) ≡ true
   clock-binary = binary-kept (digits_at c.parameters ClkPolarity) (has-reset c fits).clock
 
-  next-long : (w : ℕ) → length (next_signal w c) ≡ number_of (Some (digits_of_cell c Width))
-  next-long w = length-bits_from (Wire w (number_at c.parameters Width)) 0 (number_at c.parameters Width) ∙ sym width-number
+  taken-long : length (signal_at c.ports D) ≡ number_of (Some (digits_of_cell c Width))
+  taken-long = (has-signals c fits).taken.wide ∙ sym width-number
 
-  kept-long : (w : ℕ) → length (kept_signal w c) ≡ number_of (Some (digits_of_cell c Width))
-  kept-long w = length-bits_from (Wire w 0) 0 (number_at c.parameters Width) ∙ sym width-number
+  polarity-binary : are_number (Some (digits_of_cell c ArstPolarity)) ≡ true
+  polarity-binary = binary-kept (digits_at c.parameters ArstPolarity) (has-reset c fits).polarity
+
+  value-form : are_values (Some (digits_of_cell c ArstValue)) ≡ true
+  value-form = values-kept (digits_at c.parameters ArstValue) (has-reset c fits).values
+
+  value-count : eqb (count_of (Some (digits_of_cell c ArstValue))) (number_of (Some (digits_of_cell c Width))) ≡ true
+  value-count = eq-eqb _ _ (count-kept (digits_at c.parameters ArstValue) ∙ ((has-reset c fits).count ∙ sym width-number))
+
+  enabled-has : has_enable c ≡ true → (has_number c.parameters EnPolarity ≡ true) × (length (signal_at c.ports En) ≡ 1)
+  enabled-has e = elim (form-of c fits) as (λ _. (has_number c.parameters EnPolarity ≡ true) × (length (signal_at c.ports En) ≡ 1)) [
+    | inl plain ↦ let clash : true ≡ false = sym e ∙ plain.1 in absurd cc
+    | inr enabled ↦ has-enable c fits enabled.0
+  ]
+
+  width-form : (are_number (Some (digits_of_cell c Width)) && not (eqb (number_of (Some (digits_of_cell c Width))) 0)) ≡ true
+  width-form = and-true _ _ width-binary (is-some (digits_number (digits_of_cell c Width)) width-some)
+
+  -- of SRST_POLARITY, SRST_VALUE and WIDTH
+  reset-forms : (are_number (Some (digits_of_cell c ArstPolarity)) && ((are_values (Some (digits_of_cell c ArstValue)) && eqb (count_of (Some (digits_of_cell c ArstValue))) (number_of (Some (digits_of_cell c Width))))
+      && ((are_number (Some (digits_of_cell c Width)) && not (eqb (number_of (Some (digits_of_cell c Width))) 0)) && true))) ≡ true
+  reset-forms = and-true _ _ polarity-binary (and-true _ _ (and-true _ _ value-form value-count) (and-true _ _ width-form refl))
 
   sound-plain : (w : ℕ) → IsSound (plain_register w c)
   sound-plain w = record {
     known = λ e. absurd cc;
     served = λ k e. absurd cc;
-    parameters = and-true _ true (and-true _ _ clock-binary (and-true _ true (and-true _ _ width-binary (is-some (digits_number (digits_of_cell c Width)) width-some)) refl)) refl;
-    ports = record { all = λ l at. let p = place-from_Contains (ports_of Dff) l at in lines p.0 l p.1; only = refl; no_other = refl };
+    parameters = and-true _ true (and-true _ _ clock-binary reset-forms) refl;
+    ports = record { all = λ l at. let p = place-from_Contains (ports_of Sdff) l at in lines p.0 l p.1; only = refl; no_other = refl };
     one_sign = refl;
     limit = refl;
   }
     where
-      lines : (k : ℕ) (l : PortLine) → slice_get (ports_of Dff) k ≡ Some l → HasPort (plain_register w c) l
+      lines : (k : ℕ) (l : PortLine) → slice_get (ports_of Sdff) k ≡ Some l → HasPort (plain_register w c) l
       lines zero l e = let same : line Clk One ≡ l = cc in subst (λ (x : PortLine). HasPort (plain_register w c) x) same (record { there = refl; wide = (has-signals c fits).clock.wide })
-      lines (suc zero) l e = let same : line D (Of Width) ≡ l = cc in subst (λ (x : PortLine). HasPort (plain_register w c) x) same (record { there = refl; wide = next-long w })
+      lines (suc zero) l e = let same : line D (Of Width) ≡ l = cc in subst (λ (x : PortLine). HasPort (plain_register w c) x) same (record { there = refl; wide = taken-long })
       lines (suc (suc zero)) l e = let same : line Q (Of Width) ≡ l = cc in subst (λ (x : PortLine). HasPort (plain_register w c) x) same (record { there = refl; wide = kept-long w })
-      lines (suc (suc (suc k))) l e = absurd cc
+      lines (suc (suc (suc zero))) l e = let same : line Srst One ≡ l = cc in subst (λ (x : PortLine). HasPort (plain_register w c) x) same (record { there = refl; wide = arst })
+      lines (suc (suc (suc (suc k)))) l e = absurd cc
 
   sound-enabled : (w : ℕ) → has_enable c ≡ true → IsSound (enabled_register w c)
   sound-enabled w en = record {
     known = λ e. absurd cc;
     served = λ k e. absurd cc;
-    parameters = and-true _ true (and-true _ _ clock-binary (and-true _ _ (binary-kept (digits_at c.parameters EnPolarity) (enable-long en).0)
-        (and-true _ true (and-true _ _ width-binary (is-some (digits_number (digits_of_cell c Width)) width-some)) refl))) refl;
-    ports = record { all = λ l at. let p = place-from_Contains (ports_of Dffe) l at in lines p.0 l p.1; only = refl; no_other = refl };
+    parameters = and-true _ true (and-true _ _ clock-binary (and-true _ _ (binary-kept (digits_at c.parameters EnPolarity) (enabled-has en).0) reset-forms)) refl;
+    ports = record { all = λ l at. let p = place-from_Contains (ports_of Sdffe) l at in lines p.0 l p.1; only = refl; no_other = refl };
     one_sign = refl;
     limit = refl;
   }
     where
-      lines : (k : ℕ) (l : PortLine) → slice_get (ports_of Dffe) k ≡ Some l → HasPort (enabled_register w c) l
+      lines : (k : ℕ) (l : PortLine) → slice_get (ports_of Sdffe) k ≡ Some l → HasPort (enabled_register w c) l
       lines zero l e = let same : line Clk One ≡ l = cc in subst (λ (x : PortLine). HasPort (enabled_register w c) x) same (record { there = refl; wide = (has-signals c fits).clock.wide })
-      lines (suc zero) l e = let same : line D (Of Width) ≡ l = cc in subst (λ (x : PortLine). HasPort (enabled_register w c) x) same (record { there = refl; wide = next-long w })
-      lines (suc (suc zero)) l e = let same : line En One ≡ l = cc in subst (λ (x : PortLine). HasPort (enabled_register w c) x) same (record { there = refl; wide = refl })
+      lines (suc zero) l e = let same : line D (Of Width) ≡ l = cc in subst (λ (x : PortLine). HasPort (enabled_register w c) x) same (record { there = refl; wide = taken-long })
+      lines (suc (suc zero)) l e = let same : line En One ≡ l = cc in subst (λ (x : PortLine). HasPort (enabled_register w c) x) same (record { there = refl; wide = (enabled-has en).1 })
       lines (suc (suc (suc zero))) l e = let same : line Q (Of Width) ≡ l = cc in subst (λ (x : PortLine). HasPort (enabled_register w c) x) same (record { there = refl; wide = kept-long w })
-      lines (suc (suc (suc (suc k)))) l e = absurd cc
+      lines (suc (suc (suc (suc zero)))) l e = let same : line Srst One ≡ l = cc in subst (λ (x : PortLine). HasPort (enabled_register w c) x) same (record { there = refl; wide = arst })
+      lines (suc (suc (suc (suc (suc k))))) l e = absurd cc
 
   pub sound-register : (w : ℕ) → IsSound (register w c)
   sound-register w = elim (form-of c fits) as (λ _. IsSound (register w c)) [
@@ -317,65 +324,54 @@ module _ (c : CellOf) (fits : FitsReset c) (is : IsTrue (are_distinct (λ q. por
       let q = place-from_Contains xs p at in
       elim (each q.0 p q.1) as (λ _. 4096 < number_at c.parameters Width) [ inl e ↦ absurd (omega (arith, e, h)) | inr e ↦ omega (arith, e, h) ]
 
-  choice-wide : (width : List Digit) (reset other output : List SigBit) → (length reset ≡ 1) ⊎ (length reset ≡ number_at c.parameters Width) → length other ≡ length reset → length output ≡ length reset
-      → IsTooWide (choice c width reset other output) → 4096 < number_at c.parameters Width
-  choice-wide width reset other output long lo ly h = few-bits (choice c width reset other output).ports each h.0 h.1 h.2
+  abbrev pub IsShort : List SigBit → Type 0
+  IsShort s = (length s ≡ 1) ⊎ (length s ≡ number_at c.parameters Width)
+
+  short-port : (x p : Port) → x ≡ p → IsShort x.signal → IsShort p.signal
+  short-port x p e g = subst (λ (y : Port). IsShort y.signal) e g
+
+  short-kept : (w : ℕ) → IsShort (kept_signal w c)
+  short-kept w = inr (length-bits_from (Wire w 0) 0 (number_at c.parameters Width))
+
+  pub shown-wide : (w : ℕ) → IsTooWide (shown w c) → 4096 < number_at c.parameters Width
+  shown-wide w h = few-bits (shown w c).ports each h.0 h.1 h.2
     where
-      as-reset : (s : List SigBit) → length s ≡ length reset → (length s ≡ 1) ⊎ (length s ≡ number_at c.parameters Width)
-      as-reset s e = elim long as (λ _. (length s ≡ 1) ⊎ (length s ≡ number_at c.parameters Width)) [ inl f ↦ inl (e ∙ f) | inr f ↦ inr (e ∙ f) ]
+      either : (b : Bool) (r s : List SigBit) → IsShort r → IsShort s → IsShort (cond b r s)
+      either true r s f g = f
+      either false r s f g = g
 
-      of : (x p : Port) → x ≡ p → (length x.signal ≡ 1) ⊎ (length x.signal ≡ number_at c.parameters Width) → (length p.signal ≡ 1) ⊎ (length p.signal ≡ number_at c.parameters Width)
-      of x p e g = subst (λ (y : Port). (length y.signal ≡ 1) ⊎ (length y.signal ≡ number_at c.parameters Width)) e g
-
-      each : (k : ℕ) (p : Port) → slice_get (choice c width reset other output).ports k ≡ Some p → (length p.signal ≡ 1) ⊎ (length p.signal ≡ number_at c.parameters Width)
-      each zero p e = of (port A (cond (flag c ArstPolarity) other reset)) p (cc) (as-reset (cond (flag c ArstPolarity) other reset) (either-long (flag c ArstPolarity) other reset (length reset) lo refl))
-      each (suc zero) p e = of (port B (cond (flag c ArstPolarity) reset other)) p (cc) (as-reset (cond (flag c ArstPolarity) reset other) (either-long (flag c ArstPolarity) reset other (length reset) refl lo))
-      each (suc (suc zero)) p e = of (port S (signal_at c.ports Arst)) p (cc) (inl (arst c fits))
-      each (suc (suc (suc zero))) p e = of (port Y output) p (cc) (as-reset output ly)
+      each : (k : ℕ) (p : Port) → slice_get (shown w c).ports k ≡ Some p → IsShort p.signal
+      each zero p e = short-port (port A (cond (flag c ArstPolarity) (kept_signal w c) (reset_signal c))) p (cc) (either (flag c ArstPolarity) (kept_signal w c) (reset_signal c) (short-kept w) (inr (reset-long c fits)))
+      each (suc zero) p e = short-port (port B (cond (flag c ArstPolarity) (reset_signal c) (kept_signal w c))) p (cc) (either (flag c ArstPolarity) (reset_signal c) (kept_signal w c) (inr (reset-long c fits)) (short-kept w))
+      each (suc (suc zero)) p e = short-port (port S (signal_at c.ports Arst)) p (cc) (inl (arst c fits))
+      each (suc (suc (suc zero))) p e = short-port (port Y (output_of c)) p (cc) (inr (output-width c fits))
       each (suc (suc (suc (suc k)))) p e = absurd cc
-
-  pub choices-wide : (w k : ℕ) (x : CellOf) → slice_get (choices w c) k ≡ Some x → IsTooWide x → 4096 < number_at c.parameters Width
-  choices-wide w k x at h =
-      let long = reset-long c fits in
-      elim (choice-cases w c x k at) as (λ _. 4096 < number_at c.parameters Width) [
-        | inl e ↦ choice-wide (digits_of_cell c Width) (reset_signal c) (kept_signal w c) (output_of c) (inr long) (length-bits_from (Wire w 0) 0 (number_at c.parameters Width) ∙ sym long)
-            (output-width c fits ∙ sym long) (subst (λ (y : CellOf). IsTooWide y) e h)
-        | inr rest ↦ elim rest as (λ _. 4096 < number_at c.parameters Width) [
-          | inl e ↦ choice-wide (digits_of_cell c Width) (reset_signal c) (signal_at c.ports D) (next_signal w c) (inr long) ((has-signals c fits).taken.wide ∙ sym long)
-              (length-bits_from (Wire w (number_at c.parameters Width)) 0 (number_at c.parameters Width) ∙ sym long) (subst (λ (y : CellOf). IsTooWide y) e h)
-          | inr e ↦ choice-wide (number_digits 1 1) (Const (flag c EnPolarity) ∷ []) (signal_at c.ports En) (open_signal w c) (inl refl) (enable-long c fits e.0).1 refl (subst (λ (y : CellOf). IsTooWide y) e.1 h)
-        ]
-      ]
 
   plain-wide : (w : ℕ) → IsTooWide (plain_register w c) → 4096 < number_at c.parameters Width
   plain-wide w h = few-bits (plain_register w c).ports each h.0 h.1 h.2
     where
-      of : (x p : Port) → x ≡ p → (length x.signal ≡ 1) ⊎ (length x.signal ≡ number_at c.parameters Width) → (length p.signal ≡ 1) ⊎ (length p.signal ≡ number_at c.parameters Width)
-      of x p e g = subst (λ (y : Port). (length y.signal ≡ 1) ⊎ (length y.signal ≡ number_at c.parameters Width)) e g
-
-      each : (k : ℕ) (p : Port) → slice_get (plain_register w c).ports k ≡ Some p → (length p.signal ≡ 1) ⊎ (length p.signal ≡ number_at c.parameters Width)
-      each zero p e = of (port Clk (signal_at c.ports Clk)) p (cc) (inl (has-signals c fits).clock.wide)
-      each (suc zero) p e = of (port D (next_signal w c)) p (cc) (inr (length-bits_from (Wire w (number_at c.parameters Width)) 0 (number_at c.parameters Width)))
-      each (suc (suc zero)) p e = of (port Q (kept_signal w c)) p (cc) (inr (length-bits_from (Wire w 0) 0 (number_at c.parameters Width)))
-      each (suc (suc (suc k))) p e = absurd cc
-
-  enabled-wide : (w : ℕ) → IsTooWide (enabled_register w c) → 4096 < number_at c.parameters Width
-  enabled-wide w h = few-bits (enabled_register w c).ports each h.0 h.1 h.2
-    where
-      of : (x p : Port) → x ≡ p → (length x.signal ≡ 1) ⊎ (length x.signal ≡ number_at c.parameters Width) → (length p.signal ≡ 1) ⊎ (length p.signal ≡ number_at c.parameters Width)
-      of x p e g = subst (λ (y : Port). (length y.signal ≡ 1) ⊎ (length y.signal ≡ number_at c.parameters Width)) e g
-
-      each : (k : ℕ) (p : Port) → slice_get (enabled_register w c).ports k ≡ Some p → (length p.signal ≡ 1) ⊎ (length p.signal ≡ number_at c.parameters Width)
-      each zero p e = of (port Clk (signal_at c.ports Clk)) p (cc) (inl (has-signals c fits).clock.wide)
-      each (suc zero) p e = of (port D (next_signal w c)) p (cc) (inr (length-bits_from (Wire w (number_at c.parameters Width)) 0 (number_at c.parameters Width)))
-      each (suc (suc zero)) p e = of (port En (open_signal w c)) p (cc) (inl refl)
-      each (suc (suc (suc zero))) p e = of (port Q (kept_signal w c)) p (cc) (inr (length-bits_from (Wire w 0) 0 (number_at c.parameters Width)))
+      each : (k : ℕ) (p : Port) → slice_get (plain_register w c).ports k ≡ Some p → IsShort p.signal
+      each zero p e = short-port (port Clk (signal_at c.ports Clk)) p (cc) (inl (has-signals c fits).clock.wide)
+      each (suc zero) p e = short-port (port D (signal_at c.ports D)) p (cc) (inr (has-signals c fits).taken.wide)
+      each (suc (suc zero)) p e = short-port (port Q (kept_signal w c)) p (cc) (short-kept w)
+      each (suc (suc (suc zero))) p e = short-port (port Srst (signal_at c.ports Arst)) p (cc) (inl (arst c fits))
       each (suc (suc (suc (suc k)))) p e = absurd cc
+
+  enabled-wide : (w : ℕ) → has_enable c ≡ true → IsTooWide (enabled_register w c) → 4096 < number_at c.parameters Width
+  enabled-wide w en h = few-bits (enabled_register w c).ports each h.0 h.1 h.2
+    where
+      each : (k : ℕ) (p : Port) → slice_get (enabled_register w c).ports k ≡ Some p → IsShort p.signal
+      each zero p e = short-port (port Clk (signal_at c.ports Clk)) p (cc) (inl (has-signals c fits).clock.wide)
+      each (suc zero) p e = short-port (port D (signal_at c.ports D)) p (cc) (inr (has-signals c fits).taken.wide)
+      each (suc (suc zero)) p e = short-port (port En (signal_at c.ports En)) p (cc) (inl (enabled-has c fits en).1)
+      each (suc (suc (suc zero))) p e = short-port (port Q (kept_signal w c)) p (cc) (short-kept w)
+      each (suc (suc (suc (suc zero)))) p e = short-port (port Srst (signal_at c.ports Arst)) p (cc) (inl (arst c fits))
+      each (suc (suc (suc (suc (suc k))))) p e = absurd cc
 
   pub register-wide : (w : ℕ) → IsTooWide (register w c) → 4096 < number_at c.parameters Width
   register-wide w h = elim (form-of c fits) as (λ _. 4096 < number_at c.parameters Width) [
     | inl plain ↦ plain-wide w (subst (λ (y : CellOf). IsTooWide y) (plain-form w c plain.1) h)
-    | inr enabled ↦ enabled-wide w (subst (λ (y : CellOf). IsTooWide y) (enabled-form w c enabled.1) h)
+    | inr enabled ↦ enabled-wide w enabled.1 (subst (λ (y : CellOf). IsTooWide y) (enabled-form w c enabled.1) h)
   ]
 
   -- the `$mux` of what is shown is too wide where WIDTH is

@@ -1,29 +1,28 @@
 -- The signals of a lowered cell speak of bits that are there.
-use Rattle.std.proofs.Common.{◌≡◌, ℕ, zero, suc, ◌+◌, ◌≤◌, Bool, true, false, cond, List, [], ◌∷◌, set, map, Option, Some, None, All, refl, ap, arith}
+use Rattle.std.proofs.Common.{◌≡◌, ℕ, zero, suc, ◌+◌, ◌≤◌, Bool, true, false, cond, List, [], ◌∷◌, set, map, Option, Some, None, All, refl, arith}
 use Rattle.std.specs.Prelude.{slice_get}
 use Rattle.std.proofs.lemmas.List.Elements.{All-cons, All-head, All-nil, All-tail}
 use Rattle.design_signals.specs.Chunks.{bits_from}
 use Rattle.design_signals.specs.declared.sig_bit.SigBit.{SigBit}
-use Rattle.design_signals.specs.declared.sig_bit.SigBit.TheVariants.{Wire, Const}
+use Rattle.design_signals.specs.declared.sig_bit.SigBit.TheVariants.{Wire}
 use Rattle.design_core.specs.Asked.{number_at, output_of}
-use Rattle.design_core.specs.Digits.{number_digits}
 use Rattle.design_core.specs.Ports.{signal_at, digits_at}
 use Rattle.design_core.specs.Shape.{WireOf, CellOf, IsCellOf, IsDeclared, IsNumbered}
 use Rattle.design_core.specs.declared.digit.Digit.{Digit}
 use Rattle.design_core.specs.declared.digit.Digit.TheVariants.{Const as ConstDigit, Free as FreeDigit, Marker}
 use Rattle.design_core.specs.declared.names.ParameterName.{ParameterName}
 use Rattle.design_core.specs.declared.names.PortName.{PortName}
-use Rattle.design_core.specs.declared.names.PortName.TheVariants.{A, B, S, En, Y, Clk, D, Q, Arst}
-use Rattle.design_core.specs.declared.names.ParameterName.TheVariants.{Width, ClkPolarity, EnPolarity, ArstPolarity, ArstValue}
+use Rattle.design_core.specs.declared.names.PortName.TheVariants.{A, B, S, En, Y, Clk, D, Q, Srst, Arst}
+use Rattle.design_core.specs.declared.names.ParameterName.TheVariants.{Width, ClkPolarity, EnPolarity, SrstPolarity, SrstValue, ArstPolarity, ArstValue}
 use Rattle.design_core.specs.declared.parts.Parameter.{Parameter}
 use Rattle.design_core.specs.declared.parts.Port.{Port}
 use Rattle.design_graph.proofs.Declared.{All-digits_at, All-signal_at, outputs-declared}
 use Rattle.design_check.specs.Faults.{flag}
-use Rattle.design_lower.specs.Lowering.{choice, choices, digit_bit, digits_of_cell, digits_or_none, enabled_register, has_enable, kept_signal, kept_width, next_signal, open_signal, opened, plain_register, port, parameter, register, reset_signal, shown, taken}
+use Rattle.design_lower.specs.Lowering.{digit_bit, digits_of_cell, digits_or_none, enabled_register, has_enable, kept_signal, plain_register, port, parameter, register, reset_signal, shown}
 
 -- what holds of each of a few
 module _ {X : Type 0} (P : X → Type 0) where
-  one-of : (x : X) → P x → All P (x ∷ [])
+  pub one-of : (x : X) → P x → All P (x ∷ [])
   one-of x h = All-cons P x [] h (All-nil P)
 
   two-of : (x y : X) → P x → P y → All P (x ∷ y ∷ [])
@@ -34,6 +33,9 @@ module _ {X : Type 0} (P : X → Type 0) where
 
   four-of : (x y z u : X) → P x → P y → P z → P u → All P (x ∷ y ∷ z ∷ u ∷ [])
   four-of x y z u h g f e = All-cons P x (y ∷ z ∷ u ∷ []) h (three-of y z u g f e)
+
+  five-of : (x y z u v : X) → P x → P y → P z → P u → P v → All P (x ∷ y ∷ z ∷ u ∷ v ∷ [])
+  five-of x y z u v h g f e d = All-cons P x (y ∷ z ∷ u ∷ v ∷ []) h (four-of y z u v g f e d)
 
 -- each of these bits is there
 module _ (ws : List WireOf) (free : ℕ) where
@@ -75,77 +77,55 @@ module _ (ws : List WireOf) (free : ℕ) where
     abbrev pub Numbered : Parameter → Type 0
     Numbered p = All (IsNumbered free) p.digits
 
-    pub choice-is : (width : List Digit) (reset other output : List SigBit) → All (IsNumbered free) width → All (IsDeclared ws free) reset → All (IsDeclared ws free) other → All (IsDeclared ws free) output
-        → IsCellOf ws free (choice c width reset other output)
-    choice-is width reset other output dw dr do' dy = record {
-      ports =
-          four-of Fine (port A (cond (flag c ArstPolarity) other reset)) (port B (cond (flag c ArstPolarity) reset other)) (port S (signal_at c.ports Arst)) (port Y output)
-          (either-declared (flag c ArstPolarity) other reset do' dr) (either-declared (flag c ArstPolarity) reset other dr do') (signal-declared Arst) dy;
-      parameters = one-of Numbered (parameter Width width) dw;
-      one_port = refl;
-      one_parameter = refl;
-      named = refl;
-    }
-
-  module _ (c : CellOf) (is : IsCellOf ws free c) (w : ℕ) (x : WireOf) (at : slice_get ws w ≡ Some x) (wide : x.width ≡ kept_width c) where
+  module _ (c : CellOf) (is : IsCellOf ws free c) (w : ℕ) (x : WireOf) (at : slice_get ws w ≡ Some x) (wide : x.width ≡ number_at c.parameters Width) where
     pub kept-declared : All (IsDeclared ws free) (kept_signal w c)
     kept-declared = wire-bits w x at 0 0 (number_at c.parameters Width) (omega (arith, wide))
 
-    pub next-declared : All (IsDeclared ws free) (next_signal w c)
-    next-declared = wire-bits w x at (number_at c.parameters Width) 0 (number_at c.parameters Width) (omega (arith, wide))
-
-    pub open-declared : has_enable c ≡ true → All (IsDeclared ws free) (open_signal w c)
-    open-declared e =
-        let one : ◌≡◌ {A = ℕ} (cond (has_enable c) 1 0) 1 = ap (λ (b : Bool). cond b 1 0) e in
-        wire-bits w x at (number_at c.parameters Width + number_at c.parameters Width) 0 1 (omega (arith, wide, one))
-
     pub plain-is : IsCellOf ws free (plain_register w c)
     plain-is = record {
-      ports = three-of (Fine c is) (port Clk (signal_at c.ports Clk)) (port D (next_signal w c)) (port Q (kept_signal w c)) (signal-declared c is Clk) next-declared kept-declared;
-      parameters = two-of (Numbered c is) (parameter ClkPolarity (digits_of_cell c ClkPolarity)) (parameter Width (digits_of_cell c Width)) (digits-numbered c is ClkPolarity) (digits-numbered c is Width);
+      ports =
+          four-of (Fine c is) (port Clk (signal_at c.ports Clk)) (port D (signal_at c.ports D)) (port Q (kept_signal w c)) (port Srst (signal_at c.ports Arst))
+          (signal-declared c is Clk) (signal-declared c is D) kept-declared (signal-declared c is Arst);
+      parameters =
+          four-of (Numbered c is) (parameter ClkPolarity (digits_of_cell c ClkPolarity)) (parameter SrstPolarity (digits_of_cell c ArstPolarity)) (parameter SrstValue (digits_of_cell c ArstValue))
+          (parameter Width (digits_of_cell c Width)) (digits-numbered c is ClkPolarity) (digits-numbered c is ArstPolarity) (digits-numbered c is ArstValue) (digits-numbered c is Width);
       one_port = refl;
       one_parameter = refl;
       named = refl;
     }
 
-    pub enabled-is : has_enable c ≡ true → IsCellOf ws free (enabled_register w c)
-    enabled-is e = record {
-      ports = four-of (Fine c is) (port Clk (signal_at c.ports Clk)) (port D (next_signal w c)) (port En (open_signal w c)) (port Q (kept_signal w c))
-          (signal-declared c is Clk) next-declared (open-declared e) kept-declared;
+    pub enabled-is : IsCellOf ws free (enabled_register w c)
+    enabled-is = record {
+      ports =
+          five-of (Fine c is) (port Clk (signal_at c.ports Clk)) (port D (signal_at c.ports D)) (port En (signal_at c.ports En)) (port Q (kept_signal w c)) (port Srst (signal_at c.ports Arst))
+          (signal-declared c is Clk) (signal-declared c is D) (signal-declared c is En) kept-declared (signal-declared c is Arst);
       parameters =
-          three-of (Numbered c is) (parameter ClkPolarity (digits_of_cell c ClkPolarity)) (parameter EnPolarity (digits_of_cell c EnPolarity)) (parameter Width (digits_of_cell c Width))
-          (digits-numbered c is ClkPolarity) (digits-numbered c is EnPolarity) (digits-numbered c is Width);
+          five-of (Numbered c is) (parameter ClkPolarity (digits_of_cell c ClkPolarity)) (parameter EnPolarity (digits_of_cell c EnPolarity)) (parameter SrstPolarity (digits_of_cell c ArstPolarity))
+          (parameter SrstValue (digits_of_cell c ArstValue)) (parameter Width (digits_of_cell c Width)) (digits-numbered c is ClkPolarity) (digits-numbered c is EnPolarity)
+          (digits-numbered c is ArstPolarity) (digits-numbered c is ArstValue) (digits-numbered c is Width);
       one_port = refl;
       one_parameter = refl;
       named = refl;
     }
 
     pub register-is : IsCellOf ws free (register w c)
-    register-is = by (has_enable c) enabled-is
+    register-is = by (has_enable c)
       where
-        by : (b : Bool) → (b ≡ true → IsCellOf ws free (enabled_register w c)) → IsCellOf ws free (cond b (enabled_register w c) (plain_register w c))
-        by true h = h refl
-        by false h = plain-is
+        by : (b : Bool) → IsCellOf ws free (cond b (enabled_register w c) (plain_register w c))
+        by true = enabled-is
+        by false = plain-is
 
     pub shown-is : IsCellOf ws free (shown w c)
-    shown-is = choice-is c is (digits_of_cell c Width) (reset_signal c) (kept_signal w c) (output_of c) (digits-numbered c is Width) (reset-declared c is) kept-declared (outputs-declared ws free c is)
-
-    pub taken-is : IsCellOf ws free (taken w c)
-    taken-is = choice-is c is (digits_of_cell c Width) (reset_signal c) (signal_at c.ports D) (next_signal w c) (digits-numbered c is Width) (reset-declared c is) (signal-declared c is D) next-declared
-
-    pub opened-is : has_enable c ≡ true → IsCellOf ws free (opened w c)
-    opened-is e =
-        choice-is c is (number_digits 1 1) (Const (flag c EnPolarity) ∷ []) (signal_at c.ports En) (open_signal w c)
-        (one-of (IsNumbered free) (ConstDigit true) tt) (one-of (IsDeclared ws free) (Const (flag c EnPolarity)) tt) (signal-declared c is En) (open-declared e)
-
-    pub choices-are : All (IsCellOf ws free) (choices w c)
-    choices-are =
-        All-cons (IsCellOf ws free) (shown w c) (taken w c ∷ cond (has_enable c) (opened w c ∷ []) []) shown-is
-        (All-cons (IsCellOf ws free) (taken w c) (cond (has_enable c) (opened w c ∷ []) []) taken-is (by (has_enable c) opened-is))
-      where
-        by : (b : Bool) → (b ≡ true → IsCellOf ws free (opened w c)) → All (IsCellOf ws free) (cond b (opened w c ∷ []) [])
-        by true h = one-of (IsCellOf ws free) (opened w c) (h refl)
-        by false h = All-nil (IsCellOf ws free)
+    shown-is = record {
+      ports =
+          four-of (Fine c is) (port A (cond (flag c ArstPolarity) (kept_signal w c) (reset_signal c))) (port B (cond (flag c ArstPolarity) (reset_signal c) (kept_signal w c))) (port S (signal_at c.ports Arst))
+          (port Y (output_of c)) (either-declared (flag c ArstPolarity) (kept_signal w c) (reset_signal c) kept-declared (reset-declared c is))
+          (either-declared (flag c ArstPolarity) (reset_signal c) (kept_signal w c) (reset-declared c is) kept-declared) (signal-declared c is Arst) (outputs-declared ws free c is);
+      parameters = one-of (Numbered c is) (parameter Width (digits_of_cell c Width)) (digits-numbered c is Width);
+      one_port = refl;
+      one_parameter = refl;
+      named = refl;
+    }
 
 pub All-set : {X : Type 0} (P : X → Type 0) (xs : List X) (i : ℕ) (x : X) → All P xs → P x → All P (set xs i x)
 All-set P [] i x h g = h

@@ -1,21 +1,20 @@
--- Registers with an asynchronous reset as registers without one: each becomes a register on a new wire, and `$mux` cells make what it shows and what it takes.
-use Rattle.std.specs.Prelude.{◌≡◌, ◌↔◌, ℕ, zero, suc, ◌+◌, ◌<◌, Bool, true, false, cond, List, [], ◌∷◌, ◌++◌, length, map, Option, Some, None, slice_get, slice_set, Contains, codes, decimal}
+-- Registers with an asynchronous reset as registers with a synchronous one: each becomes a register on a new wire, and a `$mux` makes what it shows.
+use Rattle.std.specs.Prelude.{◌≡◌, ◌↔◌, ℕ, zero, suc, ◌<◌, Bool, true, false, cond, List, [], ◌∷◌, ◌++◌, length, map, Option, Some, None, slice_get, slice_set, Contains, codes, decimal}
 use Rattle.std.specs.List.{list_any}
-use Rattle.cell_table.specs.declared.kind.Kind.TheVariants.{Mux, Dff, Dffe}
+use Rattle.cell_table.specs.declared.kind.Kind.TheVariants.{Mux, Sdff, Sdffe}
 use Rattle.design_signals.specs.Chunks.{bits_from}
 use Rattle.design_signals.specs.declared.sig_bit.SigBit.{SigBit}
 use Rattle.design_signals.specs.declared.sig_bit.SigBit.TheVariants.{Wire, Const, Free}
 use Rattle.design_core.specs.Asked.{has_parameters, number_at, HasPorts, output_of}
-use Rattle.design_core.specs.Digits.{number_digits}
 use Rattle.design_core.specs.Ports.{is_port, signal_at, digits_at}
-use Rattle.design_core.specs.Shape.{WireOf, CellOf, DesignOf}
+use Rattle.design_core.specs.Shape.{WireOf, CellOf, DesignOf, IsWire}
 use Rattle.design_core.specs.Table.{role_of, ports_of}
 use Rattle.design_core.specs.declared.digit.Digit.{Digit}
 use Rattle.design_core.specs.declared.digit.Digit.TheVariants.{Const as ConstDigit, Free as FreeDigit, Marker}
 use Rattle.design_core.specs.declared.names.PortName.{PortName}
-use Rattle.design_core.specs.declared.names.PortName.TheVariants.{A, B, S, En, Y, Clk, D, Q, Arst}
+use Rattle.design_core.specs.declared.names.PortName.TheVariants.{A, B, S, En, Y, Clk, D, Q, Srst, Arst}
 use Rattle.design_core.specs.declared.names.ParameterName.{ParameterName}
-use Rattle.design_core.specs.declared.names.ParameterName.TheVariants.{Width, ClkPolarity, EnPolarity, ArstPolarity, ArstValue}
+use Rattle.design_core.specs.declared.names.ParameterName.TheVariants.{Width, ClkPolarity, EnPolarity, SrstPolarity, SrstValue, ArstPolarity, ArstValue}
 use Rattle.design_core.specs.declared.parts.Port.{Port}
 use Rattle.design_core.specs.declared.parts.Parameter.{Parameter}
 use Rattle.design_core.specs.declared.table.Role.TheVariants.{ResetRegister}
@@ -45,22 +44,13 @@ digits_of_cell c name = digits_or_none (digits_at c.parameters name)
 abbrev pub reset_signal : CellOf → List SigBit
 reset_signal c = map digit_bit (digits_of_cell c ArstValue)
 
--- the bits of the new wire: the kept row, above it the row that is taken next, and above that whether it is taken
+-- the bits of the new wire, which are the kept row
 abbrev pub kept_signal : ℕ → CellOf → List SigBit
 kept_signal w c = bits_from (Wire w 0) 0 (number_at c.parameters Width)
-
-abbrev pub next_signal : ℕ → CellOf → List SigBit
-next_signal w c = bits_from (Wire w (number_at c.parameters Width)) 0 (number_at c.parameters Width)
-
-abbrev pub open_signal : ℕ → CellOf → List SigBit
-open_signal w c = bits_from (Wire w (number_at c.parameters Width + number_at c.parameters Width)) 0 1
 
 -- the cell has an enable
 abbrev pub has_enable : CellOf → Bool
 has_enable c = list_any (λ l. is_port l.name En) (ports_of c.kind)
-
-abbrev pub kept_width : CellOf → ℕ
-kept_width c = number_at c.parameters Width + number_at c.parameters Width + cond (has_enable c) 1 0
 
 abbrev pub parameter : ParameterName → List Digit → Parameter
 parameter name digits = record { name = name; digits = digits }
@@ -68,53 +58,39 @@ parameter name digits = record { name = name; digits = digits }
 abbrev pub port : PortName → List SigBit → Port
 port name signal = record { name = name; signal = signal }
 
--- a `$mux` that gives one signal while the cell is reset, else the other: the one stands at B where ARST is active at 1, at A where at 0
-abbrev pub choice : CellOf → List Digit → List SigBit → List SigBit → List SigBit → CellOf
-choice c width reset other output = record {
+-- what the cell shows: ARST_VALUE while it is reset, else the kept row; ARST_VALUE stands at B where ARST is active at 1, at A where at 0
+abbrev pub shown : ℕ → CellOf → CellOf
+shown w c = record {
   kind = Mux;
   name = c.name;
-  parameters = parameter Width width ∷ [];
-  ports = port A (cond (flag c ArstPolarity) other reset) ∷ port B (cond (flag c ArstPolarity) reset other) ∷ port S (signal_at c.ports Arst) ∷ port Y output ∷ [];
+  parameters = parameter Width (digits_of_cell c Width) ∷ [];
+  ports = port A (cond (flag c ArstPolarity) (kept_signal w c) (reset_signal c)) ∷ port B (cond (flag c ArstPolarity) (reset_signal c) (kept_signal w c)) ∷ port S (signal_at c.ports Arst) ∷ port Y (output_of c) ∷ [];
   foreign = [];
 }
 
--- what the cell shows: ARST_VALUE while it is reset, else the kept row
-abbrev pub shown : ℕ → CellOf → CellOf
-shown w c = choice c (digits_of_cell c Width) (reset_signal c) (kept_signal w c) (output_of c)
-
--- what the register takes: ARST_VALUE while the cell is reset, else D
-abbrev pub taken : ℕ → CellOf → CellOf
-taken w c = choice c (digits_of_cell c Width) (reset_signal c) (signal_at c.ports D) (next_signal w c)
-
--- whether it takes it: always while the cell is reset, else by EN
-abbrev pub opened : ℕ → CellOf → CellOf
-opened w c = choice c (number_digits 1 1) (Const (flag c EnPolarity) ∷ []) (signal_at c.ports En) (open_signal w c)
-
--- the register, without and with an enable
+-- the register, without and with an enable: what was reset at once is reset at the clock, before the enable
 abbrev pub plain_register : ℕ → CellOf → CellOf
 plain_register w c = record {
-  kind = Dff;
+  kind = Sdff;
   name = c.name;
-  parameters = parameter ClkPolarity (digits_of_cell c ClkPolarity) ∷ parameter Width (digits_of_cell c Width) ∷ [];
-  ports = port Clk (signal_at c.ports Clk) ∷ port D (next_signal w c) ∷ port Q (kept_signal w c) ∷ [];
+  parameters = parameter ClkPolarity (digits_of_cell c ClkPolarity) ∷ parameter SrstPolarity (digits_of_cell c ArstPolarity) ∷ parameter SrstValue (digits_of_cell c ArstValue) ∷ parameter Width (digits_of_cell c Width) ∷ [];
+  ports = port Clk (signal_at c.ports Clk) ∷ port D (signal_at c.ports D) ∷ port Q (kept_signal w c) ∷ port Srst (signal_at c.ports Arst) ∷ [];
   foreign = [];
 }
 
 abbrev pub enabled_register : ℕ → CellOf → CellOf
 enabled_register w c = record {
-  kind = Dffe;
+  kind = Sdffe;
   name = c.name;
-  parameters = parameter ClkPolarity (digits_of_cell c ClkPolarity) ∷ parameter EnPolarity (digits_of_cell c EnPolarity) ∷ parameter Width (digits_of_cell c Width) ∷ [];
-  ports = port Clk (signal_at c.ports Clk) ∷ port D (next_signal w c) ∷ port En (open_signal w c) ∷ port Q (kept_signal w c) ∷ [];
+  parameters = parameter ClkPolarity (digits_of_cell c ClkPolarity) ∷ parameter EnPolarity (digits_of_cell c EnPolarity) ∷ parameter SrstPolarity (digits_of_cell c ArstPolarity) ∷ parameter SrstValue (digits_of_cell c ArstValue)
+      ∷ parameter Width (digits_of_cell c Width) ∷ [];
+  ports = port Clk (signal_at c.ports Clk) ∷ port D (signal_at c.ports D) ∷ port En (signal_at c.ports En) ∷ port Q (kept_signal w c) ∷ port Srst (signal_at c.ports Arst) ∷ [];
   foreign = [];
 }
 
--- what stands in the cell's place, and what comes behind all cells, where the new wire is wire w
+-- what stands in the cell's place, where the new wire is wire w
 abbrev pub register : ℕ → CellOf → CellOf
 register w c = cond (has_enable c) (enabled_register w c) (plain_register w c)
-
-abbrev pub choices : ℕ → CellOf → List CellOf
-choices w c = shown w c ∷ taken w c ∷ cond (has_enable c) (opened w c ∷ []) []
 
 -- the name `$kept_I`, and that a wire or a cell has it
 abbrev pub kept_name : ℕ → List ℕ
@@ -136,15 +112,16 @@ pub record IsKeptWire (d : DesignOf) (i : ℕ) (c : CellOf) (w : WireOf) : Type 
   pub name : w.name ≡ kept_name number
   pub unused : IsTaken d number → ⊥
   pub least : (k : ℕ) → k < number → IsTaken d k
-  pub width : w.width ≡ kept_width c
+  pub wire : IsWire w
+  pub width : w.width ≡ number_at c.parameters Width
   pub input : w.input ≡ false
   pub digits : (k : ℕ) (x : Bool) → HasDigit w k x ↔ IsStart d i k x
 
--- d with the cell at place i lowered onto the new wire w
+-- d with the cell at place i lowered onto the new wire w: the register in its place, the `$mux` behind all cells
 abbrev pub with_lowered : DesignOf → ℕ → CellOf → WireOf → DesignOf
 with_lowered d i c w = record d {
   wires = d.wires ++ w ∷ [];
-  cells = slice_set d.cells i (register (length d.wires) c) ++ choices (length d.wires) c;
+  cells = slice_set d.cells i (register (length d.wires) c) ++ shown (length d.wires) c ∷ [];
 }
 
 -- the first cell that fits is lowered in e

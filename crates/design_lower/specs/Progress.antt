@@ -1,5 +1,5 @@
 -- What is known while a design is lowered.
-use Rattle.std.specs.Prelude.{◌≡◌, ◌⊎◌, ◌↔◌, ℕ, ◌+◌, ◌<◌, ◌≤◌, Bool, true, List, Option, Some, ◌++◌, length, drop, bytes_eq, slice_get, Contains}
+use Rattle.std.specs.Prelude.{◌≡◌, ◌⊎◌, ◌↔◌, ℕ, ◌+◌, ◌<◌, ◌≤◌, ◌^◌, Bool, true, List, Option, Some, ◌++◌, length, drop, bytes_eq, slice_get, Contains}
 use Rattle.std.specs.List.{list_any}
 use Rattle.digraph.specs.Graph.{Graph, HasEdge}
 use Rattle.design_graph.specs.Edges.{IsDown}
@@ -17,6 +17,10 @@ has list name = list_any (λ n. bytes_eq n name) list
 -- besides the old names these are among the new
 abbrev pub Adds : List (List ℕ) → List (List ℕ) → List (List ℕ) → Type 0
 Adds old new more = (n : List ℕ) → (has new n ≡ true) ↔ ((has old n ≡ true) ⊎ Contains more n)
+
+-- from this number on, one below 2 ^ 32 is free
+abbrev pub IsFreeSoon : List (List ℕ) → ℕ → Type 0
+IsFreeSoon list from = (n : ℕ) → ((k : ℕ) → from ≤ k → k < n → has list (kept_name k) ≡ true) → n < 2 ^ 32
 
 -- these are the names of the design
 abbrev pub IsNames : DesignOf → List (List ℕ) → Type 0
@@ -52,15 +56,15 @@ pub record IsDigitsOf (d : DesignOf) (x : Bool) (bits : List SigBit) (digits : L
 
 -- the design in which the first i cells of d are lowered: those that are through, the others, and the `$mux` cells
 abbrev pub midway : DesignOf → ℕ → List WireOf → List CellOf → List CellOf → DesignOf
-midway d i wires cells choices = record d { wires = wires; cells = cells ++ (drop i d.cells ++ choices) }
+midway d i wires cells muxes = record d { wires = wires; cells = cells ++ (drop i d.cells ++ muxes) }
 
 -- The first i cells of d are lowered, and each number below this one is taken.
-pub record IsMidway (d : DesignOf) (i : ℕ) (wires : List WireOf) (cells choices : List CellOf) (number : ℕ) : Type 0 where
+pub record IsMidway (d : DesignOf) (i : ℕ) (wires : List WireOf) (cells muxes : List CellOf) (number : ℕ) : Type 0 where
   pub count : ℕ
-  pub steps : LowersSome count d (midway d i wires cells choices)
+  pub steps : LowersSome count d (midway d i wires cells muxes)
   pub through : length cells ≡ i
-  pub low : (k : ℕ) (c : CellOf) → slice_get (cells ++ choices) k ≡ Some c → FitsReset c → ⊥
-  pub starts : (j k : ℕ) (x : Bool) → i ≤ j → j < length d.cells → IsStart (midway d i wires cells choices) j k x ↔ IsStart d j k x
-  pub old : (n : List ℕ) → Contains (names d) n → Contains (names (midway d i wires cells choices)) n
-  pub used : (k : ℕ) → k < number → Contains (names (midway d i wires cells choices)) (kept_name k)
-  pub new : (n : List ℕ) → Contains (names (midway d i wires cells choices)) n → Contains (names d) n ⊎ ((k : ℕ) × (k < number) × (n ≡ kept_name k))
+  pub low : (k : ℕ) (c : CellOf) → slice_get (cells ++ muxes) k ≡ Some c → FitsReset c → ⊥
+  pub starts : (j k : ℕ) (x : Bool) → i ≤ j → j < length d.cells → IsStart (midway d i wires cells muxes) j k x ↔ IsStart d j k x
+  pub old : (n : List ℕ) → Contains (names d) n → Contains (names (midway d i wires cells muxes)) n
+  pub used : (k : ℕ) → k < number → Contains (names (midway d i wires cells muxes)) (kept_name k)
+  pub new : (n : List ℕ) → Contains (names (midway d i wires cells muxes)) n → Contains (names d) n ⊎ ((k : ℕ) × (k < number) × (n ≡ kept_name k))

@@ -1,11 +1,12 @@
 //! Laws of lowering: each function's contract is a law, and its body is empty.
 
-ghost use Rattle.std.specs.Prelude.{◌≡◌, ◌↔◌, ℕ};
-ghost use Rattle.design_core.specs.Shape.{DesignOf, IsDesign};
+ghost use Rattle.std.specs.Prelude.{◌≡◌, ◌↔◌, ◌+◌, ◌≤◌, ◌^◌, ℕ, length};
+ghost use Rattle.design_core.specs.Shape.{DesignOf, IsDesign, wire_bits};
 ghost use Rattle.design_meaning.specs.Claims.{NeverBreak, NoBreak, NoReach, ReachRun};
 ghost use Rattle.design_meaning.specs.Meaning.{Run, Valuation};
 ghost use Rattle.design_check.specs.Faults.{IsFlat};
 ghost use Rattle.design_lower.specs.Lowering.{IsLowered};
+ghost use Rattle.design_lower.specs.Room.{HasRoom};
 ghost use Rattle.design_lower.specs.Seen.{IsSeen};
 
 /// A design is flat exactly where the lowered one is.
@@ -29,4 +30,15 @@ pub fn lowering_keeps_claims()
     ensures unreached { (d e : DesignOf) → IsDesign d → IsLowered d e → (n k : ℕ) → NoReach d n k ↔ NoReach e n k }
     ensures reached { (d e : DesignOf) → IsDesign d → IsLowered d e → (n k : ℕ)
         → ((vs : ℕ → Valuation) × ReachRun d n vs k) ↔ ((ws : ℕ → Valuation) × ReachRun e n ws k) }
+{}
+
+/// A design has room exactly where the lowered one is within the limits of a design; so where `lower` gives none, no design is the
+/// lowered one.
+pub fn room_is_for_the_lowered_design()
+    ensures { (d e : DesignOf) → IsDesign d → IsLowered d e → HasRoom d ↔ IsDesign e }
+{}
+
+/// A flat design with up to half as many bits and cells as a design may have is lowered: no more registers are in it than wire bits.
+pub fn flat_designs_have_room()
+    ensures { (d : DesignOf) → IsDesign d → IsFlat d → wire_bits d + d.free + wire_bits d ≤ 2 ^ 21 → length d.cells + wire_bits d ≤ 2 ^ 27 → HasRoom d }
 {}

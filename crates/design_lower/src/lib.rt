@@ -7,6 +7,7 @@ pub mod laws;
 mod lowering;
 mod names;
 mod parts;
+mod room;
 mod starts;
 
 pub use lowering::lower;

@@ -1,17 +1,20 @@
 // Lowers the registers with an asynchronous reset.
 
-ghost use Rattle.std.specs.Prelude.{◌≡◌, ◌+◌, ◌*◌, ◌<◌, ◌≤◌, ◌^◌, ◌++◌, ◌∷◌, ◌↔◌, [], ℕ, Bool, All, true, false, cond, length, IfOk, OnOk};
+ghost use Rattle.std.specs.Prelude.{◌≡◌, ◌+◌, ◌<◌, ◌≤◌, ◌^◌, ◌++◌, ◌∷◌, ◌↔◌, [], ℕ, Bool, All, true, false, length, IfNone, IfOk, IfSome, OnOk};
+ghost use Rattle.std.specs.List.{sum_by};
 ghost use Rattle.design_core.specs.Asked.{number_at};
 ghost use Rattle.design_core.specs.Shape.{CellOf, IsCellOf, IsDeclared, IsDesign, IsWire};
 ghost use Rattle.design_meaning.specs.Meaning.{IsCell, IsStart};
-ghost use Rattle.design_lower.specs.Lowering.{FitsReset, has_enable, HasDigit, IsLowered, kept_name, kept_width};
+ghost use Rattle.design_lower.specs.Lowering.{FitsReset, HasDigit, IsLowered, kept_name};
 ghost use Rattle.design_lower.specs.Passing.{IsPassing};
-ghost use Rattle.design_lower.specs.Progress.{IsEnds, IsNames, has};
+ghost use Rattle.design_lower.specs.Progress.{IsEnds, IsFreeSoon, IsNames, has};
+ghost use Rattle.design_lower.specs.Room.{HasRoom};
 
 use crate::copies::{copy_cell, copy_signal, copy_wire};
 use crate::fits::fits;
 use crate::names::{Names, design_names, free_name};
-use crate::parts::{KeptWire, has_enable, push_choices, register};
+use crate::parts::{KeptWire, register, shown};
+use crate::room::has_room;
 use crate::starts::{digit_ends, kept_inits};
 use design_core::cell::Cell;
 use design_core::connect::Connect;
@@ -43,72 +46,41 @@ fn learn(alloc: Global, design: &Design) -> Result<Known, AllocError>
     Ok(Known { names, zeros, ones })
 }
 
-// Adds a wire, if there is room for its bits.
-fn add_wire(design: &mut Design, wire: Wire) -> Result<(), AllocError>
-    requires { IsWire wire }
-    ensures { OnOk result (design.new ≡ record design.old { wires = design.old.wires ++ wire ∷ [] }) }
-{
-    let room = (1 << 21) - (design.bits() + design.free());
-    if wire.width() > room {
-        return Err(AllocError);
-    }
-    design.push_wire(wire)?;
-    Ok(())
-}
-
-// Adds a cell, if there is room for it.
-fn add_cell(design: &mut Design, cell: Cell) -> Result<(), AllocError>
-    requires { IsCellOf design.old.wires design.old.free cell }
-    ensures { OnOk result (design.new ≡ record design.old { cells = design.old.cells ++ cell ∷ [] }) }
-{
-    if design.cells().len() >= 1 << 27 {
-        return Err(AllocError);
-    }
-    design.push_cell(cell)?;
-    Ok(())
-}
-
 // Adds copies of wires.
 fn copy_wires(alloc: Global, wires: &[Wire], low: &mut Design) -> Result<(), AllocError>
     requires none { low.old.wires ≡ [] }
     requires wires { All IsWire wires.now }
+    requires room { sum_by (λ w. w.width) wires.now + low.old.free ≤ 2 ^ 21 }
     ensures { OnOk result (low.new ≡ record low.old { wires = wires.now }) }
 {
     for place in 0..wires.len() {
-        add_wire(low, copy_wire(alloc, &wires[place])?)?;
+        low.push_wire(copy_wire(alloc, &wires[place])?)?;
     }
     Ok(())
 }
 
-// A design of copies of these wires and so many free bits, without cells and connects.
-fn copy_bits(alloc: Global, name: &str, wires: &[Wire], free: u32) -> Result<Design, AllocError>
-    requires wires { All IsWire wires.now }
-    requires few { free ≤ 2 ^ 21 }
-    ensures { IfOk result (λ low. low ≡ record { name = name.now; wires = wires.now; cells = []; connects = []; free = free }) }
+// A design with the bits of another, and nothing else.
+fn copy_bits(alloc: Global, design: &Design) -> Result<Design, AllocError>
+    requires { IsDesign design.now }
+    ensures { IfOk result (λ low. low ≡ record design.now { cells = []; connects = [] }) }
 {
-    let name = String::from_str(alloc, name)?;
+    let name = String::from_str(alloc, design.name())?;
     let mut low = Design::new(alloc, name);
-    low.number_free(free);
-    copy_wires(alloc, wires, &mut low)?;
+    low.number_free(design.free());
+    copy_wires(alloc, design.wires(), &mut low)?;
     Ok(low)
 }
 
-// A register's WIDTH, if there is room for the bits of its new wire.
-fn register_width(cell: &Cell) -> Result<u32, AllocError>
-    ensures width { IfOk result (λ n. number_at cell.now.parameters ParameterName.Width ≡ n) }
-    ensures room { IfOk result (λ n. n < 2 ^ 20) }
+// A register's WIDTH.
+fn register_width(cell: &Cell) -> u32
+    requires fits { FitsReset cell.now }
+    requires room { number_at cell.now.parameters ParameterName.Width ≤ 2 ^ 21 }
+    ensures { number_at cell.now.parameters ParameterName.Width ≡ result }
 {
     match cell.number(ParameterName::Width) {
-        Some(width) if width < 1 << 20 => Ok(width as u32),
-        Some(_) | None => Err(AllocError),
+        Some(width) => width as u32,
+        None => 0,
     }
-}
-
-fn enable_width(cell: &Cell) -> u32
-    ensures width { result ≡ cond (has_enable cell.now) 1 0 }
-    ensures few { result ≤ 1 }
-{
-    if has_enable(cell) { 1 } else { 0 }
 }
 
 // The new wire of the cell at a place, and the number in its name.
@@ -125,11 +97,11 @@ fn kept_wire(
     requires zeros { IsEnds design.now false known.now.zeros.items }
     requires ones { IsEnds design.now true known.now.ones.items }
     requires place { place < length design.now.cells }
-    requires room { width < 2 ^ 20 }
+    requires free { IsFreeSoon known.now.names from }
     requires fits { (c : CellOf) → IsCell design.now place c → FitsReset c × (number_at c.parameters ParameterName.Width ≡ width) }
-    ensures number { IfOk result (λ r. (from ≤ r.0) × (r.0 + 1 < 2 ^ 64) × ((k : ℕ) → from ≤ k → k < r.0 → has known.now.names (kept_name k) ≡ true)) }
+    ensures number { IfOk result (λ r. (from ≤ r.0) × (r.0 < 2 ^ 32) × ((k : ℕ) → from ≤ k → k < r.0 → has known.now.names (kept_name k) ≡ true)) }
     ensures name { IfOk result (λ r. (r.1.name ≡ kept_name r.0) × (has known.now.names (kept_name r.0) ≡ false)) }
-    ensures wire { IfOk result (λ r. IsWire r.1 × (r.1.input ≡ false) × ((c : CellOf) → IsCell design.now place c → r.1.width ≡ kept_width c)) }
+    ensures wire { IfOk result (λ r. IsWire r.1 × (r.1.input ≡ false) × ((c : CellOf) → IsCell design.now place c → r.1.width ≡ number_at c.parameters ParameterName.Width)) }
     ensures digits { IfOk result (λ r. (k : ℕ) (x : Bool) → HasDigit r.1 k x ↔ IsStart design.now place k x) }
 {
     let cell = &design.cells()[place];
@@ -141,8 +113,7 @@ fn kept_wire(
         known.zeros.as_slice(),
         known.ones.as_slice(),
     )?;
-    let bits = 2 * width + enable_width(cell);
-    Ok((number, Wire::new(name, bits, false, inits)))
+    Ok((number, Wire::new(name, width, false, inits)))
 }
 
 // Lowers the cell at a place, and gives the number from which the next one's is free.
@@ -153,7 +124,7 @@ fn lower_cell(
     place: usize,
     number: u64,
     low: &mut Design,
-    choices: &mut Vec<Cell>,
+    muxes: &mut Vec<Cell>,
 ) -> Result<u64, AllocError>
     requires shape { IsDesign design.now }
     requires names { IsNames design.now known.now.names }
@@ -161,20 +132,21 @@ fn lower_cell(
     requires ones { IsEnds design.now true known.now.ones.items }
     requires place { place < length design.now.cells }
     requires fits { (c : CellOf) → IsCell design.now place c → FitsReset c }
-    requires passing { IsPassing design.now place low.old choices.old.items number }
-    ensures passing { IfOk result (λ n. IsPassing design.now (place + 1) low.new choices.new.items n) }
+    requires room { HasRoom design.now }
+    requires passing { IsPassing design.now place low.old muxes.old.items number }
+    ensures passing { IfOk result (λ n. IsPassing design.now (place + 1) low.new muxes.new.items n) }
     ensures connects { OnOk result (low.new.connects ≡ low.old.connects) }
 {
     let cell = &design.cells()[place];
-    let width = register_width(cell)?;
+    let width = register_width(cell);
     let (number, wire) = kept_wire(alloc, design, known, place, width, number)?;
     let kept = KeptWire {
         wire: low.wires().len() as u32,
         width,
     };
-    add_wire(low, wire)?;
-    add_cell(low, register(alloc, cell, kept)?)?;
-    push_choices(alloc, cell, kept, choices)?;
+    low.push_wire(wire)?;
+    low.push_cell(register(alloc, cell, kept)?)?;
+    muxes.push(shown(alloc, cell, kept)?)?;
     Ok(number + 1)
 }
 
@@ -186,22 +158,23 @@ fn pass_cell(
     place: usize,
     number: u64,
     low: &mut Design,
-    choices: &mut Vec<Cell>,
+    muxes: &mut Vec<Cell>,
 ) -> Result<u64, AllocError>
     requires shape { IsDesign design.now }
     requires names { IsNames design.now known.now.names }
     requires zeros { IsEnds design.now false known.now.zeros.items }
     requires ones { IsEnds design.now true known.now.ones.items }
     requires place { place < length design.now.cells }
-    requires passing { IsPassing design.now place low.old choices.old.items number }
-    ensures passing { IfOk result (λ n. IsPassing design.now (place + 1) low.new choices.new.items n) }
+    requires room { HasRoom design.now }
+    requires passing { IsPassing design.now place low.old muxes.old.items number }
+    ensures passing { IfOk result (λ n. IsPassing design.now (place + 1) low.new muxes.new.items n) }
     ensures connects { OnOk result (low.new.connects ≡ low.old.connects) }
 {
     let cell = &design.cells()[place];
     if fits(cell) {
-        lower_cell(alloc, design, known, place, number, low, choices)
+        lower_cell(alloc, design, known, place, number, low, muxes)
     } else {
-        add_cell(low, copy_cell(alloc, cell)?)?;
+        low.push_cell(copy_cell(alloc, cell)?)?;
         Ok(number)
     }
 }
@@ -226,15 +199,16 @@ fn pass_items(
     design: &Design,
     known: &Known,
     low: &mut Design,
-    choices: &mut Vec<Cell>,
+    muxes: &mut Vec<Cell>,
 ) -> Result<(), AllocError>
     requires shape { IsDesign design.now }
     requires names { IsNames design.now known.now.names }
     requires zeros { IsEnds design.now false known.now.zeros.items }
     requires ones { IsEnds design.now true known.now.ones.items }
+    requires room { HasRoom design.now }
     requires low { low.old ≡ record design.now { cells = []; connects = [] } }
-    requires choices { choices.old.items ≡ [] }
-    ensures passing { OnOk result ((number : ℕ) × IsPassing design.now (length design.now.cells) low.new choices.new.items number) }
+    requires muxes { muxes.old.items ≡ [] }
+    ensures passing { OnOk result ((number : ℕ) × IsPassing design.now (length design.now.cells) low.new muxes.new.items number) }
     ensures connects { OnOk result (low.new.connects ≡ design.now.connects) }
 {
     let mut number = 0;
@@ -243,7 +217,7 @@ fn pass_items(
     'items: while let Some(item) = next_item(design, cells, connects) {
         match item {
             Item::Cell(place) => {
-                number = pass_cell(alloc, design, known, place, number, low, choices)?;
+                number = pass_cell(alloc, design, known, place, number, low, muxes)?;
                 cells = place + 1;
             }
             Item::Connect(place) => {
@@ -257,28 +231,44 @@ fn pass_items(
 
 // Adds these cells behind the others.
 fn add_cells(low: &mut Design, cells: Vec<Cell>) -> Result<(), AllocError>
-    requires { All (IsCellOf low.old.wires low.old.free) cells.items }
+    requires cells { All (IsCellOf low.old.wires low.old.free) cells.items }
+    requires few { length low.old.cells + length cells.items ≤ 2 ^ 27 }
     ensures { OnOk result (low.new ≡ record low.old { cells = low.old.cells ++ cells.items }) }
 {
     let mut rest = cells;
     rest.reverse();
     'cells: while let Some(cell) = rest.pop() {
-        add_cell(low, cell)?;
+        low.push_cell(cell)?;
     }
     Ok(())
+}
+
+// Lowers a design that has room for it.
+fn lower_all(alloc: Global, design: &Design) -> Result<Design, AllocError>
+    requires shape { IsDesign design.now }
+    requires room { HasRoom design.now }
+    ensures { IfOk result (λ low. IsLowered design.now low) }
+{
+    let mut low = copy_bits(alloc, design)?;
+    let known = learn(alloc, design)?;
+    let mut muxes = Vec::new(alloc);
+    pass_items(alloc, design, &known, &mut low, &mut muxes)?;
+    add_cells(&mut low, muxes)?;
+    Ok(low)
 }
 
 /// The design with each register that has an asynchronous reset, and fits its line of the table, lowered to one without; other cells
 /// stay. A lowered design has no more to say than the design: its runs are the design's, and so are its claims.
 ///
-/// An error where memory, or room for the new bits and cells, is wanting.
-pub fn lower(alloc: Global, design: &Design) -> Result<Design, AllocError>
-    ensures { IfOk result (λ low. IsLowered design.now low) }
+/// None exactly where the lowered design, with as many bits more as these registers have and as many cells more as they are, would be
+/// past the limits of a design: 2^21 bits and 2^27 cells. An error where memory is wanting.
+pub fn lower(alloc: Global, design: &Design) -> Result<Option<Design>, AllocError>
+    ensures some { IfOk result (λ low. IfSome low (λ e. HasRoom design.now × IsLowered design.now e)) }
+    ensures none { IfOk result (λ low. IfNone low (HasRoom design.now → ⊥)) }
 {
-    let mut low = copy_bits(alloc, design.name(), design.wires(), design.free())?;
-    let known = learn(alloc, design)?;
-    let mut choices = Vec::new(alloc);
-    pass_items(alloc, design, &known, &mut low, &mut choices)?;
-    add_cells(&mut low, choices)?;
-    Ok(low)
+    if !has_room(design) {
+        return Ok(None);
+    }
+    let low = lower_all(alloc, design)?;
+    Ok(Some(low))
 }

@@ -2,7 +2,7 @@
 
 ghost use Rattle.std.specs.Prelude.{◌≡◌, ℕ, [], ◌∷◌, ◌++◌, ◌<◌, ◌≤◌, ◌+◌, ◌^◌, ◌↔◌, ◌⊎◌, List, false, true, IfOk, OnOk, string_bytes, map};
 ghost use Rattle.design_lower.specs.Lowering.{kept_name};
-ghost use Rattle.design_lower.specs.Progress.{Adds, IsNames, has};
+ghost use Rattle.design_lower.specs.Progress.{Adds, IsFreeSoon, IsNames, has};
 
 use design_core::cell::Cell;
 use design_core::design::Design;
@@ -96,15 +96,17 @@ pub(crate) fn free_name(
     names: &Names,
     from: u64,
 ) -> Result<(u64, String), AllocError>
+    requires { IsFreeSoon names.now from }
     ensures least { IfOk result (λ r. (from ≤ r.0) × ((k : ℕ) → from ≤ k → k < r.0 → has names.now (kept_name k) ≡ true)) }
     ensures name { IfOk result (λ r. (string_bytes r.1 ≡ kept_name r.0) × (has names.now (kept_name r.0) ≡ false)) }
-    ensures few { IfOk result (λ r. r.0 + 1 < 2 ^ 64) }
+    ensures few { IfOk result (λ r. r.0 < 2 ^ 32) }
 {
-    for number in from..u64::MAX {
+    let mut number = from;
+    'numbers: loop {
         let name = format!(in alloc; "$kept_{number}")?;
         if !names.has(name.as_str()) {
             return Ok((number, name));
         }
+        number += 1;
     }
-    Err(AllocError)
 }

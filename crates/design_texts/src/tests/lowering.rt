@@ -1,4 +1,4 @@
-// Small designs with one register, lowered.
+// Small designs with one register, lowered, and one that has no room for it.
 
 use cell_table::kind::Kind;
 use design_core::cell::Cell;
@@ -8,6 +8,7 @@ use design_core::names::{ParameterName, PortName};
 use design_core::parts::names_parameter;
 use design_core::wire::{StartDigits, Wire};
 use design_lower::lower;
+use design_reader::read;
 use design_signals::chunk::Chunk;
 use design_signals::sig_bit::SigBit;
 use design_signals::signal::Signal;
@@ -109,23 +110,27 @@ fn with_register(alloc: Global, kind: Kind, other: &str) -> Result<Design, Fail>
     Ok(design)
 }
 
+fn lowered(alloc: Global, design: &Design) -> Result<Design, Fail> {
+    match lower(alloc, design)? {
+        Some(low) => Ok(low),
+        None => Err(Fail::from("no room")),
+    }
+}
+
 #[test]
 fn registers_are_lowered(rt: HostRuntime) -> Result<(), Fail> {
     let alloc = rt.alloc();
     let cases = [
-        (Kind::Adff, "\\o", "$kept_0", 4, Kind::Dff, 3),
-        (Kind::Adffe, "\\o", "$kept_0", 5, Kind::Dffe, 4),
-        (Kind::Adff, "$kept_0", "$kept_1", 4, Kind::Dff, 3),
+        (Kind::Adff, "\\o", "$kept_0", Kind::Sdff),
+        (Kind::Adffe, "\\o", "$kept_0", Kind::Sdffe),
+        (Kind::Adff, "$kept_0", "$kept_1", Kind::Sdff),
     ];
-    for (kind, other, name, width, register, cells) in cases {
-        let low = lower(alloc, &with_register(alloc, kind, other)?)?;
+    for (kind, other, name, register) in cases {
+        let low = lowered(alloc, &with_register(alloc, kind, other)?)?;
         let [.., wire] = low.wires() else {
             return Err(Fail::from("no wires"));
         };
-        assert!(rt;
-            wire.name() == name && wire.width() == width,
-            "another wire"
-        );
+        assert!(rt; wire.name() == name && wire.width() == 2, "another wire");
         let [zeros, ones] = wire.inits() else {
             return Err(Fail::from("other start digits"));
         };
@@ -137,9 +142,11 @@ fn registers_are_lowered(rt: HostRuntime) -> Result<(), Fail> {
             ones.as_slice() == [Some(true), None].as_slice(),
             "no start digit 1"
         );
-        assert!(rt; low.cells().len() == cells, "other cells");
-        let kind = low.cells().first().map(|cell| cell.kind());
-        assert!(rt; kind == Some(register), "another register");
+        let [first, mux] = low.cells() else {
+            return Err(Fail::from("other cells"));
+        };
+        assert!(rt; first.kind() == register, "another register");
+        assert!(rt; mux.kind() == Kind::Mux, "no `$mux`");
         assert!(rt; low.free() == 1, "other free bits");
     }
     Ok(())
@@ -148,7 +155,7 @@ fn registers_are_lowered(rt: HostRuntime) -> Result<(), Fail> {
 #[test]
 fn others_stay(rt: HostRuntime) -> Result<(), Fail> {
     let alloc = rt.alloc();
-    let low = lower(alloc, &with_register(alloc, Kind::Dff, "\\o")?)?;
+    let low = lowered(alloc, &with_register(alloc, Kind::Dff, "\\o")?)?;
     let [cell] = low.cells() else {
         return Err(Fail::from("other cells"));
     };
@@ -157,5 +164,24 @@ fn others_stay(rt: HostRuntime) -> Result<(), Fail> {
         "another cell"
     );
     assert!(rt; low.wires().len() == 6 && low.bits() == 12, "other wires");
+    Ok(())
+}
+
+/// Registers with so many bits together, all of one wire, that the lowered design would be past 2^21 bits.
+const MANY: &str = r"module \t wire \c wire width 700000 \q
+cell $adff \r parameter \ARST_POLARITY 1 parameter \ARST_VALUE 700000'0 parameter \CLK_POLARITY 1 parameter \WIDTH 700000
+connect \ARST \c connect \CLK \c connect \D \q connect \Q \q end
+cell $adff \s parameter \ARST_POLARITY 1 parameter \ARST_VALUE 700000'0 parameter \CLK_POLARITY 1 parameter \WIDTH 700000
+connect \ARST \c connect \CLK \c connect \D \q connect \Q \q end
+end";
+
+#[test]
+fn many_bits_have_no_room(rt: HostRuntime) -> Result<(), Fail> {
+    let alloc = rt.alloc();
+    let Ok(design) = read(alloc, MANY.as_bytes())? else {
+        return Err(Fail::from("not read"));
+    };
+    let low = lower(alloc, &design)?;
+    assert!(rt; low.is_none(), "lowered past the limits");
     Ok(())
 }

@@ -18,10 +18,10 @@ lower_cell-requires-clause-fits c = λ x place.
     let at = there (goal.at.lower_cell-requires-clause-fits c).After-index-cells-place in
     subst (λ (y : CellOf). FitsReset y) (one_at c.args.design.now.cells c.args.place c.index-cells-place.result x at place) (c.fits.ensures.0 c.if-fits.true)
 
-pub returns-in_ok-add_cell-clause-passing : goal.returns-in_ok-add_cell-clause-passing
-returns-in_ok-add_cell-clause-passing c =
-    let at = there (goal.at.returns-in_ok-add_cell-clause-passing c).After-index-cells-place in
-    let next : c.add_cell.new.design ≡ record c.args.low.now { cells = c.args.low.now.cells ++ c.index-cells-place.result ∷ [] } =
-    c.in_ok-add_cell.ensures ∙ ap (λ (x : CellOf). record c.args.low.now { cells = c.args.low.now.cells ++ x ∷ [] }) c.in_ok-copy_cell.ensures in
-    passing-skip c.args.design.now c.requires.shape c.args.place c.index-cells-place.result at c.args.low.now c.args.choices.now.items c.args.number c.requires.passing
-    (λ f. false≢true (sym c.if-fits.false ∙ c.fits.ensures.1 f)) c.add_cell.new.design next
+pub returns-in_ok-push_cell-clause-passing : goal.returns-in_ok-push_cell-clause-passing
+returns-in_ok-push_cell-clause-passing c =
+    let at = there (goal.at.returns-in_ok-push_cell-clause-passing c).After-index-cells-place in
+    let next : c.push_cell.new.self ≡ record c.args.low.now { cells = c.args.low.now.cells ++ c.index-cells-place.result ∷ [] } =
+    c.in_ok-push_cell.ensures.ok ∙ ap (λ (x : CellOf). record c.args.low.now { cells = c.args.low.now.cells ++ x ∷ [] }) c.in_ok-copy_cell.ensures in
+    passing-skip c.args.design.now c.requires.shape c.args.place c.index-cells-place.result at c.args.low.now c.args.muxes.now.items c.args.number c.requires.passing
+    (λ f. false≢true (sym c.if-fits.false ∙ c.fits.ensures.1 f)) c.push_cell.new.self next

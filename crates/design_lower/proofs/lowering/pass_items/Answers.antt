@@ -15,7 +15,7 @@ use Rattle.design_lower.proofs.lowering.pass_items.Goals.{After-index-connects-p
 pub items-init : goal.items-init
 items-init c = record {
   cut = cut-start c.args.design.now;
-  passing = passing-start c.args.design.now c.args.low.now c.requires.low c.args.choices.now.items c.requires.choices;
+  passing = passing-start c.args.design.now c.args.low.now c.requires.low c.args.muxes.now.items c.requires.muxes;
   copied = ap (λ (x : DesignOf). x.connects) c.requires.low;
 }
 
@@ -28,19 +28,19 @@ connect c =
 
 pub copy_connect-requires-clause-left : goal.copy_connect-requires-clause-left
 copy_connect-requires-clause-left c =
-    left-passing c.args.design.now c.requires.shape c.items.cells c.items.low c.items.choices.items c.items.number c.items.invariant.passing c.in-Connect.place c.index-connects-place.result
+    left-passing c.args.design.now c.requires.shape c.items.cells c.items.low c.items.muxes.items c.items.number c.items.invariant.passing c.in-Connect.place c.index-connects-place.result
     (connect (goal.at.copy_connect-requires-clause-left c).After-index-connects-place)
 
 pub copy_connect-requires-clause-right : goal.copy_connect-requires-clause-right
 copy_connect-requires-clause-right c =
-    right-passing c.args.design.now c.requires.shape c.items.cells c.items.low c.items.choices.items c.items.number c.items.invariant.passing c.in-Connect.place c.index-connects-place.result
+    right-passing c.args.design.now c.requires.shape c.items.cells c.items.low c.items.muxes.items c.items.number c.items.invariant.passing c.in-Connect.place c.index-connects-place.result
     (connect (goal.at.copy_connect-requires-clause-right c).After-index-connects-place)
 
 pub copy_connect-requires-clause-order : goal.copy_connect-requires-clause-order
 copy_connect-requires-clause-order c =
     let d = c.args.design.now in
     let n = subst (λ (e : Item). IsNext c.args.design.now c.items.cells c.items.connects e) c.in-Connect.is c.in-Some.ensures.some in
-    order-passing d c.requires.shape c.items.cells c.items.low c.items.choices.items c.items.number c.items.invariant.passing c.in-Connect.place c.index-connects-place.result
+    order-passing d c.requires.shape c.items.cells c.items.low c.items.muxes.items c.items.number c.items.invariant.passing c.in-Connect.place c.index-connects-place.result
     (connect (goal.at.copy_connect-requires-clause-order c).After-index-connects-place)
     (subst (λ (k : ℕ). IsCut c.args.design.now c.items.cells k) (sym n.0) c.items.invariant.cut) (connect-cut d c.items.cells c.items.connects c.in-Connect.place n)
 
@@ -53,7 +53,7 @@ items-preserved c =
     record {
       cut = connect-cut d c.items.cells c.items.connects c.in-Connect.place n;
       passing =
-          passing-connect d c.requires.shape c.items.cells c.items.low c.items.choices.items c.items.number c.items.invariant.passing (c.items.low.connects ++ c.index-connects-place.result ∷ [])
+          passing-connect d c.requires.shape c.items.cells c.items.low c.items.muxes.items c.items.number c.items.invariant.passing (c.items.low.connects ++ c.index-connects-place.result ∷ [])
           c.copy_connect.new.low new;
       copied = ap (λ (x : DesignOf). x.connects) new
           ∙ (ap (λ (l : List ConnectOf). l ++ c.index-connects-place.result ∷ []) front
@@ -63,7 +63,7 @@ items-preserved c =
 pub returns-clause-passing : goal.returns-clause-passing
 returns-clause-passing c =
     let all = all-cells c.args.design.now c.items.cells c.items.connects c.items.invariant.cut c.in_default.ensures.none in
-    (c.items.number, subst (λ (i : ℕ). IsPassing c.args.design.now i c.items.low c.items.choices.items c.items.number) all.0 c.items.invariant.passing)
+    (c.items.number, subst (λ (i : ℕ). IsPassing c.args.design.now i c.items.low c.items.muxes.items c.items.number) all.0 c.items.invariant.passing)
 
 pub returns-clause-connects : goal.returns-clause-connects
 returns-clause-connects c =

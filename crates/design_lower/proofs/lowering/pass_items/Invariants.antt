@@ -6,7 +6,7 @@ use Rattle.design_lower.proofs.lowering.pass_items.Given as goal
 abbrev pub invariant-items : goal.invariant-items
 invariant-items l = record {
   cut : IsCut l.design l.cells l.connects;
-  passing : IsPassing l.design l.cells l.low l.choices.items l.number;
+  passing : IsPassing l.design l.cells l.low l.muxes.items l.number;
   copied : l.low.connects ≡ take l.connects l.design.connects;
 }
 
