@@ -9,6 +9,9 @@ use crate::order::Order;
 use cnf_form::{Formula, Lit};
 use unit_propagation::Propagator;
 
+// A shorter last clause isn't taken for a goal.
+const LEAST_GOAL: usize = 4;
+
 // Whether a literal is neither true nor false.
 fn is_open(core: &Propagator, l: Lit) -> bool
     requires { l.var ≤ core.now.vars }
@@ -72,7 +75,29 @@ fn first_open(core: &Propagator) -> Option<Lit>
     None
 }
 
-// A literal that is open: of the formula's last clause first, then in order. None where all variables have values.
+// Whether a clause looks like a job's goal over several cycles: at least four literals, of rising variables.
+fn is_goal(clause: &[Lit]) -> bool {
+    if clause.len() < LEAST_GOAL {
+        return false;
+    }
+    let mut last = 0;
+    for l in clause {
+        if l.var() <= last {
+            return false;
+        }
+        last = l.var();
+    }
+    true
+}
+
+// Whether the formula's last clause looks like a goal.
+pub(crate) fn has_goal(formula: &Formula) -> bool {
+    let clauses = formula.clauses();
+    clauses.len() > 0 && is_goal(clauses.get(clauses.len() - 1))
+}
+
+// A literal that is open: of the formula's last clause first, if that looks like a goal, then in order. None where all variables
+// have values.
 pub(crate) fn choose(core: &Propagator, order: &mut Order, formula: &Formula) -> Option<Lit>
     ensures some { IfSome result (λ l. LitWithin core.now.vars l × IsOpen core.now.trail l) }
     ensures none { IfNone result (IsTotal core.now) }
@@ -80,7 +105,7 @@ pub(crate) fn choose(core: &Propagator, order: &mut Order, formula: &Formula) ->
 {
     let _room = core.trail().len();
     let clauses = formula.clauses();
-    if clauses.len() > 0 {
+    if order.has_goal() && clauses.len() > 0 {
         if let Some(l) = open_of(core, clauses.get(clauses.len() - 1)) {
             return Some(l);
         }

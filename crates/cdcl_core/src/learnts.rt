@@ -8,10 +8,10 @@ use std::alloc::{AllocError, Global};
 use unit_propagation::Propagator;
 
 // So many conflicts come before the first reduction.
-const FIRST_INTERVAL: u64 = 2000;
+const FIRST_INTERVAL: u64 = 1000;
 
 // So many conflicts more come before each later one.
-const INTERVAL_STEP: u64 = 300;
+const INTERVAL_STEP: u64 = 150;
 
 // A clause of this glue or less is kept.
 const GOOD_GLUE: u32 = 3;

@@ -2,6 +2,7 @@
 
 ghost use Rattle.std.specs.Prelude.{◌<◌};
 
+use cnf_form::Lit;
 use std::alloc::{AllocError, Global};
 
 // Where an activity is halved with all others.
@@ -17,10 +18,14 @@ pub(crate) struct Order {
     activities: Vec<u64>,
     signs: Vec<bool>,
     step: u64,
+    has_goal: bool,
+    calm: bool,
+    targets: Vec<bool>,
+    longest: usize,
 }
 
 impl Order {
-    pub fn new(alloc: Global, vars: u32) -> Result<Self, AllocError>
+    pub fn new(alloc: Global, vars: u32, has_goal: bool) -> Result<Self, AllocError>
         requires { vars < 0xffff_ffff }
     {
         let mut heap = Vec::new(alloc);
@@ -32,13 +37,23 @@ impl Order {
         }
         let activities = vec![in alloc; 0; vars as usize + 1]?;
         let signs = vec![in alloc; true; vars as usize + 1]?;
+        let targets = vec![in alloc; true; vars as usize + 1]?;
         Ok(Order {
             heap,
             places,
             activities,
             signs,
             step: 1 << 20,
+            has_goal,
+            calm: false,
+            targets,
+            longest: 0,
         })
+    }
+
+    // Whether the formula's last clause is decided first.
+    pub fn has_goal(&self) -> bool {
+        self.has_goal
     }
 
     // How many variables are in the heap.
@@ -46,11 +61,43 @@ impl Order {
         self.heap.len()
     }
 
-    // Whether a variable was false last.
+    // Whether a variable is to be false: as it was on the longest trail of a calm stretch, else as it was last.
     pub fn sign(&self, var: u32) -> bool {
-        match self.signs.get(var as usize) {
+        let sign = if self.calm {
+            self.targets.get(var as usize)
+        } else {
+            self.signs.get(var as usize)
+        };
+        match sign {
             Some(sign) => *sign,
             None => true,
+        }
+    }
+
+    // A stretch that is calm, or not, goes on or begins.
+    pub fn set_calm(&mut self, calm: bool) {
+        if calm && !self.calm {
+            self.longest = 0;
+            for index in 0..self.targets.len() {
+                if index < self.signs.len() {
+                    self.targets[index] = self.signs[index];
+                }
+            }
+        }
+        self.calm = calm;
+    }
+
+    // Keeps the signs of these true literals, where they are the most of a calm stretch.
+    pub fn keep_longest(&mut self, lits: &[Lit]) {
+        if !self.calm || lits.len() <= self.longest {
+            return;
+        }
+        self.longest = lits.len();
+        for l in lits {
+            let index = l.var() as usize;
+            if index < self.targets.len() {
+                self.targets[index] = l.is_negated();
+            }
         }
     }
 

@@ -14,6 +14,7 @@ ghost use Rattle.cdcl_core.specs.Reducing.{IsBegun, Reduces, Breaks};
 ghost use Rattle.cdcl_core.specs.Solving.{SolvedFits, TurnFits, StepFits, GoesOn, IsCounted, valued};
 
 use crate::analysis::Analysis;
+use crate::choose::has_goal;
 use crate::learn::{assert_learnt, negate_trail};
 use crate::learnts::Learnts;
 use crate::load::load;
@@ -62,7 +63,7 @@ impl Tools {
     {
         let vars = formula.vars();
         let analysis = Analysis::new(alloc, vars)?;
-        let order = Order::new(alloc, vars)?;
+        let order = Order::new(alloc, vars, has_goal(formula))?;
         let pace = Pace::new(alloc, vars)?;
         Ok(Tools {
             analysis,
@@ -157,6 +158,8 @@ fn first_of(
 {
     let base = core.limit(core.levels() - 1);
     let root = core.limit(0);
+    order.set_calm(pace.is_calm());
+    order.keep_longest(&core.trail()[..base]);
     let found = analysis.find(core, k, root, base)?;
     bump_all(analysis, order);
     let learnt = shorten(core, analysis, shortening, pace, found, root, base)?;
