@@ -1,10 +1,9 @@
 // Whole runs with the streams of the engine.
 
-use crate::designs::{END, HEAD, NOT, REGISTER, T, joined, put, script_of};
 use cdcl_run::run_engine;
-use sby_edge::{MemFiles, MemSink, Script, ScriptYard, Scripted, Stage, StillClock};
+use run_scenes::{ASSERT, END, HEAD, NOT, REGISTER, T, joined, run_into, script_of};
+use sby_edge::{Files, MemFiles, MemSink, Scripted, StillClock};
 use sby_terms::JobName;
-use sby_top::run_sby;
 use std::alloc::{AllocError, Global};
 use std::sync::Wait;
 use std::test::Fail;
@@ -77,15 +76,11 @@ fn are_for(streams: &[Stream], jobs: &[&str]) -> bool {
 
 // The script of a child of the first task that writes a stream.
 fn scripted(alloc: Global, lane: u32, stream: &Stream) -> Result<Scripted, AllocError> {
-    let script = Script {
-        bytes: Vec::from_slice(alloc, stream.sink.bytes())?,
-        ..script_of(alloc, "")?
-    };
     Ok(Scripted {
         task: 0,
         lane,
         job: stream.job,
-        script,
+        script: script_of(alloc, Vec::from_slice(alloc, stream.sink.bytes())?),
     })
 }
 
@@ -122,24 +117,13 @@ fn run<H: Threads + Wait + SystemClock + Sync + Alloc<A = Global>>(
 ) -> Result<(u8, MemSink), Fail> {
     let alloc = rt.alloc();
     for stream in streams {
-        put(alloc, files, stream.name, stream.sink.bytes())?;
+        files.put(alloc, stream.name, stream.sink.bytes())?;
     }
     let words = words_of(alloc, row, streams)?;
     let scripts = scripts_of(alloc, streams)?;
-    let unknown = script_of(alloc, "s UNKNOWN\n")?;
-    let stage = Stage::new(alloc);
-    let mut yard = ScriptYard::new(rt, &stage, &scripts, &unknown);
     let mut out = MemSink::new(alloc, 2000, Vec::new(alloc))?;
-    let done = run_sby(
-        rt,
-        alloc,
-        &words,
-        files,
-        &mut out,
-        &mut yard,
-        &StillClock(0),
-    );
-    Ok((done.rc, out))
+    let rc = run_into(rt, files, &words, &mut out, &scripts, &StillClock(0))?;
+    Ok((rc, out))
 }
 
 // The text of lines.
@@ -159,16 +143,14 @@ fn is_run<H: Threads + Wait + SystemClock + Sync + Alloc<A = Global>>(
 ) -> Result<bool, Fail> {
     let alloc = rt.alloc();
     let mut files = MemFiles::new(alloc, Vec::new(alloc));
-    put(alloc, &mut files, "t.il", &joined(alloc, row.design)?)?;
-    put(alloc, &mut files, "t.sby", &joined(alloc, row.tasks)?)?;
+    files.put(alloc, "t.il", &joined(alloc, row.design)?)?;
+    files.put(alloc, "t.sby", &joined(alloc, row.tasks)?)?;
     run(rt, &mut files, row, &[])?;
     let streams = streams_of(alloc, &mut files, row.folder)?;
     let (rc, out) = run(rt, &mut files, row, streams.as_slice())?;
     let text = text_of(alloc, row.lines)?;
     Ok(are_for(streams.as_slice(), row.jobs) && rc == row.rc && out.bytes() == text.as_slice())
 }
-
-const ASSERT: &str = " cell $assert \\a0\n connect \\A \\d\n connect \\EN 1'1\n end\n";
 
 const PASS: &str = "SBY [t] DONE (PASS, rc=0)";
 
@@ -336,7 +318,7 @@ const AT_ONE: &str = "SBY [t] broken: \\a0 at cycle 1";
 
 // A run of stored streams.
 const STORED: Row = Row {
-    design: T,
+    design: &[T],
     tasks: &[],
     words: &[],
     folder: "t",

@@ -2,6 +2,4 @@
 #![tactic(auto)]
 
 #[cfg(test)]
-mod designs;
-#[cfg(test)]
 mod engine_tests;

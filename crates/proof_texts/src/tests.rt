@@ -5,4 +5,5 @@ mod formulas;
 mod judges;
 mod lrat;
 mod outputs;
+mod propagation;
 mod streams;

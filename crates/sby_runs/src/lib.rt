@@ -1,25 +1,21 @@
-//! Whole runs of the top call over files and output in memory, its words, and the judge fed by hand: tests alone.
+//! Whole runs of the top call over files and output in memory, as scenes: tests alone.
 #![tactic(auto)]
 
 #[cfg(test)]
-mod cell_tests;
+mod by_hand;
 #[cfg(test)]
-mod children;
+mod cells;
 #[cfg(test)]
-mod fault_tests;
+mod designs;
 #[cfg(test)]
-mod judge_tests;
+mod faults;
 #[cfg(test)]
-mod kind_tests;
+mod lanes;
 #[cfg(test)]
-mod mode_tests;
+mod modes;
 #[cfg(test)]
-mod race_tests;
+mod names;
 #[cfg(test)]
-mod run_tests;
+mod streams;
 #[cfg(test)]
-mod task_tests;
-#[cfg(test)]
-mod tests;
-#[cfg(test)]
-mod word_tests;
+mod tasks;

@@ -25,7 +25,7 @@ use Rattle.sby_lines.specs.Lines.{IsStatus}
 use Rattle.sby_lines.specs.Told.{AreReported, IsRaceStatus, job_of}
 use Rattle.sby_lines.proofs.PlaceLemmas.{at_contains, job_named}
 use Rattle.task_race.specs.Ends.{HasEndCause, IsEndOfFate, script_of}
-use Rattle.task_race.specs.Ran.{LanesRan}
+use Rattle.task_race.specs.Ran.{LanesRan, Serves, job_count, terms_in}
 use Rattle.task_race.proofs.EndLemmas.{end_cause}
 use Rattle.task_race.proofs.FateLemmas.{end_of_fate}
 use Rattle.sby_top.specs.Claims.{IsJudgedAt}
@@ -37,6 +37,7 @@ use Rattle.sby_top.specs.Task.{Lanes, TaskOf}
 use Rattle.sby_top.specs.World.{World, files_of, race_of}
 use Rattle.sby_top.specs.declared.outcome.TaskEnd.{TaskEnd}
 use Rattle.sby_top.proofs.AnswerLemmas.{IsPlace, Spares, calling_spares, skipping_spares}
+use Rattle.sby_top.proofs.LookLemmas.{found_or_shown}
 use Rattle.sby_top.proofs.EvidenceLemmas.{FileLaws, answers_agree, judged_job, judged_says, plain_fate}
 use Rattle.sby_top.proofs.MatchLemmas.{AreMatched, Matches, plain_or_look, plain_verdict}
 use Rattle.sby_top.proofs.OpenLemmas.{is_place}
@@ -206,6 +207,12 @@ module _ (laws : FileLaws) (may_read : ℕ → Type 0) (number : ℕ) (start fin
         subst (λ m. f.job ≡ name_at m k) mode_is (judged_job (racing_of task judged.done.problem number engines) start.scripts lane (name_at judged.done.problem.problem.mode k) f own);
     matches = λ lane k q r at_q at_r lt. subst (λ m. Matches m k (end_at q k) (end_at r k)) mode_is (matches lane k (back_in k lt) q r at_q at_r);
     agree = λ lane k q f g at lt is settled. agrees lane k (back_in k lt) q f g at is (subst (λ m. SettledIn job_of end.reports.items (name_at m k) g) (sym mode_is) settled);
+    sources = λ lane k r f at lt carries.
+        elim (found_or_shown (Serves (racing_of task judged.done.problem number engines) lane) (terms_in (racing_of task judged.done.problem number engines) end.start) (job_count (racing_of task judged.done.problem number engines)) r
+        (lanes_ran.consistent.replays lane r at) k f (back_in k lt) carries) [
+          | inl found ↦ let here : found.0 < length (jobs_of_mode task.request.mode task.request.span judged.done.problem.design) = omega (arith, count, found.1) in inl (found.0, here, found.2)
+          | inr look ↦ inr look
+        ];
   }
 
   -- the race's own status

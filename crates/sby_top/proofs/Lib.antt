@@ -16,6 +16,7 @@ pub mod TurnLemmas
 pub mod TopLemmas
 pub mod ClaimLemmas
 pub mod OpenLemmas
+pub mod LookLemmas
 pub mod MatchLemmas
 pub mod EvidenceLemmas
 pub mod SpareLemmas

@@ -29,7 +29,7 @@ use Rattle.sby_terms.specs.declared.span.Span.{Span}
 use Rattle.sby_lines.specs.Told.{AreReported, answer_of, job_of}
 use Rattle.sby_lines.proofs.PlaceLemmas.{at_contains, contains_at}
 use Rattle.sby_lines.proofs.ShownLemmas.{one_verdict}
-use Rattle.sby_top.specs.Complete.{IsByLook, IsVerdictStatus, PassesOn}
+use Rattle.sby_top.specs.Complete.{HasLooked, IsByLook, IsVerdictStatus, PassesOn}
 use Rattle.sby_top.proofs.AnswerLemmas.{Keeps, Spares, kept_or_failed, kept_verdict, one_closed, one_open, same_answers, verdict_kept}
 use Rattle.sby_top.proofs.OpenLemmas.{answered, carried_here, none_spared, spared}
 use Rattle.sby_top.proofs.PlainLemmas.{answer_found, end_answer, one_place, status_by}
@@ -39,7 +39,8 @@ use Rattle.sby_top.proofs.ReportLemmas.{first_or_later, nothing_in}
 abbrev pub Matches : Mode → ℕ → JobEnd FindingOf → JobEnd FindingOf → Type 0
 Matches mode k own e = ((end_answer own ≡ end_answer e) × (told_by own ≡ told_by e)) ⊎ ((f : FindingOf) × PassesOn e f × Spares mode k f.job f.answer)
 
--- Plain's ends carry what is found for their jobs; so do the reports' own ends, which match them; and findings for one job agree.
+-- Plain's ends carry what is found for their jobs; so do the reports' own ends, which match them; findings for one job agree; and what
+-- a report carries it found, or a look showed it.
 pub record AreMatched (mode : Mode) (span : Span) (d : DesignOf) (reports plain : List (ReportOf FindingOf)) : Type 0 where
   pub lanes : length plain ≡ length reports
   pub ends : (lane : ℕ) (q : ReportOf FindingOf) → slice_get plain lane ≡ Some q → length q.ends ≡ length (jobs_in mode span d)
@@ -48,6 +49,8 @@ pub record AreMatched (mode : Mode) (span : Span) (d : DesignOf) (reports plain 
   pub matches : (lane k : ℕ) (q r : ReportOf FindingOf) → slice_get plain lane ≡ Some q → slice_get reports lane ≡ Some r → k < length (jobs_in mode span d) → Matches mode k (end_at q k) (end_at r k)
   pub agree : (lane k : ℕ) (q : ReportOf FindingOf) (f g : FindingOf) → slice_get plain lane ≡ Some q → k < length (jobs_in mode span d) → end_at q k ≡ Found f → SettledIn job_of reports (name_at mode k) g
       → f.answer ≡ g.answer
+  pub sources : (lane k : ℕ) (r : ReportOf FindingOf) (f : FindingOf) → slice_get reports lane ≡ Some r → k < length (jobs_in mode span d) → Carries (end_at r k) f
+      → ((l : ℕ) × (l < length (jobs_in mode span d)) × (end_at r l ≡ Found f)) ⊎ HasLooked r f
 
 -- a report at a place below the count
 stands_at : {X : Type 0} (xs : List X) (k : ℕ) → k < length xs → (x : X) × (slice_get xs k ≡ Some x)
@@ -164,6 +167,9 @@ module _ (mode : Mode) (span : Span) (d : DesignOf) (reports plain : List (Repor
       let in_k : k < length (jobs_in mode span d) = omega (arith, collected.size, slice_get_within answers k (Some a) at) in
       let end_is : end_at g.1.0 g.1.2.1.0 ≡ g.1.2.0 = get_or_default g.1.0.ends g.1.2.1.0 NotServed g.1.2.0 g.1.2.1.1 ∙ g.1.2.1.2 in
       let carries : Carries (end_at g.1.0 g.1.2.1.0) g.0 = subst (λ x. Carries x g.0) (sym end_is) g.1.2.2 in
+      let at_job : (l : ℕ) → l < length (jobs_in mode span d) → end_at g.1.0 l ≡ Found g.0 → end_at g.1.0 k ≡ Found g.0 = λ l in_l own.
+      let here : l ≡ k = one_place mode span d l k in_l in_k (sym (matched.found g.1.1.0 l g.1.0 g.0 at_r in_l own) ∙ g.1.3) in
+      subst (λ n. end_at g.1.0 n ≡ Found g.0) here own in
       record {
         job = k;
         finding = g.0;
@@ -175,11 +181,12 @@ module _ (mode : Mode) (span : Span) (d : DesignOf) (reports plain : List (Repor
           carries,
           λ x is.
               let same : x ≡ g.0 = subst (λ e. Carries e g.0) is carries in
-              let own : end_at g.1.0 g.1.2.1.0 ≡ Found g.0 = is ∙ ap Found same in
-              let job = matched.found g.1.1.0 g.1.2.1.0 g.1.0 g.0 at_r in_j own in
-              let here : g.1.2.1.0 ≡ k = one_place mode span d g.1.2.1.0 k in_j in_k (sym job ∙ g.1.3) in
-              none g.1.0 g.0 g.1.1 (subst (λ n. end_at g.1.0 n ≡ Found g.0) here own),
+              none g.1.0 g.0 g.1.1 (at_job g.1.2.1.0 in_j (is ∙ ap Found same)),
         );
+        looked = elim (matched.sources g.1.1.0 g.1.2.1.0 g.1.0 g.0 at_r in_j carries) [
+          | inl found ↦ absurd (none g.1.0 g.0 g.1.1 (at_job found.0 found.1 found.2))
+          | inr look ↦ look
+        ];
         none_found = none;
       }
 

@@ -6,8 +6,8 @@ use Rattle.judge.specs.Finding.{FindingOf}
 use Rattle.judge.specs.Problem.{AskedOf}
 use Rattle.lane_judge.specs.Serving.{IsServing}
 use Rattle.race_core.specs.Asking.{name_at}
-use Rattle.race_core.specs.Carrying.{Carries}
-use Rattle.race_core.specs.Consistent.{end_at}
+use Rattle.race_core.specs.Carrying.{Carries, Looked}
+use Rattle.race_core.specs.Consistent.{end_at, events_at}
 use Rattle.race_core.specs.Report.{ReportOf}
 use Rattle.race_core.specs.declared.end.JobEnd.{JobEnd}
 use Rattle.race_core.specs.declared.end.JobEnd.TheVariants.{Found, Unknown, NotServed, Bad, ReadFailed, StartFailed, HoldFailed, Skipped, CalledOff, Stopped, Memory as MemoryEnd}
@@ -70,11 +70,15 @@ pub record IsUndisturbed (may_read : ℕ → Type 0) (number : ℕ) (start finis
   pub memory : end.status ≢ Memory
   pub lanes_memory : (r : ReportOf FindingOf) (place : ℕ) → Contains end.reports.items r → end_at r place ≡ MemoryEnd → ⊥
 
--- an end carries a finding that isn't its own: the lane knew it by a look
+-- an end carries a finding that isn't its own
 abbrev pub PassesOn : JobEnd FindingOf → FindingOf → Type 0
 PassesOn e f = Carries e f × ((g : FindingOf) → e ≡ Found g → ⊥)
 
--- A job's finding came by a look: a lane passes it on, and no lane's end of the job is Found.
+-- a look of the lane, at one of its jobs, showed this finding
+abbrev pub HasLooked : ReportOf FindingOf → FindingOf → Type 0
+HasLooked r f = (place : ℕ) × (cell : ℕ) × Looked cell f (events_at r place).keeper
+
+-- A job's finding came by a look: a lane passes on what one of its looks showed, and no lane's end of the job is Found.
 pub record IsByLook (mode : Mode) (reports : List (ReportOf FindingOf)) : Type 0 where
   pub job : ℕ
   pub finding : FindingOf
@@ -83,4 +87,5 @@ pub record IsByLook (mode : Mode) (reports : List (ReportOf FindingOf)) : Type 0
   pub among : Contains reports report
   pub place : ℕ
   pub passes_on : PassesOn (end_at report place) finding
+  pub looked : HasLooked report finding
   pub none_found : (r : ReportOf FindingOf) (f : FindingOf) → Contains reports r → end_at r job ≡ Found f → ⊥

@@ -2,7 +2,7 @@ use Rattle.std.proofs.Common.{ap}
 use Rattle.std.specs.Prelude.{slice_get}
 use Rattle.judge.specs.Jobs.{jobs_of}
 use Rattle.sby_terms.specs.Problem.{ProblemOf}
-use Rattle.sby_runs.proofs.judge_tests.problem_of.Goals as goal
+use Rattle.judge_texts.proofs.judge_tests.problem_of.Goals as goal
 
 pub returns-in-Ok : goal.returns-in-Ok
 returns-in-Ok c =

@@ -3,8 +3,8 @@
 ghost use Rattle.std.specs.Prelude.{◌≡◌, ◌≤◌, ◌^◌, IfOk, IfErr};
 ghost use Rattle.judge.specs.Problem.{IsJob};
 
-use crate::tests::{END, HEAD, NOT, REGISTER, T, joined};
 use judge::{Judge, Problem, Progress};
+use run_scenes::{END, HEAD, NOT, REGISTER, T, joined};
 use sby_terms::{Answer, JobName, Mode, Span};
 use std::alloc::{AllocError, Global};
 use std::test::Fail;
@@ -78,7 +78,7 @@ fn judged(
 
 #[test]
 fn pieces_change_nothing(rt: HostRuntime) -> Result<(), Fail> {
-    let problem = problem_of(rt.alloc(), T, 1)?;
+    let problem = problem_of(rt.alloc(), &[T], 1)?;
     let stream = b"c hello\n-1 0\n0\n";
     for cut in 1..15 {
         let answer = judged(rt.alloc(), &problem, 100, &stream[..cut], &stream[cut..])?;
@@ -93,7 +93,7 @@ fn pieces_change_nothing(rt: HostRuntime) -> Result<(), Fail> {
 
 #[test]
 fn streams_past_the_limit(rt: HostRuntime) -> Result<(), Fail> {
-    let problem = problem_of(rt.alloc(), T, 1)?;
+    let problem = problem_of(rt.alloc(), &[T], 1)?;
     let stream = b"c x\n0\n";
     for (most, answer) in [
         (4, bad(CertKind::TooLong, 4)),
@@ -212,7 +212,7 @@ fn try_all(alloc: Global, problem: &Problem) -> Result<Tried, Fail>
 
 #[test]
 fn values_of_two_cycles(rt: HostRuntime) -> Result<(), Fail> {
-    let problem = problem_of(rt.alloc(), T, 2)?;
+    let problem = problem_of(rt.alloc(), &[T], 2)?;
     let tried = try_all(rt.alloc(), &problem)?;
     assert_eq!(rt; tried.two_cycles, 1);
     assert!(rt; tried.before > 0);
@@ -222,7 +222,7 @@ fn values_of_two_cycles(rt: HostRuntime) -> Result<(), Fail> {
 
 #[test]
 fn values_of_one_cycle(rt: HostRuntime) -> Result<(), Fail> {
-    let problem = problem_of(rt.alloc(), T, 1)?;
+    let problem = problem_of(rt.alloc(), &[T], 1)?;
     let tried = try_all(rt.alloc(), &problem)?;
     assert_eq!(rt; tried.two_cycles, 0);
     assert!(rt; tried.last > 0);

@@ -2,7 +2,7 @@ use Rattle.std.proofs.Common.{◌≡◌, [], ap, ◌∙◌}
 use Rattle.std.specs.Prelude.{None, Ok}
 use Rattle.judge.specs.Judging.{fate_told}
 use Rattle.sby_top.proofs.JudgeLemmas.{not_over, took_after}
-use Rattle.sby_runs.proofs.judge_tests.judged.Goals as goal
+use Rattle.judge_texts.proofs.judge_tests.judged.Goals as goal
 
 pub feed-requires-2 : goal.feed-requires-2
 feed-requires-2 c =
