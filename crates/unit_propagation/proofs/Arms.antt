@@ -50,7 +50,7 @@ module _ (slots : List (Option (List LitOf))) (start s : State) (f : LitOf) (p :
       )
     where
       no_head : Head
-      no_head = record { start = 0; end = 0; from = 0; left = f; right = f }
+      no_head = record { start = 0; from = 0; left = f; right = f }
 
       same : s' ≡ s
       same = elim (slot_cases (slot_at slots j₀)) [ inl w ↦ (there w.0 no_head w.1).1 | inr e ↦ gone e ]
@@ -69,7 +69,7 @@ module _ (slots : List (Option (List LitOf))) (start s : State) (f : LitOf) (p :
   module _ (c : List LitOf) (other : LitOf) (is : slot_at slots j₀ ≡ Some c)
       (at : (d : Head) → Watches (get_or s.heads j₀ d) f other) (two : (d : Head) → (get_or s.heads j₀ d).left ≢ (get_or s.heads j₀ d).right) where
     no_head : Head
-    no_head = record { start = 0; end = 0; from = 0; left = f; right = f }
+    no_head = record { start = 0; from = 0; left = f; right = f }
 
     other_facts : Contains c other × (other ≢ f)
     other_facts = other_in p s.trail (slot_at slots j₀) (get_or s.heads j₀ no_head) (kept_now no_head) c f other (two no_head) (at no_head) is

@@ -84,7 +84,7 @@ module _ (vars : ℕ) (slots : List (Option (List LitOf))) (s : State) (pairs : 
       let y = v.levels n k in
       let all = y.1 in
       elim (cases_lt w.0 (length s.heads)) [
-        | inl i ↦ let d : Head = record { start = 0; end = 0; from = 0; left = record { var = 0; negated = true }; right = record { var = 0; negated = true } } in
+        | inl i ↦ let d : Head = record { start = 0; from = 0; left = record { var = 0; negated = true }; right = record { var = 0; negated = true } } in
             kept_settled (take n s.trail) (take n s.trail) (slot_at slots w.0) (get_or s.heads w.0 d) (all w.0 d i) c w.2 (consistent_prefix s.trail n v.consistent) (λ l k. k)
         | inr i ↦ absurd (omega (arith, i, w.1, v.count))
       ]

@@ -35,7 +35,7 @@ module _ (vars : ℕ) (slots : List (Option (List LitOf))) (s : State) (pairs : 
       let w = clauses_of-slot slots c h in
       let all = v.now e in
       elim (cases_lt w.0 (length s.heads)) [
-        | inl i ↦ let d : Head = record { start = 0; end = 0; from = 0; left = record { var = 0; negated = true }; right = record { var = 0; negated = true } } in
+        | inl i ↦ let d : Head = record { start = 0; from = 0; left = record { var = 0; negated = true }; right = record { var = 0; negated = true } } in
             kept_settled s.trail s.trail (slot_at slots w.0) (get_or s.heads w.0 d) (all w.0 d i) c w.2 v.consistent (λ l k. k)
         | inr i ↦ absurd (omega (arith, i, w.1, v.count))
       ]

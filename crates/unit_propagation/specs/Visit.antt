@@ -73,13 +73,13 @@ pub record Assigns (s s' : State) (l : LitOf) : Type 0 where
   pub rows : s'.rows ≡ s.rows
   pub trail : s'.trail ≡ s.trail ++ l ∷ []
 
--- what is to be done with a clause when l is false
-abbrev pub VisitFits : List LitOf → List LitOf → Head → LitOf → Visit → Type 0
-VisitFits t c h l Stale = IsStale h l
-VisitFits t c h l (Keep other) = Watches h l other × (h.left ≢ h.right) × Contains t other
-VisitFits t c h l (Move from m other) = Watches h l other × (h.left ≢ h.right) × Contains c m × (m ≢ other) × (Contains t (negate m) → ⊥) × (h.start ≤ from) × (from ≤ h.end)
-VisitFits t c h l (Assign other) = Watches h l other × (h.left ≢ h.right) × IsFalsifiedBut t c other × IsOpen t other
-VisitFits t c h l (Falsify other) = Watches h l other × (h.left ≢ h.right) × IsFalsifiedBut t c other × Contains t (negate other)
+-- what is to be done with a clause when l is false, if its literals end there
+abbrev pub VisitFits : List LitOf → List LitOf → ℕ → Head → LitOf → Visit → Type 0
+VisitFits t c end h l Stale = IsStale h l
+VisitFits t c end h l (Keep other) = Watches h l other × (h.left ≢ h.right) × Contains t other
+VisitFits t c end h l (Move from m other) = Watches h l other × (h.left ≢ h.right) × Contains c m × (m ≢ other) × (Contains t (negate m) → ⊥) × (h.start ≤ from) × (from ≤ end)
+VisitFits t c end h l (Assign other) = Watches h l other × (h.left ≢ h.right) × IsFalsifiedBut t c other × IsOpen t other
+VisitFits t c end h l (Falsify other) = Watches h l other × (h.left ≢ h.right) × IsFalsifiedBut t c other × Contains t (negate other)
 
 -- what was done with the clause c at j, whose head is h
 abbrev pub VisitedFits : State → State → List LitOf → ℕ → Head → LitOf → Visited → Type 0

@@ -1,5 +1,5 @@
 -- Watched literals: where clauses lie, and the lists of watches.
-use Rattle.std.specs.Prelude.{◌≡◌, ◌≢◌, ◌⊎◌, ◌==◌, ℕ, ◌<◌, ◌≤◌, if◌then◌else◌, List, [], map, Option, Some, None, Contains, All, slice_range, slice_index_or}
+use Rattle.std.specs.Prelude.{◌≡◌, ◌≢◌, ◌⊎◌, ◌==◌, ℕ, ◌+◌, ◌<◌, ◌≤◌, if◌then◌else◌, List, [], ◌∷◌, length, map, Option, Some, None, Contains, All, slice_range, slice_index_or}
 use Rattle.std.specs.declared.vec.Vec.{Vec}
 use Rattle.std.specs.declared.alloc.Global.{Global}
 use Rattle.cnf_form.specs.Cnf.{LitOf, index_of}
@@ -7,25 +7,34 @@ use Rattle.unit_propagation.specs.declared.watch.Head.{Head}
 use Rattle.unit_propagation.specs.declared.watch.Watch.{Watch}
 use Rattle.unit_propagation.specs.declared.watch.TheConstants.{GONE}
 
--- the clause of a head, if it wasn't taken out
-abbrev pub slot_of : List LitOf → Head → Option (List LitOf)
-slot_of lits h = if h.from == GONE then None else Some (slice_range lits h.start h.end)
+-- where the literals of a clause end: where those of the next one begin, or at the end of them all
+abbrev pub end_of : ℕ → List Head → ℕ → ℕ
+end_of size heads k = slice_index_or (map (λ (h : Head). h.start) heads) (k + 1) size
+
+-- the clause of a head whose literals end there, if it wasn't taken out
+abbrev pub slot_of : List LitOf → ℕ → Head → Option (List LitOf)
+slot_of lits end h = if h.from == GONE then None else Some (slice_range lits h.start end)
 
 abbrev pub slots_of : List LitOf → List Head → List (Option (List LitOf))
-slots_of lits heads = map (slot_of lits) heads
+slots_of lits [] = []
+slots_of lits (h ∷ hs) = slot_of lits (end_of (length lits) (h ∷ hs) 0) h ∷ slots_of lits hs
 
 -- the watches and the place of the search lie within bounds
-pub record WatchesFit (vars : ℕ) (h : Head) : Type 0 where
-  pub from : h.from ≤ h.end
+pub record WatchesFit (vars end : ℕ) (h : Head) : Type 0 where
+  pub from : h.from ≤ end
   pub left : h.left.var ≤ vars
   pub right : h.right.var ≤ vars
 
--- where a clause lies, and what it watches, if anything
-pub record HeadFits (vars size : ℕ) (h : Head) : Type 0 where
-  pub start : h.start ≤ h.end
-  pub end : h.end ≤ size
+-- where a clause lies whose literals end there, and what it watches, if anything
+pub record HeadFits (vars end : ℕ) (h : Head) : Type 0 where
+  pub start : h.start ≤ end
   pub from : h.start ≤ h.from
-  pub watches : h.left ≢ h.right → WatchesFit vars h
+  pub watches : h.left ≢ h.right → WatchesFit vars end h
+
+-- each clause lies before the next one
+pub record HeadsFit (vars size : ℕ) (heads : List Head) : Type 0 where
+  pub each : (k : ℕ) (d : Head) → k < length heads → HeadFits vars (end_of size heads k) (slice_index_or heads k d)
+  pub within : (k : ℕ) → end_of size heads k ≤ size
 
 pub record WatchFits (vars count : ℕ) (w : Watch) : Type 0 where
   pub clause : w.clause < count

@@ -30,7 +30,6 @@ fn leave_pairs(store: &ClauseStore, pairs: &mut WatchLists, k: u32)
 {
     let Head {
         start,
-        end,
         left,
         right,
         ..
@@ -38,6 +37,7 @@ fn leave_pairs(store: &ClauseStore, pairs: &mut WatchLists, k: u32)
     if left == right {
         return;
     }
+    let end = store.end(k);
     if end - start != 2 {
         return;
     }

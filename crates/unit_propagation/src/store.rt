@@ -1,9 +1,9 @@
-// Clauses: their literals in one list, and a head for each.
+// Clauses: their literals in one list, one clause behind the other, and a head for each.
 
 ghost use Rattle.std.specs.Prelude.{◌≡◌, ◌≢◌, ◌+◌, ◌<◌, ◌≤◌, ◌^◌, ◌++◌, ◌∷◌, [], length, All, OnOk, OnErr, IfSome, IfNone, Some, None, slice_index_or, slice_range, slice_set};
 ghost use Rattle.cnf_form.specs.Cnf.{LitOf};
 ghost use Rattle.unit_propagation.specs.Marks.{IsBelow};
-ghost use Rattle.unit_propagation.specs.Watch.{HeadFits, slot_of, slots_of};
+ghost use Rattle.unit_propagation.specs.Watch.{HeadFits, HeadsFit, end_of, slot_of, slots_of};
 ghost use Rattle.unit_propagation.specs.Propagator.{slot_at};
 ghost use Rattle.unit_propagation.specs.declared.watch.TheConstants.{GONE};
 ghost use Rattle.unit_propagation.specs.declared.watch.Head.{Head};
@@ -20,7 +20,7 @@ pub struct ClauseStore {
     ghost counted: { length lits.items < GONE },
     ghost few: { length heads.items < GONE },
     ghost below: { All (IsBelow vars) lits.items },
-    ghost fit: { All (HeadFits vars (length lits.items)) heads.items },
+    ghost fit: { HeadsFit vars (length lits.items) heads.items },
 }
 
 impl ClauseStore {
@@ -47,9 +47,24 @@ impl ClauseStore {
     pub fn head(&self, k: u32) -> Head
         requires { k < length self.now.heads.items }
         ensures head { result ≡ slice_index_or self.now.heads.items k result }
-        ensures fits { HeadFits self.now.vars (length self.now.lits.items) result }
+        ensures fits { HeadFits self.now.vars (end_of (length self.now.lits.items) self.now.heads.items k) result }
+        ensures within { end_of (length self.now.lits.items) self.now.heads.items k < GONE }
+        ensures slot { slot_at (slots_of self.now.lits.items self.now.heads.items) k
+            ≡ slot_of self.now.lits.items (end_of (length self.now.lits.items) self.now.heads.items k) result }
     {
         self.heads[k as usize]
+    }
+
+    // Where the literals of a clause end.
+    #[inline(always)]
+    pub fn end(&self, k: u32) -> u32
+        ensures end { result ≡ end_of (length self.now.lits.items) self.now.heads.items k }
+        ensures within { result ≤ length self.now.lits.items }
+    {
+        match self.heads.get(k as usize + 1) {
+            Some(next) => next.start,
+            None => self.lits.len() as u32,
+        }
     }
 
     #[inline(always)]
@@ -80,13 +95,16 @@ impl ClauseStore {
             return Err(AllocError);
         }
         self.lits.extend_from_slice(clause)?;
-        self.heads.push(Head {
+        let head = Head {
             start: start as u32,
-            end: end as u32,
             from: start as u32,
             left,
             right,
-        })?;
+        };
+        if self.heads.push(head).is_err() {
+            self.lits.truncate(start);
+            return Err(AllocError);
+        }
         Ok(())
     }
 
@@ -94,8 +112,10 @@ impl ClauseStore {
     #[inline(always)]
     pub fn watch(&mut self, k: u32, head: Head)
         requires place { k < length self.old.heads.items }
-        requires fits { HeadFits self.old.vars (length self.old.lits.items) head }
-        requires same { slot_of self.old.lits.items head ≡ slot_at (slots_of self.old.lits.items self.old.heads.items) k }
+        requires fits { HeadFits self.old.vars (end_of (length self.old.lits.items) self.old.heads.items k) head }
+        requires start { head.start ≡ (slice_index_or self.old.heads.items k head).start }
+        requires same { slot_of self.old.lits.items (end_of (length self.old.lits.items) self.old.heads.items k) head
+            ≡ slot_at (slots_of self.old.lits.items self.old.heads.items) k }
         ensures vars { self.new.vars ≡ self.old.vars }
         ensures lits { self.new.lits ≡ self.old.lits }
         ensures heads { self.new.heads.items ≡ slice_set self.old.heads.items k head }
@@ -114,15 +134,9 @@ impl ClauseStore {
         ensures slots { slots_of self.new.lits.items self.new.heads.items
             ≡ slice_set (slots_of self.old.lits.items self.old.heads.items) k None }
     {
-        let Head {
-            start,
-            end,
-            left,
-            ..
-        } = self.heads[k as usize];
+        let Head { start, left, .. } = self.head(k);
         self.heads[k as usize] = Head {
             start,
-            end,
             from: GONE,
             left,
             right: left,
@@ -136,15 +150,11 @@ impl ClauseStore {
         ensures below { IfSome result (λ c. All (IsBelow self.now.vars) c.now) }
         ensures gone { IfNone result (slot_at (slots_of self.now.lits.items self.now.heads.items) k ≡ None) }
     {
-        let Head {
-            start,
-            end,
-            from,
-            ..
-        } = self.heads[k as usize];
+        let Head { start, from, .. } = self.head(k);
         if from == GONE {
             None
         } else {
+            let end = self.end(k);
             Some(&self.lits[start as usize..end as usize])
         }
     }

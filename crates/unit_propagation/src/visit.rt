@@ -3,7 +3,7 @@
 ghost use Rattle.std.specs.Prelude.{ℕ, ◌≡◌, ◌≢◌, ◌⊎◌, ◌+◌, ◌*◌, ◌<◌, ◌≤◌, List, length, Contains, All, IfOk, IfSome, IfNone, Some, None, slice_index_or, slice_range};
 ghost use Rattle.cnf_form.specs.Cnf.{LitOf, negate};
 ghost use Rattle.unit_propagation.specs.Marks.{IsBelow, Shows};
-ghost use Rattle.unit_propagation.specs.Watch.{HeadFits, WatchFits, Watches, IsStale, slots_of, rows_of};
+ghost use Rattle.unit_propagation.specs.Watch.{HeadFits, WatchFits, Watches, IsStale, end_of, slots_of, rows_of};
 ghost use Rattle.unit_propagation.specs.Visit.{VisitFits, VisitedFits, State, watched_of, IsVisited, IsPending, StopFits};
 ghost use Rattle.unit_propagation.specs.Propagation.{IsFalsifiedBut};
 ghost use Rattle.unit_propagation.specs.Propagator.{slot_at};
@@ -107,10 +107,11 @@ fn other_watch(left: Lit, right: Lit, l: Lit) -> Option<Lit>
 
 // What is to be done with a clause when a literal is false.
 #[inline(always)]
-fn look_at(head: Head, lits: &[Lit], trail: &Trail, falsified: Lit) -> Visit
-    requires head { HeadFits trail.now.vars (length lits.now) head }
-    requires places { All (IsBelow trail.now.vars) lits.now }
-    ensures { VisitFits trail.now.lits (slice_range lits.now head.start head.end) head falsified result }
+fn look_at(store: &ClauseStore, k: u32, head: Head, trail: &Trail, falsified: Lit) -> Visit
+    requires trail { trail.now.vars ≡ store.now.vars }
+    requires head { HeadFits trail.now.vars (end_of (length store.now.lits.items) store.now.heads.items k) head }
+    ensures { let end = end_of (length store.now.lits.items) store.now.heads.items k in
+        VisitFits trail.now.lits (slice_range store.now.lits.items head.start end) end head falsified result }
 {
     let Some(other) = other_watch(head.left, head.right, falsified) else {
         return Visit::Stale;
@@ -119,7 +120,9 @@ fn look_at(head: Head, lits: &[Lit], trail: &Trail, falsified: Lit) -> Visit
     if marks[other.index()] {
         return Visit::Keep(other);
     }
-    let clause = &lits[head.start as usize..head.end as usize];
+    let lits = store.lits();
+    let end = store.end(k);
+    let clause = &lits[head.start as usize..end as usize];
     match find_open(clause, (head.from - head.start) as usize, other, marks) {
         // The next search begins behind the new watch.
         Some(k) => Visit::Move(head.start + k as u32 + 1, clause[k], other),
@@ -163,19 +166,17 @@ fn visit_clause(
 {
     let Head {
         start,
-        end,
         from,
         left,
         right,
     } = store.head(clause);
     let head = Head {
         start,
-        end,
         from,
         left,
         right,
     };
-    match look_at(head, store.lits(), trail, falsified) {
+    match look_at(store, clause, head, trail, falsified) {
         Visit::Stale => Visited::Left,
         Visit::Keep(other) => Visited::Satisfied(other),
         Visit::Move(from, m, other) => {
@@ -184,7 +185,6 @@ fn visit_clause(
             }
             let head = Head {
                 start,
-                end,
                 from,
                 left: other,
                 right: m,

@@ -5,12 +5,11 @@ use cnf_form::Lit;
 // In `from`: the clause was taken out.
 pub const GONE: u32 = 0xffff_ffff;
 
-// Where a clause's literals lie, where the search for another watch begins, and the two literals that it watches. It
+// Where a clause's literals begin, where the search for another watch does, and the two literals that it watches. It
 // watches nothing where they are the same.
 #[derive(Clone, Copy)]
 pub struct Head {
     pub start: u32,
-    pub end: u32,
     pub from: u32,
     pub left: Lit,
     pub right: Lit,

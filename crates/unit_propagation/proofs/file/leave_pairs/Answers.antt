@@ -24,8 +24,9 @@ returns-then-end-start-ne2-clause-only c = λ fits u w h. (
       let x = fits u w h in
       let r = c.head-start.ensures in
       let s = c.args.store.now in
-      let size = slot_length s.vars s.lits.items s.heads.items c.args.k c.head-start.result x.lits c.requires.clause r.head r.fits (subst (λ z. slot_at (slots_of s.lits.items s.heads.items) z ≡ Some x.lits) e x.is) in
-      omega (arith, size, x.short),
+      let o = c.end-end.ensures in
+      let size = slot_length s.lits.items s.heads.items c.args.k c.head-start.result x.lits c.requires.clause r.head (omega (arith, o.end, o.within)) (subst (λ z. slot_at (slots_of s.lits.items s.heads.items) z ≡ Some x.lits) e x.is) in
+      omega (arith, size, x.short, o.end),
 )
 
 pub returns-clause-only : goal.returns-clause-only

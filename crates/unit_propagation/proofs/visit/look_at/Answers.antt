@@ -8,15 +8,18 @@ pub returns-in-Some-find_open : goal.returns-in-Some-find_open
 returns-in-Some-find_open c =
     let o = c.in-Some.ensures in
     let s = o.some in
-    let size = length-take (c.args.head.end - c.args.head.start) (drop c.args.head.start c.args.lits.now) in
+    let lits = c.args.store.now.lits.items in
+    let at = c.args.head.start in
+    let end = c.end-end.result in
+    let size = length-take (end - at) (drop at c.lits-lits.result.now) in
     let w = c.in-Some-find_open.ensures in
     let m = c.marks-marks.ensures in
     let found = w.found c.args.trail.now.lits m.shows c.index-clause-k.result in (
       s.0,
       s.1,
-      Contains-read _ _ _ w.within c.index-clause-k.is,
+      rw (sym c.end-end.ensures.end, sym c.lits-lits.ensures.lits) (Contains-read _ _ _ w.within c.index-clause-k.is),
       subst (λ (z : LitOf). z ≢ c.in-Some.other) (sym c.index-clause-k.is) found.0,
       subst (λ (z : LitOf). Contains c.args.trail.now.lits (negate z) → ⊥) (sym c.index-clause-k.is) found.1,
       omega arith,
-      omega (arith, w.within, size),
+      omega (arith, w.within, size, c.end-end.ensures.end),
     )

@@ -28,7 +28,7 @@ returns-in-Moved-clause-step c = λ p start v q.
       | inr g ↦ absurd (let x = (e.gone g).0 in cc)
       | inl w ↦
           let facts = λ (d : Head). e.visited w.0 d w.1 in
-          let f = facts (record { start = 0; end = 0; from = 0; left = c.in-Moved.field-0; right = c.in-Moved.field-0 }) in
+          let f = facts (record { start = 0; from = 0; left = c.in-Moved.field-0; right = c.in-Moved.field-0 }) in
           (arm_moved _ start _ _ p _ _ _ (get_or c.args.list.now c.args.k c.index-list-k.result).clause c.requires.kept c.requires.place here (search rules) v q w.0 c.in-Moved.field-0 w.1 (λ d. (facts d).0) (λ d. (facts d).1) _ c.in-Moved.field-1 f.2 f.3 f.4 f.5)
     ]
 
@@ -40,7 +40,7 @@ returns-in-Satisfied-clause-step c = λ p start v q.
       | inr g ↦ absurd (let x = (e.gone g).0 in cc)
       | inl w ↦
           let facts = λ (d : Head). e.visited w.0 d w.1 in
-          let f = facts (record { start = 0; end = 0; from = 0; left = c.in-Satisfied.other; right = c.in-Satisfied.other }) in
+          let f = facts (record { start = 0; from = 0; left = c.in-Satisfied.other; right = c.in-Satisfied.other }) in
           let r = c.keep-in-Satisfied.ensures in
           rw r.list (arm_satisfied _ start _ _ p _ _ _ (get_or c.args.list.now c.args.k c.index-list-k.result).clause c.requires.kept c.requires.place here (search rules) v q w.0 c.in-Satisfied.other w.1 (λ d. (facts d).0) (λ d. (facts d).1) _ f.2 f.3)
     ]
@@ -53,7 +53,7 @@ returns-in-Assigned-clause-step c = λ p start v q.
       | inr g ↦ absurd (let x = (e.gone g).0 in cc)
       | inl w ↦
           let facts = λ (d : Head). e.visited w.0 d w.1 in
-          let f = facts (record { start = 0; end = 0; from = 0; left = c.in-Assigned.other; right = c.in-Assigned.other }) in
+          let f = facts (record { start = 0; from = 0; left = c.in-Assigned.other; right = c.in-Assigned.other }) in
           let r = c.keep-in-Assigned.ensures in
           rw r.list (arm_assigned _ start _ _ p _ _ _ (get_or c.args.list.now c.args.k c.index-list-k.result).clause c.requires.kept c.requires.place here (search rules) v q w.0 c.in-Assigned.other w.1 (λ d. (facts d).0) (λ d. (facts d).1) _ f.2 f.3 f.4)
     ]
@@ -66,7 +66,7 @@ returns-in-Falsified-clause-step c = λ p start v q.
       | inr g ↦ absurd (let x = (e.gone g).0 in cc)
       | inl w ↦
           let facts = λ (d : Head). e.visited w.0 d w.1 in
-          let f = facts (record { start = 0; end = 0; from = 0; left = c.in-Falsified.other; right = c.in-Falsified.other }) in
+          let f = facts (record { start = 0; from = 0; left = c.in-Falsified.other; right = c.in-Falsified.other }) in
           let r = c.keep-in-Falsified.ensures in
           rw r.list (arm_falsified _ start _ _ p _ _ _ (get_or c.args.list.now c.args.k c.index-list-k.result).clause c.requires.kept c.requires.place here (search rules) v q w.0 c.in-Falsified.other w.1 (λ d. (facts d).0) (λ d. (facts d).1) _ f.2 f.3 f.4)
     ]
@@ -79,7 +79,7 @@ returns-in-NoMemory-clause-step c = λ p start v q.
       | inr g ↦ absurd (let x = (e.gone g).0 in cc)
       | inl w ↦
           let facts = λ (d : Head). e.visited w.0 d w.1 in
-          let f = facts (record { start = 0; end = 0; from = 0; left = c.in-NoMemory.other; right = c.in-NoMemory.other }) in
+          let f = facts (record { start = 0; from = 0; left = c.in-NoMemory.other; right = c.in-NoMemory.other }) in
           let r = c.keep-in-NoMemory.ensures in
           rw r.list (arm_memory _ start _ _ p _ _ _ (get_or c.args.list.now c.args.k c.index-list-k.result).clause c.requires.kept c.requires.place here (search rules) v q w.0 c.in-NoMemory.other w.1 (λ d. (facts d).0) (λ d. (facts d).1) _ f.2)
     ]
