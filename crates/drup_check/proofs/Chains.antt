@@ -1,7 +1,7 @@
 -- Chains that get a clause.
-use Rattle.std.proofs.Common.{◌≡◌, ◌≢◌, ℕ, ◌+◌, ◌-◌, ◌%◌, ◌<◌, ◌≤◌, List, [], ◌∷◌, ◌++◌, length, get_or, set, refl, sym, ◌∙◌, ap, subst, inl, inr, arith, zero, suc}
-use Rattle.std.proofs.lemmas.Bool.{cases_eq}
-use Rattle.std.proofs.lemmas.List.{get_or-set_same, get_or-set_other, length-set}
+use Rattle.std.proofs.Common.{◌≡◌, ◌≢◌, ℕ, ◌+◌, ◌-◌, ◌%◌, ◌<◌, ◌≤◌, List, [], ◌∷◌, ◌++◌, length, get_or, set, take, length-take, refl, sym, ◌∙◌, ap, subst, inl, inr, arith, zero, suc}
+use Rattle.std.proofs.lemmas.Bool.{cases_eq, cases_lt}
+use Rattle.std.proofs.lemmas.List.{get_or-set_same, get_or-set_other, get_or-take, get_or_past, length-set}
 use Rattle.drup_check.specs.Copies.{CopiesOf, AreChains, Holds, beginning, after}
 
 -- nothing is after the end
@@ -80,3 +80,21 @@ module _ (firsts nexts : List ℕ) (count k i : ℕ) (a : AreChains firsts nexts
       there = ap (λ m. after (set nexts k v) m s.steps) (first_other h d) ∙ after_low s.steps (beginning firsts h) (omega (arith, a.below (h % length firsts), counted)) ∙ s.there;
     }
   ]
+
+-- no chain has a clause
+pub cleared_more : (firsts : List ℕ) (k : ℕ) → k < length firsts → ((i : ℕ) → i < k → get_or firsts i 0 ≡ 0) → (i : ℕ) → i < k + 1 → get_or (set firsts k 0) i 0 ≡ 0
+cleared_more firsts k room all i h =
+    elim (cases_eq i k) [
+      | inl e ↦ ap (λ n. get_or (set firsts k 0) n 0) e ∙ get_or-set_same firsts k 0 0 room
+      | inr ne ↦ get_or-set_other firsts k i 0 0 ne ∙ all i (omega (arith, h, ne))
+    ]
+
+pub chains_cleared : (firsts nexts : List ℕ) (k n : ℕ) → 0 < length firsts → length firsts ≤ k → ((i : ℕ) → i < k → get_or firsts i 0 ≡ 0) → ((i : ℕ) → get_or nexts i 0 ≤ i) → AreChains firsts (take n nexts) 0
+chains_cleared firsts nexts k n some past all falls = record {
+  some = some;
+  below = λ i. elim (cases_lt i (length firsts)) [ inl h ↦ omega (arith, all i (omega (arith, h, past))) | inr h ↦ omega (arith, get_or_past firsts i 0 h) ];
+  falls = λ i. elim (cases_lt i (length (take n nexts))) [
+    | inl h ↦ subst (λ z. z ≤ i) (sym (get_or-take n nexts i 0 (omega (arith, h, length-take n nexts)))) (falls i)
+    | inr h ↦ omega (arith, get_or_past (take n nexts) i 0 h)
+  ];
+}

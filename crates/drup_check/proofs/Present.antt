@@ -8,7 +8,7 @@ use Rattle.cnf_form.specs.Cnf.{LitOf, SameClause, Conflict, IsReason, Removes, f
 use Rattle.cnf_form.proofs.Members.{take_one_more}
 use Rattle.cnf_form.proofs.Removal.{Closure-monotone, Closure-without, Removes-cases}
 use Rattle.unit_propagation.specs.Propagation.{HasFalsified, IsDerived}
-use Rattle.unit_propagation.specs.Propagator.{PropagatorOf, clauses_of, slot_at, IsPut, IsWanting}
+use Rattle.unit_propagation.specs.Propagator.{PropagatorOf, clauses_of, present, slot_at, IsPut, IsWanting}
 use Rattle.drup_check.specs.Marks.{Weighs, weight}
 use Rattle.drup_check.specs.Copies.{CopiesOf, Holds, beginning, after}
 use Rattle.drup_check.specs.Inside.{IsRoot, IsFree, IsFiled}
@@ -217,3 +217,28 @@ not_present p t marks c w e size shows none f d h s =
     let same : w ≡ v.0 = e ∙ weighs_same p.vars v.0 marks c d v.1 size shows s in
     let held = v.2 in
     none held.steps k.0 d (ap (λ a. after t.nexts (beginning t.firsts a) held.steps) same ∙ held.there) k.2 s
+
+-- only the clauses that are present stay
+clauses_present : (slots : List (Option (List LitOf))) → clauses_of (present slots) ≡ clauses_of slots
+clauses_present [] = refl
+clauses_present (Some c ∷ ss) = ap (λ z. c ∷ z) (clauses_present ss)
+clauses_present (None ∷ ss) = clauses_present ss
+
+length-present : (slots : List (Option (List LitOf))) → length (present slots) ≤ length slots
+length-present [] = omega arith
+length-present (Some c ∷ ss) = omega (arith, length-present ss)
+length-present (None ∷ ss) = omega (arith, length-present ss)
+
+module _ (p q : PropagatorOf) (e : q ≡ record p { slots = present p.slots }) where
+  pub clauses_collected : clauses_of q.slots ≡ clauses_of p.slots
+  clauses_collected = ap (λ (z : PropagatorOf). clauses_of z.slots) e ∙ clauses_present p.slots
+
+  pub fewer_collected : length q.slots ≤ length p.slots
+  fewer_collected = omega (arith, ap (λ (z : PropagatorOf). length z.slots) e, length-present p.slots)
+
+  pub root_collected : IsRoot p → IsRoot q
+  root_collected r = subst IsRoot (sym e) (record {
+    level = r.level;
+    derived = subst (λ F. IsDerived F p.trail) (sym (clauses_present p.slots)) r.derived;
+    falsified = λ c. subst (HasFalsified p.trail) (sym (clauses_present p.slots)) (r.falsified c);
+  })

@@ -87,6 +87,19 @@ impl Copies {
         Ok(())
     }
 
+    // Takes all clauses off their chains, and leaves places for so many.
+    pub fn clear(&mut self, clauses: usize)
+        requires { clauses ≤ length self.old.nexts }
+        ensures count { self.new.count ≡ 0 }
+        ensures places { length self.new.nexts ≡ clauses }
+    {
+        for chain in 0..self.firsts.len() {
+            self.firsts[chain] = 0;
+        }
+        self.nexts.truncate(clauses);
+        self.count = 0;
+    }
+
     // Enters a clause whose number is higher than those of all that were entered.
     pub fn enter(&mut self, weight: u32, k: u32)
         requires count { self.old.count ≤ k }

@@ -14,7 +14,7 @@ mod marks;
 use admission::{is_reason, reaches_conflict};
 use cnf_form::{Formula, Lit, MAX_VARS};
 use copies::Copies;
-use lookup::{file_all, find_clause};
+use lookup::{file_all, file_present, find_clause};
 use marks::weigh;
 use std::alloc::{AllocError, Global};
 use std::marker::Model;
@@ -203,19 +203,6 @@ impl Checker {
         self.dead = self.dead.saturating_add(clause.len());
     }
 
-    // A checker of the clauses that are present.
-    fn anew(&self) -> Result<Self, AllocError>
-        ensures { IfOk result (λ k. k ≡ record { vars = self.now.vars; clauses = self.now.clauses; refuted = false; out_of_memory = false }) }
-    {
-        let mut checker = Checker::empty(self.alloc, self.core.vars())?;
-        for place in 0..self.core.len() {
-            if let Some(clause) = self.core.clause(place as u32) {
-                checker.keep(clause)?;
-            }
-        }
-        Ok(checker)
-    }
-
     // Whether most literals are those of deleted clauses, and a table by variable is smaller.
     fn is_sparse(&self) -> bool {
         self.dead > FEW && self.dead > self.live && self.dead > self.core.vars() as usize
@@ -228,12 +215,12 @@ impl Checker {
         if !self.is_sparse() {
             return;
         }
-        let Ok(mut checker) = self.anew() else {
+        if self.core.collect().is_err() {
             return;
-        };
-        checker.refuted = self.refuted;
-        checker.out_of_memory = self.out_of_memory;
-        *self = checker;
+        }
+        self.copies.clear(self.core.len());
+        file_present(&self.core, &mut self.copies, &mut self.marks);
+        self.dead = 0;
     }
 
     /// Deletes one copy of a clause over the formula's variables. Does nothing where there is none, where unit propagation

@@ -86,6 +86,22 @@ pub(crate) fn find_clause(
     found
 }
 
+// Files the clauses that are present in chains that are empty.
+pub(crate) fn file_present(core: &Propagator, copies: &mut Copies, marks: &mut [bool])
+    requires free { IsFree core.now.vars marks.old }
+    requires empty { copies.old.count ≡ 0 }
+    requires places { length copies.old.nexts ≡ length core.now.slots }
+    ensures free { IsFree core.now.vars marks.new }
+    ensures filed { IsFiled core.now copies.new }
+{
+    for k in 0..core.len() {
+        if let Some(clause) = core.clause(k as u32) {
+            let weight = weigh(clause, marks);
+            copies.enter(weight, k as u32);
+        }
+    }
+}
+
 // The clauses that are present in so many chains.
 pub(crate) fn file_all(
     alloc: Global,
@@ -99,11 +115,6 @@ pub(crate) fn file_all(
     ensures filed { IfOk result (λ t. IsFiled core.now t) }
 {
     let mut copies = Copies::new(alloc, chains, core.len())?;
-    for k in 0..core.len() {
-        if let Some(clause) = core.clause(k as u32) {
-            let weight = weigh(clause, marks);
-            copies.enter(weight, k as u32);
-        }
-    }
+    file_present(core, &mut copies, marks);
     Ok(copies)
 }

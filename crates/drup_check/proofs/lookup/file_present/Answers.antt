@@ -1,7 +1,7 @@
 use Rattle.std.proofs.Common.{◌≡◌, ◌+◌, ◌*◌, length, ◌∙◌, arith, rules}
 use Rattle.drup_check.proofs.Present.{filed_more, filed_none}
-use Rattle.drup_check.proofs.lookup.file_all.Goals.{in-Some, in_default}
-use Rattle.drup_check.proofs.lookup.file_all.Goals as goal
+use Rattle.drup_check.proofs.lookup.file_present.Goals.{in-Some, in_default}
+use Rattle.drup_check.proofs.lookup.file_present.Goals as goal
 
 pub loop-k-preserved : goal.loop-k-preserved
 loop-k-preserved c =

@@ -5,7 +5,7 @@ use Rattle.unit_propagation.specs.Propagator.{slot_at}
 use Rattle.drup_check.specs.Copies.{Holds}
 use Rattle.drup_check.specs.Marks.{Weighs}
 use Rattle.drup_check.specs.Inside.{IsFree}
-use Rattle.drup_check.proofs.lookup.file_all.Given as goal
+use Rattle.drup_check.proofs.lookup.file_present.Given as goal
 
 abbrev pub invariant-loop-k : goal.invariant-loop-k
 invariant-loop-k l = record {
