@@ -5,45 +5,13 @@ ghost use Rattle.cnf_form.specs.Cnf.{negate, LitWithin};
 ghost use Rattle.unit_propagation.specs.Propagation.{IsOpen};
 ghost use Rattle.cdcl_core.specs.Levels.{IsTotal};
 
+use crate::open::{is_open, open_of};
 use crate::order::Order;
 use cnf_form::{Formula, Lit};
 use unit_propagation::Propagator;
 
 // A shorter last clause isn't taken for a goal.
 const LEAST_GOAL: usize = 4;
-
-// Whether a literal is neither true nor false.
-fn is_open(core: &Propagator, l: Lit) -> bool
-    requires { l.var ≤ core.now.vars }
-    ensures yes { IsTrue result → IsOpen core.now.trail l }
-    ensures no { result ≡ false → Contains core.now.trail l ⊎ Contains core.now.trail (negate l) }
-{
-    if core.is_true(l) {
-        return false;
-    }
-    if core.is_true(l.negate()) {
-        return false;
-    }
-    true
-}
-
-// A literal that is not false, if the clause has one and none is true.
-fn open_of(core: &Propagator, clause: &[Lit]) -> Option<Lit>
-    ensures { IfSome result (λ l. LitWithin core.now.vars l × IsOpen core.now.trail l) }
-{
-    let mut open = None;
-    for l in clause {
-        let l = *l;
-        let var = l.var();
-        if var == 0 || var > core.vars() || core.is_true(l) {
-            return None;
-        }
-        if open.is_none() && is_open(core, l) {
-            open = Some(l);
-        }
-    }
-    open
-}
 
 // The literal of an open variable, with the sign that it had last.
 fn open_by_order(core: &Propagator, order: &mut Order) -> Option<Lit>
@@ -96,17 +64,20 @@ pub(crate) fn has_goal(formula: &Formula) -> bool {
     clauses.len() > 0 && is_goal(clauses.get(clauses.len() - 1))
 }
 
-// A literal that is open: of the formula's last clause first, if that looks like a goal, then in order. None where all variables
-// have values.
+// A literal that is open: one that is guessed, else of the formula's last clause first, if that looks like a goal, then in order.
+// None where all variables have values.
 pub(crate) fn choose(core: &Propagator, order: &mut Order, formula: &Formula) -> Option<Lit>
     ensures some { IfSome result (λ l. LitWithin core.now.vars l × IsOpen core.now.trail l) }
     ensures none { IfNone result (IsTotal core.now) }
     ensures room { length core.now.trail ≤ 2 * core.now.vars + 2 }
 {
     let _room = core.trail().len();
+    if let Some(l) = order.luck.next(core, formula) {
+        return Some(l);
+    }
     let clauses = formula.clauses();
     if order.has_goal() && clauses.len() > 0 {
-        if let Some(l) = open_of(core, clauses.get(clauses.len() - 1)) {
+        if let Some(l) = open_of(core, clauses.get(clauses.len() - 1), None) {
             return Some(l);
         }
     }

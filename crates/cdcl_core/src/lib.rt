@@ -8,6 +8,8 @@ mod learn;
 mod learnts;
 mod load;
 mod log;
+mod luck;
+mod open;
 mod order;
 mod pace;
 mod reduce;

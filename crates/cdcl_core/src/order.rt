@@ -2,6 +2,7 @@
 
 ghost use Rattle.std.specs.Prelude.{◌<◌};
 
+use crate::luck::Luck;
 use cnf_form::Lit;
 use std::alloc::{AllocError, Global};
 
@@ -19,6 +20,7 @@ pub(crate) struct Order {
     signs: Vec<bool>,
     step: u64,
     has_goal: bool,
+    pub(crate) luck: Luck,
     calm: bool,
     targets: Vec<bool>,
     longest: usize,
@@ -45,6 +47,7 @@ impl Order {
             signs,
             step: 1 << 20,
             has_goal,
+            luck: Luck::new(has_goal),
             calm: false,
             targets,
             longest: 0,
@@ -191,10 +194,10 @@ impl Order {
         top
     }
 
-    // Puts a variable that isn't in the heap, with the sign that it had.
+    // Puts a variable that isn't in the heap, with the sign that it had, unless that was guessed.
     pub fn put(&mut self, var: u32, sign: bool) -> Result<(), AllocError> {
         let index = var as usize;
-        if index < self.signs.len() {
+        if index < self.signs.len() && !self.luck.is_left() {
             self.signs[index] = sign;
         }
         if index < self.places.len() && self.places[index] == NO_PLACE {

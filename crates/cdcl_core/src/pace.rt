@@ -107,6 +107,14 @@ impl Pace {
         })
     }
 
+    // Forgets the conflicts that were counted.
+    pub fn begin(&mut self) {
+        self.counted = 0;
+        self.since = 0;
+        self.fast = 0;
+        self.slow = 0;
+    }
+
     // On how many levels the literals of a clause became false.
     pub fn glue(&mut self, core: &Propagator, clause: &[Lit]) -> u32 {
         self.clock = self.clock.saturating_add(1);

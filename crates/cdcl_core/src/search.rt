@@ -86,6 +86,7 @@ pub(crate) fn find(
     }
     if anew {
         restart(core, order)?;
+        order.luck.advance();
     }
     decide_on(core, order, formula)
 }

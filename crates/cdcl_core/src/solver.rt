@@ -102,8 +102,11 @@ fn satisfying(alloc: Global, core: &Propagator) -> Result<Vec<bool>, AllocError>
     Ok(values)
 }
 
-// Makes the variables that a conflict rested on more active.
+// Makes the variables that a conflict rested on more active, unless it came of a guess.
 fn bump_all(analysis: &Analysis, order: &mut Order) {
+    if order.luck.is_left() {
+        return;
+    }
     for l in analysis.current() {
         order.bump(l.var());
     }
@@ -271,7 +274,11 @@ fn next_turn<L: Log>(
     ensures later { L.faults log.old ≤ L.faults log.new }
     ensures cause { result ≡ Ok (Turn.Answered Solved.LogFailed) → Rose (L.faults log.old) (L.faults log.new) }
 {
-    let anew = tools.pace.is_due();
+    let guesses = tools.order.luck.is_left();
+    if guesses {
+        tools.pace.begin();
+    }
+    let anew = tools.pace.is_due() || guesses;
     match find(core, &mut tools.order, formula, pending, anew)? {
         Found::Assigned => {
             let values = satisfying(alloc, core)?;

@@ -132,14 +132,16 @@ fn tell_fault<S: Sink>(alloc: Global, fault: DimacsFault, sink: &mut S) -> u8
     }
 }
 
-// Serves the bytes of a file.
-fn serve<S: Sink>(alloc: Global, bytes: &[u8], budget: u64, sink: &mut S) -> u8
-    requires { length bytes.now ≤ 2 ^ 32 }
+// Serves the bytes of a file, whose memory is given back before the search.
+fn serve<S: Sink>(alloc: Global, bytes: Vec<u8>, budget: u64, sink: &mut S) -> u8
+    requires { length bytes.items ≤ 2 ^ 32 }
     ensures { (told : _) (faults : ℕ) → (result ≡ 32) ⊎ IsServed
         (record { told = told; file_faults = faults; taken = S.taken sink.old; sink_faults = S.faults sink.old })
-        (record { told = told; file_faults = faults; taken = S.taken sink.new; sink_faults = S.faults sink.new }) bytes.now budget result }
+        (record { told = told; file_faults = faults; taken = S.taken sink.new; sink_faults = S.faults sink.new }) bytes.items budget result }
 {
-    match read_dimacs(alloc, bytes) {
+    let read = read_dimacs(alloc, &bytes);
+    drop(bytes);
+    match read {
         Ok(Ok(formula)) => answer(alloc, &formula, budget, sink),
         Ok(Err(fault)) => tell_fault(alloc, fault, sink),
         Err(AllocError) => OUT_OF_MEMORY,
@@ -171,7 +173,7 @@ fn run_asked<F: Files, S: Sink>(
         conflicts file.now result }
 {
     match files.get(alloc, file, MOST) {
-        Ok(Got::All(bytes)) => serve(alloc, &bytes, budget_of(conflicts), sink),
+        Ok(Got::All(bytes)) => serve(alloc, bytes, budget_of(conflicts), sink),
         Ok(Got::Long(_)) => refuse(sink, b"c fault: long\n"),
         Err(Fail::Failed) => refuse(sink, b"c fault: file\n"),
         Err(Fail::Memory) => OUT_OF_MEMORY,

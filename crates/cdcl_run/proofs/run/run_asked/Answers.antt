@@ -6,11 +6,11 @@ use Rattle.cdcl_run.proofs.run.run_asked.Goals as goal
 pub returns-in-Ok-All-clause-done : goal.returns-in-Ok-All-clause-done
 returns-in-Ok-All-clause-done g c =
     let e = c.in-Ok-All.ensures in
-    let bytes = c.deref.result.now in
+    let bytes = c.in-Ok-All.bytes.items in
     let told = g.F.Files.told c.args.files.now in
     let before : World = record { told = told; file_faults = g.F.Files.faults c.args.files.now; taken = g.S.Sink.taken c.args.sink.now; sink_faults = g.S.Sink.faults c.args.sink.now } in
     let after : World = record { told = g.F.Files.told c.get.new.self; file_faults = g.F.Files.faults c.get.new.self; taken = g.S.Sink.taken c.serve.new.sink; sink_faults = g.S.Sink.faults c.serve.new.sink } in
-    let a : AreAll c.in-Ok-All.field-0 bytes = subst (λ z. AreAll z bytes) (sym c.in-Ok-All.field-0-is) c.deref.ensures.value in
+    let a : AreAll c.in-Ok-All.field-0 bytes = subst (λ z. AreAll z bytes) (sym c.in-Ok-All.field-0-is) refl in
     elim (c.serve.ensures told (g.F.Files.faults c.args.files.now)) [
       | inl n ↦ inl n
       | inr s ↦ inr (inr (bytes, content_all told c.args.file.now (2 ^ 32) c.in-Ok-All.field-0 bytes a e.content, e.cause.ok refl, subst (λ z. IsServed before after bytes z c.serve.result) c.budget_of.ensures s))

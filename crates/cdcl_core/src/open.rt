@@ -1,0 +1,45 @@
+// Literals that are open: neither true nor false.
+
+ghost use Rattle.std.specs.Prelude.{◌≡◌, ◌≤◌, false, IsTrue, IfSome, Contains, ◌⊎◌};
+ghost use Rattle.cnf_form.specs.Cnf.{negate, LitWithin};
+ghost use Rattle.unit_propagation.specs.Propagation.{IsOpen};
+
+use cnf_form::Lit;
+use unit_propagation::Propagator;
+
+// Whether a literal is neither true nor false.
+pub(crate) fn is_open(core: &Propagator, l: Lit) -> bool
+    requires { l.var ≤ core.now.vars }
+    ensures yes { IsTrue result → IsOpen core.now.trail l }
+    ensures no { result ≡ false → Contains core.now.trail l ⊎ Contains core.now.trail (negate l) }
+{
+    if core.is_true(l) {
+        return false;
+    }
+    if core.is_true(l.negate()) {
+        return false;
+    }
+    true
+}
+
+// The first literal that is not false, and has this sign if one is given, if the clause has one and none is true.
+pub(crate) fn open_of(core: &Propagator, clause: &[Lit], negated: Option<bool>) -> Option<Lit>
+    ensures { IfSome result (λ l. LitWithin core.now.vars l × IsOpen core.now.trail l) }
+{
+    let mut open = None;
+    for l in clause {
+        let l = *l;
+        let var = l.var();
+        if var == 0 || var > core.vars() || core.is_true(l) {
+            return None;
+        }
+        let fits = match negated {
+            Some(negated) => l.is_negated() == negated,
+            None => true,
+        };
+        if fits && open.is_none() && is_open(core, l) {
+            open = Some(l);
+        }
+    }
+    open
+}
