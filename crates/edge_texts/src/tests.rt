@@ -6,4 +6,5 @@ mod memory;
 mod reports;
 mod rings;
 mod scripts;
+mod settled;
 mod terms;

@@ -1,231 +1,162 @@
-// A judge of streams for design T, fed by hand.
+// A judge fed by hand: streams in three pieces at each place, and what the end answers behind that.
 
-ghost use Rattle.std.specs.Prelude.{◌≡◌, ◌≤◌, ◌^◌, IfOk, IfErr};
+ghost use Rattle.std.specs.Prelude.{◌≡◌, ◌≤◌, ◌^◌, ℕ, List, IfOk, None, Ok};
+ghost use Rattle.judge.specs.Judging.{Took};
 ghost use Rattle.judge.specs.Problem.{IsJob};
 
-use judge::{Judge, Problem, Progress};
-use run_scenes::{END, HEAD, NOT, REGISTER, T, joined};
-use sby_terms::{Answer, JobName, Mode, Span};
+use judge::{Finding, Judge, Problem, Progress};
+use run_scenes::T;
+use sby_terms::{Answer, JobName, Mode, Settled, Span};
 use std::alloc::{AllocError, Global};
 use std::test::Fail;
-use stream_judge::{BadCert, CertKind, StreamKind};
+use stream_judge::{BadCert, StreamKind};
 
-// What a judge answered.
-#[derive(Clone, Copy, Debug, PartialEq, Eq)]
-enum Told {
-    Unsat,
-    // With a run of so many cycles.
-    Sat(usize),
-    Unknown,
-    More,
-    Bad(BadCert),
-}
+// What a judge told: by a letter, for a finding with the number of its run's cycles, or by a refusal's number and byte.
+type Told = (u8, u64);
 
-fn bad(kind: CertKind, at: u64) -> Told {
-    Told::Bad(BadCert { kind, at })
-}
-
-fn told_by(answer: &Result<Progress, BadCert>) -> Told {
-    match answer {
-        Ok(Progress::More) => Told::More,
-        Ok(Progress::Unknown) => Told::Unknown,
-        Ok(Progress::Done(finding)) => match finding.answer() {
-            Answer::Unsat => Told::Unsat,
-            Answer::Sat => match finding.run() {
-                Some(run) => Told::Sat(run.cycles()),
-                None => Told::Sat(0),
-            },
-        },
-        Err(bad) => Told::Bad(*bad),
+// What a copy of a finding tells.
+fn found(finding: &Finding) -> Told {
+    let Ok(copy) = finding.copy() else {
+        return (b'M', 0);
+    };
+    match (copy.answer(), copy.run()) {
+        (Answer::Unsat, _) => (b'U', 0),
+        (Answer::Sat, Some(run)) => (b'S', run.cycles() as u64),
+        (Answer::Sat, None) => (b'S', 0),
     }
 }
 
-fn problem_of(alloc: Global, design: &[&str], depth: u32) -> Result<Problem, Fail>
+// None where more is wanted.
+fn told(answer: &Result<Result<Progress, BadCert>, AllocError>) -> Option<Told>
+    ensures { result ≡ None → answer.now ≡ Ok (Ok Progress.More) }
+{
+    match answer {
+        Ok(Ok(Progress::More)) => None,
+        Ok(Ok(Progress::Done(finding))) => Some(found(finding)),
+        Ok(Ok(Progress::Unknown)) => Some((b'N', 0)),
+        Ok(Err(bad)) => Some((bad.kind.number(), bad.at)),
+        Err(_) => Some((b'M', 0)),
+    }
+}
+
+fn fed(judge: &mut Judge, piece: &[u8]) -> Option<Told>
+    requires { (bytes : List ℕ) × Took judge.old bytes }
+    ensures { result ≡ None → (bytes : List ℕ) × Took judge.new bytes }
+{
+    told(&judge.feed(piece))
+}
+
+// What is told of three pieces, and at the end again.
+fn fed_whole(judge: &mut Judge, one: &[u8], two: &[u8], three: &[u8]) -> Option<Told>
+    requires { (bytes : List ℕ) × Took judge.old bytes }
+{
+    let before = fed_pieces(judge, one, two, three);
+    let end = told(&judge.end());
+    if before.is_some() && before != end {
+        return None;
+    }
+    end
+}
+
+fn fed_pieces(judge: &mut Judge, one: &[u8], two: &[u8], three: &[u8]) -> Option<Told>
+    requires { (bytes : List ℕ) × Took judge.old bytes }
+{
+    if let Some(told) = fed(judge, one) {
+        return Some(told);
+    }
+    if let Some(told) = fed(judge, two) {
+        return Some(told);
+    }
+    fed(judge, three)
+}
+
+fn judged(
+    alloc: Global,
+    problem: &Problem,
+    most: u32,
+    one: &[u8],
+    two: &[u8],
+    three: &[u8],
+) -> Result<Option<Told>, AllocError>
+    requires { IsJob problem.now (JobName.Base 0) }
+{
+    let most = u64::from(most.max(1));
+    let mut judge = Judge::new(alloc, problem, JobName::Base(0), StreamKind::Drup, most)?;
+    Ok(fed_whole(&mut judge, one, two, three))
+}
+
+// Whether a stream comes to this, wherever one byte of it is a piece of its own.
+fn comes_to(
+    alloc: Global,
+    problem: &Problem,
+    most: u32,
+    stream: &[u8],
+    wanted: Told,
+) -> Result<bool, AllocError>
+    requires { IsJob problem.now (JobName.Base 0) }
+{
+    for cut in 0..=stream.len() {
+        let (one, rest) = stream.split_at(cut.min(stream.len()));
+        let (two, three) = rest.split_at(rest.len().min(1));
+        if judged(alloc, problem, most, one, two, three)? != Some(wanted) {
+            return Ok(false);
+        }
+    }
+    Ok(true)
+}
+
+fn problem_of(alloc: Global, depth: u32) -> Result<Problem, Fail>
     requires least { 1 ≤ depth }
     requires most { depth ≤ 100000 }
     ensures { IfOk result (λ p. IsJob p (JobName.Base 0)) }
 {
-    let text = joined(alloc, design)?;
+    let text = Vec::from_slice(alloc, T.as_bytes())?;
     match Problem::new(alloc, text, Mode::Bmc, Span::whole(depth))? {
         Ok(problem) => Ok(problem),
         Err(_) => Err(Fail::from("refused")),
     }
 }
 
-// What a judge answers to a stream in two pieces.
-fn judged(
+// The first of these streams that comes to something else, behind how many bytes are taken.
+fn wrong_row<'a>(
     alloc: Global,
     problem: &Problem,
-    most: u64,
-    first: &[u8],
-    second: &[u8],
-) -> Result<Told, AllocError>
-    requires job { IsJob problem.now (JobName.Base 0) }
-    requires least { 1 ≤ most }
-    requires limit { most ≤ 2 ^ 32 }
+    rows: &[(u32, &'a str, Told)],
+) -> Result<Option<&'a str>, AllocError>
+    requires { IsJob problem.now (JobName.Base 0) }
 {
-    let mut judge = Judge::new(alloc, problem, JobName::Base(0), StreamKind::Drup, most)?;
-    match judge.feed(first)? {
-        Ok(Progress::More) => {}
-        answer => return Ok(told_by(&answer)),
+    for (most, stream, wanted) in rows {
+        if !comes_to(alloc, problem, *most, stream.as_bytes(), *wanted)? {
+            return Ok(Some(*stream));
+        }
     }
-    match judge.feed(second)? {
-        Ok(Progress::More) => {}
-        answer => return Ok(told_by(&answer)),
-    }
-    Ok(told_by(&judge.end()?))
+    Ok(None)
 }
+
+// The job's formula has one variable, so that these are all values.
+const OF_ONE_CYCLE: [(u32, &str, Told); 9] = [
+    (100, "c hello\n-1 0\n0\n", (b'U', 0)),
+    (100, "c hello\n-1 0\n", (48, 13)),
+    (100, "s UNKNOWN\n", (b'N', 0)),
+    (100, "x", (41, 0)),
+    (100, "v -1 0\n", (45, 1)),
+    (100, "v 1 0\n", (45, 2)),
+    (4, "c x\n0\n", (47, 4)),
+    (5, "c x\n0\n", (47, 5)),
+    (6, "c x\n0\n", (b'U', 0)),
+];
+
+const OF_TWO_CYCLES: [(u32, &str, Told); 3] = [
+    (100, "0\n", (44, 0)),
+    (100, "v\nv 1 0\n", (b'S', 2)),
+    (100, "v -1 0\n", (45, 1)),
+];
 
 #[test]
 fn pieces_change_nothing(rt: HostRuntime) -> Result<(), Fail> {
-    let problem = problem_of(rt.alloc(), &[T], 1)?;
-    let stream = b"c hello\n-1 0\n0\n";
-    for cut in 1..15 {
-        let answer = judged(rt.alloc(), &problem, 100, &stream[..cut], &stream[cut..])?;
-        assert_eq!(rt; answer, Told::Unsat, "{cut}");
-    }
-    for length in 0..14 {
-        let answer = judged(rt.alloc(), &problem, 100, &stream[..length], b"")?;
-        assert_eq!(rt; answer, bad(CertKind::EarlyEnd, length as u64), "{length}");
-    }
-    Ok(())
-}
-
-#[test]
-fn streams_past_the_limit(rt: HostRuntime) -> Result<(), Fail> {
-    let problem = problem_of(rt.alloc(), &[T], 1)?;
-    let stream = b"c x\n0\n";
-    for (most, answer) in [
-        (4, bad(CertKind::TooLong, 4)),
-        (5, bad(CertKind::TooLong, 5)),
-        (6, Told::Unsat),
-    ] {
-        assert_eq!(rt;
-            judged(rt.alloc(), &problem, most, stream, b"")?,
-            answer,
-            "{most}"
-        );
-    }
-    Ok(())
-}
-
-#[test]
-fn values_over_no_assertion(rt: HostRuntime) -> Result<(), Fail> {
-    let problem = problem_of(rt.alloc(), &[HEAD, NOT, REGISTER, END], 5)?;
-    let answer = judged(rt.alloc(), &problem, 100, b"v 0\n", b"")?;
-    assert_eq!(rt; answer, bad(CertKind::NotSatisfying, 1));
-    Ok(())
-}
-
-// The number of a job's variables, and of its clauses.
-fn counts_of(problem: &Problem) -> Option<(u32, u64)>
-    requires { IsJob problem.now (JobName.Base 0) }
-{
-    let text = str::from_utf8(problem.job_bytes(JobName::Base(0))).ok()?;
-    let header = text.lines().next()?;
-    let mut words = header.split(' ').skip(2);
-    let vars = words.next()?.parse::<u32>().ok()?;
-    let clauses = words.next()?.parse::<u64>().ok()?;
-    Some((vars, clauses))
-}
-
-// Values in three lines, each behind the word v: those of the variables whose bit of the number is set are true.
-fn values(alloc: Global, vars: u32, number: u32) -> Result<String, AllocError> {
-    let mut text = String::new(alloc);
-    for line in 0..3 {
-        text.push_str("v")?;
-        for var in 1..=vars {
-            if var % 3 == line {
-                let sign = if (number >> ((var - 1) % 32)) % 2 == 1 {
-                    ""
-                } else {
-                    "-"
-                };
-                text.push_str(format!(in alloc; " {sign}{var}")?.as_str())?;
-            }
-        }
-        text.push_str(if line == 2 { " 0\n" } else { "\n" })?;
-    }
-    Ok(text)
-}
-
-// How many values of all variables came to an answer.
-#[derive(Clone, Copy, Debug, PartialEq, Eq)]
-struct Tried {
-    // Sat, with a run of two cycles.
-    two_cycles: u32,
-    // NotSatisfying, at a clause before the last, and at the last.
-    before: u32,
-    last: u32,
-    other: u32,
-}
-
-fn counted(tried: Tried, answer: Told, clauses: u64) -> Tried {
-    match answer {
-        Told::Sat(2) => Tried {
-            two_cycles: tried.two_cycles.saturating_add(1),
-            ..tried
-        },
-        Told::Bad(
-            BadCert {
-                kind: CertKind::NotSatisfying,
-                at,
-            },
-        ) if at < clauses => Tried {
-            before: tried.before.saturating_add(1),
-            ..tried
-        },
-        Told::Bad(
-            BadCert {
-                kind: CertKind::NotSatisfying,
-                at,
-            },
-        ) if at == clauses => Tried {
-            last: tried.last.saturating_add(1),
-            ..tried
-        },
-        _ => Tried {
-            other: tried.other.saturating_add(1),
-            ..tried
-        },
-    }
-}
-
-// Tries all values of at most ten variables.
-fn try_all(alloc: Global, problem: &Problem) -> Result<Tried, Fail>
-    requires { IsJob problem.now (JobName.Base 0) }
-{
-    let (vars, clauses) = counts_of(problem).ok_or("no header")?;
-    let mut tried = Tried {
-        two_cycles: 0,
-        before: 0,
-        last: 0,
-        other: 0,
-    };
-    for number in 0..1u32 << vars.min(10) {
-        let stream = values(alloc, vars, number)?;
-        let answer = judged(alloc, problem, 1000, stream.as_bytes(), b"")?;
-        tried = counted(tried, answer, clauses);
-    }
-    Ok(tried)
-}
-
-#[test]
-fn values_of_two_cycles(rt: HostRuntime) -> Result<(), Fail> {
-    let problem = problem_of(rt.alloc(), &[T], 2)?;
-    let tried = try_all(rt.alloc(), &problem)?;
-    assert_eq!(rt; tried.two_cycles, 1);
-    assert!(rt; tried.before > 0);
-    assert_eq!(rt; tried.other, 0);
-    Ok(())
-}
-
-#[test]
-fn values_of_one_cycle(rt: HostRuntime) -> Result<(), Fail> {
-    let problem = problem_of(rt.alloc(), &[T], 1)?;
-    let tried = try_all(rt.alloc(), &problem)?;
-    assert_eq!(rt; tried.two_cycles, 0);
-    assert!(rt; tried.last > 0);
-    assert_eq!(rt; tried.other, 0);
+    let problem = problem_of(rt.alloc(), 1)?;
+    assert_eq!(rt; wrong_row(rt.alloc(), &problem, &OF_ONE_CYCLE)?, None);
+    let problem = problem_of(rt.alloc(), 2)?;
+    assert_eq!(rt; wrong_row(rt.alloc(), &problem, &OF_TWO_CYCLES)?, None);
     Ok(())
 }

@@ -1,7 +1,6 @@
-// Runs of designs that are read from texts and of a counter, and formulas of their jobs.
+// Runs of designs that are read from texts, and formulas of their jobs.
 
 mod cone;
-mod counters;
 mod designs;
 mod played;
 mod registers;

@@ -1,9 +1,6 @@
 // The tests, by subject.
 
-mod drup;
 mod formulas;
 mod judges;
-mod lrat;
-mod outputs;
 mod propagation;
-mod streams;
+mod steps;

@@ -1,4 +1,4 @@
-// Runs that no scene can tell: into other output, of other bytes, and with a job's file that isn't told whole.
+// Runs that no scene can tell: into other output, and of other bytes.
 
 ghost use Rattle.std.specs.Prelude.{None};
 
@@ -97,54 +97,9 @@ fn is_refused<H: Threads + Wait + SystemClock + Sync + Alloc<A = Global>>(
 
 #[test]
 fn other_bytes_are_refused(rt: HostRuntime) -> Result<(), Fail> {
-    assert!(rt; is_refused(&rt, 3, NOT_TEXT)?);
-    // The most bytes of a task file, and one more.
-    assert!(rt; is_refused(&rt, 0x100_0000, NOT_TEXT)?);
-    assert!(rt; is_refused(&rt, 0x100_0001, LIMIT)?);
-    Ok(())
-}
-
-// What a run leaves as the job's file.
-#[derive(Clone, Copy, Debug, PartialEq, Eq)]
-enum JobFile {
-    Falsum,
-    Formula,
-    Other,
-    Missing,
-}
-
-fn job_file_of(content: Option<&[u8]>) -> JobFile {
-    match content {
-        None => JobFile::Missing,
-        Some(b"p cnf 1 1\n0\n") => JobFile::Falsum,
-        Some(bytes) if bytes.starts_with(b"p cnf ") => JobFile::Formula,
-        Some(_) => JobFile::Other,
-    }
-}
-
-fn job_file<H: Threads + Wait + SystemClock + Sync + Alloc<A = Global>>(
-    rt: &H,
-    design: &str,
-) -> Result<JobFile, Fail> {
-    let head = "file s0 0|\nwords --judge t.il bmc 2 s0";
-    match read_scene(rt.alloc(), NAMES, head, design)? {
-        Some(scene) => Ok(job_file_of(run(rt, &scene)?.files.content("t/model/base.cnf"))),
-        None => Ok(JobFile::Other),
-    }
-}
-
-#[test]
-fn job_files_are_put(rt: HostRuntime) -> Result<(), Fail> {
-    for (design, file) in [
-        ("file t.il <HEAD>|<NOT>|<REGISTER>|<END>", JobFile::Falsum),
-        ("file t.il <T>", JobFile::Formula),
-        (
-            "file t.il <HEAD>|<NOT>|<NOT>|<REGISTER>|<END>",
-            JobFile::Missing,
-        ),
-        ("file t.il x", JobFile::Missing),
-    ] {
-        assert_eq!(rt; job_file(&rt, design)?, file);
+    // The last two: the most bytes of a task file, and one more.
+    for (size, told) in [(3, NOT_TEXT), (0x100_0000, NOT_TEXT), (0x100_0001, LIMIT)] {
+        assert!(rt; is_refused(&rt, size, told)?, "{size}");
     }
     Ok(())
 }

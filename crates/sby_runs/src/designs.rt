@@ -11,6 +11,7 @@ words --judge t.il bmc 5 s0
 > SBY [t] design: 1 register bits, 0 assert, 0 assume, 0 cover
 > SBY [t] base: UNSAT
 > SBY [t] DONE (PASS, rc=0)
+left t/model/base.cnf p cnf 1 1|0|
 
 file t.il <OPEN_HEAD>|<NOT>|<REGISTER>|<ASSERT>|<END>
 file s0 0|
@@ -26,6 +27,7 @@ words --judge t.il bmc 1 s0
 rc 16
 > SBY [t] ERROR: rtlil byte 0: Syntax
 > SBY [t] DONE (ERROR, rc=16)
+missing t/model/base.cnf
 
 file t.il <HEAD>|<NO_TYPE>|<END>
 file s0 0|
@@ -54,6 +56,7 @@ words --judge t.il bmc 1 s0
 rc 16
 > SBY [t] ERROR: design TwoDrivers \\d [0]
 > SBY [t] DONE (ERROR, rc=16)
+missing t/model/base.cnf
 
 file t.il <HEAD>|<REGISTER>|<FALLING>|<END>
 file s0 0|

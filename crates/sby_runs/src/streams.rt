@@ -24,6 +24,7 @@ rc 16
 > SBY [t] design: 1 register bits, 1 assert, 0 assume, 0 cover
 > SBY [t] engine_0 base: certificate NotRup at byte 4
 > SBY [t] DONE (ERROR, rc=16)
+left t/model/base.cnf p cnf 1 2|1 0|-1 1 0|
 
 file s0 c hello|-1 0|0|
 words --judge t.il bmc 1 s0

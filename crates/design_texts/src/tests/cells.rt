@@ -1,162 +1,57 @@
-// A register that turns over in each cycle, built as a reader builds it, and read back.
+// A design with a cell, as it is read, and lines of the table of cells.
 
+use crate::tests::design_of;
 use cell_table::kind::{Kind, Unary};
 use design_core::cell::Cell;
-use design_core::design::Design;
-use design_core::digit::{Constant, Digit};
-use design_core::names::{ParameterName, PortName, known_parameter, known_port};
+use design_core::names::{ParameterName, PortName};
 use design_core::next::{NextState, next_state};
-use design_core::parts::names_parameter;
 use design_core::table::{Role, ports, role_of};
-use design_core::wire::{StartDigits, Wire};
-use design_signals::chunk::Chunk;
 use design_signals::sig_bit::SigBit;
-use design_signals::signal::Signal;
-use design_signals::stored::StoredSignal;
-use std::alloc::Global;
 use std::test::Fail;
 
-fn bit(wire: u32) -> SigBit {
-    SigBit::Wire(wire, 0)
-}
+// No `$not` has a port CI.
+const TURNED: &str = r"module \t
+    attribute \init 1'0
+    wire \q
+    wire \d
+    wire \y
+    cell $not $n
+        parameter \A_SIGNED 0 parameter \A_WIDTH 1 parameter \Y_WIDTH 1'1
+        connect \A \q connect \Y \d connect \CI \d
+    end
+    connect { \y \d } 2'xx
+end";
 
-fn stored(alloc: Global, first: SigBit) -> Result<StoredSignal, Fail> {
-    let mut signal = Signal::new(alloc);
-    if let SigBit::Wire(wire, _) = first {
-        signal.push(Chunk {
-            first: bit(wire),
-            width: 1,
-        })?;
-    }
-    Ok(StoredSignal::new(alloc, signal)?)
-}
-
-fn add_wire(
-    alloc: Global,
-    design: &mut Design,
-    name: &str,
-    start: Option<bool>,
-) -> Result<(), Fail> {
-    if design.bits() + design.free() >= 1000 {
-        return Err(Fail::from("not built"));
-    }
-    let mut digits = Vec::new(alloc);
-    digits.push(start)?;
-    let mut inits = Vec::new(alloc);
-    inits.push(StartDigits::new(digits))?;
-    let name = String::from_str(alloc, name)?;
-    design.push_wire(Wire::new(name, 1, false, inits))?;
-    Ok(())
-}
-
-fn add_parameter(cell: &mut Cell, name: &str, constant: Constant) -> Result<(), Fail> {
-    let Some(name) = known_parameter(name) else {
-        return Err(Fail::from("an unknown parameter"));
+fn has_parts(cell: &Cell) -> bool {
+    let [output] = cell.output() else {
+        return false;
     };
-    if !names_parameter(cell.kind(), name) || cell.has_parameter(name) {
-        return Err(Fail::from("not built"));
-    }
-    cell.push_parameter(name, constant)?;
-    Ok(())
+    output.first == SigBit::Wire(1, 0)
+        && cell.name() == "$n"
+        && cell.kind() == Kind::Unary(Unary::Not)
+        && cell.foreign().len() == 1
 }
 
-fn add_port(alloc: Global, cell: &mut Cell, name: &str, first: SigBit) -> Result<(), Fail> {
-    let Some(name) = known_port(name) else {
-        cell.push_foreign(String::from_str(alloc, name)?)?;
-        return Ok(());
-    };
-    if cell.has_port(name) {
-        return Err(Fail::from("not built"));
-    }
-    cell.push_port(name, stored(alloc, first)?)?;
-    Ok(())
+fn has_numbers(cell: &Cell) -> bool {
+    cell.number(ParameterName::AWidth) == Some(1)
+        && cell.number(ParameterName::YWidth) == Some(1)
+        && cell.number(ParameterName::Width).is_none()
 }
 
-fn add_cell(design: &mut Design, cell: Cell) -> Result<(), Fail> {
-    if !design.declares_cell(&cell) || design.cells().len() >= 1000 {
-        return Err(Fail::from("not built"));
-    }
-    design.push_cell(cell)?;
-    Ok(())
-}
-
-fn add_connect(alloc: Global, design: &mut Design, left: u32, right: u32) -> Result<(), Fail> {
-    let (left, right) = (stored(alloc, bit(left))?, stored(alloc, bit(right))?);
-    if !design.declares_all(left.chunks())
-        || !design.declares_all(right.chunks())
-        || design.connects().len() >= 1000
-    {
-        return Err(Fail::from("not built"));
-    }
-    design.push_connect(left, right)?;
-    Ok(())
-}
-
-fn toggle(alloc: Global) -> Result<Design, Fail> {
-    let mut design = Design::new(alloc, String::from_str(alloc, "\\t")?);
-    add_wire(alloc, &mut design, "\\q", Some(false))?;
-    add_wire(alloc, &mut design, "\\d", None)?;
-    add_wire(alloc, &mut design, "\\y", None)?;
-    let mut not = Cell::new(
-        alloc,
-        Kind::Unary(Unary::Not),
-        String::from_str(alloc, "$n")?,
-    );
-    add_parameter(&mut not, "A_SIGNED", Constant::number_of(0, 32))?;
-    add_parameter(&mut not, "A_WIDTH", Constant::number_of(1, 32))?;
-    let mut digits = Vec::new(alloc);
-    digits.push(Digit::Const(true))?;
-    add_parameter(&mut not, "Y_WIDTH", Constant::new(alloc, digits)?)?;
-    add_port(alloc, &mut not, "A", bit(0))?;
-    add_port(alloc, &mut not, "Y", bit(1))?;
-    add_port(alloc, &mut not, "CI", bit(1))?;
-    add_cell(&mut design, not)?;
-    add_connect(alloc, &mut design, 2, 1)?;
-    Ok(design)
+fn has_signals(cell: &Cell) -> bool {
+    cell.signal(PortName::A).len() == 1
+        && cell.signal(PortName::Y).len() == 1
+        && cell.signal(PortName::Q).is_empty()
 }
 
 #[test]
-fn design_is_as_built(rt: HostRuntime) -> Result<(), Fail> {
-    let alloc = rt.alloc();
-    let mut design = toggle(alloc)?;
-    if design.bits() + design.free() >= 1000 {
-        return Err(Fail::from("not built"));
-    }
-    assert!(rt;
-        design.number_free(2) == 0 && design.free() == 2,
-        "other free bits"
-    );
-    assert!(rt;
-        design.name() == "\\t" && design.bits() == 3,
-        "another design"
-    );
-    let [cell] = design.cells() else {
+fn design_is_as_read(rt: HostRuntime) -> Result<(), Fail> {
+    let design = design_of(rt.alloc(), TURNED)?;
+    assert!(rt; design.name() == "\\t" && design.bits() == 3 && design.free() == 2);
+    let ([cell], [connect]) = (design.cells(), design.connects()) else {
         return Err(Fail::from("other cells"));
     };
-    assert!(rt;
-        cell.name() == "$n" && cell.kind() == Kind::Unary(Unary::Not),
-        "another cell"
-    );
-    for (name, want) in [
-        (ParameterName::AWidth, Some(1)),
-        (ParameterName::YWidth, Some(1)),
-        (ParameterName::Width, None),
-    ] {
-        assert!(rt; cell.number(name) == want, "another number");
-    }
-    for (name, want) in [(PortName::A, 1), (PortName::Y, 1), (PortName::Q, 0)] {
-        assert!(rt; cell.signal(name).len() == want, "another signal");
-    }
-    let [output] = cell.output() else {
-        return Err(Fail::from("another output"));
-    };
-    assert!(rt;
-        output.first == bit(1) && cell.foreign().len() == 1,
-        "other ports"
-    );
-    let [connect] = design.connects() else {
-        return Err(Fail::from("other connects"));
-    };
+    assert!(rt; has_parts(cell) && has_numbers(cell) && has_signals(cell));
     assert!(rt; connect.cells_before() == 1, "another place");
     Ok(())
 }

@@ -1,9 +1,7 @@
 // The model of a register that turns over in each cycle, with an assertion on what it takes next.
 
-use crate::tests::checked;
-use model_core::model::WordModel;
-use std::alloc::Global;
-use std::test::*;
+use crate::tests::flat_of;
+use std::test::Fail;
 use word_model::build::build;
 
 const TOGGLE: &str = r"module \t
@@ -22,26 +20,14 @@ const TOGGLE: &str = r"module \t
     cell $assert \a connect \A \d connect \EN 1'1 end
 end";
 
-fn toggle(alloc: Global) -> Result<WordModel, Fail> {
-    let flat = checked(alloc, TOGGLE)?.map_err(|_| Fail::from("not flat"))?;
-    Ok(build(alloc, &flat)?)
-}
-
 #[test]
 fn register_is_modelled(rt: HostRuntime) -> Result<(), Fail> {
-    let model = toggle(rt.alloc())?;
-    assert_eq!(rt;
-        (model.nodes(), model.registers(), model.inputs().len()),
-        (1, 1, 1)
-    );
-    assert_eq!(rt; model.starts(), [Some(false)].as_slice());
-    assert_eq!(rt;
-        (
-            model.asserts().len(),
-            model.assumes().len(),
-            model.covers().len()
-        ),
-        (1, 0, 0)
+    let flat = flat_of(rt.alloc(), TOGGLE)?;
+    let model = build(rt.alloc(), &flat)?;
+    assert!(rt; model.nodes() == 1 && model.registers() == 1 && model.inputs().len() == 1);
+    assert!(rt; model.starts() == [Some(false)].as_slice());
+    assert!(rt;
+        model.asserts().len() == 1 && model.assumes().is_empty() && model.covers().is_empty()
     );
     Ok(())
 }

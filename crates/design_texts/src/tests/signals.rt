@@ -1,13 +1,13 @@
 // Worked signals: what slices, concatenations and rows have, bit by bit.
 
-use design_signals::bits::{Bits, is_same, push_bits};
+use design_signals::bits::{is_same, push_bits};
 use design_signals::chunk::Chunk;
 use design_signals::digits::push_below;
 use design_signals::segments::Segments;
 use design_signals::sig_bit::SigBit;
 use design_signals::signal::Signal;
 use design_signals::stored::StoredSignal;
-use std::process::Abort;
+use std::alloc::{AllocError, Global};
 use std::test::Fail;
 
 const WORD: Chunk = Chunk {
@@ -25,30 +25,39 @@ const FREE: Chunk = Chunk {
     width: 3,
 };
 
-fn expect_bits(rt: &impl Abort, signal: &StoredSignal, want: &[SigBit]) {
-    let mut left = Bits::new(signal.chunks());
-    for bit in want {
-        assert!(rt; left.next() == Some(*bit), "another bit");
+// Whether a signal has these bits.
+fn has_bits(alloc: Global, signal: &StoredSignal, want: &[SigBit]) -> Result<bool, AllocError> {
+    let mut bits = Vec::new(alloc);
+    push_bits(&mut bits, signal.chunks())?;
+    Ok(bits.as_slice() == want && signal.len() == want.len())
+}
+
+fn high(alloc: Global) -> Result<Signal, AllocError> {
+    let mut high = Signal::new(alloc);
+    high.push(ONES)?;
+    high.push(FREE)?;
+    Ok(high)
+}
+
+// A word, and ones and free bits above it.
+fn whole(alloc: Global) -> Result<Signal, AllocError> {
+    let high = high(alloc)?;
+    let mut low = Signal::new(alloc);
+    low.push(WORD)?;
+    low.joined(high.chunks())
+}
+
+fn part(alloc: Global) -> Result<StoredSignal, Fail> {
+    let whole = whole(alloc)?;
+    if whole.len() < 8 || whole.bit(3) != SigBit::Const(true) {
+        return Err(Fail::from("another bit"));
     }
-    assert!(rt; left.next().is_none(), "more bits");
-    assert!(rt; signal.len() == want.len(), "another length");
+    Ok(StoredSignal::new(alloc, whole.slice(alloc, 2, 5)?)?)
 }
 
 #[test]
 fn slices_and_joins(rt: HostRuntime) -> Result<(), Fail> {
-    let alloc = rt.alloc();
-    let mut low = Signal::new(alloc);
-    low.push(WORD)?;
-    let mut high = Signal::new(alloc);
-    high.push(ONES)?;
-    high.push(FREE)?;
-    let whole = low.joined(high.chunks())?;
-    if whole.len() < 8 {
-        return Err(Fail::from("too short"));
-    }
-    assert!(rt; whole.bit(3) == SigBit::Const(true), "another bit");
-    let part = whole.slice(alloc, 2, 5)?;
-    let stored = StoredSignal::new(alloc, part)?;
+    let part = part(rt.alloc())?;
     let want = [
         SigBit::Wire(0, 4),
         SigBit::Const(true),
@@ -56,32 +65,37 @@ fn slices_and_joins(rt: HostRuntime) -> Result<(), Fail> {
         SigBit::Free(7),
         SigBit::Free(6),
     ];
-    expect_bits(&rt, &stored, &want);
-    let mut bits = Vec::new(alloc);
-    push_bits(&mut bits, stored.chunks())?;
-    assert!(rt; bits.as_slice() == want.as_slice(), "other bits");
-    assert!(rt; is_same(stored.chunks(), stored.chunks()), "not the same");
-    assert!(rt; !is_same(stored.chunks(), high.chunks()), "the same");
+    assert!(rt; has_bits(rt.alloc(), &part, &want)?, "other bits");
+    assert!(rt; is_same(part.chunks(), part.chunks()), "not the same");
+    assert!(rt; !is_same(part.chunks(), &[ONES, FREE]), "the same");
     Ok(())
 }
 
-#[test]
-fn rows_are_read_from_the_highest_bit(rt: HostRuntime) -> Result<(), Fail> {
-    let alloc = rt.alloc();
+// A slice of a wire, and free bits behind it.
+fn rows(alloc: Global) -> Result<Segments, AllocError> {
     let mut rows = Segments::new(alloc);
     rows.open()?;
     rows.push(FREE)?;
     rows.join();
     rows.push_wire(1, 4)?;
     rows.slice(alloc, 2, 1)?;
-    if rows.len() < 2 {
-        return Err(Fail::from("too few rows"));
+    Ok(rows)
+}
+
+fn joined(alloc: Global) -> Result<StoredSignal, Fail> {
+    let mut rows = rows(alloc)?;
+    if rows.len() >= 2 {
+        rows.join();
     }
-    rows.join();
     if rows.len() != 1 {
         return Err(Fail::from("other rows"));
     }
-    let stored = StoredSignal::new(alloc, rows.into_signal(alloc)?)?;
+    Ok(StoredSignal::new(alloc, rows.into_signal(alloc)?)?)
+}
+
+#[test]
+fn rows_are_read_from_the_highest_bit(rt: HostRuntime) -> Result<(), Fail> {
+    let joined = joined(rt.alloc())?;
     let want = [
         SigBit::Wire(1, 1),
         SigBit::Wire(1, 2),
@@ -89,7 +103,7 @@ fn rows_are_read_from_the_highest_bit(rt: HostRuntime) -> Result<(), Fail> {
         SigBit::Free(6),
         SigBit::Free(5),
     ];
-    expect_bits(&rt, &stored, &want);
+    assert!(rt; has_bits(rt.alloc(), &joined, &want)?, "other bits");
     Ok(())
 }
 

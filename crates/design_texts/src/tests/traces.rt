@@ -1,143 +1,127 @@
 // Runs of wires alone, written and read.
 
-use design_check::check::check;
+use crate::tests::flat_of;
 use design_check::flat::Flat;
-use design_core::design::Design;
-use design_core::wire::Wire;
-use design_meaning::run::{Cycle, Row, Run, Shown};
-use design_trace::{TextFault, cycle_text, read_text, text, vcd, vcd_cycle, vcd_end, vcd_head};
-use std::alloc::Global;
-use std::process::Abort;
+use design_meaning::run::{Cycle, Row, Run};
+use design_trace::{cycle_text, read_text, text, vcd, vcd_cycle, vcd_end, vcd_head};
+use std::alloc::{AllocError, Global};
 use std::test::Fail;
 
-// The first run below as a trace file.
+const WIRES: &str = r"module \t wire \clk wire \q wire \d end";
+
+// A run of two cycles of these wires as a trace file, and as a text.
 const CHANGES: &str =
     "$scope module t $end\n$var wire 1 w0 clk $end\n$var wire 1 w1 q $end\n$var wire 1 w2 d $end\n\
 $upscope $end\n$enddefinitions $end\n#0\n0w0\n0w1\n1w2\n#1\n0w0\n1w1\n0w2\n#2\n";
 
 const TRACE: &str = "cycle 0\n\\clk 0\n\\q 0\n\\d 1\ncycle 1\n\\clk 0\n\\q 1\n\\d 0\n";
 
-fn add_wire(alloc: Global, design: &mut Design, name: &str, width: u32) -> Result<(), Fail> {
-    if width == 0 || width > 64 || design.bits() + design.free() > 900_000 {
-        return Err(Fail::from("not built"));
-    }
-    let name = String::from_str(alloc, name)?;
-    design.push_wire(Wire::new(name, width, false, Vec::new(alloc)))?;
-    Ok(())
+const ROWS: [[bool; 3]; 2] = [[false, false, true], [false, true, false]];
+
+fn cycle_of(alloc: Global, bits: &[bool]) -> Result<Cycle, AllocError> {
+    Ok(Cycle::new(
+        Row::new(Vec::from_slice(alloc, bits)?),
+        Row::new(Vec::new(alloc)),
+        Row::new(Vec::new(alloc)),
+    ))
 }
 
-fn flat_of(alloc: Global, wires: &[(&str, u32)]) -> Result<Flat, Fail> {
-    let name = String::from_str(alloc, "\\t")?;
-    let mut design = Design::new(alloc, name);
-    for (name, width) in wires {
-        add_wire(alloc, &mut design, name, *width)?;
-    }
-    match check(alloc, design)? {
-        Ok(flat) => Ok(flat),
-        Err(_) => Err(Fail::from("not flat")),
-    }
-}
-
-fn row_of(alloc: Global, bits: &[bool]) -> Result<Row, Fail> {
-    Ok(Row::new(Vec::from_slice(alloc, bits)?))
-}
-
-fn run_of(alloc: Global, cycles: &[&[bool]]) -> Result<Run, Fail> {
+fn run_of(alloc: Global, rows: &[[bool; 3]]) -> Result<Run, Fail> {
     let mut run = Run::new(alloc);
-    for wires in cycles {
-        let wires = row_of(alloc, wires)?;
-        run.push(Cycle::new(wires, row_of(alloc, &[])?, row_of(alloc, &[])?))?;
+    for row in rows {
+        run.push(cycle_of(alloc, row)?)?;
     }
     Ok(run)
 }
 
-// The run's text, and its trace file.
-fn written(alloc: Global, flat: &Flat, run: &Run) -> Result<(Vec<u8>, Vec<u8>), Fail> {
-    if !flat.fits(run) {
-        return Err(Fail::from("no run of this design"));
-    }
-    Ok((text(alloc, flat, run)?, vcd(alloc, flat, run)?))
+fn is_written(alloc: Global, flat: &Flat, run: &Run) -> Result<bool, AllocError> {
+    Ok(
+        flat.fits(run)
+            && text(alloc, flat, run)?.as_slice() == TRACE.as_bytes()
+            && vcd(alloc, flat, run)?.as_slice() == CHANGES.as_bytes(),
+    )
 }
 
-// The same, cycle by cycle.
-fn written_in_pieces(alloc: Global, flat: &Flat, run: &Run) -> Result<(Vec<u8>, Vec<u8>), Fail> {
-    if !flat.fits(run) {
-        return Err(Fail::from("no run of this design"));
-    }
-    let mut text = Vec::new(alloc);
-    let mut changes = vcd_head(alloc, flat)?;
-    let mut number = 0;
-    for cycle in run.cycles() {
-        text.extend_from_slice(&cycle_text(alloc, flat, cycle, number)?)?;
-        changes.extend_from_slice(&vcd_cycle(alloc, flat, cycle, number)?)?;
-        number += 1;
-    }
-    changes.extend_from_slice(&vcd_end(alloc, number)?)?;
-    Ok((text, changes))
-}
-
-fn read(alloc: Global, flat: &Flat, bytes: &[u8]) -> Result<Result<Shown, TextFault>, Fail> {
-    Ok(read_text(alloc, flat, bytes)?)
+// Whether these rows are read from the text.
+fn is_read(alloc: Global, flat: &Flat, rows: &[[bool; 3]]) -> Result<bool, AllocError> {
+    let Ok(shown) = read_text(alloc, flat, TRACE.as_bytes())? else {
+        return Ok(false);
+    };
+    let shown = shown.rows();
+    Ok(
+        shown.len() == rows.len()
+            && shown
+                .iter()
+                .zip(rows)
+                .all(|(row, want)| row.as_slice() == want.as_slice()),
+    )
 }
 
 #[test]
 fn a_run_is_written_and_read(rt: HostRuntime) -> Result<(), Fail> {
-    let alloc = rt.alloc();
-    let flat = flat_of(alloc, &[("\\clk", 1), ("\\q", 1), ("\\d", 1)])?;
-    let cycles: [&[bool]; 2] = [&[false, false, true], &[false, true, false]];
-    let run = run_of(alloc, cycles.as_slice())?;
-    let (bytes, changes) = written(alloc, &flat, &run)?;
-    assert_eq!(rt; bytes.as_slice(), TRACE.as_bytes());
-    assert_eq!(rt; changes.as_slice(), CHANGES.as_bytes());
-    match read(alloc, &flat, bytes.as_slice())? {
-        Err(fault) => panic!(rt; "{fault:?}"),
-        Ok(shown) => {
-            assert_eq!(rt; shown.rows().len(), 2);
-            for (row, wires) in shown.rows().iter().zip(cycles) {
-                assert_eq!(rt; row.as_slice(), wires);
-            }
-        }
-    }
+    let flat = flat_of(rt.alloc(), WIRES)?;
+    let run = run_of(rt.alloc(), &ROWS)?;
+    assert!(rt; is_written(rt.alloc(), &flat, &run)?);
+    assert!(rt; is_read(rt.alloc(), &flat, &ROWS)?);
     Ok(())
+}
+
+// The head of a trace file of a wire of three bits and one of one.
+const VCD_HEAD: &str =
+    "$scope module t $end\n$var wire 3 w0 c $end\n$var wire 1 w1 d $end\n$upscope $end\n$enddefinitions $end\n";
+
+// The pieces of a run's text and of its trace file.
+fn pieces_of(alloc: Global, flat: &Flat, run: &Run) -> Result<bool, AllocError> {
+    let [cycle] = run.cycles() else {
+        return Ok(false);
+    };
+    Ok(
+        flat.fits(run)
+            && cycle_text(alloc, flat, cycle, 0)?.as_slice()
+                == b"cycle 0\n\\c 011\n\\d 1\n".as_slice()
+            && vcd_head(alloc, flat)?.as_slice() == VCD_HEAD.as_bytes()
+            && vcd_cycle(alloc, flat, cycle, 0)?.as_slice() == b"#0\nb011 w0\n1w1\n".as_slice()
+            && vcd_end(alloc, 1)?.as_slice() == b"#1\n".as_slice(),
+    )
 }
 
 #[test]
 fn bits_are_written_highest_first(rt: HostRuntime) -> Result<(), Fail> {
-    let alloc = rt.alloc();
-    let flat = flat_of(alloc, &[("\\c", 3), ("\\d", 1)])?;
-    let run = run_of(alloc, &[&[true, true, false, true]])?;
-    let (bytes, changes) = written_in_pieces(alloc, &flat, &run)?;
-    assert_eq!(rt; bytes.as_slice(), b"cycle 0\n\\c 011\n\\d 1\n".as_slice());
-    let head =
-        b"$scope module t $end\n$var wire 3 w0 c $end\n$var wire 1 w1 d $end\n$upscope $end\n$enddefinitions $end\n";
-    assert_eq!(rt; &changes[..changes.len().min(head.len())], head.as_slice());
-    assert_eq!(rt;
-        &changes[changes.len().min(head.len())..],
-        b"#0\nb011 w0\n1w1\n#1\n".as_slice()
-    );
+    let flat = flat_of(rt.alloc(), r"module \t wire width 3 \c wire \d end")?;
+    let mut run = Run::new(rt.alloc());
+    run.push(cycle_of(rt.alloc(), &[true, true, false, true])?)?;
+    assert!(rt; pieces_of(rt.alloc(), &flat, &run)?);
     Ok(())
+}
+
+// The byte at which a text of these wires has a fault.
+fn fault_of(alloc: Global, flat: &Flat, text: &str) -> Result<Option<u64>, AllocError> {
+    match read_text(alloc, flat, text.as_bytes())? {
+        Ok(_) => Ok(None),
+        Err(fault) => Ok(Some(fault.byte)),
+    }
 }
 
 #[test]
 fn other_bytes_are_faults(rt: HostRuntime) -> Result<(), Fail> {
-    let alloc = rt.alloc();
-    let flat = flat_of(alloc, &[("\\clk", 1), ("\\q", 1), ("\\d", 1)])?;
-    let bytes = TRACE.as_bytes();
-    let long = format!(in alloc; "{TRACE}cycle 3\n")?;
-    for (bytes, byte) in [
-        (b"".as_slice(), 0u64),
-        (&bytes[..bytes.len() - 1], 49),
-        (&bytes[..5], 5),
-        (b"cycle 1\n".as_slice(), 6),
-        (b"cycle 0\n\\clk 2\n".as_slice(), 13),
-        (b"cycle 0\n\\clk 00\n".as_slice(), 14),
-        (b"cycle 0\n\\q 0\n".as_slice(), 9),
-        (long.as_bytes(), 56),
+    let flat = flat_of(rt.alloc(), WIRES)?;
+    for (text, byte) in [
+        ("", 0),
+        (
+            "cycle 0\n\\clk 0\n\\q 0\n\\d 1\ncycle 1\n\\clk 0\n\\q 1\n\\d 0",
+            49,
+        ),
+        ("cycle", 5),
+        ("cycle 1\n", 6),
+        ("cycle 0\n\\clk 2\n", 13),
+        ("cycle 0\n\\clk 00\n", 14),
+        ("cycle 0\n\\q 0\n", 9),
+        (
+            "cycle 0\n\\clk 0\n\\q 0\n\\d 1\ncycle 1\n\\clk 0\n\\q 1\n\\d 0\ncycle 3\n",
+            56,
+        ),
     ] {
-        match read(alloc, &flat, bytes)? {
-            Ok(_) => panic!(rt; "{bytes:?}"),
-            Err(fault) => assert_eq!(rt; fault.byte, byte, "{bytes:?}"),
-        }
+        assert_eq!(rt; fault_of(rt.alloc(), &flat, text)?, Some(byte), "{text}");
     }
     Ok(())
 }

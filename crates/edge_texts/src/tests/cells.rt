@@ -2,47 +2,17 @@
 
 ghost use Rattle.std.specs.Prelude.{◌<◌, length};
 
+use crate::tests::settled::Given;
 use race_cells::{Cells, Settling};
-use sby_terms::{Answer, JobName, Settled};
+use sby_terms::JobName;
 use std::alloc::{AllocError, Global};
 use std::test::Fail;
 use std::thread;
 use std::thread::Threads;
 
-// An answer with the number of who gave it.
-#[derive(Drop)]
-struct Given {
-    by: u32,
-}
-
-impl Settled for Given {
-    ghost use Rattle.std.specs.Prelude.{[], refl};
-    ghost use Rattle.sby_terms.specs.Span.{whole};
-    ghost use Rattle.sby_terms.specs.declared.names.Mode.TheVariants.{Bmc};
-    ghost use Rattle.sby_terms.specs.declared.names.JobName.TheVariants.{Base};
-    ghost use Rattle.sby_terms.specs.declared.names.Answer.TheVariants.{Sat};
-
-    ghost problem = { λ _. record { text = []; mode = Bmc; span = whole 1 } };
-
-    ghost job = { λ _. Base 0 };
-
-    ghost answer = { λ _. Sat };
-
-    ghost is_true = { λ _. Unit {0} };
-
-    ghost one_answer = { λ a b _ _ _ _. refl };
-
-    fn job(&self) -> JobName {
-        JobName::Base(0)
-    }
-
-    fn answer(&self) -> Answer {
-        Answer::Sat
-    }
-
-    fn copy(&self) -> Result<Self, AllocError> {
-        Ok(Given { by: self.by })
-    }
+fn given(by: u32) -> Given {
+    let job = JobName::Base(0);
+    Given { job, by }
 }
 
 // Settles a cell by notes of its own, and answers whether it won, and who is found there.
@@ -50,7 +20,7 @@ fn offer(alloc: Global, cells: &Cells<Given>, by: u32) -> Result<(bool, Option<u
     requires { 0 < length cells.now }
 {
     let mut notes = cells.notes(alloc)?;
-    let won = match cells.settle(alloc, 0, Given { by }, &mut notes)? {
+    let won = match cells.settle(alloc, 0, given(by), &mut notes)? {
         Settling::Won => true,
         Settling::Lost(_) => false,
     };
@@ -63,12 +33,12 @@ fn the_first_wins(rt: HostRuntime) -> Result<(), Fail> {
     let cells = Cells::new(alloc, 2)?;
     let mut notes = cells.notes(alloc)?;
     assert!(rt; cells.look(1, &mut notes).is_none());
-    let first = cells.settle(alloc, 1, Given { by: 7 }, &mut notes)?;
+    let first = cells.settle(alloc, 1, given(7), &mut notes)?;
     assert!(rt; matches!(first, Settling::Won));
-    let second = cells.settle(alloc, 1, Given { by: 8 }, &mut notes)?;
-    assert!(rt; matches!(second, Settling::Lost(Given { by: 8 })));
+    let second = cells.settle(alloc, 1, given(8), &mut notes)?;
+    assert!(rt; matches!(second, Settling::Lost(Given { by: 8, .. })));
     let mut fresh = cells.notes(alloc)?;
-    assert!(rt; matches!(cells.look(1, &mut fresh), Some(Given { by: 7 })));
+    assert!(rt; matches!(cells.look(1, &mut fresh), Some(Given { by: 7, .. })));
     assert!(rt; cells.look(0, &mut fresh).is_none());
     Ok(())
 }
@@ -97,9 +67,8 @@ fn race<R: Threads + Sync>(
 fn one_of_two_wins(rt: HostRuntime) -> Result<(), Fail> {
     let cells = Cells::new(rt.alloc(), 1)?;
     let [one, two] = race(&rt, rt.alloc(), &cells)?;
-    assert!(rt; one.0 != two.0);
-    assert_eq!(rt; one.1, two.1);
-    assert_eq!(rt; one.1, Some(if one.0 { 1 } else { 2 }));
+    assert!(rt; one.0 != two.0 && one.1 == two.1);
+    assert!(rt; one.1 == Some(if one.0 { 1 } else { 2 }));
     Ok(())
 }
 
@@ -109,11 +78,11 @@ fn notes_are_joined(rt: HostRuntime) -> Result<(), Fail> {
     let cells = Cells::new(alloc, 2)?;
     let mut notes = cells.notes(alloc)?;
     let mut other = notes.again(alloc)?;
-    cells.settle(alloc, 0, Given { by: 1 }, &mut notes)?;
-    cells.settle(alloc, 1, Given { by: 2 }, &mut other)?;
+    cells.settle(alloc, 0, given(1), &mut notes)?;
+    cells.settle(alloc, 1, given(2), &mut other)?;
     notes.agree(&mut other);
     notes.join(other);
-    assert!(rt; matches!(cells.look(0, &mut notes), Some(Given { by: 1 })));
-    assert!(rt; matches!(cells.look(1, &mut notes), Some(Given { by: 2 })));
+    assert!(rt; matches!(cells.look(0, &mut notes), Some(Given { by: 1, .. })));
+    assert!(rt; matches!(cells.look(1, &mut notes), Some(Given { by: 2, .. })));
     Ok(())
 }

@@ -1,6 +1,6 @@
 // Designs, played cycle by cycle.
 
-ghost use Rattle.std.specs.Prelude.{◌≡◌, All, IsSome, IsTrue};
+ghost use Rattle.std.specs.Prelude.{◌≡◌, ◌≤◌, All, IsSome, IsTrue, length};
 ghost use Rattle.model_play.specs.declared.player.Stage.TheVariants.{Stepped};
 
 use design_check::check::check;
@@ -13,7 +13,7 @@ use std::alloc::Global;
 use std::test::Fail;
 use word_model::build::build;
 
-/// A run that was played: its cycles, and what the statements say in each.
+/// A run that was played: its cycles, and a sign for what the statements say in each.
 #[derive(Drop)]
 pub struct Played {
     pub flat: Flat,
@@ -66,37 +66,62 @@ fn cycle_of(alloc: Global, flat: &Flat, row: &[bool]) -> Result<Cycle, Fail> {
     ))
 }
 
-// Adds a line for each statement that says something in the player's cycle.
-fn say(
-    alloc: Global,
-    player: &Player,
-    model: &WordModel,
-    cycle: usize,
-    said: &mut String,
-) -> Result<(), Fail>
+// The first assertion that is broken in the player's cycle.
+fn first_broken(player: &Player, asserts: u32) -> Option<u32>
+    requires there { asserts ≤ length player.now.model.asserts }
+    requires stepped { player.now.stage ≡ Stepped }
+{
+    for place in 0..asserts {
+        if player.broken(place) {
+            return Some(place);
+        }
+    }
+    None
+}
+
+// The first cover statement that is reached in it.
+fn first_reached(player: &Player, covers: u32) -> Option<u32>
+    requires there { covers ≤ length player.now.model.covers }
+    requires stepped { player.now.stage ≡ Stepped }
+{
+    for place in 0..covers {
+        if player.reached(place) {
+            return Some(place);
+        }
+    }
+    None
+}
+
+// What statements say in a cycle: `.` nothing, `-` that it isn't assumed, `0` that the first assertion breaks, `x` both, and a letter
+// which cover statement is reached.
+fn sign(is_assumed: bool, broken: Option<u32>, reached: Option<u32>) -> &'static str {
+    match (is_assumed, broken, reached) {
+        (true, None, None) => ".",
+        (false, None, None) => "-",
+        (true, Some(0), None) => "0",
+        (false, Some(0), None) => "x",
+        (true, None, Some(0)) => "a",
+        (true, None, Some(1)) => "b",
+        (true, None, Some(2)) => "c",
+        _ => "?",
+    }
+}
+
+fn said_in(player: &Player, model: &WordModel) -> &'static str
     requires model { player.now.model ≡ model.now }
     requires stepped { player.now.stage ≡ Stepped }
 {
-    if !player.assumed() {
-        said.push_str(&format!(in alloc; "{cycle}: not assumed\n")?)?;
-    }
-    let Ok(asserts) = u32::try_from(model.asserts().len()) else {
-        return Err(Fail::from("too many assertions"));
+    let (Ok(asserts), Ok(covers)) = (
+        u32::try_from(model.asserts().len()),
+        u32::try_from(model.covers().len()),
+    ) else {
+        return "?";
     };
-    for place in 0..asserts {
-        if player.broken(place) {
-            said.push_str(&format!(in alloc; "{cycle}: {place} broken\n")?)?;
-        }
-    }
-    let Ok(covers) = u32::try_from(model.covers().len()) else {
-        return Err(Fail::from("too many cover statements"));
-    };
-    for place in 0..covers {
-        if player.reached(place) {
-            said.push_str(&format!(in alloc; "{cycle}: {place} reached\n")?)?;
-        }
-    }
-    Ok(())
+    sign(
+        player.assumed(),
+        first_broken(player, asserts),
+        first_reached(player, covers),
+    )
 }
 
 /// The run with these inputs, for each cycle a digit for each input. Each state bit has to have a digit that it starts with.
@@ -110,14 +135,14 @@ pub fn play(alloc: Global, text: &str, inputs: &[&str]) -> Result<Played, Fail> 
     player.begin(&[]);
     let mut run = Run::new(alloc);
     let mut said = String::new(alloc);
-    for (cycle, digits) in inputs.iter().enumerate() {
+    for digits in inputs {
         let bits = bits_of(alloc, digits)?;
         if bits.len() != model.inputs().len() {
             return Err(Fail::from("inputs of another length"));
         }
         player.step(&bits);
         run.push(cycle_of(alloc, &flat, player.row())?)?;
-        say(alloc, &player, &model, cycle, &mut said)?;
+        said.push_str(said_in(&player, &model))?;
     }
     Ok(Played { flat, run, said })
 }

@@ -129,9 +129,8 @@ fn registers_take_their_lines(rt: HostRuntime) -> Result<(), Fail> {
         for ((level, inputs), wanted) in RUNS.into_iter().zip(register.shown) {
             let text = text_of(alloc, &register, level)?;
             let played = play(alloc, &text, &inputs)?;
-            assert_eq!(rt;
-                shown(alloc, &played)?.as_str(),
-                wanted,
+            assert!(rt;
+                shown(alloc, &played)?.as_str() == wanted,
                 "{}",
                 register.kind
             );

@@ -29,21 +29,21 @@ const RUNS: [(&str, &str, &[&str], &str, &str); 3] = [
         "ARST",
         &["01", "00"],
         "cycle 0\n\\clk 0\n\\rst 1\n\\q 0\n\\d 1\ncycle 1\n\\clk 0\n\\rst 0\n\\q 0\n\\d 1\n",
-        "1: not assumed\n",
+        ".-",
     ),
     (
         "$adff",
         "ARST",
         &["00", "11"],
         "cycle 0\n\\clk 0\n\\rst 0\n\\q 1\n\\d 0\ncycle 1\n\\clk 1\n\\rst 1\n\\q 0\n\\d 1\n",
-        "0: not assumed\n0: 0 broken\n",
+        "x.",
     ),
     (
         "$sdff",
         "SRST",
         &["01", "00"],
         "cycle 0\n\\clk 0\n\\rst 1\n\\q 1\n\\d 0\ncycle 1\n\\clk 0\n\\rst 0\n\\q 0\n\\d 1\n",
-        "0: 0 broken\n1: not assumed\n",
+        "0-",
     ),
 ];
 
@@ -52,12 +52,11 @@ fn resets_are_read(rt: HostRuntime) -> Result<(), Fail> {
     let alloc = rt.alloc();
     for (kind, port, inputs, rows, said) in RUNS {
         let played = play(alloc, &text_of(alloc, kind, port)?, inputs)?;
-        assert_eq!(rt;
-            trace(alloc, &played)?.as_slice(),
-            rows.as_bytes(),
+        assert!(rt;
+            trace(alloc, &played)?.as_slice() == rows.as_bytes(),
             "{kind}"
         );
-        assert_eq!(rt; played.said.as_str(), said, "{kind}");
+        assert!(rt; played.said.as_str() == said, "{kind}");
     }
     Ok(())
 }

@@ -89,19 +89,9 @@ cycle 3
 
 // Designs, their inputs cycle by cycle, the rows of the run, and what statements say.
 const RUNS: [(&str, &[&str], &str, &str); 3] = [
-    (
-        COUNTED,
-        &["0", "1", "1", "0", "1"],
-        COUNTED_RUN,
-        "3: 0 broken\n",
-    ),
-    (
-        COVERED,
-        &["1", "0", "0", "1"],
-        COVERED_RUN,
-        "1: 0 reached\n2: 1 reached\n3: 2 reached\n",
-    ),
-    (INITIAL, &["1", "0", "1", "1"], INITIAL_RUN, "2: 0 broken\n"),
+    (COUNTED, &["0", "1", "1", "0", "1"], COUNTED_RUN, "...0."),
+    (COVERED, &["1", "0", "0", "1"], COVERED_RUN, ".abc"),
+    (INITIAL, &["1", "0", "1", "1"], INITIAL_RUN, "..0."),
 ];
 
 #[test]
