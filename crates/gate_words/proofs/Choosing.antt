@@ -1,12 +1,12 @@
 -- Choices between rows.
-use Rattle.std.proofs.Common.{◌≡◌, ℕ, zero, suc, ◌+◌, ◌-◌, ◌*◌, ◌/◌, ◌^◌, ◌<◌, ◌≤◌, Bool, true, false, cond, List, [], ◌∷◌, ◌++◌, length, take, drop, map, get_or, refl, sym, ◌∙◌, ap, subst, arith}
+use Rattle.std.proofs.Common.{◌≡◌, ℕ, zero, suc, ◌+◌, ◌-◌, ◌*◌, ◌/◌, ◌^◌, ◌<◌, ◌≤◌, Bool, true, false, cond, List, [], ◌∷◌, length, take, drop, get_or, refl, sym, ◌∙◌, ap, subst, arith}
 use Rattle.std.specs.Prelude.{All}
-use Rattle.std.proofs.lemmas.List.{length-map, length-take-le, take-map, take_all, take-take, drop-take}
+use Rattle.std.proofs.lemmas.List.{length-take-le, take-map, take_all, take-take, drop-take}
 use Rattle.std.proofs.Math.ListN.{length-drop, drop_of_length-le}
 use Rattle.std.proofs.Math.Seq.{drop-cons}
-use Rattle.std.proofs.lemmas.Nat.{mul-le, pow_pos}
+use Rattle.std.proofs.lemmas.Nat.{mul-le}
 use Rattle.std.specs.List.{drop-map}
-use Rattle.cnf_form.specs.Cnf.{LitOf, Assignment, Satisfies, LitWithin, lit_in}
+use Rattle.cnf_form.specs.Cnf.{LitOf, Assignment, LitWithin, lit_in}
 use Rattle.gate_graph.specs.Circuit.{GatesOf}
 use Rattle.gate_graph.specs.Laws.{keeps}
 use Rattle.std.proofs.Math.Nat.{pow-suc}

@@ -1,10 +1,10 @@
 -- What a chain of gates over a row gives.
-use Rattle.std.proofs.Common.{◌≡◌, ℕ, zero, suc, ◌+◌, ◌*◌, ◌^◌, ◌%◌, ◌<◌, ◌≤◌, Bool, true, false, cond, not, eqb, ◌&&◌, ◌||◌, ltb, leb, List, [], ◌∷◌, ◌++◌, length, length-append, take, get_or, refl, sym, ◌∙◌, ap, subst, inl, inr, add_comm, arith}
+use Rattle.std.proofs.Common.{◌≡◌, ℕ, suc, ◌+◌, ◌*◌, ◌^◌, ◌%◌, ◌<◌, ◌≤◌, Bool, true, false, cond, not, eqb, ◌&&◌, ◌||◌, ltb, leb, List, [], ◌∷◌, ◌++◌, length, length-append, take, refl, sym, ◌∙◌, ap, subst, inl, inr, add_comm, arith}
 use Rattle.std.proofs.lemmas.Bool.Decides.{nat_tests}
 use Rattle.std.proofs.Math.Nat.{pow-suc}
 use Rattle.std.specs.List.{count_by}
 use Rattle.std.specs.Prelude.{ℤ, pos, All, int_lt}
-use Rattle.cnf_form.specs.Cnf.{LitOf, Assignment, Satisfies, LitWithin, lit_in, negate}
+use Rattle.cnf_form.specs.Cnf.{LitOf, Assignment, LitWithin, lit_in, negate}
 use Rattle.gate_graph.specs.Circuit.{GatesOf, Continues, Means}
 use Rattle.gate_graph.specs.Laws.{keeps}
 use Rattle.gate_graph.proofs.OneTable.{lit_negated}
@@ -15,7 +15,6 @@ use Rattle.cell_table.specs.Cells.{either_one, bitwise, bit_row, is_compared}
 use Rattle.cell_table.specs.declared.kind.Compare.{Compare}
 use Rattle.sby_bits.proofs.RowLaws.{signed_again, row_again, extended_longer}
 use Rattle.std.proofs.lemmas.List.Sums.{sum_by-cons}
-use Rattle.std.proofs.lemmas.Int.{ints}
 use Rattle.std.proofs.lemmas.List.{take_all, get_or_append_left, get_or-append-add}
 use Rattle.std.proofs.lemmas.List.Elements.{All-nil, All-push}
 use Rattle.gate_words.specs.Words.{IsTurned}

@@ -1,30 +1,30 @@
 -- Rows that are moved by the number of another row.
-use Rattle.std.proofs.Common.{◌≡◌, ℕ, zero, suc, ◌+◌, ◌-◌, ◌*◌, ◌/◌, ◌%◌, ◌^◌, ◌<◌, ◌≤◌, Bool, true, false, cond, not, eqb, ◌&&◌, List, [], ◌∷◌, ◌++◌, length, take, drop, map, get_or, min, max, refl, sym, ◌∙◌, ap, subst, inl, inr, add_comm, arith}
-use Rattle.std.specs.Prelude.{All, ℤ, pos, negsuc, ◌+ℤ◌, ◌-ℤ◌, ◌*ℤ◌}
+use Rattle.std.proofs.Common.{◌≡◌, ℕ, zero, suc, ◌+◌, ◌-◌, ◌*◌, ◌/◌, ◌%◌, ◌^◌, ◌<◌, ◌≤◌, Bool, true, false, cond, not, eqb, ◌&&◌, List, [], ◌∷◌, length, take, drop, map, get_or, refl, sym, ◌∙◌, ap, inl, inr, add_comm, arith}
+use Rattle.std.specs.Prelude.{All, ℤ, pos, ◌-ℤ◌, ◌*ℤ◌}
 use Rattle.std.specs.Int.{int_div_euclid}
 use Rattle.std.specs.List.{drop-map}
 use Rattle.std.proofs.lemmas.Bool.{cases_lt}
 use Rattle.std.proofs.lemmas.Bool.Decides.{nat_tests}
-use Rattle.std.proofs.lemmas.List.{get_or_default, get_or_past, take-append-drop, length-take-le, length-map, take_all}
-use Rattle.std.proofs.Math.ListN.{length-drop, drop_of_length-le}
+use Rattle.std.proofs.lemmas.List.{get_or_default, get_or_past, take-append-drop, length-take-le}
+use Rattle.std.proofs.Math.ListN.{drop_of_length-le}
 use Rattle.std.proofs.Math.Nat.{pow-suc}
-use Rattle.std.proofs.lemmas.Nat.{pow-add, pow_pos, mul-le, shr-shr}
-use Rattle.cnf_form.specs.Cnf.{LitOf, Assignment, Satisfies, LitWithin, lit_in}
+use Rattle.std.proofs.lemmas.Nat.{pow-add, pow_pos, mul-le}
+use Rattle.cnf_form.specs.Cnf.{LitOf, Assignment, LitWithin, lit_in}
 use Rattle.gate_graph.specs.Circuit.{GatesOf, Continues, Means}
-use Rattle.gate_graph.specs.Laws.{keeps, Continues-trans}
-use Rattle.sby_bits.specs.Rows.{Row, num, snum, top_bit, fit, value, residue, low_bits}
+use Rattle.gate_graph.specs.Laws.{keeps}
+use Rattle.sby_bits.specs.Rows.{Row, num, snum, top_bit, fit, value, low_bits}
 use Rattle.sby_bits.specs.Words.{filled_number, some_bit, moved_number}
-use Rattle.sby_bits.proofs.Numbers.{bit_of, length-fit, fit-at, filled-at, down-at, whole, row_is, copied_down, num-take, num-take-lt, top_bit-at, extended}
+use Rattle.sby_bits.proofs.Numbers.{length-fit, fit-at, filled-at, down-at, whole, copied_down, num-take, top_bit-at, extended}
 use Rattle.sby_bits.proofs.Moves.{num-append, up_saturated, down_saturated, snum_ones}
 use Rattle.sby_bits.proofs.Residues.{fit-residue}
 use Rattle.sby_bits.proofs.RowLaws.{num-fit, row_again, extended_longer, extended_bits}
 use Rattle.cell_table.specs.Cells.{mux_fn, left_shift_fn, right_shift_fn, sign_shift_fn, any_shift_fn}
 use Rattle.gate_rows.specs.Literals.{Builds, MeansRow, MeansBit, row_of}
-use Rattle.gate_rows.proofs.Building.{Row-same, Builds-none, Builds-trans, Builds-more, All-later, length-row, read, fit_long}
+use Rattle.gate_rows.proofs.Building.{Builds-none, Builds-trans, length-row, read, fit_long}
 use Rattle.gate_words.specs.declared.shifts.Way.{Way}
 use Rattle.gate_words.specs.declared.shifts.Way.TheVariants.{Up, Down}
-use Rattle.gate_words.specs.Words.{moved_row, way_lits, IsMoved, square}
-use Rattle.gate_words.proofs.Modulo.{one_row, Near-mul, Near-fit, Near-pos, again_fit}
+use Rattle.gate_words.specs.Words.{moved_row, IsMoved, square}
+use Rattle.cell_rows.proofs.Cuts.{one_row, Near-mul, Near-fit, Near-pos, again_fit}
 use Rattle.gate_words.proofs.Choosing.{length-mux}
 
 pub length-moved : (w : Way) (x : Assignment) (r : Row) (q : ℕ) → length (moved_row w x r q) ≡ length r

@@ -4,16 +4,15 @@ use Rattle.std.specs.Prelude.{All, ℤ, pos, negsuc, ◌+ℤ◌, ◌-ℤ◌, uns
 use Rattle.std.proofs.lemmas.Int.{ints}
 use Rattle.std.proofs.lemmas.Bool.{cases_lt, false≢true}
 use Rattle.std.proofs.lemmas.Bool.Decides.{nat_tests}
-use Rattle.std.proofs.lemmas.List.{reverse-append, length-reverse, length-take-le, length-map, take_all, take-map, get_or_append_left, get_or-append-add}
+use Rattle.std.proofs.lemmas.List.{reverse-append, length-reverse, length-map, take_all, take-map, get_or_append_left, get_or-append-add}
 use Rattle.std.proofs.lemmas.List.Elements.{All-nil, All-push}
-use Rattle.std.proofs.Math.ListN.{length-drop, drop_of_length-le}
+use Rattle.std.proofs.Math.ListN.{drop_of_length-le}
 use Rattle.std.proofs.Math.Seq.{drop-cons}
 use Rattle.std.proofs.Math.Nat.{pow-suc, pow-le-pow_right}
 use Rattle.std.proofs.lemmas.Nat.{pow_pos, mul-le, div-mul-add, mod-mul-add}
-use Rattle.std.specs.List.{drop-map}
 use Rattle.cnf_form.specs.Cnf.{LitOf, Assignment, Satisfies, LitWithin, lit_in, negate}
 use Rattle.gate_graph.specs.Circuit.{GatesOf, Continues, Means}
-use Rattle.gate_graph.specs.Laws.{keeps, Continues-refl, Continues-trans}
+use Rattle.gate_graph.specs.Laws.{keeps, Continues-trans}
 use Rattle.gate_graph.proofs.OneTable.{lit_negated}
 use Rattle.sby_bits.specs.Rows.{Row, num, snum, top_bit, fit, value}
 use Rattle.sby_bits.specs.Words.{quotient, remainder}
@@ -26,11 +25,11 @@ use Rattle.cell_table.specs.declared.kind.Divide.TheVariants.{Div, Mod}
 use Rattle.gate_rows.specs.Literals.{Builds, MeansRow, MeansBit, row_of}
 use Rattle.gate_rows.specs.Sums.{at, IsSum}
 use Rattle.gate_rows.proofs.Adding.{map_push}
-use Rattle.gate_rows.proofs.Building.{Row-same, Builds-none, Builds-trans, Builds-more, All-later, later, length-row, read, fit_long}
+use Rattle.gate_rows.proofs.Building.{Builds-none, Builds-trans, Builds-more, All-later, later, length-row, read, fit_long}
 use Rattle.gate_rows.proofs.Dividing.{divide_on, divide_off}
 use Rattle.gate_words.specs.Division.{IsZeros, IsStep, IsPlace, IsQuotient, IsDivided, divided_gates}
 use Rattle.gate_words.specs.Words.{square}
-use Rattle.gate_words.proofs.Modulo.{Near-pos, row_near, difference_cut}
+use Rattle.cell_rows.proofs.Cuts.{row_near, difference_cut}
 use Rattle.gate_words.proofs.Choosing.{length-mux}
 use Rattle.gate_words.proofs.Moving.{num-split, cut_again}
 

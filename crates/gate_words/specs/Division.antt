@@ -1,8 +1,8 @@
 -- Division, place by place from the highest.
-use Rattle.std.specs.Prelude.{◌≡◌, ℕ, ◌<◌, ◌≤◌, ◌+◌, ◌-◌, ◌*◌, ◌^◌, ◌&&◌, ◌⊎◌, Bool, false, cond, eqb, leb, List, ◌∷◌, length, take, drop, reverse, All, slice_index_or}
+use Rattle.std.specs.Prelude.{◌≡◌, ℕ, ◌<◌, ◌≤◌, ◌+◌, ◌-◌, ◌*◌, ◌^◌, ◌&&◌, ◌⊎◌, false, cond, eqb, leb, List, ◌∷◌, length, take, drop, reverse, All, slice_index_or}
 use Rattle.cnf_form.specs.Cnf.{LitOf, Assignment, Satisfies, LitWithin, lit_in}
-use Rattle.gate_graph.specs.Circuit.{GatesOf, Continues, Means}
-use Rattle.sby_bits.specs.Rows.{Row, num}
+use Rattle.gate_graph.specs.Circuit.{GatesOf, Means}
+use Rattle.sby_bits.specs.Rows.{num}
 use Rattle.gate_rows.specs.Literals.{Builds, row_of}
 
 -- for each number of places up to j a literal says whether that many of the highest bits are all 0

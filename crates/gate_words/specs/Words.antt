@@ -1,5 +1,5 @@
 -- What a circuit gives and adds.
-use Rattle.std.specs.Prelude.{◌≡◌, ℕ, ◌+◌, ◌*◌, ◌^◌, ◌⊎◌, List, [], ◌∷◌, ◌++◌, length, take, drop, All, ◌&&◌, ◌||◌, pos, ◌+ℤ◌, ◌-ℤ◌, ◌*ℤ◌}
+use Rattle.std.specs.Prelude.{◌≡◌, ℕ, ◌+◌, ◌*◌, ◌^◌, ◌⊎◌, List, [], ◌∷◌, ◌++◌, length, take, drop, All, ◌&&◌, ◌||◌, pos, ◌+ℤ◌, ◌-ℤ◌}
 use Rattle.sby_bits.specs.Rows.{Row, num, fit}
 use Rattle.cell_table.specs.Cells.{bitwise, either_one, same_bit, pmux_fn, slice_number}
 use Rattle.cnf_form.specs.Cnf.{LitOf, Assignment, Satisfies, LitWithin, lit_in, negate}

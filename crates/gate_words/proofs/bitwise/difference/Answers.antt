@@ -1,5 +1,4 @@
-use Rattle.std.proofs.Common.{◌≡◌, ◌∙◌, not, map, length, sym}
-use Rattle.std.proofs.lemmas.List.{length-map}
+use Rattle.std.proofs.Common.{◌∙◌, sym}
 use Rattle.gate_words.proofs.Modulo.{difference_means, turned_many}
 use Rattle.gate_words.proofs.bitwise.difference.Goals as goal
 

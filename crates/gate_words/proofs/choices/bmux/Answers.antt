@@ -1,4 +1,4 @@
-use Rattle.std.proofs.Common.{◌≡◌, ◌+◌, ◌-◌, ◌*◌, ◌/◌, ◌^◌, ◌<◌, length, subst, ℕ, sym, arith}
+use Rattle.std.proofs.Common.{◌≡◌, ◌+◌, ◌-◌, ◌*◌, ◌/◌, ◌^◌, length, subst, ℕ, arith}
 use Rattle.gate_words.specs.Words.{IsHalved}
 use Rattle.gate_words.proofs.Choosing.{at_place, Halved-none, Halved-even, Halved-next, Halved-all}
 use Rattle.gate_words.proofs.choices.bmux.Goals as goal

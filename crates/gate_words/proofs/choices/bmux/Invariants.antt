@@ -1,4 +1,4 @@
-use Rattle.std.proofs.Common.{◌≡◌, ◌*◌, ◌/◌, ◌^◌, ◌-◌, length}
+use Rattle.std.proofs.Common.{◌/◌, ◌^◌, ◌-◌, length}
 use Rattle.gate_words.specs.Words.{IsHalved}
 use Rattle.gate_words.proofs.choices.bmux.Given as goal
 

@@ -1,4 +1,4 @@
-use Rattle.std.proofs.Common.{◌≡◌, ◌+◌, ◌-◌, length, arith}
+use Rattle.std.proofs.Common.{◌+◌, ◌-◌, length, arith}
 use Rattle.gate_words.proofs.Choosing.{chosen_means}
 use Rattle.gate_words.proofs.choices.chosen.Goals as goal
 

@@ -1,4 +1,4 @@
-use Rattle.std.proofs.Common.{◌≡◌, ◌/◌, length, arith}
+use Rattle.std.proofs.Common.{◌/◌, length}
 use Rattle.gate_words.proofs.Choosing.{half_means}
 use Rattle.gate_words.proofs.choices.half.Goals as goal
 

@@ -1,7 +1,3 @@
-use Rattle.std.proofs.Common.{◌≡◌, ◌∙◌, sym, cond}
-use Rattle.cnf_form.specs.Cnf.{lit_in}
-use Rattle.cell_table.specs.Cells.{bitwise, mux_fn}
-use Rattle.gate_rows.specs.Literals.{row_of}
 use Rattle.gate_words.proofs.Choosing.{mux_means}
 use Rattle.gate_words.proofs.choices.mux.Goals as goal
 

@@ -1,7 +1,6 @@
-use Rattle.std.proofs.Common.{◌≡◌, ◌+◌, ◌-◌, ◌*◌, ◌<◌, length, subst, ℕ, sym, arith}
-use Rattle.std.proofs.Math.Nat.{mul-add}
+use Rattle.std.proofs.Common.{◌≡◌, ◌+◌, ◌-◌, ◌*◌, length, subst, ℕ, arith}
 use Rattle.gate_words.specs.Words.{IsChosen}
-use Rattle.gate_words.proofs.Choosing.{at_place, Chosen-none, Chosen-next, Chosen-all, place_below}
+use Rattle.gate_words.proofs.Choosing.{at_place, Chosen-next, Chosen-all, place_below}
 use Rattle.gate_words.proofs.choices.pmux.Goals as goal
 
 pub loop-step-preserved : goal.loop-step-preserved

@@ -1,7 +1,6 @@
-use Rattle.std.proofs.Common.{◌≡◌, ◌∙◌, ℕ, ◌+◌, ◌-◌, ◌*◌, ◌<◌, ◌≤◌, length, sym, subst, arith}
-use Rattle.std.proofs.lemmas.Nat.{mul-le}
+use Rattle.std.proofs.Common.{◌≡◌, ℕ, ◌+◌, ◌-◌, ◌*◌, length, subst, arith}
 use Rattle.gate_rows.proofs.Building.{Builds-trans}
-use Rattle.gate_words.specs.Division.{IsDivided, IsPlace}
+use Rattle.gate_words.specs.Division.{IsDivided}
 use Rattle.gate_words.proofs.Choosing.{at_place}
 use Rattle.gate_words.proofs.Quotients.{Divided-next, steps_fit}
 use Rattle.gate_words.proofs.division.all_places.Goals as goal

@@ -1,4 +1,4 @@
-use Rattle.std.proofs.Common.{◌≡◌, length, arith}
+use Rattle.std.proofs.Common.{arith}
 use Rattle.gate_words.proofs.Quotients.{divide_means}
 use Rattle.gate_words.proofs.division.divide.Goals as goal
 

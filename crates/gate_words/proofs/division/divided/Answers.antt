@@ -1,4 +1,3 @@
-use Rattle.std.proofs.Common.{◌≡◌, length, reverse}
 use Rattle.gate_words.proofs.Quotients.{quotient_means, remainder_means}
 use Rattle.gate_words.proofs.division.divided.Goals as goal
 

@@ -1,4 +1,4 @@
-use Rattle.std.proofs.Common.{ℕ, ◌≡◌, ◌∙◌, length, take, ap, arith}
+use Rattle.std.proofs.Common.{ℕ, ◌∙◌, length, take, ap, arith}
 use Rattle.gate_words.proofs.Quotients.{Place-made}
 use Rattle.gate_words.proofs.division.place.Goals as goal
 

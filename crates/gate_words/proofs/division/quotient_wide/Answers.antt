@@ -1,4 +1,4 @@
-use Rattle.std.proofs.Common.{rules, ◌≡◌, ◌∙◌, ◌+◌, ◌*◌, length, refl, arith}
+use Rattle.std.proofs.Common.{rules, ◌≡◌, ◌+◌, ◌*◌, length, arith}
 use Rattle.std.specs.Prelude.{pos, unsigned_abs}
 use Rattle.sby_bits.specs.Rows.{value}
 use Rattle.sby_bits.specs.Words.{quotient}

@@ -1,8 +1,7 @@
-use Rattle.std.proofs.Common.{rules, ◌≡◌, ◌∙◌, ◌+◌, ◌*◌, length, sym, refl, arith}
+use Rattle.std.proofs.Common.{rules, ◌≡◌, ◌∙◌, ◌*◌, length, sym, refl, arith}
 use Rattle.std.specs.Prelude.{pos, unsigned_abs}
 use Rattle.sby_bits.specs.Rows.{value}
 use Rattle.sby_bits.specs.Words.{quotient, remainder}
-use Rattle.gate_graph.specs.Laws.{Continues-trans}
 use Rattle.gate_rows.specs.Literals.{row_of}
 use Rattle.gate_rows.proofs.Building.{fit_long, Builds-trans}
 use Rattle.gate_words.specs.Division.{divided_gates}

@@ -1,4 +1,4 @@
-use Rattle.std.proofs.Common.{◌≡◌, ◌∙◌, length, sym}
+use Rattle.std.proofs.Common.{◌∙◌, sym}
 use Rattle.gate_words.proofs.Modulo.{turned_many}
 use Rattle.gate_words.proofs.Quotients.{Step-made}
 use Rattle.gate_words.proofs.division.subtracted.Goals as goal

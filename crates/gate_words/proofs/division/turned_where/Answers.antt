@@ -1,4 +1,4 @@
-use Rattle.std.proofs.Common.{rules, ◌≡◌, ◌∙◌, ◌+◌, ◌*◌, ◌^◌, length, sym, arith}
+use Rattle.std.proofs.Common.{rules, ◌≡◌, ◌∙◌, ◌*◌, ◌^◌, length, sym, arith}
 use Rattle.std.specs.Prelude.{pos, ◌-ℤ◌}
 use Rattle.sby_bits.specs.Rows.{num}
 use Rattle.gate_rows.specs.Literals.{row_of}

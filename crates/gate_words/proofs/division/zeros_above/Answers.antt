@@ -1,4 +1,4 @@
-use Rattle.std.proofs.Common.{◌≡◌, ◌∙◌, ℕ, ◌+◌, ◌-◌, ◌<◌, ◌≤◌, length, arith}
+use Rattle.std.proofs.Common.{◌-◌, length, arith}
 use Rattle.gate_rows.proofs.Building.{Builds-trans}
 use Rattle.gate_words.proofs.Quotients.{Zeros-next, last_means}
 use Rattle.gate_words.proofs.division.zeros_above.Goals as goal

@@ -1,4 +1,4 @@
-use Rattle.std.proofs.Common.{◌≡◌, ◌+◌, ◌<◌, ◌≤◌, length, arith}
+use Rattle.std.proofs.Common.{arith}
 use Rattle.gate_words.proofs.Moving.{Moved-none, Moved-next, Moved-all}
 use Rattle.gate_words.proofs.shifts.moved_low.Goals as goal
 

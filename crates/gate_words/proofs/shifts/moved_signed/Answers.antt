@@ -1,6 +1,5 @@
 use Rattle.std.proofs.Common.{rules, ◌≡◌, ◌∙◌, ◌+◌, ◌*◌, ◌^◌, length, refl, sym, arith}
 use Rattle.std.specs.Prelude.{pos}
-use Rattle.cnf_form.specs.Cnf.{lit_in}
 use Rattle.sby_bits.specs.Rows.{num}
 use Rattle.gate_rows.specs.Literals.{row_of}
 use Rattle.gate_rows.proofs.Building.{fit_long, Builds-more, Builds-trans}

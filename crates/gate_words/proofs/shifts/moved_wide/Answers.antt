@@ -1,4 +1,4 @@
-use Rattle.std.proofs.Common.{rules, ◌≡◌, ◌∙◌, ◌+◌, ◌*◌, ◌≤◌, length, arith}
+use Rattle.std.proofs.Common.{rules, ◌≡◌, ◌+◌, length, arith}
 use Rattle.sby_bits.specs.Rows.{value}
 use Rattle.gate_rows.specs.Literals.{row_of}
 use Rattle.gate_rows.proofs.Building.{fit_long, Builds-more}

@@ -1,4 +1,4 @@
-use Rattle.std.proofs.Common.{◌≡◌, length, ap}
+use Rattle.std.proofs.Common.{length, ap}
 use Rattle.sby_bits.specs.Rows.{num, value}
 use Rattle.gate_rows.specs.Literals.{row_of}
 use Rattle.gate_rows.proofs.Building.{Row-same}

@@ -1,4 +1,4 @@
-use Rattle.std.proofs.Common.{◌≡◌, length, max, arith}
+use Rattle.std.proofs.Common.{length, max, arith}
 use Rattle.gate_words.proofs.Moving.{right_means}
 use Rattle.gate_words.proofs.shifts.shift_right.Goals as goal
 

@@ -1,4 +1,4 @@
-use Rattle.std.proofs.Common.{◌≡◌, length, max, arith}
+use Rattle.std.proofs.Common.{arith}
 use Rattle.gate_words.proofs.Moving.{sign_means}
 use Rattle.gate_words.proofs.shifts.shift_sign.Goals as goal
 

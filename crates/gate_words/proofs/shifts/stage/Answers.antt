@@ -1,4 +1,4 @@
-use Rattle.std.proofs.Common.{◌≡◌, length, sym}
+use Rattle.std.proofs.Common.{sym}
 use Rattle.gate_words.proofs.Moving.{stage_means, moved_many}
 use Rattle.gate_words.proofs.shifts.stage.Goals as goal
 

@@ -1,4 +1,4 @@
-use Rattle.std.proofs.Common.{◌≡◌, ◌+◌, ◌&&◌, ◌||◌, length, arith}
+use Rattle.std.proofs.Common.{◌+◌, ◌&&◌, ◌||◌, length, arith}
 use Rattle.sby_bits.specs.Words.{some_bit}
 use Rattle.cell_table.specs.Cells.{is_logic}
 use Rattle.gate_graph.specs.Laws.{Continues-trans}

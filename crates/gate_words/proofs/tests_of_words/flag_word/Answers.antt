@@ -1,4 +1,4 @@
-use Rattle.std.proofs.Common.{◌≡◌, ◌∙◌, ◌*◌, ◌^◌, [], ◌∷◌, sym, cond}
+use Rattle.std.proofs.Common.{◌∙◌, ◌*◌, ◌^◌, [], ◌∷◌, sym, cond}
 use Rattle.std.specs.Prelude.{pos}
 use Rattle.cnf_form.specs.Cnf.{lit_in}
 use Rattle.sby_bits.specs.Rows.{num, fit}

@@ -1,4 +1,4 @@
-use Rattle.std.proofs.Common.{◌≡◌, not, leb}
+use Rattle.std.proofs.Common.{not, leb}
 use Rattle.sby_bits.specs.Rows.{num}
 use Rattle.gate_rows.specs.Literals.{row_of}
 use Rattle.gate_words.proofs.Folding.{Bit-same, less_means, not_least}

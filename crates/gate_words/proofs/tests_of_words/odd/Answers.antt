@@ -1,7 +1,7 @@
-use Rattle.std.proofs.Common.{◌≡◌, true, false, ◌&&◌, ◌||◌}
+use Rattle.std.proofs.Common.{false}
 use Rattle.cell_table.specs.Cells.{either_one}
-use Rattle.sby_bits.specs.Words.{some_bit, odd_bits, every_bit}
-use Rattle.gate_words.proofs.Folding.{chain_bit, some_is, odd_is, every_is}
+use Rattle.sby_bits.specs.Words.{odd_bits}
+use Rattle.gate_words.proofs.Folding.{chain_bit, odd_is}
 use Rattle.gate_words.proofs.tests_of_words.odd.Goals as goal
 
 pub returns-clause-bit : goal.returns-clause-bit

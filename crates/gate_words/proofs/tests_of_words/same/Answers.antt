@@ -1,9 +1,5 @@
-use Rattle.std.proofs.Common.{rules, ◌≡◌, ◌∙◌, ◌*◌, not, eqb, length, sym, ap, arith}
-use Rattle.sby_bits.specs.Rows.{num}
-use Rattle.sby_bits.specs.Words.{some_bit}
-use Rattle.cell_table.specs.Cells.{bitwise, either_one}
-use Rattle.gate_rows.specs.Literals.{row_of}
-use Rattle.gate_rows.proofs.Building.{Builds-trans, length-row, length-bitwise}
+use Rattle.std.proofs.Common.{rules, ◌≡◌, length, arith}
+use Rattle.gate_rows.proofs.Building.{Builds-trans}
 use Rattle.gate_words.proofs.Folding.{same_means, differ_long}
 use Rattle.gate_words.proofs.tests_of_words.same.Goals as goal
 

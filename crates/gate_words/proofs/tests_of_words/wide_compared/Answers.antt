@@ -1,5 +1,4 @@
-use Rattle.std.proofs.Common.{rules, ◌≡◌, ◌∙◌, ℕ, ◌*◌, ◌+◌, length, sym, subst, arith}
-use Rattle.std.specs.Prelude.{max}
+use Rattle.std.proofs.Common.{rules, ◌≡◌, ◌∙◌, ℕ, ◌*◌, length, sym, subst, arith}
 use Rattle.sby_bits.specs.Rows.{value}
 use Rattle.cell_table.specs.Cells.{is_compared}
 use Rattle.gate_rows.specs.Literals.{row_of, MeansBit}
