@@ -10,6 +10,7 @@ use Rattle.gate_graph.specs.Laws.{Satisfies-front, put, put-same, put-other}
 use Rattle.gate_graph.specs.declared.gate.Gate.{Gate}
 use Rattle.gate_graph.specs.Folding.{operands}
 use Rattle.gate_graph.specs.Kept.{IsKept, IsOf, OthersWithin, lit_of, circuit_of}
+use Rattle.gate_graph.proofs.Rising.{IsRising-input, IsRising-start}
 use Rattle.gate_graph.proofs.Rows.{Row, IsTable, clause_of}
 use Rattle.gate_graph.proofs.Tables.{contains_none, Satisfies-agrees, bit_agrees, table_holds, table_says, table_fixes, table_within}
 
@@ -143,6 +144,7 @@ IsKept-input n most f is es p room = record {
   room = p.room;
   all = λ k l h. IsOf-more n f.clauses k l (p.all k l h);
   one = p.one;
+  rising = IsRising-input n is es p.some (λ k l h. (p.all k l h).within.1) p.rising;
 }
 
 -- a literal seen through its parts
@@ -182,4 +184,5 @@ module _ where
     room = refl;
     all = λ k l h. absurd (contains_none (k, l) h);
     one = λ k l m h i. absurd (contains_none (k, l) h);
+    rising = IsRising-start;
   }

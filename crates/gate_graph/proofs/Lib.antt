@@ -2,6 +2,7 @@ pub mod Rows
 pub mod Pushing
 pub mod Tables
 pub mod OneTable
+pub mod Rising
 pub mod Keeping
 pub mod Leaves
 pub mod Meanings

@@ -14,6 +14,7 @@ use Rattle.gate_graph.specs.Kept.{AreKept, HasRoom, IsKept, IsOf, IsNew, OthersW
 use Rattle.gate_graph.proofs.Tables.{table_says}
 use Rattle.gate_graph.proofs.OneTable.{lit_negated, gate_clauses, gate_table, lines, rows_of}
 use Rattle.gate_graph.proofs.Keeping.{IsGates-gate, Satisfies-back, others_more}
+use Rattle.gate_graph.proofs.Rising.{IsRising-gate}
 
 module _ (n : ℕ) (F : List (List LitOf)) (k : Gate) (w : OthersWithin n (operands k)) where
   -- the new variable has the gate's value
@@ -54,6 +55,7 @@ IsKept-gate n most f g is es k p room w new ev ec = record {
       | inr d ↦ sym (ap (λ (d : Gate × LitOf). d.1) e) ∙ ap (λ (d : Gate × LitOf). d.1) d
     ]
   ];
+  rising = IsRising-gate n is es k p.some (λ v c. (p.gates.inputs_within v c).1) (λ j l c. (p.all j l c).within.1) w p.rising;
 }
   where
     front : (x : Assignment) → Satisfies x g.clauses → Satisfies x f.clauses

@@ -1,5 +1,5 @@
 -- Which gates are kept, and what a call for one does.
-use Rattle.std.specs.Prelude.{◌≡◌, ℕ, ◌≤◌, ◌+◌, Bool, true, false, not, if◌then◌else◌, ◌⊎◌, List, [], ◌∷◌, ◌++◌, Contains}
+use Rattle.std.specs.Prelude.{◌≡◌, ℕ, ◌<◌, ◌≤◌, ◌+◌, ◌-◌, Bool, true, false, not, if◌then◌else◌, ◌⊎◌, List, [], ◌∷◌, ◌++◌, Contains}
 use Rattle.cnf_form.specs.Cnf.{LitOf, FormulaOf, Assignment, LitWithin, Satisfies, lit_in, negate}
 use Rattle.cnf_form.specs.declared.literal.TheConstants.{MAX_VARS}
 use Rattle.gate_graph.specs.declared.gate.Gate.{Gate}
@@ -35,6 +35,20 @@ pub record AreKept (g : GatesOf) : Type 0 where
   pub all : (k : Gate) (l : LitOf) → Contains g.kept (k, l) → IsOf g.formula.vars g.formula.clauses k l
   pub one : (k : Gate) (l m : LitOf) → Contains g.kept (k, l) → Contains g.kept (k, m) → l ≡ m
 
+-- the literal is a later variable than those of the gate's operands, and no input
+pub record IsAbove (inputs : List ℕ) (k : Gate) (l : LitOf) : Type 0 where
+  pub plain : l.negated ≡ false
+  pub later : 1 < l.var
+  pub own : ¬ Contains inputs l.var
+  pub operands : OthersWithin (l.var - 1) (operands k)
+
+-- Each variable is the one that is true, an input or one gate's, whose operands stand before it.
+pub record IsRising (n : ℕ) (inputs : List ℕ) (kept : List (Gate × LitOf)) : Type 0 where
+  pub each : (v : ℕ) → 0 < v → v ≤ n → (v ≡ 1) ⊎ Contains inputs v ⊎ ((k : Gate) × Contains kept (k, lit_of v true))
+  pub apart : (v : ℕ) → Contains inputs v → 1 < v
+  pub above : (k : Gate) (l : LitOf) → Contains kept (k, l) → IsAbove inputs k l
+  pub single : (k j : Gate) (l : LitOf) → Contains kept (k, l) → Contains kept (j, l) → k ≡ j
+
 -- variable 1 is true, and there are no more variables than there may be
 pub record HasRoom (g : GatesOf) : Type 0 where
   pub some : 1 ≤ g.formula.vars
@@ -51,6 +65,7 @@ pub record IsKept (vars most : ℕ) (formula : FormulaOf) (inputs : List ℕ) (k
   pub room : formula.vars ≡ MAX_VARS
   pub all : (k : Gate) (l : LitOf) → Contains kept (k, l) → IsOf vars formula.clauses k l
   pub one : (k : Gate) (l m : LitOf) → Contains kept (k, l) → Contains kept (k, m) → l ≡ m
+  pub rising : IsRising vars inputs kept
 
 -- no literal has been made for the gate
 abbrev pub IsNew : GatesOf → Gate → Type 0

@@ -5,7 +5,7 @@ ghost use Rattle.cnf_form.specs.Cnf.{Assignment, LitOf, LitWithin, lit_in, negat
 ghost use Rattle.cnf_form.specs.declared.literal.TheConstants.{MAX_VARS};
 ghost use Rattle.gate_graph.specs.Circuit.{GatesOf, IsGates, MakesGate, MakesInput, Means};
 ghost use Rattle.gate_graph.specs.Folding.{asked, bit, constant, majority, operands, xor};
-ghost use Rattle.gate_graph.specs.Kept.{AreKept, HasRoom, IsFull, IsNew, IsRefused, OthersWithin, Settles, lit_of, out_of_memory, with_gate, with_input};
+ghost use Rattle.gate_graph.specs.Kept.{AreKept, HasRoom, IsFull, IsNew, IsRefused, IsRising, OthersWithin, Settles, lit_of, out_of_memory, with_gate, with_input};
 
 use crate::clauses::push_clauses;
 use crate::gate::{Asked, Gate, fold};
@@ -132,6 +132,7 @@ impl Gates {
         ensures gates { IsGates self.now }
         ensures kept { AreKept self.now }
         ensures room { HasRoom self.now }
+        ensures rising { IsRising self.now.formula.vars self.now.inputs self.now.kept }
     {
         let _ = &self.vars;
     }
@@ -274,6 +275,14 @@ impl Gates {
     {
         let Gates { vars, formula, .. } = self;
         formula.with_vars(vars)
+    }
+
+    /// The gates that were made, each with its literal, in the order in which they were made. What else there is is dropped.
+    pub fn into_kept(self) -> Vec<(Gate, Lit)>
+        ensures { result.items ≡ self.kept }
+    {
+        let Gates { kept, .. } = self;
+        kept.into_entries()
     }
 
     // The literal of a gate that is not folded.

@@ -164,6 +164,14 @@ impl Kept {
         Ok(())
     }
 
+    // The gates with their literals.
+    pub fn into_entries(self) -> Vec<(Gate, Lit)>
+        ensures { result.items ≡ self }
+    {
+        let Kept { entries, .. } = self;
+        entries
+    }
+
     // Takes back what was kept last.
     pub fn pop(&mut self)
         ensures { self.new ≡ take (length self.old - 1) self.old }

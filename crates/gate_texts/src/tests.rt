@@ -1,6 +1,7 @@
 // The tests, by subject.
 
 mod closing;
+mod cone;
 mod gates;
 mod rows;
 mod tables;

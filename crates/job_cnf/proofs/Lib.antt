@@ -8,4 +8,6 @@ pub mod Solving
 pub mod Ending
 pub mod Origins
 pub mod Rows
+pub mod Renaming
+pub mod OverCone
 pub mod Whole

@@ -17,7 +17,7 @@ map_from f [] k y h = absurd (let z : None ≡ Some y = h in cc)
 map_from f (x ∷ xs) zero y h = (x, refl, cc)
 map_from f (x ∷ xs) (suc k) y h = map_from f xs k y h
 
-mapped : {A B : Type 0} (f : A → B) (xs : List A) (x : A) → Contains xs x → Contains (map f xs) (f x)
+pub mapped : {A B : Type 0} (f : A → B) (xs : List A) (x : A) → Contains xs x → Contains (map f xs) (f x)
 mapped f xs x c =
     let at = place_of_contained xs x c in
     contained_at (map f xs) (f x) at.0 (by xs at.0 at.1)
@@ -27,7 +27,7 @@ mapped f xs x c =
     by (y ∷ ys) zero h = let same : y ≡ x = cc in ap (λ (z : _). Some (f z)) same
     by (y ∷ ys) (suc k) h = by ys k h
 
-mapped_from : {A B : Type 0} (f : A → B) (xs : List A) (y : B) → Contains (map f xs) y → (x : A) × Contains xs x × (f x ≡ y)
+pub mapped_from : {A B : Type 0} (f : A → B) (xs : List A) (y : B) → Contains (map f xs) y → (x : A) × Contains xs x × (f x ≡ y)
 mapped_from f xs y c =
     let at = place_of_contained (map f xs) y c in
     let r = map_from f xs at.0 y at.1 in

@@ -88,7 +88,7 @@ origins_empty m job span e f v = record {
 
 module _ (m : ModelOf) (is : IsModel m) (job : JobName) (span : Span) (g : GatesOf) (tables : List (List LitOf)) (starts : List (Option ℕ)) (made : List FrameOf) (assumed ok : LitOf)
     (u : AreUnrolled m job span g tables starts made assumed ok) (count : length tables ≡ frames job span) (gates : IsGates g) where
-  is_free : (o : Origin) → IsOf m (first job) (length tables) o → IsOrigin m job span o
+  pub is_free : (o : Origin) → IsOf m (first job) (length tables) o → IsOrigin m job span o
   is_free (FirstBit p) h = h
   is_free (Input t p) h = ((let l : t < length tables = h.0 in omega arith), h.1)
 

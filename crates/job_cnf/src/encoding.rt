@@ -1,17 +1,20 @@
 // The encoding of a job.
 
-ghost use Rattle.std.specs.Prelude.{◌≡◌, ◌↔◌, ◌≤◌, ◌^◌, ◌++◌, ◌∷◌, [], All, IfErr, IfOk, OnOk, length};
+ghost use Rattle.std.specs.Prelude.{◌≡◌, ◌↔◌, ◌<◌, ◌≤◌, ◌^◌, ◌++◌, ◌∷◌, [], All, IfErr, IfOk, OnOk, length, map};
+ghost use Rattle.std.specs.List.{cons_option};
 ghost use Rattle.cnf_form.specs.Cnf.{Assignment, LitWithin, Satisfies};
 ghost use Rattle.model_core.specs.Choices.{AreChoicesFor, open_states};
 ghost use Rattle.sby_terms.specs.Span.{IsSpan};
 ghost use Rattle.job_cnf.specs.Decoding.{values_of};
 ghost use Rattle.job_cnf.specs.Encoding.{CanBeSatisfied, CanPass, HasOrigins, IsDecoded, Propagates, decoded, empty_job};
 ghost use Rattle.job_cnf.specs.Jobs.{AsksNothing, IsJob, Solvable, frames};
-ghost use Rattle.job_cnf.specs.Unrolling.{goals_of, with_clause};
+ghost use Rattle.job_cnf.specs.Renaming.{IsOverCone, new_frame, new_var, new_vars};
+ghost use Rattle.job_cnf.specs.Unrolling.{goals_of};
 
 use crate::decoding::{Decoding, FrameLits};
-use crate::unroll::{Unrolled, asks_nothing, no_starts, unroll};
+use crate::unroll::{Unrolled, asks_nothing, no_starts, push, push_frame, unroll};
 use cnf_form::{Formula, Lit};
+use gate_cone::{Cone, cone_of, renamed};
 use gate_graph::GateFault;
 use model_core::model::WordModel;
 use model_play::choices::Choices;
@@ -100,13 +103,94 @@ fn push_lit(lits: &mut Vec<Lit>, lit: Lit) -> Result<(), AllocError>
     Ok(())
 }
 
-// The gates' clauses, and behind them the clause that some frame's goal is true.
+// The new variable of an old one that is kept.
+fn renamed_var(cone: &Cone, var: Option<u32>) -> Option<u32>
+    requires { length cone.now.lits.items ≡ length cone.now.marks.items }
+    ensures { result ≡ new_var cone.now.marks.items cone.now.lits.items var }
+{
+    let place = match var {
+        Some(var) => var as usize,
+        None => return None,
+    };
+    if place < cone.marks.len() && cone.marks[place] {
+        Some(cone.lits[place].var())
+    } else {
+        None
+    }
+}
+
+// Puts a variable behind the others, where there is one.
+fn push_some(vars: &mut Vec<u32>, var: Option<u32>) -> Result<(), AllocError>
+    ensures { OnOk result (vars.new.items ≡ vars.old.items ++ cons_option var []) }
+{
+    if let Some(var) = var {
+        vars.push(var)?;
+    }
+    Ok(())
+}
+
+// The new variables of those old ones that are kept.
+fn kept_vars(alloc: Global, cone: &Cone, vars: &[u32]) -> Result<Vec<u32>, AllocError>
+    requires { length cone.now.lits.items ≡ length cone.now.marks.items }
+    ensures { IfOk result (λ new. new.items ≡ new_vars cone.now.marks.items cone.now.lits.items vars.now) }
+{
+    let mut new = Vec::new(alloc);
+    for var in vars {
+        push_some(&mut new, renamed_var(cone, Some(*var)))?;
+    }
+    Ok(new)
+}
+
+// The new variables, and none where the old one isn't kept.
+fn renamed_vars(
+    alloc: Global,
+    cone: &Cone,
+    vars: &[Option<u32>],
+) -> Result<Vec<Option<u32>>, AllocError>
+    requires { length cone.now.lits.items ≡ length cone.now.marks.items }
+    ensures { IfOk result (λ new. new.items ≡ map (new_var cone.now.marks.items cone.now.lits.items) vars.now) }
+{
+    let mut new = Vec::new(alloc);
+    for var in vars {
+        push(&mut new, renamed_var(cone, *var))?;
+    }
+    Ok(new)
+}
+
+// A frame over the new variables.
+fn renamed_frame(alloc: Global, cone: &Cone, frame: &FrameLits) -> Result<FrameLits, AllocError>
+    requires size { length cone.now.lits.items ≡ length cone.now.marks.items }
+    requires goal { frame.now.goal.var < length cone.now.lits.items }
+    ensures { IfOk result (λ new. new ≡ new_frame cone.now.marks.items cone.now.lits.items frame.now) }
+{
+    let inputs = renamed_vars(alloc, cone, frame.inputs.as_slice())?;
+    let goal = renamed(cone.lits.as_slice(), frame.goal);
+    Ok(FrameLits { inputs, goal })
+}
+
+// The frames over the new variables.
+fn renamed_frames(
+    alloc: Global,
+    cone: &Cone,
+    frames: &[FrameLits],
+) -> Result<Vec<FrameLits>, AllocError>
+    requires size { length cone.now.lits.items ≡ length cone.now.marks.items }
+    requires goals { All (λ f. f.goal.var < length cone.now.lits.items) frames.now }
+    ensures { IfOk result (λ new. new.items ≡ map (new_frame cone.now.marks.items cone.now.lits.items) frames.now) }
+{
+    let mut new = Vec::new(alloc);
+    for frame in frames {
+        let frame = renamed_frame(alloc, cone, frame)?;
+        push_frame(&mut new, frame)?;
+    }
+    Ok(new)
+}
+
+// The clauses of the gates on which the frames' goals rest, and behind them the clause that some frame's goal is true.
 fn finish(alloc: Global, unrolled: Unrolled, width: usize) -> Result<Encoded, AllocError>
     requires inputs { All (λ f. length f.inputs ≡ width) unrolled.frames.items }
     requires goals { All (LitWithin unrolled.gates.formula.vars) (goals_of unrolled.frames.items) }
-    ensures formula { IfOk result (λ e. e.formula ≡ with_clause unrolled.gates.formula (goals_of unrolled.frames.items)) }
-    ensures free_vars { IfOk result (λ e. e.free_vars ≡ unrolled.gates.inputs) }
-    ensures decoding { IfOk result (λ e. e.decoding ≡ record { starts = unrolled.starts.items; frames = unrolled.frames.items }) }
+    ensures { IfOk result (IsOverCone unrolled.gates unrolled.starts.items unrolled.frames.items) }
 {
     let Unrolled {
         gates,
@@ -114,8 +198,13 @@ fn finish(alloc: Global, unrolled: Unrolled, width: usize) -> Result<Encoded, Al
         frames,
     } = unrolled;
     let goals = goals_of(alloc, frames.as_slice())?;
-    let free_vars = Vec::from_slice(alloc, gates.inputs())?;
-    let mut formula = gates.finish();
+    let inputs = Vec::from_slice(alloc, gates.inputs())?;
+    let cone = cone_of(alloc, gates, goals.as_slice())?;
+    let free_vars = kept_vars(alloc, &cone, inputs.as_slice())?;
+    let starts = renamed_vars(alloc, &cone, starts.as_slice())?;
+    let frames = renamed_frames(alloc, &cone, frames.as_slice())?;
+    let goals = goals_of(alloc, frames.as_slice())?;
+    let mut formula = cone.gates.finish();
     formula.push(goals.as_slice())?;
     Ok(Encoded {
         formula,
@@ -128,7 +217,8 @@ fn finish(alloc: Global, unrolled: Unrolled, width: usize) -> Result<Encoded, Al
 /// be solved. The goal is one clause over the frames' goal literals in rising order, the last of the formula.
 ///
 /// The variables on which all others rest are `free_vars`: where each of them is fixed by a unit clause, unit propagation comes to a
-/// conflict or fixes every variable. Refused where the formula would have more than 2^27 variables; a job that asks nothing never is.
+/// conflict or fixes every variable. Refused where the gates of its frames would take more than 2^27 variables, of which the formula has
+/// those on which the goal rests; a job that asks nothing never is.
 pub fn encode(
     alloc: Global,
     model: &WordModel,

@@ -220,7 +220,7 @@ fn push_open(places: &mut Vec<u32>, place: u32, digit: Option<bool>) -> Result<(
 }
 
 // Puts a variable behind the others.
-fn push(vars: &mut Vec<Option<u32>>, var: Option<u32>) -> Result<(), AllocError>
+pub fn push(vars: &mut Vec<Option<u32>>, var: Option<u32>) -> Result<(), AllocError>
     ensures { OnOk result (vars.new.items ≡ vars.old.items ++ var ∷ []) }
 {
     vars.push(var)?;
@@ -228,7 +228,7 @@ fn push(vars: &mut Vec<Option<u32>>, var: Option<u32>) -> Result<(), AllocError>
 }
 
 // Puts a frame behind the others.
-fn push_frame(frames: &mut Vec<FrameLits>, frame: FrameLits) -> Result<(), AllocError>
+pub fn push_frame(frames: &mut Vec<FrameLits>, frame: FrameLits) -> Result<(), AllocError>
     ensures { OnOk result (frames.new.items ≡ frames.old.items ++ frame ∷ []) }
 {
     frames.push(frame)?;

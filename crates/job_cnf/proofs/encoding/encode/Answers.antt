@@ -1,6 +1,6 @@
 use Rattle.std.proofs.Common.{ap, length, refl}
 use Rattle.job_cnf.proofs.Origins.{empty_solvable, empty_unsatisfied, origins_empty}
-use Rattle.job_cnf.proofs.Whole.{frames_long, goals_inside, whole_choices, whole_decoded, whole_origins, whole_propagates, whole_solvable}
+use Rattle.job_cnf.proofs.Whole.{frames_long, goals_inside, whole_choices, whole_decoded, whole_origins, whole_propagates, whole_solvable, whole_vars}
 use Rattle.job_cnf.proofs.encoding.encode.Goals as goal
 
 pub returns-then-asks_nothing-clause-solvable : goal.returns-then-asks_nothing-clause-solvable
@@ -23,24 +23,29 @@ finish-requires-clause-goals c =
 pub returns-in_ok-finish-in-Ok-clause-solvable : goal.returns-in_ok-finish-in-Ok-clause-solvable
 returns-in_ok-finish-in-Ok-clause-solvable c =
     whole_solvable c.args.model.now c.size.ensures.model c.args.job c.args.span c.in-Ok.unrolled.gates c.in-Ok.unrolled.starts.items c.in-Ok.unrolled.frames.items c.in-Ok.ensures.unrolled
-    c.in_ok-finish-in-Ok.field-0 c.in_ok-finish-in-Ok.ensures.formula c.in_ok-finish-in-Ok.ensures.free_vars c.in_ok-finish-in-Ok.ensures.decoding
+    c.in_ok-finish-in-Ok.field-0 c.in_ok-finish-in-Ok.ensures
+
+pub returns-in_ok-finish-in-Ok-clause-vars : goal.returns-in_ok-finish-in-Ok-clause-vars
+returns-in_ok-finish-in-Ok-clause-vars c =
+    whole_vars c.args.model.now c.size.ensures.model c.args.job c.args.span c.in-Ok.unrolled.gates c.in-Ok.unrolled.starts.items c.in-Ok.unrolled.frames.items c.in-Ok.ensures.unrolled
+    c.in_ok-finish-in-Ok.field-0 c.in_ok-finish-in-Ok.ensures
 
 pub returns-in_ok-finish-in-Ok-clause-propagates : goal.returns-in_ok-finish-in-Ok-clause-propagates
 returns-in_ok-finish-in-Ok-clause-propagates c =
     whole_propagates c.args.model.now c.size.ensures.model c.args.job c.args.span c.in-Ok.unrolled.gates c.in-Ok.unrolled.starts.items c.in-Ok.unrolled.frames.items c.in-Ok.ensures.unrolled
-    c.in_ok-finish-in-Ok.field-0 c.in_ok-finish-in-Ok.ensures.formula c.in_ok-finish-in-Ok.ensures.free_vars c.in_ok-finish-in-Ok.ensures.decoding
+    c.in_ok-finish-in-Ok.field-0 c.in_ok-finish-in-Ok.ensures
 
 pub returns-in_ok-finish-in-Ok-clause-origins : goal.returns-in_ok-finish-in-Ok-clause-origins
 returns-in_ok-finish-in-Ok-clause-origins c =
     whole_origins c.args.model.now c.size.ensures.model c.args.job c.args.span c.in-Ok.unrolled.gates c.in-Ok.unrolled.starts.items c.in-Ok.unrolled.frames.items c.in-Ok.ensures.unrolled
-    c.in_ok-finish-in-Ok.field-0 c.in_ok-finish-in-Ok.ensures.formula c.in_ok-finish-in-Ok.ensures.free_vars c.in_ok-finish-in-Ok.ensures.decoding
+    c.in_ok-finish-in-Ok.field-0 c.in_ok-finish-in-Ok.ensures
 
 pub returns-in_ok-finish-in-Ok-clause-choices : goal.returns-in_ok-finish-in-Ok-clause-choices
 returns-in_ok-finish-in-Ok-clause-choices c = λ other x.
     whole_choices c.args.model.now c.size.ensures.model c.args.job c.args.span c.in-Ok.unrolled.gates c.in-Ok.unrolled.starts.items c.in-Ok.unrolled.frames.items c.in-Ok.ensures.unrolled
-    c.in_ok-finish-in-Ok.field-0 c.in_ok-finish-in-Ok.ensures.formula c.in_ok-finish-in-Ok.ensures.free_vars c.in_ok-finish-in-Ok.ensures.decoding x
+    c.in_ok-finish-in-Ok.field-0 c.in_ok-finish-in-Ok.ensures x
 
 pub returns-in_ok-finish-in-Ok-clause-decoded : goal.returns-in_ok-finish-in-Ok-clause-decoded
 returns-in_ok-finish-in-Ok-clause-decoded c =
     whole_decoded c.args.model.now c.size.ensures.model c.args.job c.args.span c.in-Ok.unrolled.gates c.in-Ok.unrolled.starts.items c.in-Ok.unrolled.frames.items c.in-Ok.ensures.unrolled
-    c.in_ok-finish-in-Ok.field-0 c.in_ok-finish-in-Ok.ensures.formula c.in_ok-finish-in-Ok.ensures.free_vars c.in_ok-finish-in-Ok.ensures.decoding
+    c.in_ok-finish-in-Ok.field-0 c.in_ok-finish-in-Ok.ensures

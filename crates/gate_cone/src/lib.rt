@@ -1,0 +1,10 @@
+//! The gates on which some literals rest, made anew without the others.
+#![tactic(auto)]
+
+mod cone;
+mod copying;
+mod marking;
+mod table;
+
+pub use cone::{Cone, cone_of};
+pub use copying::renamed;
