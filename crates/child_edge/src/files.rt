@@ -7,15 +7,25 @@ ghost use Rattle.sby_edge.specs.Files.{GotFits};
 use sby_edge::{Fail, Failed, Files, Got, Sink};
 use std::alloc::Global;
 use std::fs;
-use std::io::{Read, Write};
+use std::io::{Read, Seek, SeekFrom, Write};
 use std::rt::Files as SystemFiles;
 
-/// The files of the system.
+// A file that is read piece by piece.
+#[derive(Drop)]
+struct Reading<S: Drop> {
+    file: S,
+    path: String,
+    // The place from which it goes on.
+    place: u64,
+}
+
+/// The files of the system. One whose pieces are got one after the other stays open between them, so that a pipe can be read too.
 #[derive(Drop)]
 pub struct RealFiles<'a, R: SystemFiles> {
     rt: &'a R,
     pub(crate) faults: u64,
     pub(crate) blamed: Option<String>,
+    reading: Option<Reading<R::File>>,
 }
 
 impl<'a, R: SystemFiles> RealFiles<'a, R> {
@@ -27,7 +37,42 @@ impl<'a, R: SystemFiles> RealFiles<'a, R> {
             rt,
             faults: 0,
             blamed: None,
+            reading: None,
         }
+    }
+
+    // The file at a path, from which `from` bytes were read: the open one, where it stands there.
+    fn reading_at(&mut self, alloc: Global, path: &str, from: u64) -> Result<Reading<R::File>, Fail>
+        ensures faults { self.new.faults ≡ self.old.faults }
+        ensures blamed { self.new.blamed ≡ self.old.blamed }
+    {
+        match self.reading.take() {
+            Some(reading) if from > 0 && reading.place == from && reading.path.as_str() == path => {
+                Ok(reading)
+            }
+            _ => open_at(self.rt, alloc, path, from),
+        }
+    }
+
+    // A piece of a file, which stays open where the content may go on.
+    fn read_piece(
+        &mut self,
+        alloc: Global,
+        path: &str,
+        from: u64,
+        most: usize,
+    ) -> Result<Vec<u8>, Fail>
+        ensures fits { IfOk result (λ piece. length piece.items ≤ most) }
+        ensures faults { self.new.faults ≡ self.old.faults }
+        ensures blamed { self.new.blamed ≡ self.old.blamed }
+    {
+        let mut reading = self.reading_at(alloc, path, from)?;
+        let piece = read_some(alloc, &mut reading.file, most as u64)?;
+        if piece.len() == most {
+            reading.place = from.saturating_add(most as u64);
+            self.reading = Some(reading);
+        }
+        Ok(piece)
     }
 
     // A call at this path failed.
@@ -42,18 +87,18 @@ impl<'a, R: SystemFiles> RealFiles<'a, R> {
     }
 }
 
-// Reads at most one byte more than `most`.
+// Reads up to `most` bytes: fewer where the reader ends before.
 fn read_some<R: Read>(alloc: Global, reader: &mut R, most: u64) -> Result<Vec<u8>, Fail>
-    ensures { IfOk result (λ v. length v.items ≤ most + 1) }
+    ensures { IfOk result (λ v. length v.items ≤ most) }
 {
     let mut bytes = Vec::new(alloc);
     let mut buffer = [0u8; 4096];
     for _ in 0..u64::MAX {
-        let taken = bytes.len() as u64;
-        if taken > most {
+        let left = most - bytes.len() as u64;
+        if left == 0 {
             break;
         }
-        let want = (most - taken).min(4095) as usize + 1;
+        let want = left.min(4096) as usize;
         match reader.read(&mut buffer[..want]) {
             Ok(0) => break,
             Ok(count) => bytes.extend_from_slice(&buffer[..count])?,
@@ -73,7 +118,7 @@ pub(crate) fn open_and_read<R: SystemFiles>(
 {
     match fs::open(rt, path) {
         Ok(mut file) => {
-            let bytes = read_some(alloc, &mut file, most)?;
+            let bytes = read_some(alloc, &mut file, most.saturating_add(1))?;
             if bytes.len() as u64 <= most {
                 Ok(Got::All(bytes))
             } else {
@@ -82,6 +127,23 @@ pub(crate) fn open_and_read<R: SystemFiles>(
         }
         Err(_) => Err(Fail::Failed),
     }
+}
+
+// Opens a file to be read from a place on.
+fn open_at<R: SystemFiles>(
+    rt: &R,
+    alloc: Global,
+    path: &str,
+    place: u64,
+) -> Result<Reading<R::File>, Fail> {
+    let path = String::from_str(alloc, path)?;
+    let Ok(mut file) = fs::open(rt, path.as_str()) else {
+        return Err(Fail::Failed);
+    };
+    if place > 0 && file.seek(SeekFrom::Start(place)).is_err() {
+        return Err(Fail::Failed);
+    }
+    Ok(Reading { file, path, place })
 }
 
 fn make_and_write<R: SystemFiles>(rt: &R, path: &str, bytes: &[u8]) -> Result<(), Failed> {
@@ -111,7 +173,22 @@ impl<'a, R: SystemFiles> Files for RealFiles<'a, R> {
         answer
     }
 
+    fn get_piece(
+        &mut self,
+        alloc: Global,
+        path: &str,
+        from: u64,
+        most: usize,
+    ) -> Result<Vec<u8>, Fail> {
+        let answer = self.read_piece(alloc, path, from, most);
+        if matches!(answer, Err(Fail::Failed)) {
+            self.fail(alloc, path);
+        }
+        answer
+    }
+
     fn put(&mut self, alloc: Global, path: &str, bytes: &[u8]) -> Result<(), Fail> {
+        self.reading = None;
         match make_and_write(self.rt, path, bytes) {
             Ok(()) => Ok(()),
             Err(Failed) => {

@@ -5,6 +5,7 @@ use sby_edge::{Clock, Exit, Fail, Failed, Files, Got, Hold, Launch, Pipe, Sink, 
 use sby_terms::JobName;
 use std::alloc::{AllocError, Global};
 use std::io;
+use std::os::fd::AsRawFd;
 use std::test::Fail as Failure;
 
 #[test]
@@ -33,6 +34,73 @@ fn files_are_put_and_got(rt: HostRuntime) -> Result<(), Failure> {
     match &files.blamed {
         Some(path) => assert_eq!(rt; path.as_str(), "one/two"),
         None => assert!(rt; false),
+    }
+    Ok(())
+}
+
+// Whether this piece is got.
+fn gives<F: Files>(
+    files: &mut F,
+    alloc: Global,
+    path: &str,
+    from: u64,
+    most: usize,
+    wanted: &[u8],
+) -> bool {
+    match files.get_piece(alloc, path, from, most) {
+        Ok(piece) => piece.as_slice() == wanted,
+        Err(_) => false,
+    }
+}
+
+#[test]
+fn files_are_read_in_pieces(rt: HostRuntime) -> Result<(), Failure> {
+    let alloc = rt.alloc();
+    let mut files = RealFiles::new(&rt);
+    for content in ["abcdefghij", "ABCDEFGHIJ"] {
+        assert!(rt; files.put(alloc, "letters", content.as_bytes()).is_ok());
+        for (from, most) in [
+            (0, 4),
+            (4, 4),
+            (8, 4),
+            (0, 10),
+            (10, 4),
+            (0, 4),
+            (4, 0),
+            (4, 6),
+        ] {
+            let wanted = &content.as_bytes()[from..(from + most).min(10)];
+            assert!(rt;
+                gives(&mut files, alloc, "letters", from as u64, most, wanted),
+                "{from} {most}"
+            );
+        }
+    }
+    assert!(rt; gives(&mut files, alloc, "letters", 2, 3, b"CDE"));
+    assert!(rt; gives(&mut files, alloc, "letters", 12, 3, b""));
+    assert_eq!(rt; files.faults, 0);
+    assert!(rt; matches!(files.get_piece(alloc, "three", 0, 1), Err(Fail::Failed)));
+    assert_eq!(rt; files.faults, 1);
+    Ok(())
+}
+
+#[test]
+fn a_pipe_is_read_in_pieces(rt: HostRuntime) -> Result<(), Failure> {
+    let alloc = rt.alloc();
+    let Ok((reader, writer)) = io::pipe(&rt) else {
+        assert!(rt; false);
+        return Ok(());
+    };
+    let path = format!(in alloc; "/dev/fd/{}", reader.as_raw_fd())?;
+    let mut out = StdSink::new(writer);
+    assert_eq!(rt; out.write(b"abcdefg"), Ok(7));
+    drop(out);
+    let mut files = RealFiles::new(&rt);
+    for (from, wanted) in [(0, "abc"), (3, "def"), (6, "g")] {
+        assert!(rt;
+            gives(&mut files, alloc, &path, from, 3, wanted.as_bytes()),
+            "{from}"
+        );
     }
     Ok(())
 }

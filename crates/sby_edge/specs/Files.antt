@@ -1,5 +1,5 @@
 -- A store of files: what each path has.
-use Rattle.std.specs.Prelude.{◌≡◌, ℕ, ◌+◌, ◌<◌, ◌≤◌, List, length, take, Option, Some, None, IfSome, Result, IsOk, IsErrOf, if◌then◌else◌}
+use Rattle.std.specs.Prelude.{◌≡◌, ℕ, ◌+◌, ◌<◌, ◌≤◌, List, length, take, drop, Option, Some, None, IfSome, Result, IsOk, IsErrOf, if◌then◌else◌}
 use Rattle.std.specs.Str.{bytes_eq}
 use Rattle.sby_edge.specs.declared.outside.Fail.{Fail}
 use Rattle.sby_edge.specs.declared.outside.Fail.TheVariants.{Failed as FailFailed, Memory as FailMemory}
@@ -33,6 +33,20 @@ GotFrom (Some store) path most got = GotAt (store path) most got
 abbrev pub GotFits : ℕ → Got → Type 0
 GotFits most (All got) = length got.items ≤ most
 GotFits most (Long got) = length got.items ≡ most + 1
+
+-- a piece of a content: its bytes from a place on, at most so many
+abbrev pub PieceOf : List ℕ → ℕ → ℕ → List ℕ → Type 0
+PieceOf bytes from most piece = piece ≡ take most (drop from bytes)
+
+-- a piece of what a path has; where it has nothing, there is none
+abbrev pub PieceAt : Option (List ℕ) → ℕ → ℕ → List ℕ → Type 0
+PieceAt None from most piece = ⊥
+PieceAt (Some bytes) from most piece = PieceOf bytes from most piece
+
+-- a piece of what a store has, where it is told
+abbrev pub PieceFrom : Option Store → List ℕ → ℕ → ℕ → List ℕ → Type 0
+PieceFrom None path from most piece = Unit {0}
+PieceFrom (Some store) path from most piece = PieceAt (store path) from most piece
 
 -- The path at which a call last failed, where it is told: this one, if this call failed; else the one before.
 pub record Blames {T : Type 0} (before now : Option (List ℕ)) (path : List ℕ) (result : Result T Fail) : Type 0 where

@@ -4,7 +4,7 @@ ghost use Rattle.std.specs.Prelude.{◌≡◌, ◌+◌, ◌<◌, ◌≤◌, ◌�
 ghost use Rattle.std.specs.FinMap as map;
 ghost use Rattle.sby_edge.specs.Calls.{Called, NextFails, failed, served, uncalled};
 ghost use Rattle.sby_edge.specs.Cause.{HasCause, HasPlainCause, greatest};
-ghost use Rattle.sby_edge.specs.Files.{Blames, GotAt, GotFits, GotOf, put_at};
+ghost use Rattle.sby_edge.specs.Files.{Blames, GotAt, GotFits, GotOf, PieceAt, PieceOf, put_at};
 ghost use Rattle.sby_edge.specs.Memory.{IsFull, store_of};
 
 use crate::calls::Calls;
@@ -13,8 +13,8 @@ use crate::{Fail, Failed, Files, Got, Sink};
 use std::alloc::{AllocError, Global};
 use std::marker::Model;
 
-/// A store in memory. The calls that its maker lists fail, and so does a `get` of a missing path. Contracts see its contents and
-/// its calls.
+/// A store in memory. The calls that its maker lists fail, and so does one for the content of a missing path. Contracts see its
+/// contents and its calls.
 #[derive(Drop)]
 pub struct MemFiles {
     contents: Contents,
@@ -34,7 +34,7 @@ impl Model for MemFiles {
 }
 
 impl MemFiles {
-    /// An empty store. The listed calls of `get` and `put` fail, counted together from 1.
+    /// An empty store. The listed calls of `get`, `get_piece` and `put` fail, counted together from 1.
     pub fn new(alloc: Global, failing: Vec<u64>) -> Self
         ensures empty { result.contents ≡ map.empty }
         ensures calls { result.calls ≡ uncalled failing.items }
@@ -87,6 +87,16 @@ pub(crate) fn cut(alloc: Global, bytes: &[u8], most: u64) -> Result<Got, AllocEr
     }
 }
 
+// A piece of a content.
+fn piece_of(alloc: Global, bytes: &[u8], from: u64, most: usize) -> Result<Vec<u8>, AllocError>
+    ensures piece { IfOk result (λ piece. PieceOf bytes.now from most piece.items) }
+    ensures fits { IfOk result (λ piece. length piece.items ≤ most) }
+{
+    let start = from.min(bytes.len() as u64) as usize;
+    let rest = &bytes[start..];
+    Vec::from_slice(alloc, &rest[..most.min(rest.len())])
+}
+
 impl Files for MemFiles {
     ghost told = { λ m. Some (store_of m.contents) };
 
@@ -112,6 +122,38 @@ impl Files for MemFiles {
                 let got = cut(alloc, content, most)?;
                 self.calls.serve();
                 Ok(got)
+            }
+            None => {
+                self.fail(alloc, path);
+                Err(Fail::Failed)
+            }
+        }
+    }
+
+    fn get_piece(
+        &mut self,
+        alloc: Global,
+        path: &str,
+        from: u64,
+        most: usize,
+    ) -> Result<Vec<u8>, Fail>
+        ensures content { IfOk result (λ piece. PieceAt (store_of self.old.contents path.now) from most piece.items) }
+        ensures fits { IfOk result (λ piece. length piece.items ≤ most) }
+        ensures same { self.new.contents ≡ self.old.contents }
+        ensures fails { (result ≡ Err Fail.Failed) ↔ (NextFails self.old.calls ⊎ IsNone (store_of self.old.contents path.now)) }
+        ensures called { Called self.old.calls self.new.calls result }
+        ensures cause { HasCause self.old.calls.faults self.new.calls.faults result }
+        ensures blames { Blames self.old.blamed self.new.blamed path.now result }
+    {
+        if self.calls.next_fails() {
+            self.fail(alloc, path);
+            return Err(Fail::Failed);
+        }
+        match self.contents.get(path) {
+            Some(content) => {
+                let piece = piece_of(alloc, content, from, most)?;
+                self.calls.serve();
+                Ok(piece)
             }
             None => {
                 self.fail(alloc, path);

@@ -3,7 +3,7 @@
 ghost use Rattle.std.specs.Prelude.{◌≡◌, ℕ, ◌<◌, ◌≤◌, ◌⊎◌, List, Option, IfOk, OnOk, OnErr, length, option_map};
 ghost use Rattle.sby_edge.specs.declared.outside.Fail.TheVariants.{Memory as FailMemory};
 ghost use Rattle.sby_edge.specs.Cause.{HasCause, HasPlainCause, Rose};
-ghost use Rattle.sby_edge.specs.Files.{Blames, GotFits, GotFrom, Store, put_at};
+ghost use Rattle.sby_edge.specs.Files.{Blames, GotFits, GotFrom, PieceFrom, Store, put_at};
 ghost use Rattle.sby_edge.specs.Sink.{EndsAt, Takes};
 
 use std::alloc::{AllocError, AllocFailed, Global};
@@ -85,6 +85,21 @@ pub trait Files {
     fn get(&mut self, alloc: Global, path: &str, most: u64) -> Result<Got, Fail>
         ensures content { IfOk result (λ got. GotFrom (told self.old) path.now most got) }
         ensures fits { IfOk result (λ got. GotFits most got) }
+        ensures same { told self.new ≡ told self.old }
+        ensures cause { HasCause (faults self.old) (faults self.new) result }
+        ensures blames { Blames (blamed self.old) (blamed self.new) path.now result };
+
+    /// The bytes of the content from place `from` on, at most `most` of them: fewer exactly where it ends before. A missing path is a
+    /// fault.
+    fn get_piece(
+        &mut self,
+        alloc: Global,
+        path: &str,
+        from: u64,
+        most: usize,
+    ) -> Result<Vec<u8>, Fail>
+        ensures content { IfOk result (λ piece. PieceFrom (told self.old) path.now from most piece.items) }
+        ensures fits { IfOk result (λ piece. length piece.items ≤ most) }
         ensures same { told self.new ≡ told self.old }
         ensures cause { HasCause (faults self.old) (faults self.new) result }
         ensures blames { Blames (blamed self.old) (blamed self.new) path.now result };
