@@ -68,38 +68,80 @@ fn a_slow_sink_is_offered_the_rest(rt: HostRuntime) -> Result<(), Fail> {
     Ok(())
 }
 
-// A scene whose task file has so many bytes, none of which is text.
-fn scene_of(alloc: Global, size: usize, told: &str) -> Result<Option<Scene>, AllocError> {
-    let Some(mut scene) = read_scene(alloc, NAMES, "rc 16\nwords two.sby", told)? else {
+// A scene of these lines, with a file of these bytes.
+fn scene_of(
+    alloc: Global,
+    head: &str,
+    told: &str,
+    path: &str,
+    bytes: Vec<u8>,
+) -> Result<Option<Scene>, AllocError> {
+    let Some(mut scene) = read_scene(alloc, NAMES, head, told)? else {
         return Ok(None);
     };
-    scene.files.push(Placed {
-        path: String::from_str(alloc, "two.sby")?,
-        bytes: vec![in alloc; 0xffu8; size]?,
-    })?;
+    let path = String::from_str(alloc, path)?;
+    scene.files.push(Placed { path, bytes })?;
     Ok(Some(scene))
+}
+
+fn is_told<H: Threads + Wait + SystemClock + Sync + Alloc<A = Global>>(
+    rt: &H,
+    head: &str,
+    told: &str,
+    path: &str,
+    bytes: Vec<u8>,
+) -> Result<bool, Fail> {
+    match scene_of(rt.alloc(), head, told, path, bytes)? {
+        Some(scene) => Ok(is_as_told(&scene, &run(rt, &scene)?)),
+        None => Ok(false),
+    }
 }
 
 const NOT_TEXT: &str = "> SBY [two] ERROR: sby line 1: NotText\n> SBY [two] DONE (ERROR, rc=16)";
 
 const LIMIT: &str = "> SBY [two] ERROR: sby line 0: Limit\n> SBY [two] DONE (ERROR, rc=16)";
 
-fn is_refused<H: Threads + Wait + SystemClock + Sync + Alloc<A = Global>>(
-    rt: &H,
-    size: usize,
-    told: &str,
-) -> Result<bool, Fail> {
-    match scene_of(rt.alloc(), size, told)? {
-        Some(scene) => Ok(is_as_told(&scene, &run(rt, &scene)?)),
-        None => Ok(false),
-    }
-}
-
 #[test]
 fn other_bytes_are_refused(rt: HostRuntime) -> Result<(), Fail> {
     // The last two: the most bytes of a task file, and one more.
     for (size, told) in [(3, NOT_TEXT), (0x100_0000, NOT_TEXT), (0x100_0001, LIMIT)] {
-        assert!(rt; is_refused(&rt, size, told)?, "{size}");
+        let bytes = vec![in rt.alloc(); 0xffu8; size]?;
+        assert!(rt;
+            is_told(&rt, "rc 16\nwords two.sby", told, "two.sby", bytes)?,
+            "{size}"
+        );
+    }
+    Ok(())
+}
+
+const STREAM: &str = "file t.il <T>
+words --judge t.il bmc 1 s0
+> SBY [t] design: 1 register bits, 1 assert, 0 assume, 0 cover";
+
+const PASSED: &str = "> SBY [t] base: UNSAT\n> SBY [t] DONE (PASS, rc=0)";
+
+const ENDED: &str = "rc 16
+> SBY [t] engine_0 base: certificate EarlyEnd at byte 65536
+> SBY [t] DONE (ERROR, rc=16)";
+
+const BROKEN: &str = "rc 16
+> SBY [t] engine_0 base: certificate BadLine at byte 131073
+> SBY [t] DONE (ERROR, rc=16)";
+
+#[test]
+fn long_streams_are_judged(rt: HostRuntime) -> Result<(), Fail> {
+    // Empty lines, then the last line: within the piece that is got first, as its end, and behind one and two such pieces.
+    for (lines, last, told) in [
+        (65_534, "0\n", PASSED),
+        (65_535, "0\n", PASSED),
+        (65_536, "", ENDED),
+        (65_536, "0", PASSED),
+        (131_073, "x", BROKEN),
+        (200_000, "0\n", PASSED),
+    ] {
+        let mut bytes = vec![in rt.alloc(); b'\n'; lines]?;
+        bytes.extend_from_slice(last.as_bytes())?;
+        assert!(rt; is_told(&rt, STREAM, told, "s0", bytes)?, "{lines}");
     }
     Ok(())
 }

@@ -1,53 +1,63 @@
-use Rattle.std.proofs.Common.{◌≡◌, ℕ, ◌+◌, ◌<◌, List, ◌++◌, refl, ap, sym, ◌∙◌, subst, inl, inr, length, take, drop, arith}
-use Rattle.std.specs.Prelude.{◌≢◌, Bool, true, false, leb, IsTrue, Some, None, MatchOption, Result, Ok, Err}
-use Rattle.std.proofs.lemmas.Bool.{cases_lt, lt-leb}
-use Rattle.std.proofs.lemmas.List.{length-take-le, take-append-drop, take-append-le, take_all}
-use Rattle.cnf_form.specs.Cnf.{Assignment}
+-- What a judge's answers make of a job's stored stream.
+use Rattle.std.proofs.Common.{◌≡◌, ℕ, ◌+◌, ◌<◌, ◌≤◌, List, [], ◌++◌, refl, ap, sym, ◌∙◌, subst, inl, inr, length, take, drop, arith, append_assoc}
+use Rattle.std.specs.Prelude.{◌≢◌, Bool, true, false, IsTrue, Option, Some, None, MatchOption, Result, Ok, Err}
+use Rattle.std.proofs.lemmas.List.{append-nil, drop_all, length-append, length-take-le, take-append-drop}
+use Rattle.std.proofs.lemmas.Bool.{cases_lt}
+use Rattle.std.proofs.Math.Seq.{drop-append_seam}
+use Rattle.cnf_form.specs.Cnf.{Assignment, FormulaOf}
+use Rattle.cnf_form.specs.Dimacs.{IsDimacs}
 use Rattle.kind_judge.proofs.Fates.{within_most}
 use Rattle.kind_judge.specs.Fates.{IsFate, IsFateSoFar, stream_values}
+use Rattle.sby_edge.specs.Files.{PieceAt, PieceFrom, Store}
 use Rattle.stream_judge.specs.Fate.{Fate, Found as FoundFate, Unknown as UnknownFate, Bad as BadFate}
 use Rattle.stream_judge.specs.declared.stream.StreamKind.{StreamKind}
-use Rattle.stream_judge.specs.declared.stream.StreamKind.TheVariants.{Drup, Lrat, Proof, ProofBinary}
+use Rattle.judge.proofs.Problems.{one_formula}
 use Rattle.judge.specs.Finding.{FindingOf}
 use Rattle.race_core.specs.declared.end.JobEnd.{JobEnd}
+use Rattle.race_core.specs.declared.end.JobEnd.TheVariants.{Memory}
 use Rattle.judge.specs.Judging.{Ends, Feeds, Finds, FindsRun, IsSameJudge, JudgeOf, Took, fate_told, state_behind}
 use Rattle.judge.specs.Played.{IsPlayed, IsStreamsRun}
-use Rattle.judge.specs.Problem.{AskedOf}
+use Rattle.judge.specs.Problem.{AskedOf, IsJobFile}
 use Rattle.judge.specs.declared.judging.Progress.{Progress}
 use Rattle.judge.specs.declared.judging.Progress.TheVariants.{More, Done, Unknown as UnknownProgress}
 use Rattle.stream_judge.specs.declared.stream.BadCert.{BadCert}
 use Rattle.design_meaning.specs.Runs.{CycleOf}
+use Rattle.sby_terms.specs.declared.names.Answer.TheVariants.{Sat}
 use Rattle.sby_terms.specs.declared.names.JobName.{JobName}
 use Rattle.judge.specs.declared.judging.State.TheVariants.{Over}
-use Rattle.sby_top.specs.Judged.{EndsWithRun, IsEndOf, IsFateEnd}
-use Rattle.sby_top.specs.Steps.{end_of, IsBytesJudged, IsTrueEnd, WasFed}
+use Rattle.sby_words.specs.Kinds.{IsKindNamed}
+use Rattle.sby_top.specs.Judged.{EndsWithRun, Has, IsEndOf, IsFateEnd, IsJudged}
+use Rattle.sby_top.specs.Steps.{end_of, IsTrueEnd, PathEnds, PieceEnds, StreamEnds}
 use Rattle.sby_top.specs.Served.{most_stream}
+use Rattle.sby_top.proofs.ValueLemmas.{values_stay}
+
+-- ---- a judge's answers
 
 -- the law that fates stay
 abbrev pub Stay : Type 0
 Stay = (kind : StreamKind) (job bytes rest : List ℕ) (most : ℕ) (fate : Fate) → IsFateSoFar kind job bytes most (Some fate) → IsFate kind job (bytes ++ rest) most fate
 
--- behind `most` bytes there is always a fate
-never_more : (kind : StreamKind) (job bytes : List ℕ) (most : ℕ) → most < length bytes → IsFateSoFar kind job bytes most None → ⊥
-never_more kind job bytes most long h = let few = within_most kind job bytes most h in omega (arith, long, few)
+-- the job of a judge has a file
+abbrev pub HasFile : JudgeOf → Type 0
+HasFile j = (file : List ℕ) × IsJobFile j.asked j.job file
 
--- a cut stream goes on
-stream_goes_on : (bytes stream : List ℕ) (most : ℕ) → bytes ≡ take (most + 1) stream → stream ≡ bytes ++ drop (most + 1) stream
-stream_goes_on bytes stream most is = sym (take-append-drop (most + 1) stream) ∙ ap (λ b. b ++ drop (most + 1) stream) (sym is)
+more_only : (r : Result Progress BadCert) → fate_told r ≡ None → r ≡ Ok More
+more_only (Ok More) is = refl
+more_only (Ok (Done f)) is = cc
+more_only (Ok UnknownProgress) is = cc
+more_only (Err bad) is = cc
 
--- a fate in the bytes that were got is the stream's
-fate_of_stream : Stay → (kind : StreamKind) (file bytes stream : List ℕ) (most : ℕ) (fate : Fate) → bytes ≡ take (most + 1) stream → IsFateSoFar kind file bytes most (Some fate)
-    → IsFate kind file stream most fate
-fate_of_stream stays kind file bytes stream most fate is h =
-    subst (λ s. IsFate kind file s most fate) (sym (stream_goes_on bytes stream most is)) (stays kind file bytes (drop (most + 1) stream) most fate h)
+-- a judge that took bytes isn't over
+pub not_over : (j : JudgeOf) (bytes : List ℕ) → Took j bytes → j.state ≢ Over
+not_over j bytes took = let e = took.state in λ is. cc
 
--- where the bytes that were got have no fate yet, they are the whole stream
-stream_is_whole : (kind : StreamKind) (file bytes stream : List ℕ) (most : ℕ) → bytes ≡ take (most + 1) stream → IsFateSoFar kind file bytes most None → stream ≡ bytes
-stream_is_whole kind file bytes stream most is h = elim (cases_lt most (length stream)) [
-  | inl long ↦ let n : length bytes ≡ most + 1 = ap length is ∙ length-take-le (most + 1) stream (omega (arith, long)) in
-      absurd (never_more kind file bytes most (omega (arith, n)) h)
-  | inr short ↦ sym (take_all (most + 1) stream (omega (arith, short))) ∙ sym is
-]
+-- the judge answered no fate yet, and takes more
+pub goes_on : (j new : JudgeOf) (bytes : List ℕ) (r : Result Progress BadCert) → HasFile j → j.most ≡ most_stream → fate_told r ≡ None → Feeds j new bytes r → PieceEnds j new bytes None
+goes_on j new bytes r file most none fed = (
+  fed.same,
+  fed.stands (fed.state ∙ ap state_behind (more_only r none)),
+  subst (λ n. length bytes ≤ n) most (within_most j.kind file.0 bytes j.most (subst (IsFateSoFar j.kind file.0 bytes j.most) none (fed.fate file.0 file.1))),
+)
 
 -- the end by the fate that a judge told
 end_by_fate : (kind : StreamKind) (file stream : List ℕ) (r : Result Progress BadCert) → MatchOption (fate_told r) ⊥ (IsFate kind file stream most_stream) → IsFateEnd kind file stream (end_of r)
@@ -56,68 +66,13 @@ end_by_fate kind file stream (Ok (Done f)) h = h
 end_by_fate kind file stream (Ok UnknownProgress) h = h
 end_by_fate kind file stream (Err bad) h = (bad.kind, refl, h)
 
-told_fate : Stay → (kind : StreamKind) (file bytes stream : List ℕ) (most : ℕ) (r : Result Progress BadCert) → r ≢ Ok More → bytes ≡ take (most + 1) stream → IsFateSoFar kind file bytes most (fate_told r)
-    → MatchOption (fate_told r) ⊥ (IsFate kind file stream most)
-told_fate stay kind file bytes stream most (Ok More) apart is h = absurd (apart refl)
-told_fate stay kind file bytes stream most (Ok (Done f)) apart is h = fate_of_stream stay kind file bytes stream most (FoundFate f.answer) is h
-told_fate stay kind file bytes stream most (Ok UnknownProgress) apart is h = fate_of_stream stay kind file bytes stream most UnknownFate is h
-told_fate stay kind file bytes stream most (Err bad) apart is h = fate_of_stream stay kind file bytes stream most (BadFate bad.kind bad.at) is h
-
--- a judge answered a fate at once
-pub fed_at_once : Stay → (j new : JudgeOf) (bytes : List ℕ) (r : Result Progress BadCert) → r ≢ Ok More → Feeds j new bytes r → WasFed j bytes r
-fed_at_once stay j new bytes r apart fed = record {
-  finds = fed.finds;
-  fate = λ file stream is cut. told_fate stay j.kind file bytes stream j.most r apart cut (fed.fate file is);
-  run = (false, fed.run);
-}
-
--- what is found is of the problem and the job, whatever was taken before
-finds_same : (j mid : JudgeOf) (r : Result Progress BadCert) → IsSameJudge j mid → Finds mid.asked mid.job r → Finds j.asked j.job r
-finds_same j mid r same h = subst (λ k. Finds j.asked k r) same.1 (subst (λ p. Finds p mid.job r) same.0 h)
-
-run_same : (j mid : JudgeOf) (bytes : List ℕ) (r : Result Progress BadCert) → IsSameJudge j mid → FindsRun mid true bytes r → FindsRun j true bytes r
-run_same j mid bytes (Ok More) same h = tt
-run_same j mid bytes (Ok (Done f)) same h = λ sat step. let found = h sat (λ e. step (sym same.1 ∙ e)) in (
-  found.0,
-  found.1,
-  subst (λ k. IsStreamsRun j.asked j.job k true bytes j.most found.0) same.3 (subst (λ m. IsStreamsRun j.asked j.job mid.kind true bytes m found.0) same.2
-      (subst (λ k. IsStreamsRun j.asked k mid.kind true bytes mid.most found.0) same.1 (subst (λ p. IsStreamsRun p mid.job mid.kind true bytes mid.most found.0) same.0 found.2))),
-)
-run_same j mid bytes (Ok UnknownProgress) same h = tt
-run_same j mid bytes (Err bad) same h = tt
-
--- a judge answered at the end of the stream
-pub fed_to_end : (j mid new : JudgeOf) (bytes : List ℕ) (r : Result Progress BadCert) → Feeds j mid bytes (Ok More) → Ends mid new bytes r → WasFed j bytes r
-fed_to_end j mid new bytes r fed ended = record {
-  finds = finds_same j mid r fed.same ended.finds;
-  run = (true, run_same j mid bytes r fed.same ended.run);
-  fate = λ file stream is cut.
-      let more : IsFateSoFar j.kind file bytes j.most None = fed.fate file is in
-      let last : MatchOption (fate_told r) ⊥ (IsFate mid.kind file bytes mid.most) = ended.fate file (rw (fed.same.0, fed.same.1) is) in
-      let here : MatchOption (fate_told r) ⊥ (IsFate j.kind file bytes j.most) =
-      subst (λ k. MatchOption (fate_told r) ⊥ (IsFate k file bytes j.most)) fed.same.3 (subst (λ m. MatchOption (fate_told r) ⊥ (IsFate mid.kind file bytes m)) fed.same.2 last) in
-      subst (λ s. MatchOption (fate_told r) ⊥ (IsFate j.kind file s j.most)) (sym (stream_is_whole j.kind file bytes stream j.most cut more)) here;
-}
-
-more_only : (r : Result Progress BadCert) → fate_told r ≡ None → r ≡ Ok More
-more_only (Ok More) is = refl
-more_only (Ok (Done f)) is = cc
-more_only (Ok UnknownProgress) is = cc
-more_only (Err bad) is = cc
-
--- the judge answered no fate yet, and takes more
-pub took_after : (j mid : JudgeOf) (bytes : List ℕ) (r : Result Progress BadCert) → fate_told r ≡ None → Feeds j mid bytes r → Took mid bytes
-took_after j mid bytes r none fed = fed.stands (fed.state ∙ ap state_behind (more_only r none))
-
--- then it isn't over
-pub not_over : (j : JudgeOf) (bytes : List ℕ) → Took j bytes → j.state ≢ Over
-not_over j bytes took = let e = took.state in λ is. cc
-
-pub fed_then_ended : (j mid new : JudgeOf) (bytes : List ℕ) (first r : Result Progress BadCert) → fate_told first ≡ None → Feeds j mid bytes first → Ends mid new bytes r → WasFed j bytes r
-fed_then_ended j mid new bytes first r none fed ended = fed_to_end j mid new bytes r (subst (Feeds j mid bytes) (more_only first none) fed) ended
-
-pub fed_whole : Stay → (j new : JudgeOf) (bytes : List ℕ) (r : Result Progress BadCert) → (fate_told r ≡ None → ⊥) → Feeds j new bytes r → WasFed j bytes r
-fed_whole stay j new bytes r some fed = fed_at_once stay j new bytes r (λ e. some (ap fate_told e)) fed
+-- a fate in the first bytes is the stream's
+told_fate : Stay → (kind : StreamKind) (file bytes rest : List ℕ) (most : ℕ) (r : Result Progress BadCert) → (fate_told r ≡ None → ⊥) → IsFateSoFar kind file bytes most (fate_told r)
+    → MatchOption (fate_told r) ⊥ (IsFate kind file (bytes ++ rest) most)
+told_fate stay kind file bytes rest most (Ok More) some h = absurd (some refl)
+told_fate stay kind file bytes rest most (Ok (Done f)) some h = stay kind file bytes rest most (FoundFate f.answer) h
+told_fate stay kind file bytes rest most (Ok UnknownProgress) some h = stay kind file bytes rest most UnknownFate h
+told_fate stay kind file bytes rest most (Err bad) some h = stay kind file bytes rest most (BadFate bad.kind bad.at) h
 
 end_kind : (j : JudgeOf) (r : Result Progress BadCert) → Finds j.asked j.job r → IsTrueEnd (end_of r) → IsEndOf j.asked j.job (end_of r)
 end_kind j (Ok More) finds holds = tt
@@ -125,56 +80,161 @@ end_kind j (Ok (Done f)) finds holds = record { problem = finds.0; of_job = find
 end_kind j (Ok UnknownProgress) finds holds = tt
 end_kind j (Err bad) finds holds = tt
 
--- what counts of a stream counts of the bytes that were got of it
-counted : (most : ℕ) (stream : List ℕ) → leb (length (take (most + 1) stream)) most ≡ leb (length stream) most
-counted most stream = elim (cases_lt most (length stream)) [
-  | inl long ↦ let n = length-take-le (most + 1) stream (omega (arith, long)) in
-      lt-leb (length (take (most + 1) stream)) most (omega (arith, n)) ∙ sym (lt-leb (length stream) most long)
-  | inr short ↦ ap (λ s. leb (length s) most) (take_all (most + 1) stream (omega (arith, short)))
-]
+-- a run that is played from the values of the first bytes is the stream's
+run_stays : (p : AskedOf) (job : JobName) (kind : StreamKind) (bytes rest file : List ℕ) (most : ℕ) (run : List CycleOf) → IsJobFile p job file → IsFateSoFar kind file bytes most (Some (FoundFate Sat))
+    → IsStreamsRun p job kind false bytes most run → IsStreamsRun p job kind false (bytes ++ rest) most run
+run_stays p job kind bytes rest file most run is fate h =
+    let same : is.0 ≡ h.0.formula = one_formula p job is.0 h.0.formula is.1 (h.0, h.1, refl) in
+    let own : IsDimacs file h.0.formula = subst (IsDimacs file) same is.3 in
+    (h.0, h.1, subst (λ (x : Assignment). IsPlayed p h.0 x run) (values_stay kind file bytes rest most h.0.formula own fate) h.2)
 
-fewer : (most : ℕ) (stream : List ℕ) → take most (take (most + 1) stream) ≡ take most stream
-fewer most stream = elim (cases_lt most (length stream)) [
-  | inl long ↦ let n = length-take-le (most + 1) stream (omega (arith, long)) in
-      sym (take-append-le most (take (most + 1) stream) (drop (most + 1) stream) (omega (arith, n))) ∙ ap (take most) (take-append-drop (most + 1) stream)
-  | inr short ↦ ap (take most) (take_all (most + 1) stream (omega (arith, short)))
-]
+fed_run : (j : JudgeOf) (bytes rest : List ℕ) (r : Result Progress BadCert) → HasFile j → j.most ≡ most_stream → ((file : List ℕ) → IsJobFile j.asked j.job file → IsFateSoFar j.kind file bytes j.most (fate_told r))
+    → FindsRun j false bytes r → EndsWithRun j.asked j.job j.kind (bytes ++ rest) (end_of r)
+fed_run j bytes rest (Ok More) file most fate found = tt
+fed_run j bytes rest (Ok (Done f)) file most fate found = λ sat step.
+    let h = found sat step in
+    let own : IsFateSoFar j.kind file.0 bytes j.most (Some (FoundFate Sat)) = subst (λ answer. IsFateSoFar j.kind file.0 bytes j.most (Some (FoundFate answer))) sat (fate file.0 file.1) in
+    let run : IsStreamsRun j.asked j.job j.kind false (bytes ++ rest) j.most h.0 = run_stays j.asked j.job j.kind bytes rest file.0 j.most h.0 file.1 own h.2 in
+    (false, h.0, h.1, subst (λ m. IsStreamsRun j.asked j.job j.kind false (bytes ++ rest) m h.0) most run)
+fed_run j bytes rest (Ok UnknownProgress) file most fate found = tt
+fed_run j bytes rest (Err bad) file most fate found = tt
 
-same_values : (kind : StreamKind) (vars : ℕ) (ended : Bool) (bytes stream : List ℕ) (most : ℕ) → bytes ≡ take (most + 1) stream
-    → stream_values kind vars ended bytes most ≡ stream_values kind vars ended stream most
-same_values Drup vars ended bytes stream most is = rw (is, counted most stream, fewer most stream) refl
-same_values Lrat vars ended bytes stream most is = rw (is, counted most stream, fewer most stream) refl
-same_values Proof vars ended bytes stream most is = refl
-same_values ProofBinary vars ended bytes stream most is = refl
-
-same_run : (p : AskedOf) (job : JobName) (kind : StreamKind) (ended : Bool) (bytes stream : List ℕ) (most : ℕ) (run : List CycleOf) → bytes ≡ take (most + 1) stream
-    → IsStreamsRun p job kind ended bytes most run → IsStreamsRun p job kind ended stream most run
-same_run p job kind ended bytes stream most run cut h =
-    (h.0, h.1, subst (λ (x : Assignment). IsPlayed p h.0 x run) (same_values kind h.0.formula.vars ended bytes stream most cut) h.2)
-
--- the run of an end is played from the values of the stream
-end_run : (j : JudgeOf) (bytes stream : List ℕ) (ended : Bool) (r : Result Progress BadCert) → j.most ≡ most_stream → bytes ≡ take (most_stream + 1) stream
-    → FindsRun j ended bytes r → EndsWithRun j.asked j.job j.kind stream (end_of r)
-end_run j bytes stream ended (Ok More) most cut found = tt
-end_run j bytes stream ended (Ok (Done f)) most cut found = λ sat step. let h = found sat step in
-    (ended, h.0, h.1, same_run j.asked j.job j.kind ended bytes stream most_stream h.0 cut (subst (λ m. IsStreamsRun j.asked j.job j.kind ended bytes m h.0) most h.2))
-end_run j bytes stream ended (Ok UnknownProgress) most cut found = tt
-end_run j bytes stream ended (Err bad) most cut found = tt
-
--- a job whose judge was fed these bytes
-judged_by : (j : JudgeOf) (bytes : List ℕ) (r : Result Progress BadCert) → j.most ≡ most_stream → IsTrueEnd (end_of r) → WasFed j bytes r → IsBytesJudged j.asked j.job j.kind bytes (end_of r)
-judged_by j bytes r most holds was = record {
-  of = end_kind j r was.finds holds;
-  fate = λ file stream at cut.
-      end_by_fate j.kind file stream r (subst (λ m. MatchOption (fate_told r) ⊥ (IsFate j.kind file stream m)) most (was.fate file stream at (subst (λ m. bytes ≡ take (m + 1) stream) (sym most) cut)));
-  run = λ stream cut. end_run j bytes stream was.run.0 r most cut was.run.1;
+fed_end : Stay → (j new : JudgeOf) (bytes rest : List ℕ) (r : Result Progress BadCert) → HasFile j → j.most ≡ most_stream → (fate_told r ≡ None → ⊥) → IsTrueEnd (end_of r) → Feeds j new bytes r
+    → StreamEnds j (bytes ++ rest) (end_of r)
+fed_end stay j new bytes rest r file most some holds fed = record {
+  of = end_kind j r fed.finds holds;
+  fate = λ own is. end_by_fate j.kind own (bytes ++ rest) r
+      (subst (λ m. MatchOption (fate_told r) ⊥ (IsFate j.kind own (bytes ++ rest) m)) most (told_fate stay j.kind own bytes rest j.most r some (fed.fate own is)));
+  run = fed_run j bytes rest r file most fed.fate fed.run;
 }
 
-pub bytes_judged : (p : AskedOf) (job : JobName) (kind : StreamKind) (bytes : List ℕ) (j : JudgeOf) (r : Result Progress BadCert) (end : JobEnd FindingOf) → j.asked ≡ p → j.job ≡ job → j.kind ≡ kind
-    → j.most ≡ most_stream → end ≡ end_of r → IsTrueEnd end → WasFed j bytes r → IsBytesJudged p job kind bytes end
-bytes_judged p job kind bytes j r end asked is_job is_kind most is holds fed =
-    rw is (rw (← asked, ← is_job, ← is_kind) (judged_by j bytes r most (subst IsTrueEnd is holds) fed))
+-- the judge answered a fate
+pub fed_ends : Stay → (j new : JudgeOf) (bytes : List ℕ) (r : Result Progress BadCert) (end : JobEnd FindingOf) → HasFile j → j.most ≡ most_stream → (fate_told r ≡ None → ⊥) → end ≡ end_of r → IsTrueEnd end
+    → Feeds j new bytes r → PieceEnds j new bytes (Some end)
+fed_ends stay j new bytes r end file most some is holds fed =
+    rw is (λ rest. fed_end stay j new bytes rest r file most some (subst IsTrueEnd is holds) fed)
+
+ended_run : (j : JudgeOf) (bytes : List ℕ) (r : Result Progress BadCert) → j.most ≡ most_stream → FindsRun j true bytes r → EndsWithRun j.asked j.job j.kind bytes (end_of r)
+ended_run j bytes (Ok More) most found = tt
+ended_run j bytes (Ok (Done f)) most found = λ sat step. let h = found sat step in
+    (true, h.0, h.1, subst (λ m. IsStreamsRun j.asked j.job j.kind true bytes m h.0) most h.2)
+ended_run j bytes (Ok UnknownProgress) most found = tt
+ended_run j bytes (Err bad) most found = tt
+
+-- the judge answered at the end of the stream
+pub stream_ended : (j new : JudgeOf) (bytes : List ℕ) (r : Result Progress BadCert) (end : JobEnd FindingOf) → j.most ≡ most_stream → end ≡ end_of r → IsTrueEnd end → Ends j new bytes r → StreamEnds j bytes end
+stream_ended j new bytes r end most is holds ended = rw is (record {
+  of = end_kind j r ended.finds (subst IsTrueEnd is holds);
+  fate = λ file own. end_by_fate j.kind file bytes r (subst (λ m. MatchOption (fate_told r) ⊥ (IsFate j.kind file bytes m)) most (ended.fate file own));
+  run = ended_run j bytes r most ended.run;
+})
 
 pub never_both : (b : Bool) → b ≡ false → IsTrue b → ⊥
 never_both true is holds = cc
 never_both false is holds = cc
+
+-- ---- the pieces of a content
+
+-- a piece of at most so many bytes stands in a content behind these bytes, and only the last one is shorter
+pub record IsPieceBehind (content before piece : List ℕ) (most : ℕ) : Type 0 where
+  pub rest : List ℕ
+  pub parts : content ≡ before ++ piece ++ rest
+  pub last : length piece < most → rest ≡ []
+
+-- of what a path has, where the store tells
+abbrev pub IsNext : Option Store → List ℕ → List ℕ → List ℕ → ℕ → Type 0
+IsNext None path before piece most = Unit {0}
+IsNext (Some store) path before piece most = (content : List ℕ) × (store path ≡ Some content) × IsPieceBehind content before piece most
+
+short_last : (xs : List ℕ) (most : ℕ) → length (take most xs) < most → drop most xs ≡ []
+short_last xs most short = elim (cases_lt (length xs) most) [
+  | inl less ↦ drop_all most xs (omega (arith, less))
+  | inr enough ↦ absurd (let n = length-take-le most xs enough in omega (arith, short, n))
+]
+
+behind : (content before rest piece : List ℕ) (most : ℕ) → content ≡ before ++ rest → piece ≡ take most (drop (length before) content) → IsPieceBehind content before piece most
+behind content before rest piece most parts is =
+    let left : drop (length before) content ≡ rest = ap (drop (length before)) parts ∙ drop-append_seam before rest in
+    let own : piece ≡ take most rest = is ∙ ap (take most) left in
+    record {
+      rest = drop most rest;
+      parts = parts ∙ ap (λ r. before ++ r) (sym (take-append-drop most rest)) ∙ sym (append_assoc before (take most rest) (drop most rest)) ∙ ap (λ p. before ++ p ++ drop most rest) (sym own);
+      last = λ short. short_last rest most (subst (λ p. length p < most) own short);
+    }
+
+piece_at : (o : Option (List ℕ)) (content : List ℕ) (from most : ℕ) (piece : List ℕ) → PieceAt o from most piece → o ≡ Some content → piece ≡ take most (drop from content)
+piece_at None content from most piece got is = absurd got
+piece_at (Some bytes) content from most piece got is = let e : bytes ≡ content = cc in got ∙ ap (λ b. take most (drop from b)) e
+
+content_of : (o : Option (List ℕ)) (from most : ℕ) (piece : List ℕ) → PieceAt o from most piece → (content : List ℕ) × (o ≡ Some content)
+content_of None from most piece got = absurd got
+content_of (Some bytes) from most piece got = (bytes, refl)
+
+-- the first piece
+pub first_next : (told : Option Store) (path piece : List ℕ) (most : ℕ) → PieceFrom told path 0 most piece → IsNext told path [] piece most
+first_next None path piece most got = tt
+first_next (Some store) path piece most got =
+    let at = content_of (store path) 0 most piece got in
+    (at.0, at.1, behind at.0 [] at.0 piece most refl (piece_at (store path) at.0 0 most piece got at.1))
+
+-- the piece behind it
+pub next_behind : (told : Option Store) (path before piece next : List ℕ) (place most : ℕ) → IsNext told path before piece most → place ≡ length (before ++ piece) → PieceFrom told path place most next
+    → IsNext told path (before ++ piece) next most
+next_behind None path before piece next place most is at got = tt
+next_behind (Some store) path before piece next place most is at got =
+    let own : next ≡ take most (drop (length (before ++ piece)) is.0) = subst (λ n. next ≡ take most (drop n is.0)) at (piece_at (store path) is.0 place most next got is.1) in
+    (is.0, is.1, behind is.0 (before ++ piece) is.2.rest next most is.2.parts own)
+
+-- ---- what a path's stream comes to
+
+has_next : (told : Option Store) (path before piece : List ℕ) (most : ℕ) (P : List ℕ → Type 0) → IsNext told path before piece most → ((rest : List ℕ) → (length piece < most → rest ≡ []) → P (before ++ piece ++ rest)) → Has told path P
+has_next None path before piece most P is each = (before ++ piece ++ [], each [] (λ short. refl))
+has_next (Some store) path before piece most P is each = rw is.1 (subst P (sym is.2.parts) (each is.2.rest is.2.last))
+
+path_ends : (told : Option Store) (path before piece : List ℕ) (most : ℕ) (j : JudgeOf) (end : JobEnd FindingOf) → IsNext told path before piece most
+    → ((rest : List ℕ) → (length piece < most → rest ≡ []) → StreamEnds j (before ++ piece ++ rest) end) → PathEnds j told path end
+path_ends told path before piece most j end is each = record {
+  of = (each [] (λ short. refl)).of;
+  fate = λ file own. has_next told path before piece most (λ stream. IsFateEnd j.kind file stream end) is (λ rest last. (each rest last).fate file own);
+  run = has_next told path before piece most (λ stream. EndsWithRun j.asked j.job j.kind stream end) is (λ rest last. (each rest last).run);
+}
+
+-- the judge ended with this piece
+pub ended_within : (told : Option Store) (path before piece : List ℕ) (most : ℕ) (j new : JudgeOf) (end : JobEnd FindingOf) → IsNext told path before piece most → PieceEnds j new (before ++ piece) (Some end)
+    → PathEnds j told path end
+ended_within told path before piece most j new end is ends = path_ends told path before piece most j end is (λ rest last. ends rest)
+
+-- the stream ended with it
+pub ended_behind : (told : Option Store) (path before piece : List ℕ) (most : ℕ) (j : JudgeOf) (end : JobEnd FindingOf) → IsNext told path before piece most → length piece < most
+    → StreamEnds j (before ++ piece) end → PathEnds j told path end
+ended_behind told path before piece most j end is short ends =
+    path_ends told path before piece most j end is (λ rest last. subst (λ r. StreamEnds j (before ++ piece ++ r) end) (sym (last short)) (subst (λ s. StreamEnds j s end) (sym (append-nil (before ++ piece))) ends))
+
+pub same_still : (j mid new : JudgeOf) → IsSameJudge j mid → IsSameJudge mid new → IsSameJudge j new
+same_still j mid new first then = (then.0 ∙ first.0, then.1 ∙ first.1, then.2 ∙ first.2, then.3 ∙ first.3)
+
+-- whichever judge of the job it was
+pub same_judge : (told : Option Store) (path : List ℕ) (j mid : JudgeOf) (end : JobEnd FindingOf) → IsSameJudge j mid → PathEnds mid told path end → PathEnds j told path end
+same_judge told path j mid end same ends = record {
+  of = rw (← same.0, ← same.1) ends.of;
+  fate = λ file is. rw (← same.3) (ends.fate file (rw (same.0, same.1) is));
+  run = rw (← same.0, ← same.1, ← same.3) ends.run;
+}
+
+-- memory was wanting for the judge of a stream of which a piece was got
+pub wanting_at : (p : AskedOf) (told : Option Store) (job : JobName) (path piece : List ℕ) (most : ℕ) (kind : StreamKind) → IsKindNamed path kind → PieceFrom told path 0 most piece → IsJudged p told job path Memory
+wanting_at p told job path piece most kind named got =
+    let is = first_next told path piece most got in
+    record {
+      kind = kind;
+      named = named;
+      of = tt;
+      fate = λ file own. has_next told path [] piece most (λ stream. IsFateEnd kind file stream Memory) is (λ rest last. tt);
+      run = has_next told path [] piece most (λ stream. EndsWithRun p job kind stream Memory) is (λ rest last. tt);
+    }
+
+-- the stream was judged
+pub path_judged : (p : AskedOf) (told : Option Store) (job : JobName) (path : List ℕ) (kind : StreamKind) (j : JudgeOf) (end : JobEnd FindingOf) → IsKindNamed path kind → j.asked ≡ p → j.job ≡ job → j.kind ≡ kind
+    → PathEnds j told path end → IsJudged p told job path end
+path_judged p told job path kind j end named asked is_job is_kind ends =
+    rw (← asked, ← is_job) (record { kind = j.kind; named = rw is_kind named; of = ends.of; fate = ends.fate; run = ends.run })

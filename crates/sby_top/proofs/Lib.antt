@@ -1,5 +1,6 @@
 pub mod KindLemmas
 pub mod AnswerLemmas
+pub mod ValueLemmas
 pub mod JudgeLemmas
 pub mod JobLemmas
 pub mod ServeLemmas

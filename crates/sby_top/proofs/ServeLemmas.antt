@@ -10,17 +10,14 @@ use Rattle.sby_edge.specs.Files.{Store}
 use Rattle.judge.specs.Problem.{AskedOf, IsProblem}
 use Rattle.sby_terms.specs.declared.names.JobName.{JobName}
 use Rattle.judge.specs.Finding.{FindingOf}
-use Rattle.race_core.specs.declared.end.JobEnd.{JobEnd}
 use Rattle.sby_terms.specs.Path.{job_path}
 use Rattle.sby_lines.specs.declared.early.Early.{Early}
 use Rattle.sby_lines.specs.declared.early.Early.TheVariants.{File, Sby, Task, Read, Design, TooMany, Streams, Memory}
 use Rattle.sby_top.specs.Causes.{HasReason, IsHalted}
-use Rattle.sby_top.specs.Steps.{files_at, IsCutShort, IsFailedCall, IsPathJudged, IsPutFailed, IsRefusal, IsStreamGot, IsStreamJudged, IsTextFailed}
-use Rattle.sby_top.specs.Judged.{EndsWithRun, Has, IsFateEnd}
-use Rattle.sby_top.specs.Served.{ArePut, IsAccepted, IsGot, IsServed, IsTextOf, jobs_in, most_stream, slices_in}
+use Rattle.sby_top.specs.Steps.{files_at, IsCutShort, IsFailedCall, IsPutFailed, IsRefusal, IsTextFailed}
+use Rattle.sby_top.specs.Served.{ArePut, IsAccepted, IsServed, IsTextOf, jobs_in, slices_in}
 use Rattle.sby_top.specs.Task.{Stored, TaskOf, problem_of, streams_in}
 use Rattle.sby_top.specs.World.{FilesOf, IsFailedAt}
-use Rattle.sby_top.specs.declared.judge_stream.Stream.{Stream}
 
 -- ---- what is got
 
@@ -33,11 +30,6 @@ is_accepted told task text p got is problem = let t : p.problem.text ≡ text = 
   problem = problem;
 }
 
--- a fact of the content of a path that was got
-pub has_from : (told : Option Store) (path bytes : List ℕ) (P : List ℕ → Type 0) → IsGot told path most_stream bytes → ((content : List ℕ) → bytes ≡ take (most_stream + 1) content → P content) → Has told path P
-has_from None path bytes P got each = (bytes, each bytes (sym (take_all (most_stream + 1) bytes got)))
-has_from (Some store) path bytes P got each = rw got.1 (each got.0 got.2)
-
 -- the path that stands at a job's place
 pub path_given : {X Y : Type 0} (v : X → Y) (xs : List X) (i : ℕ) (r : Option (Bor X)) → IsItemAt xs i r → option_map (λ (s : Bor X). v s.now) r ≡ slice_get (map v xs) i
 path_given {X} v xs i None h = sym (slice_get-map v xs i ∙ ap (option_map v) (slice_get_past xs i h.3))
@@ -47,20 +39,6 @@ path_given {X} v xs i (Some r) h =
 
 pub path_among : {X Y : Type 0} (v : X → Y) (xs : List X) (i : ℕ) (r : Option (Bor X)) (path : Y) → IsItemAt xs i r → option_map (λ (s : Bor X). v s.now) r ≡ Some path → Contains (map v xs) path
 path_among v xs i r path h is = Contains-from_place (map v xs) i path (sym (path_given v xs i r h) ∙ is)
-
--- a job's stream was judged
-pub path_judged : (p : AskedOf) (told : Option Store) (job : JobName) (path : Option (List ℕ)) (stream : Option Stream) (end : JobEnd FindingOf) → IsStreamGot told path stream → IsStreamJudged p job stream end
-    → IsPathJudged p told job path end
-path_judged p told job None None end got judged = judged
-path_judged p told job (Some path) (Some s) end got judged = record {
-  kind = s.kind;
-  named = got.0;
-  of = judged.of;
-  fate = λ file is. has_from told path s.bytes.items (λ stream. IsFateEnd s.kind file stream end) got.1 (λ content cut. judged.fate file content is cut);
-  run = has_from told path s.bytes.items (λ stream. EndsWithRun p job s.kind stream end) got.1 (λ content cut. judged.run content cut);
-}
-path_judged p told job None (Some s) end got judged = absurd got
-path_judged p told job (Some path) None end got judged = absurd got
 
 -- ---- failed calls
 

@@ -1,32 +1,28 @@
 -- What the steps of a task answer, for the contracts of private functions.
-use Rattle.std.specs.Prelude.{◌≡◌, ◌⊎◌, ℕ, ◌+◌, ◌≤◌, List, Bool, take, string_bytes, Option, Some, None, slice_get, MatchOption, Result, Ok, Err, Contains}
+use Rattle.std.specs.Prelude.{◌≡◌, ◌⊎◌, ℕ, ◌≤◌, List, ◌++◌, length, take, string_bytes, Option, Some, None, slice_get, Result, Ok, Err, Contains}
 use Rattle.sby_edge.specs.Files.{Store}
 use Rattle.sby_edge.specs.declared.outside.Got.{Got}
 use Rattle.sby_edge.specs.declared.outside.Got.TheVariants.{All as Whole, Long}
-use Rattle.kind_judge.specs.Fates.{IsFate}
 use Rattle.judge.specs.Fault.{IsProblemFault}
 use Rattle.judge.specs.Finding.{FindingOf, IsTrueFinding}
-use Rattle.judge.specs.Judging.{Finds, FindsRun, JudgeOf, fate_told}
+use Rattle.judge.specs.Judging.{IsSameJudge, JudgeOf, Took}
 use Rattle.stream_judge.specs.Numbers.{number_of}
 use Rattle.judge.specs.Problem.{AskedOf, IsJobFile}
 use Rattle.judge.specs.declared.judging.Progress.{Progress}
 use Rattle.judge.specs.declared.judging.Progress.TheVariants.{More, Done, Unknown as UnknownProgress}
 use Rattle.judge.specs.declared.problem.ProblemFault.TheVariants.{Read as ReadFault, Design as DesignFault, TooMany as TooManyFault}
 use Rattle.stream_judge.specs.declared.stream.BadCert.{BadCert}
-use Rattle.stream_judge.specs.declared.stream.StreamKind.{StreamKind}
 use Rattle.race_core.specs.declared.end.JobEnd.{JobEnd}
 use Rattle.race_core.specs.declared.end.JobEnd.TheVariants.{Found, Unknown, NotServed, Bad, ReadFailed, StartFailed, HoldFailed, Skipped, CalledOff, Stopped, Memory as MemoryEnd}
 use Rattle.sby_terms.specs.Problem.{ProblemOf}
 use Rattle.sby_terms.specs.declared.names.JobName.{JobName}
 use Rattle.sby_terms.specs.Path.{job_path}
-use Rattle.sby_words.specs.Kinds.{IsKindNamed}
 use Rattle.sby_lines.specs.declared.early.Early.{Early}
 use Rattle.sby_lines.specs.declared.early.Early.TheVariants.{File, Sby, Task, Read, Design, TooMany, Streams, Memory}
-use Rattle.sby_top.specs.Judged.{EndsWithRun, IsEndOf, IsFateEnd, IsJudged}
-use Rattle.sby_top.specs.Served.{ArePut, IsGot, jobs_in, most_stream, slices_in}
+use Rattle.sby_top.specs.Judged.{EndsWithRun, Has, IsEndOf, IsFateEnd, IsJudged}
+use Rattle.sby_top.specs.Served.{ArePut, jobs_in, most_stream, slices_in}
 use Rattle.sby_top.specs.Task.{DesignAt, Stored}
 use Rattle.sby_top.specs.World.{FilesOf, IsFailedAt}
-use Rattle.sby_top.specs.declared.judge_stream.Stream.{Stream}
 
 -- the file store at a moment
 abbrev pub files_at : Option Store → ℕ → Option (List ℕ) → FilesOf
@@ -62,13 +58,6 @@ IsRefusal p (File path) = ⊥
 IsRefusal p (Sby fault) = ⊥
 IsRefusal p (Task fault) = ⊥
 IsRefusal p Streams = ⊥
-
--- the stream at a path was got, of the kind that the path names; or there is none
-abbrev pub IsStreamGot : Option Store → Option (List ℕ) → Option Stream → Type 0
-IsStreamGot told None None = Unit {0}
-IsStreamGot told (Some path) (Some s) = IsKindNamed path s.kind × IsGot told path most_stream s.bytes.items
-IsStreamGot told None (Some s) = ⊥
-IsStreamGot told (Some path) None = ⊥
 
 -- the stream at a job's path was judged, or it has none
 abbrev pub IsPathJudged : AskedOf → Option Store → JobName → Option (List ℕ) → JobEnd FindingOf → Type 0
@@ -107,12 +96,6 @@ IsTrueEnd (CalledOff f) = Unit {0}
 IsTrueEnd (Stopped reading) = Unit {0}
 IsTrueEnd MemoryEnd = Unit {0}
 
--- a judge was fed these bytes as its whole stream, or as one that goes on past what it takes
-pub record WasFed (j : JudgeOf) (bytes : List ℕ) (r : Result Progress BadCert) : Type 0 where
-  pub finds : Finds j.asked j.job r
-  pub fate : (file stream : List ℕ) → IsJobFile j.asked j.job file → bytes ≡ take (j.most + 1) stream → MatchOption (fate_told r) ⊥ (IsFate j.kind file stream j.most)
-  pub run : (ended : Bool) × FindsRun j ended bytes r
-
 -- the end of a job whose stream came to this
 abbrev pub end_of : Result Progress BadCert → JobEnd FindingOf
 end_of (Ok (Done f)) = Found f
@@ -120,13 +103,19 @@ end_of (Ok UnknownProgress) = Unknown
 end_of (Ok More) = Unknown
 end_of (Err bad) = Bad (number_of bad.kind) bad.at
 
--- these bytes of a stream of a kind were judged: as the whole stream, or as one that is cut behind `most_stream + 1` bytes
-pub record IsBytesJudged (p : AskedOf) (job : JobName) (kind : StreamKind) (bytes : List ℕ) (end : JobEnd FindingOf) : Type 0 where
-  pub of : IsEndOf p job end
-  pub fate : (file stream : List ℕ) → IsJobFile p job file → bytes ≡ take (most_stream + 1) stream → IsFateEnd kind file stream end
-  pub run : (stream : List ℕ) → bytes ≡ take (most_stream + 1) stream → EndsWithRun p job kind stream end
+-- this stream, as one for a judge's job and of its kind, ends the job so
+pub record StreamEnds (j : JudgeOf) (stream : List ℕ) (end : JobEnd FindingOf) : Type 0 where
+  pub of : IsEndOf j.asked j.job end
+  pub fate : (file : List ℕ) → IsJobFile j.asked j.job file → IsFateEnd j.kind file stream end
+  pub run : EndsWithRun j.asked j.job j.kind stream end
 
--- a job's stream was judged, or it has none
-abbrev pub IsStreamJudged : AskedOf → JobName → Option Stream → JobEnd FindingOf → Type 0
-IsStreamJudged p job None end = end ≡ NotServed
-IsStreamJudged p job (Some s) end = IsBytesJudged p job s.kind s.bytes.items end
+-- a judge took these bytes, and goes on; or they end its job so, whatever follows
+abbrev pub PieceEnds : JudgeOf → JudgeOf → List ℕ → Option (JobEnd FindingOf) → Type 0
+PieceEnds old new bytes None = IsSameJudge old new × Took new bytes × (length bytes ≤ most_stream)
+PieceEnds old new bytes (Some end) = (rest : List ℕ) → StreamEnds old (bytes ++ rest) end
+
+-- the stream at this path ends a judge's job so
+pub record PathEnds (j : JudgeOf) (told : Option Store) (path : List ℕ) (end : JobEnd FindingOf) : Type 0 where
+  pub of : IsEndOf j.asked j.job end
+  pub fate : (file : List ℕ) → IsJobFile j.asked j.job file → Has told path (λ stream. IsFateEnd j.kind file stream end)
+  pub run : Has told path (λ stream. EndsWithRun j.asked j.job j.kind stream end)

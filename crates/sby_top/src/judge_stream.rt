@@ -1,44 +1,31 @@
-// A job's stream is judged.
+// The stored stream of a job is judged piece by piece, as it is read.
 
-ghost use Rattle.std.specs.Prelude.{◌≡◌, ◌↔◌, [], IfOk, IsTrue, None};
+ghost use Rattle.std.specs.Prelude.{◌≡◌, ◌↔◌, ◌++◌, ◌≤◌, [], ℕ, List, IfErr, IfOk, IsTrue, None, OnOk};
 ghost use Rattle.judge.specs.Judging.{Took, fate_told};
-ghost use Rattle.judge.specs.Problem.{IsJob};
-ghost use Rattle.sby_top.specs.Steps.{end_of, IsBytesJudged, IsStreamJudged, IsTrueEnd, WasFed};
+ghost use Rattle.judge.specs.Problem.{IsJob, IsJobFile};
+ghost use Rattle.sby_edge.specs.Files.{PieceFrom};
+ghost use Rattle.sby_top.specs.Judged.{IsJudged};
+ghost use Rattle.sby_top.specs.Served.{most_stream};
+ghost use Rattle.sby_top.specs.Steps.{end_of, files_at, IsFailedCall, IsTrueEnd, PathEnds, PieceEnds, StreamEnds};
 
+use crate::serve::get_piece;
 use judge::{Finding, Judge, Problem, Progress};
 use kind_judge::fates_stay;
 use race_core::JobEnd;
+use sby_edge::Files;
+use sby_lines::Early;
 use sby_terms::{JobName, MAX_STREAM};
-use std::alloc::{AllocError, Global};
-use stream_judge::{BadCert, StreamKind};
+use sby_words::stream_kind;
+use std::alloc::Global;
+use stream_judge::BadCert;
 
-/// A stored stream.
-#[derive(Drop)]
-pub struct Stream {
-    /// What its path names.
-    pub kind: StreamKind,
-    /// At most `MAX_STREAM + 1` bytes: it is cut behind them.
-    pub bytes: Vec<u8>,
-}
+// How many bytes are got at once.
+const PIECE: usize = 1 << 16;
 
 fn is_more(answer: &Result<Progress, BadCert>) -> bool
     ensures { IsTrue result ↔ (fate_told answer.now ≡ None) }
 {
     matches!(answer, Ok(Progress::More))
-}
-
-// Feeds all bytes, and the end where they aren't a fate.
-fn feed_all(judge: &mut Judge, bytes: &[u8]) -> Result<Result<Progress, BadCert>, AllocError>
-    requires { Took judge.old [] }
-    ensures { IfOk result (λ r. WasFed judge.old bytes.now r) }
-{
-    fates_stay();
-    let answer = judge.feed(bytes)?;
-    if is_more(&answer) {
-        judge.end()
-    } else {
-        Ok(answer)
-    }
 }
 
 // The end of a job whose stream came to this. A stream that has ended came to something.
@@ -60,36 +47,91 @@ fn end_of(answer: Result<Progress, BadCert>) -> JobEnd<Finding>
     }
 }
 
-fn judge_bytes(
-    alloc: Global,
-    problem: &Problem,
-    job: JobName,
-    kind: StreamKind,
-    bytes: &[u8],
-) -> Result<JobEnd<Finding>, AllocError>
-    requires { IsJob problem.now job }
-    ensures { IfOk result (λ end. IsBytesJudged problem.now job kind bytes.now end) }
+// The end that the stream's next piece brings.
+fn feed_piece(judge: &mut Judge, piece: &[u8]) -> Option<JobEnd<Finding>>
+    requires took { (bytes : List ℕ) × Took judge.old bytes }
+    requires most { judge.old.most ≡ most_stream }
+    requires file { (file : List ℕ) × IsJobFile judge.old.asked judge.old.job file }
+    ensures { (bytes : List ℕ) → Took judge.old bytes → PieceEnds judge.old judge.new (bytes ++ piece.now) result }
 {
-    let mut judge = Judge::new(alloc, problem, job, kind, MAX_STREAM)?;
-    let answer = feed_all(&mut judge, bytes)?;
-    Ok(end_of(answer))
+    fates_stay();
+    let Ok(answer) = judge.feed(piece) else {
+        return Some(JobEnd::Memory);
+    };
+    if is_more(&answer) {
+        None
+    } else {
+        Some(end_of(answer))
+    }
 }
 
-/// The end of a job with this stream, or without one: by the fate of a stream of its kind as a certificate for the job's file.
-pub fn judge_job(
+// The end where the stream ends.
+fn end_stream(judge: &mut Judge) -> JobEnd<Finding>
+    requires { judge.old.most ≡ most_stream }
+    ensures { (bytes : List ℕ) → Took judge.old bytes → StreamEnds judge.old bytes result }
+{
+    match judge.end() {
+        Ok(answer) => end_of(answer),
+        Err(_) => JobEnd::Memory,
+    }
+}
+
+// Feeds the stream at a path, of which the first piece was got, until the judge needs no more or the stream ends.
+fn feed_all<F: Files>(
     alloc: Global,
+    files: &mut F,
+    path: &str,
+    judge: &mut Judge,
+    first: Vec<u8>,
+) -> Result<JobEnd<Finding>, Early>
+    requires took { Took judge.old [] }
+    requires most { judge.old.most ≡ most_stream }
+    requires file { (file : List ℕ) × IsJobFile judge.old.asked judge.old.job file }
+    requires first { PieceFrom (F.told files.old) path.now 0 PIECE first.items }
+    ensures ok { IfOk result (λ end. PathEnds judge.old (F.told files.old) path.now end) }
+    ensures failed { IfErr result (IsFailedCall (files_at (F.told files.old) (F.faults files.old) (F.blamed files.old)) (files_at (F.told files.new) (F.faults files.new) (F.blamed files.new)) path.now) }
+    ensures told { F.told files.new ≡ F.told files.old }
+    ensures still { OnOk result (F.faults files.new ≡ F.faults files.old) }
+    ensures blamed { OnOk result (F.blamed files.new ≡ F.blamed files.old) }
+    ensures later { F.faults files.old ≤ F.faults files.new }
+{
+    let mut piece = first;
+    let mut place: u64 = 0;
+    'pieces: loop {
+        if let Some(end) = feed_piece(judge, &piece) {
+            return Ok(end);
+        }
+        if piece.len() < PIECE {
+            return Ok(end_stream(judge));
+        }
+        place += piece.len() as u64;
+        piece = get_piece(alloc, files, path, place, PIECE)?;
+    }
+}
+
+/// The end of a job by the stream at this path: by its fate as a certificate for the job's file, of the kind that the path names. The
+/// stream is read as far as its judge needs it.
+pub fn judge_stored<F: Files>(
+    alloc: Global,
+    files: &mut F,
     problem: &Problem,
     job: JobName,
-    stream: &Option<Stream>,
-) -> JobEnd<Finding>
+    path: &str,
+) -> Result<JobEnd<Finding>, Early>
     requires { IsJob problem.now job }
-    ensures { IsStreamJudged problem.now job stream.now result }
+    ensures ok { IfOk result (λ end. IsJudged problem.now (F.told files.old) job path.now end) }
+    ensures failed { IfErr result (IsFailedCall (files_at (F.told files.old) (F.faults files.old) (F.blamed files.old)) (files_at (F.told files.new) (F.faults files.new) (F.blamed files.new)) path.now) }
+    ensures told { F.told files.new ≡ F.told files.old }
+    ensures still { OnOk result (F.faults files.new ≡ F.faults files.old) }
+    ensures blamed { OnOk result (F.blamed files.new ≡ F.blamed files.old) }
+    ensures later { F.faults files.old ≤ F.faults files.new }
 {
-    match stream {
-        None => JobEnd::NotServed,
-        Some(stream) => match judge_bytes(alloc, problem, job, stream.kind, &stream.bytes) {
-            Ok(end) => end,
-            Err(AllocError) => JobEnd::Memory,
-        },
-    }
+    let kind = stream_kind(path);
+    let first = get_piece(alloc, files, path, 0, PIECE)?;
+    let Ok(mut judge) = Judge::new(alloc, problem, job, kind, MAX_STREAM) else {
+        return Ok(JobEnd::Memory);
+    };
+    // The job has a file.
+    let _ = problem.job_bytes(job);
+    feed_all(alloc, files, path, &mut judge, first)
 }

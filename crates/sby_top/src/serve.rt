@@ -6,9 +6,9 @@ ghost use Rattle.sby_terms.specs.declared.names.JobName.{JobName};
 ghost use Rattle.sby_top.specs.Causes.{HasReason, IsDone};
 ghost use Rattle.sby_top.specs.Judged.{AreJudged, AreReports, AreStreamReports, racing_of};
 ghost use Rattle.sby_lines.specs.declared.early.Early.TheVariants.{Memory as EarlyMemory};
-ghost use Rattle.sby_top.specs.Steps.{files_at, got_items, IsCutShort, IsFailedCall, IsPathJudged, IsPutFailed, IsRefusal, IsStreamGot, IsTextFailed};
+ghost use Rattle.sby_top.specs.Steps.{files_at, got_items, IsCutShort, IsFailedCall, IsPathJudged, IsPutFailed, IsRefusal, IsTextFailed};
 ghost use Rattle.sby_top.specs.Served.{ArePut, IsGot, IsServed, IsTextOf, jobs_in, slices_in};
-ghost use Rattle.sby_edge.specs.Files.{put_at};
+ghost use Rattle.sby_edge.specs.Files.{PieceFrom, put_at};
 ghost use Rattle.sby_top.specs.Headline.{early_of};
 ghost use Rattle.judge.specs.Fault.{IsProblemFault};
 ghost use Rattle.sby_terms.specs.Problem.{ProblemOf};
@@ -18,14 +18,13 @@ ghost use Rattle.sby_top.specs.Task.{IsAskable, problem_of, design_seen, service
 ghost use Rattle.task_race.specs.Bays.{AreLater, counts_at};
 ghost use Rattle.task_race.specs.Ran.{LanesRan};
 
-use crate::judge_stream::{Stream, judge_job};
+use crate::judge_stream::judge_stored;
 use crate::task::{DesignAt, Service, Task};
 use judge::{Finding, Problem, ProblemFault};
 use race_core::{JobEnd, Report};
 use sby_edge::{Clock, Fail, Files, Got, Yard};
 use sby_lines::{Collected, Early};
-use sby_terms::{Engine, JobName, MAX_STREAM, job_path};
-use sby_words::stream_kind;
+use sby_terms::{Engine, JobName, job_path};
 use std::alloc::Global;
 use std::sync::Wait;
 use std::thread::Threads;
@@ -72,6 +71,28 @@ pub fn get<F: Files>(alloc: Global, files: &mut F, path: &str, most: u64) -> Res
 {
     match files.get(alloc, path, most) {
         Ok(got) => Ok(bytes_of(got)),
+        Err(Fail::Failed) => Err(file_fault(alloc, path)),
+        Err(Fail::Memory) => Err(Early::Memory),
+    }
+}
+
+/// Gets the bytes of the content of a path from a place on, at most `most` of them.
+pub fn get_piece<F: Files>(
+    alloc: Global,
+    files: &mut F,
+    path: &str,
+    from: u64,
+    most: usize,
+) -> Result<Vec<u8>, Early>
+    ensures got { IfOk result (λ piece. PieceFrom (F.told files.old) path.now from most piece.items) }
+    ensures failed { IfErr result (IsFailedCall (files_at (F.told files.old) (F.faults files.old) (F.blamed files.old)) (files_at (F.told files.new) (F.faults files.new) (F.blamed files.new)) path.now) }
+    ensures told { F.told files.new ≡ F.told files.old }
+    ensures still { OnOk result (F.faults files.new ≡ F.faults files.old) }
+    ensures blamed { OnOk result (F.blamed files.new ≡ F.blamed files.old) }
+    ensures later { F.faults files.old ≤ F.faults files.new }
+{
+    match files.get_piece(alloc, path, from, most) {
+        Ok(piece) => Ok(piece),
         Err(Fail::Failed) => Err(file_fault(alloc, path)),
         Err(Fail::Memory) => Err(Early::Memory),
     }
@@ -223,31 +244,7 @@ fn put_jobs<F: Files>(
     Ok(())
 }
 
-// Gets the stream at a path, if there is one.
-fn get_stream<F: Files>(
-    alloc: Global,
-    files: &mut F,
-    path: Option<&String>,
-) -> Result<Option<Stream>, Early>
-    ensures ok { IfOk result (λ stream. IsStreamGot (F.told files.old) (option_map (λ s. string_bytes s.now) path.entry) stream) }
-    ensures err { IfErr result (λ early. (at : List ℕ) × (option_map (λ s. string_bytes s.now) path.entry ≡ Some at)
-        × IsFailedCall (files_at (F.told files.old) (F.faults files.old) (F.blamed files.old)) (files_at (F.told files.new) (F.faults files.new) (F.blamed files.new)) at early) }
-    ensures told { F.told files.new ≡ F.told files.old }
-    ensures still { OnOk result (F.faults files.new ≡ F.faults files.old) }
-    ensures blamed { OnOk result (F.blamed files.new ≡ F.blamed files.old) }
-    ensures later { F.faults files.old ≤ F.faults files.new }
-{
-    match path {
-        Some(path) => {
-            let bytes = get(alloc, files, path.as_str(), MAX_STREAM)?;
-            let kind = stream_kind(path.as_str());
-            Ok(Some(Stream { kind, bytes }))
-        }
-        None => Ok(None),
-    }
-}
-
-// Gets the stream of the job at a place, and judges it.
+// Judges the stream of the job at a place, if there is one.
 fn judge_place<F: Files>(
     alloc: Global,
     files: &mut F,
@@ -265,11 +262,14 @@ fn judge_place<F: Files>(
     ensures blamed { OnOk result (F.blamed files.new ≡ F.blamed files.old) }
     ensures later { F.faults files.old ≤ F.faults files.new }
 {
-    let stream = get_stream(alloc, files, paths.get(place))?;
-    Ok(judge_job(alloc, problem, problem.job(place), &stream))
+    let job = problem.job(place);
+    match paths.get(place) {
+        Some(path) => judge_stored(alloc, files, problem, job, path.as_str()),
+        None => Ok(JobEnd::NotServed),
+    }
 }
 
-// Gets and judges the streams, in the order of the jobs. A job without one isn't served.
+// Judges the streams, in the order of the jobs. A job without one isn't served.
 fn judge_jobs<F: Files>(
     alloc: Global,
     files: &mut F,
@@ -295,7 +295,7 @@ fn judge_jobs<F: Files>(
     Ok(())
 }
 
-// Puts the jobs' files, then gets the streams and judges them.
+// Puts the jobs' files, then judges the streams.
 fn judge_streams<F: Files>(
     alloc: Global,
     files: &mut F,

@@ -1,18 +1,61 @@
-use Rattle.std.proofs.Common.{[]}
-use Rattle.std.proofs.lemmas.Result.{IfOk-weaker}
-use Rattle.sby_top.proofs.JudgeLemmas.{fed_then_ended, fed_whole, never_both, not_over, took_after}
+use Rattle.std.proofs.Common.{◌≡◌, ◌+◌, ◌<◌, ◌≤◌, ◌∙◌, [], List, ◌++◌, arith, length, refl, subst, sym}
+use Rattle.std.specs.Prelude.{ℕ, Some}
+use Rattle.std.proofs.lemmas.List.{length-append}
+use Rattle.judge.specs.Judging.{Took}
+use Rattle.sby_edge.specs.Files.{PieceFrom}
+use Rattle.sby_top.specs.Served.{most_stream}
+use Rattle.sby_top.specs.Steps.{PieceEnds}
+use Rattle.sby_top.proofs.JudgeLemmas.{ended_behind, ended_within, first_next, next_behind, same_judge, same_still}
 use Rattle.sby_top.proofs.judge_stream.feed_all.Goals as goal
 
-pub feed-requires : goal.feed-requires
-feed-requires c = not_over c.args.judge.now _ c.requires
+pub pieces-init : goal.pieces-init
+pieces-init g c = record {
+  same = (refl, refl, refl, refl);
+  next = ([], c.requires.took, refl, first_next (g.F.Files.told c.args.files.now) c.args.path.now c.args.first.items 65536 c.requires.first);
+  few = omega arith;
+  told = refl;
+  still = refl;
+  blamed = refl;
+}
 
-pub returns-then-is_more : goal.returns-then-is_more
-returns-then-is_more c =
-    let none = c.is_more.ensures.0 c.if-is_more.true in
-    let fed = c.in_ok-answer.ensures.feeds [] c.requires in
-    IfOk-weaker c.end.result _ _ (λ r ended. fed_then_ended c.args.judge.now c.feed.new.self _ c.args.bytes.now _ r none fed ended)
-    (c.end.ensures.ends c.args.bytes.now (took_after c.args.judge.now c.feed.new.self _ _ none fed))
+pub returns-in-Some-clause-ok : goal.returns-in-Some-clause-ok
+returns-in-Some-clause-ok g c =
+    let inv = c.pieces.invariant in
+    let told = g.F.Files.told c.args.files.now in
+    same_judge told c.args.path.now c.args.judge.now c.pieces.judge c.in-Some.end inv.same
+    (ended_within told c.args.path.now inv.next.0 c.pieces.piece.items 65536 c.pieces.judge c.feed_piece.new.judge c.in-Some.end inv.next.3
+    (subst (λ (p : List ℕ). PieceEnds c.pieces.judge c.feed_piece.new.judge (c.pieces.invariant.next.0 ++ p) (Some c.in-Some.end)) c.deref.ensures.value (c.in-Some.ensures inv.next.0 inv.next.1)))
 
-pub returns-else-is_more : goal.returns-else-is_more
-returns-else-is_more c = fed_whole c.fates_stay.ensures.whole c.args.judge.now c.feed.new.self c.args.bytes.now _
-    (λ none. never_both c.is_more.result c.if-is_more.false (c.is_more.ensures.1 none)) (c.in_ok-answer.ensures.feeds [] c.requires)
+pub returns-then-len-lt-PIECE-clause-ok : goal.returns-then-len-lt-PIECE-clause-ok
+returns-then-len-lt-PIECE-clause-ok g c =
+    let inv = c.pieces.invariant in
+    let told = g.F.Files.told c.args.files.now in
+    let fed = c.in_default.ensures inv.next.0 inv.next.1 in
+    let took = subst (λ (p : List ℕ). Took c.feed_piece.new.judge (c.pieces.invariant.next.0 ++ p)) c.deref.ensures.value fed.1 in
+    let short : length c.pieces.piece.items < 65536 = omega (arith, c.len.ensures, c.if-len-lt-PIECE.true) in
+    same_judge told c.args.path.now c.args.judge.now c.feed_piece.new.judge c.end_stream.result (same_still c.args.judge.now c.pieces.judge c.feed_piece.new.judge inv.same fed.0)
+    (ended_behind told c.args.path.now inv.next.0 c.pieces.piece.items 65536 c.feed_piece.new.judge c.end_stream.result inv.next.3 short (c.end_stream.ensures (inv.next.0 ++ c.pieces.piece.items) took))
+
+pub pieces-preserved : goal.pieces-preserved
+pieces-preserved g c =
+    let inv = c.pieces.invariant in
+    let told = g.F.Files.told c.args.files.now in
+    let fed = c.in_default.ensures inv.next.0 inv.next.1 in
+    let took = subst (λ (p : List ℕ). Took c.feed_piece.new.judge (c.pieces.invariant.next.0 ++ p)) c.deref.ensures.value fed.1 in
+    let fits = subst (λ (p : List ℕ). length (c.pieces.invariant.next.0 ++ p) ≤ most_stream) c.deref.ensures.value fed.2 in
+    let count : length (c.pieces.invariant.next.0 ++ c.pieces.piece.items) ≡ c.pieces.place + c.len-in-pieces.result =
+    omega (arith, length-append inv.next.0 c.pieces.piece.items, inv.next.2, c.len-in-pieces.ensures) in
+    record {
+      same = same_still c.args.judge.now c.pieces.judge c.feed_piece.new.judge inv.same fed.0;
+      next = (
+        inv.next.0 ++ c.pieces.piece.items,
+        took,
+        count,
+        next_behind told c.args.path.now inv.next.0 c.pieces.piece.items c.in_ok-piece.piece.items (c.pieces.place + c.len-in-pieces.result) 65536 inv.next.3 (sym count)
+            (subst (λ t. PieceFrom t c.args.path.now (c.pieces.place + c.len-in-pieces.result) 65536 c.in_ok-piece.piece.items) inv.told c.in_ok-piece.ensures.got),
+      );
+      few = omega (arith, count, fits);
+      told = c.in_ok-piece.ensures.told ∙ inv.told;
+      still = c.in_ok-piece.ensures.still ∙ inv.still;
+      blamed = c.in_ok-piece.ensures.blamed ∙ inv.blamed;
+    }
