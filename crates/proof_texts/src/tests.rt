@@ -2,5 +2,6 @@
 
 mod formulas;
 mod judges;
+mod pigeons;
 mod propagation;
 mod steps;

@@ -71,7 +71,7 @@ const TABLES: [&str; 22] = [
 #satisfied 2=v 2 0\nhello",
 ];
 
-fn formula_of(alloc: Global, text: &str) -> Result<Formula, Fail> {
+pub fn formula_of(alloc: Global, text: &str) -> Result<Formula, Fail> {
     match read_dimacs(alloc, text.as_bytes())? {
         Ok(formula) => Ok(formula),
         Err(_) => Err(Fail::from("no formula")),
@@ -106,7 +106,7 @@ fn outcome_of(judge: &mut KindJudge, front: &[u8], back: &[u8]) -> Result<Outcom
 }
 
 // What a stream in two pieces comes to.
-fn stream_told(
+pub fn stream_told(
     alloc: Global,
     formula: &Formula,
     kind: StreamKind,
