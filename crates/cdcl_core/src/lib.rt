@@ -3,6 +3,7 @@
 
 mod analysis;
 mod choose;
+mod cover;
 mod laws;
 mod learn;
 mod learnts;
@@ -16,6 +17,7 @@ mod reduce;
 mod search;
 mod shortening;
 mod solver;
+mod walk;
 
 pub use crate::laws::logged_lines_are_a_proof;
 pub use crate::log::Log;

@@ -24,6 +24,7 @@ pub(crate) struct Order {
     calm: bool,
     targets: Vec<bool>,
     longest: usize,
+    walk_is_due: bool,
 }
 
 impl Order {
@@ -51,6 +52,7 @@ impl Order {
             calm: false,
             targets,
             longest: 0,
+            walk_is_due: true,
         })
     }
 
@@ -88,6 +90,28 @@ impl Order {
             }
         }
         self.calm = calm;
+    }
+
+    // Whether a walk is to find signs, once guesses are over.
+    pub fn wants_walk(&self) -> bool {
+        self.walk_is_due && !self.luck.is_left()
+    }
+
+    // The walk is over, or there is none.
+    pub fn end_walk(&mut self) {
+        self.walk_is_due = false;
+    }
+
+    // Variables are decided by these signs. Nothing comes first where they satisfy all clauses.
+    pub fn follow(&mut self, signs: &[bool], satisfy: bool) {
+        for index in 0..signs.len() {
+            if index < self.signs.len() {
+                self.signs[index] = signs[index];
+            }
+        }
+        if satisfy {
+            self.has_goal = false;
+        }
     }
 
     // Keeps the signs of these true literals, where they are the most of a calm stretch.

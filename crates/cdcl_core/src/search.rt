@@ -9,8 +9,9 @@ ghost use Rattle.cdcl_core.specs.Levels.{IsDriven, IsPending, FoundFits};
 use crate::choose::choose;
 use crate::learn::restart;
 use crate::order::Order;
+use crate::walk::find_signs;
 use cnf_form::{Formula, Lit};
-use std::alloc::AllocError;
+use std::alloc::{AllocError, Global};
 use unit_propagation::Propagator;
 
 // What a search found: values for all variables, a falsified clause at level 0, or one above.
@@ -62,6 +63,7 @@ fn decide_on(
 
 // Searches from where the last clause that was learnt led to, or from level 0.
 pub(crate) fn find(
+    alloc: Global,
     core: &mut Propagator,
     order: &mut Order,
     formula: &Formula,
@@ -87,6 +89,7 @@ pub(crate) fn find(
     if anew {
         restart(core, order)?;
         order.luck.advance();
+        find_signs(alloc, core, formula.clauses().len(), order)?;
     }
     decide_on(core, order, formula)
 }

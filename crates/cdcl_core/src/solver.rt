@@ -278,8 +278,8 @@ fn next_turn<L: Log>(
     if guesses {
         tools.pace.begin();
     }
-    let anew = tools.pace.is_due() || guesses;
-    match find(core, &mut tools.order, formula, pending, anew)? {
+    let anew = tools.pace.is_due() || guesses || tools.order.wants_walk();
+    match find(alloc, core, &mut tools.order, formula, pending, anew)? {
         Found::Assigned => {
             let values = satisfying(alloc, core)?;
             Ok(Turn::Answered(Solved::Sat(values)))
