@@ -2,6 +2,7 @@
 
 ghost use Rattle.std.specs.Prelude.{◌≡◌, ◌+◌, ◌-◌, ◌^◌, ◌<◌, ◌≤◌, All, IfOk, OnOk, Some, length, replicate};
 ghost use Rattle.cnf_form.specs.Cnf.{LitWithin};
+ghost use Rattle.cnf_form.specs.declared.literal.TheConstants.{MAX_VARS};
 ghost use Rattle.gate_graph.specs.declared.gate.Gate.{Gate as GateOf};
 ghost use Rattle.gate_graph.specs.Circuit.{IsGates};
 ghost use Rattle.gate_graph.specs.Folding.{operands};
@@ -9,14 +10,14 @@ ghost use Rattle.gate_graph.specs.Kept.{OthersWithin};
 ghost use Rattle.gate_cone.specs.Cone.{marked, renamed};
 ghost use Rattle.gate_cone.specs.Copying.{AreBelow, AreCopied, HoldsBelow, MakesCopy, renamed_gate};
 
-use cnf_form::Lit;
-use gate_graph::{Gate, GateFault, Gates};
+use cnf_form::{Lit, MAX_VARS};
+use gate_graph::{Circuit, Gate};
 use std::alloc::{AllocError, Global};
 
 // Gates, and the literal of each variable of the gates that they were made from.
 #[derive(Drop)]
 pub struct Copied {
-    pub gates: Gates,
+    pub circuit: Circuit,
     pub lits: Vec<Lit>,
 }
 
@@ -43,17 +44,18 @@ fn renamed_gate(lits: &[Lit], gate: Gate) -> Gate
 }
 
 // The gate over the new literals, or an input where there is none.
-fn copy(gates: &mut Gates, lits: &[Lit], gate: Option<Gate>) -> Result<Lit, GateFault>
-    requires lits { All (LitWithin gates.old.formula.vars) lits.now }
+fn copy(circuit: &mut Circuit, lits: &[Lit], gate: Option<Gate>) -> Result<Lit, AllocError>
+    requires room { circuit.old.formula.vars < MAX_VARS }
+    requires lits { All (LitWithin circuit.old.formula.vars) lits.now }
     requires operands { (k : GateOf) → gate ≡ Some k → OthersWithin (length lits.now - 1) (operands k) }
-    ensures copy { IfOk result (MakesCopy gates.old gates.new lits.now gate) }
-    ensures gates { OnOk result (IsGates gates.new) }
+    ensures copy { IfOk result (MakesCopy circuit.old circuit.new lits.now gate) }
+    ensures gates { OnOk result (IsGates circuit.new) }
 {
     let lit = match gate {
-        Some(gate) => gates.gate(renamed_gate(lits, gate))?,
-        None => gates.input()?,
+        Some(gate) => circuit.gate(&renamed_gate(lits, gate))?,
+        None => circuit.input()?,
     };
-    gates.promise();
+    circuit.promise();
     Ok(lit)
 }
 
@@ -71,24 +73,24 @@ pub fn copy_marked(
     alloc: Global,
     table: &[Option<Gate>],
     marks: &[bool],
-) -> Result<Copied, GateFault>
+) -> Result<Copied, AllocError>
     requires some { 1 < length table.now }
     requires most { length table.now ≤ 2 ^ 27 + 1 }
     requires size { length marks.now ≡ length table.now }
     requires below { AreBelow table.now }
     requires closed { HoldsBelow table.now (marked marks.now) }
     ensures size { IfOk result (λ c. length c.lits.items ≡ length table.now) }
-    ensures copied { IfOk result (λ c. AreCopied table.now marks.now c.gates c.lits.items (length table.now)) }
+    ensures copied { IfOk result (λ c. AreCopied table.now marks.now c.circuit c.lits.items (length table.now)) }
 {
-    let mut gates = Gates::new(alloc)?;
-    let mut lits = copies_of(alloc, gates.constant(true), table.len())?;
-    gates.promise();
+    let mut circuit = Circuit::new(alloc)?;
+    let mut lits = copies_of(alloc, circuit.truth(), table.len())?;
+    circuit.promise();
     for v in 2..table.len() {
         if !marks[v] {
             continue;
         }
-        let lit = copy(&mut gates, &lits, table[v])?;
+        let lit = copy(&mut circuit, &lits, table[v])?;
         lits[v] = lit;
     }
-    Ok(Copied { gates, lits })
+    Ok(Copied { circuit, lits })
 }

@@ -9,7 +9,7 @@ use Rattle.gate_graph.specs.Circuit.{AgreeOn, AgreeTo, IsPartOf, IsFixed, IsGate
 use Rattle.gate_graph.specs.Laws.{Satisfies-front, put, put-same, put-other}
 use Rattle.gate_graph.specs.declared.gate.Gate.{Gate}
 use Rattle.gate_graph.specs.Folding.{operands}
-use Rattle.gate_graph.specs.Kept.{IsKept, IsOf, OthersWithin, lit_of, circuit_of}
+use Rattle.gate_graph.specs.Kept.{IsCircuit, IsKept, IsOf, OthersWithin, lit_of, circuit_of, clauses_from}
 use Rattle.gate_graph.proofs.Rising.{IsRising-input, IsRising-start}
 use Rattle.gate_graph.proofs.Rows.{Row, IsTable, clause_of}
 use Rattle.gate_graph.proofs.Tables.{contains_none, Satisfies-agrees, bit_agrees, table_holds, table_says, table_fixes, table_within}
@@ -134,15 +134,22 @@ module _ (n : ℕ) (F : List (List LitOf)) (is : List ℕ) (g : IsGates (circuit
     fixed = input_fixed;
   }
 
-pub IsKept-input : (n most : ℕ) (f : FormulaOf) (is : List ℕ) (es : List (Gate × LitOf)) → IsKept n most f is es → n < most → IsKept (n + 1) most f (is ++ (n + 1) ∷ []) es
-IsKept-input n most f is es p room = record {
-  gates = let m = p.limit in IsGates-input n f.clauses is p.gates (omega arith);
+pub IsCircuit-input : (n : ℕ) (f : FormulaOf) (is : List ℕ) → IsCircuit n f is → n < MAX_VARS → IsCircuit (n + 1) f (is ++ (n + 1) ∷ [])
+IsCircuit-input n f is p room = record {
+  gates = IsGates-input n f.clauses is p.gates room;
+  truth = p.truth;
+  some = omega arith;
+  room = p.room;
+}
+
+pub IsKept-input : (n most : ℕ) (is : List ℕ) (es : List (Gate × LitOf)) → IsKept n most is es → n < most → IsKept (n + 1) most (is ++ (n + 1) ∷ []) es
+IsKept-input n most is es p room = record {
+  gates = let m = p.limit in IsGates-input n (clauses_from es) is p.gates (omega arith);
   truth = p.truth;
   some = omega arith;
   below = omega arith;
   limit = p.limit;
-  room = p.room;
-  all = λ k l h. IsOf-more n f.clauses k l (p.all k l h);
+  all = λ k l h. IsOf-more n (clauses_from es) k l (p.all k l h);
   one = p.one;
   rising = IsRising-input n is es p.some (λ k l h. (p.all k l h).within.1) p.rising;
 }
@@ -173,15 +180,22 @@ module _ where
   unfolding truth_rows
   truth_table = record { sound = (tt, λ x f. refl, tt); covers = λ x. inl tt }
 
-  pub IsKept-start : (most : ℕ) → 1 ≤ most → most ≤ MAX_VARS → IsKept 1 most (record { vars = MAX_VARS; clauses = (lit_of 1 true ∷ []) ∷ [] }) [] []
+  pub IsCircuit-start : IsCircuit 1 (record { vars = MAX_VARS; clauses = (lit_of 1 true ∷ []) ∷ [] }) []
   unfolding truth_rows
-  IsKept-start most low high = record {
+  IsCircuit-start = record {
     gates = IsGates-gate 0 [] [] none (omega arith) (λ _. true) truth_rows truth_table;
     truth = λ x s. table_says 0 1 (λ _. true) x truth_rows truth_table.sound (truth_table.covers x) s;
     some = omega arith;
+    room = refl;
+  }
+
+  pub IsKept-start : (most : ℕ) → 1 ≤ most → most ≤ MAX_VARS → IsKept 1 most [] []
+  IsKept-start most low high = record {
+    gates = IsCircuit-start.gates;
+    truth = IsCircuit-start.truth;
+    some = omega arith;
     below = low;
     limit = high;
-    room = refl;
     all = λ k l h. absurd (contains_none (k, l) h);
     one = λ k l m h i. absurd (contains_none (k, l) h);
     rising = IsRising-start;

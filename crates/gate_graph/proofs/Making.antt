@@ -3,14 +3,18 @@ use Rattle.std.proofs.Common.{◌≡◌, ◌⊎◌, ℕ, ◌+◌, ◌<◌, Bool,
 use Rattle.std.specs.Prelude.{Contains}
 use Rattle.std.proofs.lemmas.List.Elements.{Contains-append_left, Contains-push, Contains-push_cases}
 use Rattle.std.proofs.lemmas.List.{append-nil}
+use Rattle.std.specs.List.{flat_map}
+use Rattle.std.proofs.lemmas.Grind.{flat_map-append}
+use Rattle.std.proofs.lemmas.List.Concat.{flat_map-cons}
 use Rattle.cnf_form.specs.Cnf.{LitOf, FormulaOf, Assignment, Satisfies, LitWithin, lit_in}
+use Rattle.cnf_form.specs.declared.literal.TheConstants.{MAX_VARS}
 use Rattle.gate_graph.specs.declared.gate.Gate.{Gate}
 use Rattle.gate_graph.specs.declared.gate.Asked.{Asked}
 use Rattle.gate_graph.specs.declared.gate.Asked.TheVariants.{Is, Make}
 use Rattle.gate_graph.specs.Circuit.{GatesOf, IsGates, Continues, MakesGate}
 use Rattle.gate_graph.specs.Folding.{bit, operands, clauses_of, asked, asked_bit, xor}
 use Rattle.gate_graph.specs.Laws.{Satisfies-front, Continues-refl}
-use Rattle.gate_graph.specs.Kept.{AreKept, HasRoom, IsKept, IsOf, IsNew, OthersWithin, Settles, gates_of, lit_of, signed, with_gate}
+use Rattle.gate_graph.specs.Kept.{AreKept, HasRoom, IsCircuit, IsKept, IsOf, IsNew, OthersWithin, Settles, circuit_of, circuit_with, clauses_from, gates_of, lit_of, signed, with_gate}
 use Rattle.gate_graph.proofs.Tables.{table_says}
 use Rattle.gate_graph.proofs.OneTable.{lit_negated, gate_clauses, gate_table, lines, rows_of}
 use Rattle.gate_graph.proofs.Keeping.{IsGates-gate, Satisfies-back, others_more}
@@ -24,25 +28,57 @@ module _ (n : ℕ) (F : List (List LitOf)) (k : Gate) (w : OthersWithin n (opera
       table_says n (n + 1) (bit k) x (rows_of (operands k) (lines k)) t.sound (t.covers x)
       (subst (Satisfies x) (gate_clauses (n + 1) k) (Satisfies-back x F (clauses_of (lit_of (n + 1) true) k) s))
 
-pub IsKept-gate : (n most : ℕ) (f g : FormulaOf) (is : List ℕ) (es : List (Gate × LitOf)) (k : Gate) → IsKept n most f is es → n < most → OthersWithin n (operands k) →
-    ((l : LitOf) → Contains es (k, l) → ⊥) → g.vars ≡ f.vars → g.clauses ≡ f.clauses ++ clauses_of (lit_of (n + 1) true) k → IsKept (n + 1) most g is (es ++ (k, lit_of (n + 1) true) ∷ [])
-IsKept-gate n most f g is es k p room w new ev ec = record {
-  gates = rw (ec, gate_clauses (n + 1) k) (let m = p.limit in IsGates-gate n f.clauses is p.gates (omega arith) (bit k) (rows_of (operands k) (lines k)) (gate_table n k w));
+  pub IsGates-next : (is : List ℕ) → IsGates (circuit_of n F is) → n < MAX_VARS → IsGates (circuit_of (n + 1) (F ++ clauses_of (lit_of (n + 1) true) k) is)
+  IsGates-next is g room = rw (gate_clauses (n + 1) k) (IsGates-gate n F is g room (bit k) (rows_of (operands k) (lines k)) (gate_table n k w))
+
+  pub MakesGate-circuit : (is : List ℕ) → let g = circuit_of n F is in MakesGate g (circuit_with g k) (bit k) (lit_of (n + 1) true)
+  MakesGate-circuit is = record {
+    continues = record {
+      vars = omega arith;
+      clauses = (clauses_of (lit_of (n + 1) true) k, refl);
+      inputs = ([], sym (append-nil is));
+      kept = ([], refl);
+      limit = refl;
+    };
+    inputs = refl;
+    most = omega arith;
+    within = (omega arith, omega arith);
+    means = means;
+  }
+
+-- the clauses of one gate more stand behind the others
+pub clauses_from-push : (es : List (Gate × LitOf)) (k : Gate) (l : LitOf) → clauses_from (es ++ (k, l) ∷ []) ≡ clauses_from es ++ clauses_of l k
+clauses_from-push es k l = ap (λ (F : List (List LitOf)). (lit_of 1 true ∷ []) ∷ F) (flat_map-append f es ((k, l) ∷ []) ∙ ap (λ (F : List (List LitOf)). flat_map f es ++ F) (flat_map-cons f (k, l) [] ∙ append-nil (clauses_of l k)))
+  where
+    f : Gate × LitOf → List (List LitOf)
+    f e = clauses_of e.1 e.0
+
+pub IsCircuit-gate : (n : ℕ) (f g : FormulaOf) (is : List ℕ) (k : Gate) → IsCircuit n f is → n < MAX_VARS → OthersWithin n (operands k) → g.vars ≡ f.vars → g.clauses ≡ f.clauses ++ clauses_of (lit_of (n + 1) true) k → IsCircuit (n + 1) g is
+IsCircuit-gate n f g is k p room w ev ec = record {
+  gates = rw ec (IsGates-next n f.clauses k w is p.gates room);
+  truth = λ x s. p.truth x (Satisfies-front x f.clauses (clauses_of (lit_of (n + 1) true) k) (subst (Satisfies x) ec s));
+  some = omega arith;
+  room = ev ∙ p.room;
+}
+
+pub IsKept-gate : (n most : ℕ) (is : List ℕ) (es : List (Gate × LitOf)) (k : Gate) → IsKept n most is es → n < most → OthersWithin n (operands k) →
+    ((l : LitOf) → Contains es (k, l) → ⊥) → IsKept (n + 1) most is (es ++ (k, lit_of (n + 1) true) ∷ [])
+IsKept-gate n most is es k p room w new = record {
+  gates = let m = p.limit in subst (λ (F : List (List LitOf)). IsGates (circuit_of (n + 1) F is)) (sym ec) (IsGates-next n (clauses_from es) k w is p.gates (omega arith));
   truth = λ x s. p.truth x (front x s);
   some = omega arith;
   below = omega arith;
   limit = p.limit;
-  room = ev ∙ p.room;
   all = λ j l h. elim (Contains-push_cases es (k, lit_of (n + 1) true) (j, l) h) [
     | inl i ↦ let o = p.all j l i in record {
       operands = others_more n (operands j) o.operands;
       within = let (a, b) = o.within in (a, omega arith);
       means = λ x s. o.means x (front x s);
     }
-    | inr e ↦ subst (λ (d : Gate × LitOf). IsOf (n + 1) g.clauses d.0 d.1) e (record {
+    | inr e ↦ subst (λ (d : Gate × LitOf). IsOf (n + 1) (clauses_from (es ++ (k, lit_of (n + 1) true) ∷ [])) d.0 d.1) e (record {
       operands = others_more n (operands k) w;
       within = (omega arith, omega arith);
-      means = λ x s. means n f.clauses k w x (subst (Satisfies x) ec s);
+      means = λ x s. means n (clauses_from es) k w x (subst (Satisfies x) ec s);
     })
   ];
   one = λ j l m h i. elim (Contains-push_cases es (k, lit_of (n + 1) true) (j, l) h) [
@@ -58,12 +94,11 @@ IsKept-gate n most f g is es k p room w new ev ec = record {
   rising = IsRising-gate n is es k p.some (λ v c. (p.gates.inputs_within v c).1) (λ j l c. (p.all j l c).within.1) w p.rising;
 }
   where
-    front : (x : Assignment) → Satisfies x g.clauses → Satisfies x f.clauses
-    front x s = Satisfies-front x f.clauses (clauses_of (lit_of (n + 1) true) k) (subst (Satisfies x) ec s)
+    ec : clauses_from (es ++ (k, lit_of (n + 1) true) ∷ []) ≡ clauses_from es ++ clauses_of (lit_of (n + 1) true) k
+    ec = clauses_from-push es k (lit_of (n + 1) true)
 
--- the view while memory lasts
-abbrev pub view_of : ℕ → ℕ → FormulaOf → List ℕ → List (Gate × LitOf) → Bool → GatesOf
-view_of n most f is es spent = gates_of n most f.clauses is es spent
+    front : (x : Assignment) → Satisfies x (clauses_from (es ++ (k, lit_of (n + 1) true) ∷ [])) → Satisfies x (clauses_from es)
+    front x s = Satisfies-front x (clauses_from es) (clauses_of (lit_of (n + 1) true) k) (subst (Satisfies x) ec s)
 
 signed_value : (x : Assignment) (s : Bool) (l : LitOf) → lit_in x (signed s l) ≡ xor s (lit_in x l)
 signed_value x true l = lit_negated x l
@@ -88,16 +123,16 @@ AskedWithin n (Is l) = LitWithin n l
 AskedWithin n (Make k s) = OthersWithin n (operands k)
 
 -- what settles a gate makes it
-pub settled : (old new : GatesOf) (f : FormulaOf) (g : Gate) (k : Asked) (l : LitOf) → IsKept old.formula.vars old.most f old.inputs old.kept → f.clauses ≡ old.formula.clauses →
+pub settled : (old new : GatesOf) (g : Gate) (k : Asked) (l : LitOf) → IsKept old.formula.vars old.most old.inputs old.kept → clauses_from old.kept ≡ old.formula.clauses →
     ((x : Assignment) → x 1 ≡ true → asked_bit k x ≡ bit g x) → AskedWithin old.formula.vars k → Settles old k new l → MakesGate old new (bit g) l
-settled old new f g (Is m) l p e v w (n, h) = rw (n, h) (record {
+settled old new g (Is m) l p e v w (n, h) = rw (n, h) (record {
   continues = Continues-refl old;
   inputs = refl;
   most = omega arith;
   within = w;
   means = λ x s. v x (p.truth x (subst (Satisfies x) (sym e) s));
 })
-settled old new f g (Make k s) l p e v w (m, h, inl (c, n)) = rw (n, h) (record {
+settled old new g (Make k s) l p e v w (m, h, inl (c, n)) = rw (n, h) (record {
   continues = Continues-refl old;
   inputs = refl;
   most = omega arith;
@@ -106,7 +141,7 @@ settled old new f g (Make k s) l p e v w (m, h, inl (c, n)) = rw (n, h) (record 
       let u = subst (Satisfies x) (sym e) t in
       signed_value x s m ∙ ap (xor s) ((p.all k m c).means x u) ∙ v x (p.truth x u);
 })
-settled old new f g (Make k s) l p e v w (m, h, inr (_, i, n)) = rw (n, h, i) (record {
+settled old new g (Make k s) l p e v w (m, h, inr (_, i, n)) = rw (n, h, i) (record {
   continues = Continues-gate old k;
   inputs = refl;
   most = omega arith;
@@ -120,8 +155,8 @@ pub Settles-signed : (old new : GatesOf) (k : Gate) (s : Bool) (l r : LitOf) →
 Settles-signed old new k s l r (m, h, c) e = (m, e ∙ ap (signed s) h, c)
 
 -- the promise
-pub IsGates-kept : (n most : ℕ) (f : FormulaOf) (is : List ℕ) (es : List (Gate × LitOf)) (spent : Bool) → IsKept n most f is es → IsGates (gates_of n most f.clauses is es spent)
-IsGates-kept n most f is es spent p = record {
+pub IsGates-kept : (n most : ℕ) (is : List ℕ) (es : List (Gate × LitOf)) (spent : Bool) → IsKept n most is es → IsGates (gates_of n most (clauses_from es) is es spent)
+IsGates-kept n most is es spent p = record {
   limit = p.gates.limit;
   within = p.gates.within;
   inputs_within = p.gates.inputs_within;
@@ -130,11 +165,11 @@ IsGates-kept n most f is es spent p = record {
   fixed = p.gates.fixed;
 }
 
-pub AreKept-kept : (n most : ℕ) (f : FormulaOf) (is : List ℕ) (es : List (Gate × LitOf)) (spent : Bool) → IsKept n most f is es → AreKept (gates_of n most f.clauses is es spent)
-AreKept-kept n most f is es spent p = record { all = p.all; one = p.one }
+pub AreKept-kept : (n most : ℕ) (is : List ℕ) (es : List (Gate × LitOf)) (spent : Bool) → IsKept n most is es → AreKept (gates_of n most (clauses_from es) is es spent)
+AreKept-kept n most is es spent p = record { all = p.all; one = p.one }
 
-pub HasRoom-kept : (n most : ℕ) (f : FormulaOf) (is : List ℕ) (es : List (Gate × LitOf)) (spent : Bool) → IsKept n most f is es → HasRoom (gates_of n most f.clauses is es spent)
-HasRoom-kept n most f is es spent p = record { some = p.some; below = p.below; limit = p.limit }
+pub HasRoom-kept : (n most : ℕ) (is : List ℕ) (es : List (Gate × LitOf)) (spent : Bool) → IsKept n most is es → HasRoom (gates_of n most (clauses_from es) is es spent)
+HasRoom-kept n most is es spent p = record { some = p.some; below = p.below; limit = p.limit }
 
 -- a gate that was settled is kept
 kept_then : (a b : GatesOf) (k : Gate) (m : LitOf) → (Contains a.kept (k, m) × (b ≡ a)) ⊎ (IsNew a k × (m ≡ lit_of (a.formula.vars + 1) true) × (b ≡ with_gate a k)) → Contains b.kept (k, m)

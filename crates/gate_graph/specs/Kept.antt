@@ -1,5 +1,6 @@
 -- Which gates are kept, and what a call for one does.
 use Rattle.std.specs.Prelude.{◌≡◌, ℕ, ◌<◌, ◌≤◌, ◌+◌, ◌-◌, Bool, true, false, not, if◌then◌else◌, ◌⊎◌, List, [], ◌∷◌, ◌++◌, Contains}
+use Rattle.std.specs.List.{flat_map}
 use Rattle.cnf_form.specs.Cnf.{LitOf, FormulaOf, Assignment, LitWithin, Satisfies, lit_in, negate}
 use Rattle.cnf_form.specs.declared.literal.TheConstants.{MAX_VARS}
 use Rattle.gate_graph.specs.declared.gate.Gate.{Gate}
@@ -11,9 +12,9 @@ use Rattle.gate_graph.specs.Circuit.{GatesOf, IsGates}
 abbrev pub gates_of : ℕ → ℕ → List (List LitOf) → List ℕ → List (Gate × LitOf) → Bool → GatesOf
 gates_of vars most clauses inputs kept spent = record { formula = record { vars = vars; clauses = clauses }; inputs = inputs; most = most; kept = kept; spent = spent }
 
--- the formula and the inputs alone
+-- gates of which none is found again
 abbrev pub circuit_of : ℕ → List (List LitOf) → List ℕ → GatesOf
-circuit_of vars clauses inputs = gates_of vars 0 clauses inputs [] false
+circuit_of vars clauses inputs = gates_of vars MAX_VARS clauses inputs [] false
 
 -- the literal of a variable with this value
 abbrev pub lit_of : ℕ → Bool → LitOf
@@ -55,17 +56,27 @@ pub record HasRoom (g : GatesOf) : Type 0 where
   pub below : g.formula.vars ≤ g.most
   pub limit : g.most ≤ MAX_VARS
 
--- what holds of the fields: the clauses are in a formula that has room for every variable
-pub record IsKept (vars most : ℕ) (formula : FormulaOf) (inputs : List ℕ) (kept : List (Gate × LitOf)) : Type 0 where
-  pub gates : IsGates (circuit_of vars formula.clauses inputs)
-  pub truth : (x : Assignment) → Satisfies x formula.clauses → x 1 ≡ true
+-- the clause of variable 1, which is true, and behind it the clauses of the gates, each with its literal
+abbrev pub clauses_from : List (Gate × LitOf) → List (List LitOf)
+clauses_from kept = (lit_of 1 true ∷ []) ∷ flat_map (λ (e : Gate × LitOf). clauses_of e.1 e.0) kept
+
+-- what holds of the fields
+pub record IsKept (vars most : ℕ) (inputs : List ℕ) (kept : List (Gate × LitOf)) : Type 0 where
+  pub gates : IsGates (circuit_of vars (clauses_from kept) inputs)
+  pub truth : (x : Assignment) → Satisfies x (clauses_from kept) → x 1 ≡ true
   pub some : 1 ≤ vars
   pub below : vars ≤ most
   pub limit : most ≤ MAX_VARS
-  pub room : formula.vars ≡ MAX_VARS
-  pub all : (k : Gate) (l : LitOf) → Contains kept (k, l) → IsOf vars formula.clauses k l
+  pub all : (k : Gate) (l : LitOf) → Contains kept (k, l) → IsOf vars (clauses_from kept) k l
   pub one : (k : Gate) (l m : LitOf) → Contains kept (k, l) → Contains kept (k, m) → l ≡ m
   pub rising : IsRising vars inputs kept
+
+-- what holds of the fields of a circuit, whose clauses are in a formula that has room for every variable
+pub record IsCircuit (vars : ℕ) (formula : FormulaOf) (inputs : List ℕ) : Type 0 where
+  pub gates : IsGates (circuit_of vars formula.clauses inputs)
+  pub truth : (x : Assignment) → Satisfies x formula.clauses → x 1 ≡ true
+  pub some : 1 ≤ vars
+  pub room : formula.vars ≡ MAX_VARS
 
 -- no literal has been made for the gate
 abbrev pub IsNew : GatesOf → Gate → Type 0
@@ -75,6 +86,10 @@ IsNew g k = (l : LitOf) → Contains g.kept (k, l) → ⊥
 abbrev pub with_gate : GatesOf → Gate → GatesOf
 with_gate g k = let l = lit_of (g.formula.vars + 1) true in
     gates_of (g.formula.vars + 1) g.most (g.formula.clauses ++ clauses_of l k) g.inputs (g.kept ++ (k, l) ∷ []) g.spent
+
+-- one more gate that is not found again
+abbrev pub circuit_with : GatesOf → Gate → GatesOf
+circuit_with g k = let l = lit_of (g.formula.vars + 1) true in circuit_of (g.formula.vars + 1) (g.formula.clauses ++ clauses_of l k) g.inputs
 
 -- one more input, at the next variable
 abbrev pub with_input : GatesOf → GatesOf

@@ -1,4 +1,4 @@
-// A formula that grows by inputs and gates.
+// A formula that grows by inputs and gates, of which the gates are kept and not the clauses.
 
 ghost use Rattle.std.specs.Prelude.{◌≡◌, ◌↔◌, ◌<◌, ◌≤◌, ◌+◌, Bool, ◌&&◌, not, if◌then◌else◌, true, false, [], IfOk, IfErr, IfSome, IfNone, IsFalse, IsTrue, OnOk, Contains};
 ghost use Rattle.cnf_form.specs.Cnf.{Assignment, LitOf, LitWithin, lit_in, negate};
@@ -10,7 +10,7 @@ ghost use Rattle.gate_graph.specs.Kept.{AreKept, HasRoom, IsFull, IsNew, IsRefus
 use crate::clauses::push_clauses;
 use crate::gate::{Asked, Gate, fold};
 use crate::kept::Kept;
-use cnf_form::{Clauses, Formula, Lit, MAX_VARS};
+use cnf_form::{Formula, Lit, MAX_VARS};
 use std::alloc::{AllocError, Global};
 use std::marker::Model;
 
@@ -34,8 +34,8 @@ impl From<AllocError> for GateFault {
     }
 }
 
-/// Inputs and gates over them, and the clauses that say what each gate is. A gate that is asked for again has the literal that it had,
-/// and what an operand decides alone (a constant, an equal or an opposite one) is no gate.
+/// Inputs and gates over them, which stand for the clauses that say what each gate is. A gate that is asked for again has the literal
+/// that it had, and what an operand decides alone (a constant, an equal or an opposite one) is no gate.
 ///
 /// Once a call wanted memory, each later call for an input or a gate answers `Memory`; nothing that was there is lost.
 #[derive(Drop)]
@@ -43,8 +43,6 @@ pub struct Gates {
     // The variables so far, of which variable 1 is true, and how many there may be.
     vars: u32,
     most: u32,
-    // The clauses so far, in a formula that has room for every variable.
-    formula: Formula,
     inputs: Vec<u32>,
     // The gates that were made, each with its literal.
     kept: Kept,
@@ -54,13 +52,13 @@ pub struct Gates {
 
 impl Model for Gates {
     ghost use Rattle.gate_graph.specs.Circuit.{GatesOf};
-    ghost use Rattle.gate_graph.specs.Kept.{gates_of, IsKept};
+    ghost use Rattle.gate_graph.specs.Kept.{clauses_from, gates_of, IsKept};
 
     ghost Value = { GatesOf };
 
-    ghost view = { λ g. gates_of g.vars g.most g.formula.clauses g.inputs.items g.kept g.spent };
+    ghost view = { λ g. gates_of g.vars g.most (clauses_from g.kept) g.inputs.items g.kept g.spent };
 
-    ghost invariant = { λ g. IsKept g.vars g.most g.formula g.inputs.items g.kept };
+    ghost invariant = { λ g. IsKept g.vars g.most g.inputs.items g.kept };
 }
 
 impl Gates {
@@ -85,13 +83,10 @@ impl Gates {
         ensures kept { IfOk result (λ g. g.kept ≡ []) }
         ensures live { IfOk result (λ g. g.spent ≡ false) }
     {
-        let mut formula = Formula::new(alloc, MAX_VARS);
-        formula.push(&[Lit::new(1, false)])?;
         let kept = Kept::new(alloc)?;
         Ok(Gates {
             vars: 1,
             most,
-            formula,
             inputs: Vec::new(alloc),
             kept,
             spent: false,
@@ -118,13 +113,6 @@ impl Gates {
         ensures { result.now ≡ self.now.inputs }
     {
         self.inputs.as_slice()
-    }
-
-    /// The clauses so far.
-    pub fn clauses(&self) -> Clauses<'_>
-        ensures { result ≡ self.now.formula.clauses }
-    {
-        self.formula.clauses()
     }
 
     /// What holds of all gates.
@@ -269,12 +257,16 @@ impl Gates {
         }
     }
 
-    /// The formula of what has been built. A clause that is pushed behind says what is to hold of the gates.
-    pub fn finish(self) -> Formula
-        ensures { result ≡ self.formula }
+    /// The formula of what has been built so far, made anew. A clause that is pushed behind says what is to hold of the gates.
+    pub fn formula(&self, alloc: Global) -> Result<Formula, AllocError>
+        ensures { IfOk result (λ f. f ≡ self.now.formula) }
     {
-        let Gates { vars, formula, .. } = self;
-        formula.with_vars(vars)
+        let mut formula = Formula::new(alloc, self.vars);
+        formula.push(&[Lit::new(1, false)])?;
+        for entry in self.kept.entries() {
+            push_clauses(&mut formula, &entry.0, entry.1)?;
+        }
+        Ok(formula)
     }
 
     /// The gates that were made, each with its literal, in the order in which they were made. What else there is is dropped.
@@ -311,7 +303,7 @@ impl Gates {
         self.kept.get(key)
     }
 
-    // One more variable, with the clauses that say what it is.
+    // One more variable, which is this gate.
     fn make(&mut self, key: Gate) -> Result<Lit, GateFault>
         requires live { self.old.spent ≡ false }
         requires room { self.old.formula.vars < self.old.most }
@@ -324,13 +316,6 @@ impl Gates {
         self.spent = true;
         let l = Lit::new(self.vars + 1, false);
         self.kept.push(key, l)?;
-        match push_clauses(&mut self.formula, &key, l) {
-            Ok(()) => {}
-            Err(_) => {
-                self.kept.pop();
-                return Err(GateFault::Memory);
-            }
-        }
         self.vars += 1;
         self.spent = false;
         Ok(l)

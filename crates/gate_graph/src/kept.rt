@@ -164,22 +164,18 @@ impl Kept {
         Ok(())
     }
 
-    // The gates with their literals.
+    // The gates with their literals, in the order in which they were pushed.
+    pub fn entries(&self) -> &[(Gate, Lit)]
+        ensures { result.now ≡ self.now }
+    {
+        self.entries.as_slice()
+    }
+
+    // The same, alone.
     pub fn into_entries(self) -> Vec<(Gate, Lit)>
         ensures { result.items ≡ self }
     {
         let Kept { entries, .. } = self;
         entries
-    }
-
-    // Takes back what was kept last.
-    pub fn pop(&mut self)
-        ensures { self.new ≡ take (length self.old - 1) self.old }
-    {
-        let Some((gate, _)) = self.entries.pop() else {
-            return;
-        };
-        let place = place_of(self.heads.len(), &gate);
-        self.heads[place] = self.links[self.entries.len()];
     }
 }

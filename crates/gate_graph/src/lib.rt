@@ -1,12 +1,14 @@
-//! Gates over literals, shared and folded, kept as the clauses that define them.
+//! Gates over literals, shared and folded, and the clauses that define them.
 #![tactic(auto)]
 
+mod circuit;
 mod clauses;
 mod gate;
 mod gates;
 mod kept;
 mod laws;
 
+pub use circuit::Circuit;
 pub use gate::{Asked, Gate};
 pub use gates::{GateFault, Gates};
 pub use laws::{

@@ -204,7 +204,7 @@ fn finish(alloc: Global, unrolled: Unrolled, width: usize) -> Result<Encoded, Al
     let starts = renamed_vars(alloc, &cone, starts.as_slice())?;
     let frames = renamed_frames(alloc, &cone, frames.as_slice())?;
     let goals = goals_of(alloc, frames.as_slice())?;
-    let mut formula = cone.gates.finish();
+    let mut formula = cone.circuit.finish();
     formula.push(goals.as_slice())?;
     Ok(Encoded {
         formula,

@@ -59,7 +59,8 @@ fn close(
     for (l, bit) in inputs.iter().zip(bits) {
         values.set(if *bit { *l } else { l.negate() });
     }
-    let clauses = gates.clauses();
+    let formula = gates.formula(alloc)?;
+    let clauses = formula.clauses();
     for place in 0..clauses.len() {
         if let Some(l) = values.unit(clauses.get(place)) {
             values.set(l);

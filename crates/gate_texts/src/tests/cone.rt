@@ -14,9 +14,10 @@ fn other_gates_are_left_out(rt: HostRuntime) -> Result<(), Fail> {
     let both = gates.and(a, b)?;
     let _ = gates.maj(other, both, c)?;
     let root = gates.xor(both, b)?;
-    assert_eq!(rt; (gates.vars(), gates.clauses().len()), (8, 18));
+    let formula = gates.formula(rt.alloc())?;
+    assert_eq!(rt; (gates.vars(), formula.clauses().len()), (8, 18));
     let cone = cone_of(rt.alloc(), gates, &[root.negate()])?;
-    assert_eq!(rt; (cone.gates.vars(), cone.gates.clauses().len()), (5, 8));
-    assert_eq!(rt; cone.gates.inputs().len(), 2);
+    assert_eq!(rt; (cone.circuit.vars(), cone.circuit.clauses().len()), (5, 8));
+    assert_eq!(rt; cone.circuit.inputs().len(), 2);
     Ok(())
 }

@@ -73,11 +73,13 @@ fn circuit_in(gates: &mut Gates) -> Result<Circuit, GateFault> {
 fn gates_have_their_values(rt: HostRuntime) -> Result<(), Fail> {
     let mut gates = Gates::new(rt.alloc())?;
     let circuit = circuit_in(&mut gates)?;
+    let formula = gates.formula(rt.alloc())?;
+    let clauses = formula.clauses();
     assert_eq!(rt;
-        (gates.vars(), gates.inputs().len(), gates.clauses().len()),
+        (gates.vars(), gates.inputs().len(), clauses.len()),
         (8, 3, 18)
     );
-    assert_eq!(rt; rows(&gates.finish().clauses(), &circuit), Some(8));
+    assert_eq!(rt; rows(&clauses, &circuit), Some(8));
     Ok(())
 }
 
@@ -107,6 +109,6 @@ fn is_full_behind_one(gates: &mut Gates) -> Result<bool, GateFault> {
 fn a_limit_refuses_what_is_new(rt: HostRuntime) -> Result<(), Fail> {
     let mut gates = Gates::within(rt.alloc(), 2)?;
     assert!(rt; is_full_behind_one(&mut gates)?);
-    assert_eq!(rt; gates.clauses().len(), 1);
+    assert_eq!(rt; gates.formula(rt.alloc())?.clauses().len(), 1);
     Ok(())
 }

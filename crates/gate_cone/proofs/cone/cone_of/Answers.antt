@@ -34,18 +34,18 @@ copy_marked-requires-clause-closed c =
     let t = subst (IsSpreadFrom c.deref-3.result.now c.args.roots.now) (sym c.deref-4.ensures.value) s in
     closed_from c.deref-3.result.now c.args.roots.now c.deref-4.result.now t
 
-pub returns-in-Ok-clause-cone : goal.returns-in-Ok-clause-cone
-returns-in-Ok-clause-cone c =
+pub returns-clause-cone : goal.returns-clause-cone
+returns-clause-cone c =
     let g = c.args.gates in
     let table = c.in_ok-table.table.items in
     let marks = c.in_ok-marks.marks.items in
-    let new = c.in-Ok.copied.gates in
-    let lits = c.in-Ok.copied.lits.items in
+    let new = c.in_ok-circuit.field-0.circuit in
+    let lits = c.in_ok-circuit.field-0.lits.items in
     let fits = subst (λ (es : List (Gate × LitOf)). IsTable es c.in_ok-table.table.items) (c.deref.ensures.value ∙ c.into_kept-kept.ensures) c.in_ok-table.ensures.table in
     let truth = subst (λ (l : LitOf). Means c.args.gates l (λ _. true)) c.constant.ensures.literal c.constant.ensures.means in
     let size : length c.in_ok-table.table.items ≡ c.args.gates.formula.vars + 1 = let a = c.in_ok-table.ensures.size in let b = c.vars-vars.ensures in omega arith in
     let many = subst (λ (t : List (Option Gate)). length c.in_ok-marks.marks.items ≡ length t) c.deref-2.ensures.value c.in_ok-marks.ensures.size in
     let s = subst (λ (t : List (Option Gate)). IsSpreadFrom t c.args.roots.now c.in_ok-marks.marks.items) c.deref-2.ensures.value c.in_ok-marks.ensures.spread in
-    let long = subst (λ (t : List (Option Gate)). length c.in-Ok.copied.lits.items ≡ length t) c.deref-3.ensures.value c.in-Ok.ensures.size in
-    let copied = rw (c.deref-3.ensures.value, c.deref-4.ensures.value) at c.in-Ok.ensures.copied in
+    let long = subst (λ (t : List (Option Gate)). length c.in_ok-circuit.field-0.lits.items ≡ length t) c.deref-3.ensures.value c.in_ok-circuit.ensures.size in
+    let copied = rw (c.deref-3.ensures.value, c.deref-4.ensures.value) at c.in_ok-circuit.ensures.copied in
     whole g c.promise.ensures.gates c.promise.ensures.kept c.promise.ensures.rising truth table fits size c.args.roots.now marks many s new lits long copied

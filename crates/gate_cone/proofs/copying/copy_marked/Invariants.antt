@@ -5,5 +5,5 @@ use Rattle.gate_cone.proofs.copying.copy_marked.Given as goal
 abbrev pub invariant-loop-v : goal.invariant-loop-v
 invariant-loop-v l = record {
   size : length l.lits.items ≡ length l.table;
-  copied : AreCopied l.table l.marks l.gates l.lits.items l.v;
+  copied : AreCopied l.table l.marks l.circuit l.lits.items l.v;
 }

@@ -13,7 +13,7 @@ pub push-requires : goal.push-requires
 push-requires c =
     let below = goals_below c.args.unrolled.gates.formula.vars (length c.in_ok-cone.cone.lits.items) c.args.unrolled.frames.items c.requires.goals c.in_ok-cone.ensures.cone.size in
     rw (c.as_slice-7.ensures.value, c.in_ok-goals-2.ensures, c.as_slice-6.ensures.value, c.in_ok-frames.ensures, c.as_slice-5.ensures.value, c.finish-formula.ensures)
-    (new_goals_within c.in_ok-cone.cone.gates.formula.vars c.in_ok-cone.cone.marks.items c.in_ok-cone.cone.lits.items c.args.unrolled.frames.items c.in_ok-cone.ensures.cone.within below)
+    (new_goals_within c.in_ok-cone.cone.circuit.formula.vars c.in_ok-cone.cone.marks.items c.in_ok-cone.cone.lits.items c.args.unrolled.frames.items c.in_ok-cone.ensures.cone.within below)
 
 pub new-requires : goal.new-requires
 new-requires c =

@@ -8,4 +8,4 @@ invariant_of-self-2 c =
     let i = c.self.inside in
     let room = subst (λ (g : GatesOf). g.formula.vars < g.most) (sym c.self.view_is) (c.is_full.ensures.room.0 c.if-is_full.false) in
     let v : c.var.result ≡ i.vars + 1 = c.var.ensures ∙ c.new-input.ensures.var in
-    rw (c.in-Ok.ensures.items, v) (IsKept-input i.vars i.most i.formula i.inputs.items i.kept c.self.invariant room)
+    rw (c.in-Ok.ensures.items, v) (IsKept-input i.vars i.most i.inputs.items i.kept c.self.invariant room)
