@@ -1,11 +1,11 @@
 -- The clauses that are present, after one came or went.
-use Rattle.std.proofs.Common.{◌≡◌, ℕ, ◌+◌, ◌*◌, ◌<◌, ◌≤◌, Bool, true, false, List, [], ◌∷◌, ◌++◌, length, set, take, refl, sym, ◌∙◌, ap, subst, inl, inr, arith, zero, suc}
+use Rattle.std.proofs.Common.{◌≡◌, ℕ, ◌+◌, ◌*◌, ◌<◌, ◌≤◌, Bool, true, false, List, [], ◌∷◌, ◌++◌, length, get_or, set, take, replicate, refl, sym, ◌∙◌, ap, subst, inl, inr, arith, zero, suc}
 use Rattle.std.specs.Prelude.{Contains, Option, Some, None}
 use Rattle.std.proofs.lemmas.Bool.{cases_Bool, cases_eq, cases_lt}
-use Rattle.std.proofs.lemmas.List.{get_or-set_same, get_or-set_other, get_or_past, get_or_default, get_or_append_left, get_or_push, length_push, length-set}
+use Rattle.std.proofs.lemmas.List.{get_or-set_same, get_or-set_other, get_or_past, get_or_default, get_or_append_left, get_or_push, length_push, length-set, length-replicate, get_or-replicate}
 use Rattle.std.proofs.lemmas.List.Elements.{Contains-append_left}
-use Rattle.cnf_form.specs.Cnf.{LitOf, SameClause, Conflict, IsReason, Removes, first, later, Deletes}
-use Rattle.cnf_form.proofs.Members.{take_one_more}
+use Rattle.cnf_form.specs.Cnf.{LitOf, index_of, SameClause, Conflict, IsReason, Removes, first, later, Deletes}
+use Rattle.cnf_form.proofs.Members.{take_one_more, Contains-empty}
 use Rattle.cnf_form.proofs.Removal.{Closure-monotone, Closure-without, Removes-cases}
 use Rattle.unit_propagation.specs.Propagation.{HasFalsified, IsDerived}
 use Rattle.unit_propagation.specs.Propagator.{PropagatorOf, clauses_of, present, slot_at, IsPut, IsWanting}
@@ -242,3 +242,34 @@ module _ (p q : PropagatorOf) (e : q ≡ record p { slots = present p.slots }) w
     derived = subst (λ F. IsDerived F p.trail) (sym (clauses_present p.slots)) r.derived;
     falsified = λ c. subst (HasFalsified p.trail) (sym (clauses_present p.slots)) (r.falsified c);
   })
+
+-- what holds at the beginning, when there are no clauses
+pub root_fresh : (p : PropagatorOf) → p.slots ≡ [] → p.trail ≡ [] → p.limits ≡ [] → p.conflict ≡ false → IsRoot p
+root_fresh p s t l c = record {
+  level = l;
+  derived = record { each = λ m h. absurd (Contains-empty m (subst (λ z. Contains z m) t h)) };
+  falsified = λ g. absurd (let f : false ≡ true = sym c ∙ g in cc);
+}
+
+pub free_fresh : (vars : ℕ) (marks : List Bool) → marks ≡ replicate (2 * vars + 2) false → IsFree vars marks
+free_fresh vars marks e = record {
+  sized = ap length e ∙ length-replicate (2 * vars + 2) false;
+  clear = record {
+    on = λ l h. absurd (Contains-empty l h);
+    off = λ l h. absurd (let f : false ≡ true = sym (unmarked (index_of l)) ∙ sym (ap (λ z. get_or z (index_of l) false) e) ∙ h in cc);
+  };
+}
+  where
+    unmarked : (i : ℕ) → get_or (replicate (2 * vars + 2) false) i false ≡ false
+    unmarked i =
+        elim (cases_lt i (2 * vars + 2)) [
+          | inl h ↦ get_or-replicate (2 * vars + 2) i false false h
+          | inr h ↦ get_or_past (replicate (2 * vars + 2) false) i false (omega (arith, length-replicate (2 * vars + 2) false, h))
+        ]
+
+pub filed_fresh : (p : PropagatorOf) (t : CopiesOf) → p.slots ≡ [] → t.count ≡ 0 → IsFiled p t
+filed_fresh p t s n = record {
+  each = λ k c e. absurd (let f : None ≡ Some c = sym (ap (λ z. slot_at z k) s) ∙ e in cc);
+  counted = omega (arith, n);
+  placed = omega (arith, ap length s);
+}

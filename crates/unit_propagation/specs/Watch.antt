@@ -1,5 +1,5 @@
 -- Watched literals: where clauses lie, and the lists of watches.
-use Rattle.std.specs.Prelude.{◌≡◌, ◌≢◌, ◌⊎◌, ◌==◌, ℕ, ◌+◌, ◌<◌, ◌≤◌, if◌then◌else◌, List, [], ◌∷◌, length, map, Option, Some, None, Contains, All, slice_range, slice_index_or}
+use Rattle.std.specs.Prelude.{◌≡◌, ◌≢◌, ◌⊎◌, ◌==◌, ℕ, ◌+◌, ◌-◌, ◌*◌, ◌<◌, ◌≤◌, if◌then◌else◌, List, [], ◌∷◌, ◌++◌, length, map, replicate, Option, Some, None, Contains, All, slice_range, slice_index_or}
 use Rattle.std.specs.declared.vec.Vec.{Vec}
 use Rattle.std.specs.declared.alloc.Global.{Global}
 use Rattle.cnf_form.specs.Cnf.{LitOf, index_of}
@@ -44,9 +44,9 @@ pub record WatchFits (vars count : ℕ) (w : Watch) : Type 0 where
 abbrev pub AreWatches : ℕ → ℕ → Vec Watch Global → Type 0
 AreWatches vars count v = All (WatchFits vars count) v.items
 
--- the lists by the place of their literal
-abbrev pub rows_of : List (Vec Watch Global) → List (List Watch)
-rows_of lists = map (λ (v : Vec Watch Global). v.items) lists
+-- the lists by the place of their literal; the literals over the variables behind those that are there have empty ones
+abbrev pub rows_of : ℕ → List (Vec Watch Global) → List (List Watch)
+rows_of vars lists = map (λ (v : Vec Watch Global). v.items) lists ++ replicate (2 * vars + 2 - length lists) []
 
 -- the list of a literal
 abbrev pub row : List (List Watch) → LitOf → List Watch

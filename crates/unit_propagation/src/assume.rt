@@ -16,7 +16,7 @@ use crate::trail::Trail;
 use crate::walk::settle;
 use crate::watch::GONE;
 use cnf_form::Lit;
-use std::alloc::{AllocError, Global};
+use std::alloc::AllocError;
 
 // Makes a literal true, unless it is false.
 fn assume_one(trail: &mut Trail, l: Lit) -> Result<bool, AllocError>
@@ -54,7 +54,6 @@ fn assume_all(trail: &mut Trail, lits: &[Lit]) -> Result<bool, AllocError>
 
 // Assumes literals and propagates. For want of memory the trail is as it was.
 pub(crate) fn assume(
-    alloc: Global,
     store: &mut ClauseStore,
     lists: &mut WatchLists,
     pairs: &WatchLists,
@@ -73,10 +72,10 @@ pub(crate) fn assume(
     ensures lists_vars { lists.new.vars ≡ lists.old.vars }
     ensures lists_clauses { lists.new.clauses ≡ lists.old.clauses }
     ensures step { let slots = slots_of store.old.lits.items store.old.heads.items in
-        let old : State = record { heads = store.old.heads.items; rows = rows_of lists.old.lists.items; trail = trail.old.lits } in
-        let new : State = record { heads = store.new.heads.items; rows = rows_of lists.new.lists.items; trail = trail.new.lits } in
-        IsFiled slots old (rows_of pairs.now.lists.items) → AllKept old.trail old.trail slots old.heads
-        → AssumeFits slots (rows_of pairs.now.lists.items) old new lits.now result }
+        let old : State = record { heads = store.old.heads.items; rows = rows_of lists.old.vars lists.old.lists.items; trail = trail.old.lits } in
+        let new : State = record { heads = store.new.heads.items; rows = rows_of lists.new.vars lists.new.lists.items; trail = trail.new.lits } in
+        IsFiled slots old (rows_of pairs.now.vars pairs.now.lists.items) → AllKept old.trail old.trail slots old.heads
+        → AssumeFits slots (rows_of pairs.now.vars pairs.now.lists.items) old new lits.now result }
 {
     let base = trail.len();
     match assume_all(trail, lits) {
@@ -89,7 +88,7 @@ pub(crate) fn assume(
             return Err(e);
         }
     }
-    match settle(alloc, store, lists, pairs, trail, base)? {
+    match settle(store, lists, pairs, trail, base)? {
         None => Ok(Outcome::Complete),
         Some(k) => Ok(Outcome::Falsified(k)),
     }

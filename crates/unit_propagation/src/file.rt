@@ -21,12 +21,12 @@ fn leave_pairs(store: &ClauseStore, pairs: &mut WatchLists, k: u32)
     requires clause { k < length store.now.heads.items }
     ensures vars { pairs.new.vars ≡ pairs.old.vars }
     ensures clauses { pairs.new.clauses ≡ pairs.old.clauses }
-    ensures keeps { (u : LitOf) (w : Watch) → Contains (row (rows_of pairs.old.lists.items) u) w → w.clause ≢ k
-        → Contains (row (rows_of pairs.new.lists.items) u) w }
-    ensures only { ((u : LitOf) (w : Watch) → Contains (row (rows_of pairs.old.lists.items) u) w
+    ensures keeps { (u : LitOf) (w : Watch) → Contains (row (rows_of pairs.old.vars pairs.old.lists.items) u) w → w.clause ≢ k
+        → Contains (row (rows_of pairs.new.vars pairs.new.lists.items) u) w }
+    ensures only { ((u : LitOf) (w : Watch) → Contains (row (rows_of pairs.old.vars pairs.old.lists.items) u) w
         → PairFits (slots_of store.now.lits.items store.now.heads.items) store.now.heads.items u w)
-        → (u : LitOf) (w : Watch) → Contains (row (rows_of pairs.new.lists.items) u) w
-        → Contains (row (rows_of pairs.old.lists.items) u) w × (w.clause ≢ k) }
+        → (u : LitOf) (w : Watch) → Contains (row (rows_of pairs.new.vars pairs.new.lists.items) u) w
+        → Contains (row (rows_of pairs.old.vars pairs.old.lists.items) u) w × (w.clause ≢ k) }
 {
     let Head {
         start,
@@ -57,8 +57,8 @@ pub(crate) fn take_out(store: &mut ClauseStore, pairs: &mut WatchLists, k: u32)
     ensures filed { (rows : List (List Watch)) (t : List LitOf)
         → let old : State = record { heads = store.old.heads.items; rows = rows; trail = t } in
         let new : State = record { heads = store.new.heads.items; rows = rows; trail = t } in
-        IsFiledBut k (slots_of store.old.lits.items store.old.heads.items) old (rows_of pairs.old.lists.items)
-        → IsFiled (slots_of store.new.lits.items store.new.heads.items) new (rows_of pairs.new.lists.items) }
+        IsFiledBut k (slots_of store.old.lits.items store.old.heads.items) old (rows_of pairs.old.vars pairs.old.lists.items)
+        → IsFiled (slots_of store.new.lits.items store.new.heads.items) new (rows_of pairs.new.vars pairs.new.lists.items) }
     ensures kept { (p t : List LitOf)
         → ((j : ℕ) (d : Head) → j < length store.old.heads.items → j ≢ k
         → IsKept p t (slot_at (slots_of store.old.lits.items store.old.heads.items) j) (slice_index_or store.old.heads.items j d))
@@ -86,16 +86,16 @@ fn enter_clause(
     ensures lists_clauses { lists.new.clauses ≡ lists.old.clauses }
     ensures pairs_vars { pairs.new.vars ≡ pairs.old.vars }
     ensures pairs_clauses { pairs.new.clauses ≡ pairs.old.clauses }
-    ensures rows { Enters (rows_of lists.old.lists.items) (rows_of lists.new.lists.items) k left right }
-    ensures pairs { Enters (rows_of pairs.old.lists.items) (rows_of pairs.new.lists.items) k left right }
-    ensures same_rows { IsTrue short → rows_of lists.new.lists.items ≡ rows_of lists.old.lists.items }
-    ensures same_pairs { short ≡ false → rows_of pairs.new.lists.items ≡ rows_of pairs.old.lists.items }
+    ensures rows { Enters (rows_of lists.old.vars lists.old.lists.items) (rows_of lists.new.vars lists.new.lists.items) k left right }
+    ensures pairs { Enters (rows_of pairs.old.vars pairs.old.lists.items) (rows_of pairs.new.vars pairs.new.lists.items) k left right }
+    ensures same_rows { IsTrue short → rows_of lists.new.vars lists.new.lists.items ≡ rows_of lists.old.vars lists.old.lists.items }
+    ensures same_pairs { short ≡ false → rows_of pairs.new.vars pairs.new.lists.items ≡ rows_of pairs.old.vars pairs.old.lists.items }
     ensures long { OnOk result (short ≡ false
-        → Contains (row (rows_of lists.new.lists.items) left) (record { clause = k; blocker = right })
-        × Contains (row (rows_of lists.new.lists.items) right) (record { clause = k; blocker = left })) }
+        → Contains (row (rows_of lists.new.vars lists.new.lists.items) left) (record { clause = k; blocker = right })
+        × Contains (row (rows_of lists.new.vars lists.new.lists.items) right) (record { clause = k; blocker = left })) }
     ensures two { OnOk result (IsTrue short
-        → Contains (row (rows_of pairs.new.lists.items) left) (record { clause = k; blocker = right })
-        × Contains (row (rows_of pairs.new.lists.items) right) (record { clause = k; blocker = left })) }
+        → Contains (row (rows_of pairs.new.vars pairs.new.lists.items) left) (record { clause = k; blocker = right })
+        × Contains (row (rows_of pairs.new.vars pairs.new.lists.items) right) (record { clause = k; blocker = left })) }
 {
     if short {
         pairs.enter(k, left, right)?;
@@ -128,9 +128,9 @@ pub(crate) fn file_clause(
     ensures pairs_clauses { pairs.new.clauses ≡ length store.new.heads.items }
     ensures filed { (t : List LitOf)
         → IsFiled (slots_of store.old.lits.items store.old.heads.items)
-        (record { heads = store.old.heads.items; rows = rows_of lists.old.lists.items; trail = t }) (rows_of pairs.old.lists.items)
+        (record { heads = store.old.heads.items; rows = rows_of lists.old.vars lists.old.lists.items; trail = t }) (rows_of pairs.old.vars pairs.old.lists.items)
         → IsFiled (slots_of store.new.lits.items store.new.heads.items)
-        (record { heads = store.new.heads.items; rows = rows_of lists.new.lists.items; trail = t }) (rows_of pairs.new.lists.items) }
+        (record { heads = store.new.heads.items; rows = rows_of lists.new.vars lists.new.lists.items; trail = t }) (rows_of pairs.new.vars pairs.new.lists.items) }
     ensures slots { OnOk result (slots_of store.new.lits.items store.new.heads.items
         ≡ slots_of store.old.lits.items store.old.heads.items ++ Some clause.now ∷ []) }
     ensures heads { OnOk result ((h : Head) × (store.new.heads.items ≡ store.old.heads.items ++ h ∷ []) × (h.left ≡ left)

@@ -10,30 +10,29 @@ use cnf_form::Lit;
 use std::alloc::{AllocError, Global};
 use std::mem;
 
+// The lists of literals by their place. Those from some place on aren't there while they are empty.
 #[derive(Drop)]
 pub struct WatchLists {
+    alloc: Global,
     vars: u32,
     clauses: u32,
     lists: Vec<Vec<Watch>>,
-    ghost sized: { length lists.items ≡ 2 * vars + 2 },
+    ghost sized: { length lists.items ≤ 2 * vars + 2 },
     ghost fit: { All (AreWatches vars clauses) lists.items },
 }
 
 impl WatchLists {
-    pub fn new(alloc: Global, vars: u32) -> Result<Self, AllocError>
-        requires { vars ≤ 2 ^ 27 }
-        ensures vars { IfOk result (λ w. (w.vars ≡ vars) × (w.clauses ≡ 0)) }
-        ensures rows { IfOk result (λ w. (l : LitOf) → row (rows_of w.lists.items) l ≡ []) }
+    pub fn new(alloc: Global, vars: u32) -> Self
+        ensures vars { result.vars ≡ vars }
+        ensures clauses { result.clauses ≡ 0 }
+        ensures rows { (l : LitOf) → row (rows_of result.vars result.lists.items) l ≡ [] }
     {
-        let mut lists = Vec::new(alloc);
-        for _ in 0..2 * vars + 2 {
-            lists.push(Vec::new(alloc))?;
-        }
-        Ok(WatchLists {
+        WatchLists {
+            alloc,
             vars,
             clauses: 0,
-            lists,
-        })
+            lists: Vec::new(alloc),
+        }
     }
 
     // Entries may name one more clause.
@@ -51,9 +50,28 @@ impl WatchLists {
     pub fn entries(&self, l: Lit) -> &[Watch]
         requires lit { l.var ≤ self.now.vars }
         ensures fit { All (WatchFits self.now.vars self.now.clauses) result.now }
-        ensures row { result.now ≡ row (rows_of self.now.lists.items) l }
+        ensures row { result.now ≡ row (rows_of self.now.vars self.now.lists.items) l }
     {
-        self.lists[l.index()].as_slice()
+        match self.lists.get(l.index()) {
+            Some(list) => list.as_slice(),
+            None => &[],
+        }
+    }
+
+    // Makes the lists up to that of a literal be there.
+    fn reach(&mut self, l: Lit) -> Result<(), AllocError>
+        requires lit { l.var ≤ self.old.vars }
+        ensures vars { self.new.vars ≡ self.old.vars }
+        ensures clauses { self.new.clauses ≡ self.old.clauses }
+        ensures count { length self.old.lists.items ≤ length self.new.lists.items }
+        ensures there { OnOk result (index_of l < length self.new.lists.items) }
+        ensures rows { rows_of self.new.vars self.new.lists.items ≡ rows_of self.old.vars self.old.lists.items }
+    {
+        let alloc = self.alloc;
+        for _ in self.lists.len()..l.index() + 1 {
+            self.lists.push(Vec::new(alloc))?;
+        }
+        Ok(())
     }
 
     #[inline(always)]
@@ -63,11 +81,16 @@ impl WatchLists {
         requires blocker { blocker.var ≤ self.old.vars }
         ensures vars { self.new.vars ≡ self.old.vars }
         ensures clauses { self.new.clauses ≡ self.old.clauses }
-        ensures ok { OnOk result (rows_of self.new.lists.items ≡ slice_set (rows_of self.old.lists.items) (index_of l)
-            (row (rows_of self.old.lists.items) l ++ (record { clause = clause; blocker = blocker }) ∷ [])) }
-        ensures err { OnErr result (rows_of self.new.lists.items ≡ rows_of self.old.lists.items) }
+        ensures count { length self.old.lists.items ≤ length self.new.lists.items }
+        ensures ok { OnOk result (rows_of self.new.vars self.new.lists.items ≡ slice_set (rows_of self.old.vars self.old.lists.items) (index_of l)
+            (row (rows_of self.old.vars self.old.lists.items) l ++ (record { clause = clause; blocker = blocker }) ∷ [])) }
+        ensures err { OnErr result (rows_of self.new.vars self.new.lists.items ≡ rows_of self.old.vars self.old.lists.items) }
     {
-        self.lists[l.index()].push(Watch { clause, blocker })?;
+        let place = l.index();
+        if place >= self.lists.len() {
+            self.reach(l)?;
+        }
+        self.lists[place].push(Watch { clause, blocker })?;
         Ok(())
     }
 
@@ -89,32 +112,46 @@ impl WatchLists {
         requires lit { l.var ≤ self.old.vars }
         ensures vars { self.new.vars ≡ self.old.vars }
         ensures clauses { self.new.clauses ≡ self.old.clauses }
-        ensures rows { rows_of self.new.lists.items ≡ slice_set (rows_of self.old.lists.items) (index_of l)
-            (filter (λ w. not (w.clause == clause)) (row (rows_of self.old.lists.items) l)) }
+        ensures rows { rows_of self.new.vars self.new.lists.items ≡ slice_set (rows_of self.old.vars self.old.lists.items) (index_of l)
+            (filter (λ w. not (w.clause == clause)) (row (rows_of self.old.vars self.old.lists.items) l)) }
     {
-        self.lists[l.index()].retain(move |w| w.clause != clause);
+        let place = l.index();
+        if place < self.lists.len() {
+            self.lists[place].retain(move |w| w.clause != clause);
+        }
     }
 
     // The list of a literal, which is empty until it is put back.
-    pub fn take(&mut self, alloc: Global, l: Lit) -> Vec<Watch>
+    pub fn take(&mut self, l: Lit) -> Vec<Watch>
         requires lit { l.var ≤ self.old.vars }
         ensures fit { AreWatches self.old.vars self.old.clauses result }
         ensures vars { self.new.vars ≡ self.old.vars }
         ensures clauses { self.new.clauses ≡ self.old.clauses }
-        ensures list { result.items ≡ row (rows_of self.old.lists.items) l }
-        ensures rows { rows_of self.new.lists.items ≡ slice_set (rows_of self.old.lists.items) (index_of l) [] }
+        ensures there { 0 < length result.items → index_of l < length self.new.lists.items }
+        ensures list { result.items ≡ row (rows_of self.old.vars self.old.lists.items) l }
+        ensures rows { rows_of self.new.vars self.new.lists.items ≡ slice_set (rows_of self.old.vars self.old.lists.items) (index_of l) [] }
     {
-        mem::replace(&mut self.lists[l.index()], Vec::new(alloc))
+        let place = l.index();
+        let none = Vec::new(self.alloc);
+        if place < self.lists.len() {
+            mem::replace(&mut self.lists[place], none)
+        } else {
+            none
+        }
     }
 
     pub fn put(&mut self, l: Lit, list: Vec<Watch>)
         requires lit { l.var ≤ self.old.vars }
         requires fit { AreWatches self.old.vars self.old.clauses list }
+        requires there { 0 < length list.items → index_of l < length self.old.lists.items }
         ensures vars { self.new.vars ≡ self.old.vars }
         ensures clauses { self.new.clauses ≡ self.old.clauses }
-        ensures rows { rows_of self.new.lists.items ≡ slice_set (rows_of self.old.lists.items) (index_of l) list.items }
+        ensures rows { rows_of self.new.vars self.new.lists.items ≡ slice_set (rows_of self.old.vars self.old.lists.items) (index_of l) list.items }
     {
-        self.lists[l.index()] = list;
+        let place = l.index();
+        if place < self.lists.len() {
+            self.lists[place] = list;
+        }
     }
 
     // Enters a clause in the lists of the two literals that it watches.
@@ -124,9 +161,9 @@ impl WatchLists {
         requires right { right.var ≤ self.old.vars }
         ensures vars { self.new.vars ≡ self.old.vars }
         ensures clauses { self.new.clauses ≡ self.old.clauses }
-        ensures enters { Enters (rows_of self.old.lists.items) (rows_of self.new.lists.items) clause left right }
-        ensures entered { OnOk result (Contains (row (rows_of self.new.lists.items) left) (record { clause = clause; blocker = right })
-            × Contains (row (rows_of self.new.lists.items) right) (record { clause = clause; blocker = left })) }
+        ensures enters { Enters (rows_of self.old.vars self.old.lists.items) (rows_of self.new.vars self.new.lists.items) clause left right }
+        ensures entered { OnOk result (Contains (row (rows_of self.new.vars self.new.lists.items) left) (record { clause = clause; blocker = right })
+            × Contains (row (rows_of self.new.vars self.new.lists.items) right) (record { clause = clause; blocker = left })) }
     {
         self.push(left, clause, right)?;
         self.push(right, clause, left)?;
@@ -139,7 +176,7 @@ impl WatchLists {
         requires right { right.var ≤ self.old.vars }
         ensures vars { self.new.vars ≡ self.old.vars }
         ensures clauses { self.new.clauses ≡ self.old.clauses }
-        ensures leaves { Leaves (rows_of self.old.lists.items) (rows_of self.new.lists.items) clause left right }
+        ensures leaves { Leaves (rows_of self.old.vars self.old.lists.items) (rows_of self.new.vars self.new.lists.items) clause left right }
     {
         self.remove(left, clause);
         self.remove(right, clause);

@@ -53,8 +53,8 @@ impl Model for Propagator {
     ghost invariant = { λ p. Agree p.vars p.store.vars p.lists.vars p.pairs.vars p.trail.vars p.lists.clauses p.pairs.clauses
         (length p.store.heads.items)
         × IsPropagator p.vars (slots_of p.store.lits.items p.store.heads.items)
-        (record { heads = p.store.heads.items; rows = rows_of p.lists.lists.items; trail = p.trail.lits })
-        (rows_of p.pairs.lists.items) p.limits.items p.conflict };
+        (record { heads = p.store.heads.items; rows = rows_of p.lists.vars p.lists.lists.items; trail = p.trail.lits })
+        (rows_of p.pairs.vars p.pairs.lists.items) p.limits.items p.conflict };
 }
 
 // What a clause that watches nothing names.
@@ -71,15 +71,13 @@ impl Propagator {
         requires { vars ≤ MAX_VARS }
         ensures { IfOk result (λ p. p ≡ record { vars = vars; slots = []; trail = []; limits = []; conflict = false }) }
     {
-        let lists = WatchLists::new(alloc, vars)?;
-        let pairs = WatchLists::new(alloc, vars)?;
         let trail = Trail::new(alloc, vars)?;
         Ok(Propagator {
             alloc,
             vars,
             store: ClauseStore::new(alloc, vars),
-            lists,
-            pairs,
+            lists: WatchLists::new(alloc, vars),
+            pairs: WatchLists::new(alloc, vars),
             trail,
             limits: Vec::new(alloc),
             conflict: false,
@@ -247,7 +245,6 @@ impl Propagator {
         )?;
         let k = (self.store.len() - 1) as u32;
         match settle_unit(
-            self.alloc,
             &mut self.store,
             &mut self.lists,
             &self.pairs,
@@ -306,15 +303,13 @@ impl Propagator {
         requires level { self.now.limits ≡ [] }
         ensures { IfOk result (λ p. p ≡ record self.now { slots = [] }) }
     {
-        let lists = WatchLists::new(self.alloc, self.vars)?;
-        let pairs = WatchLists::new(self.alloc, self.vars)?;
         let trail = self.trail.again(self.alloc)?;
         Ok(Propagator {
             alloc: self.alloc,
             vars: self.vars,
             store: ClauseStore::new(self.alloc, self.vars),
-            lists,
-            pairs,
+            lists: WatchLists::new(self.alloc, self.vars),
+            pairs: WatchLists::new(self.alloc, self.vars),
             trail,
             limits: Vec::new(self.alloc),
             conflict: self.conflict,
@@ -352,7 +347,6 @@ impl Propagator {
         let base = self.trail.len();
         self.limits.push(base)?;
         match assume(
-            self.alloc,
             &mut self.store,
             &mut self.lists,
             &self.pairs,
@@ -467,7 +461,6 @@ impl Propagator {
         let base = self.trail.len();
         self.limits.push(base)?;
         match settle_unit(
-            self.alloc,
             &mut self.store,
             &mut self.lists,
             &self.pairs,
@@ -517,7 +510,6 @@ impl Propagator {
         )?;
         let k = (self.store.len() - 1) as u32;
         match settle_unit(
-            self.alloc,
             &mut self.store,
             &mut self.lists,
             &self.pairs,

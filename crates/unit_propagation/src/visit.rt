@@ -155,13 +155,14 @@ fn visit_clause(
     ensures store_count { length store.new.heads.items ≡ length store.old.heads.items }
     ensures lists_vars { lists.new.vars ≡ lists.old.vars }
     ensures lists_clauses { lists.new.clauses ≡ lists.old.clauses }
+    ensures lists_count { length lists.old.lists.items ≤ length lists.new.lists.items }
     ensures other { IfSome (watched_of result) (λ other. other.var ≤ store.old.vars) }
     ensures gone { slot_at (slots_of store.old.lits.items store.old.heads.items) clause ≡ None
         → (result ≡ Visited.Left) × (store.new.heads ≡ store.old.heads) × (lists.new.lists ≡ lists.old.lists)
         × (trail.new ≡ trail.old) }
     ensures visited { (c : List LitOf) (d : Head) → slot_at (slots_of store.old.lits.items store.old.heads.items) clause ≡ Some c
-        → VisitedFits (record { heads = store.old.heads.items; rows = rows_of lists.old.lists.items; trail = trail.old.lits })
-        (record { heads = store.new.heads.items; rows = rows_of lists.new.lists.items; trail = trail.new.lits })
+        → VisitedFits (record { heads = store.old.heads.items; rows = rows_of lists.old.vars lists.old.lists.items; trail = trail.old.lits })
+        (record { heads = store.new.heads.items; rows = rows_of lists.new.vars lists.new.lists.items; trail = trail.new.lits })
         c clause (slice_index_or store.old.heads.items clause d) falsified result }
 {
     let Head {
@@ -225,12 +226,13 @@ pub(crate) fn visit_entry(
     ensures store_count { length store.new.heads.items ≡ length store.old.heads.items }
     ensures lists_vars { lists.new.vars ≡ lists.old.vars }
     ensures lists_clauses { lists.new.clauses ≡ lists.old.clauses }
+    ensures lists_count { length lists.old.lists.items ≤ length lists.new.lists.items }
     ensures list { All (WatchFits lists.old.vars lists.old.clauses) list.new }
     ensures kept { result.kept ≤ k + 1 }
     ensures step { (p : List LitOf) (start : State)
         → let slots = slots_of store.old.lits.items store.old.heads.items in
-        let old : State = record { heads = store.old.heads.items; rows = rows_of lists.old.lists.items; trail = trail.old.lits } in
-        let new : State = record { heads = store.new.heads.items; rows = rows_of lists.new.lists.items; trail = trail.new.lits } in
+        let old : State = record { heads = store.old.heads.items; rows = rows_of lists.old.vars lists.old.lists.items; trail = trail.old.lits } in
+        let new : State = record { heads = store.new.heads.items; rows = rows_of lists.new.vars lists.new.lists.items; trail = trail.new.lits } in
         IsVisited slots start old falsified list.old kept k → IsPending p falsified slots old list.old k
         → IsVisited slots start new falsified list.new result.kept (k + 1)
         × StopFits p falsified slots new list.new (k + 1) result.stop }

@@ -15,7 +15,7 @@ use crate::trail::Trail;
 use crate::visit::{Stop, Visits, visit_entry};
 use crate::watch::Watch;
 use cnf_form::Lit;
-use std::alloc::{AllocError, Global};
+use std::alloc::AllocError;
 
 // Keeps the entries from a place on. How many are kept then.
 fn keep_rest(lists: &WatchLists, list: &mut [Watch], kept: usize, from: usize) -> usize
@@ -54,12 +54,13 @@ fn visit_list(
     ensures store_count { length store.new.heads.items ≡ length store.old.heads.items }
     ensures lists_vars { lists.new.vars ≡ lists.old.vars }
     ensures lists_clauses { lists.new.clauses ≡ lists.old.clauses }
+    ensures lists_count { length lists.old.lists.items ≤ length lists.new.lists.items }
     ensures list { All (WatchFits lists.old.vars lists.old.clauses) list.new }
     ensures kept { result.kept ≤ length list.old }
     ensures step { (p : List LitOf)
         → let slots = slots_of store.old.lits.items store.old.heads.items in
-        let old : State = record { heads = store.old.heads.items; rows = rows_of lists.old.lists.items; trail = trail.old.lits } in
-        let new : State = record { heads = store.new.heads.items; rows = rows_of lists.new.lists.items; trail = trail.new.lits } in
+        let old : State = record { heads = store.old.heads.items; rows = rows_of lists.old.vars lists.old.lists.items; trail = trail.old.lits } in
+        let new : State = record { heads = store.new.heads.items; rows = rows_of lists.new.vars lists.new.lists.items; trail = trail.new.lits } in
         IsVisited slots old old falsified list.old 0 0 → IsPending p falsified slots old list.old 0
         → IsVisited slots old new falsified list.new result.kept (length list.old)
         × StopFits p falsified slots new list.new (length list.old) result.stop }
@@ -106,7 +107,7 @@ fn visit_pairs(pairs: &WatchLists, trail: &mut Trail, falsified: Lit) -> Option<
     requires lit { falsified.var ≤ trail.old.vars }
     ensures vars { trail.new.vars ≡ trail.old.vars }
     ensures step { (slots : List (Option (List LitOf))) (heads : List Head)
-        → let list = row (rows_of pairs.now.lists.items) falsified in
+        → let list = row (rows_of pairs.now.vars pairs.now.lists.items) falsified in
         ((w : Watch) → Contains list w → PairFits slots heads falsified w) → Contains trail.old.lits (negate falsified)
         → Propagates (clauses_of slots) trail.old.lits trail.new.lits × PairsFit slots list trail.new.lits result }
 {
@@ -123,7 +124,6 @@ fn visit_pairs(pairs: &WatchLists, trail: &mut Trail, falsified: Lit) -> Option<
 
 // Goes through the list of a false literal.
 fn visit_long(
-    alloc: Global,
     store: &mut ClauseStore,
     lists: &mut WatchLists,
     trail: &mut Trail,
@@ -141,14 +141,14 @@ fn visit_long(
     ensures lists_clauses { lists.new.clauses ≡ lists.old.clauses }
     ensures step { (p : List LitOf) (pairs : List (List Watch))
         → let slots = slots_of store.old.lits.items store.old.heads.items in
-        let old : State = record { heads = store.old.heads.items; rows = rows_of lists.old.lists.items; trail = trail.old.lits } in
-        let new : State = record { heads = store.new.heads.items; rows = rows_of lists.new.lists.items; trail = trail.new.lits } in
+        let old : State = record { heads = store.old.heads.items; rows = rows_of lists.old.vars lists.old.lists.items; trail = trail.old.lits } in
+        let new : State = record { heads = store.new.heads.items; rows = rows_of lists.new.vars lists.new.lists.items; trail = trail.new.lits } in
         IsFiled slots old pairs → AllKept p old.trail slots old.heads
         → ((l : LitOf) → Contains (p ++ negate falsified ∷ []) l → Contains old.trail l)
         → ((w : Watch) → Contains (row pairs falsified) w → Contains old.trail w.blocker)
         → Walks slots pairs old new × EndFits (p ++ negate falsified ∷ []) slots new result }
 {
-    let mut list = lists.take(alloc, falsified);
+    let mut list = lists.take(falsified);
     let Visits { kept, stop } = visit_list(store, lists, trail, &mut list, falsified);
     list.truncate(kept);
     lists.put(falsified, list);
@@ -157,7 +157,6 @@ fn visit_long(
 
 // Goes through all clauses that watch a false literal.
 fn visit_literal(
-    alloc: Global,
     store: &mut ClauseStore,
     lists: &mut WatchLists,
     pairs: &WatchLists,
@@ -177,22 +176,21 @@ fn visit_literal(
     ensures lists_clauses { lists.new.clauses ≡ lists.old.clauses }
     ensures step { (p : List LitOf)
         → let slots = slots_of store.old.lits.items store.old.heads.items in
-        let old : State = record { heads = store.old.heads.items; rows = rows_of lists.old.lists.items; trail = trail.old.lits } in
-        let new : State = record { heads = store.new.heads.items; rows = rows_of lists.new.lists.items; trail = trail.new.lits } in
-        IsFiled slots old (rows_of pairs.now.lists.items) → AllKept p old.trail slots old.heads
+        let old : State = record { heads = store.old.heads.items; rows = rows_of lists.old.vars lists.old.lists.items; trail = trail.old.lits } in
+        let new : State = record { heads = store.new.heads.items; rows = rows_of lists.new.vars lists.new.lists.items; trail = trail.new.lits } in
+        IsFiled slots old (rows_of pairs.now.vars pairs.now.lists.items) → AllKept p old.trail slots old.heads
         → ((l : LitOf) → Contains (p ++ negate falsified ∷ []) l → Contains old.trail l)
-        → Walks slots (rows_of pairs.now.lists.items) old new × EndFits (p ++ negate falsified ∷ []) slots new result }
+        → Walks slots (rows_of pairs.now.vars pairs.now.lists.items) old new × EndFits (p ++ negate falsified ∷ []) slots new result }
 {
     let stop = visit_pairs(pairs, trail, falsified);
     if stop.is_some() {
         return stop;
     }
-    visit_long(alloc, store, lists, trail, falsified)
+    visit_long(store, lists, trail, falsified)
 }
 
 // Unit propagation: deals with the true literals from a place of the trail on, and with what follows from them.
 pub(crate) fn propagate(
-    alloc: Global,
     store: &mut ClauseStore,
     lists: &mut WatchLists,
     pairs: &WatchLists,
@@ -210,15 +208,15 @@ pub(crate) fn propagate(
     ensures lists_vars { lists.new.vars ≡ lists.old.vars }
     ensures lists_clauses { lists.new.clauses ≡ lists.old.clauses }
     ensures step { let slots = slots_of store.old.lits.items store.old.heads.items in
-        let old : State = record { heads = store.old.heads.items; rows = rows_of lists.old.lists.items; trail = trail.old.lits } in
-        let new : State = record { heads = store.new.heads.items; rows = rows_of lists.new.lists.items; trail = trail.new.lits } in
-        IsFiled slots old (rows_of pairs.now.lists.items) → AllKept (take from old.trail) old.trail slots old.heads
-        → Walks slots (rows_of pairs.now.lists.items) old new × EndFits new.trail slots new result }
+        let old : State = record { heads = store.old.heads.items; rows = rows_of lists.old.vars lists.old.lists.items; trail = trail.old.lits } in
+        let new : State = record { heads = store.new.heads.items; rows = rows_of lists.new.vars lists.new.lists.items; trail = trail.new.lits } in
+        IsFiled slots old (rows_of pairs.now.vars pairs.now.lists.items) → AllKept (take from old.trail) old.trail slots old.heads
+        → Walks slots (rows_of pairs.now.vars pairs.now.lists.items) old new × EndFits new.trail slots new result }
 {
     let mut head = from;
     while head < trail.len() {
         let falsified = trail.get(head).negate();
-        let stop = visit_literal(alloc, store, lists, pairs, trail, falsified);
+        let stop = visit_literal(store, lists, pairs, trail, falsified);
         if stop.is_some() {
             return stop;
         }
@@ -230,7 +228,6 @@ pub(crate) fn propagate(
 // Propagates from a place of the trail on. For want of memory the trail is cut to that place. The falsified clause, if there
 // is one.
 pub(crate) fn settle(
-    alloc: Global,
     store: &mut ClauseStore,
     lists: &mut WatchLists,
     pairs: &WatchLists,
@@ -248,13 +245,13 @@ pub(crate) fn settle(
     ensures lists_vars { lists.new.vars ≡ lists.old.vars }
     ensures lists_clauses { lists.new.clauses ≡ lists.old.clauses }
     ensures step { let slots = slots_of store.old.lits.items store.old.heads.items in
-        let old : State = record { heads = store.old.heads.items; rows = rows_of lists.old.lists.items; trail = trail.old.lits } in
-        let new : State = record { heads = store.new.heads.items; rows = rows_of lists.new.lists.items; trail = trail.new.lits } in
-        base ≤ length old.trail → IsFiled slots old (rows_of pairs.now.lists.items)
+        let old : State = record { heads = store.old.heads.items; rows = rows_of lists.old.vars lists.old.lists.items; trail = trail.old.lits } in
+        let new : State = record { heads = store.new.heads.items; rows = rows_of lists.new.vars lists.new.lists.items; trail = trail.new.lits } in
+        base ≤ length old.trail → IsFiled slots old (rows_of pairs.now.vars pairs.now.lists.items)
         → AllKept (take base old.trail) old.trail slots old.heads
-        → SettleFits slots (rows_of pairs.now.lists.items) old new (take base old.trail) result }
+        → SettleFits slots (rows_of pairs.now.vars pairs.now.lists.items) old new (take base old.trail) result }
 {
-    match propagate(alloc, store, lists, pairs, trail, base) {
+    match propagate(store, lists, pairs, trail, base) {
         None => Ok(None),
         Some(Stop::Conflict(k)) => Ok(Some(k)),
         Some(Stop::Memory) => {
@@ -266,7 +263,6 @@ pub(crate) fn settle(
 
 // Makes an open literal true, and propagates. For want of memory the trail is as it was.
 pub(crate) fn settle_unit(
-    alloc: Global,
     store: &mut ClauseStore,
     lists: &mut WatchLists,
     pairs: &WatchLists,
@@ -287,12 +283,12 @@ pub(crate) fn settle_unit(
     ensures lists_vars { lists.new.vars ≡ lists.old.vars }
     ensures lists_clauses { lists.new.clauses ≡ lists.old.clauses }
     ensures step { let slots = slots_of store.old.lits.items store.old.heads.items in
-        let old : State = record { heads = store.old.heads.items; rows = rows_of lists.old.lists.items; trail = trail.old.lits } in
-        let new : State = record { heads = store.new.heads.items; rows = rows_of lists.new.lists.items; trail = trail.new.lits } in
-        IsFiled slots old (rows_of pairs.now.lists.items) → AllKept old.trail (old.trail ++ l ∷ []) slots old.heads
-        → SettleFits slots (rows_of pairs.now.lists.items) (record old { trail = old.trail ++ l ∷ [] }) new old.trail result }
+        let old : State = record { heads = store.old.heads.items; rows = rows_of lists.old.vars lists.old.lists.items; trail = trail.old.lits } in
+        let new : State = record { heads = store.new.heads.items; rows = rows_of lists.new.vars lists.new.lists.items; trail = trail.new.lits } in
+        IsFiled slots old (rows_of pairs.now.vars pairs.now.lists.items) → AllKept old.trail (old.trail ++ l ∷ []) slots old.heads
+        → SettleFits slots (rows_of pairs.now.vars pairs.now.lists.items) (record old { trail = old.trail ++ l ∷ [] }) new old.trail result }
 {
     let base = trail.len();
     trail.assign(l, reason)?;
-    settle(alloc, store, lists, pairs, trail, base)
+    settle(store, lists, pairs, trail, base)
 }

@@ -1,4 +1,4 @@
-use Rattle.std.proofs.Common.{◌≡◌, length, sym, ap, subst, ◌∙◌, refl, arith, rules}
+use Rattle.std.proofs.Common.{◌≡◌, length, sym, ap, subst, ◌∙◌, arith, rules}
 use Rattle.unit_propagation.specs.Propagator.{PropagatorOf}
 use Rattle.unit_propagation.proofs.Filing.{from_ok}
 use Rattle.drup_check.specs.Inside.{IsFree}

@@ -10,9 +10,9 @@ use Rattle.unit_propagation.proofs.assume.assume.Goals as goal
 pub returns-in_err-settle-clause-step : goal.returns-in_err-settle-clause-step
 returns-in_err-settle-clause-step c = λ filed kept.
     let slots = slots_of c.args.store.now.lits.items c.args.store.now.heads.items in
-    let pairs = rows_of c.args.pairs.now.lists.items in
-    let old : State = record { heads = c.args.store.now.heads.items; rows = rows_of c.args.lists.now.lists.items; trail = c.args.trail.now.lits } in
-    let new : State = record { heads = c.settle.new.store.heads.items; rows = rows_of c.settle.new.lists.lists.items; trail = c.settle.new.trail.lits } in
+    let pairs = rows_of c.args.pairs.now.vars c.args.pairs.now.lists.items in
+    let old : State = record { heads = c.args.store.now.heads.items; rows = rows_of c.args.lists.now.vars c.args.lists.now.lists.items; trail = c.args.trail.now.lits } in
+    let new : State = record { heads = c.settle.new.store.heads.items; rows = rows_of c.settle.new.lists.vars c.settle.new.lists.lists.items; trail = c.settle.new.trail.lits } in
     let t = c.assume_all.new.trail.lits in
     let b = c.len-base.result in
     let l = c.len-base.ensures in
@@ -26,9 +26,9 @@ returns-in_err-settle-clause-step c = λ filed kept.
 pub returns-in-None-clause-step : goal.returns-in-None-clause-step
 returns-in-None-clause-step c = λ filed kept.
     let slots = slots_of c.args.store.now.lits.items c.args.store.now.heads.items in
-    let pairs = rows_of c.args.pairs.now.lists.items in
-    let old : State = record { heads = c.args.store.now.heads.items; rows = rows_of c.args.lists.now.lists.items; trail = c.args.trail.now.lits } in
-    let new : State = record { heads = c.settle.new.store.heads.items; rows = rows_of c.settle.new.lists.lists.items; trail = c.settle.new.trail.lits } in
+    let pairs = rows_of c.args.pairs.now.vars c.args.pairs.now.lists.items in
+    let old : State = record { heads = c.args.store.now.heads.items; rows = rows_of c.args.lists.now.vars c.args.lists.now.lists.items; trail = c.args.trail.now.lits } in
+    let new : State = record { heads = c.settle.new.store.heads.items; rows = rows_of c.settle.new.lists.vars c.settle.new.lists.lists.items; trail = c.settle.new.trail.lits } in
     let t = c.assume_all.new.trail.lits in
     let b = c.len-base.result in
     let l = c.len-base.ensures in
@@ -41,9 +41,9 @@ returns-in-None-clause-step c = λ filed kept.
 pub returns-in-Some-clause-step : goal.returns-in-Some-clause-step
 returns-in-Some-clause-step c = λ filed kept.
     let slots = slots_of c.args.store.now.lits.items c.args.store.now.heads.items in
-    let pairs = rows_of c.args.pairs.now.lists.items in
-    let old : State = record { heads = c.args.store.now.heads.items; rows = rows_of c.args.lists.now.lists.items; trail = c.args.trail.now.lits } in
-    let new : State = record { heads = c.settle.new.store.heads.items; rows = rows_of c.settle.new.lists.lists.items; trail = c.settle.new.trail.lits } in
+    let pairs = rows_of c.args.pairs.now.vars c.args.pairs.now.lists.items in
+    let old : State = record { heads = c.args.store.now.heads.items; rows = rows_of c.args.lists.now.vars c.args.lists.now.lists.items; trail = c.args.trail.now.lits } in
+    let new : State = record { heads = c.settle.new.store.heads.items; rows = rows_of c.settle.new.lists.vars c.settle.new.lists.lists.items; trail = c.settle.new.trail.lits } in
     let t = c.assume_all.new.trail.lits in
     let b = c.len-base.result in
     let l = c.len-base.ensures in

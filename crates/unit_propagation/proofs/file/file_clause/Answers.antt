@@ -22,15 +22,15 @@ pub returns-then-eq-clause-filed : goal.returns-then-eq-clause-filed
 returns-then-eq-clause-filed c = λ t filed.
     let s = c.args.store.now in
     let slots = slots_of s.lits.items s.heads.items in
-    let st : State = record { heads = s.heads.items; rows = rows_of c.args.lists.now.lists.items; trail = t } in
-    let pairs = rows_of c.args.pairs.now.lists.items in
+    let st : State = record { heads = s.heads.items; rows = rows_of c.args.lists.now.vars c.args.lists.now.lists.items; trail = t } in
+    let pairs = rows_of c.args.pairs.now.vars c.args.pairs.now.lists.items in
     let cl : List LitOf = c.args.clause.now in
     let p = c.in_ok-push.ensures in
     let w = p.heads in
     let h : Head = w.0 in
     let l = c.args.lists.now in
     let named : (u : LitOf) (x : Watch) → Contains (row st.rows u) x → x.clause < length s.heads.items = λ u x i. let f = row_fits l.vars l.clauses l.lists.items (index_of u) x l.fit i in omega (arith, f.clause, c.requires.lists_clauses) in
-    let broad : (m : LitOf) → Contains cl m → index_of m < length st.rows = λ m i. row_room l.lists.items l.vars m l.sized (omega (arith, All-contains (IsBelow s.vars) cl m c.requires.below i, c.requires.lists)) in
+    let broad : (m : LitOf) → Contains cl m → index_of m < length st.rows = λ m i. row_room l.vars l.lists.items m (omega (arith, All-contains (IsBelow s.vars) cl m c.requires.below i, c.requires.lists)) in
     let attached : h.left ≢ h.right → Contains cl h.left × Contains cl h.right = λ d. let e : c.args.left ≢ c.args.right = λ g. d (w.2 ∙ g ∙ sym w.3) in (subst (Contains cl) (sym w.2) (c.requires.left e), subst (Contains cl) (sym w.3) (c.requires.right e)) in
     let size : length slots ≡ length s.heads.items = length-slots s.lits.items s.heads.items in
     let eq : h.left ≡ h.right = w.2 ∙ same_by_eq _ _ (sym c.if-eq.ensures) ∙ sym w.3 in
@@ -38,21 +38,21 @@ returns-then-eq-clause-filed c = λ t filed.
     let full = filed_full slots st pairs (length s.heads.items) size refl cl h st.rows pairs but (λ i d. absurd (d eq)) (λ i d. absurd (d eq)) in
     let a = c.raise.ensures in
     let b = c.raise-2.ensures in
-    rw (p.slots, w.1, a.rows, b.rows) full
+    rw (p.slots, w.1, a.vars, a.rows, b.vars, b.rows) full
 
 pub returns-clause-filed : goal.returns-clause-filed
 returns-clause-filed c = λ t filed.
     let s = c.args.store.now in
     let slots = slots_of s.lits.items s.heads.items in
-    let st : State = record { heads = s.heads.items; rows = rows_of c.args.lists.now.lists.items; trail = t } in
-    let pairs = rows_of c.args.pairs.now.lists.items in
+    let st : State = record { heads = s.heads.items; rows = rows_of c.args.lists.now.vars c.args.lists.now.lists.items; trail = t } in
+    let pairs = rows_of c.args.pairs.now.vars c.args.pairs.now.lists.items in
     let cl : List LitOf = c.args.clause.now in
     let p = c.in_ok-push.ensures in
     let w = p.heads in
     let h : Head = w.0 in
     let l = c.args.lists.now in
     let named : (u : LitOf) (x : Watch) → Contains (row st.rows u) x → x.clause < length s.heads.items = λ u x i. let f = row_fits l.vars l.clauses l.lists.items (index_of u) x l.fit i in omega (arith, f.clause, c.requires.lists_clauses) in
-    let broad : (m : LitOf) → Contains cl m → index_of m < length st.rows = λ m i. row_room l.lists.items l.vars m l.sized (omega (arith, All-contains (IsBelow s.vars) cl m c.requires.below i, c.requires.lists)) in
+    let broad : (m : LitOf) → Contains cl m → index_of m < length st.rows = λ m i. row_room l.vars l.lists.items m (omega (arith, All-contains (IsBelow s.vars) cl m c.requires.below i, c.requires.lists)) in
     let attached : h.left ≢ h.right → Contains cl h.left × Contains cl h.right = λ d. let e : c.args.left ≢ c.args.right = λ g. d (w.2 ∙ g ∙ sym w.3) in (subst (Contains cl) (sym w.2) (c.requires.left e), subst (Contains cl) (sym w.3) (c.requires.right e)) in
     let size : length slots ≡ length s.heads.items = length-slots s.lits.items s.heads.items in
     let e = c.enter_clause.ensures in
@@ -60,12 +60,12 @@ returns-clause-filed c = λ t filed.
     let k : length s.heads.items ≡ n = search rules in
     let a = c.raise.ensures in
     let b = c.raise-2.ensures in
-    let ra : rows_of c.raise.new.self.lists.items ≡ st.rows = cc (a.rows) in
-    let rb : rows_of c.raise-2.new.self.lists.items ≡ pairs = cc (b.rows) in
-    let rows' = rows_of c.enter_clause.new.lists.lists.items in
-    let pairs' = rows_of c.enter_clause.new.pairs.lists.items in
+    let ra : rows_of c.raise.new.self.vars c.raise.new.self.lists.items ≡ st.rows = cc (a.rows, a.vars) in
+    let rb : rows_of c.raise-2.new.self.vars c.raise-2.new.self.lists.items ≡ pairs = cc (b.rows, b.vars) in
+    let rows' = rows_of c.enter_clause.new.lists.vars c.enter_clause.new.lists.lists.items in
+    let pairs' = rows_of c.enter_clause.new.pairs.vars c.enter_clause.new.pairs.lists.items in
     let ne : h.left ≢ h.right = λ g. apart_by_eq _ _ (sym c.if-eq.ensures) (sym w.2 ∙ g ∙ w.3) in
-    let same_rows : length rows' ≡ length st.rows = omega (arith, length-rows c.enter_clause.new.lists.lists.items, length-rows l.lists.items, c.enter_clause.new.lists.sized, l.sized, e.lists_vars, a.vars) in
+    let same_rows : length rows' ≡ length st.rows = omega (arith, length-rows c.enter_clause.new.lists.vars c.enter_clause.new.lists.lists.items c.enter_clause.new.lists.sized, length-rows l.vars l.lists.items l.sized, e.lists_vars, a.vars) in
     let ent : Enters st.rows rows' n h.left h.right = rw (w.2, w.3) (subst (λ z. Enters z rows' n c.args.left c.args.right) ra e.rows) in
     let entp : Enters pairs pairs' n h.left h.right = rw (w.2, w.3) (subst (λ z. Enters z pairs' n c.args.left c.args.right) rb e.pairs) in
     let named' : (u : LitOf) (x : Watch) → Contains (row st.rows u) x → x.clause < n = λ u x i. subst (λ z. x.clause < z) k (named u x i) in
@@ -83,15 +83,15 @@ pub returns-then-is_err-clause-filed : goal.returns-then-is_err-clause-filed
 returns-then-is_err-clause-filed c = λ t filed.
     let s = c.args.store.now in
     let slots = slots_of s.lits.items s.heads.items in
-    let st : State = record { heads = s.heads.items; rows = rows_of c.args.lists.now.lists.items; trail = t } in
-    let pairs = rows_of c.args.pairs.now.lists.items in
+    let st : State = record { heads = s.heads.items; rows = rows_of c.args.lists.now.vars c.args.lists.now.lists.items; trail = t } in
+    let pairs = rows_of c.args.pairs.now.vars c.args.pairs.now.lists.items in
     let cl : List LitOf = c.args.clause.now in
     let p = c.in_ok-push.ensures in
     let w = p.heads in
     let h : Head = w.0 in
     let l = c.args.lists.now in
     let named : (u : LitOf) (x : Watch) → Contains (row st.rows u) x → x.clause < length s.heads.items = λ u x i. let f = row_fits l.vars l.clauses l.lists.items (index_of u) x l.fit i in omega (arith, f.clause, c.requires.lists_clauses) in
-    let broad : (m : LitOf) → Contains cl m → index_of m < length st.rows = λ m i. row_room l.lists.items l.vars m l.sized (omega (arith, All-contains (IsBelow s.vars) cl m c.requires.below i, c.requires.lists)) in
+    let broad : (m : LitOf) → Contains cl m → index_of m < length st.rows = λ m i. row_room l.vars l.lists.items m (omega (arith, All-contains (IsBelow s.vars) cl m c.requires.below i, c.requires.lists)) in
     let attached : h.left ≢ h.right → Contains cl h.left × Contains cl h.right = λ d. let e : c.args.left ≢ c.args.right = λ g. d (w.2 ∙ g ∙ sym w.3) in (subst (Contains cl) (sym w.2) (c.requires.left e), subst (Contains cl) (sym w.3) (c.requires.right e)) in
     let size : length slots ≡ length s.heads.items = length-slots s.lits.items s.heads.items in
     let e = c.enter_clause.ensures in
@@ -99,12 +99,12 @@ returns-then-is_err-clause-filed c = λ t filed.
     let k : length s.heads.items ≡ n = search rules in
     let a = c.raise.ensures in
     let b = c.raise-2.ensures in
-    let ra : rows_of c.raise.new.self.lists.items ≡ st.rows = cc (a.rows) in
-    let rb : rows_of c.raise-2.new.self.lists.items ≡ pairs = cc (b.rows) in
-    let rows' = rows_of c.enter_clause.new.lists.lists.items in
-    let pairs' = rows_of c.enter_clause.new.pairs.lists.items in
+    let ra : rows_of c.raise.new.self.vars c.raise.new.self.lists.items ≡ st.rows = cc (a.rows, a.vars) in
+    let rb : rows_of c.raise-2.new.self.vars c.raise-2.new.self.lists.items ≡ pairs = cc (b.rows, b.vars) in
+    let rows' = rows_of c.enter_clause.new.lists.vars c.enter_clause.new.lists.lists.items in
+    let pairs' = rows_of c.enter_clause.new.pairs.vars c.enter_clause.new.pairs.lists.items in
     let ne : h.left ≢ h.right = λ g. apart_by_eq _ _ (sym c.if-eq.ensures) (sym w.2 ∙ g ∙ w.3) in
-    let same_rows : length rows' ≡ length st.rows = omega (arith, length-rows c.enter_clause.new.lists.lists.items, length-rows l.lists.items, c.enter_clause.new.lists.sized, l.sized, e.lists_vars, a.vars) in
+    let same_rows : length rows' ≡ length st.rows = omega (arith, length-rows c.enter_clause.new.lists.vars c.enter_clause.new.lists.lists.items c.enter_clause.new.lists.sized, length-rows l.vars l.lists.items l.sized, e.lists_vars, a.vars) in
     let ent : Enters st.rows rows' n h.left h.right = rw (w.2, w.3) (subst (λ z. Enters z rows' n c.args.left c.args.right) ra e.rows) in
     let entp : Enters pairs pairs' n h.left h.right = rw (w.2, w.3) (subst (λ z. Enters z pairs' n c.args.left c.args.right) rb e.pairs) in
     let named' : (u : LitOf) (x : Watch) → Contains (row st.rows u) x → x.clause < n = λ u x i. subst (λ z. x.clause < z) k (named u x i) in

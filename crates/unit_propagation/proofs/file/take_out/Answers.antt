@@ -11,7 +11,7 @@ returns-clause-filed c = λ rows t but.
     let f = c.forget.ensures in
     let w = f.heads in
     let st : State = record { heads = s.heads.items; rows = rows; trail = t } in
-    let x = filed_out (slots_of s.lits.items s.heads.items) st (rows_of c.args.pairs.now.lists.items) (rows_of c.leave_pairs.new.pairs.lists.items) c.args.k w.0 w.2 (length-slots s.lits.items s.heads.items) c.requires.clause but (l.only but.pair_entries) l.keeps in
+    let x = filed_out (slots_of s.lits.items s.heads.items) st (rows_of c.args.pairs.now.vars c.args.pairs.now.lists.items) (rows_of c.leave_pairs.new.pairs.vars c.leave_pairs.new.pairs.lists.items) c.args.k w.0 w.2 (length-slots s.lits.items s.heads.items) c.requires.clause but (l.only but.pair_entries) l.keeps in
     rw (f.slots, w.1) x
 
 pub returns-clause-kept : goal.returns-clause-kept
@@ -19,6 +19,6 @@ returns-clause-kept c = λ p t all.
     let s = c.args.store.now in
     let f = c.forget.ensures in
     let w = f.heads in
-    let st : State = record { heads = s.heads.items; rows = rows_of c.args.pairs.now.lists.items; trail = t } in
-    let x = kept_out (slots_of s.lits.items s.heads.items) st (rows_of c.args.pairs.now.lists.items) (rows_of c.args.pairs.now.lists.items) c.args.k w.0 w.2 (length-slots s.lits.items s.heads.items) c.requires.clause p t all in
+    let st : State = record { heads = s.heads.items; rows = rows_of c.args.pairs.now.vars c.args.pairs.now.lists.items; trail = t } in
+    let x = kept_out (slots_of s.lits.items s.heads.items) st (rows_of c.args.pairs.now.vars c.args.pairs.now.lists.items) (rows_of c.args.pairs.now.vars c.args.pairs.now.lists.items) c.args.k w.0 w.2 (length-slots s.lits.items s.heads.items) c.requires.clause p t all in
     rw (f.slots, w.1) x

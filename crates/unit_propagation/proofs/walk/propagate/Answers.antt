@@ -13,10 +13,10 @@ pub returns-then-is_some-clause-step : goal.returns-then-is_some-clause-step
 returns-then-is_some-clause-step c = λ filed kept.
     let i = c.loop-head.invariant in
     let slots = slots_of c.args.store.now.lits.items c.args.store.now.heads.items in
-    let pairs = rows_of c.args.pairs.now.lists.items in
-    let old : State = record { heads = c.args.store.now.heads.items; rows = rows_of c.args.lists.now.lists.items; trail = c.args.trail.now.lits } in
-    let mid : State = record { heads = c.loop-head.store.heads.items; rows = rows_of c.loop-head.lists.lists.items; trail = c.loop-head.trail.lits } in
-    let new : State = record { heads = c.visit_literal-stop.new.store.heads.items; rows = rows_of c.visit_literal-stop.new.lists.lists.items; trail = c.visit_literal-stop.new.trail.lits } in
+    let pairs = rows_of c.args.pairs.now.vars c.args.pairs.now.lists.items in
+    let old : State = record { heads = c.args.store.now.heads.items; rows = rows_of c.args.lists.now.vars c.args.lists.now.lists.items; trail = c.args.trail.now.lits } in
+    let mid : State = record { heads = c.loop-head.store.heads.items; rows = rows_of c.loop-head.lists.vars c.loop-head.lists.lists.items; trail = c.loop-head.trail.lits } in
+    let new : State = record { heads = c.visit_literal-stop.new.store.heads.items; rows = rows_of c.visit_literal-stop.new.lists.vars c.visit_literal-stop.new.lists.lists.items; trail = c.visit_literal-stop.new.trail.lits } in
     let e = c.visit_literal-stop.ensures in
     let l = c.get.ensures in
     let p = take c.loop-head.head c.loop-head.trail.lits in
@@ -33,10 +33,10 @@ pub loop-head-preserved : goal.loop-head-preserved
 loop-head-preserved c =
     let i = c.loop-head.invariant in
     let slots = slots_of c.args.store.now.lits.items c.args.store.now.heads.items in
-    let pairs = rows_of c.args.pairs.now.lists.items in
-    let old : State = record { heads = c.args.store.now.heads.items; rows = rows_of c.args.lists.now.lists.items; trail = c.args.trail.now.lits } in
-    let mid : State = record { heads = c.loop-head.store.heads.items; rows = rows_of c.loop-head.lists.lists.items; trail = c.loop-head.trail.lits } in
-    let new : State = record { heads = c.visit_literal-stop.new.store.heads.items; rows = rows_of c.visit_literal-stop.new.lists.lists.items; trail = c.visit_literal-stop.new.trail.lits } in
+    let pairs = rows_of c.args.pairs.now.vars c.args.pairs.now.lists.items in
+    let old : State = record { heads = c.args.store.now.heads.items; rows = rows_of c.args.lists.now.vars c.args.lists.now.lists.items; trail = c.args.trail.now.lits } in
+    let mid : State = record { heads = c.loop-head.store.heads.items; rows = rows_of c.loop-head.lists.vars c.loop-head.lists.lists.items; trail = c.loop-head.trail.lits } in
+    let new : State = record { heads = c.visit_literal-stop.new.store.heads.items; rows = rows_of c.visit_literal-stop.new.lists.vars c.visit_literal-stop.new.lists.lists.items; trail = c.visit_literal-stop.new.trail.lits } in
     let e = c.visit_literal-stop.ensures in
     let l = c.get.ensures in
     let p = take c.loop-head.head c.loop-head.trail.lits in

@@ -12,10 +12,10 @@ invariant-loop-head l = record {
   lists_vars : l.lists.vars ≡ l.fn.lists.vars;
   lists_clauses : l.lists.clauses ≡ l.fn.lists.clauses;
   step : let slots = slots_of l.fn.store.lits.items l.fn.store.heads.items in
-      let old : State = record { heads = l.fn.store.heads.items; rows = rows_of l.fn.lists.lists.items; trail = l.fn.trail.lits } in
-      let new : State = record { heads = l.store.heads.items; rows = rows_of l.lists.lists.items; trail = l.trail.lits } in
-      IsFiled slots old (rows_of l.fn.pairs.lists.items) → AllKept (take l.fn.from old.trail) old.trail slots old.heads
-      → Walks slots (rows_of l.fn.pairs.lists.items) old new × AllKept (take l.head new.trail) new.trail slots new.heads;
+      let old : State = record { heads = l.fn.store.heads.items; rows = rows_of l.fn.lists.vars l.fn.lists.lists.items; trail = l.fn.trail.lits } in
+      let new : State = record { heads = l.store.heads.items; rows = rows_of l.lists.vars l.lists.lists.items; trail = l.trail.lits } in
+      IsFiled slots old (rows_of l.fn.pairs.vars l.fn.pairs.lists.items) → AllKept (take l.fn.from old.trail) old.trail slots old.heads
+      → Walks slots (rows_of l.fn.pairs.vars l.fn.pairs.lists.items) old new × AllKept (take l.head new.trail) new.trail slots new.heads;
 }
 
 abbrev pub decreases-loop-head : goal.decreases-loop-head

@@ -11,9 +11,9 @@ use Rattle.unit_propagation.proofs.walk.settle.Goals as goal
 pub returns-in-Some-Memory-clause-step : goal.returns-in-Some-Memory-clause-step
 returns-in-Some-Memory-clause-step c = λ room filed kept.
     let slots = slots_of c.args.store.now.lits.items c.args.store.now.heads.items in
-    let pairs = rows_of c.args.pairs.now.lists.items in
-    let old : State = record { heads = c.args.store.now.heads.items; rows = rows_of c.args.lists.now.lists.items; trail = c.args.trail.now.lits } in
-    let new : State = record { heads = c.propagate.new.store.heads.items; rows = rows_of c.propagate.new.lists.lists.items; trail = c.propagate.new.trail.lits } in
+    let pairs = rows_of c.args.pairs.now.vars c.args.pairs.now.lists.items in
+    let old : State = record { heads = c.args.store.now.heads.items; rows = rows_of c.args.lists.now.vars c.args.lists.now.lists.items; trail = c.args.trail.now.lits } in
+    let new : State = record { heads = c.propagate.new.store.heads.items; rows = rows_of c.propagate.new.lists.vars c.propagate.new.lists.lists.items; trail = c.propagate.new.trail.lits } in
     let o = c.propagate.ensures in
     let x = o.step filed kept in
     let w : Walks slots pairs old new = x.0 in

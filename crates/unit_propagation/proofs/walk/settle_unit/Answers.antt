@@ -10,11 +10,11 @@ use Rattle.unit_propagation.proofs.walk.settle_unit.Goals as goal
 pub returns-clause-step : goal.returns-clause-step
 returns-clause-step c = λ filed kept.
     let slots = slots_of c.args.store.now.lits.items c.args.store.now.heads.items in
-    let pairs = rows_of c.args.pairs.now.lists.items in
+    let pairs = rows_of c.args.pairs.now.vars c.args.pairs.now.lists.items in
     let t : List LitOf = c.args.trail.now.lits in
     let t' : List LitOf = t ++ c.args.l ∷ [] in
-    let old : State = record { heads = c.args.store.now.heads.items; rows = rows_of c.args.lists.now.lists.items; trail = t } in
-    let new : State = record { heads = c.settle.new.store.heads.items; rows = rows_of c.settle.new.lists.lists.items; trail = c.settle.new.trail.lits } in
+    let old : State = record { heads = c.args.store.now.heads.items; rows = rows_of c.args.lists.now.vars c.args.lists.now.lists.items; trail = t } in
+    let new : State = record { heads = c.settle.new.store.heads.items; rows = rows_of c.settle.new.lists.vars c.settle.new.lists.lists.items; trail = c.settle.new.trail.lits } in
     let a = c.in_ok-assign.ensures in
     let lits : c.assign.new.self.lits ≡ t' = ap (λ (z : TrailOf). z.lits) a.ok in
     let e = c.settle.ensures in

@@ -14,11 +14,12 @@ invariant-loop-k l = record {
   store_count : length l.store.heads.items ≡ length l.fn.store.heads.items;
   lists_vars : l.lists.vars ≡ l.fn.lists.vars;
   lists_clauses : l.lists.clauses ≡ l.fn.lists.clauses;
+  lists_count : length l.fn.lists.lists.items ≤ length l.lists.lists.items;
   list : All (WatchFits l.fn.lists.vars l.fn.lists.clauses) l.list;
   step : (p : List LitOf)
       → let slots = slots_of l.fn.store.lits.items l.fn.store.heads.items in
-      let old : State = record { heads = l.fn.store.heads.items; rows = rows_of l.fn.lists.lists.items; trail = l.fn.trail.lits } in
-      let new : State = record { heads = l.store.heads.items; rows = rows_of l.lists.lists.items; trail = l.trail.lits } in
+      let old : State = record { heads = l.fn.store.heads.items; rows = rows_of l.fn.lists.vars l.fn.lists.lists.items; trail = l.fn.trail.lits } in
+      let new : State = record { heads = l.store.heads.items; rows = rows_of l.lists.vars l.lists.lists.items; trail = l.trail.lits } in
       IsVisited slots old old l.falsified l.fn.list 0 0 → IsPending p l.falsified slots old l.fn.list 0
       → IsVisited slots old new l.falsified l.list l.kept l.k × IsPending p l.falsified slots new l.list l.k;
 }

@@ -12,10 +12,10 @@ pub returns-then-is_some-clause-step : goal.returns-then-is_some-clause-step
 returns-then-is_some-clause-step c = λ p filed kept dealt.
     let f = c.args.falsified in
     let slots = slots_of c.args.store.now.lits.items c.args.store.now.heads.items in
-    let s : State = record { heads = c.args.store.now.heads.items; rows = rows_of c.args.lists.now.lists.items; trail = c.args.trail.now.lits } in
+    let s : State = record { heads = c.args.store.now.heads.items; rows = rows_of c.args.lists.now.vars c.args.lists.now.lists.items; trail = c.args.trail.now.lits } in
     let v = c.visit_pairs-stop.ensures in
     let x = v.step slots c.args.store.now.heads.items (filed.pair_entries f) (dealt (negate f) (Contains-push p (negate f))) in (
-      walks_grown slots (rows_of c.args.pairs.now.lists.items) s c.visit_pairs-stop.new.trail.lits filed x.0,
+      walks_grown slots (rows_of c.args.pairs.now.vars c.args.pairs.now.lists.items) s c.visit_pairs-stop.new.trail.lits filed x.0,
       end_from_pairs _ slots (record s { trail = c.visit_pairs-stop.new.trail.lits }) _ c.visit_pairs-stop.result (search rules) x.1,
     )
 
@@ -23,8 +23,8 @@ pub returns-clause-step : goal.returns-clause-step
 returns-clause-step c = λ p filed kept dealt.
     let f = c.args.falsified in
     let slots = slots_of c.args.store.now.lits.items c.args.store.now.heads.items in
-    let pairs = rows_of c.args.pairs.now.lists.items in
-    let s : State = record { heads = c.args.store.now.heads.items; rows = rows_of c.args.lists.now.lists.items; trail = c.args.trail.now.lits } in
+    let pairs = rows_of c.args.pairs.now.vars c.args.pairs.now.lists.items in
+    let s : State = record { heads = c.args.store.now.heads.items; rows = rows_of c.args.lists.now.vars c.args.lists.now.lists.items; trail = c.args.trail.now.lits } in
     let t = c.visit_pairs-stop.new.trail.lits in
     let mid : State = record s { trail = t } in
     let v = c.visit_pairs-stop.ensures in

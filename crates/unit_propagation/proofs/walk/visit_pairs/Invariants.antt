@@ -12,7 +12,7 @@ use Rattle.unit_propagation.proofs.walk.visit_pairs.Given as goal
 abbrev pub invariant-loop-k : goal.invariant-loop-k
 invariant-loop-k l = record {
   vars : l.trail.vars ≡ l.fn.trail.vars;
-  step : (slots : List (Option (List LitOf))) (heads : List Head) → ((w : Watch) → Contains (row (rows_of l.pairs.lists.items) l.fn.falsified) w → PairFits slots heads l.fn.falsified w)
+  step : (slots : List (Option (List LitOf))) (heads : List Head) → ((w : Watch) → Contains (row (rows_of l.pairs.vars l.pairs.lists.items) l.fn.falsified) w → PairFits slots heads l.fn.falsified w)
       → Contains l.fn.trail.lits (negate l.fn.falsified) → Propagates (clauses_of slots) l.fn.trail.lits l.trail.lits
       × ((i : ℕ) (d : Watch) → i < l.k → Contains l.trail.lits (get_or l.list i d).blocker);
 }

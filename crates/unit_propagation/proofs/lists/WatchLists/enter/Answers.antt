@@ -8,7 +8,7 @@ pub returns-in_err-push-2-clause-enters : goal.returns-in_err-push-2-clause-ente
 returns-in_err-push-2-clause-enters c =
     let p = c.in_ok-push.ensures in
     let q = c.in_err-push-2.ensures in
-    subst (λ z. Enters (rows_of c.args.self.now.lists.items) z c.args.clause c.args.left c.args.right) (sym q.err) (enters_left _ _ c.args.clause c.args.left c.args.right p.ok)
+    subst (λ z. Enters (rows_of c.args.self.now.vars c.args.self.now.lists.items) z c.args.clause c.args.left c.args.right) (sym q.err) (enters_left _ _ c.args.clause c.args.left c.args.right p.ok)
 
 pub returns-clause-enters : goal.returns-clause-enters
 returns-clause-enters c =
@@ -21,4 +21,4 @@ returns-clause-entered c =
     let s = c.args.self.now in
     let p = c.in_ok-push.ensures in
     let q = c.in_ok-push-2.ensures in
-    entered_both (rows_of s.lists.items) _ _ c.args.clause c.args.left c.args.right (row_room s.lists.items s.vars c.args.left s.sized c.requires.left) (row_room s.lists.items s.vars c.args.right s.sized c.requires.right) p.ok q.ok
+    entered_both (rows_of s.vars s.lists.items) _ _ c.args.clause c.args.left c.args.right (row_room s.vars s.lists.items c.args.left c.requires.left) (row_room s.vars s.lists.items c.args.right c.requires.right) p.ok q.ok

@@ -8,4 +8,4 @@ returns-clause-leaves c =
     let s = c.args.self.now in
     let p = c.remove.ensures in
     let q = c.remove-2.ensures in
-    leaves_both (rows_of s.lists.items) _ _ c.args.clause c.args.left c.args.right (row_room s.lists.items s.vars c.args.left s.sized c.requires.left) (row_room s.lists.items s.vars c.args.right s.sized c.requires.right) p.rows q.rows
+    leaves_both (rows_of s.vars s.lists.items) _ _ c.args.clause c.args.left c.args.right (row_room s.vars s.lists.items c.args.left c.requires.left) (row_room s.vars s.lists.items c.args.right c.requires.right) p.rows q.rows

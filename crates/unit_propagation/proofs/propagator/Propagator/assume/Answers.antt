@@ -13,10 +13,10 @@ invariant_of-self-in-Ok c =
     let i = c.self.invariant in
     let a = i.0 in
     let v = i.1 in
-    let s : State = record { heads = c.self.inside.store.heads.items; rows = rows_of c.self.inside.lists.lists.items; trail = c.self.inside.trail.lits } in
+    let s : State = record { heads = c.self.inside.store.heads.items; rows = rows_of c.self.inside.lists.vars c.self.inside.lists.lists.items; trail = c.self.inside.trail.lits } in
     let slots = slots_of c.self.inside.store.lits.items c.self.inside.store.heads.items in
-    let pairs = rows_of c.self.inside.pairs.lists.items in
-    let new : State = record { heads = c.assume.new.store.heads.items; rows = rows_of c.assume.new.lists.lists.items; trail = c.assume.new.trail.lits } in
+    let pairs = rows_of c.self.inside.pairs.vars c.self.inside.pairs.lists.items in
+    let new : State = record { heads = c.assume.new.store.heads.items; rows = rows_of c.assume.new.lists.vars c.assume.new.lists.lists.items; trail = c.assume.new.trail.lits } in
     let free : c.self.inside.conflict ≡ false = ap (λ (k : PropagatorOf). k.conflict) c.self.view_is ∙ c.requires.conflict in
     let e = c.assume.ensures in
     let f = e.step v.filed (v.now free) in
@@ -33,10 +33,10 @@ invariant_of-self-in-Err c =
     let i = c.self.invariant in
     let a = i.0 in
     let v = i.1 in
-    let s : State = record { heads = c.self.inside.store.heads.items; rows = rows_of c.self.inside.lists.lists.items; trail = c.self.inside.trail.lits } in
+    let s : State = record { heads = c.self.inside.store.heads.items; rows = rows_of c.self.inside.lists.vars c.self.inside.lists.lists.items; trail = c.self.inside.trail.lits } in
     let slots = slots_of c.self.inside.store.lits.items c.self.inside.store.heads.items in
-    let pairs = rows_of c.self.inside.pairs.lists.items in
-    let new : State = record { heads = c.assume.new.store.heads.items; rows = rows_of c.assume.new.lists.lists.items; trail = c.assume.new.trail.lits } in
+    let pairs = rows_of c.self.inside.pairs.vars c.self.inside.pairs.lists.items in
+    let new : State = record { heads = c.assume.new.store.heads.items; rows = rows_of c.assume.new.lists.vars c.assume.new.lists.lists.items; trail = c.assume.new.trail.lits } in
     let free : c.self.inside.conflict ≡ false = ap (λ (k : PropagatorOf). k.conflict) c.self.view_is ∙ c.requires.conflict in
     let e = c.assume.ensures in
     let f = e.step v.filed (v.now free) in
@@ -54,10 +54,10 @@ returns-in-Err-clause-err c =
     let i = c.self.invariant in
     let a = i.0 in
     let v = i.1 in
-    let s : State = record { heads = c.self.inside.store.heads.items; rows = rows_of c.self.inside.lists.lists.items; trail = c.self.inside.trail.lits } in
+    let s : State = record { heads = c.self.inside.store.heads.items; rows = rows_of c.self.inside.lists.vars c.self.inside.lists.lists.items; trail = c.self.inside.trail.lits } in
     let slots = slots_of c.self.inside.store.lits.items c.self.inside.store.heads.items in
-    let pairs = rows_of c.self.inside.pairs.lists.items in
-    let new : State = record { heads = c.assume.new.store.heads.items; rows = rows_of c.assume.new.lists.lists.items; trail = c.assume.new.trail.lits } in
+    let pairs = rows_of c.self.inside.pairs.vars c.self.inside.pairs.lists.items in
+    let new : State = record { heads = c.assume.new.store.heads.items; rows = rows_of c.assume.new.lists.vars c.assume.new.lists.lists.items; trail = c.assume.new.trail.lits } in
     let free : c.self.inside.conflict ≡ false = ap (λ (k : PropagatorOf). k.conflict) c.self.view_is ∙ c.requires.conflict in
     let e = c.assume.ensures in
     let f = e.step v.filed (v.now free) in

@@ -15,10 +15,10 @@ invariant_of-self c =
     let i = c.self.invariant in
     let a = i.0 in
     let v = i.1 in
-    let s : State = record { heads = c.self.inside.store.heads.items; rows = rows_of c.self.inside.lists.lists.items; trail = c.self.inside.trail.lits } in
+    let s : State = record { heads = c.self.inside.store.heads.items; rows = rows_of c.self.inside.lists.vars c.self.inside.lists.lists.items; trail = c.self.inside.trail.lits } in
     let st = c.file_clause.new.store in
-    let rows = rows_of c.file_clause.new.lists.lists.items in
-    let pairs = rows_of c.file_clause.new.pairs.lists.items in
+    let rows = rows_of c.file_clause.new.lists.vars c.file_clause.new.lists.lists.items in
+    let pairs = rows_of c.file_clause.new.pairs.vars c.file_clause.new.pairs.lists.items in
     let zero = ap (λ (k : PropagatorOf). k.limits) c.self.view_is ∙ c.requires.level in
     let e = c.in_err-file_clause.ensures in
     let s' : State = record { heads = st.heads.items; rows = rows; trail = s.trail } in (
@@ -31,10 +31,10 @@ invariant_of-self-2 c =
     let i = c.self.invariant in
     let a = i.0 in
     let v = i.1 in
-    let s : State = record { heads = c.self.inside.store.heads.items; rows = rows_of c.self.inside.lists.lists.items; trail = c.self.inside.trail.lits } in
+    let s : State = record { heads = c.self.inside.store.heads.items; rows = rows_of c.self.inside.lists.vars c.self.inside.lists.lists.items; trail = c.self.inside.trail.lits } in
     let st = c.file_clause.new.store in
-    let rows = rows_of c.file_clause.new.lists.lists.items in
-    let pairs = rows_of c.file_clause.new.pairs.lists.items in
+    let rows = rows_of c.file_clause.new.lists.vars c.file_clause.new.lists.lists.items in
+    let pairs = rows_of c.file_clause.new.pairs.vars c.file_clause.new.pairs.lists.items in
     let zero = ap (λ (k : PropagatorOf). k.limits) c.self.view_is ∙ c.requires.level in
     let e = c.in_ok-file_clause.ensures in
     let w = e.heads in

@@ -16,10 +16,10 @@ invariant_of-self-in-Ok c =
     let a = i.0 in
     let v = i.1 in
     let l = c.args.l in
-    let s : State = record { heads = c.self.inside.store.heads.items; rows = rows_of c.self.inside.lists.lists.items; trail = c.self.inside.trail.lits } in
+    let s : State = record { heads = c.self.inside.store.heads.items; rows = rows_of c.self.inside.lists.vars c.self.inside.lists.lists.items; trail = c.self.inside.trail.lits } in
     let slots = slots_of c.self.inside.store.lits.items c.self.inside.store.heads.items in
-    let pairs = rows_of c.self.inside.pairs.lists.items in
-    let new : State = record { heads = c.settle_unit.new.store.heads.items; rows = rows_of c.settle_unit.new.lists.lists.items; trail = c.settle_unit.new.trail.lits } in
+    let pairs = rows_of c.self.inside.pairs.vars c.self.inside.pairs.lists.items in
+    let new : State = record { heads = c.settle_unit.new.store.heads.items; rows = rows_of c.settle_unit.new.lists.vars c.settle_unit.new.lists.lists.items; trail = c.settle_unit.new.trail.lits } in
     let free : c.self.inside.conflict ≡ false = ap (λ (k : PropagatorOf). k.conflict) c.self.view_is ∙ c.requires.conflict in
     let op : IsOpen s.trail l = subst (λ (k : PropagatorOf). IsOpen k.trail l) (sym c.self.view_is) c.requires.opened in
     let e = c.settle_unit.ensures in
@@ -40,10 +40,10 @@ invariant_of-self-in-Err c =
     let a = i.0 in
     let v = i.1 in
     let l = c.args.l in
-    let s : State = record { heads = c.self.inside.store.heads.items; rows = rows_of c.self.inside.lists.lists.items; trail = c.self.inside.trail.lits } in
+    let s : State = record { heads = c.self.inside.store.heads.items; rows = rows_of c.self.inside.lists.vars c.self.inside.lists.lists.items; trail = c.self.inside.trail.lits } in
     let slots = slots_of c.self.inside.store.lits.items c.self.inside.store.heads.items in
-    let pairs = rows_of c.self.inside.pairs.lists.items in
-    let new : State = record { heads = c.settle_unit.new.store.heads.items; rows = rows_of c.settle_unit.new.lists.lists.items; trail = c.settle_unit.new.trail.lits } in
+    let pairs = rows_of c.self.inside.pairs.vars c.self.inside.pairs.lists.items in
+    let new : State = record { heads = c.settle_unit.new.store.heads.items; rows = rows_of c.settle_unit.new.lists.vars c.settle_unit.new.lists.lists.items; trail = c.settle_unit.new.trail.lits } in
     let free : c.self.inside.conflict ≡ false = ap (λ (k : PropagatorOf). k.conflict) c.self.view_is ∙ c.requires.conflict in
     let op : IsOpen s.trail l = subst (λ (k : PropagatorOf). IsOpen k.trail l) (sym c.self.view_is) c.requires.opened in
     let e = c.settle_unit.ensures in
@@ -64,10 +64,10 @@ returns-in-Ok-clause-decided c =
     let a = i.0 in
     let v = i.1 in
     let l = c.args.l in
-    let s : State = record { heads = c.self.inside.store.heads.items; rows = rows_of c.self.inside.lists.lists.items; trail = c.self.inside.trail.lits } in
+    let s : State = record { heads = c.self.inside.store.heads.items; rows = rows_of c.self.inside.lists.vars c.self.inside.lists.lists.items; trail = c.self.inside.trail.lits } in
     let slots = slots_of c.self.inside.store.lits.items c.self.inside.store.heads.items in
-    let pairs = rows_of c.self.inside.pairs.lists.items in
-    let new : State = record { heads = c.settle_unit.new.store.heads.items; rows = rows_of c.settle_unit.new.lists.lists.items; trail = c.settle_unit.new.trail.lits } in
+    let pairs = rows_of c.self.inside.pairs.vars c.self.inside.pairs.lists.items in
+    let new : State = record { heads = c.settle_unit.new.store.heads.items; rows = rows_of c.settle_unit.new.lists.vars c.settle_unit.new.lists.lists.items; trail = c.settle_unit.new.trail.lits } in
     let free : c.self.inside.conflict ≡ false = ap (λ (k : PropagatorOf). k.conflict) c.self.view_is ∙ c.requires.conflict in
     let op : IsOpen s.trail l = subst (λ (k : PropagatorOf). IsOpen k.trail l) (sym c.self.view_is) c.requires.opened in
     let e = c.settle_unit.ensures in
@@ -88,10 +88,10 @@ returns-in-Ok-clause-ends c =
     let a = i.0 in
     let v = i.1 in
     let l = c.args.l in
-    let s : State = record { heads = c.self.inside.store.heads.items; rows = rows_of c.self.inside.lists.lists.items; trail = c.self.inside.trail.lits } in
+    let s : State = record { heads = c.self.inside.store.heads.items; rows = rows_of c.self.inside.lists.vars c.self.inside.lists.lists.items; trail = c.self.inside.trail.lits } in
     let slots = slots_of c.self.inside.store.lits.items c.self.inside.store.heads.items in
-    let pairs = rows_of c.self.inside.pairs.lists.items in
-    let new : State = record { heads = c.settle_unit.new.store.heads.items; rows = rows_of c.settle_unit.new.lists.lists.items; trail = c.settle_unit.new.trail.lits } in
+    let pairs = rows_of c.self.inside.pairs.vars c.self.inside.pairs.lists.items in
+    let new : State = record { heads = c.settle_unit.new.store.heads.items; rows = rows_of c.settle_unit.new.lists.vars c.settle_unit.new.lists.lists.items; trail = c.settle_unit.new.trail.lits } in
     let free : c.self.inside.conflict ≡ false = ap (λ (k : PropagatorOf). k.conflict) c.self.view_is ∙ c.requires.conflict in
     let op : IsOpen s.trail l = subst (λ (k : PropagatorOf). IsOpen k.trail l) (sym c.self.view_is) c.requires.opened in
     let e = c.settle_unit.ensures in
@@ -111,10 +111,10 @@ returns-in-Err-clause-err c =
     let a = i.0 in
     let v = i.1 in
     let l = c.args.l in
-    let s : State = record { heads = c.self.inside.store.heads.items; rows = rows_of c.self.inside.lists.lists.items; trail = c.self.inside.trail.lits } in
+    let s : State = record { heads = c.self.inside.store.heads.items; rows = rows_of c.self.inside.lists.vars c.self.inside.lists.lists.items; trail = c.self.inside.trail.lits } in
     let slots = slots_of c.self.inside.store.lits.items c.self.inside.store.heads.items in
-    let pairs = rows_of c.self.inside.pairs.lists.items in
-    let new : State = record { heads = c.settle_unit.new.store.heads.items; rows = rows_of c.settle_unit.new.lists.lists.items; trail = c.settle_unit.new.trail.lits } in
+    let pairs = rows_of c.self.inside.pairs.vars c.self.inside.pairs.lists.items in
+    let new : State = record { heads = c.settle_unit.new.store.heads.items; rows = rows_of c.settle_unit.new.lists.vars c.settle_unit.new.lists.lists.items; trail = c.settle_unit.new.trail.lits } in
     let free : c.self.inside.conflict ≡ false = ap (λ (k : PropagatorOf). k.conflict) c.self.view_is ∙ c.requires.conflict in
     let op : IsOpen s.trail l = subst (λ (k : PropagatorOf). IsOpen k.trail l) (sym c.self.view_is) c.requires.opened in
     let e = c.settle_unit.ensures in

@@ -23,11 +23,11 @@ invariant_of-self c =
     let l = c.args.first in
     let vars = c.self.inside.vars in
     let limits = c.self.inside.limits.items in
-    let s : State = record { heads = c.self.inside.store.heads.items; rows = rows_of c.self.inside.lists.lists.items; trail = c.self.inside.trail.lits } in
+    let s : State = record { heads = c.self.inside.store.heads.items; rows = rows_of c.self.inside.lists.vars c.self.inside.lists.lists.items; trail = c.self.inside.trail.lits } in
     let slots = slots_of c.self.inside.store.lits.items c.self.inside.store.heads.items in
     let st = c.file_clause.new.store in
-    let rows = rows_of c.file_clause.new.lists.lists.items in
-    let pairs = rows_of c.file_clause.new.pairs.lists.items in
+    let rows = rows_of c.file_clause.new.lists.vars c.file_clause.new.lists.lists.items in
+    let pairs = rows_of c.file_clause.new.pairs.vars c.file_clause.new.pairs.lists.items in
     let e = c.in_err-file_clause.ensures in
     let s' : State = record { heads = st.heads.items; rows = rows; trail = s.trail } in (
       record { limit = a.limit; store_vars = e.store_vars ∙ a.store_vars; lists_vars = e.lists_vars ∙ a.lists_vars; pairs_vars = e.pairs_vars ∙ a.pairs_vars; trail_vars = a.trail_vars; lists_clauses = e.lists_clauses; pairs_clauses = e.pairs_clauses },
@@ -43,11 +43,11 @@ invariant_of-self-in-Ok c =
     let l = c.args.first in
     let vars = c.self.inside.vars in
     let limits = c.self.inside.limits.items in
-    let s : State = record { heads = c.self.inside.store.heads.items; rows = rows_of c.self.inside.lists.lists.items; trail = c.self.inside.trail.lits } in
+    let s : State = record { heads = c.self.inside.store.heads.items; rows = rows_of c.self.inside.lists.vars c.self.inside.lists.lists.items; trail = c.self.inside.trail.lits } in
     let slots = slots_of c.self.inside.store.lits.items c.self.inside.store.heads.items in
     let st = c.file_clause.new.store in
-    let rows = rows_of c.file_clause.new.lists.lists.items in
-    let pairs = rows_of c.file_clause.new.pairs.lists.items in
+    let rows = rows_of c.file_clause.new.lists.vars c.file_clause.new.lists.lists.items in
+    let pairs = rows_of c.file_clause.new.pairs.vars c.file_clause.new.pairs.lists.items in
     let e = c.in_ok-file_clause.ensures in
     let w = e.heads in
     let h : Head = w.0 in
@@ -59,7 +59,7 @@ invariant_of-self-in-Ok c =
     subst (λ (k : PropagatorOf). (n : ℕ) → Contains k.limits n → Contains (take n k.trail) (negate c.args.second) → ⊥) (sym c.self.view_is) c.requires.level in
     let mid : State = record { heads = s.heads ++ h ∷ []; rows = rows; trail = s.trail } in
     let grown : State = record { heads = s.heads ++ h ∷ []; rows = rows; trail = s.trail ++ l ∷ [] } in
-    let new : State = record { heads = c.settle_unit.new.store.heads.items; rows = rows_of c.settle_unit.new.lists.lists.items; trail = c.settle_unit.new.trail.lits } in
+    let new : State = record { heads = c.settle_unit.new.store.heads.items; rows = rows_of c.settle_unit.new.lists.vars c.settle_unit.new.lists.lists.items; trail = c.settle_unit.new.trail.lits } in
     let u = c.settle_unit.ensures in
     let slots' = slots ++ Some cl ∷ [] in
     let filed : IsFiled slots' mid pairs = subst (λ z. IsFiled z mid pairs) e.slots (subst (λ z. IsFiled (slots_of st.lits.items st.heads.items) (record { heads = z; rows = rows; trail = s.trail }) pairs) w.1 (e.filed s.trail v.filed)) in
@@ -74,7 +74,7 @@ invariant_of-self-in-Ok c =
     let fit : SettleFits slots' pairs grown new s.trail (Ok c.in-Ok.falsified) = subst (SettleFits slots' pairs grown new s.trail) c.in-Ok.is fits in
     let r = settle_ok slots' pairs grown new s.trail c.in-Ok.falsified fit in (
       record { limit = a.limit; store_vars = u.store_vars ∙ e.store_vars ∙ a.store_vars; lists_vars = u.lists_vars ∙ e.lists_vars ∙ a.lists_vars; pairs_vars = e.pairs_vars ∙ a.pairs_vars; trail_vars = u.trail ∙ a.trail_vars; lists_clauses = u.lists_clauses ∙ e.lists_clauses ∙ sym u.store_count; pairs_clauses = e.pairs_clauses ∙ sym u.store_count },
-      rw (u.slots, e.slots) (learnt vars slots s (rows_of c.self.inside.pairs.lists.items) limits c.self.inside.conflict v cl h rows pairs l new c.is_some-self-inside.result within op
+      rw (u.slots, e.slots) (learnt vars slots s (rows_of c.self.inside.pairs.vars c.self.inside.pairs.lists.items) limits c.self.inside.conflict v cl h rows pairs l new c.is_some-self-inside.result within op
           (λ n k. kept_learnt s.trail cl h l c.args.second w.2 w.3 c.requires.first c.requires.second c.requires.two op.not_false (take n s.trail) (λ m q. taken s.trail n m q) (high n k)) r.0 (λ g. r.1 (sym c.is_some-self-inside.ensures ∙ g))),
     )
 
@@ -87,11 +87,11 @@ invariant_of-self-in-Err c =
     let l = c.args.first in
     let vars = c.self.inside.vars in
     let limits = c.self.inside.limits.items in
-    let s : State = record { heads = c.self.inside.store.heads.items; rows = rows_of c.self.inside.lists.lists.items; trail = c.self.inside.trail.lits } in
+    let s : State = record { heads = c.self.inside.store.heads.items; rows = rows_of c.self.inside.lists.vars c.self.inside.lists.lists.items; trail = c.self.inside.trail.lits } in
     let slots = slots_of c.self.inside.store.lits.items c.self.inside.store.heads.items in
     let st = c.file_clause.new.store in
-    let rows = rows_of c.file_clause.new.lists.lists.items in
-    let pairs = rows_of c.file_clause.new.pairs.lists.items in
+    let rows = rows_of c.file_clause.new.lists.vars c.file_clause.new.lists.lists.items in
+    let pairs = rows_of c.file_clause.new.pairs.vars c.file_clause.new.pairs.lists.items in
     let e = c.in_ok-file_clause.ensures in
     let w = e.heads in
     let h : Head = w.0 in
@@ -103,7 +103,7 @@ invariant_of-self-in-Err c =
     subst (λ (k : PropagatorOf). (n : ℕ) → Contains k.limits n → Contains (take n k.trail) (negate c.args.second) → ⊥) (sym c.self.view_is) c.requires.level in
     let mid : State = record { heads = s.heads ++ h ∷ []; rows = rows; trail = s.trail } in
     let grown : State = record { heads = s.heads ++ h ∷ []; rows = rows; trail = s.trail ++ l ∷ [] } in
-    let new : State = record { heads = c.settle_unit.new.store.heads.items; rows = rows_of c.settle_unit.new.lists.lists.items; trail = c.settle_unit.new.trail.lits } in
+    let new : State = record { heads = c.settle_unit.new.store.heads.items; rows = rows_of c.settle_unit.new.lists.vars c.settle_unit.new.lists.lists.items; trail = c.settle_unit.new.trail.lits } in
     let u = c.settle_unit.ensures in
     let slots' = slots ++ Some cl ∷ [] in
     let filed : IsFiled slots' mid pairs = subst (λ z. IsFiled z mid pairs) e.slots (subst (λ z. IsFiled (slots_of st.lits.items st.heads.items) (record { heads = z; rows = rows; trail = s.trail }) pairs) w.1 (e.filed s.trail v.filed)) in
@@ -124,9 +124,9 @@ invariant_of-self-in-Err c =
     let s' : State = record { heads = c.take_out.new.store.heads.items; rows = new.rows; trail = s.trail } in
     let filed' = o.filed new.rows s.trail (subst (λ z. IsFiledBut k z (record new { trail = s.trail }) pairs) (sym sl) (filed_but k slots' (record new { trail = s.trail }) pairs (filed_trail slots' new pairs s.trail fit.0))) in
     let kept' : (b : List LitOf) → ((m : LitOf) → Contains b m → Contains s.trail m) → AllKept b b slots s.heads → AllKept b b (slots_of c.take_out.new.store.lits.items c.take_out.new.store.heads.items) s'.heads = λ b less all.
-    o.kept b b (subst (λ z. (j : ℕ) (d : Head) → j < length new.heads → j ≢ k → IsKept b b (slot_at z j) (get_or new.heads j d)) (sym sl) (kept_less vars slots s (rows_of c.self.inside.pairs.lists.items) limits c.self.inside.conflict v cl h new.heads b size all (λ j d g. fit.2 j d g b less) k at)) in (
+    o.kept b b (subst (λ z. (j : ℕ) (d : Head) → j < length new.heads → j ≢ k → IsKept b b (slot_at z j) (get_or new.heads j d)) (sym sl) (kept_less vars slots s (rows_of c.self.inside.pairs.vars c.self.inside.pairs.lists.items) limits c.self.inside.conflict v cl h new.heads b size all (λ j d g. fit.2 j d g b less) k at)) in (
       record { limit = a.limit; store_vars = o.store_vars ∙ u.store_vars ∙ e.store_vars ∙ a.store_vars; lists_vars = u.lists_vars ∙ e.lists_vars ∙ a.lists_vars; pairs_vars = o.pairs_vars ∙ e.pairs_vars ∙ a.pairs_vars; trail_vars = u.trail ∙ a.trail_vars; lists_clauses = u.lists_clauses ∙ e.lists_clauses ∙ sym u.store_count ∙ sym o.store_count; pairs_clauses = o.pairs_clauses ∙ e.pairs_clauses ∙ sym u.store_count ∙ sym o.store_count },
-      rw fit.1 (unlearnt vars slots s (rows_of c.self.inside.pairs.lists.items) limits c.self.inside.conflict v _ s' _ refl (length-slots _ _) (inr last) filed' kept'),
+      rw fit.1 (unlearnt vars slots s (rows_of c.self.inside.pairs.vars c.self.inside.pairs.lists.items) limits c.self.inside.conflict v _ s' _ refl (length-slots _ _) (inr last) filed' kept'),
     )
 
 pub returns-in-Ok-clause-ok : goal.returns-in-Ok-clause-ok
@@ -138,11 +138,11 @@ returns-in-Ok-clause-ok c =
     let l = c.args.first in
     let vars = c.self.inside.vars in
     let limits = c.self.inside.limits.items in
-    let s : State = record { heads = c.self.inside.store.heads.items; rows = rows_of c.self.inside.lists.lists.items; trail = c.self.inside.trail.lits } in
+    let s : State = record { heads = c.self.inside.store.heads.items; rows = rows_of c.self.inside.lists.vars c.self.inside.lists.lists.items; trail = c.self.inside.trail.lits } in
     let slots = slots_of c.self.inside.store.lits.items c.self.inside.store.heads.items in
     let st = c.file_clause.new.store in
-    let rows = rows_of c.file_clause.new.lists.lists.items in
-    let pairs = rows_of c.file_clause.new.pairs.lists.items in
+    let rows = rows_of c.file_clause.new.lists.vars c.file_clause.new.lists.lists.items in
+    let pairs = rows_of c.file_clause.new.pairs.vars c.file_clause.new.pairs.lists.items in
     let e = c.in_ok-file_clause.ensures in
     let w = e.heads in
     let h : Head = w.0 in
@@ -154,7 +154,7 @@ returns-in-Ok-clause-ok c =
     subst (λ (k : PropagatorOf). (n : ℕ) → Contains k.limits n → Contains (take n k.trail) (negate c.args.second) → ⊥) (sym c.self.view_is) c.requires.level in
     let mid : State = record { heads = s.heads ++ h ∷ []; rows = rows; trail = s.trail } in
     let grown : State = record { heads = s.heads ++ h ∷ []; rows = rows; trail = s.trail ++ l ∷ [] } in
-    let new : State = record { heads = c.settle_unit.new.store.heads.items; rows = rows_of c.settle_unit.new.lists.lists.items; trail = c.settle_unit.new.trail.lits } in
+    let new : State = record { heads = c.settle_unit.new.store.heads.items; rows = rows_of c.settle_unit.new.lists.vars c.settle_unit.new.lists.lists.items; trail = c.settle_unit.new.trail.lits } in
     let u = c.settle_unit.ensures in
     let slots' = slots ++ Some cl ∷ [] in
     let filed : IsFiled slots' mid pairs = subst (λ z. IsFiled z mid pairs) e.slots (subst (λ z. IsFiled (slots_of st.lits.items st.heads.items) (record { heads = z; rows = rows; trail = s.trail }) pairs) w.1 (e.filed s.trail v.filed)) in
@@ -188,11 +188,11 @@ returns-in-Ok-clause-ends c =
     let l = c.args.first in
     let vars = c.self.inside.vars in
     let limits = c.self.inside.limits.items in
-    let s : State = record { heads = c.self.inside.store.heads.items; rows = rows_of c.self.inside.lists.lists.items; trail = c.self.inside.trail.lits } in
+    let s : State = record { heads = c.self.inside.store.heads.items; rows = rows_of c.self.inside.lists.vars c.self.inside.lists.lists.items; trail = c.self.inside.trail.lits } in
     let slots = slots_of c.self.inside.store.lits.items c.self.inside.store.heads.items in
     let st = c.file_clause.new.store in
-    let rows = rows_of c.file_clause.new.lists.lists.items in
-    let pairs = rows_of c.file_clause.new.pairs.lists.items in
+    let rows = rows_of c.file_clause.new.lists.vars c.file_clause.new.lists.lists.items in
+    let pairs = rows_of c.file_clause.new.pairs.vars c.file_clause.new.pairs.lists.items in
     let e = c.in_ok-file_clause.ensures in
     let w = e.heads in
     let h : Head = w.0 in
@@ -204,7 +204,7 @@ returns-in-Ok-clause-ends c =
     subst (λ (k : PropagatorOf). (n : ℕ) → Contains k.limits n → Contains (take n k.trail) (negate c.args.second) → ⊥) (sym c.self.view_is) c.requires.level in
     let mid : State = record { heads = s.heads ++ h ∷ []; rows = rows; trail = s.trail } in
     let grown : State = record { heads = s.heads ++ h ∷ []; rows = rows; trail = s.trail ++ l ∷ [] } in
-    let new : State = record { heads = c.settle_unit.new.store.heads.items; rows = rows_of c.settle_unit.new.lists.lists.items; trail = c.settle_unit.new.trail.lits } in
+    let new : State = record { heads = c.settle_unit.new.store.heads.items; rows = rows_of c.settle_unit.new.lists.vars c.settle_unit.new.lists.lists.items; trail = c.settle_unit.new.trail.lits } in
     let u = c.settle_unit.ensures in
     let slots' = slots ++ Some cl ∷ [] in
     let filed : IsFiled slots' mid pairs = subst (λ z. IsFiled z mid pairs) e.slots (subst (λ z. IsFiled (slots_of st.lits.items st.heads.items) (record { heads = z; rows = rows; trail = s.trail }) pairs) w.1 (e.filed s.trail v.filed)) in
@@ -230,11 +230,11 @@ returns-in-Err-clause-err c =
     let l = c.args.first in
     let vars = c.self.inside.vars in
     let limits = c.self.inside.limits.items in
-    let s : State = record { heads = c.self.inside.store.heads.items; rows = rows_of c.self.inside.lists.lists.items; trail = c.self.inside.trail.lits } in
+    let s : State = record { heads = c.self.inside.store.heads.items; rows = rows_of c.self.inside.lists.vars c.self.inside.lists.lists.items; trail = c.self.inside.trail.lits } in
     let slots = slots_of c.self.inside.store.lits.items c.self.inside.store.heads.items in
     let st = c.file_clause.new.store in
-    let rows = rows_of c.file_clause.new.lists.lists.items in
-    let pairs = rows_of c.file_clause.new.pairs.lists.items in
+    let rows = rows_of c.file_clause.new.lists.vars c.file_clause.new.lists.lists.items in
+    let pairs = rows_of c.file_clause.new.pairs.vars c.file_clause.new.pairs.lists.items in
     let e = c.in_ok-file_clause.ensures in
     let w = e.heads in
     let h : Head = w.0 in
@@ -246,7 +246,7 @@ returns-in-Err-clause-err c =
     subst (λ (k : PropagatorOf). (n : ℕ) → Contains k.limits n → Contains (take n k.trail) (negate c.args.second) → ⊥) (sym c.self.view_is) c.requires.level in
     let mid : State = record { heads = s.heads ++ h ∷ []; rows = rows; trail = s.trail } in
     let grown : State = record { heads = s.heads ++ h ∷ []; rows = rows; trail = s.trail ++ l ∷ [] } in
-    let new : State = record { heads = c.settle_unit.new.store.heads.items; rows = rows_of c.settle_unit.new.lists.lists.items; trail = c.settle_unit.new.trail.lits } in
+    let new : State = record { heads = c.settle_unit.new.store.heads.items; rows = rows_of c.settle_unit.new.lists.vars c.settle_unit.new.lists.lists.items; trail = c.settle_unit.new.trail.lits } in
     let u = c.settle_unit.ensures in
     let slots' = slots ++ Some cl ∷ [] in
     let filed : IsFiled slots' mid pairs = subst (λ z. IsFiled z mid pairs) e.slots (subst (λ z. IsFiled (slots_of st.lits.items st.heads.items) (record { heads = z; rows = rows; trail = s.trail }) pairs) w.1 (e.filed s.trail v.filed)) in

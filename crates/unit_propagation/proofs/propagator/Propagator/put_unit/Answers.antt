@@ -20,10 +20,10 @@ invariant_of-self c =
     let i = c.self.invariant in
     let a = i.0 in
     let v = i.1 in
-    let s : State = record { heads = c.self.inside.store.heads.items; rows = rows_of c.self.inside.lists.lists.items; trail = c.self.inside.trail.lits } in
+    let s : State = record { heads = c.self.inside.store.heads.items; rows = rows_of c.self.inside.lists.vars c.self.inside.lists.lists.items; trail = c.self.inside.trail.lits } in
     let st = c.file_clause.new.store in
-    let rows = rows_of c.file_clause.new.lists.lists.items in
-    let pairs = rows_of c.file_clause.new.pairs.lists.items in
+    let rows = rows_of c.file_clause.new.lists.vars c.file_clause.new.lists.lists.items in
+    let pairs = rows_of c.file_clause.new.pairs.vars c.file_clause.new.pairs.lists.items in
     let zero = ap (λ (k : PropagatorOf). k.limits) c.self.view_is ∙ c.requires.level in
     let e = c.in_err-file_clause.ensures in
     let s' : State = record { heads = st.heads.items; rows = rows; trail = s.trail } in (
@@ -38,15 +38,15 @@ invariant_of-self-in-Ok c =
     let v = i.1 in
     let cl = c.args.clause.now in
     let l = c.args.l in
-    let s : State = record { heads = c.self.inside.store.heads.items; rows = rows_of c.self.inside.lists.lists.items; trail = c.self.inside.trail.lits } in
+    let s : State = record { heads = c.self.inside.store.heads.items; rows = rows_of c.self.inside.lists.vars c.self.inside.lists.lists.items; trail = c.self.inside.trail.lits } in
     let slots = slots_of c.self.inside.store.lits.items c.self.inside.store.heads.items in
     let e = c.in_ok-file_clause.ensures in
     let w = e.heads in
     let h : Head = w.0 in
     let none : h.left ≡ h.right = w.2 ∙ sym w.3 in
     let st = c.file_clause.new.store in
-    let rows = rows_of c.file_clause.new.lists.lists.items in
-    let pairs = rows_of c.file_clause.new.pairs.lists.items in
+    let rows = rows_of c.file_clause.new.lists.vars c.file_clause.new.lists.lists.items in
+    let pairs = rows_of c.file_clause.new.pairs.vars c.file_clause.new.pairs.lists.items in
     let zero = ap (λ (k : PropagatorOf). k.limits) c.self.view_is ∙ c.requires.level in
     let free : c.self.inside.conflict ≡ false = ap (λ (k : PropagatorOf). k.conflict) c.self.view_is ∙ c.requires.conflict in
     let within : ClauseWithin c.self.inside.vars cl = subst (λ (k : PropagatorOf). ClauseWithin k.vars cl) (sym c.self.view_is) c.requires.within in
@@ -54,7 +54,7 @@ invariant_of-self-in-Ok c =
     let unit : IsFalsifiedBut s.trail cl l = subst (λ (k : PropagatorOf). IsFalsifiedBut k.trail cl l) (sym c.self.view_is) c.requires.unit in
     let mid : State = record { heads = s.heads ++ h ∷ []; rows = rows; trail = s.trail } in
     let grown : State = record { heads = s.heads ++ h ∷ []; rows = rows; trail = s.trail ++ l ∷ [] } in
-    let new : State = record { heads = c.settle_unit.new.store.heads.items; rows = rows_of c.settle_unit.new.lists.lists.items; trail = c.settle_unit.new.trail.lits } in
+    let new : State = record { heads = c.settle_unit.new.store.heads.items; rows = rows_of c.settle_unit.new.lists.vars c.settle_unit.new.lists.lists.items; trail = c.settle_unit.new.trail.lits } in
     let u = c.settle_unit.ensures in
     let slots' = slots ++ Some cl ∷ [] in
     let filed : IsFiled slots' mid pairs = subst (λ z. IsFiled z mid pairs) e.slots (subst (λ z. IsFiled (slots_of st.lits.items st.heads.items) (record { heads = z; rows = rows; trail = s.trail }) pairs) w.1 (e.filed s.trail v.filed)) in
@@ -79,15 +79,15 @@ invariant_of-self-in-Err c =
     let v = i.1 in
     let cl = c.args.clause.now in
     let l = c.args.l in
-    let s : State = record { heads = c.self.inside.store.heads.items; rows = rows_of c.self.inside.lists.lists.items; trail = c.self.inside.trail.lits } in
+    let s : State = record { heads = c.self.inside.store.heads.items; rows = rows_of c.self.inside.lists.vars c.self.inside.lists.lists.items; trail = c.self.inside.trail.lits } in
     let slots = slots_of c.self.inside.store.lits.items c.self.inside.store.heads.items in
     let e = c.in_ok-file_clause.ensures in
     let w = e.heads in
     let h : Head = w.0 in
     let none : h.left ≡ h.right = w.2 ∙ sym w.3 in
     let st = c.file_clause.new.store in
-    let rows = rows_of c.file_clause.new.lists.lists.items in
-    let pairs = rows_of c.file_clause.new.pairs.lists.items in
+    let rows = rows_of c.file_clause.new.lists.vars c.file_clause.new.lists.lists.items in
+    let pairs = rows_of c.file_clause.new.pairs.vars c.file_clause.new.pairs.lists.items in
     let zero = ap (λ (k : PropagatorOf). k.limits) c.self.view_is ∙ c.requires.level in
     let free : c.self.inside.conflict ≡ false = ap (λ (k : PropagatorOf). k.conflict) c.self.view_is ∙ c.requires.conflict in
     let within : ClauseWithin c.self.inside.vars cl = subst (λ (k : PropagatorOf). ClauseWithin k.vars cl) (sym c.self.view_is) c.requires.within in
@@ -95,7 +95,7 @@ invariant_of-self-in-Err c =
     let unit : IsFalsifiedBut s.trail cl l = subst (λ (k : PropagatorOf). IsFalsifiedBut k.trail cl l) (sym c.self.view_is) c.requires.unit in
     let mid : State = record { heads = s.heads ++ h ∷ []; rows = rows; trail = s.trail } in
     let grown : State = record { heads = s.heads ++ h ∷ []; rows = rows; trail = s.trail ++ l ∷ [] } in
-    let new : State = record { heads = c.settle_unit.new.store.heads.items; rows = rows_of c.settle_unit.new.lists.lists.items; trail = c.settle_unit.new.trail.lits } in
+    let new : State = record { heads = c.settle_unit.new.store.heads.items; rows = rows_of c.settle_unit.new.lists.vars c.settle_unit.new.lists.lists.items; trail = c.settle_unit.new.trail.lits } in
     let u = c.settle_unit.ensures in
     let slots' = slots ++ Some cl ∷ [] in
     let filed : IsFiled slots' mid pairs = subst (λ z. IsFiled z mid pairs) e.slots (subst (λ z. IsFiled (slots_of st.lits.items st.heads.items) (record { heads = z; rows = rows; trail = s.trail }) pairs) w.1 (e.filed s.trail v.filed)) in
@@ -117,7 +117,7 @@ invariant_of-self-in-Err c =
     let kept' : AllKept s.trail s.trail slots s.heads → AllKept s.trail s.trail (slots_of c.take_out.new.store.lits.items c.take_out.new.store.heads.items) s'.heads = λ all.
     o.kept s.trail s.trail (subst (λ z. (j : ℕ) (d : Head) → j < length new.heads → j ≢ k → IsKept s.trail s.trail (slot_at z j) (get_or new.heads j d)) (sym sl) (kept_less_unit slots s pairs cl h l v.count none c.requires.lit new.heads size all (λ j d g. fit.2 j d g s.trail (λ m i'. i')) k at)) in (
       record { limit = a.limit; store_vars = o.store_vars ∙ u.store_vars ∙ e.store_vars ∙ a.store_vars; lists_vars = u.lists_vars ∙ e.lists_vars ∙ a.lists_vars; pairs_vars = o.pairs_vars ∙ e.pairs_vars ∙ a.pairs_vars; trail_vars = u.trail ∙ a.trail_vars; lists_clauses = u.lists_clauses ∙ e.lists_clauses ∙ sym u.store_count ∙ sym o.store_count; pairs_clauses = o.pairs_clauses ∙ e.pairs_clauses ∙ sym u.store_count ∙ sym o.store_count },
-      rw fit.1 (without_clause c.self.inside.vars slots s (rows_of c.self.inside.pairs.lists.items) c.self.inside.limits.items c.self.inside.conflict v _ s' _ zero refl (length-slots _ _) (inr last) filed' kept'),
+      rw fit.1 (without_clause c.self.inside.vars slots s (rows_of c.self.inside.pairs.vars c.self.inside.pairs.lists.items) c.self.inside.limits.items c.self.inside.conflict v _ s' _ zero refl (length-slots _ _) (inr last) filed' kept'),
     )
 
 pub returns-in-Ok-clause-ok : goal.returns-in-Ok-clause-ok
@@ -127,15 +127,15 @@ returns-in-Ok-clause-ok c =
     let v = i.1 in
     let cl = c.args.clause.now in
     let l = c.args.l in
-    let s : State = record { heads = c.self.inside.store.heads.items; rows = rows_of c.self.inside.lists.lists.items; trail = c.self.inside.trail.lits } in
+    let s : State = record { heads = c.self.inside.store.heads.items; rows = rows_of c.self.inside.lists.vars c.self.inside.lists.lists.items; trail = c.self.inside.trail.lits } in
     let slots = slots_of c.self.inside.store.lits.items c.self.inside.store.heads.items in
     let e = c.in_ok-file_clause.ensures in
     let w = e.heads in
     let h : Head = w.0 in
     let none : h.left ≡ h.right = w.2 ∙ sym w.3 in
     let st = c.file_clause.new.store in
-    let rows = rows_of c.file_clause.new.lists.lists.items in
-    let pairs = rows_of c.file_clause.new.pairs.lists.items in
+    let rows = rows_of c.file_clause.new.lists.vars c.file_clause.new.lists.lists.items in
+    let pairs = rows_of c.file_clause.new.pairs.vars c.file_clause.new.pairs.lists.items in
     let zero = ap (λ (k : PropagatorOf). k.limits) c.self.view_is ∙ c.requires.level in
     let free : c.self.inside.conflict ≡ false = ap (λ (k : PropagatorOf). k.conflict) c.self.view_is ∙ c.requires.conflict in
     let within : ClauseWithin c.self.inside.vars cl = subst (λ (k : PropagatorOf). ClauseWithin k.vars cl) (sym c.self.view_is) c.requires.within in
@@ -143,7 +143,7 @@ returns-in-Ok-clause-ok c =
     let unit : IsFalsifiedBut s.trail cl l = subst (λ (k : PropagatorOf). IsFalsifiedBut k.trail cl l) (sym c.self.view_is) c.requires.unit in
     let mid : State = record { heads = s.heads ++ h ∷ []; rows = rows; trail = s.trail } in
     let grown : State = record { heads = s.heads ++ h ∷ []; rows = rows; trail = s.trail ++ l ∷ [] } in
-    let new : State = record { heads = c.settle_unit.new.store.heads.items; rows = rows_of c.settle_unit.new.lists.lists.items; trail = c.settle_unit.new.trail.lits } in
+    let new : State = record { heads = c.settle_unit.new.store.heads.items; rows = rows_of c.settle_unit.new.lists.vars c.settle_unit.new.lists.lists.items; trail = c.settle_unit.new.trail.lits } in
     let u = c.settle_unit.ensures in
     let slots' = slots ++ Some cl ∷ [] in
     let filed : IsFiled slots' mid pairs = subst (λ z. IsFiled z mid pairs) e.slots (subst (λ z. IsFiled (slots_of st.lits.items st.heads.items) (record { heads = z; rows = rows; trail = s.trail }) pairs) w.1 (e.filed s.trail v.filed)) in
@@ -174,15 +174,15 @@ returns-in-Err-clause-err c =
     let v = i.1 in
     let cl = c.args.clause.now in
     let l = c.args.l in
-    let s : State = record { heads = c.self.inside.store.heads.items; rows = rows_of c.self.inside.lists.lists.items; trail = c.self.inside.trail.lits } in
+    let s : State = record { heads = c.self.inside.store.heads.items; rows = rows_of c.self.inside.lists.vars c.self.inside.lists.lists.items; trail = c.self.inside.trail.lits } in
     let slots = slots_of c.self.inside.store.lits.items c.self.inside.store.heads.items in
     let e = c.in_ok-file_clause.ensures in
     let w = e.heads in
     let h : Head = w.0 in
     let none : h.left ≡ h.right = w.2 ∙ sym w.3 in
     let st = c.file_clause.new.store in
-    let rows = rows_of c.file_clause.new.lists.lists.items in
-    let pairs = rows_of c.file_clause.new.pairs.lists.items in
+    let rows = rows_of c.file_clause.new.lists.vars c.file_clause.new.lists.lists.items in
+    let pairs = rows_of c.file_clause.new.pairs.vars c.file_clause.new.pairs.lists.items in
     let zero = ap (λ (k : PropagatorOf). k.limits) c.self.view_is ∙ c.requires.level in
     let free : c.self.inside.conflict ≡ false = ap (λ (k : PropagatorOf). k.conflict) c.self.view_is ∙ c.requires.conflict in
     let within : ClauseWithin c.self.inside.vars cl = subst (λ (k : PropagatorOf). ClauseWithin k.vars cl) (sym c.self.view_is) c.requires.within in
@@ -190,7 +190,7 @@ returns-in-Err-clause-err c =
     let unit : IsFalsifiedBut s.trail cl l = subst (λ (k : PropagatorOf). IsFalsifiedBut k.trail cl l) (sym c.self.view_is) c.requires.unit in
     let mid : State = record { heads = s.heads ++ h ∷ []; rows = rows; trail = s.trail } in
     let grown : State = record { heads = s.heads ++ h ∷ []; rows = rows; trail = s.trail ++ l ∷ [] } in
-    let new : State = record { heads = c.settle_unit.new.store.heads.items; rows = rows_of c.settle_unit.new.lists.lists.items; trail = c.settle_unit.new.trail.lits } in
+    let new : State = record { heads = c.settle_unit.new.store.heads.items; rows = rows_of c.settle_unit.new.lists.vars c.settle_unit.new.lists.lists.items; trail = c.settle_unit.new.trail.lits } in
     let u = c.settle_unit.ensures in
     let slots' = slots ++ Some cl ∷ [] in
     let filed : IsFiled slots' mid pairs = subst (λ z. IsFiled z mid pairs) e.slots (subst (λ z. IsFiled (slots_of st.lits.items st.heads.items) (record { heads = z; rows = rows; trail = s.trail }) pairs) w.1 (e.filed s.trail v.filed)) in

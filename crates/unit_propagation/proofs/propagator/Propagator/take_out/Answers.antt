@@ -12,7 +12,7 @@ invariant_of-self c =
     let a = i.0 in
     let v = i.1 in
     let o = c.take_out.ensures in
-    let s : State = record { heads = c.self.inside.store.heads.items; rows = rows_of c.self.inside.lists.lists.items; trail = c.self.inside.trail.lits } in
+    let s : State = record { heads = c.self.inside.store.heads.items; rows = rows_of c.self.inside.lists.vars c.self.inside.lists.lists.items; trail = c.self.inside.trail.lits } in
     let s' : State = record { heads = c.take_out.new.store.heads.items; rows = s.rows; trail = s.trail } in
     let slots = slots_of c.self.inside.store.lits.items c.self.inside.store.heads.items in (
       record { limit = a.limit; store_vars = o.store_vars ∙ a.store_vars; lists_vars = a.lists_vars; pairs_vars = o.pairs_vars ∙ a.pairs_vars; trail_vars = a.trail_vars; lists_clauses = a.lists_clauses ∙ sym o.store_count; pairs_clauses = o.pairs_clauses ∙ a.pairs_clauses ∙ sym o.store_count },

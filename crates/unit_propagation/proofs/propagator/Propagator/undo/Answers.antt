@@ -10,7 +10,7 @@ pub invariant_of-self : goal.invariant_of-self
 invariant_of-self c =
     let i = c.self.invariant in
     let a = i.0 in
-    let s : State = record { heads = c.self.inside.store.heads.items; rows = rows_of c.self.inside.lists.lists.items; trail = c.self.inside.trail.lits } in
+    let s : State = record { heads = c.self.inside.store.heads.items; rows = rows_of c.self.inside.lists.vars c.self.inside.lists.lists.items; trail = c.self.inside.trail.lits } in
     let lits : c.cut.new.self.lits ≡ take c.index-limit.result.now s.trail = ap (λ (t : TrailOf). t.lits) c.cut.ensures in
     let vars : c.cut.new.self.vars ≡ c.self.inside.trail.vars = ap (λ (t : TrailOf). t.vars) c.cut.ensures in
     let t = c.truncate.ensures in

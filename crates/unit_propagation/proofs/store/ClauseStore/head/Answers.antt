@@ -1,5 +1,4 @@
 use Rattle.std.proofs.Common.{length, sym, ap, ◌∙◌, arith}
-use Rattle.std.proofs.lemmas.List.{get_or_default}
 use Rattle.unit_propagation.specs.Watch.{end_of, slot_of}
 use Rattle.unit_propagation.proofs.Stores.{slot_at-read}
 use Rattle.unit_propagation.proofs.store.ClauseStore.head.Goals as goal
