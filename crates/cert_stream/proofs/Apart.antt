@@ -19,11 +19,12 @@ use Rattle.cert_stream.specs.declared.mode.ListKind.{ListKind}
 use Rattle.cert_stream.specs.declared.mode.ListKind.TheVariants.{Clause, Deletion, Values}
 use Rattle.cert_stream.specs.declared.mode.WireFault.{WireFault}
 use Rattle.cert_stream.specs.declared.mode.WireFaultKind.TheVariants.{BadLine}
+use Rattle.cert_stream.specs.declared.mode.Part.{Part}
 use Rattle.cert_stream.specs.declared.mode.Part.TheVariants.{Gap, Minus, Zero, Digits}
 use Rattle.cert_stream.specs.declared.mode.Mode.{Mode}
 use Rattle.cert_stream.specs.declared.mode.Mode.TheVariants.{Start, Skip, Head, StatusHead, StatusGap, Spelled, Whole, InList, Closed, Bad, Lost}
 use Rattle.cert_stream.proofs.Turning.{wire}
-use Rattle.cert_stream.proofs.Cutting.{after_append}
+use Rattle.cert_stream.proofs.Cutting.{after_append, after_taken}
 use Rattle.cert_stream.proofs.Speaking.{speak, speak_is, from_line, start_forgets}
 use Rattle.cert_stream.proofs.Streams.{some_line, fed_says, lines_spoken, stream_spoken}
 use Rattle.cert_stream.proofs.GoingOn.{sayings_more}
@@ -39,10 +40,6 @@ speak_append ended [] text w = refl
 speak_append ended (b ∷ bs) text w =
     let z = (turn w b).to in
     ap (λ x. told_by z (turn w b).event ++ x) (speak_append ended bs text z) ∙ sym (append_assoc (told_by z (turn w b).event) (said z bs) (speak ended (after z bs) text))
-
-taken_after : (bytes : List ℕ) (w : WireOf) → (after w bytes).taken ≡ w.taken + length bytes
-taken_after [] w = omega arith
-taken_after (b ∷ bs) w = taken_after bs (turn w b).to ∙ omega arith
 
 pub kept : (bytes : List ℕ) (w : WireOf) → Going w.vars w.mode
     → (((after w bytes).vars ≡ w.vars) × Going w.vars (after w bytes).mode) ⊎ ((f : WireFault) × ((after w bytes).mode ≡ Bad f))
@@ -112,7 +109,7 @@ module _ (vars : ℕ) where
         | inl k ↦
             let w = after (fresh vars) front in
             let s = at_start front lines k.1 in
-            let t : w.taken ≡ length front = taken_after front (fresh vars) ∙ omega arith in
+            let t : w.taken ≡ length front = after_taken (fresh vars) front ∙ omega arith in
             let first : sayings vars false front ≡ said (fresh vars) front =
             ap (sayings vars false) (sym (append-nil front)) ∙ sym (stream_spoken vars false (front ++ [])) ∙ sym (speak_is false (fresh vars) (front ++ [])) ∙ speak_append false front [] (fresh vars)
             ∙ ap (λ z. said (fresh vars) front ++ z) (start_says false w (length front) s.0 [] k.0 t s.1) ∙ append-nil (said (fresh vars) front) in (
@@ -127,7 +124,7 @@ module _ (vars : ℕ) where
   pub literal_read : (full : Bool) (text : List ℕ) (l : LitOf) → full ≡ false → literal_of vars text ≡ Some l → scan vars full Gap text ≡ Reads (Digits l)
   literal_read full text l f e = of (scan vars full Gap text) (word_read vars full text)
     where
-      of : (s : Scanned) → IsRead vars full text s → s ≡ Reads (Digits l)
+      of : (s : Scanned Part) → IsRead vars full text s → s ≡ Reads (Digits l)
       of (Reads Gap) r = absurd (let k : literal_of vars [] ≡ Some l = ap (literal_of vars) (sym r) ∙ e in cc)
       of (Reads Minus) (r, x) = absurd (let k : literal_of vars (codes "-") ≡ Some l = ap (literal_of vars) (sym r) ∙ e in cc)
       of (Reads Zero) r = absurd (let k = literal_first vars 48 [] l (ap (literal_of vars) (sym r) ∙ e) in let q : true ≡ false = k.1 in cc)

@@ -8,7 +8,7 @@ use Rattle.cert_stream.specs.declared.mode.Mode.{Mode}
 use Rattle.cert_stream.specs.declared.mode.Mode.TheVariants.{Bad}
 use Rattle.cert_stream.specs.declared.mode.WireFault.{WireFault}
 
-abbrev with_mode : WireOf → Mode → WireOf
+abbrev pub with_mode : WireOf → Mode → WireOf
 with_mode w m = record w { mode = m }
 
 module _ (f : WireFault) where

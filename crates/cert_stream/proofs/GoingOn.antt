@@ -17,20 +17,21 @@ use Rattle.cert_stream.proofs.Speaking.{speak, speak_is, last_of, bad_ever}
 use Rattle.cert_stream.proofs.Streams.{stream_spoken}
 
 -- all begins with the front
-abbrev Starts : List Saying → List Saying → Type 0
-Starts front all = (more : List Saying) × (all ≡ front ++ more)
+abbrev pub Starts : {X : Type 0} → List X → List X → Type 0
+Starts {X} front all = (more : List X) × (all ≡ front ++ more)
 
-starts_none : (all : List Saying) → Starts [] all
-starts_none all = (all, refl)
+module _ {X : Type 0} where
+  pub starts_none : (all : List X) → Starts [] all
+  starts_none all = (all, refl)
 
-starts_same : (all : List Saying) → Starts all all
-starts_same all = ([], sym (append-nil all))
+  pub starts_same : (all : List X) → Starts all all
+  starts_same all = ([], sym (append-nil all))
 
-starts_told : (told front all : List Saying) → Starts front all → Starts (told ++ front) (told ++ all)
-starts_told told front all (more, e) = (more, ap (λ z. told ++ z) e ∙ sym (append_assoc told front more))
+  pub starts_told : (told front all : List X) → Starts front all → Starts (told ++ front) (told ++ all)
+  starts_told told front all (more, e) = (more, ap (λ z. told ++ z) e ∙ sym (append_assoc told front more))
 
-no_end : (n : ℕ) → cond (eqb n 7 && false) (IsUnknown ∷ []) [] ≡ []
-no_end n = elim (cases_Bool (eqb n 7)) [ inl t ↦ rw t refl | inr f ↦ rw f refl ]
+  pub no_end : (unknown : List X) (n : ℕ) → cond (eqb n 7 && false) unknown [] ≡ []
+  no_end unknown n = elim (cases_Bool (eqb n 7)) [ inl t ↦ rw t refl | inr f ↦ rw f refl ]
 
 -- whatever follows, and where the stream ends
 module _ (ended : Bool) (vars taken place : ℕ) (lits : List LitOf) (rest : List ℕ) where
@@ -40,7 +41,7 @@ module _ (ended : Bool) (vars taken place : ℕ) (lits : List LitOf) (rest : Lis
   last_goes_on (Head kind) = starts_none _
   last_goes_on StatusHead = starts_none _
   last_goes_on StatusGap = starts_none _
-  last_goes_on (Spelled n) = subst (λ z. Starts z (speak ended (wire vars taken place (Spelled n) lits) rest)) (sym (no_end n)) (starts_none _)
+  last_goes_on (Spelled n) = subst (λ z. Starts z (speak ended (wire vars taken place (Spelled n) lits) rest)) (sym (no_end (IsUnknown ∷ []) n)) (starts_none _)
   last_goes_on Whole = starts_none _
   last_goes_on (InList kind Gap) = starts_none _
   last_goes_on (InList kind Minus) = starts_none _

@@ -91,7 +91,7 @@ visible_keeps w (Bad f) b = (refl, tt)
 visible_keeps w Lost b = (refl, tt)
 
 -- of both, what was said first
-first_within : (vars : ℕ) (d e : Option Event) → IsEventWithin vars d → IsEventWithin vars e → IsEventWithin vars (first_of_both d e)
+pub first_within : (vars : ℕ) (d e : Option Event) → IsEventWithin vars d → IsEventWithin vars e → IsEventWithin vars (first_of_both d e)
 first_within vars None e h k = k
 first_within vars (Some d) e h k = h
 

@@ -6,7 +6,7 @@ use Rattle.cnf_form.specs.Cnf.{LitOf}
 use Rattle.cert_stream.specs.Text.{Word, flush, words_from, is_blank, NoFeed}
 use Rattle.cert_stream.specs.Machine.{Turn, counted as with_count, end_part}
 use Rattle.cert_stream.specs.Telling.{Saying, told_by}
-use Rattle.cert_stream.specs.Scan.{Scanned, Reads, Misfit, part_next, shift, scan}
+use Rattle.cert_stream.specs.Scan.{Scanned, Reads, Misfit, part_next, scan}
 use Rattle.cert_stream.specs.Stream.{bad, ended_says, heard_says, unended_says, behind_says, list_says}
 use Rattle.cert_stream.specs.declared.mode.ListKind.{ListKind}
 use Rattle.cert_stream.specs.declared.mode.WireFaultKind.{WireFaultKind}
@@ -43,7 +43,7 @@ module _ (vars : ℕ) (ended fed counted : Bool) (broken going more : List Sayin
     abbrev words_say : List LitOf → List Word → List Saying
     words_say lits ws = list_says vars kind counted unended more place lits ws
 
-    abbrev one_says : List LitOf → Scanned → Word → List Word → List Saying
+    abbrev one_says : List LitOf → Scanned Part → Word → List Word → List Saying
     one_says lits s w ws = word_says vars kind counted unended more place lits s w ws
 
     flushed : (at : ℕ) (lits : List LitOf) (done : Bool) (part : Part) (p : List ℕ) (ws : List Word) → scan vars (leb vars (length lits)) Gap p ≡ Reads part
@@ -79,8 +79,7 @@ module _ (vars : ℕ) (ended fed counted : Bool) (broken going more : List Sayin
       visible_next b part (Ok to) e x =
           let len : length (p ++ b ∷ []) ≡ length p + 1 = length-append p (b ∷ []) in
           let s : scan vars (leb vars (length lits)) Gap (p ++ b ∷ []) ≡ Reads to =
-          scan_more vars (leb vars (length lits)) part p b e
-          ∙ ap (λ (z : Result Part WireFaultKind). shift (length p) (elim z as (λ _. Scanned) [ Ok y ↦ Reads y | Err k ↦ Misfit k 0 ])) x in
+          scan_more (part_next vars (leb vars (length lits))) Gap part to p b e x in
           again (taken + 1) lits to (p ++ b ∷ []) s (omega (arith, len, n)) m
       visible_next b part (Err k) e x = misfit p e n
         where
@@ -91,7 +90,7 @@ module _ (vars : ℕ) (ended fed counted : Bool) (broken going more : List Sayin
               let at : w.word.place + 0 ≡ taken = omega (arith, w.place) in
               bad_ever ended (record { kind = k; byte = taken }) vars (taken + 1) place lits (bs ++ tail)
               ∙ sym (ap (words_say lits) w.are
-              ∙ misfit_says lits k taken 0 (b ∷ w.more) w.word w.others w.text (scan_bad vars (leb vars (length lits)) part [] b w.more k e x) at)
+              ∙ misfit_says lits k taken 0 (b ∷ w.more) w.word w.others w.text (scan_bad (part_next vars (leb vars (length lits))) Gap part [] b w.more k e x) at)
           misfit (c ∷ q) e n =
               let w = has_word fed (taken + 1) c (q ++ b ∷ []) bs in
               let len : length (q ++ b ∷ []) ≡ length q + 1 = length-append q (b ∷ []) in
@@ -99,7 +98,7 @@ module _ (vars : ℕ) (ended fed counted : Bool) (broken going more : List Sayin
               bad_ever ended (record { kind = k; byte = taken }) vars (taken + 1) place lits (bs ++ tail)
               ∙ sym (ap (words_say lits) w.are
               ∙ misfit_says lits k taken (length (c ∷ q)) (c ∷ q ++ b ∷ w.more) w.word w.others (w.text ∙ append_assoc (c ∷ q) (b ∷ []) w.more)
-              (scan_bad vars (leb vars (length lits)) part (c ∷ q) b w.more k e x) at)
+              (scan_bad (part_next vars (leb vars (length lits))) Gap part (c ∷ q) b w.more k e x) at)
 
     -- from a part of a word on
     pub list_text : (t : List ℕ) → NoFeed t → Again t

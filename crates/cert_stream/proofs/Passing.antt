@@ -1,7 +1,7 @@
 -- Comments are passed over.
 use Rattle.std.proofs.Common.{◌≡◌, ℕ, zero, suc, ◌+◌, ◌<◌, ◌≤◌, Bool, true, eqb, List, [], ◌∷◌, ◌++◌, length, take, drop, refl, ap, sym, ◌∙◌, inl, inr, arith, subst}
 use Rattle.std.proofs.lemmas.Bool.{cases_Bool}
-use Rattle.std.proofs.lemmas.List.{length-take-le}
+use Rattle.std.proofs.lemmas.List.{length-take-le, take-append-drop}
 use Rattle.std.specs.Prelude.{slice_index}
 use Rattle.memchr.specs.Find.{is_byte}
 use Rattle.cnf_form.specs.Cnf.{LitOf}
@@ -32,12 +32,6 @@ no_feed_take (b ∷ bytes) zero h f = tt
 no_feed_take (b ∷ bytes) (suc n) h f =
     (elim (cases_Bool (eqb b 10)) [ inl t ↦ absurd (f 0 (omega arith) (omega arith) t) | inr g ↦ g ], no_feed_take bytes n (omega arith) (λ k l m e. f (suc k) (omega arith) (omega arith) e))
 
-take_drop_whole : (bytes : List ℕ) (n : ℕ) → take n bytes ++ drop n bytes ≡ bytes
-take_drop_whole [] zero = refl
-take_drop_whole [] (suc n) = refl
-take_drop_whole (b ∷ bytes) zero = refl
-take_drop_whole (b ∷ bytes) (suc n) = ap (λ z. b ∷ z) (take_drop_whole bytes n)
-
 module _ (vars taken place : ℕ) (amid : Bool) (lits : List LitOf) (bytes : List ℕ) (n : ℕ) (l : n ≤ length bytes) (h' : NoFeed (take n bytes)) where
   pub passed_after : after (record { vars = vars; taken = taken + n; place = place; mode = Skip amid; lits = lits }) (drop n bytes)
       ≡ after (record { vars = vars; taken = taken; place = place; mode = Skip amid; lits = lits }) bytes
@@ -45,7 +39,7 @@ module _ (vars taken place : ℕ) (amid : Bool) (lits : List LitOf) (bytes : Lis
       let w : WireOf = record { vars = vars; taken = taken; place = place; mode = Skip amid; lits = lits } in
       let s = skip_after vars place amid lits (take n bytes) taken h' in
       let len : taken + length (take n bytes) ≡ taken + n = ap (λ k. taken + k) (length-take-le n bytes l) in
-      sym (ap (after w) (sym (take_drop_whole bytes n)) ∙ after_append w (take n bytes) (drop n bytes)
+      sym (ap (after w) (sym (take-append-drop n bytes)) ∙ after_append w (take n bytes) (drop n bytes)
       ∙ ap (λ v. after v (drop n bytes)) (s.0 ∙ ap (λ k. let v : WireOf = record { vars = vars; taken = k; place = place; mode = Skip amid; lits = lits } in v) len))
 
   pub passed_said : said (record { vars = vars; taken = taken + n; place = place; mode = Skip amid; lits = lits }) (drop n bytes)
@@ -54,7 +48,7 @@ module _ (vars taken place : ℕ) (amid : Bool) (lits : List LitOf) (bytes : Lis
       let w : WireOf = record { vars = vars; taken = taken; place = place; mode = Skip amid; lits = lits } in
       let s = skip_after vars place amid lits (take n bytes) taken h' in
       let len : taken + length (take n bytes) ≡ taken + n = ap (λ k. taken + k) (length-take-le n bytes l) in
-      sym (ap (said w) (sym (take_drop_whole bytes n)) ∙ said_append w (take n bytes) (drop n bytes)
+      sym (ap (said w) (sym (take-append-drop n bytes)) ∙ said_append w (take n bytes) (drop n bytes)
       ∙ ap (λ z. z ++ said (after w (take n bytes)) (drop n bytes)) s.1
       ∙ ap (λ v. said v (drop n bytes)) (s.0 ∙ ap (λ k. let v : WireOf = record { vars = vars; taken = k; place = place; mode = Skip amid; lits = lits } in v) len))
 
@@ -66,7 +60,7 @@ module _ (vars taken place : ℕ) (amid : Bool) (lits : List LitOf) (bytes : Lis
       let len : taken + length (take n bytes) ≡ taken + n = ap (λ k. taken + k) (length-take-le n bytes l) in
       let e : after w (take n bytes) ≡ record { vars = vars; taken = taken + n; place = place; mode = Skip amid; lits = lits } =
       s.0 ∙ ap (λ k. let v : WireOf = record { vars = vars; taken = k; place = place; mode = Skip amid; lits = lits } in v) len in
-      subst (TakesMemory w) (take_drop_whole bytes n) (memory_append w (take n bytes) (drop n bytes) (subst (λ (z : WireOf). TakesMemory z (drop n bytes)) (sym e) h))
+      subst (TakesMemory w) (take-append-drop n bytes) (memory_append w (take n bytes) (drop n bytes) (subst (λ (z : WireOf). TakesMemory z (drop n bytes)) (sym e) h))
 
 module _ (vars taken place : ℕ) (mode : Mode) (amid : Bool) (lits : List LitOf) (bytes : List ℕ) (n : ℕ) (m : mode ≡ Skip amid) (l : n ≤ length bytes) (h : NoFeed (take n bytes)) where
   abbrev at : Mode → ℕ → WireOf

@@ -1,16 +1,9 @@
 -- The loop over a piece.
-use Rattle.std.proofs.Common.{◌≡◌, ◌⊎◌, ℕ, zero, suc, ◌+◌, ◌-◌, ◌<◌, ◌≤◌, Bool, true, false, List, [], ◌∷◌, ◌++◌, length, take, drop, get_or, Option, Some, None, refl, ap, sym, ◌∙◌, inl, inr, arith, subst}
-use Rattle.std.proofs.lemmas.List.{drop_more, drop-drop, take_rest, length-drop}
+use Rattle.std.proofs.Common.{◌≡◌, ◌⊎◌, ℕ, ◌+◌, ◌-◌, ◌<◌, ◌≤◌, Bool, true, false, List, ◌∷◌, ◌++◌, length, take, drop, get_or, Option, Some, None, refl, ap, sym, ◌∙◌, inl, inr, arith, subst}
+use Rattle.std.proofs.lemmas.List.{drop_more, drop-drop, take_rest, length-drop, drop_all}
 use Rattle.cert_stream.specs.Machine.{WireOf, Turn, turn, is_in_literal}
 use Rattle.cert_stream.specs.Telling.{Saying, TakesMemory, saying, told_by, after, said, Gets}
 use Rattle.cert_stream.specs.declared.mode.Event.{Event}
-
--- a list from one place on, and at its end
-drop_all : {X : Type 0} → (xs : List X) (i : ℕ) → length xs ≤ i → drop i xs ≡ []
-drop_all [] zero h = refl
-drop_all [] (suc i) h = refl
-drop_all (x ∷ xs) zero h = absurd (omega arith)
-drop_all (x ∷ xs) (suc i) h = drop_all xs i (omega arith)
 
 -- what is still to come of the piece, from the wire w and the receiver x on, makes the whole of it
 pub record Left {A : Type 0} (gets : A → Saying → A → Type 0) (stops : A → Bool) (start : WireOf) (first : A) (piece : List ℕ) (w : WireOf) (x : A) (i : ℕ) : Type 0 where
@@ -62,10 +55,10 @@ module _ {A : Type 0} (gets : A → Saying → A → Type 0) (stops : A → Bool
       left_stopped t = h.told z true (subst (λ a. Gets gets stops x a z true) (sym said_more) (z, g, inl (t, refl, refl)))
 
   pub left_told_all : (w : WireOf) (x : A) (i : ℕ) → Left gets stops start first piece w x i → length piece ≤ i → Gets gets stops first (said start piece) x false
-  left_told_all w x i h l = h.told x false (subst (λ a. Gets gets stops x (said w a) x false) (sym (drop_all piece i l)) (refl, refl))
+  left_told_all w x i h l = h.told x false (subst (λ a. Gets gets stops x (said w a) x false) (sym (drop_all i piece l)) (refl, refl))
 
   pub left_kept_all : (w : WireOf) (x : A) (i : ℕ) → Left gets stops start first piece w x i → length piece ≤ i → w ≡ after start piece
-  left_kept_all w x i h l = sym (ap (after w) (drop_all piece i l)) ∙ h.kept
+  left_kept_all w x i h l = sym (ap (after w) (drop_all i piece l)) ∙ h.kept
 
   -- bytes that are passed over
   pub left_moved : (w v : WireOf) (x : A) (i j : ℕ) → Left gets stops start first piece w x i → after v (drop j piece) ≡ after w (drop i piece) → said v (drop j piece) ≡ said w (drop i piece)

@@ -260,7 +260,7 @@ read_on vars full (b ∷ bs) text part h = on (part_next vars full part b) refl 
   where
     on : (r : Result Part WireFaultKind) → part_next vars full part b ≡ r
         → ((to : Part) → IsPart vars full (text ++ b ∷ []) to → IsRead vars full ((text ++ b ∷ []) ++ bs) (shift (length (text ++ b ∷ [])) (scan vars full to bs)))
-        → IsRead vars full (text ++ b ∷ bs) (shift (length text) (elim r as (λ _. Scanned) [ Ok next ↦ shift 1 (scan vars full next bs) | Err kind ↦ Misfit kind 0 ]))
+        → IsRead vars full (text ++ b ∷ bs) (shift (length text) (elim r as (λ _. Scanned Part) [ Ok next ↦ shift 1 (scan vars full next bs) | Err kind ↦ Misfit kind 0 ]))
     on (Ok to) e again =
         let k = again to (step vars full text part b to h e) in
         let len : length (text ++ b ∷ []) ≡ length text + 1 = length-append text (b ∷ []) in
@@ -272,6 +272,6 @@ read_on vars full (b ∷ bs) text part h = on (part_next vars full part b) refl 
 pub word_read : (vars : ℕ) (full : Bool) (text : List ℕ) → IsRead vars full text (scan vars full Gap text)
 word_read vars full text = subst (IsRead vars full text) (none (scan vars full Gap text)) (read_on vars full text [] Gap refl)
   where
-    none : (s : Scanned) → shift 0 s ≡ s
+    none : (s : Scanned Part) → shift 0 s ≡ s
     none (Reads part) = refl
     none (Misfit k n) = ap (Misfit k) (omega arith)

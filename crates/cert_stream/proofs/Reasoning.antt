@@ -19,6 +19,7 @@ use Rattle.cert_stream.specs.declared.mode.ListKind.TheVariants.{Clause, Deletio
 use Rattle.cert_stream.specs.declared.mode.WireFault.{WireFault}
 use Rattle.cert_stream.specs.declared.mode.WireFaultKind.{WireFaultKind}
 use Rattle.cert_stream.specs.declared.mode.WireFaultKind.TheVariants.{BadLine, BadLiteral}
+use Rattle.cert_stream.specs.declared.mode.Part.{Part}
 use Rattle.cert_stream.specs.declared.mode.Part.TheVariants.{Gap, Minus, Zero, Digits}
 use Rattle.cert_stream.specs.declared.mode.Mode.TheVariants.{Bad}
 use Rattle.cert_stream.specs.Machine.{WireOf}
@@ -93,7 +94,7 @@ module _ (vars : ℕ) (amid fed : Bool) (feed : ℕ) (words : List Word) (f : Wi
 
     word_reason : (ws : List Word) (lits : List LitOf) (w : Word) (rest : List Word) → Write vars ws lits → IsListOf kind words (ws ++ w ∷ rest) → (w.text ≡ [] → ⊥)
         → ((l : LitOf) → Write vars (ws ++ w ∷ []) (lits ++ l ∷ []) → HasFault (list_says vars kind counted unended more place (lits ++ l ∷ []) rest) f → Outcome)
-        → (s : Scanned) → IsRead vars (leb vars (length lits)) w.text s → HasFault (word_says vars kind counted unended more place lits s w rest) f → Outcome
+        → (s : Scanned Part) → IsRead vars (leb vars (length lits)) w.text s → HasFault (word_says vars kind counted unended more place lits s w rest) f → Outcome
     word_reason ws lits w rest wr il t again (Misfit k n) r h = inl (BadWord kind ws lits w rest k n il wr r (one_fault k (w.place + n) f h))
     word_reason ws lits w rest wr il t again (Reads Gap) r h = absurd (t r)
     word_reason ws lits w rest wr il t again (Reads Minus) r h =

@@ -16,7 +16,7 @@ use Rattle.cert_stream.proofs.Turning.{wire}
 use Rattle.cert_stream.proofs.Speaking.{speak, bad_ever, from_line, start_forgets}
 
 -- what a word that is read says, and the words behind it
-abbrev pub word_says : ℕ → ListKind → Bool → List Saying → List Saying → ℕ → List LitOf → Scanned → Word → List Word → List Saying
+abbrev pub word_says : ℕ → ListKind → Bool → List Saying → List Saying → ℕ → List LitOf → Scanned Part → Word → List Word → List Saying
 word_says vars kind counted unended more place lits s w ws =
     elim s [
       | Misfit k n ↦ bad k (w.place + n)

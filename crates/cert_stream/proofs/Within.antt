@@ -11,6 +11,7 @@ use Rattle.cert_stream.specs.Stream.{bad, ended_says, heard_says, behind_says, l
 use Rattle.cert_stream.specs.declared.mode.ListKind.{ListKind}
 use Rattle.cert_stream.specs.declared.mode.ListKind.TheVariants.{Clause, Deletion, Values}
 use Rattle.cert_stream.specs.declared.mode.WireFaultKind.TheVariants.{BadLine}
+use Rattle.cert_stream.specs.declared.mode.Part.{Part}
 use Rattle.cert_stream.specs.declared.mode.Part.TheVariants.{Gap, Minus, Zero, Digits}
 use Rattle.cert_stream.proofs.Digits.{number_above, has_digits}
 use Rattle.cert_stream.proofs.Reading.{word_read}
@@ -45,7 +46,7 @@ module _ (vars : ℕ) where
     heard_within l ss h k Deletion = k
     heard_within l ss h k Values = (All-push (LitWithin vars) [] l no_literal h, k)
 
-    word_within : (lits : List LitOf) (w : Word) (ws : List Word) (s : Scanned) → IsRead vars (leb vars (length lits)) w.text s → ClauseWithin vars lits
+    word_within : (lits : List LitOf) (w : Word) (ws : List Word) (s : Scanned Part) → IsRead vars (leb vars (length lits)) w.text s → ClauseWithin vars lits
         → ((ls : List LitOf) → ClauseWithin vars ls → AreWithin vars (list_says vars kind counted unended more place ls ws))
         → AreWithin vars (word_says vars kind counted unended more place lits s w ws)
     word_within lits w ws (Misfit k n) r h again = (no_literal, tt)

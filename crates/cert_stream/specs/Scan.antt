@@ -1,4 +1,4 @@
--- A word of a list, read from the left.
+-- A word, read from the left.
 use Rattle.std.specs.Prelude.{ℕ, ◌+◌, Bool, true, false, cond, not, eqb, List, [], ◌∷◌, Result, Ok, Err}
 use Rattle.cert_stream.specs.Machine.{begins_literal, goes_on, literal, with_digit}
 use Rattle.cert_stream.specs.declared.mode.WireFaultKind.{WireFaultKind}
@@ -6,16 +6,25 @@ use Rattle.cert_stream.specs.declared.mode.WireFaultKind.TheVariants.{BadLiteral
 use Rattle.cert_stream.specs.declared.mode.Part.{Part}
 use Rattle.cert_stream.specs.declared.mode.Part.TheVariants.{Gap, Minus, Zero, Digits}
 
--- what it is: a part of a list, or no such word from one of its bytes on
-pub data Scanned : Type 0 where
-  Reads : Part → Scanned
-  Misfit : WireFaultKind → ℕ → Scanned
+-- what a word is: a part of its kind, or no such word from one of its bytes on
+pub data Scanned (A : Type 0) : Type 0 where
+  Reads : A → Scanned A
+  Misfit : WireFaultKind → ℕ → Scanned A
 
--- one digit more
+abbrev pub shift : {A : Type 0} → ℕ → Scanned A → Scanned A
+shift n (Reads part) = Reads part
+shift n (Misfit kind m) = Misfit kind (n + m)
+
+-- all bytes, one after the other, by what one byte more makes of a part
+abbrev pub scan_by : {A : Type 0} → (A → ℕ → Result A WireFaultKind) → A → List ℕ → Scanned A
+scan_by next part [] = Reads part
+scan_by next part (b ∷ bs) = elim (next part b) [ Ok more ↦ shift 1 (scan_by next more bs) | Err kind ↦ Misfit kind 0 ]
+
+-- one digit more of a literal
 abbrev pub digit_next : ℕ → Bool → ℕ → ℕ → Result Part WireFaultKind
 digit_next vars negated n b = cond (goes_on vars n b) (Ok (Digits (literal (with_digit n b) negated))) (Err BadLiteral)
 
--- its first byte; `full` tells that the line has as many literals as there are variables
+-- the first byte of a word of a list; `full` tells that the line has as many literals as there are variables
 abbrev pub first_next : ℕ → Bool → ℕ → Result Part WireFaultKind
 first_next vars full b =
     cond (eqb b 48) (Ok Zero)
@@ -28,11 +37,6 @@ part_next vars full Minus b = digit_next vars true 0 b
 part_next vars full Zero b = Err BadLiteral
 part_next vars full (Digits l) b = digit_next vars l.negated l.var b
 
-abbrev pub shift : ℕ → Scanned → Scanned
-shift n (Reads part) = Reads part
-shift n (Misfit kind m) = Misfit kind (n + m)
-
--- all bytes, one after the other
-abbrev pub scan : ℕ → Bool → Part → List ℕ → Scanned
-scan vars full part [] = Reads part
-scan vars full part (b ∷ bs) = elim (part_next vars full part b) [ Ok next ↦ shift 1 (scan vars full next bs) | Err kind ↦ Misfit kind 0 ]
+-- a word of a list of literals
+abbrev pub scan : ℕ → Bool → Part → List ℕ → Scanned Part
+scan vars full part bytes = scan_by (part_next vars full) part bytes

@@ -48,7 +48,7 @@ abbrev pub StandsFor : ℕ → WireOf → List ℕ → Type 0
 StandsFor vars w bytes = w ≡ after (fresh vars) bytes
 
 -- A receiver that is x gets the sayings one after the other until it stops, and is y then; `stopped` tells whether it stopped.
-abbrev pub Gets : {A : Type 0} → (A → Saying → A → Type 0) → (A → Bool) → A → List Saying → A → Bool → Type 0
+abbrev pub Gets : {A S : Type 0} → (A → S → A → Type 0) → (A → Bool) → A → List S → A → Bool → Type 0
 Gets gets stops x [] y stopped = (x ≡ y) × (stopped ≡ false)
 Gets gets stops x (s ∷ ss) y stopped =
     (z : _) × gets x s z × (((stops z ≡ true) × (z ≡ y) × (stopped ≡ true)) ⊎ ((stops z ≡ false) × Gets gets stops z ss y stopped))

@@ -40,6 +40,6 @@ pub record IsMisfit (vars : ℕ) (full : Bool) (text : List ℕ) (kind : WireFau
   pub too_long : (kind ≡ LineTooLong) ↔ ((full ≡ true) × (front ≡ []) × BeginsLiteral vars (byte ∷ []))
 
 -- what is read of a word
-abbrev pub IsRead : ℕ → Bool → List ℕ → Scanned → Type 0
+abbrev pub IsRead : ℕ → Bool → List ℕ → Scanned Part → Type 0
 IsRead vars full text (Reads part) = IsPart vars full text part
 IsRead vars full text (Misfit kind n) = IsMisfit vars full text kind n

@@ -53,7 +53,6 @@ pub fn fault_is_first()
 
 /// A word of a list, read from the left, is read as what it is: 0, a literal, the beginning of one, or none from one of its
 /// bytes on.
-#[tactic(auto, using(crate::proofs::Reading::word_read))]
 pub fn words_are_read()
     ensures { (vars : ℕ) (full : Bool) (text : List ℕ) → IsRead vars full text (scan vars full Gap text) }
 {}

@@ -1,7 +1,7 @@
 -- What sayings come to, and what that is worth.
-use Rattle.std.proofs.Common.{◌≡◌, ℕ, ◌<◌, ◌≤◌, true, false, leb, eqb, Option, None, refl, sym, ◌∙◌, List, [], ◌∷◌, ◌++◌, length, take, Some, inl, inr, subst, ◌⊎◌}
+use Rattle.std.proofs.Common.{◌≡◌, ℕ, true, false, eqb, Option, None, refl, sym, ◌∙◌, List, [], ◌∷◌, ◌++◌, length, take, Some, inl, inr, subst}
 use Rattle.std.specs.Prelude.{Contains}
-use Rattle.std.proofs.lemmas.Bool.{cases_Bool, leb-true, leb-false}
+use Rattle.std.proofs.lemmas.Bool.{cases_Bool}
 use Rattle.cnf_form.specs.Cnf.{LitOf, FormulaOf, Assignment, IsUnsatisfiable, Satisfies}
 use Rattle.cnf_form.proofs.Rup.{Admitted-true, Satisfies-push}
 use Rattle.cnf_form.proofs.Members.{Contains-empty}
@@ -16,34 +16,32 @@ use Rattle.sby_terms.specs.declared.names.Answer.TheVariants.{Sat, Unsat}
 use Rattle.hint_judge.specs.Fate.{ByHints, ComesTo, FateSoFar, FateOf, Held, HintsComeTo, added, deleted, first_bad, held_first, ids_of, without}
 use Rattle.stream_judge.specs.Fate.{Fate, Found, Bad}
 use Rattle.stream_judge.specs.Values.{named, unnamed}
+use Rattle.stream_judge.proofs.Coming.{sides}
 
 -- what a clause comes to that completes the certificate for Unsat, or behind which it is completed
 pub by_hints : (o : Option Hint) (rest : Type 0) (fate : Fate) → ((h : Hint) → Some fate ≡ Some (Bad BadHint h.place) → ⊥) → ByHints o rest (Some fate) → rest
 by_hints None rest fate n h = h
 by_hints (Some i) rest fate n h = absurd (n i h)
 
-abbrev Among : Live → List (List LitOf) → Type 0
-Among live G = LiveAmong live G
-
-among_put : (live : Live) (G : List (List LitOf)) (id : ℕ) (c : List LitOf) → Among live G → Among (put live id (Some c)) (G ++ c ∷ [])
+among_put : (live : Live) (G : List (List LitOf)) (id : ℕ) (c : List LitOf) → LiveAmong live G → LiveAmong (put live id (Some c)) (G ++ c ∷ [])
 among_put live G id c h n d e =
     elim (cases_Bool (eqb id n)) [
       | inl t ↦ let k : put live id (Some c) n ≡ Some c = rw t refl in let m : Some c ≡ Some d = sym k ∙ e in let q : c ≡ d = cc in subst (Contains (G ++ c ∷ [])) q (Contains-push G c)
       | inr f ↦ let k : put live id (Some c) n ≡ live n = rw f refl in Contains-append_left G (c ∷ []) d (h n d (sym k ∙ e))
     ]
 
-among_none : (live : Live) (G : List (List LitOf)) (id : ℕ) → Among live G → Among (put live id None) G
+among_none : (live : Live) (G : List (List LitOf)) (id : ℕ) → LiveAmong live G → LiveAmong (put live id None) G
 among_none live G id h n d e =
     elim (cases_Bool (eqb id n)) [
       | inl t ↦ let k : put live id None n ≡ None = rw t refl in absurd (let m = sym k ∙ e in cc)
       | inr f ↦ let k : put live id None n ≡ live n = rw f refl in h n d (sym k ∙ e)
     ]
 
-among_without : (live : Live) (G : List (List LitOf)) (ids : List Hint) → Among live G → Among (without live ids) G
+among_without : (live : Live) (G : List (List LitOf)) (ids : List Hint) → LiveAmong live G → LiveAmong (without live ids) G
 among_without live G [] h = h
 among_without live G (i ∷ ids) h = among_without (put live i.id None) G ids (among_none live G i.id h)
 
-refuted : (C : List (List LitOf)) (F : Held) (G : List (List LitOf)) (x : Assignment) (ss : List HintSaying) → Among F.live G → ComesTo C F x ss (Some (Found Unsat)) → IsUnsatisfiable G
+refuted : (C : List (List LitOf)) (F : Held) (G : List (List LitOf)) (x : Assignment) (ss : List HintSaying) → LiveAmong F.live G → ComesTo C F x ss (Some (Found Unsat)) → IsUnsatisfiable G
 refuted C F G x [] w e y s = cc
 refuted C F G x (IsClause id c hints place ∷ ss) w (inl (l, e)) y s = cc
 refuted C F G x (IsClause id c hints place ∷ ss) w (inr (l, b)) y s =
@@ -79,9 +77,6 @@ satisfied C F x (IsFault f ∷ ss) e = cc
 
 refuted_first : (C : List (List LitOf)) (ss : List HintSaying) → ComesTo C (held_first C) unnamed ss (Some (Found Unsat)) → IsUnsatisfiable C
 refuted_first C ss h = refuted C (held_first C) C unnamed ss (numbered_among C) h
-
-pub sides : (n most : ℕ) → (n ≤ most) ⊎ (most < n)
-sides n most = elim (cases_Bool (leb n most)) [ inl t ↦ inl (leb-true n most t) | inr f ↦ inr (leb-false n most f) ]
 
 -- no assignment satisfies a formula that a stream refutes
 pub refuted_so_far : (f : FormulaOf) (bytes : List ℕ) (most : ℕ) → FateSoFar f bytes most (Some (Found Unsat)) → IsUnsatisfiable f.clauses

@@ -1,22 +1,21 @@
 -- Fates: one, none missing, and for good.
-use Rattle.std.proofs.Common.{◌≡◌, ◌≢◌, ℕ, suc, ◌-◌, ◌+◌, ◌<◌, ◌≤◌, true, false, List, [], ◌∷◌, ◌++◌, length, take, Some, None, refl, sym, ap, ◌∙◌, subst, inl, inr, arith, ◌⊎◌}
+use Rattle.std.proofs.Common.{◌≡◌, ℕ, ◌≤◌, Bool, true, false, List, [], ◌∷◌, ◌++◌, length, Some, None, sym, ◌∙◌, subst, inl, inr, arith}
 use Rattle.std.specs.Prelude.{Option}
-use Rattle.std.proofs.lemmas.List.{take-append-le, length-append}
-use Rattle.cnf_form.specs.Cnf.{LitOf, FormulaOf, Assignment, IsAdmitted, IsUnsatisfiable, Satisfies}
+use Rattle.cnf_form.specs.Cnf.{LitOf, FormulaOf, Assignment, IsUnsatisfiable, Satisfies}
 use Rattle.cnf_form.specs.Dimacs.{IsDimacs}
 use Rattle.cnf_form.proofs.Reading.{IsDimacs-one}
 use Rattle.hint_stream.specs.Lines.{sayings}
 use Rattle.hint_stream.specs.Telling.{HintSaying, IsClause, IsDelete, IsValue, IsValuesEnd, IsUnknown, IsFault}
 use Rattle.hint_stream.proofs.GoingOn.{sayings_more, sayings_end}
 use Rattle.sby_terms.specs.declared.names.Answer.TheVariants.{Sat, Unsat}
-use Rattle.stream_judge.specs.declared.stream.CertKind.TheVariants.{EarlyEnd, TooLong}
 use Rattle.stream_judge.specs.Values.{named, unnamed}
-use Rattle.hint_judge.specs.Fate.{ByHints, Comes, ComesTo, Held, HintsComeTo, added, deleted, first_bad, held_first, FateSoFar, FateOf, IsFate, IsFateSoFar}
-use Rattle.stream_judge.specs.Fate.{Fate, Found, Bad}
+use Rattle.hint_judge.specs.Fate.{ByHints, Comes, ComesTo, Held, HintsComeTo, added, deleted, first_bad, held_first, FateSoFar, FateOf, IsFate, IsFateSoFar, BytesCome}
+use Rattle.stream_judge.specs.Fate.{Fate, Found}
 use Rattle.lrat_check.specs.Hints.{Live}
 use Rattle.hint_stream.specs.declared.mode.Hint.{Hint}
-use Rattle.hint_judge.proofs.Coming.{sides, refuted_at_end, satisfied_at_end}
+use Rattle.hint_judge.proofs.Coming.{refuted_at_end, satisfied_at_end}
 use Rattle.stream_judge.proofs.Valuing.{values_once}
+use Rattle.stream_judge.proofs.Bounding.{stays_by, one_so_far_by, one_by, within_by}
 
 -- what is said later changes no fate
 hints_more : (o : Option Hint) (A B : Type 0) (fate : Option Fate) → (A → B) → ByHints o A fate → ByHints o B fate
@@ -71,10 +70,6 @@ comes_one C F v (IsFault f ∷ ss) x y h k = h ∙ sym k
 comes_once : (f : FormulaOf) (ss : List HintSaying) (x y : Option Fate) → Comes f ss x → Comes f ss y → x ≡ y
 comes_once f ss x y h k = comes_one f.clauses (held_first f.clauses) unnamed ss x y h k
 
-pub take_front : (bytes rest : List ℕ) (n : ℕ) → take (length bytes + n) (bytes ++ rest) ≡ bytes ++ take n rest
-take_front [] rest n = ap (λ k. take k rest) (omega arith)
-take_front (b ∷ bytes) rest n = let e : length (b ∷ bytes) + n ≡ suc (length bytes + n) = omega arith in rw e (ap (λ z. b ∷ z) (take_front bytes rest n))
-
 -- of the bytes so far
 module _ (f : FormulaOf) (most : ℕ) where
   comes_on : (bytes rest : List ℕ) (x : Fate) → Comes f (sayings f.vars false bytes) (Some x) → Comes f (sayings f.vars false (bytes ++ rest)) (Some x)
@@ -87,75 +82,24 @@ module _ (f : FormulaOf) (most : ℕ) where
       let w = sayings_end f.vars bytes in
       subst (λ (z : List HintSaying). Comes f z (Some x)) (sym w.1) (comes_more f.clauses (held_first f.clauses) unnamed (sayings f.vars false bytes) w.0 x h)
 
-  take_past : (bytes rest : List ℕ) → length bytes ≤ most → take most (bytes ++ rest) ≡ bytes ++ take (most - length bytes) rest
-  take_past bytes rest h =
-      let e : take (length bytes + (most - length bytes)) (bytes ++ rest) ≡ bytes ++ take (most - length bytes) rest = take_front bytes rest (most - length bytes) in
-      subst (λ n. take n (bytes ++ rest) ≡ bytes ++ take (most - length bytes) rest) (omega arith) e
-
   pub fate_stays : (bytes rest : List ℕ) (x : Fate) → FateSoFar f bytes most (Some x) → FateSoFar f (bytes ++ rest) most (Some x)
-  fate_stays bytes rest x h =
-      elim (sides (length bytes) most) [
-        | inl l ↦ record {
-          within = λ _. comes_on bytes rest x (h.within l);
-          beyond = λ _. inl (x, rw (take_past bytes rest l) (comes_on bytes (take (most - length bytes) rest) x (h.within l)), refl);
-        }
-        | inr l ↦ record {
-          within = λ k. absurd (omega (arith, length-append bytes rest));
-          beyond = λ _. let t : take most (bytes ++ rest) ≡ take most bytes = take-append-le most bytes rest (omega arith) in rw t (h.beyond l);
-        }
-      ]
+  fate_stays = stays_by (BytesCome f) most comes_on
 
   pub fate_at_end : (bytes : List ℕ) (x : Fate) → FateSoFar f bytes most (Some x) → FateOf f bytes most x
   fate_at_end bytes x h = record { within = λ l. inl (comes_at_end bytes x (h.within l)); beyond = λ _. h }
 
-  abbrev Beyond : List ℕ → Option Fate → Type 0
-  Beyond bytes z =
-      ((v : Fate) × Comes f (sayings f.vars false (take most bytes)) (Some v) × (z ≡ Some v))
-      ⊎ (Comes f (sayings f.vars false (take most bytes)) None × (z ≡ Some (Bad TooLong most)))
-
-  one_beyond : (bytes : List ℕ) (x y : Option Fate) → Beyond bytes x → Beyond bytes y → x ≡ y
-  one_beyond bytes x y (inl (v, a, e)) (inl (w, b, g)) = e ∙ comes_once f (sayings f.vars false (take most bytes)) (Some v) (Some w) a b ∙ sym g
-  one_beyond bytes x y (inl (v, a, e)) (inr (b, g)) = absurd (let q = comes_once f (sayings f.vars false (take most bytes)) (Some v) None a b in cc)
-  one_beyond bytes x y (inr (a, e)) (inl (w, b, g)) = absurd (let q = comes_once f (sayings f.vars false (take most bytes)) None (Some w) a b in cc)
-  one_beyond bytes x y (inr (a, e)) (inr (b, g)) = e ∙ sym g
+  come_once : (ended : Bool) (bytes : List ℕ) (x y : Option Fate) → BytesCome f ended bytes x → BytesCome f ended bytes y → x ≡ y
+  come_once ended bytes = comes_once f (sayings f.vars ended bytes)
 
   pub one_so_far : (bytes : List ℕ) (x y : Option Fate) → FateSoFar f bytes most x → FateSoFar f bytes most y → x ≡ y
-  one_so_far bytes x y h k =
-      elim (sides (length bytes) most) [
-        | inl l ↦ comes_once f (sayings f.vars false bytes) x y (h.within l) (k.within l)
-        | inr l ↦ one_beyond bytes x y (h.beyond l) (k.beyond l)
-      ]
-
-  some_same : (x y : Fate) → Some x ≡ Some y → x ≡ y
-  some_same x y e = cc
-
-  abbrev Within : List ℕ → Fate → Type 0
-  Within bytes z = Comes f (sayings f.vars true bytes) (Some z) ⊎ (Comes f (sayings f.vars true bytes) None × (z ≡ Bad EarlyEnd (length bytes)))
-
-  one_within : (bytes : List ℕ) (x y : Fate) → Within bytes x → Within bytes y → x ≡ y
-  one_within bytes x y (inl a) (inl b) = some_same x y (comes_once f (sayings f.vars true bytes) (Some x) (Some y) a b)
-  one_within bytes x y (inl a) (inr (b, g)) = absurd (let q = comes_once f (sayings f.vars true bytes) (Some x) None a b in cc)
-  one_within bytes x y (inr (a, e)) (inl b) = absurd (let q = comes_once f (sayings f.vars true bytes) None (Some y) a b in cc)
-  one_within bytes x y (inr (a, e)) (inr (b, g)) = e ∙ sym g
+  one_so_far = one_so_far_by (BytesCome f) most come_once
 
   pub one_of : (bytes : List ℕ) (x y : Fate) → FateOf f bytes most x → FateOf f bytes most y → x ≡ y
-  one_of bytes x y h k =
-      elim (sides (length bytes) most) [
-        | inl l ↦ one_within bytes x y (h.within l) (k.within l)
-        | inr l ↦ some_same x y (one_so_far bytes (Some x) (Some y) (h.beyond l) (k.beyond l))
-      ]
-
-  past_none : (bytes : List ℕ) → Beyond bytes None → ⊥
-  past_none bytes (inl (v, a, e)) = absurd (let q = e in cc)
-  past_none bytes (inr (a, e)) = absurd (let q = e in cc)
+  one_of = one_by (BytesCome f) most come_once
 
   -- where there is no fate yet, no byte is too much
   pub within_so_far : (bytes : List ℕ) → FateSoFar f bytes most None → length bytes ≤ most
-  within_so_far bytes h =
-      elim (sides (length bytes) most) [
-        | inl l ↦ l
-        | inr l ↦ absurd (past_none bytes (h.beyond l))
-      ]
+  within_so_far = within_by (BytesCome f) most
 
 -- of the formula that a job's file is
 pub file_fate : (job bytes : List ℕ) (most : ℕ) (x y : Fate) → IsFate job bytes most x → IsFate job bytes most y → x ≡ y

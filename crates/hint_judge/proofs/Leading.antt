@@ -1,12 +1,12 @@
 -- Sayings lead from one certificate to another.
-use Rattle.std.proofs.Common.{◌≡◌, ◌≢◌, ◌<◌, ◌≤◌, ℕ, Bool, true, false, eqb, List, [], ◌∷◌, ◌++◌, length, Option, Some, None, Result, Ok, Err, refl, sym, ap, ◌∙◌, subst, inl, inr, append_assoc, arith}
+use Rattle.std.proofs.Common.{◌≡◌, ◌≢◌, ◌<◌, ◌≤◌, ℕ, Bool, true, false, List, [], ◌∷◌, ◌++◌, length, Option, Some, None, Result, Ok, Err, refl, sym, ap, ◌∙◌, subst, inl, inr, append_assoc, arith}
 use Rattle.std.specs.Prelude.{IsSome, ◌&&◌, is_some, not, slice_index_or, zero, suc}
-use Rattle.std.proofs.lemmas.Bool.{cases_Bool, eqb-true, eqb-false}
+use Rattle.std.proofs.lemmas.Bool.{cases_Bool}
 use Rattle.cnf_form.specs.Cnf.{LitOf, FormulaOf, Assignment, Satisfies}
 use Rattle.std.proofs.lemmas.List.{append-nil}
 use Rattle.hint_stream.specs.Machine.{HintOf, at_end, fault_of}
-use Rattle.hint_stream.specs.Telling.{HintSaying, IsClause, IsDelete, IsValue, IsValuesEnd, IsUnknown, IsFault, Gets, after, fault_said, said, told_by}
-use Rattle.cert_stream.specs.Telling.{answer, is_stopped}
+use Rattle.hint_stream.specs.Telling.{HintSaying, IsClause, IsDelete, IsValue, IsValuesEnd, IsUnknown, IsFault, after, fault_said, said, told_by}
+use Rattle.cert_stream.specs.Telling.{Gets, answer, is_stopped}
 use Rattle.cert_stream.specs.declared.feeding.Fed.{Fed}
 use Rattle.cert_stream.specs.declared.feeding.Fed.TheVariants.{More, Stopped}
 use Rattle.cert_stream.specs.declared.mode.WireFault.{WireFault}
@@ -21,6 +21,7 @@ use Rattle.lrat_check.specs.Checking.{HasAdded, HintedOf, Starts, live_of}
 use Rattle.hint_stream.specs.declared.mode.Hint.{Hint}
 use Rattle.hint_judge.specs.Values.{value_lits}
 use Rattle.stream_judge.specs.Values.{IsFirstUnsatisfied, named, named_from, values_of}
+use Rattle.stream_judge.proofs.Leading.{no_outcome, some_outcome}
 use Rattle.hint_judge.specs.Leading.{CertificateOf, ComesBy, NamesBy, Leads, Heard, Hears, concluded, with_outcome}
 
 -- nothing more
@@ -65,14 +66,6 @@ module _ (x y : CertificateOf) (ss more : List HintSaying) (o : Outcome) (h : Le
 
 abbrev stops : CertificateOf → Bool
 stops c = is_some c.outcome
-
-some_outcome : (o : Option Outcome) → is_some o ≡ true → (won : Outcome) × (o ≡ Some won)
-some_outcome None e = cc
-some_outcome (Some won) e = (won, refl)
-
-no_outcome : (o : Option Outcome) → is_some o ≡ false → o ≡ None
-no_outcome None e = refl
-no_outcome (Some won) e = cc
 
 -- what a receiver gets leads to what it is then
 pub gets_lead : (ss : List HintSaying) (x y : CertificateOf) (stopped : Bool) → x.outcome ≡ None → Gets Hears stops x ss y stopped → Leads x ss y × (is_some y.outcome ≡ stopped)
@@ -168,14 +161,6 @@ hears_fault x y ss w h e =
       values = λ rest a g. absurd (let k = g.0 in cc);
       satisfied = λ s. cc;
     }
-
-pub none_in : (lits : List LitOf) → eqb (length lits) 0 ≡ true → lits ≡ []
-none_in [] e = refl
-none_in (l ∷ lits) e = let k : length (l ∷ lits) ≡ 0 = eqb-true (length (l ∷ lits)) 0 e in absurd (omega arith)
-
-pub some_in : (lits : List LitOf) → eqb (length lits) 0 ≡ false → lits ≢ []
-some_in [] e = absurd (eqb-false 0 0 e refl)
-some_in (l ∷ lits) e = λ q. cc
 
 -- the calls of a receiver, where what it was is the value of its fields
 module _ (x : CertificateOf) (f : FormulaOf) (F : HintedOf) (bits : List Bool) (o : Option Outcome) (e : certificate f F bits o ≡ x) (n : x.outcome ≡ None) where

@@ -2,6 +2,7 @@
 use Rattle.std.proofs.Common.{◌≡◌, ℕ, ◌+◌, ◌-◌, ◌<◌, ◌≤◌, Bool, true, false, leb, List, [], ◌∷◌, ◌++◌, length, take, Option, Some, None, refl, sym, ap, ◌∙◌, subst, inl, inr, append_assoc, arith}
 use Rattle.std.proofs.lemmas.Bool.{le-leb, lt-leb}
 use Rattle.std.proofs.lemmas.List.{append-nil, length-append, take_all, take-append-le}
+use Rattle.std.proofs.Math.Seq.{take-append-add}
 use Rattle.cnf_form.specs.Cnf.{LitOf, FormulaOf, Assignment, Satisfies}
 use Rattle.hint_stream.specs.Machine.{HintOf, at_end, fault_of, turn}
 use Rattle.hint_stream.specs.Telling.{HintSaying, IsClause, IsDelete, IsValue, IsValuesEnd, IsUnknown, IsFault, after, fault_said, fresh, said, told_by}
@@ -21,8 +22,10 @@ use Rattle.stream_judge.specs.Values.{named, named_from, unnamed, values_of}
 use Rattle.hint_judge.specs.Leading.{Begins, CertificateOf, ComesBy, NamesBy, Leads, Heard, TakesPiece, TakesEnd, outcome_or, with_outcome}
 use Rattle.hint_judge.specs.Judging.{Ends, Feeds, HasOutcome, IsAt, IsOver, JudgeOf, Stands, StandsBy}
 use Rattle.stream_judge.specs.Judging.{AreValuesOf, AreValuesTold}
-use Rattle.hint_judge.proofs.Coming.{by_hints, sides}
-use Rattle.hint_judge.proofs.Fates.{fate_stays, fate_at_end, take_front}
+use Rattle.stream_judge.proofs.Coming.{sides}
+use Rattle.stream_judge.proofs.Bounding.{take_past}
+use Rattle.hint_judge.proofs.Coming.{by_hints}
+use Rattle.hint_judge.proofs.Fates.{fate_stays, fate_at_end}
 use Rattle.hint_judge.proofs.Leading.{certificate}
 
 -- values end with their 0, whatever is said then
@@ -45,20 +48,15 @@ module _ (f : FormulaOf) (most : ℕ) where
   said_once : (ss ts more : List HintSaying) → ts ≡ ss ++ more → Comes f ss (Some (Found Sat)) → values_said ts ≡ values_said ss
   said_once ss ts more e h = ap values_said e ∙ ap (named_from unnamed) (lits_once f.clauses (held_first f.clauses) unnamed ss more h)
 
-  take_past : (bytes rest : List ℕ) → length bytes ≤ most → take most (bytes ++ rest) ≡ bytes ++ take (most - length bytes) rest
-  take_past bytes rest h =
-      let e : take (length bytes + (most - length bytes)) (bytes ++ rest) ≡ bytes ++ take (most - length bytes) rest = take_front bytes rest (most - length bytes) in
-      subst (λ n. take n (bytes ++ rest) ≡ bytes ++ take (most - length bytes) rest) (omega arith) e
-
   -- the values of bytes that were found to satisfy the formula stay
-  values_stay : (bytes rest : List ℕ) → FateSoFar f bytes most (Some (Found Sat)) → stream_values f.vars false bytes most ≡ stream_values f.vars false (bytes ++ rest) most
+  pub values_stay : (bytes rest : List ℕ) → FateSoFar f bytes most (Some (Found Sat)) → stream_values f.vars false bytes most ≡ stream_values f.vars false (bytes ++ rest) most
   values_stay bytes rest h =
       elim (sides (length bytes) most) [
         | inl l ↦
             let more = sayings_more f.vars false bytes (take (most - length bytes) rest) in
             ap (λ z. values_said (sayings f.vars false z)) (take_all most bytes l)
             ∙ sym (said_once (sayings f.vars false bytes) (sayings f.vars false (bytes ++ take (most - length bytes) rest)) more.0 more.1 (h.within l))
-            ∙ ap (λ z. values_said (sayings f.vars false z)) (sym (take_past bytes rest l))
+            ∙ ap (λ z. values_said (sayings f.vars false z)) (sym (take_past most bytes rest l))
         | inr l ↦ ap (λ z. values_said (sayings f.vars false z)) (sym (take-append-le most bytes rest (omega arith)))
       ]
 
@@ -249,7 +247,7 @@ module _ (most : ℕ) (w : HintOf) (c : CertificateOf) (wanting : Bool) (e : c.o
     first_most : take most (bytes ++ piece) ≡ bytes ++ take room piece
     first_most =
         let r : length bytes + room ≡ most = omega (arith, all, count) in
-        subst (λ n. take n (bytes ++ piece) ≡ bytes ++ take room piece) r (take_front bytes piece room)
+        subst (λ n. take n (bytes ++ piece) ≡ bytes ++ take room piece) r (take-append-add bytes piece room)
 
     past_most : most < length (bytes ++ piece)
     past_most = let n = length-append bytes piece in omega (arith, n, all, count, l)

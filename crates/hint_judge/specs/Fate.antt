@@ -1,13 +1,13 @@
 -- What a stream comes to: a certificate, or why it is none.
-use Rattle.std.specs.Prelude.{◌&&◌, cond, not, is_some, map, ◌≡◌, ◌≢◌, ◌⊎◌, ℕ, ◌<◌, ◌≤◌, Bool, true, false, List, [], ◌∷◌, ◌++◌, length, take, Option, Some, None}
+use Rattle.std.specs.Prelude.{◌&&◌, cond, not, is_some, map, ◌≡◌, ◌≢◌, ◌⊎◌, ℕ, ◌<◌, ◌≤◌, Bool, List, [], ◌∷◌, length, Option, Some, None}
 use Rattle.cnf_form.specs.Cnf.{LitOf, FormulaOf, Assignment}
 use Rattle.cnf_form.specs.Dimacs.{IsDimacs}
 use Rattle.hint_stream.specs.Lines.{sayings}
 use Rattle.hint_stream.specs.Telling.{HintSaying, IsClause, IsDelete, IsValue, IsValuesEnd, IsUnknown, IsFault}
 use Rattle.sby_terms.specs.declared.names.Answer.TheVariants.{Unsat}
-use Rattle.stream_judge.specs.Fate.{Fate, Found, Unknown, Bad, ValuesComeTo, cert_kind}
+use Rattle.stream_judge.specs.Fate.{Fate, Found, Unknown, Bad, FateSoFarBy, FateBy, ValuesComeTo, cert_kind}
 use Rattle.stream_judge.specs.Values.{named, unnamed}
-use Rattle.stream_judge.specs.declared.stream.CertKind.TheVariants.{TooLong, EarlyEnd, BadId, BadHint, NotHinted}
+use Rattle.stream_judge.specs.declared.stream.CertKind.TheVariants.{BadId, BadHint, NotHinted}
 use Rattle.lrat_check.specs.Checking.{HintedOf, live_of}
 use Rattle.lrat_check.specs.Hints.{IsHinted, Live, numbered, put}
 use Rattle.hint_stream.specs.declared.mode.Hint.{Hint}
@@ -80,19 +80,17 @@ held_first C = record { live = numbered C; last = length C }
 abbrev pub Comes : FormulaOf → List HintSaying → Option Fate → Type 0
 Comes f ss fate = ComesTo f.clauses (held_first f.clauses) unnamed ss fate
 
+-- what bytes of a stream come to, which are all where it ended
+abbrev pub BytesCome : FormulaOf → Bool → List ℕ → Option Fate → Type 0
+BytesCome f ended bytes fate = Comes f (sayings f.vars ended bytes) fate
+
 -- what these bytes of a stream come to, `most` of them at most: where more may follow
-pub record FateSoFar (f : FormulaOf) (bytes : List ℕ) (most : ℕ) (fate : Option Fate) : Type 0 where
-  pub within : length bytes ≤ most → Comes f (sayings f.vars false bytes) fate
-  pub beyond : most < length bytes
-      → ((x : Fate) × Comes f (sayings f.vars false (take most bytes)) (Some x) × (fate ≡ Some x))
-      ⊎ (Comes f (sayings f.vars false (take most bytes)) None × (fate ≡ Some (Bad TooLong most)))
+abbrev pub FateSoFar : FormulaOf → List ℕ → ℕ → Option Fate → Type 0
+FateSoFar f = FateSoFarBy (BytesCome f)
 
 -- and where the stream ends with them
-pub record FateOf (f : FormulaOf) (bytes : List ℕ) (most : ℕ) (fate : Fate) : Type 0 where
-  pub within : length bytes ≤ most
-      → Comes f (sayings f.vars true bytes) (Some fate)
-      ⊎ (Comes f (sayings f.vars true bytes) None × (fate ≡ Bad EarlyEnd (length bytes)))
-  pub beyond : most < length bytes → FateSoFar f bytes most (Some fate)
+abbrev pub FateOf : FormulaOf → List ℕ → ℕ → Fate → Type 0
+FateOf f = FateBy (BytesCome f)
 
 -- the fate so far of the bytes of a stream, as a certificate of the formula that the bytes of a job's file are
 abbrev pub IsFateSoFar : List ℕ → List ℕ → ℕ → Option Fate → Type 0

@@ -1,6 +1,6 @@
 -- What sayings make of a certificate.
 use Rattle.std.specs.Prelude.{◌≡◌, ◌⊎◌, ℕ, ◌+◌, ◌<◌, ◌≤◌, Bool, false, List, [], ◌∷◌, ◌++◌, length, take, Option, Some, None, Result, Ok, Err}
-use Rattle.cnf_form.specs.Cnf.{LitOf, Assignment, FormulaOf, Satisfies}
+use Rattle.cnf_form.specs.Cnf.{Assignment, FormulaOf, Satisfies}
 use Rattle.hint_stream.specs.Machine.{HintOf, at_end, fault_of}
 use Rattle.hint_stream.specs.Telling.{HintSaying, after, fault_said, said, told_by}
 use Rattle.cert_stream.specs.declared.feeding.Fed.{Fed}

@@ -1,8 +1,8 @@
 -- What was said stays said.
-use Rattle.std.proofs.Common.{◌≡◌, ℕ, Bool, true, false, cond, ◌&&◌, eqb, List, [], ◌∷◌, ◌++◌, refl, ap, sym, ◌∙◌, inl, inr, subst, append_assoc}
-use Rattle.std.proofs.lemmas.Bool.{cases_Bool}
+use Rattle.std.proofs.Common.{◌≡◌, ℕ, Bool, true, false, List, [], ◌∷◌, ◌++◌, ap, sym, ◌∙◌, subst}
 use Rattle.std.proofs.lemmas.List.{append-nil}
 use Rattle.cert_stream.specs.declared.mode.Part.TheVariants.{Gap, Minus, Zero, Digits}
+use Rattle.cert_stream.proofs.GoingOn.{Starts, starts_none, starts_told, no_end}
 use Rattle.hint_stream.specs.Machine.{HintOf, turn}
 use Rattle.hint_stream.specs.Telling.{HintSaying, IsUnknown, told_by, fresh}
 use Rattle.hint_stream.specs.Lines.{sayings}
@@ -14,19 +14,6 @@ use Rattle.hint_stream.proofs.Turning.{Kept, kept, wire}
 use Rattle.hint_stream.proofs.Speaking.{speak, speak_is, last_of, bad_ever}
 use Rattle.hint_stream.proofs.Streams.{stream_spoken}
 
--- all begins with the front
-abbrev Starts : List HintSaying → List HintSaying → Type 0
-Starts front all = (more : List HintSaying) × (all ≡ front ++ more)
-
-starts_none : (all : List HintSaying) → Starts [] all
-starts_none all = (all, refl)
-
-starts_told : (told front all : List HintSaying) → Starts front all → Starts (told ++ front) (told ++ all)
-starts_told told front all (more, e) = (more, ap (λ z. told ++ z) e ∙ sym (append_assoc told front more))
-
-no_end : (n : ℕ) → cond (eqb n 7 && false) (IsUnknown ∷ []) [] ≡ []
-no_end n = elim (cases_Bool (eqb n 7)) [ inl t ↦ rw t refl | inr f ↦ rw f refl ]
-
 -- whatever follows, and where the stream ends
 module _ (ended : Bool) (vars taken place : ℕ) (line : Kept) (rest : List ℕ) where
   last_goes_on : (m : Mode) → Starts (last_of false place line m) (speak ended (wire vars taken place m line) rest)
@@ -35,7 +22,7 @@ module _ (ended : Bool) (vars taken place : ℕ) (line : Kept) (rest : List ℕ)
   last_goes_on ValuesHead = starts_none _
   last_goes_on StatusHead = starts_none _
   last_goes_on StatusGap = starts_none _
-  last_goes_on (Spelled n) = subst (λ z. Starts z (speak ended (wire vars taken place (Spelled n) line) rest)) (sym (no_end n)) (starts_none _)
+  last_goes_on (Spelled n) = subst (λ z. Starts z (speak ended (wire vars taken place (Spelled n) line) rest)) (sym (no_end (IsUnknown ∷ []) n)) (starts_none _)
   last_goes_on Whole = starts_none _
   last_goes_on (InId n) = starts_none _
   last_goes_on BehindId = starts_none _

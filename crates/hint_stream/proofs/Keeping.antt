@@ -1,12 +1,13 @@
 -- A byte keeps the variables, and what is said with it is within them.
-use Rattle.std.proofs.Common.{◌≡◌, ℕ, ◌+◌, Bool, true, false, cond, not, ◌||◌, ◌&&◌, eqb, leb, length, Option, Some, None, refl, ap, sym, ◌∙◌, subst}
+use Rattle.std.proofs.Common.{◌≡◌, ℕ, Bool, true, false, cond, not, eqb, leb, length, Option, refl, ap, sym, ◌∙◌, subst}
 use Rattle.cert_stream.specs.Text.{is_blank, is_digit}
-use Rattle.cert_stream.specs.Machine.{IsPartWithin, IsEventWithin, first_of_both, begins_literal, goes_on, literal, with_digit, spelling}
+use Rattle.cert_stream.specs.Machine.{IsPartWithin, IsEventWithin, begins_literal, goes_on, literal, with_digit}
 use Rattle.cert_stream.specs.declared.mode.Event.{Event}
-use Rattle.cert_stream.specs.declared.mode.WireFaultKind.TheVariants.{BadLine, BadLiteral, LineTooLong}
+use Rattle.cert_stream.specs.declared.mode.WireFaultKind.TheVariants.{BadLiteral}
 use Rattle.cert_stream.specs.declared.mode.Part.{Part}
 use Rattle.cert_stream.specs.declared.mode.Part.TheVariants.{Gap, Minus, Zero, Digits}
-use Rattle.hint_stream.specs.Machine.{HintOf, Turn, IsModeWithin, begins_id, emptied, end_id_part, end_line, end_part, end_word, fails, feed_behind, hint, id_digit, id_first, id_goes_on, id_part, lits_ended, own_digit, quiet, read, unended, visible, visible_behind, visible_digit, visible_first, visible_part, visible_start}
+use Rattle.cert_stream.proofs.Keeping.{first_within}
+use Rattle.hint_stream.specs.Machine.{HintOf, Turn, IsModeWithin, begins_id, emptied, end_id_part, end_line, end_part, end_word, fails, feed_behind, hint, id_digit, id_first, id_goes_on, id_part, own_digit, quiet, read, unended, visible, visible_behind, visible_digit, visible_first, visible_part, visible_start}
 use Rattle.hint_stream.specs.declared.mode.TheConstants.{MAX_HINTS}
 use Rattle.hint_stream.specs.declared.mode.LitList.{LitList}
 use Rattle.hint_stream.specs.declared.mode.LitList.TheVariants.{Clause, Values}
@@ -129,10 +130,6 @@ visible_keeps w Closed b = (refl, tt)
 visible_keeps w (Bad f) b = (refl, tt)
 
 -- of both, what was said first
-first_within : (vars : ℕ) (d e : Option Event) → IsEventWithin vars d → IsEventWithin vars e → IsEventWithin vars (first_of_both d e)
-first_within vars None e h k = k
-first_within vars (Some d) e h k = h
-
 behind_keeps : (w : HintOf) (t : Turn) → Keeps w t → Keeps w (feed_behind t)
 behind_keeps w t h =
     let k = end_line_keeps t.to t.to.mode in

@@ -1,5 +1,5 @@
 -- The bytes of a line say what its words say, and then what the later lines say.
-use Rattle.std.proofs.Common.{◌≡◌, ℕ, ◌+◌, Bool, true, false, ◌||◌, eqb, List, [], ◌∷◌, ◌++◌, length, Result, Ok, Err, refl, ap, sym, ◌∙◌, inl, inr, arith}
+use Rattle.std.proofs.Common.{◌≡◌, ℕ, ◌+◌, Bool, true, false, eqb, List, [], ◌∷◌, ◌++◌, length, Result, Ok, Err, refl, ap, sym, ◌∙◌, inl, inr, arith}
 use Rattle.std.proofs.lemmas.Bool.{cases_Bool}
 use Rattle.std.specs.Prelude.{slice_index}
 use Rattle.cert_stream.specs.Text.{Word, words_from, is_blank, is_digit, NoFeed}
@@ -9,12 +9,13 @@ use Rattle.cert_stream.specs.declared.mode.Part.TheVariants.{Gap}
 use Rattle.cert_stream.proofs.Wording.{HasWord, has_word, words_visible}
 use Rattle.hint_stream.specs.Machine.{Turn, turn, counted as with_count, own_digit}
 use Rattle.hint_stream.specs.Telling.{HintSaying, told_by}
-use Rattle.hint_stream.specs.Scan.{Reads, Misfit, own_next, scan}
+use Rattle.cert_stream.specs.Scan.{Misfit, scan_by}
+use Rattle.hint_stream.specs.Scan.{own_next}
 use Rattle.hint_stream.specs.Lines.{alone, bad, hinted_says, line_says, lits_say, plain_says, status_says, visible_says}
 use Rattle.hint_stream.specs.declared.mode.LitList.TheVariants.{Values}
-use Rattle.hint_stream.specs.declared.mode.Mode.TheVariants.{Start, ValuesHead, InId, Bad}
+use Rattle.hint_stream.specs.declared.mode.Mode.TheVariants.{Start, ValuesHead, Bad}
 use Rattle.hint_stream.proofs.Turning.{Kept, nothing, wire, by_own, own_is}
-use Rattle.hint_stream.proofs.Scanning.{scan_bad, scan_more}
+use Rattle.cert_stream.proofs.Scanning.{scan_bad, scan_more}
 use Rattle.hint_stream.proofs.Wording.{after_first, first_alone, alone_says}
 use Rattle.hint_stream.proofs.Speaking.{speak, bad_ever}
 use Rattle.hint_stream.proofs.Tails.{Tail}
@@ -55,7 +56,7 @@ module _ (vars : ℕ) (ended fed counted : Bool) (broken going more : List HintS
         let at : w.word.place + 0 ≡ taken = omega (arith, w.place) in
         bad_ever ended (record { kind = kind; byte = taken }) vars (taken + 1) taken nothing (bs ++ tail)
         ∙ sym (ap hinted w.are
-        ∙ says_word vars ended fed counted broken going more feed tail behind taken (Misfit kind 0) w.word w.others (ap (scan own_next 0) w.text ∙ scan_bad own_next 0 0 [] b w.more kind refl x)
+        ∙ says_word vars ended fed counted broken going more feed tail behind taken (Misfit kind 0) w.word w.others (ap (scan_by own_next 0) w.text ∙ scan_bad own_next 0 0 [] b w.more kind refl x)
         ∙ ap (bad kind) at)
 
     hinted_text : eqb b 99 ≡ false → eqb b 118 ≡ false → eqb b 115 ≡ false → is_digit b ≡ true → said false ≡ hinted (words_from fed (taken + 1) (b ∷ []) bs)

@@ -9,7 +9,8 @@ use Rattle.cert_stream.specs.declared.mode.WireFaultKind.TheVariants.{BadLine, B
 use Rattle.cert_stream.proofs.Wording.{has_word, words_blank, words_visible}
 use Rattle.hint_stream.specs.Machine.{Turn, counted as with_count, end_id_part, ended as event_ended}
 use Rattle.hint_stream.specs.Telling.{HintSaying, told_by}
-use Rattle.hint_stream.specs.Scan.{Scanned, Reads, Misfit, part_next, scan}
+use Rattle.cert_stream.specs.Scan.{Scanned, Reads, Misfit, scan_by}
+use Rattle.hint_stream.specs.Scan.{part_next}
 use Rattle.hint_stream.specs.Lines.{bad, behind_says, ids_ended, ids_say}
 use Rattle.hint_stream.specs.declared.mode.Hint.{Hint}
 use Rattle.hint_stream.specs.declared.mode.TheConstants.{MAX_HINTS}
@@ -19,7 +20,8 @@ use Rattle.hint_stream.specs.declared.mode.IdPart.{IdPart}
 use Rattle.hint_stream.specs.declared.mode.IdPart.TheVariants.{Gap, Minus, Zero, Digits}
 use Rattle.hint_stream.specs.declared.mode.Mode.TheVariants.{InIds, Closed, Bad}
 use Rattle.hint_stream.proofs.Turning.{Kept, kept, wire, turn_blank, turn_visible, by_id, id_part_is}
-use Rattle.hint_stream.proofs.Scanning.{IsBegun, next_begun, place_begun, scan_more, scan_bad}
+use Rattle.cert_stream.proofs.Scanning.{scan_more, scan_bad}
+use Rattle.hint_stream.proofs.Scanning.{IsBegun, next_begun, place_begun}
 use Rattle.hint_stream.proofs.Speaking.{speak, bad_ever}
 use Rattle.hint_stream.proofs.Tails.{Tail, id_word_says}
 
@@ -51,7 +53,7 @@ module _ (vars : ℕ) (ended fed counted : Bool) (broken going more : List HintS
 
     -- a word, whose first byte is byte number `at`, read from the left
     abbrev read : List Hint → ℕ → List ℕ → Scanned IdPart
-    read hints at text = scan (part_next kind (is_full hints) at) Gap text
+    read hints at text = scan_by (part_next kind (is_full hints) at) Gap text
 
     flushed : (at : ℕ) (hints : List Hint) (done : Bool) (part : IdPart) (p : List ℕ) (ws : List Word) → read hints (at - length p) p ≡ Reads part
         → words_say hints (flush done at p ++ ws) ≡ one_says hints (Reads part) (record { place = at - length p; text = p; done = done }) ws

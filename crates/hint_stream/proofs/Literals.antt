@@ -4,21 +4,21 @@ use Rattle.std.proofs.lemmas.Bool.{cases_Bool}
 use Rattle.std.proofs.lemmas.List.{length-append}
 use Rattle.cnf_form.specs.Cnf.{LitOf}
 use Rattle.cert_stream.specs.Text.{Word, flush, words_from, is_blank, NoFeed}
-use Rattle.cert_stream.specs.Scan.{Scanned, Reads, Misfit, part_next, shift, scan}
+use Rattle.cert_stream.specs.Scan.{Scanned, Reads, Misfit, part_next, scan}
 use Rattle.cert_stream.specs.declared.mode.WireFaultKind.{WireFaultKind}
-use Rattle.cert_stream.specs.declared.mode.WireFaultKind.TheVariants.{BadLine, BadLiteral}
+use Rattle.cert_stream.specs.declared.mode.WireFaultKind.TheVariants.{BadLiteral}
 use Rattle.cert_stream.specs.declared.mode.Part.{Part}
 use Rattle.cert_stream.specs.declared.mode.Part.TheVariants.{Gap, Minus, Zero, Digits}
 use Rattle.cert_stream.proofs.Scanning.{scan_more, scan_bad}
 use Rattle.cert_stream.proofs.Wording.{has_word, words_blank, words_visible}
 use Rattle.hint_stream.specs.Machine.{Turn, counted as with_count, end_part, lits_ended as turn_ended, heard}
 use Rattle.hint_stream.specs.Telling.{HintSaying, IsValuesEnd, told_by}
-use Rattle.hint_stream.specs.Lines.{bad, behind_says, heard_says, lits_ended, lits_say}
+use Rattle.hint_stream.specs.Lines.{bad, heard_says, lits_ended, lits_say}
 use Rattle.hint_stream.specs.declared.mode.LitList.{LitList}
 use Rattle.hint_stream.specs.declared.mode.LitList.TheVariants.{Clause, Values}
 use Rattle.hint_stream.specs.declared.mode.IdList.TheVariants.{Hints}
 use Rattle.hint_stream.specs.declared.mode.IdPart.TheVariants.{Gap as IdGap}
-use Rattle.hint_stream.specs.declared.mode.Mode.TheVariants.{InLits, InIds, Closed, Bad}
+use Rattle.hint_stream.specs.declared.mode.Mode.TheVariants.{InLits, Bad}
 use Rattle.hint_stream.proofs.Turning.{Kept, kept, wire, turn_blank, turn_visible, by_lit, part_is}
 use Rattle.hint_stream.proofs.Speaking.{speak, bad_ever}
 use Rattle.hint_stream.proofs.Tails.{Tail, lit_word_says}
@@ -29,7 +29,7 @@ module _ (vars : ℕ) (ended fed counted : Bool) (broken going more : List HintS
     abbrev words_say : List LitOf → List Word → List HintSaying
     words_say lits ws = lits_say vars kind counted broken going more place id lits ws
 
-    abbrev one_says : List LitOf → Scanned → Word → List Word → List HintSaying
+    abbrev one_says : List LitOf → Scanned Part → Word → List Word → List HintSaying
     one_says lits s w ws = lit_word_says vars kind counted broken going more place id lits s w ws
 
     flushed : (at : ℕ) (lits : List LitOf) (done : Bool) (part : Part) (p : List ℕ) (ws : List Word) → scan vars (leb vars (length lits)) Gap p ≡ Reads part
@@ -73,8 +73,7 @@ module _ (vars : ℕ) (ended fed counted : Bool) (broken going more : List HintS
       visible_next b part (Ok to) e x =
           let len : length (p ++ b ∷ []) ≡ length p + 1 = length-append p (b ∷ []) in
           let s : scan vars (leb vars (length lits)) Gap (p ++ b ∷ []) ≡ Reads to =
-          scan_more vars (leb vars (length lits)) part p b e
-          ∙ ap (λ (z : Result Part WireFaultKind). shift (length p) (elim z as (λ _. Scanned) [ Ok y ↦ Reads y | Err k ↦ Misfit k 0 ])) x in
+          scan_more (part_next vars (leb vars (length lits))) Gap part to p b e x in
           again (taken + 1) lits to (p ++ b ∷ []) s (omega (arith, len, n)) m
       visible_next b part (Err k) e x = misfit p e n
         where
@@ -85,7 +84,7 @@ module _ (vars : ℕ) (ended fed counted : Bool) (broken going more : List HintS
               let at : w.word.place + 0 ≡ taken = omega (arith, w.place) in
               bad_ever ended (record { kind = k; byte = taken }) vars (taken + 1) place (kept id lits []) (bs ++ tail)
               ∙ sym (ap (words_say lits) w.are
-              ∙ misfit_says lits k taken 0 (b ∷ w.more) w.word w.others w.text (scan_bad vars (leb vars (length lits)) part [] b w.more k e x) at)
+              ∙ misfit_says lits k taken 0 (b ∷ w.more) w.word w.others w.text (scan_bad (part_next vars (leb vars (length lits))) Gap part [] b w.more k e x) at)
           misfit (c ∷ q) e n =
               let w = has_word fed (taken + 1) c (q ++ b ∷ []) bs in
               let len : length (q ++ b ∷ []) ≡ length q + 1 = length-append q (b ∷ []) in
@@ -93,7 +92,7 @@ module _ (vars : ℕ) (ended fed counted : Bool) (broken going more : List HintS
               bad_ever ended (record { kind = k; byte = taken }) vars (taken + 1) place (kept id lits []) (bs ++ tail)
               ∙ sym (ap (words_say lits) w.are
               ∙ misfit_says lits k taken (length (c ∷ q)) (c ∷ q ++ b ∷ w.more) w.word w.others (w.text ∙ append_assoc (c ∷ q) (b ∷ []) w.more)
-              (scan_bad vars (leb vars (length lits)) part (c ∷ q) b w.more k e x) at)
+              (scan_bad (part_next vars (leb vars (length lits))) Gap part (c ∷ q) b w.more k e x) at)
 
     -- from a part of a word on
     pub lits_text : (t : List ℕ) → NoFeed t → Again t
@@ -122,7 +121,7 @@ going_unheard vars counted broken going other more place id lits [] = refl
 going_unheard vars counted broken going other more place id lits (w ∷ ws) =
     step (λ c. going_unheard vars counted broken going other more place id c ws) (scan vars (leb vars (length lits)) Gap w.text)
   where
-    step : ((c : List LitOf) → lits_say vars Clause counted broken going more place id c ws ≡ lits_say vars Clause counted broken other more place id c ws) → (s : Scanned)
+    step : ((c : List LitOf) → lits_say vars Clause counted broken going more place id c ws ≡ lits_say vars Clause counted broken other more place id c ws) → (s : Scanned Part)
         → lit_word_says vars Clause counted broken going more place id lits s w ws ≡ lit_word_says vars Clause counted broken other more place id lits s w ws
     step again (Misfit k n) = refl
     step again (Reads Gap) = again lits

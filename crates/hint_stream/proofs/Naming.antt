@@ -1,10 +1,10 @@
 -- The bytes of a hinted line say what its words say, and then what the later lines say.
-use Rattle.std.proofs.Common.{◌≡◌, ℕ, ◌+◌, ◌-◌, ◌≤◌, Bool, true, false, cond, eqb, leb, List, [], ◌∷◌, ◌++◌, length, Result, Ok, Err, refl, ap, sym, ◌∙◌, inl, inr, subst, arith, append_assoc}
+use Rattle.std.proofs.Common.{◌≡◌, ℕ, ◌+◌, ◌-◌, Bool, true, false, cond, eqb, leb, List, [], ◌∷◌, ◌++◌, length, Result, Ok, Err, refl, ap, sym, ◌∙◌, inl, inr, subst, arith, append_assoc}
 use Rattle.std.proofs.lemmas.Bool.{cases_Bool}
 use Rattle.std.proofs.lemmas.List.{length-append}
 use Rattle.std.specs.Prelude.{slice_index}
 use Rattle.cert_stream.specs.Text.{Word, words_from, is_blank, NoFeed}
-use Rattle.cert_stream.specs.Scan.{first_next}
+use Rattle.cert_stream.specs.Scan.{Scanned, Reads, Misfit, first_next, scan_by}
 use Rattle.cert_stream.specs.declared.mode.WireFaultKind.{WireFaultKind}
 use Rattle.cert_stream.specs.declared.mode.WireFaultKind.TheVariants.{BadLine}
 use Rattle.cert_stream.specs.declared.mode.Part.{Part}
@@ -12,14 +12,14 @@ use Rattle.cert_stream.specs.declared.mode.Part.TheVariants.{Gap}
 use Rattle.cert_stream.proofs.Wording.{has_word, words_blank, words_visible}
 use Rattle.hint_stream.specs.Machine.{Turn, turn, counted as with_count, visible_first}
 use Rattle.hint_stream.specs.Telling.{HintSaying, told_by}
-use Rattle.hint_stream.specs.Scan.{Scanned, Reads, Misfit, own_next, scan}
-use Rattle.hint_stream.specs.Lines.{alone, bad, hinted_says, ids_say, lits_say, named_by, named_says}
+use Rattle.hint_stream.specs.Scan.{own_next}
+use Rattle.hint_stream.specs.Lines.{bad, hinted_says, ids_say, lits_say, named_by, named_says}
 use Rattle.hint_stream.specs.declared.mode.LitList.TheVariants.{Clause}
 use Rattle.hint_stream.specs.declared.mode.IdList.TheVariants.{Deletion}
 use Rattle.hint_stream.specs.declared.mode.IdPart.TheVariants.{Gap as IdGap}
-use Rattle.hint_stream.specs.declared.mode.Mode.TheVariants.{InId, BehindId, DeletionHead, InLits, Bad}
-use Rattle.hint_stream.proofs.Turning.{Kept, kept, nothing, wire, turn_blank, turn_visible, by_lit, by_own, first_is, own_is}
-use Rattle.hint_stream.proofs.Scanning.{scan_more, scan_bad}
+use Rattle.hint_stream.specs.declared.mode.Mode.TheVariants.{InId, BehindId, DeletionHead, InLits}
+use Rattle.hint_stream.proofs.Turning.{kept, nothing, wire, turn_blank, turn_visible, by_lit, by_own, first_is, own_is}
+use Rattle.cert_stream.proofs.Scanning.{scan_more, scan_bad}
 use Rattle.hint_stream.proofs.Wording.{after_first, alone_says, first_alone}
 use Rattle.hint_stream.proofs.Speaking.{speak, bad_ever}
 use Rattle.hint_stream.proofs.Tails.{Tail}
@@ -103,14 +103,14 @@ module _ (vars : ℕ) (ended fed counted : Bool) (broken going more : List HintS
         | Reads id ↦ cond w.done (named_says vars counted broken more w.place id ws) []
       ]
 
-  pub says_word : (s : Scanned ℕ) (w : Word) (ws : List Word) → scan own_next 0 w.text ≡ s → on_words (w ∷ ws) ≡ word_says s w ws
+  pub says_word : (s : Scanned ℕ) (w : Word) (ws : List Word) → scan_by own_next 0 w.text ≡ s → on_words (w ∷ ws) ≡ word_says s w ws
   says_word s w ws e = ap (λ z. word_says z w ws) e
 
   abbrev Again : List ℕ → Type 0
-  Again bs = (taken n c : ℕ) (q : List ℕ) → scan own_next 0 (c ∷ q) ≡ Reads n → place + length (c ∷ q) ≡ taken → taken + length bs ≡ feed
+  Again bs = (taken n c : ℕ) (q : List ℕ) → scan_by own_next 0 (c ∷ q) ≡ Reads n → place + length (c ∷ q) ≡ taken → taken + length bs ≡ feed
       → speak ended (wire vars taken place (InId n) nothing) (bs ++ tail) ≡ on_words (words_from fed taken (c ∷ q) bs)
 
-  module _ (bs : List ℕ) (again : Again bs) (taken n c : ℕ) (q : List ℕ) (b : ℕ) (e : scan own_next 0 (c ∷ q) ≡ Reads n) (at : place + length (c ∷ q) ≡ taken) (m : taken + 1 + length bs ≡ feed) where
+  module _ (bs : List ℕ) (again : Again bs) (taken n c : ℕ) (q : List ℕ) (b : ℕ) (e : scan_by own_next 0 (c ∷ q) ≡ Reads n) (at : place + length (c ∷ q) ≡ taken) (m : taken + 1 + length bs ≡ feed) where
     own_next_text : (next : Result ℕ WireFaultKind) → own_next n b ≡ next
         → (let z = with_count taken (by_own (wire vars taken place (InId n) nothing) next) in told_by z.to z.event ++ speak ended z.to (bs ++ tail)) ≡ on_words (words_from fed (taken + 1) (c ∷ q ++ b ∷ []) bs)
     own_next_text (Ok to) x =
@@ -123,7 +123,7 @@ module _ (vars : ℕ) (ended fed counted : Bool) (broken going more : List HintS
         bad_ever ended (record { kind = k; byte = taken }) vars (taken + 1) place nothing (bs ++ tail)
         ∙ sym (ap on_words w.are
         ∙ says_word (Misfit k (length (c ∷ q))) w.word w.others
-        (ap (scan own_next 0) (w.text ∙ append_assoc (c ∷ q) (b ∷ []) w.more) ∙ scan_bad own_next 0 n (c ∷ q) b w.more k e x)
+        (ap (scan_by own_next 0) (w.text ∙ append_assoc (c ∷ q) (b ∷ []) w.more) ∙ scan_bad own_next 0 n (c ∷ q) b w.more k e x)
         ∙ ap (bad k) there)
 
   -- from a digit of the line's own id on

@@ -1,9 +1,10 @@
 -- The loop over a piece.
-use Rattle.std.proofs.Common.{◌≡◌, ℕ, zero, suc, ◌+◌, ◌<◌, ◌≤◌, Bool, true, false, List, [], ◌∷◌, ◌++◌, length, drop, get_or, Option, Some, None, refl, ap, sym, ◌∙◌, inl, inr, arith, subst}
+use Rattle.std.proofs.Common.{◌≡◌, ℕ, ◌+◌, ◌<◌, ◌≤◌, Bool, true, false, List, ◌∷◌, ◌++◌, length, drop, get_or, Option, Some, None, refl, ap, sym, ◌∙◌, inl, inr, arith, subst}
 use Rattle.std.proofs.lemmas.List.{drop_more, drop_all}
+use Rattle.cert_stream.specs.Telling.{Gets}
 use Rattle.cert_stream.specs.declared.mode.Event.{Event}
 use Rattle.hint_stream.specs.Machine.{HintOf, Turn, turn}
-use Rattle.hint_stream.specs.Telling.{HintSaying, Gets, after, said, saying, told_by}
+use Rattle.hint_stream.specs.Telling.{HintSaying, after, said, saying, told_by}
 
 -- what is still to come of the piece, from the wire w and the receiver x on, makes the whole of it
 pub record Left {A : Type 0} (gets : A → HintSaying → A → Type 0) (stops : A → Bool) (start : HintOf) (first : A) (piece : List ℕ) (w : HintOf) (x : A) (i : ℕ) : Type 0 where

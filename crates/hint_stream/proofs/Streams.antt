@@ -1,9 +1,9 @@
 -- The bytes of a hinted stream say what its lines say.
-use Rattle.std.proofs.Common.{◌≡◌, ℕ, zero, suc, ◌+◌, ◌≤◌, Bool, true, false, List, [], ◌∷◌, ◌++◌, length, refl, ap, sym, ◌∙◌, inl, inr, arith}
+use Rattle.std.proofs.Common.{◌≡◌, ℕ, zero, suc, ◌+◌, ◌≤◌, Bool, true, false, List, [], ◌∷◌, length, refl, ap, sym, ◌∙◌, inl, inr, arith}
 use Rattle.std.proofs.lemmas.List.{append-nil, length-append}
 use Rattle.cert_stream.specs.Text.{lines_of, words_from}
 use Rattle.cert_stream.specs.declared.mode.WireFaultKind.TheVariants.{BadLine}
-use Rattle.cert_stream.proofs.Streams.{HasFeed, IsLast, cut, some_line}
+use Rattle.cert_stream.proofs.Streams.{IsLast, cut, some_line}
 use Rattle.hint_stream.specs.Telling.{fresh, spoken}
 use Rattle.hint_stream.specs.Lines.{bad, line_says, lines_say, sayings}
 use Rattle.hint_stream.proofs.Turning.{nothing}

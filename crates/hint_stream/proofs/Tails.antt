@@ -3,13 +3,12 @@ use Rattle.std.proofs.Common.{◌≡◌, ℕ, ◌+◌, ◌-◌, ◌≤◌, Bool,
 use Rattle.std.proofs.lemmas.Bool.{cases_Bool}
 use Rattle.cnf_form.specs.Cnf.{LitOf}
 use Rattle.cert_stream.specs.Text.{Word}
-use Rattle.cert_stream.specs.Scan.{Scanned as LitScanned, Reads as LitReads, Misfit as LitMisfit}
+use Rattle.cert_stream.specs.Scan.{Scanned, Reads, Misfit}
 use Rattle.cert_stream.specs.declared.mode.WireFaultKind.TheVariants.{BadLine, BadLiteral}
 use Rattle.cert_stream.specs.declared.mode.Part.{Part}
 use Rattle.cert_stream.specs.declared.mode.Part.TheVariants.{Gap, Minus, Zero, Digits}
 use Rattle.hint_stream.specs.Telling.{HintSaying, IsValuesEnd, IsUnknown}
-use Rattle.hint_stream.specs.Scan.{Scanned, Reads, Misfit}
-use Rattle.hint_stream.specs.Lines.{bad, behind_says, heard_says, ids_ended, ids_say, lits_ended, lits_say, unended_says}
+use Rattle.hint_stream.specs.Lines.{bad, behind_says, heard_says, ids_ended, ids_say, lits_ended, lits_say}
 use Rattle.hint_stream.specs.declared.mode.Hint.{Hint}
 use Rattle.hint_stream.specs.declared.mode.LitList.{LitList}
 use Rattle.hint_stream.specs.declared.mode.LitList.TheVariants.{Clause, Values}
@@ -22,11 +21,11 @@ use Rattle.hint_stream.proofs.Turning.{Kept, kept, wire}
 use Rattle.hint_stream.proofs.Speaking.{speak, bad_ever, from_line, start_forgets}
 
 -- what a word that is read says, and the words behind it
-abbrev pub lit_word_says : ℕ → LitList → Bool → List HintSaying → List HintSaying → List HintSaying → ℕ → ℕ → List LitOf → LitScanned → Word → List Word → List HintSaying
+abbrev pub lit_word_says : ℕ → LitList → Bool → List HintSaying → List HintSaying → List HintSaying → ℕ → ℕ → List LitOf → Scanned Part → Word → List Word → List HintSaying
 lit_word_says vars kind counted broken going more place id lits s w ws =
     elim s [
-      | LitMisfit k n ↦ bad k (w.place + n)
-      | LitReads part ↦ elim part [
+      | Misfit k n ↦ bad k (w.place + n)
+      | Reads part ↦ elim part [
         | Gap ↦ lits_say vars kind counted broken going more place id lits ws
         | Minus ↦ cond w.done (bad BadLiteral (w.place + length w.text)) []
         | Zero ↦ lits_ended kind w.done counted broken more place id lits ws
@@ -58,7 +57,7 @@ pub record Tail (vars : ℕ) (ended fed counted : Bool) (broken going more : Lis
   pub behind_id : (place : ℕ) (line : Kept) → speak ended (wire vars feed place BehindId line) tail ≡ broken
   pub deletion_head : (place : ℕ) (line : Kept) → speak ended (wire vars feed place DeletionHead line) tail ≡ broken
   pub literals : (place : ℕ) (kind : LitList) (id : ℕ) (lits : List LitOf) (part : Part) (p : List ℕ) → length p ≤ feed → speak ended (wire vars feed place (InLits kind part) (kept id lits [])) tail
-      ≡ lit_word_says vars kind counted broken going more place id lits (LitReads part) (record { place = feed - length p; text = p; done = fed }) []
+      ≡ lit_word_says vars kind counted broken going more place id lits (Reads part) (record { place = feed - length p; text = p; done = fed }) []
   pub ids : (place : ℕ) (kind : IdList) (id : ℕ) (lits : List LitOf) (hints : List Hint) (part : IdPart) (p : List ℕ) → length p ≤ feed
       → speak ended (wire vars feed place (InIds kind part) (kept id lits hints)) tail
       ≡ id_word_says kind counted broken more place id lits hints (Reads part) (record { place = feed - length p; text = p; done = fed }) []
@@ -90,7 +89,7 @@ module _ (vars : ℕ) (ended : Bool) (feed : ℕ) (rest : List ℕ) where
       ]
 
   literals_fed : (place : ℕ) (kind : LitList) (id : ℕ) (lits : List LitOf) (part : Part) (p : List ℕ) → length p ≤ feed → speak ended (wire vars feed place (InLits kind part) (kept id lits [])) (10 ∷ rest)
-      ≡ lit_word_says vars kind true broken going more place id lits (LitReads part) (record { place = feed - length p; text = p; done = true }) []
+      ≡ lit_word_says vars kind true broken going more place id lits (Reads part) (record { place = feed - length p; text = p; done = true }) []
   literals_fed place Clause id lits Gap p n = bad_ever ended (record { kind = BadLine; byte = feed }) vars (feed + 1) place (kept id lits []) rest
   literals_fed place Values id lits Gap p n = start_forgets ended vars (feed + 1) place true (kept id lits []) rest
   literals_fed place kind id lits Minus p n = bad_ever ended (record { kind = BadLiteral; byte = feed }) vars (feed + 1) place (kept id lits []) rest ∙ ap (bad BadLiteral) (omega arith)
@@ -132,7 +131,7 @@ none_says false = refl
 
 module _ (vars : ℕ) (ended : Bool) (feed : ℕ) where
   literals_last : (place : ℕ) (kind : LitList) (id : ℕ) (lits : List LitOf) (part : Part) (p : List ℕ) → length p ≤ feed → speak ended (wire vars feed place (InLits kind part) (kept id lits [])) []
-      ≡ lit_word_says vars kind ended [] [] [] place id lits (LitReads part) (record { place = feed - length p; text = p; done = false }) []
+      ≡ lit_word_says vars kind ended [] [] [] place id lits (Reads part) (record { place = feed - length p; text = p; done = false }) []
   literals_last place Clause id lits Gap p n = refl
   literals_last place Values id lits Gap p n = refl
   literals_last place Clause id lits Minus p n = refl

@@ -2,13 +2,13 @@
 use Rattle.std.specs.Prelude.{ℕ, ◌+◌, Bool, true, false, cond, ◌&&◌, ◌||◌, eqb, leb, List, [], ◌∷◌, ◌++◌, length, slice_index}
 use Rattle.cnf_form.specs.Cnf.{LitOf}
 use Rattle.cert_stream.specs.Text.{Word, is_digit, lines_of, words_from}
-use Rattle.cert_stream.specs.Scan.{Reads as LitReads, Misfit as LitMisfit, scan as lit_scan}
+use Rattle.cert_stream.specs.Scan.{Reads, Misfit, scan_by, scan}
 use Rattle.cert_stream.specs.Stream.{is_unknown}
 use Rattle.cert_stream.specs.declared.mode.WireFaultKind.{WireFaultKind}
 use Rattle.cert_stream.specs.declared.mode.WireFaultKind.TheVariants.{BadLine, BadLiteral}
 use Rattle.cert_stream.specs.declared.mode.Part.TheVariants.{Gap, Minus, Zero, Digits}
 use Rattle.hint_stream.specs.Telling.{HintSaying, IsClause, IsDelete, IsValue, IsValuesEnd, IsUnknown, IsFault}
-use Rattle.hint_stream.specs.Scan.{Reads, Misfit, own_next, part_next, scan}
+use Rattle.hint_stream.specs.Scan.{part_next, own_next}
 use Rattle.hint_stream.specs.declared.mode.Hint.{Hint}
 use Rattle.hint_stream.specs.declared.mode.TheConstants.{MAX_HINTS}
 use Rattle.hint_stream.specs.declared.mode.LitList.{LitList}
@@ -36,7 +36,7 @@ ids_ended Deletion place id lits hints = IsDelete hints
 abbrev pub ids_say : IdList → Bool → List HintSaying → List HintSaying → ℕ → ℕ → List LitOf → List Hint → List Word → List HintSaying
 ids_say kind counted broken more place id lits hints [] = broken
 ids_say kind counted broken more place id lits hints (w ∷ ws) =
-    elim (scan (part_next kind (leb MAX_HINTS (length hints)) w.place) IdGap w.text) [
+    elim (scan_by (part_next kind (leb MAX_HINTS (length hints)) w.place) IdGap w.text) [
       | Misfit k n ↦ bad k (w.place + n)
       | Reads part ↦ elim part [
         | IdGap ↦ ids_say kind counted broken more place id lits hints ws
@@ -65,9 +65,9 @@ lits_ended Values done counted broken more place id lits ws = cond (done || coun
 abbrev pub lits_say : ℕ → LitList → Bool → List HintSaying → List HintSaying → List HintSaying → ℕ → ℕ → List LitOf → List Word → List HintSaying
 lits_say vars kind counted broken going more place id lits [] = unended_says kind broken going
 lits_say vars kind counted broken going more place id lits (w ∷ ws) =
-    elim (lit_scan vars (leb vars (length lits)) Gap w.text) [
-      | LitMisfit k n ↦ bad k (w.place + n)
-      | LitReads part ↦ elim part [
+    elim (scan vars (leb vars (length lits)) Gap w.text) [
+      | Misfit k n ↦ bad k (w.place + n)
+      | Reads part ↦ elim part [
         | Gap ↦ lits_say vars kind counted broken going more place id lits ws
         | Minus ↦ cond w.done (bad BadLiteral (w.place + length w.text)) []
         | Zero ↦ lits_ended kind w.done counted broken more place id lits ws
@@ -95,7 +95,7 @@ named_says vars counted broken more place id (w ∷ ws) = named_by vars counted 
 -- a hinted line: its id, then the rest once white space or a line feed follows it
 abbrev pub hinted_says : ℕ → Bool → List HintSaying → List HintSaying → Word → List Word → List HintSaying
 hinted_says vars counted broken more w ws =
-    elim (scan own_next 0 w.text) [
+    elim (scan_by own_next 0 w.text) [
       | Misfit k n ↦ bad k (w.place + n)
       | Reads id ↦ cond w.done (named_says vars counted broken more w.place id ws) []
     ]

@@ -1,5 +1,5 @@
 -- An id's word, read from the left.
-use Rattle.std.specs.Prelude.{ℕ, ◌+◌, Bool, true, false, cond, not, eqb, List, [], ◌∷◌, Result, Ok, Err}
+use Rattle.std.specs.Prelude.{ℕ, Bool, true, false, cond, not, eqb, Result, Ok, Err}
 use Rattle.cert_stream.specs.Machine.{with_digit}
 use Rattle.cert_stream.specs.declared.mode.WireFaultKind.{WireFaultKind}
 use Rattle.cert_stream.specs.declared.mode.WireFaultKind.TheVariants.{BadLiteral, LineTooLong}
@@ -7,20 +7,6 @@ use Rattle.hint_stream.specs.Machine.{begins_id, hint, id_goes_on}
 use Rattle.hint_stream.specs.declared.mode.IdList.{IdList}
 use Rattle.hint_stream.specs.declared.mode.IdPart.{IdPart}
 use Rattle.hint_stream.specs.declared.mode.IdPart.TheVariants.{Gap, Minus, Zero, Digits}
-
--- what a word is: a part of its kind, or no such word from one of its bytes on
-pub data Scanned (A : Type 0) : Type 0 where
-  Reads : A → Scanned A
-  Misfit : WireFaultKind → ℕ → Scanned A
-
-abbrev pub shift : {A : Type 0} → ℕ → Scanned A → Scanned A
-shift n (Reads part) = Reads part
-shift n (Misfit kind m) = Misfit kind (n + m)
-
--- all bytes, one after the other, by what one byte more makes of a part
-abbrev pub scan : {A : Type 0} → (A → ℕ → Result A WireFaultKind) → A → List ℕ → Scanned A
-scan next part [] = Reads part
-scan next part (b ∷ bs) = elim (next part b) [ Ok more ↦ shift 1 (scan next more bs) | Err kind ↦ Misfit kind 0 ]
 
 -- a line's own id, of which 0 is what has no digit
 abbrev pub own_next : ℕ → ℕ → Result ℕ WireFaultKind

@@ -1,5 +1,5 @@
 -- What bytes say, and what is kept of them.
-use Rattle.std.specs.Prelude.{◌≡◌, ◌⊎◌, ℕ, Bool, true, false, cond, List, [], ◌∷◌, ◌++◌, Option, Some, None}
+use Rattle.std.specs.Prelude.{◌≡◌, ℕ, Bool, false, cond, List, [], ◌∷◌, ◌++◌, Option, Some, None}
 use Rattle.cnf_form.specs.Cnf.{LitOf}
 use Rattle.cert_stream.specs.declared.mode.WireFault.{WireFault}
 use Rattle.cert_stream.specs.declared.mode.Event.{Event}
@@ -45,12 +45,6 @@ fresh vars = record { vars = vars; taken = 0; place = 0; mode = Start false; id 
 -- the bytes so far: nothing else is kept of them
 abbrev pub StandsFor : ℕ → HintOf → List ℕ → Type 0
 StandsFor vars w bytes = w ≡ after (fresh vars) bytes
-
--- A receiver that is x gets the sayings one after the other until it stops, and is y then; `stopped` tells whether it stopped.
-abbrev pub Gets : {A : Type 0} → (A → HintSaying → A → Type 0) → (A → Bool) → A → List HintSaying → A → Bool → Type 0
-Gets gets stops x [] y stopped = (x ≡ y) × (stopped ≡ false)
-Gets gets stops x (s ∷ ss) y stopped =
-    (z : _) × gets x s z × (((stops z ≡ true) × (z ≡ y) × (stopped ≡ true)) ⊎ ((stops z ≡ false) × Gets gets stops z ss y stopped))
 
 abbrev pub fault_said : Option WireFault → List HintSaying
 fault_said None = []

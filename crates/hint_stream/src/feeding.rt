@@ -3,9 +3,9 @@
 ghost use Rattle.std.specs.Prelude.{◌≡◌, ℕ, ◌+◌, ◌<◌, ◌≤◌, ◌^◌, Bool, true, false, List, length, Option, Some, None, IfOk};
 ghost use Rattle.cnf_form.specs.Cnf.{LitWithin, ClauseWithin};
 ghost use Rattle.cert_stream.specs.Machine.{IsEventWithin};
-ghost use Rattle.cert_stream.specs.Telling.{answer, is_stopped};
+ghost use Rattle.cert_stream.specs.Telling.{Gets, answer, is_stopped};
 ghost use Rattle.hint_stream.specs.Machine.{HintOf, at_end, fault_of};
-ghost use Rattle.hint_stream.specs.Telling.{HintSaying, IsClause, IsDelete, IsValue, IsValuesEnd, IsUnknown, Gets, after, said, saying, told_by};
+ghost use Rattle.hint_stream.specs.Telling.{HintSaying, IsClause, IsDelete, IsValue, IsValuesEnd, IsUnknown, after, said, saying, told_by};
 
 use crate::mode::Hint;
 use crate::wire::HintWire;

@@ -10,15 +10,14 @@ use Rattle.proof_judge.specs.Fate.{FateOf as FileOver, FateSoFar as FileSoFar, I
 use Rattle.proof_judge.specs.Judging.{Ends as ProofEnds, Feeds as ProofFeeds, IsSameJudge as IsSameFile, JudgeOf as ProofJudgeOf, Stands as ProofStands, StandsBy as ProofStandsBy}
 use Rattle.proof_stream.specs.declared.spot.Form.{Form}
 use Rattle.proof_stream.specs.declared.spot.Form.TheVariants.{Text, Binary}
-use Rattle.sby_terms.specs.declared.names.Answer.TheVariants.{Unsat}
 use Rattle.stream_judge.proofs.Coming.{refuted_at_end, refuted_so_far}
-use Rattle.stream_judge.specs.Fate.{Fate, FateOf, Found}
+use Rattle.stream_judge.specs.Fate.{Fate, FateOf}
 use Rattle.stream_judge.specs.Judging.{AreValuesOf, AreValuesTold, Ends as StreamEnds, Feeds as StreamFeeds, HasOutcome, IsSameJudge as IsSameStream, JudgeOf as StreamJudgeOf, Stands as StreamStands, StandsBy}
 use Rattle.stream_judge.specs.Outcomes.{fate_of, fate_told}
 use Rattle.stream_judge.specs.declared.stream.Outcome.{Outcome}
 use Rattle.stream_judge.specs.declared.stream.Outcome.TheVariants.{Refuted, Satisfied, Unknown, Bad}
 use Rattle.kind_judge.specs.Fates.{IsFate, IsFateSoFar}
-use Rattle.kind_judge.specs.Judging.{Feeds, IsOver, IsSameJudge, KindOf, OfDrup, OfHints, OfFile, file_kind}
+use Rattle.kind_judge.specs.Judging.{Feeds, IsOver, IsSameJudge, OfDrup, OfHints, OfFile, file_kind}
 
 -- the same formula and number of bytes
 pub same_drup : (old new : StreamJudgeOf) → IsSameStream old new → IsSameJudge (OfDrup old) (OfDrup new)

@@ -1,5 +1,5 @@
 -- A judge of a stream of any kind, and what its answers tell.
-use Rattle.std.specs.Prelude.{◌≡◌, ℕ, Bool, true, false, List, [], ◌++◌, Option, Some, None}
+use Rattle.std.specs.Prelude.{◌≡◌, ℕ, Bool, true, false, List, [], Option, Some}
 use Rattle.cnf_form.specs.Cnf.{FormulaOf, IsUnsatisfiable}
 use Rattle.cnf_form.specs.Dimacs.{IsDimacs}
 use Rattle.hint_judge.specs.Judging.{JudgeOf as HintJudgeOf, Stands as HintStands}

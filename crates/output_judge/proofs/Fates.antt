@@ -11,6 +11,7 @@ use Rattle.sby_terms.specs.declared.names.Answer.{Answer}
 use Rattle.sby_terms.specs.declared.names.Answer.TheVariants.{Sat, Unsat}
 use Rattle.stream_judge.specs.declared.stream.CertKind.TheVariants.{BadLine, BadLiteral, LineTooLong, NotRup, NotSatisfying, TooLong, EarlyEnd, BadId, BadHint, NotHinted}
 use Rattle.stream_judge.specs.Values.{named, unnamed}
+use Rattle.stream_judge.proofs.Bounding.{some_same}
 use Rattle.stream_judge.proofs.Coming.{sides}
 use Rattle.stream_judge.proofs.Fates.{fate_at_end, fate_stays, file_fate, file_refuted, file_satisfied}
 use Rattle.output_judge.specs.Fate.{IsOutputFate, IsOutputFateSoFar, own_fate}
@@ -58,9 +59,6 @@ not_satisfying_late n false = refl
 pub too_long_late : (n : ℕ) → IsLate (Bad TooLong n)
 too_long_late n true = refl
 too_long_late n false = refl
-
-some_same : (x y : Fate) → (let o : Option Fate = Some x in o) ≡ Some y → x ≡ y
-some_same x y e = let k = e in cc
 
 late : (x y : Fate) → (let o : Option Fate = Some x in o) ≡ Some y → IsLate y → IsLate x
 late x y e h = subst IsLate (sym (some_same x y e)) h

@@ -1,18 +1,12 @@
 -- What bytes hand on, one after the other.
-use Rattle.std.proofs.Common.{◌≡◌, ℕ, zero, suc, ◌+◌, ◌-◌, ◌<◌, ◌≤◌, Bool, true, List, [], ◌∷◌, ◌++◌, length, take, drop, get_or, refl, ap, sym, ◌∙◌, arith, subst, append_assoc}
-use Rattle.std.specs.Prelude.{slice_index}
+use Rattle.std.proofs.Common.{◌≡◌, ℕ, zero, suc, ◌+◌, ◌-◌, ◌<◌, ◌≤◌, Bool, List, [], ◌∷◌, ◌++◌, length, take, drop, get_or, refl, ap, sym, ◌∙◌, arith, subst, append_assoc}
 use Rattle.std.proofs.lemmas.List.{append-nil, take_rest}
-use Rattle.memchr.specs.Find.{is_byte}
 use Rattle.cert_stream.specs.Text.{NoFeed}
-use Rattle.cert_stream.proofs.Passing.{no_feed_take as stream_no_feed_take}
 use Rattle.stream_judge.specs.Judging.{JudgeOf, Stands as StreamStands}
 use Rattle.output_judge.specs.Judging.{Gave, Goes, OutputOf}
 use Rattle.output_judge.specs.Spots.{given, given_by, next_spot, spot_after, values_after, values_behind}
 use Rattle.output_judge.specs.declared.spot.Spot.{Spot}
 use Rattle.output_judge.specs.declared.spot.Spot.TheVariants.{Within}
-
-pub no_feed_take : (bytes : List ℕ) (n : ℕ) → n ≤ length bytes → ((k : ℕ) → 0 ≤ k → k < n → is_byte 10 (slice_index bytes k) ≡ true → ⊥) → NoFeed (take n bytes)
-no_feed_take = stream_no_feed_take
 
 -- bytes behind others
 pub spot_append : (spot : Spot) (a b : List ℕ) → spot_after spot (a ++ b) ≡ spot_after (spot_after spot a) b

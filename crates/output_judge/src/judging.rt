@@ -39,7 +39,7 @@ impl<'a> Model for OutputJudge<'a> {
 }
 
 // How many bytes stand before the first line feed.
-#[tactic(auto, using(crate::proofs::Feeding::no_feed_take))]
+#[tactic(auto, using(cert_stream::proofs::Passing::no_feed_take))]
 fn before_feed(bytes: &[u8]) -> usize
     ensures within { result ≤ length bytes.now }
     ensures none { NoFeed (take result bytes.now) }

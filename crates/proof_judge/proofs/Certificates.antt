@@ -9,7 +9,7 @@ use Rattle.cert_stream.specs.Stream.{lines_say, sayings}
 use Rattle.cert_stream.specs.Telling.{Saying, IsClause, IsDelete, IsValue, IsValuesEnd, IsUnknown, IsFault}
 use Rattle.sby_terms.specs.declared.names.Answer.TheVariants.{Unsat}
 use Rattle.stream_judge.specs.Cert.{IsCert, IsCertOf}
-use Rattle.stream_judge.specs.Fate.{Fate, Found, Unknown, Bad, FateSoFar as StreamSoFar, FateOf as StreamFate, ComesTo as StreamComesTo}
+use Rattle.stream_judge.specs.Fate.{Found, FateSoFar as StreamSoFar, FateOf as StreamFate, ComesTo as StreamComesTo}
 use Rattle.stream_judge.specs.Values.{unnamed}
 use Rattle.stream_judge.proofs.Accepting.{cert_fate}
 use Rattle.stream_judge.proofs.Certs.{fate_cert}
@@ -24,8 +24,8 @@ use Rattle.proof_stream.specs.declared.spot.LineKind.TheVariants.{Clause, Deleti
 use Rattle.proof_stream.specs.declared.spot.Form.TheVariants.{Text}
 use Rattle.proof_stream.proofs.Files.{file_spoken}
 use Rattle.proof_stream.proofs.Spelling.{text_lines, text_said}
-use Rattle.proof_judge.specs.Fate.{ComesTo, FateOf, IsProofFate, at_end, tried}
-use Rattle.proof_judge.proofs.Fates.{comes_more}
+use Rattle.proof_judge.specs.Fate.{ComesTo, FateOf, IsProofFate, tried}
+use Rattle.proof_judge.proofs.Fates.{comes_more, found_at_end}
 use Rattle.proof_judge.proofs.Spelling.{Comes, comes_of, empty, said_tried}
 
 abbrev Finds : Clauses → List Saying → Type 0
@@ -99,15 +99,10 @@ module _ (f : FormulaOf) (ls : List ProofLine) (t : List ℕ) (most : ℕ) (h : 
   whole_said =
       subst (λ z. AreSaid (ls ++ empty ∷ []) (lines_say f.vars false false 0 (lines_of z))) (append-nil whole) (text_said f.vars (ls ++ empty ∷ []) 0 whole [] (last_line f.vars 0 t ls h) (λ at. refl))
 
-  found_value : (n : ℕ) (v : Fate) → Found Unsat ≡ at_end n v → v ≡ Found Unsat
-  found_value n (Found a) e = sym e
-  found_value n Unknown e = absurd (let k = e in cc)
-  found_value n (Bad kind byte) e = absurd (let k = e in cc)
-
   found_tried : Comes f ls most (length t) (Found Unsat) → (us : List Saying) × AreSaid (ls ++ empty ∷ []) us × Finds f.clauses us
   found_tried (inl (ss, a, k)) = (tried (length t) ss, said_tried ls ss (length t) a, comes_more f.clauses ss (IsClause [] (length t) ∷ []) (Found Unsat) k)
   found_tried (inr (ss, a, k, us, v, c, i, e)) =
-      (tried (length t) us, said_tried ls us (length t) c, subst (λ z. ComesTo f.clauses (tried (length t) us) (Some z)) (found_value (length t) v e) i)
+      (tried (length t) us, said_tried ls us (length t) c, subst (λ z. ComesTo f.clauses (tried (length t) us) (Some z)) (found_at_end (length t) v e) i)
 
   pub found_cert : FateOf f Text t most (Found Unsat) → (n : ℕ) × (n ≤ length whole) × IsCertOf f (take n whole) Unsat
   found_cert k =

@@ -1,5 +1,5 @@
 -- Fates: one, and for good.
-use Rattle.std.proofs.Common.{◌≡◌, ℕ, ◌-◌, ◌+◌, ◌≤◌, true, false, List, [], ◌∷◌, ◌++◌, length, take, Option, Some, None, refl, sym, ap, ◌∙◌, subst, inl, inr, arith}
+use Rattle.std.proofs.Common.{◌≡◌, ℕ, ◌-◌, ◌≤◌, true, false, List, [], ◌∷◌, ◌++◌, length, take, Option, Some, None, refl, sym, ap, ◌∙◌, subst, inl, inr, arith}
 use Rattle.std.specs.Prelude.{Contains}
 use Rattle.std.proofs.lemmas.List.{take-append-le, length-append}
 use Rattle.cnf_form.specs.Cnf.{FormulaOf, IsUnsatisfiable}
@@ -13,7 +13,7 @@ use Rattle.sby_terms.specs.declared.names.Answer.TheVariants.{Sat, Unsat}
 use Rattle.stream_judge.specs.declared.stream.CertKind.TheVariants.{TooLong}
 use Rattle.stream_judge.specs.Fate.{Fate, Found, Unknown, Bad}
 use Rattle.stream_judge.proofs.Coming.{sides}
-use Rattle.stream_judge.proofs.Fates.{take_front}
+use Rattle.stream_judge.proofs.Bounding.{some_same, take_past}
 use Rattle.stream_judge.proofs.Deletions.{Clauses, Alike, alike_itself, alike_admitted, admitted_alike, alike_more, alike_deleted}
 use Rattle.proof_stream.specs.File.{fresh, spoken}
 use Rattle.proof_stream.specs.Lines.{FileSays}
@@ -77,8 +77,11 @@ never_satisfied F (IsValuesEnd ∷ ss) h = never_satisfied F ss h
 never_satisfied F (IsUnknown ∷ ss) h = never_satisfied F ss h
 never_satisfied F (IsFault f ∷ ss) e = absurd (let k = e in cc)
 
-pub some_same : (x y : Fate) → Some x ≡ Some y → x ≡ y
-some_same x y e = cc
+-- what the end makes a certificate was one
+pub found_at_end : (n : ℕ) (x : Fate) → Found Unsat ≡ at_end n x → x ≡ Found Unsat
+found_at_end n (Found a) e = sym e
+found_at_end n Unknown e = absurd (let k = e in cc)
+found_at_end n (Bad kind byte) e = absurd (let k = e in cc)
 
 module _ (f : FormulaOf) (form : Form) (most : ℕ) where
   abbrev pub spoken_so_far : List ℕ → List Saying
@@ -92,11 +95,6 @@ module _ (f : FormulaOf) (form : Form) (most : ℕ) where
   comes_on bytes rest x h =
       let w = spoken_more (fresh form f.vars) bytes rest in
       subst (λ (z : List Saying). ComesTo f.clauses z (Some x)) (sym w.1) (comes_more f.clauses (spoken_so_far bytes) w.0 x h)
-
-  take_past : (bytes rest : List ℕ) → length bytes ≤ most → take most (bytes ++ rest) ≡ bytes ++ take (most - length bytes) rest
-  take_past bytes rest h =
-      let e : take (length bytes + (most - length bytes)) (bytes ++ rest) ≡ bytes ++ take (most - length bytes) rest = take_front bytes rest (most - length bytes) in
-      subst (λ n. take n (bytes ++ rest) ≡ bytes ++ take (most - length bytes) rest) (omega arith) e
 
   abbrev Beyond : List ℕ → Option Fate → Type 0
   Beyond bytes fate = (ss : List Saying) × (x : Option Fate) × FileSays form f.vars false (take most bytes) ss × ComesTo f.clauses ss x × (fate ≡ Some (fate_or x (Bad TooLong most)))
@@ -113,7 +111,7 @@ module _ (f : FormulaOf) (form : Form) (most : ℕ) where
                 spoken_so_far (take most (bytes ++ rest)),
                 Some x,
                 file_spoken form f.vars false (take most (bytes ++ rest)),
-                subst (λ z. ComesTo f.clauses (spoken_so_far z) (Some x)) (sym (take_past bytes rest l)) (comes_on bytes (take (most - length bytes) rest) x k),
+                subst (λ z. ComesTo f.clauses (spoken_so_far z) (Some x)) (sym (take_past most bytes rest l)) (comes_on bytes (take (most - length bytes) rest) x k),
                 refl,
               );
             }
@@ -158,11 +156,6 @@ module _ (f : FormulaOf) (form : Form) (most : ℕ) where
   found_or : (x : Option Fate) → Some (Found Unsat) ≡ Some (fate_or x (Bad TooLong most)) → x ≡ Some (Found Unsat)
   found_or None e = absurd (let k = e in cc)
   found_or (Some x) e = sym e
-
-  found_at_end : (n : ℕ) (x : Fate) → Found Unsat ≡ at_end n x → x ≡ Found Unsat
-  found_at_end n (Found a) e = sym e
-  found_at_end n Unknown e = absurd (let k = e in cc)
-  found_at_end n (Bad kind byte) e = absurd (let k = e in cc)
 
   pub refuted_so_far : (bytes : List ℕ) → FateSoFar f form bytes most (Some (Found Unsat)) → IsUnsatisfiable f.clauses
   refuted_so_far bytes h =

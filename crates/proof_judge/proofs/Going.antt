@@ -5,9 +5,10 @@ use Rattle.std.proofs.lemmas.List.{append-nil}
 use Rattle.cnf_form.specs.Cnf.{LitOf}
 use Rattle.cert_stream.specs.Machine.{WireOf, fault_of, turn}
 use Rattle.cert_stream.specs.Telling.{Saying, fault_said, told_by}
-use Rattle.cert_stream.specs.declared.mode.Mode.{Mode}
 use Rattle.cert_stream.specs.declared.mode.Mode.TheVariants.{Bad}
 use Rattle.cert_stream.specs.declared.mode.WireFault.{WireFault}
+use Rattle.cert_stream.proofs.Faults.{with_mode}
+use Rattle.cert_stream.proofs.GoingOn.{Starts}
 use Rattle.proof_stream.specs.Text.{fault_or, is_claim, text_says}
 use Rattle.proof_stream.specs.Binary.{BinaryOf, binary_told, binary_turn, spot_fault}
 use Rattle.proof_stream.specs.File.{FileOf, InText, InBinary, after, end_fault, end_says, fault, next, said, says, spoken}
@@ -15,9 +16,6 @@ use Rattle.proof_stream.specs.declared.spot.Spot.TheVariants.{Bad as BadSpot}
 use Rattle.proof_stream.proofs.Cutting.{after_append, said_append}
 use Rattle.proof_stream.proofs.Faults.{fault_stays, mode_bad, next_stays, spot_bad}
 use Rattle.proof_stream.proofs.Passing.{text}
-
-abbrev moded : WireOf → Mode → WireOf
-moded w m = record w { mode = m }
 
 module _ (f : WireFault) where
   bad_event : (vars taken place : ℕ) (lits : List LitOf) (b : ℕ) → (turn (record { vars = vars; taken = taken; place = place; mode = Bad f; lits = lits }) b).event ≡ None
@@ -29,7 +27,7 @@ module _ (f : WireFault) where
 
   bad_told : (w : WireOf) (b : ℕ) → w.mode ≡ Bad f → told_by (turn w b).to (turn w b).event ≡ []
   bad_told w b e =
-      let k : (turn w b).event ≡ None = subst (λ m. (turn (moded w m) b).event ≡ None) (sym e) (bad_event w.vars w.taken w.place w.lits b) in
+      let k : (turn w b).event ≡ None = subst (λ m. (turn (with_mode w m) b).event ≡ None) (sym e) (bad_event w.vars w.taken w.place w.lits b) in
       ap (told_by (turn w b).to) k
 
   or_none : (o : Option WireFault) → fault_or o None ≡ Some f → o ≡ Some f
@@ -58,11 +56,7 @@ module _ (f : WireFault) where
   end_quiet (InText t) e = (said_quiet (InText t) (10 ∷ []) e, fault_stays (InText t) (10 ∷ []) f e)
   end_quiet (InBinary w) e = (refl, let k : w.spot ≡ BadSpot f = spot_bad f w.spot e in rw k refl)
 
--- what comes then
-abbrev More : List Saying → List Saying → Type 0
-More all front = (more : List Saying) × (all ≡ front ++ more)
-
-on_by : (o : Option WireFault) (s rest tail : List Saying) → ((f : WireFault) → o ≡ Some f → (rest ++ tail) ≡ fault_said (Some f)) → More ((s ++ rest) ++ tail) (s ++ fault_said o)
+on_by : (o : Option WireFault) (s rest tail : List Saying) → ((f : WireFault) → o ≡ Some f → (rest ++ tail) ≡ fault_said (Some f)) → Starts (s ++ fault_said o) ((s ++ rest) ++ tail)
 on_by None s rest tail h = (rest ++ tail, append_assoc s rest tail ∙ ap (λ z. z ++ (rest ++ tail)) (sym (append-nil s)))
 on_by (Some f) s rest tail h = ([], append_assoc s rest tail ∙ ap (λ z. s ++ z) (h f refl) ∙ sym (append-nil (s ++ fault_said (Some f))))
 

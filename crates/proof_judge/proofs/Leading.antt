@@ -1,5 +1,5 @@
 -- Sayings lead from one proof to another.
-use Rattle.std.proofs.Common.{◌≡◌, ◌≢◌, ℕ, Bool, true, false, List, [], ◌∷◌, ◌++◌, Option, Some, None, Result, Ok, Err, refl, sym, ap, ◌∙◌, subst, inl, inr, append_assoc}
+use Rattle.std.proofs.Common.{◌≡◌, ◌≢◌, ℕ, Bool, false, List, [], ◌∷◌, ◌++◌, Option, Some, None, Result, Ok, Err, refl, sym, ap, ◌∙◌, subst, inl, inr, append_assoc}
 use Rattle.std.specs.Prelude.{is_some}
 use Rattle.cnf_form.specs.Cnf.{LitOf, FormulaOf, IsAdmitted, Deletes}
 use Rattle.std.proofs.lemmas.List.{append-nil}
@@ -11,6 +11,7 @@ use Rattle.stream_judge.specs.declared.stream.CertKind.TheVariants.{NotRup}
 use Rattle.stream_judge.specs.declared.stream.Outcome.{Outcome}
 use Rattle.stream_judge.specs.declared.stream.Outcome.TheVariants.{Refuted, Bad as BadOutcome}
 use Rattle.stream_judge.specs.Fate.{Fate, cert_kind}
+use Rattle.stream_judge.proofs.Leading.{no_outcome, some_outcome}
 use Rattle.proof_stream.specs.File.{FileOf, after, end_fault, end_says, fault, said, taken_of}
 use Rattle.proof_judge.specs.Fate.{ComesTo}
 use Rattle.proof_judge.specs.Leading.{ProofOf, ComesBy, Leads, Heard, Hears, Tries, concluded, with_outcome}
@@ -41,14 +42,6 @@ module _ (x y : ProofOf) (ss more : List Saying) (o : Outcome) (h : Leads x ss y
 
 abbrev stops : ProofOf → Bool
 stops p = is_some p.outcome
-
-pub some_outcome : (o : Option Outcome) → is_some o ≡ true → (won : Outcome) × (o ≡ Some won)
-some_outcome None e = cc
-some_outcome (Some won) e = (won, refl)
-
-pub no_outcome : (o : Option Outcome) → is_some o ≡ false → o ≡ None
-no_outcome None e = refl
-no_outcome (Some won) e = cc
 
 -- what a receiver gets leads to what it is then
 pub gets_lead : (ss : List Saying) (x y : ProofOf) (stopped : Bool) → x.outcome ≡ None → Gets Hears stops x ss y stopped → Leads x ss y × (is_some y.outcome ≡ stopped)

@@ -15,7 +15,7 @@ use Rattle.cert_stream.specs.declared.mode.Part.TheVariants.{Gap, Minus, Zero, D
 use Rattle.cert_stream.specs.declared.mode.WireFault.{WireFault}
 use Rattle.cert_stream.specs.declared.mode.WireFaultKind.TheVariants.{BadLiteral}
 use Rattle.cert_stream.proofs.Cutting.{after_append, said_append}
-use Rattle.cert_stream.proofs.Faults.{bad_stays}
+use Rattle.cert_stream.proofs.Faults.{bad_stays, with_mode}
 use Rattle.cert_stream.proofs.Streams.{stream_spoken}
 use Rattle.cert_stream.proofs.Turning.{turn_blank, turn_visible}
 use Rattle.sby_terms.specs.declared.names.Answer.TheVariants.{Unsat}
@@ -78,28 +78,25 @@ feed_none w Lost = refl
 turn_none : (w : WireOf) → at_end (turn w 10).to.mode ≡ None
 turn_none w = feed_none (end_word w w.mode).to (end_word w w.mode).to.mode
 
-abbrev moded : WireOf → Mode → WireOf
-moded w m = record w { mode = m }
-
 -- a 0 counts once white space or a line feed follows
 abbrev turned : WireOf → ℕ → List Saying
 turned w b = told_by (turn w b).to (turn w b).event
 
-zero_fed : (w : WireOf) (kind : ListKind) → turned (moded w (InList kind Zero)) 10 ≡ saying w (ended kind) ∷ []
+zero_fed : (w : WireOf) (kind : ListKind) → turned (with_mode w (InList kind Zero)) 10 ≡ saying w (ended kind) ∷ []
 zero_fed w Clause = refl
 zero_fed w Deletion = refl
 zero_fed w Values = refl
 
-zero_parted : (w : WireOf) (kind : ListKind) → (let t = counted w.taken (end_word (moded w (InList kind Zero)) (InList kind Zero)) in told_by t.to t.event) ≡ saying w (ended kind) ∷ []
+zero_parted : (w : WireOf) (kind : ListKind) → (let t = counted w.taken (end_word (with_mode w (InList kind Zero)) (InList kind Zero)) in told_by t.to t.event) ≡ saying w (ended kind) ∷ []
 zero_parted w Clause = refl
 zero_parted w Deletion = refl
 zero_parted w Values = refl
 
-zero_told : (w : WireOf) (kind : ListKind) (b : ℕ) (f : eqb b 10 ≡ false) (t : is_blank b ≡ true) → turned (moded w (InList kind Zero)) b ≡ saying w (ended kind) ∷ []
-zero_told w kind b f t = ap (λ (z : Turn). told_by z.to z.event) (turn_blank (moded w (InList kind Zero)) b f t) ∙ zero_parted w kind
+zero_told : (w : WireOf) (kind : ListKind) (b : ℕ) (f : eqb b 10 ≡ false) (t : is_blank b ≡ true) → turned (with_mode w (InList kind Zero)) b ≡ saying w (ended kind) ∷ []
+zero_told w kind b f t = ap (λ (z : Turn). told_by z.to z.event) (turn_blank (with_mode w (InList kind Zero)) b f t) ∙ zero_parted w kind
 
-zero_bad : (w : WireOf) (kind : ListKind) (b : ℕ) → eqb b 10 ≡ false → is_blank b ≡ false → (turn (moded w (InList kind Zero)) b).to.mode ≡ Bad (record { kind = BadLiteral; byte = w.taken })
-zero_bad w kind b f t = ap (λ (z : Turn). z.to.mode) (turn_visible (moded w (InList kind Zero)) b f t)
+zero_bad : (w : WireOf) (kind : ListKind) (b : ℕ) → eqb b 10 ≡ false → is_blank b ≡ false → (turn (with_mode w (InList kind Zero)) b).to.mode ≡ Bad (record { kind = BadLiteral; byte = w.taken })
+zero_bad w kind b f t = ap (λ (z : Turn). z.to.mode) (turn_visible (with_mode w (InList kind Zero)) b f t)
 
 module _ (C F : List (List LitOf)) (x : Assignment) (vars : ℕ) (cert rest : List ℕ) (ls : List ProofLine) (lines : AreSaid ls (sayings vars false (cert ++ rest))) (u : List ℕ) (fed : cert ++ rest ≡ u ++ 10 ∷ []) where
   abbrev w : WireOf
@@ -132,9 +129,9 @@ module _ (C F : List (List LitOf)) (x : Assignment) (vars : ℕ) (cert rest : Li
 
   -- a 0 that ends the certificate
   module _ (kind : ListKind) (e : w.mode ≡ InList kind Zero) (h : Finds C F x (said (fresh vars) cert ++ saying w (ended kind) ∷ [])) where
-    said_next : (b : ℕ) (bs : List ℕ) → rest ≡ b ∷ bs → turned (moded w (InList kind Zero)) b ≡ saying w (ended kind) ∷ [] → Goal
+    said_next : (b : ℕ) (bs : List ℕ) → rest ≡ b ∷ bs → turned (with_mode w (InList kind Zero)) b ≡ saying w (ended kind) ∷ [] → Goal
     said_next b bs r t =
-        let s : turned w b ≡ saying w (ended kind) ∷ [] = subst (λ m. turned (moded w m) b ≡ saying w (ended kind) ∷ []) (sym e) t in
+        let s : turned w b ≡ saying w (ended kind) ∷ [] = subst (λ m. turned (with_mode w m) b ≡ saying w (ended kind) ∷ []) (sym e) t in
         let tail : List Saying = said (turn w b).to bs ++ fault_said (fault_of (after w rest).mode) in
         let k : more ≡ (saying w (ended kind) ∷ []) ++ tail =
         ap (λ z. said w z ++ fault_said (fault_of (after w rest).mode)) r ∙ append_assoc (turned w b) (said (turn w b).to bs) (fault_said (fault_of (after w rest).mode)) ∙ ap (λ z. z ++ tail) s in
@@ -149,11 +146,11 @@ module _ (C F : List (List LitOf)) (x : Assignment) (vars : ℕ) (cert rest : Li
         absurd (let z = q in cc)
     zero_ends (b ∷ bs) r =
         elim (cases_Bool (eqb b 10)) [
-          | inl t ↦ said_next b bs r (subst (λ z. turned (moded w (InList kind Zero)) z ≡ saying w (ended kind) ∷ []) (sym (eqb-true b 10 t)) (zero_fed w kind))
+          | inl t ↦ said_next b bs r (subst (λ z. turned (with_mode w (InList kind Zero)) z ≡ saying w (ended kind) ∷ []) (sym (eqb-true b 10 t)) (zero_fed w kind))
           | inr f ↦ elim (cases_Bool (is_blank b)) [
             | inl t ↦ said_next b bs r (zero_told w kind b f t)
             | inr t ↦
-                let m = subst (λ m. (turn (moded w m) b).to.mode ≡ Bad (record { kind = BadLiteral; byte = w.taken })) (sym e) (zero_bad w kind b f t) in
+                let m = subst (λ m. (turn (with_mode w m) b).to.mode ≡ Bad (record { kind = BadLiteral; byte = w.taken })) (sym e) (zero_bad w kind b f t) in
                 absurd (not_after (record { kind = BadLiteral; byte = w.taken }) (ap (λ z. (after w z).mode) r ∙ bad_stays (record { kind = BadLiteral; byte = w.taken }) (turn w b).to bs m))
           ]
         ]

@@ -3,6 +3,7 @@ use Rattle.std.proofs.Common.{◌≡◌, ℕ, ◌+◌, ◌-◌, ◌<◌, ◌≤�
 use Rattle.std.proofs.lemmas.List.{append-nil, length-append}
 use Rattle.cnf_form.specs.Cnf.{LitOf, FormulaOf}
 use Rattle.std.proofs.lemmas.Bool.{cases_Bool}
+use Rattle.std.proofs.Math.Seq.{take-append-add}
 use Rattle.cert_stream.specs.Machine.{WireOf, fault_of}
 use Rattle.cert_stream.specs.declared.mode.WireFault.{WireFault}
 use Rattle.cert_stream.specs.declared.mode.WireFaultKind.TheVariants.{BadLine}
@@ -12,7 +13,6 @@ use Rattle.stream_judge.specs.declared.stream.Outcome.{Outcome}
 use Rattle.stream_judge.specs.declared.stream.Outcome.TheVariants.{Bad as BadOutcome}
 use Rattle.stream_judge.specs.Fate.{Fate, Bad}
 use Rattle.stream_judge.specs.Outcomes.{fate_of, fate_told}
-use Rattle.stream_judge.proofs.Fates.{take_front}
 use Rattle.proof_stream.specs.Text.{fault_or, is_claim, text_fault, text_next}
 use Rattle.proof_stream.specs.File.{FileOf, InText, InBinary, after, end_fault, end_says, fault, fresh, next, said, spoken, taken_of}
 use Rattle.proof_stream.specs.declared.spot.Form.{Form}
@@ -160,7 +160,7 @@ module _ (form : Form) (most : ℕ) (w : FileOf) (p : ProofOf) (wanting : Bool) 
     first_most : take most (bytes ++ piece) ≡ bytes ++ take room piece
     first_most =
         let r : length bytes + room ≡ most = omega (arith, all, count) in
-        subst (λ n. take n (bytes ++ piece) ≡ bytes ++ take room piece) r (take_front bytes piece room)
+        subst (λ n. take n (bytes ++ piece) ≡ bytes ++ take room piece) r (take-append-add bytes piece room)
 
     past_most : most < length (bytes ++ piece)
     past_most = let n = length-append bytes piece in omega (arith, n, all, count, l)

@@ -3,6 +3,7 @@ use Rattle.std.proofs.Common.{◌≡◌, ◌⊎◌, ℕ, ◌+◌, ◌*◌, ◌�
 use Rattle.std.proofs.lemmas.Bool.{le-leb, leb-true}
 use Rattle.std.proofs.lemmas.List.{append-nil}
 use Rattle.cert_stream.specs.declared.mode.WireFaultKind.TheVariants.{LineTooLong}
+use Rattle.cert_stream.proofs.Digits.{both_true}
 use Rattle.proof_stream.specs.Numbers.{Goes, Whole, Unfit, groups_read, is_literal, may_go_on, seven, with_group}
 use Rattle.proof_stream.specs.Spelling.{AreGroups, groups_value}
 use Rattle.proof_stream.specs.Grouping.{BeginsLiteral, IsLiteral, IsRead}
@@ -63,18 +64,13 @@ four (a ∷ b ∷ c ∷ []) l = omega arith
 four (a ∷ b ∷ c ∷ d ∷ []) l = omega arith
 four (a ∷ b ∷ c ∷ d ∷ e ∷ p) l = absurd (let k = scale_grows 34359738368 p in omega (arith, k, l))
 
-both : (a b : Bool) → (a && b) ≡ true → (a ≡ true) × (b ≡ true)
-both true true e = (refl, refl)
-both true false e = absurd (let k = e in cc)
-both false b e = absurd (let k = e in cc)
-
 either : (a b : Bool) → (a || b) ≡ true → (a ≡ true) ⊎ (b ≡ true)
 either true b e = inl refl
 either false b e = inr e
 
 module _ (vars : ℕ) where
   literal_bounds : (n : ℕ) → is_literal vars n ≡ true → (2 ≤ n) × (n ≤ 2 * vars + 1)
-  literal_bounds n t = let k = both (leb 2 n) (leb n (2 * vars + 1)) t in (leb-true 2 n k.0, leb-true n (2 * vars + 1) k.1)
+  literal_bounds n t = let k = both_true (leb 2 n) (leb n (2 * vars + 1)) t in (leb-true 2 n k.0, leb-true n (2 * vars + 1) k.1)
 
   bounds_literal : (n : ℕ) → 2 ≤ n → n ≤ 2 * vars + 1 → is_literal vars n ≡ true
   bounds_literal n l h = let e = le-leb 2 n l in let f = le-leb n (2 * vars + 1) h in rw (e, f) refl
@@ -91,13 +87,13 @@ module _ (vars : ℕ) where
 
     goes_begins : may_go_on vars (groups_value 1 p) (scale 1 p) ≡ true → 2 ≤ scale 1 p → BeginsLiteral vars p
     goes_begins t two =
-        let k = both (leb (scale 1 p) 268435456) (is_literal vars (groups_value 1 p) || (leb (groups_value 1 p) 1 && leb (groups_value 1 p + scale 1 p) (2 * vars + 1))) t in
+        let k = both_true (leb (scale 1 p) 268435456) (is_literal vars (groups_value 1 p) || (leb (groups_value 1 p) 1 && leb (groups_value 1 p + scale 1 p) (2 * vars + 1))) t in
         let l = leb-true (scale 1 p) 268435456 k.0 in
         elim (either (is_literal vars (groups_value 1 p)) (leb (groups_value 1 p) 1 && leb (groups_value 1 p + scale 1 p) (2 * vars + 1)) k.1) [
           | inl i ↦ let e : groups_value 1 p ≡ groups_value 1 p + seven 0 * scale 1 p = omega arith in
               (0 ∷ [], groups_value 1 p + seven 0 * scale 1 p, ended_by 0 refl l (subst (λ z. is_literal vars z ≡ true) e i))
           | inr i ↦
-              let m = both (leb (groups_value 1 p) 1) (leb (groups_value 1 p + scale 1 p) (2 * vars + 1)) i in
+              let m = both_true (leb (groups_value 1 p) 1) (leb (groups_value 1 p + scale 1 p) (2 * vars + 1)) i in
               let u = leb-true (groups_value 1 p + scale 1 p) (2 * vars + 1) m.1 in
               (1 ∷ [], groups_value 1 p + seven 1 * scale 1 p, ended_by 1 refl l (bounds_literal (groups_value 1 p + seven 1 * scale 1 p) (omega (arith, two)) (omega (arith, u))))
         ]
@@ -121,7 +117,7 @@ module _ (vars : ℕ) where
 
       stands_next : leb 128 b ≡ true → may_go_on vars now (128 * w) ≡ true → full ≡ false → Stands (p ++ b ∷ []) now (128 * w)
       stands_next t g f =
-          let k = both (leb (128 * w) 268435456) (is_literal vars now || (leb now 1 && leb (now + 128 * w) (2 * vars + 1))) g in
+          let k = both_true (leb (128 * w) 268435456) (is_literal vars now || (leb now 1 && leb (now + 128 * w) (2 * vars + 1))) g in
           let e = value_append 1 p (b ∷ []) in
           let u = scale_snoc 1 p b in
           let grows = scale_grows 1 p in

@@ -3,6 +3,7 @@ use Rattle.std.proofs.Common.{◌≡◌, ◌⊎◌, ℕ, Bool, true, false, ◌&
 use Rattle.std.proofs.lemmas.Bool.{cases_Bool, eqb-true}
 use Rattle.cert_stream.specs.Text.{AreBlank, is_blank}
 use Rattle.cert_stream.specs.Places.{AreLines}
+use Rattle.cert_stream.proofs.Digits.{both_true}
 use Rattle.proof_stream.specs.Text.{is_claim, starts_behind}
 use Rattle.proof_stream.specs.Passing.{Passes, starts_after}
 use Rattle.proof_stream.specs.Lines.{HasClaim, IsLineHead}
@@ -41,11 +42,6 @@ head_starts front (lines, blanks, e, l, b) =
 
 abbrev Begun : Bool → List ℕ → Type 0
 Begun s front = ((s ≡ true) × AreBlank front) ⊎ ((x : List ℕ) × (y : List ℕ) × (front ≡ (x ++ 10 ∷ []) ++ y) × AreBlank y)
-
-pub both_true : (s c : Bool) → (s && c) ≡ true → (s ≡ true) × (c ≡ true)
-both_true true true e = (refl, refl)
-both_true true false e = absurd (let k = e in cc)
-both_true false c e = absurd (let k = e in cc)
 
 begun : (s : Bool) (front : List ℕ) → starts_after s front ≡ true → Begun s front
 begun s [] h = inl (h, tt)

@@ -1,7 +1,7 @@
 -- Bytes of a text without a line of s or v are read as a stream's.
-use Rattle.std.proofs.Common.{◌≡◌, ◌⊎◌, ℕ, ◌+◌, ◌<◌, ◌≤◌, Bool, true, false, ◌&&◌, leb, List, [], ◌∷◌, ◌++◌, length, take, drop, get_or, Option, Some, None, refl, ap, sym, ◌∙◌, inl, inr, append_assoc, subst, cond, is_some, take-append-drop}
+use Rattle.std.proofs.Common.{◌≡◌, ℕ, ◌+◌, ◌<◌, ◌≤◌, Bool, true, false, ◌&&◌, List, [], ◌∷◌, ◌++◌, length, take, drop, get_or, Option, Some, None, refl, ap, sym, ◌∙◌, inl, inr, append_assoc, subst, cond, is_some, take-append-drop}
 use Rattle.std.proofs.lemmas.List.{append-nil, drop_more, drop_all, take_more}
-use Rattle.std.proofs.lemmas.Bool.{cases_Bool, leb-true, leb-false}
+use Rattle.std.proofs.lemmas.Bool.{cases_lt}
 use Rattle.cert_stream.specs.Machine.{WireOf, turn}
 use Rattle.cert_stream.specs.Telling.{Saying, Gets, told_by, after as wire_after, said as wire_said}
 use Rattle.cert_stream.specs.declared.mode.WireFault.{WireFault}
@@ -57,22 +57,16 @@ pub after_claim : (w : WireOf) (s : Bool) (b : ℕ) (rest : List ℕ) → (s && 
 after_claim w s b rest t =
     ap (λ c. after (InText (cond c (text_refused (text w s None)) (text_read (text w s None) b))) rest) t ∙ after_refused w s (record { kind = BadLine; byte = w.taken }) rest
 
-sides : (n most : ℕ) → (n ≤ most) ⊎ (most < n)
-sides n most = elim (cases_Bool (leb n most)) [ inl t ↦ inl (leb-true n most t) | inr f ↦ inr (leb-false n most f) ]
-
-parts : (n : ℕ) (xs : List ℕ) → take n xs ++ drop n xs ≡ xs
-parts n xs = take-append-drop n xs
-
 -- a piece, of which so many bytes are passed over
 module _ (w : WireOf) (s : Bool) (piece : List ℕ) (n : ℕ) (h : Passes s (take n piece)) where
   abbrev there : FileOf
   there = InText (text (wire_after w (take n piece)) (starts_after s (take n piece)) None)
 
   said_there : said (InText (text w s None)) piece ≡ wire_said w (take n piece) ++ said there (drop n piece)
-  said_there = ap (said (InText (text w s None))) (sym (parts n piece)) ∙ said_passing w s (take n piece) (drop n piece) h
+  said_there = ap (said (InText (text w s None))) (sym (take-append-drop n piece)) ∙ said_passing w s (take n piece) (drop n piece) h
 
   after_there : after (InText (text w s None)) piece ≡ after there (drop n piece)
-  after_there = ap (after (InText (text w s None))) (sym (parts n piece)) ∙ after_passing w s (take n piece) (drop n piece) h
+  after_there = ap (after (InText (text w s None))) (sym (take-append-drop n piece)) ∙ after_passing w s (take n piece) (drop n piece) h
 
   pub after_whole : length piece ≤ n → after (InText (text w s None)) piece ≡ there
   after_whole l = after_there ∙ ap (after there) (drop_all n piece l)
@@ -85,7 +79,7 @@ module _ (w : WireOf) (s : Bool) (piece : List ℕ) (n : ℕ) (h : Passes s (tak
     said_part = ap (said there) (drop_more piece n 0 l) ∙ said_claim (wire_after w (take n piece)) (starts_after s (take n piece)) (get_or piece n 0) (drop (n + 1) piece) t
 
   said_rest : (n < length piece → (starts_after s (take n piece) && is_claim (get_or piece n 0)) ≡ true) → said there (drop n piece) ≡ []
-  said_rest t = elim (sides (length piece) n) [ inl l ↦ ap (said there) (drop_all n piece l) | inr l ↦ said_part l (t l) ]
+  said_rest t = elim (cases_lt n (length piece)) [ inl l ↦ said_part l (t l) | inr l ↦ ap (said there) (drop_all n piece l) ]
 
   pub said_all : (n < length piece → (starts_after s (take n piece) && is_claim (get_or piece n 0)) ≡ true) → said (InText (text w s None)) piece ≡ wire_said w (take n piece)
   said_all t = said_there ∙ ap (λ z. wire_said w (take n piece) ++ z) (said_rest t) ∙ append-nil (wire_said w (take n piece))

@@ -1,16 +1,10 @@
 -- The loop over a piece of a binary proof.
-use Rattle.std.proofs.Common.{◌≡◌, ℕ, zero, suc, ◌+◌, ◌<◌, ◌≤◌, Bool, true, false, List, [], ◌∷◌, ◌++◌, length, drop, get_or, Option, Some, None, refl, ap, sym, ◌∙◌, inl, inr, arith, subst}
-use Rattle.std.proofs.lemmas.List.{drop_more}
+use Rattle.std.proofs.Common.{◌≡◌, ℕ, ◌+◌, ◌<◌, ◌≤◌, Bool, true, false, List, ◌∷◌, ◌++◌, length, drop, get_or, Option, Some, None, refl, ap, sym, ◌∙◌, inl, inr, arith, subst}
+use Rattle.std.proofs.lemmas.List.{drop_more, drop_all}
 use Rattle.cert_stream.specs.Telling.{Saying, Gets}
 use Rattle.proof_stream.specs.Binary.{BinaryOf, BinaryTurn, binary_told, binary_turn, line_said}
 use Rattle.proof_stream.specs.File.{FileOf, InBinary, after, said}
 use Rattle.proof_stream.specs.declared.spot.LineKind.{LineKind}
-
-drop_all : {X : Type 0} → (xs : List X) (i : ℕ) → length xs ≤ i → drop i xs ≡ []
-drop_all [] zero h = refl
-drop_all [] (suc i) h = refl
-drop_all (x ∷ xs) zero h = absurd (omega arith)
-drop_all (x ∷ xs) (suc i) h = drop_all xs i (omega arith)
 
 -- what is still to come of the piece, from the wire w and the receiver x on, makes the whole of it
 pub record Left {A : Type 0} (gets : A → Saying → A → Type 0) (stops : A → Bool) (start : BinaryOf) (first : A) (piece : List ℕ) (w : BinaryOf) (x : A) (i : ℕ) : Type 0 where
@@ -51,7 +45,7 @@ module _ {A : Type 0} (gets : A → Saying → A → Type 0) (stops : A → Bool
       left_stopped t = h.told z true (subst (λ a. Gets gets stops x a z true) (sym said_more) (z, g, inl (t, refl, refl)))
 
   pub left_told_all : (w : BinaryOf) (x : A) (i : ℕ) → Left gets stops start first piece w x i → length piece ≤ i → Gets gets stops first (said (InBinary start) piece) x false
-  left_told_all w x i h l = h.told x false (subst (λ a. Gets gets stops x (said (InBinary w) a) x false) (sym (drop_all piece i l)) (refl, refl))
+  left_told_all w x i h l = h.told x false (subst (λ a. Gets gets stops x (said (InBinary w) a) x false) (sym (drop_all i piece l)) (refl, refl))
 
   pub left_kept_all : (w : BinaryOf) (x : A) (i : ℕ) → Left gets stops start first piece w x i → length piece ≤ i → (let r : FileOf = InBinary w in r) ≡ after (InBinary start) piece
-  left_kept_all w x i h l = sym (ap (after (InBinary w)) (drop_all piece i l)) ∙ h.kept
+  left_kept_all w x i h l = sym (ap (after (InBinary w)) (drop_all i piece l)) ∙ h.kept

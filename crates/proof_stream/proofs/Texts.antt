@@ -1,5 +1,5 @@
 -- A proof file in text says what its lines say.
-use Rattle.std.proofs.Common.{◌≡◌, ℕ, ◌+◌, Bool, true, false, ◌&&◌, List, [], ◌∷◌, ◌++◌, length, Option, Some, None, refl, ap, sym, ◌∙◌, inl, inr, arith, append_assoc, cond, subst}
+use Rattle.std.proofs.Common.{◌≡◌, ℕ, Bool, true, false, ◌&&◌, List, [], ◌∷◌, ◌++◌, length, Option, Some, None, refl, ap, sym, ◌∙◌, inl, inr, arith, append_assoc, cond, subst}
 use Rattle.std.proofs.lemmas.List.{append-nil}
 use Rattle.cert_stream.specs.Machine.{WireOf, fault_of, turn}
 use Rattle.cert_stream.specs.Telling.{Saying, fault_said, told_by, after as wire_after, said as wire_said, fresh as wire_fresh}
@@ -9,17 +9,15 @@ use Rattle.cert_stream.specs.declared.mode.Event.TheVariants.{Clause, Delete, Va
 use Rattle.cert_stream.specs.declared.mode.WireFault.{WireFault}
 use Rattle.cert_stream.specs.declared.mode.WireFaultKind.TheVariants.{BadLine}
 use Rattle.cert_stream.proofs.Streams.{stream_spoken}
+use Rattle.cert_stream.proofs.Cutting.{after_taken}
+use Rattle.cert_stream.proofs.Digits.{both_true}
 use Rattle.proof_stream.specs.Text.{fault_or, is_claim, text_fresh}
 use Rattle.proof_stream.specs.Passing.{Passes, starts_after}
 use Rattle.proof_stream.specs.File.{FileOf, InText, after, fault, said, spoken}
 use Rattle.proof_stream.specs.Lines.{TextSays, Plain, Refused, up_to_fault}
 use Rattle.proof_stream.proofs.Passing.{text, said_passing, after_passing, said_claim, after_claim, refusal}
-use Rattle.proof_stream.proofs.Heads.{both_true, split, starts_head, claim_here, passes_none, none_passes}
+use Rattle.proof_stream.proofs.Heads.{split, starts_head, claim_here, passes_none, none_passes}
 use Rattle.proof_stream.proofs.Spoken.{text_ended}
-
-taken_after : (w : WireOf) (a : List ℕ) → (wire_after w a).taken ≡ w.taken + length a
-taken_after w [] = omega arith
-taken_after w (b ∷ a) = let e = taken_after (turn w b).to a in omega (arith, e)
 
 -- no fault is told by the way
 up_told : (w : WireOf) (o : Option Event) (ss : List Saying) → up_to_fault (told_by w o ++ ss) ≡ told_by w o ++ up_to_fault ss
@@ -76,7 +74,7 @@ module _ (vars : ℕ) where
     after_front = after_passing start true front (b ∷ rest) p ∙ after_claim there (starts_after true front) b rest t
 
     taken_there : there.taken ≡ length front
-    taken_there = let e = taken_after start front in omega (arith, e)
+    taken_there = let e = after_taken start front in omega (arith, e)
 
     refused_spoken : spoken_text (front ++ b ∷ rest) ≡ up_to_fault (sayings vars false front ++ bad BadLine (length front))
     refused_spoken =

@@ -1,13 +1,13 @@
 -- What a judge's answers make of a job's stored stream.
-use Rattle.std.proofs.Common.{◌≡◌, ℕ, ◌+◌, ◌<◌, ◌≤◌, List, [], ◌++◌, refl, ap, sym, ◌∙◌, subst, inl, inr, length, take, drop, arith, append_assoc}
+use Rattle.std.proofs.Common.{◌≡◌, ℕ, ◌<◌, ◌≤◌, List, [], ◌++◌, refl, ap, sym, ◌∙◌, subst, inl, inr, length, take, drop, arith, append_assoc}
 use Rattle.std.specs.Prelude.{◌≢◌, Bool, true, false, IsTrue, Option, Some, None, MatchOption, Result, Ok, Err}
-use Rattle.std.proofs.lemmas.List.{append-nil, drop_all, length-append, length-take-le, take-append-drop}
+use Rattle.std.proofs.lemmas.List.{append-nil, drop_all, length-take-le, take-append-drop}
 use Rattle.std.proofs.lemmas.Bool.{cases_lt}
 use Rattle.std.proofs.Math.Seq.{drop-append_seam}
-use Rattle.cnf_form.specs.Cnf.{Assignment, FormulaOf}
+use Rattle.cnf_form.specs.Cnf.{Assignment}
 use Rattle.cnf_form.specs.Dimacs.{IsDimacs}
 use Rattle.kind_judge.proofs.Fates.{within_most}
-use Rattle.kind_judge.specs.Fates.{IsFate, IsFateSoFar, stream_values}
+use Rattle.kind_judge.specs.Fates.{IsFate, IsFateSoFar}
 use Rattle.sby_edge.specs.Files.{PieceAt, PieceFrom, Store}
 use Rattle.stream_judge.specs.Fate.{Fate, Found as FoundFate, Unknown as UnknownFate, Bad as BadFate}
 use Rattle.stream_judge.specs.declared.stream.StreamKind.{StreamKind}

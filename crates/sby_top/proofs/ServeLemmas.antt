@@ -1,5 +1,5 @@
 -- What came of a task's files.
-use Rattle.std.proofs.Common.{◌≡◌, ℕ, ◌+◌, ◌≤◌, List, refl, ap, sym, ◌∙◌, subst, inl, inr, length, take, arith}
+use Rattle.std.proofs.Common.{◌≡◌, ℕ, ◌≤◌, List, refl, ap, sym, ◌∙◌, subst, inl, inr, length, take, arith}
 use Rattle.std.specs.Prelude.{Option, Some, None, Contains, map, option_map, slice_get, string_bytes}
 use Rattle.std.specs.Borrow.{Bor}
 use Rattle.std.specs.Slice.{IsItemAt}
@@ -9,7 +9,6 @@ use Rattle.std.proofs.lemmas.List.{take_all}
 use Rattle.sby_edge.specs.Files.{Store}
 use Rattle.judge.specs.Problem.{AskedOf, IsProblem}
 use Rattle.sby_terms.specs.declared.names.JobName.{JobName}
-use Rattle.judge.specs.Finding.{FindingOf}
 use Rattle.sby_terms.specs.Path.{job_path}
 use Rattle.sby_lines.specs.declared.early.Early.{Early}
 use Rattle.sby_lines.specs.declared.early.Early.TheVariants.{File, Sby, Task, Read, Design, TooMany, Streams, Memory}

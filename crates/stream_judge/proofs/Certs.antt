@@ -14,6 +14,7 @@ use Rattle.cert_stream.specs.declared.mode.ListKind.{ListKind}
 use Rattle.cert_stream.specs.declared.mode.ListKind.TheVariants.{Clause as ClauseList, Deletion, Values as ValuesList}
 use Rattle.cert_stream.specs.declared.mode.WireFaultKind.{WireFaultKind}
 use Rattle.cert_stream.specs.declared.mode.WireFaultKind.TheVariants.{BadLine, BadLiteral}
+use Rattle.cert_stream.specs.declared.mode.Part.{Part}
 use Rattle.cert_stream.specs.declared.mode.Part.TheVariants.{Gap, Minus, Zero, Digits}
 use Rattle.cert_stream.proofs.Reading.{word_read}
 use Rattle.cert_stream.proofs.Tails.{word_says}
@@ -56,7 +57,7 @@ module _ (vars : ℕ) (kind : ListKind) (counted : Bool) (unended more : List Sa
   nothing : (all : List (List ℕ)) (lits : List LitOf) (said : List Saying) → Nothing said → Listed all lits said
   nothing all lits said n = record { new = []; got = lits; tail = said; gets = sym (append-nil lits); are = refl; ends = inl n }
 
-  word_listed : (all before : List (List ℕ)) (lits : List LitOf) (w : Word) (ws : List Word) (s : Scanned) → all ≡ before ++ texts (w ∷ ws) → w.text ≢ [] → Writes vars before lits
+  word_listed : (all before : List (List ℕ)) (lits : List LitOf) (w : Word) (ws : List Word) (s : Scanned Part) → all ≡ before ++ texts (w ∷ ws) → w.text ≢ [] → Writes vars before lits
       → length lits ≤ vars → IsRead vars (leb vars (length lits)) w.text s
       → ((l : LitOf) → literal_of vars w.text ≡ Some l → length lits + 1 ≤ vars → Listed all (lits ++ l ∷ []) (list_says vars kind counted unended more place (lits ++ l ∷ []) ws))
       → Listed all lits (word_says vars kind counted unended more place lits s w ws)

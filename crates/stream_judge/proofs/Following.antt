@@ -1,5 +1,6 @@
 -- A certificate is found where white space or a line feed follows it.
 use Rattle.std.proofs.Common.{◌≡◌, ℕ, suc, ◌+◌, ◌-◌, ◌<◌, true, false, List, [], ◌∷◌, ◌++◌, length, take, Some, None, refl, sym, subst, inl, inr, arith, ◌⊎◌}
+use Rattle.std.proofs.Math.Seq.{take-append-add}
 use Rattle.cnf_form.specs.Cnf.{LitOf, FormulaOf, Assignment}
 use Rattle.cert_stream.specs.Text.{is_blank}
 use Rattle.cert_stream.specs.Stream.{sayings}
@@ -9,7 +10,7 @@ use Rattle.sby_terms.specs.declared.names.Answer.{Answer}
 use Rattle.stream_judge.specs.Values.{named, unnamed}
 use Rattle.stream_judge.specs.Fate.{Found, Bad, Comes, ComesTo, FateSoFar, FateOf}
 use Rattle.stream_judge.specs.declared.stream.CertKind.TheVariants.{EarlyEnd}
-use Rattle.stream_judge.proofs.Fates.{comes_more, take_front}
+use Rattle.stream_judge.proofs.Fates.{comes_more}
 
 -- a certificate is found before UNKNOWN is said
 found_before_unknown : (C F : List (List LitOf)) (x : Assignment) (answer : Answer) (ss : List Saying) → ComesTo C F x (ss ++ IsUnknown ∷ []) (Some (Found answer)) → ComesTo C F x ss (Some (Found answer))
@@ -47,7 +48,7 @@ module _ (f : FormulaOf) (answer : Answer) where
   take_followed bytes rest b most l =
       let n = most - (length bytes + 1) in
       let e : length bytes + suc n ≡ most = omega (arith, l) in
-      (n, subst (λ k. take k (bytes ++ b ∷ rest) ≡ bytes ++ b ∷ take n rest) e (take_front bytes (b ∷ rest) (suc n)))
+      (n, subst (λ k. take k (bytes ++ b ∷ rest) ≡ bytes ++ b ∷ take n rest) e (take-append-add bytes (b ∷ rest) (suc n)))
 
   pub fate_followed : (bytes rest : List ℕ) (b most : ℕ) → IsSpace b → length bytes < most → FateOf f bytes most (Found answer) → FateSoFar f (bytes ++ b ∷ rest) most (Some (Found answer))
   fate_followed bytes rest b most s l fate = found (fate.within (omega (arith, l)))

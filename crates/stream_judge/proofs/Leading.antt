@@ -59,11 +59,11 @@ module _ (x y : CertificateOf) (ss more : List Saying) (o : Outcome) (h : Leads 
 abbrev stops : CertificateOf → Bool
 stops c = is_some c.outcome
 
-some_outcome : (o : Option Outcome) → is_some o ≡ true → (won : Outcome) × (o ≡ Some won)
+pub some_outcome : (o : Option Outcome) → is_some o ≡ true → (won : Outcome) × (o ≡ Some won)
 some_outcome None e = cc
 some_outcome (Some won) e = (won, refl)
 
-no_outcome : (o : Option Outcome) → is_some o ≡ false → o ≡ None
+pub no_outcome : (o : Option Outcome) → is_some o ≡ false → o ≡ None
 no_outcome None e = refl
 no_outcome (Some won) e = cc
 

@@ -2,6 +2,7 @@ pub mod Valuing
 pub mod Leading
 pub mod Deletions
 pub mod Coming
+pub mod Bounding
 pub mod Fates
 pub mod Following
 pub mod Taking

@@ -2,11 +2,12 @@
 use Rattle.std.proofs.Common.{◌≡◌, ℕ, ◌+◌, ◌-◌, ◌<◌, ◌≤◌, Bool, true, false, leb, List, [], ◌∷◌, ◌++◌, length, take, Option, Some, None, refl, sym, ap, ◌∙◌, subst, inl, inr, append_assoc, arith}
 use Rattle.std.proofs.lemmas.Bool.{le-leb, lt-leb}
 use Rattle.std.proofs.lemmas.List.{append-nil, length-append, take_all, take-append-le}
+use Rattle.std.proofs.Math.Seq.{take-append-add}
 use Rattle.cnf_form.specs.Cnf.{LitOf, FormulaOf, Assignment, Satisfies}
-use Rattle.cert_stream.specs.Machine.{WireOf, at_end, fault_of, turn}
+use Rattle.cert_stream.specs.Machine.{WireOf, at_end, fault_of}
 use Rattle.cert_stream.specs.Telling.{Saying, IsClause, IsDelete, IsValue, IsValuesEnd, IsUnknown, IsFault, after, fault_said, fresh, said, told_by}
 use Rattle.cert_stream.specs.Stream.{sayings}
-use Rattle.cert_stream.proofs.Cutting.{after_append, said_append, stands_append}
+use Rattle.cert_stream.proofs.Cutting.{after_append, said_append, stands_append, after_taken}
 use Rattle.cert_stream.proofs.Streams.{stream_spoken}
 use Rattle.cert_stream.proofs.GoingOn.{sayings_more, sayings_end}
 use Rattle.sby_terms.specs.declared.names.Answer.TheVariants.{Sat}
@@ -19,7 +20,8 @@ use Rattle.stream_judge.specs.Values.{named, named_from, stream_values, unnamed,
 use Rattle.stream_judge.specs.Leading.{CertificateOf, ComesBy, NamesBy, Leads, Heard, TakesPiece, TakesEnd, outcome_or, with_outcome}
 use Rattle.stream_judge.specs.Judging.{AreValuesOf, AreValuesTold, Ends, Feeds, HasOutcome, IsAt, IsOver, JudgeOf, Stands, StandsBy}
 use Rattle.stream_judge.proofs.Coming.{sides}
-use Rattle.stream_judge.proofs.Fates.{fate_stays, fate_at_end, take_front}
+use Rattle.stream_judge.proofs.Fates.{fate_stays, fate_at_end}
+use Rattle.stream_judge.proofs.Bounding.{take_past}
 use Rattle.stream_judge.proofs.Leading.{certificate}
 
 -- values end with their 0, whatever is said then
@@ -38,20 +40,15 @@ module _ (f : FormulaOf) (most : ℕ) where
   said_once : (ss ts more : List Saying) → ts ≡ ss ++ more → Comes f ss (Some (Found Sat)) → values_said ts ≡ values_said ss
   said_once ss ts more e h = ap values_said e ∙ ap (named_from unnamed) (lits_once f.clauses f.clauses unnamed ss more h)
 
-  take_past : (bytes rest : List ℕ) → length bytes ≤ most → take most (bytes ++ rest) ≡ bytes ++ take (most - length bytes) rest
-  take_past bytes rest h =
-      let e : take (length bytes + (most - length bytes)) (bytes ++ rest) ≡ bytes ++ take (most - length bytes) rest = take_front bytes rest (most - length bytes) in
-      subst (λ n. take n (bytes ++ rest) ≡ bytes ++ take (most - length bytes) rest) (omega arith) e
-
   -- the values of bytes that were found to satisfy the formula stay
-  values_stay : (bytes rest : List ℕ) → FateSoFar f bytes most (Some (Found Sat)) → stream_values f.vars false bytes most ≡ stream_values f.vars false (bytes ++ rest) most
+  pub values_stay : (bytes rest : List ℕ) → FateSoFar f bytes most (Some (Found Sat)) → stream_values f.vars false bytes most ≡ stream_values f.vars false (bytes ++ rest) most
   values_stay bytes rest h =
       elim (sides (length bytes) most) [
         | inl l ↦
             let more = sayings_more f.vars false bytes (take (most - length bytes) rest) in
             ap (λ z. values_said (sayings f.vars false z)) (take_all most bytes l)
             ∙ sym (said_once (sayings f.vars false bytes) (sayings f.vars false (bytes ++ take (most - length bytes) rest)) more.0 more.1 (h.within l))
-            ∙ ap (λ z. values_said (sayings f.vars false z)) (sym (take_past bytes rest l))
+            ∙ ap (λ z. values_said (sayings f.vars false z)) (sym (take_past most bytes rest l))
         | inr l ↦ ap (λ z. values_said (sayings f.vars false z)) (sym (take-append-le most bytes rest (omega arith)))
       ]
 
@@ -104,10 +101,6 @@ module _ (j : JudgeOf) (o : Outcome) (e : j.outcome ≡ Some o) (bytes : List �
       let fate = fate_at_end j.formula j.most bytes (fate_of o) h.fate in
       let values = told_at_end j.formula j.most bytes j.bits o h.fate h.values in
       record { over = record { outcome = e; fate = fate; values = values }; fate = λ file d. (j.formula, d, fate); values = values }
-
-after_taken : (w : WireOf) (bytes : List ℕ) → (after w bytes).taken ≡ w.taken + length bytes
-after_taken w [] = omega arith
-after_taken w (b ∷ bytes) = let e : (after (turn w b).to bytes).taken ≡ (w.taken + 1) + length bytes = after_taken (turn w b).to bytes in omega (arith, e)
 
 -- a judge that has none
 module _ (j : JudgeOf) (e : j.outcome ≡ None) (bytes : List ℕ) (s : Stands j bytes) where
@@ -242,7 +235,7 @@ module _ (most : ℕ) (w : WireOf) (c : CertificateOf) (wanting : Bool) (e : c.o
     first_most : take most (bytes ++ piece) ≡ bytes ++ take room piece
     first_most =
         let r : length bytes + room ≡ most = omega (arith, all, count) in
-        subst (λ n. take n (bytes ++ piece) ≡ bytes ++ take room piece) r (take_front bytes piece room)
+        subst (λ n. take n (bytes ++ piece) ≡ bytes ++ take room piece) r (take-append-add bytes piece room)
 
     past_most : most < length (bytes ++ piece)
     past_most = let n = length-append bytes piece in omega (arith, n, all, count, l)

@@ -1,5 +1,5 @@
 -- What a stream comes to: a certificate, or why it is none.
-use Rattle.std.specs.Prelude.{◌≡◌, ◌≢◌, ◌⊎◌, ℕ, ◌<◌, ◌≤◌, true, false, List, [], ◌∷◌, ◌++◌, length, take, Option, Some, None}
+use Rattle.std.specs.Prelude.{◌≡◌, ◌≢◌, ◌⊎◌, ℕ, ◌<◌, ◌≤◌, Bool, true, false, List, [], ◌∷◌, ◌++◌, length, take, Option, Some, None}
 use Rattle.cnf_form.specs.Cnf.{LitOf, FormulaOf, Assignment, IsAdmitted, Deletes, Satisfies}
 use Rattle.cnf_form.specs.Dimacs.{IsDimacs}
 use Rattle.cert_stream.specs.Stream.{sayings}
@@ -17,6 +17,16 @@ pub data Fate : Type 0 where
   Found : Answer → Fate
   Unknown : Fate
   Bad : CertKind → ℕ → Fate
+
+-- what bytes come to, by what `comes` tells of `most` of them at most, and whether these are all: where more may follow
+pub record FateSoFarBy (comes : Bool → List ℕ → Option Fate → Type 0) (bytes : List ℕ) (most : ℕ) (fate : Option Fate) : Type 0 where
+  pub within : length bytes ≤ most → comes false bytes fate
+  pub beyond : most < length bytes → ((x : Fate) × comes false (take most bytes) (Some x) × (fate ≡ Some x)) ⊎ (comes false (take most bytes) None × (fate ≡ Some (Bad TooLong most)))
+
+-- and where they are all
+pub record FateBy (comes : Bool → List ℕ → Option Fate → Type 0) (bytes : List ℕ) (most : ℕ) (fate : Fate) : Type 0 where
+  pub within : length bytes ≤ most → comes true bytes (Some fate) ⊎ (comes true bytes None × (fate ≡ Bad EarlyEnd (length bytes)))
+  pub beyond : most < length bytes → FateSoFarBy comes bytes most (Some fate)
 
 abbrev pub cert_kind : WireFaultKind → CertKind
 cert_kind BadLine = BadLineKind
@@ -46,19 +56,17 @@ ComesTo C F x (IsFault f ∷ ss) fate = fate ≡ Some (Bad (cert_kind f.kind) f.
 abbrev pub Comes : FormulaOf → List Saying → Option Fate → Type 0
 Comes f ss fate = ComesTo f.clauses f.clauses unnamed ss fate
 
+-- what bytes of a stream come to, which are all where it ended
+abbrev pub BytesCome : FormulaOf → Bool → List ℕ → Option Fate → Type 0
+BytesCome f ended bytes fate = Comes f (sayings f.vars ended bytes) fate
+
 -- what these bytes of a stream come to, `most` of them at most: where more may follow
-pub record FateSoFar (f : FormulaOf) (bytes : List ℕ) (most : ℕ) (fate : Option Fate) : Type 0 where
-  pub within : length bytes ≤ most → Comes f (sayings f.vars false bytes) fate
-  pub beyond : most < length bytes
-      → ((x : Fate) × Comes f (sayings f.vars false (take most bytes)) (Some x) × (fate ≡ Some x))
-      ⊎ (Comes f (sayings f.vars false (take most bytes)) None × (fate ≡ Some (Bad TooLong most)))
+abbrev pub FateSoFar : FormulaOf → List ℕ → ℕ → Option Fate → Type 0
+FateSoFar f = FateSoFarBy (BytesCome f)
 
 -- and where the stream ends with them
-pub record FateOf (f : FormulaOf) (bytes : List ℕ) (most : ℕ) (fate : Fate) : Type 0 where
-  pub within : length bytes ≤ most
-      → Comes f (sayings f.vars true bytes) (Some fate)
-      ⊎ (Comes f (sayings f.vars true bytes) None × (fate ≡ Bad EarlyEnd (length bytes)))
-  pub beyond : most < length bytes → FateSoFar f bytes most (Some fate)
+abbrev pub FateOf : FormulaOf → List ℕ → ℕ → Fate → Type 0
+FateOf f = FateBy (BytesCome f)
 
 -- the fate so far of the bytes of a stream, as a certificate of the formula that the bytes of a job's file are
 abbrev pub IsFateSoFar : List ℕ → List ℕ → ℕ → Option Fate → Type 0

@@ -1,6 +1,6 @@
-use Rattle.std.proofs.Common.{◌≡◌, ◌++◌, drop}
+use Rattle.std.proofs.Common.{◌≡◌, drop}
 use Rattle.lrat_check.specs.Checking.{live_of}
-use Rattle.hint_judge.specs.Fate.{first_bad, ids_of, without}
+use Rattle.hint_judge.specs.Fate.{without}
 use Rattle.hint_judge.proofs.certificate.delete_all.Given as goal
 
 abbrev pub invariant-loop-id : goal.invariant-loop-id

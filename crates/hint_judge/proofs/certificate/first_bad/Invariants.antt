@@ -1,6 +1,6 @@
-use Rattle.std.proofs.Common.{◌≡◌, ◌++◌, drop}
+use Rattle.std.proofs.Common.{◌≡◌, drop}
 use Rattle.lrat_check.specs.Checking.{live_of}
-use Rattle.hint_judge.specs.Fate.{first_bad, ids_of, without}
+use Rattle.hint_judge.specs.Fate.{first_bad}
 use Rattle.hint_judge.proofs.certificate.first_bad.Given as goal
 
 abbrev pub invariant-loop-hint : goal.invariant-loop-hint

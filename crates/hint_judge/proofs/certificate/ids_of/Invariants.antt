@@ -1,6 +1,5 @@
 use Rattle.std.proofs.Common.{◌≡◌, ◌++◌, drop}
-use Rattle.lrat_check.specs.Checking.{live_of}
-use Rattle.hint_judge.specs.Fate.{first_bad, ids_of, without}
+use Rattle.hint_judge.specs.Fate.{ids_of}
 use Rattle.hint_judge.proofs.certificate.ids_of.Given as goal
 
 abbrev pub invariant-loop-hint : goal.invariant-loop-hint

@@ -1,5 +1,5 @@
 use Rattle.std.proofs.Common.{◌++◌}
-use Rattle.sby_top.proofs.JudgeLemmas.{fed_ends, goes_on, never_both, not_over}
+use Rattle.sby_top.proofs.JudgeLemmas.{fed_ends, goes_on, never_both}
 use Rattle.sby_top.proofs.judge_stream.feed_piece.Goals as goal
 
 pub returns-then-is_more : goal.returns-then-is_more

@@ -1,5 +1,5 @@
-use Rattle.std.proofs.Common.{ap, map, refl, subst, sym, List, ℕ}
-use Rattle.std.specs.Prelude.{None, Option, Some, slice_get, string_bytes}
+use Rattle.std.proofs.Common.{ap, refl, subst, sym, List, ℕ}
+use Rattle.std.specs.Prelude.{None, Option, Some, string_bytes}
 use Rattle.std.proofs.lemmas.Result.{IfErr-weaker}
 use Rattle.race_core.specs.declared.end.JobEnd.TheVariants.{NotServed}
 use Rattle.sby_top.specs.Steps.{IsPathJudged}

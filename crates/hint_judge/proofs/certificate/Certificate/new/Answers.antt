@@ -1,4 +1,4 @@
-use Rattle.std.proofs.Common.{refl, sym, ap, ◌+◌, ◌∙◌}
+use Rattle.std.proofs.Common.{refl, ap, ◌+◌, ◌∙◌}
 use Rattle.hint_judge.proofs.Leading.{starts_held}
 use Rattle.hint_judge.proofs.certificate.Certificate.new.Goals as goal
 

@@ -1,7 +1,6 @@
-use Rattle.std.proofs.Common.{◌≡◌, sym, ap, ◌∙◌, subst, List, ℕ, ◌++◌}
-use Rattle.std.specs.Prelude.{IfOk}
+use Rattle.std.proofs.Common.{◌≡◌, sym, ap, ◌∙◌}
 use Rattle.kind_judge.proofs.Judges.{ended_drup, ended_file, ended_hints}
-use Rattle.kind_judge.specs.Judging.{IsOver, KindOf, OfDrup, OfFile, OfHints, Stands}
+use Rattle.kind_judge.specs.Judging.{OfDrup, OfFile, OfHints}
 use Rattle.kind_judge.specs.Reading.{judged_by}
 use Rattle.kind_judge.proofs.judging.KindJudge.end.Goals.{in-Drup, in-Hints, in-File}
 use Rattle.kind_judge.proofs.judging.KindJudge.end.Goals as goal

@@ -1,7 +1,6 @@
-use Rattle.std.proofs.Common.{◌≡◌, sym, ap, ◌∙◌, subst, List, ℕ, ◌++◌}
-use Rattle.std.specs.Prelude.{IfOk}
+use Rattle.std.proofs.Common.{◌≡◌, sym, ap, ◌∙◌}
 use Rattle.kind_judge.proofs.Judges.{fed_drup, fed_file, fed_hints}
-use Rattle.kind_judge.specs.Judging.{Feeds, KindOf, OfDrup, OfFile, OfHints, Stands}
+use Rattle.kind_judge.specs.Judging.{OfDrup, OfFile, OfHints}
 use Rattle.kind_judge.specs.Reading.{judged_by}
 use Rattle.kind_judge.proofs.judging.KindJudge.feed.Goals.{in-Drup, in-Hints, in-File}
 use Rattle.kind_judge.proofs.judging.KindJudge.feed.Goals as goal
