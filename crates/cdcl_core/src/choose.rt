@@ -5,9 +5,8 @@ ghost use Rattle.cnf_form.specs.Cnf.{negate, LitWithin};
 ghost use Rattle.unit_propagation.specs.Propagation.{IsOpen};
 ghost use Rattle.cdcl_core.specs.Levels.{IsTotal};
 
-use crate::open::{is_open, open_of};
-use crate::order::Order;
 use cnf_form::{Formula, Lit};
+use decision_order::{Order, is_open, open_of};
 use unit_propagation::Propagator;
 
 // A shorter last clause isn't taken for a goal.

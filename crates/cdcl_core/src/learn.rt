@@ -5,8 +5,8 @@ ghost use Rattle.cnf_form.specs.Cnf.{LitOf, negate, ClauseWithin};
 ghost use Rattle.cdcl_core.specs.Levels.{IsDriven, IsPending, base_of};
 ghost use Rattle.cdcl_core.specs.Analysis.{IsLearnt, IsLastOf, ComesLast};
 
-use crate::order::Order;
 use cnf_form::Lit;
+use decision_order::Order;
 use std::alloc::AllocError;
 use unit_propagation::Propagator;
 

@@ -2,8 +2,8 @@
 // lately. Nothing is promised of it.
 
 use crate::pace::Pace;
-use crate::reduce::is_satisfied;
 use cnf_form::Formula;
+use decision_order::is_satisfied;
 use std::alloc::{AllocError, Global};
 use unit_propagation::Propagator;
 

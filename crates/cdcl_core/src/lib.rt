@@ -3,21 +3,16 @@
 
 mod analysis;
 mod choose;
-mod cover;
 mod laws;
 mod learn;
 mod learnts;
 mod load;
 mod log;
-mod luck;
-mod open;
-mod order;
 mod pace;
 mod reduce;
 mod search;
 mod shortening;
 mod solver;
-mod walk;
 
 pub use crate::laws::logged_lines_are_a_proof;
 pub use crate::log::Log;

@@ -1,7 +1,6 @@
 // Learnt clauses are deleted at level 0.
 
-ghost use Rattle.std.specs.Prelude.{◌≡◌, ◌+◌, ◌*◌, ◌<◌, ◌≤◌, [], false, length, Contains, IfOk, IfSome, IfNone, OnOk, Ok, None};
-ghost use Rattle.cnf_form.specs.Cnf.{LitOf, ClauseWithin};
+ghost use Rattle.std.specs.Prelude.{◌≡◌, ◌+◌, ◌*◌, ◌<◌, ◌≤◌, [], false, length, IfOk, IfSome, IfNone, OnOk, Ok, None};
 ghost use Rattle.unit_propagation.specs.Propagator.{clauses_of};
 ghost use Rattle.sby_edge.specs.Cause.{Rose};
 ghost use Rattle.cdcl_core.specs.Levels.{IsDriven, IsPending};
@@ -11,8 +10,8 @@ use crate::learn::restart;
 use crate::learnts::Learnts;
 use crate::load::collect;
 use crate::log::Log;
-use crate::order::Order;
-use cnf_form::{Formula, Lit};
+use cnf_form::Formula;
+use decision_order::{Order, is_satisfied};
 use std::alloc::{AllocError, Global};
 use unit_propagation::Propagator;
 
@@ -21,19 +20,6 @@ pub(crate) enum Deleting {
     Kept,
     Deleted,
     Refused,
-}
-
-// Whether a literal of a clause is true.
-pub(crate) fn is_satisfied(core: &Propagator, clause: &[Lit]) -> bool
-    requires within { ClauseWithin core.now.vars clause.now }
-    ensures no { result ≡ false → (l : LitOf) → Contains clause.now l → Contains core.now.trail l → ⊥ }
-{
-    for l in clause {
-        if core.is_true(*l) {
-            return true;
-        }
-    }
-    false
 }
 
 // Deletes a clause at level 0, unless a literal of it is true: what is true then follows without it.

@@ -8,9 +8,8 @@ ghost use Rattle.cdcl_core.specs.Levels.{IsDriven, IsPending, FoundFits};
 
 use crate::choose::choose;
 use crate::learn::restart;
-use crate::order::Order;
-use crate::walk::find_signs;
 use cnf_form::{Formula, Lit};
+use decision_order::{Order, find_signs};
 use std::alloc::{AllocError, Global};
 use unit_propagation::Propagator;
 

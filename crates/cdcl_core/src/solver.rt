@@ -19,12 +19,12 @@ use crate::learn::{assert_learnt, negate_trail};
 use crate::learnts::Learnts;
 use crate::load::load;
 use crate::log::Log;
-use crate::order::Order;
 use crate::pace::Pace;
 use crate::reduce::reduce;
 use crate::search::{Found, find};
 use crate::shortening::Shortening;
 use cnf_form::{Formula, Lit, MAX_VARS};
+use decision_order::Order;
 use std::alloc::{AllocError, Global};
 use unit_propagation::Propagator;
 
@@ -278,7 +278,7 @@ fn next_turn<L: Log>(
     if guesses {
         tools.pace.begin();
     }
-    let anew = tools.pace.is_due() || guesses || tools.order.wants_walk();
+    let anew = tools.pace.is_due() || guesses || tools.order.wants_first_walk();
     match find(alloc, core, &mut tools.order, formula, pending, anew)? {
         Found::Assigned => {
             let values = satisfying(alloc, core)?;

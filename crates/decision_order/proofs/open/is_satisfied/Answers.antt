@@ -2,7 +2,7 @@ use Rattle.std.proofs.Common.{◌≡◌, get_or, rules, arith, sym, ◌∙◌, s
 use Rattle.std.specs.Prelude.{Contains}
 use Rattle.std.proofs.lemmas.Bool.{cases_eq}
 use Rattle.std.proofs.lemmas.List.{get_or_default}
-use Rattle.cdcl_core.proofs.reduce.is_satisfied.Goals as goal
+use Rattle.decision_order.proofs.open.is_satisfied.Goals as goal
 
 pub loop-l-preserved : goal.loop-l-preserved
 loop-l-preserved c =

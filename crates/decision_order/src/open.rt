@@ -1,14 +1,14 @@
-// Literals that are open: neither true nor false.
+// Literals that are open, neither true nor false, and clauses with a true one.
 
 ghost use Rattle.std.specs.Prelude.{◌≡◌, ◌≤◌, false, IsTrue, IfSome, Contains, ◌⊎◌};
-ghost use Rattle.cnf_form.specs.Cnf.{negate, LitWithin};
+ghost use Rattle.cnf_form.specs.Cnf.{negate, ClauseWithin, LitOf, LitWithin};
 ghost use Rattle.unit_propagation.specs.Propagation.{IsOpen};
 
 use cnf_form::Lit;
 use unit_propagation::Propagator;
 
-// Whether a literal is neither true nor false.
-pub(crate) fn is_open(core: &Propagator, l: Lit) -> bool
+/// Whether a literal is neither true nor false.
+pub fn is_open(core: &Propagator, l: Lit) -> bool
     requires { l.var ≤ core.now.vars }
     ensures yes { IsTrue result → IsOpen core.now.trail l }
     ensures no { result ≡ false → Contains core.now.trail l ⊎ Contains core.now.trail (negate l) }
@@ -22,8 +22,8 @@ pub(crate) fn is_open(core: &Propagator, l: Lit) -> bool
     true
 }
 
-// The first literal that is not false, and has this sign if one is given, if the clause has one and none is true.
-pub(crate) fn open_of(core: &Propagator, clause: &[Lit], negated: Option<bool>) -> Option<Lit>
+/// The first literal that is not false, and has this sign if one is given, if the clause has one and none is true.
+pub fn open_of(core: &Propagator, clause: &[Lit], negated: Option<bool>) -> Option<Lit>
     ensures { IfSome result (λ l. LitWithin core.now.vars l × IsOpen core.now.trail l) }
 {
     let mut open = None;
@@ -42,4 +42,17 @@ pub(crate) fn open_of(core: &Propagator, clause: &[Lit], negated: Option<bool>) 
         }
     }
     open
+}
+
+/// Whether a literal of a clause is true.
+pub fn is_satisfied(core: &Propagator, clause: &[Lit]) -> bool
+    requires within { ClauseWithin core.now.vars clause.now }
+    ensures no { result ≡ false → (l : LitOf) → Contains clause.now l → Contains core.now.trail l → ⊥ }
+{
+    for l in clause {
+        if core.is_true(*l) {
+            return true;
+        }
+    }
+    false
 }

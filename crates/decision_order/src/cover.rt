@@ -2,7 +2,7 @@
 
 ghost use Rattle.cnf_form.specs.Cnf.{ClauseWithin};
 
-use crate::reduce::is_satisfied;
+use crate::open::is_satisfied;
 use cnf_form::Lit;
 use std::alloc::{AllocError, Global};
 use unit_propagation::Propagator;

@@ -3,6 +3,7 @@
 ghost use Rattle.std.specs.Prelude.{◌<◌};
 
 use crate::luck::Luck;
+use crate::walks::Walks;
 use cnf_form::Lit;
 use std::alloc::{AllocError, Global};
 
@@ -13,18 +14,18 @@ const MAX_ACTIVITY: u64 = 1 << 60;
 const NO_PLACE: u32 = 0xffff_ffff;
 
 #[derive(Drop)]
-pub(crate) struct Order {
+pub struct Order {
     heap: Vec<u32>,
     places: Vec<u32>,
     activities: Vec<u64>,
     signs: Vec<bool>,
     step: u64,
     has_goal: bool,
-    pub(crate) luck: Luck,
+    pub luck: Luck,
     calm: bool,
     targets: Vec<bool>,
     longest: usize,
-    walk_is_due: bool,
+    pub(crate) walks: Walks,
 }
 
 impl Order {
@@ -52,21 +53,21 @@ impl Order {
             calm: false,
             targets,
             longest: 0,
-            walk_is_due: true,
+            walks: Walks::new(),
         })
     }
 
-    // Whether the formula's last clause is decided first.
+    /// Whether the formula's last clause is decided first.
     pub fn has_goal(&self) -> bool {
         self.has_goal
     }
 
-    // How many variables are in the heap.
+    /// How many variables are in the heap.
     pub fn len(&self) -> usize {
         self.heap.len()
     }
 
-    // Whether a variable is to be false: as it was on the longest trail of a calm stretch, else as it was last.
+    /// Whether a variable is to be false: as it was on the longest trail of a calm stretch, else as it was last.
     pub fn sign(&self, var: u32) -> bool {
         let sign = if self.calm {
             self.targets.get(var as usize)
@@ -79,7 +80,7 @@ impl Order {
         }
     }
 
-    // A stretch that is calm, or not, goes on or begins.
+    /// A stretch that is calm, or not, goes on or begins.
     pub fn set_calm(&mut self, calm: bool) {
         if calm && !self.calm {
             self.longest = 0;
@@ -92,21 +93,24 @@ impl Order {
         self.calm = calm;
     }
 
-    // Whether a walk is to find signs, once guesses are over.
+    /// Whether the walk is to begin or to go on, once guesses are over.
     pub fn wants_walk(&self) -> bool {
-        self.walk_is_due && !self.luck.is_left()
+        self.walks.is_due() && !self.luck.is_left()
     }
 
-    // The walk is over, or there is none.
-    pub fn end_walk(&mut self) {
-        self.walk_is_due = false;
+    /// Whether it is to begin.
+    pub fn wants_first_walk(&self) -> bool {
+        self.wants_walk() && self.walks.count() == 0
     }
 
-    // Variables are decided by these signs. Nothing comes first where they satisfy all clauses.
+    /// Variables are decided by these signs. Nothing comes first where they satisfy all clauses.
     pub fn follow(&mut self, signs: &[bool], satisfy: bool) {
         for index in 0..signs.len() {
             if index < self.signs.len() {
                 self.signs[index] = signs[index];
+            }
+            if index < self.targets.len() {
+                self.targets[index] = signs[index];
             }
         }
         if satisfy {
@@ -114,7 +118,7 @@ impl Order {
         }
     }
 
-    // Keeps the signs of these true literals, where they are the most of a calm stretch.
+    /// Keeps the signs of these true literals, where they are the most of a calm stretch.
     pub fn keep_longest(&mut self, lits: &[Lit]) {
         if !self.calm || lits.len() <= self.longest {
             return;
@@ -203,7 +207,7 @@ impl Order {
         self.set(place, var);
     }
 
-    // Takes the most active variable out, or answers 0.
+    /// Takes the most active variable out, or answers 0.
     pub fn pop(&mut self) -> u32 {
         let top = self.at(0);
         if let Some(last) = self.heap.pop() {
@@ -218,9 +222,10 @@ impl Order {
         top
     }
 
-    // Puts a variable that isn't in the heap, with the sign that it had, unless that was guessed.
+    /// Puts a variable that isn't in the heap, with the sign that it had, unless that was guessed.
     pub fn put(&mut self, var: u32, sign: bool) -> Result<(), AllocError> {
         let index = var as usize;
+        self.walks.open();
         if index < self.signs.len() && !self.luck.is_left() {
             self.signs[index] = sign;
         }
@@ -233,7 +238,7 @@ impl Order {
         Ok(())
     }
 
-    // Makes a variable more active.
+    /// Makes a variable more active.
     pub fn bump(&mut self, var: u32) {
         let index = var as usize;
         if index < self.activities.len() {
@@ -250,7 +255,7 @@ impl Order {
         }
     }
 
-    // Makes later conflicts count more.
+    /// Makes later conflicts count more.
     pub fn age(&mut self) {
         self.step = self.step.saturating_add(self.step / 20);
     }

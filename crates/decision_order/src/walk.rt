@@ -13,7 +13,7 @@ use unit_propagation::Propagator;
 // Where there are more literals and variables, there is no walk.
 const MOST_LITERALS: usize = 1 << 16;
 
-// A walk looks at so many clauses, or as often at each literal of a smaller formula.
+// At first a walk looks at so many clauses, or as often at each literal of a smaller formula.
 const MOST_LOOKS: u64 = 3_000_000;
 
 const LOOKS_A_LITERAL: u64 = 500;
@@ -289,10 +289,8 @@ impl Walk {
     }
 
     // Changes values until no clause is false, or enough was looked at.
-    fn run(&mut self, cover: &Cover) -> Result<(), AllocError> {
-        let most = (cover.literals() as u64)
-            .saturating_mul(LOOKS_A_LITERAL)
-            .min(MOST_LOOKS);
+    fn run(&mut self, cover: &Cover, most: u64) -> Result<(), AllocError> {
+        self.looks = 0;
         for _ in 0..most {
             if self.looks >= most || self.wrong.len() == 0 {
                 break;
@@ -322,8 +320,38 @@ fn is_small(core: &Propagator, given: usize) -> bool {
     literals <= MOST_LITERALS
 }
 
-// At level 0, once: a walk over the first clauses, so many, and the signs at its best place.
-pub(crate) fn find_signs(
+// A walk that may go on, and its clauses.
+#[derive(Drop)]
+pub(crate) struct Paused {
+    cover: Cover,
+    walk: Walk,
+}
+
+// A walk over the first clauses, so many, which is to begin.
+fn start(
+    alloc: Global,
+    core: &Propagator,
+    given: usize,
+    order: &Order,
+) -> Result<Paused, AllocError> {
+    let cover = Cover::new(alloc, core, given)?;
+    let walk = Walk::new(alloc, core, order, &cover)?;
+    Ok(Paused { cover, walk })
+}
+
+// How many clauses the walk is to look at.
+fn looks_of(order: &Order, cover: &Cover) -> u64 {
+    if order.walks.count() > 0 {
+        return order.walks.looks();
+    }
+    (cover.literals() as u64)
+        .saturating_mul(LOOKS_A_LITERAL)
+        .min(MOST_LOOKS)
+}
+
+/// At level 0, where it is time to, the walk begins or goes on. The signs at its best place are followed at first, and later where they
+/// satisfy all clauses, so that else it changes nothing of the search.
+pub fn find_signs(
     alloc: Global,
     core: &Propagator,
     given: usize,
@@ -332,13 +360,21 @@ pub(crate) fn find_signs(
     if !order.wants_walk() {
         return Ok(());
     }
-    order.end_walk();
     if !is_small(core, given) {
+        order.walks.end();
         return Ok(());
     }
-    let cover = Cover::new(alloc, core, given)?;
-    let mut walk = Walk::new(alloc, core, order, &cover)?;
-    walk.run(&cover)?;
-    order.follow(&walk.best, walk.least == 0);
+    let mut paused = match order.walks.resume() {
+        Some(paused) => paused,
+        None => start(alloc, core, given, order)?,
+    };
+    let looks = looks_of(order, &paused.cover);
+    paused.walk.run(&paused.cover, looks)?;
+    let least = paused.walk.least;
+    let clauses = paused.cover.len();
+    if order.walks.count() == 0 || least == 0 {
+        order.follow(&paused.walk.best, least == 0);
+    }
+    order.walks.pause(paused, least, clauses);
     Ok(())
 }

@@ -15,17 +15,17 @@ const GUESSES: u32 = 4;
 // .. the first of which go through the variables alone.
 const BY_VARS: u32 = 2;
 
-// The guesses are numbered from 1: that all is false; that all is true; of each clause that isn't true a negated literal, and what is
-// left is true; the same with the signs turned. The places are those of the next clause and variable.
+/// The guesses are numbered from 1: that all is false; that all is true; of each clause that isn't true a negated literal, and what is
+/// left is true; the same with the signs turned. The places are those of the next clause and variable.
 #[derive(Drop)]
-pub(crate) struct Luck {
+pub struct Luck {
     guess: u32,
     clause: usize,
     var: u32,
 }
 
 impl Luck {
-    // Before the first guess, or where there is no goal behind the last.
+    /// Before the first guess, or where there is no goal behind the last.
     pub fn new(has_goal: bool) -> Self {
         Luck {
             guess: if has_goal { 0 } else { GUESSES + 1 },
@@ -34,12 +34,12 @@ impl Luck {
         }
     }
 
-    // Whether guesses aren't over.
+    /// Whether guesses aren't over.
     pub fn is_left(&self) -> bool {
         self.guess <= GUESSES
     }
 
-    // Goes on to the next guess.
+    /// Goes on to the next guess.
     pub fn advance(&mut self) {
         self.guess = self.guess.saturating_add(1);
         self.clause = 0;
@@ -78,7 +78,7 @@ impl Luck {
         None
     }
 
-    // The next literal that is guessed.
+    /// The next literal that is guessed.
     pub fn next(&mut self, core: &Propagator, formula: &Formula) -> Option<Lit>
         ensures { IfSome result (λ l. LitWithin core.now.vars l × IsOpen core.now.trail l) }
     {

@@ -1,7 +1,7 @@
 use Rattle.std.proofs.Common.{ℕ, ◌<◌, get_or}
 use Rattle.std.specs.Prelude.{Contains}
 use Rattle.cnf_form.specs.Cnf.{LitOf}
-use Rattle.cdcl_core.proofs.reduce.is_satisfied.Given as goal
+use Rattle.decision_order.proofs.open.is_satisfied.Given as goal
 
 abbrev pub invariant-loop-l : goal.invariant-loop-l
 invariant-loop-l l = record {
