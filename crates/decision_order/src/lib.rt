@@ -7,6 +7,7 @@ mod open;
 mod order;
 mod walk;
 mod walks;
+mod weights;
 
 pub use crate::luck::Luck;
 pub use crate::open::{is_open, is_satisfied, open_of};

@@ -6,6 +6,7 @@ ghost use Rattle.std.specs.Prelude.{◌<◌};
 
 use crate::cover::{Cover, at, narrow, set};
 use crate::order::Order;
+use crate::weights::follow_weights;
 use cnf_form::Lit;
 use std::alloc::{AllocError, Global};
 use unit_propagation::Propagator;
@@ -350,7 +351,7 @@ fn looks_of(order: &Order, cover: &Cover) -> u64 {
 }
 
 /// At level 0, where it is time to, the walk begins or goes on. The signs at its best place are followed at first, and later where they
-/// satisfy all clauses, so that else it changes nothing of the search.
+/// satisfy all clauses, so that else it changes nothing of the search. Where a formula is too large for it, signs are those by weight.
 pub fn find_signs(
     alloc: Global,
     core: &Propagator,
@@ -361,6 +362,7 @@ pub fn find_signs(
         return Ok(());
     }
     if !is_small(core, given) {
+        follow_weights(alloc, core, given, order)?;
         order.walks.end();
         return Ok(());
     }
