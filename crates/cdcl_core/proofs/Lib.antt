@@ -5,3 +5,6 @@ mod Backjumps
 mod Answering
 mod Solutions
 mod Reductions
+mod Orders
+mod Thawing
+mod Learnings

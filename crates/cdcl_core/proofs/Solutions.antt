@@ -1,18 +1,21 @@
 -- What was logged, and what answers it gives.
 use Rattle.std.proofs.Common.{◌≡◌, ◌⊎◌, inl, inr, ℕ, ◌+◌, ◌*◌, ◌<◌, ◌≤◌, Bool, List, [], ◌∷◌, ◌++◌, length, refl, sym, ◌∙◌, ap, subst, arith}
-use Rattle.std.specs.Prelude.{Result, Ok, Err, IfOk}
-use Rattle.std.proofs.lemmas.List.Elements.{All-nil, All-push}
+use Rattle.std.specs.Prelude.{Result, Ok, Err, IfOk, Contains}
+use Rattle.std.proofs.lemmas.List.Elements.{All-nil, All-push, Contains-append_left, Contains-append_right, Contains-append_cases}
 use Rattle.std.specs.declared.alloc.AllocError.{AllocError}
-use Rattle.cnf_form.specs.Cnf.{LitOf, FormulaOf, Satisfies, IsAdmitted, Deletes, Line, Addition, Deletion, Drup}
-use Rattle.cnf_form.proofs.Removal.{Drup-refutes}
-use Rattle.unit_propagation.specs.Propagation.{ContainsAll}
+use Rattle.cnf_form.specs.Cnf.{LitOf, FormulaOf, Satisfies, IsAdmitted, negated_units, Deletes, Line, Addition, Deletion, Drup}
+use Rattle.cnf_form.proofs.Removal.{Drup-refutes, Closure-monotone}
 use Rattle.cdcl_core.specs.Logged.{IsNew, IsProper, clause_of, Logged, none, added, deleted, additions, deletions}
 use Rattle.unit_propagation.specs.Propagator.{PropagatorOf, clauses_of}
 use Rattle.cdcl_core.specs.declared.solver.Solved.{Solved}
 use Rattle.cdcl_core.specs.declared.solver.Solved.TheVariants.{Unsat, LogFailed}
-use Rattle.cdcl_core.specs.declared.solver.Turn.{Turn}
 use Rattle.cdcl_core.specs.declared.solver.Turn.TheVariants.{Answered, Learnt}
-use Rattle.cdcl_core.specs.Solving.{Takes, IsSearch, IsCounted, IsFound, IsRefuted, IsBroken, SolvedFits, TurnFits, StepFits, valued}
+use Rattle.cdcl_core.specs.declared.solver.Step.{Step}
+use Rattle.cdcl_core.specs.declared.solver.Step.TheVariants.{Turned, Thawed}
+use Rattle.frozen_clauses.specs.Frozen.{FrozenOf}
+use Rattle.cdcl_core.specs.Present.{all_of, Reorders}
+use Rattle.cdcl_core.proofs.Orders.{reorders_same, reorders_add, reorders_forth, reorders_back}
+use Rattle.cdcl_core.specs.Solving.{Takes, IsSearch, IsCounted, IsHeld, IsFound, IsRefuted, IsBroken, SolvedFits, StepFits, LearningFits, valued}
 
 -- a line more is taken
 pub takes_more : {A : Type 0} (takes : A → Line → A → Type 0) (a b c : A) (ls : List Line) (l : Line) → Takes takes a ls b → takes b l c → Takes takes a (ls ++ l ∷ []) c
@@ -62,26 +65,47 @@ counted_none takes f a = record {
   deletions = refl;
 }
 
+pub held_none : {A : Type 0} (takes : A → Line → A → Type 0) (f : FormulaOf) (a : A) → IsHeld takes f a a f.clauses 0 0
+held_none takes f a = record { order = f.clauses; reorders = reorders_same f.clauses; counted = counted_none takes f a }
+
+-- what is admitted by clauses is by more
+pub admitted_more : (F G : List (List LitOf)) (c : List LitOf) → ((d : List LitOf) → Contains F d → Contains G d) → IsAdmitted F c → IsAdmitted G c
+admitted_more F G c all w =
+    let more : (d : List LitOf) → Contains (F ++ negated_units c) d → Contains (G ++ negated_units c) d = λ d h. elim (Contains-append_cases F (negated_units c) d h) [
+      | inl k ↦ Contains-append_left G (negated_units c) d (all d k)
+      | inr k ↦ Contains-append_right G (negated_units c) d k
+    ] in
+    (w.0, more w.0 w.1, λ l h. Closure-monotone more (w.2 l h))
+
+-- what the first part admits, all do, in any order
+pub admitted_all : (F G O : List (List LitOf)) (c : List LitOf) → Reorders (F ++ G) O → IsAdmitted F c → IsAdmitted O c
+admitted_all F G O c r w = admitted_more F O c (λ d h. reorders_forth r d (Contains-append_left F G d h)) w
+
 -- a clause was logged
-counted_more : {A : Type 0} (takes : A → Line → A → Type 0) (f : FormulaOf) (a b now : A) (G H : List (List LitOf)) (n d : ℕ) (c : List LitOf) → IsCounted takes f a b G n d → IsAdmitted G c → IsNew G c → IsProper f.vars c → H ≡ G ++ c ∷ []
-    → takes b (Addition c) now → IsCounted takes f a now H (n + 1) d
-counted_more takes f a b now G H n d c w h new fits e t =
-    let s = w.search in
-    subst (λ z. IsCounted takes f a now z (n + 1) d) (sym e) (record {
-      search = record {
-        lines = s.lines ++ Addition c ∷ [];
-        deletions = s.deletions;
-        taken = takes_more takes a b now s.lines (Addition c) s.taken t;
-        logged = added s.lines G n s.deletions c s.logged h new;
-        proper = All-push (λ l. IsProper f.vars (clause_of l)) s.lines (Addition c) s.proper fits;
+held_more : {A : Type 0} (takes : A → Line → A → Type 0) (f : FormulaOf) (a b now : A) (F G : List (List LitOf)) (n d : ℕ) (c : List LitOf) → IsHeld takes f a b (F ++ G) n d → IsAdmitted F c → IsNew (F ++ G) c → IsProper f.vars c
+    → takes b (Addition c) now → IsHeld takes f a now ((F ++ c ∷ []) ++ G) (n + 1) d
+held_more takes f a b now F G n d c w h new fits t =
+    let k = w.counted in
+    let s = k.search in
+    record {
+      order = w.order ++ c ∷ [];
+      reorders = reorders_add F G w.order c w.reorders;
+      counted = record {
+        search = record {
+          lines = s.lines ++ Addition c ∷ [];
+          deletions = s.deletions;
+          taken = takes_more takes a b now s.lines (Addition c) s.taken t;
+          logged = added s.lines w.order n s.deletions c s.logged (admitted_all F G w.order c w.reorders h) (record { apart = λ e m. new.apart e (reorders_back w.reorders e m) });
+          proper = All-push (λ l. IsProper f.vars (clause_of l)) s.lines (Addition c) s.proper fits;
+        };
+        deletions = k.deletions;
       };
-      deletions = w.deletions;
-    })
+    }
 
 -- the answers
-pub found : {A : Type 0} (takes : A → Line → A → Type 0) (f : FormulaOf) (budget n : ℕ) (a b : A) (G : List (List LitOf)) (values : List Bool) → n < budget → IsSearch takes f a b G n → length values ≡ f.vars + 1 → ContainsAll f.clauses G
-    → Satisfies (valued values) G → IsFound takes f budget a b values
-found takes f budget n a b G values h s sized all sat = record { present = G; count = n; search = s; in_time = h; sized = sized; satisfies = λ c k. sat c (all.each c k) }
+pub found : {A : Type 0} (takes : A → Line → A → Type 0) (f : FormulaOf) (budget n : ℕ) (a b : A) (G : List (List LitOf)) (values : List Bool) → n < budget → IsSearch takes f a b G n → length values ≡ f.vars + 1 → Satisfies (valued values) f.clauses
+    → IsFound takes f budget a b values
+found takes f budget n a b G values h s sized sat = record { present = G; count = n; search = s; in_time = h; sized = sized; satisfies = sat }
 
 pub refuted : {A : Type 0} (takes : A → Line → A → Type 0) (f : FormulaOf) (budget n : ℕ) (a b now : A) (G : List (List LitOf)) → n < budget → IsSearch takes f a b G n → IsAdmitted G [] → takes b (Addition []) now → IsRefuted takes f budget a now
 refuted takes f budget n a b now G h s w t = record {
@@ -106,11 +130,21 @@ end_fits takes fails f budget n a b now G s took failed which h w admits = elim 
   | inr e ↦ subst (SolvedFits takes fails f budget a now) (sym e) (broken takes fails f budget n a b now G h w (failed e))
 ]
 
--- what a clause that is learnt comes to
-pub step_fits : {A : Type 0} (takes : A → Line → A → Type 0) (fails : A → A → Type 0) (f : FormulaOf) (old new : PropagatorOf) (F : List (List LitOf)) (b now : A) (r : Result Turn AllocError) → old.vars ≡ f.vars → clauses_of old.slots ≡ F
-    → IfOk r (StepFits takes fails old new b now)
-    → IfOk r (λ t. (budget count deleted : ℕ) (before : A) → count < budget → IsCounted takes f before b F count deleted → TurnFits takes fails f budget count deleted before now new t)
-step_fits takes fails f old new F b now (Err e) v is w = tt
-step_fits takes fails f old new F b now (Ok (Answered s)) v is w = λ budget count deleted before h k. subst (SolvedFits takes fails f budget before now) (sym w.0) (broken takes fails f budget count before b now F h k.search w.1)
-step_fits takes fails f old new F b now (Ok (Learnt o)) v is w = λ budget count deleted before h k.
-    counted_more takes f before b now F (clauses_of new.slots) count deleted w.0 k (subst (λ z. IsAdmitted z w.0) is w.1) (subst (λ z. IsNew z w.0) is w.2) (subst (λ z. IsProper z w.0) v w.3) (w.4 ∙ ap (λ z. z ++ w.0 ∷ []) is) w.5
+-- what is done at a falsified clause comes to
+pub learning_fits : {A : Type 0} (takes : A → Line → A → Type 0) (fails : A → A → Type 0) (f : FormulaOf) (old new : PropagatorOf) (z y : FrozenOf) (F : List (List LitOf)) (b now : A) (r : Result Step AllocError) → old.vars ≡ f.vars → clauses_of old.slots ≡ F
+    → IfOk r (LearningFits takes fails old z new y b now)
+    → IfOk r (λ t. (budget count deleted : ℕ) (before : A) → count < budget → IsHeld takes f before b (F ++ clauses_of z.slots) count deleted → StepFits takes fails f budget count deleted before now new y t)
+learning_fits takes fails f old new z y F b now (Err e) v is w = tt
+learning_fits takes fails f old new z y F b now (Ok (Turned (Answered s))) v is w = λ budget count deleted before h k.
+    let m = k.counted in
+    subst (SolvedFits takes fails f budget before now) (sym w.0) (broken takes fails f budget count before b now k.order h m.search w.1)
+learning_fits takes fails f old new z y F b now (Ok (Turned (Learnt o))) v is w = λ budget count deleted before h k.
+    let c = w.0 in
+    let G = clauses_of z.slots in
+    let all : all_of new y ≡ (F ++ c ∷ []) ++ G = ap (λ x. x ++ clauses_of y.slots) (w.4 ∙ ap (λ x. x ++ c ∷ []) is) ∙ ap (λ (x : FrozenOf). (F ++ c ∷ []) ++ clauses_of x.slots) w.5 in
+    subst (λ x. IsHeld takes f before now x (count + 1) deleted) (sym all)
+    (held_more takes f before b now F G count deleted c k (subst (λ x. IsAdmitted x c) is w.1) (subst (λ x. IsNew (x ++ G) c) is w.2) (subst (λ x. IsProper x c) v w.3) w.6)
+learning_fits takes fails f old new z y F b now (Ok Thawed) v is w = λ budget count deleted before h k.
+    let s = w.0 in
+    let held : IsHeld takes f before now (F ++ clauses_of z.slots) count deleted = subst (λ x. IsHeld takes f before x (F ++ clauses_of z.slots) count deleted) (sym w.1) k in
+    record { order = held.order; reorders = s.forth held.order (subst (λ x. Reorders (x ++ clauses_of z.slots) held.order) (sym is) held.reorders); counted = held.counted }

@@ -2,4 +2,5 @@ pub mod Logged
 pub mod Levels
 pub mod Analysis
 pub mod Solving
+pub mod Present
 pub mod Reducing

@@ -1,11 +1,15 @@
 -- What the solver answers.
-use Rattle.std.specs.Prelude.{◌≡◌, ℕ, ◌<◌, ◌+◌, Bool, false, List, [], ◌∷◌, ◌++◌, length, slice_index_or}
+use Rattle.std.specs.Prelude.{◌≡◌, ℕ, ◌<◌, ◌+◌, Bool, false, List, [], ◌∷◌, ◌++◌, length, Some, None, slice_index_or}
 use Rattle.cnf_form.specs.Cnf.{LitOf, FormulaOf, Assignment, Satisfies, IsUnsatisfiable, IsAdmitted, Line, Addition}
 use Rattle.unit_propagation.specs.Propagator.{PropagatorOf, clauses_of}
 use Rattle.cdcl_core.specs.declared.solver.Solved.{Solved}
 use Rattle.cdcl_core.specs.declared.solver.Solved.TheVariants.{Sat, Unsat, Budget, LogFailed}
 use Rattle.cdcl_core.specs.declared.solver.Turn.{Turn}
 use Rattle.cdcl_core.specs.declared.solver.Turn.TheVariants.{Answered, Learnt}
+use Rattle.cdcl_core.specs.declared.solver.Step.{Step}
+use Rattle.cdcl_core.specs.declared.solver.Step.TheVariants.{Turned, Thawed}
+use Rattle.frozen_clauses.specs.Frozen.{FrozenOf}
+use Rattle.cdcl_core.specs.Present.{all_of, Reorders, SameOrders}
 use Rattle.cdcl_core.specs.Levels.{IsPending}
 use Rattle.cdcl_core.specs.Logged.{IsNew, Logged, IsProper, AreProper}
 
@@ -30,6 +34,12 @@ pub record IsSearch {A : Type 0} (takes : A → Line → A → Type 0) (f : Form
 pub record IsCounted {A : Type 0} (takes : A → Line → A → Type 0) (f : FormulaOf) (before now : A) (present : List (List LitOf)) (count deleted : ℕ) : Type 0 where
   pub search : IsSearch takes f before now present count
   pub deletions : search.deletions ≡ deleted
+
+-- the lines lead to these clauses, in some order
+pub record IsHeld {A : Type 0} (takes : A → Line → A → Type 0) (f : FormulaOf) (before now : A) (present : List (List LitOf)) (count deleted : ℕ) : Type 0 where
+  pub order : List (List LitOf)
+  pub reorders : Reorders present order
+  pub counted : IsCounted takes f before now order count deleted
 
 -- values that satisfy the formula, found before the budget was spent
 pub record IsFound {A : Type 0} (takes : A → Line → A → Type 0) (f : FormulaOf) (budget : ℕ) (before now : A) (values : List Bool) : Type 0 where
@@ -72,17 +82,33 @@ SolvedFits takes fails f budget before now Unsat = IsRefuted takes f budget befo
 SolvedFits takes fails f budget before now Budget = IsSpent takes f budget before now
 SolvedFits takes fails f budget before now LogFailed = IsBroken takes fails f budget before now
 
--- what one conflict comes to, after count of them and so many deletions: an answer, or one more clause that was logged and put
-abbrev pub TurnFits : {A : Type 0} → (A → Line → A → Type 0) → (A → A → Type 0) → FormulaOf → ℕ → ℕ → ℕ → A → A → PropagatorOf → Turn → Type 0
-TurnFits takes fails f budget count deleted before now p (Answered s) = SolvedFits takes fails f budget before now s
-TurnFits takes fails f budget count deleted before now p (Learnt k) = IsCounted takes f before now (clauses_of p.slots) (count + 1) deleted
+-- what a turn comes to, after count conflicts and so many deletions: an answer, or one more clause that was logged and put
+abbrev pub TurnFits : {A : Type 0} → (A → Line → A → Type 0) → (A → A → Type 0) → FormulaOf → ℕ → ℕ → ℕ → A → A → PropagatorOf → FrozenOf → Turn → Type 0
+TurnFits takes fails f budget count deleted before now p z (Answered s) = SolvedFits takes fails f budget before now s
+TurnFits takes fails f budget count deleted before now p z (Learnt k) = IsHeld takes f before now (all_of p z) (count + 1) deleted
 
--- what is done at a falsified clause: the log fails, or a clause is logged and put
-abbrev pub StepFits : {A : Type 0} → (A → Line → A → Type 0) → (A → A → Type 0) → PropagatorOf → PropagatorOf → A → A → Turn → Type 0
-StepFits takes fails old new before now (Answered s) = (s ≡ LogFailed) × fails before now × (clauses_of new.slots ≡ clauses_of old.slots)
-StepFits takes fails old new before now (Learnt k) = (c : List LitOf) × IsAdmitted (clauses_of old.slots) c × IsNew (clauses_of old.slots) c × IsProper old.vars c × (clauses_of new.slots ≡ clauses_of old.slots ++ c ∷ []) × takes before (Addition c) now
+-- the same of a step, which may also put a frozen clause back, and then nothing was logged
+abbrev pub StepFits : {A : Type 0} → (A → Line → A → Type 0) → (A → A → Type 0) → FormulaOf → ℕ → ℕ → ℕ → A → A → PropagatorOf → FrozenOf → Step → Type 0
+StepFits takes fails f budget count deleted before now p z (Turned t) = TurnFits takes fails f budget count deleted before now p z t
+StepFits takes fails f budget count deleted before now p z Thawed = IsHeld takes f before now (all_of p z) count deleted
+
+-- what is done with a clause that is to be learnt: the log fails, or it is logged and put
+abbrev pub LogFits : {A : Type 0} → (A → Line → A → Type 0) → (A → A → Type 0) → PropagatorOf → PropagatorOf → List LitOf → A → A → Turn → Type 0
+LogFits takes fails old new c before now (Answered s) = (s ≡ LogFailed) × fails before now × (new.slots ≡ old.slots)
+LogFits takes fails old new c before now (Learnt k) = (new.slots ≡ old.slots ++ Some c ∷ []) × takes before (Addition c) now
+
+-- what is done at a falsified clause: the log fails, a clause is logged and put, or a frozen one is put back
+abbrev pub LearningFits : {A : Type 0} → (A → Line → A → Type 0) → (A → A → Type 0) → PropagatorOf → FrozenOf → PropagatorOf → FrozenOf → A → A → Step → Type 0
+LearningFits takes fails old held new kept before now (Turned (Answered s)) = (s ≡ LogFailed) × fails before now
+LearningFits takes fails old held new kept before now (Turned (Learnt k)) = (c : List LitOf) × IsAdmitted (clauses_of old.slots) c × IsNew (all_of old held) c × IsProper old.vars c × (clauses_of new.slots ≡ clauses_of old.slots ++ c ∷ []) × (kept ≡ held) × takes before (Addition c) now
+LearningFits takes fails old held new kept before now Thawed = SameOrders (all_of old held) (all_of new kept) × (now ≡ before)
 
 -- what the search goes on with
 abbrev pub GoesOn : PropagatorOf → Turn → Type 0
 GoesOn p (Answered s) = Unit {0}
 GoesOn p (Learnt k) = IsPending p k
+
+-- the same of a step
+abbrev pub StepGoesOn : PropagatorOf → Step → Type 0
+StepGoesOn p (Turned t) = GoesOn p t
+StepGoesOn p Thawed = IsPending p None

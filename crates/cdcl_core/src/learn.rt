@@ -5,6 +5,7 @@ ghost use Rattle.cnf_form.specs.Cnf.{LitOf, negate, ClauseWithin};
 ghost use Rattle.cdcl_core.specs.Levels.{IsDriven, IsPending, base_of};
 ghost use Rattle.cdcl_core.specs.Analysis.{IsLearnt, IsLastOf, ComesLast};
 
+use crate::load::put_next;
 use cnf_form::Lit;
 use decision_order::Order;
 use std::alloc::AllocError;
@@ -93,6 +94,23 @@ fn reopen(core: &Propagator, order: &mut Order, place: usize) -> Result<(), Allo
     Ok(())
 }
 
+// Takes all levels back, where there are some; behind a conflict too.
+pub(crate) fn back_to_root(core: &mut Propagator, order: &mut Order) -> Result<(), AllocError>
+    requires driven { IsDriven core.old }
+    requires levels { 0 < length core.old.limits }
+    ensures vars { core.new.vars ≡ core.old.vars }
+    ensures slots { core.new.slots ≡ core.old.slots }
+    ensures level { OnOk result (core.new.limits ≡ []) }
+    ensures driven { IsDriven core.new }
+    ensures conflict { OnOk result (core.new.conflict ≡ false) }
+    ensures same { core.old.conflict ≡ false → core.new.conflict ≡ false }
+{
+    core.levels_are_complete();
+    reopen(core, order, core.limit(0))?;
+    core.undo(0);
+    Ok(())
+}
+
 // Takes all levels back.
 pub(crate) fn restart(core: &mut Propagator, order: &mut Order) -> Result<(), AllocError>
     requires driven { IsDriven core.old }
@@ -106,10 +124,7 @@ pub(crate) fn restart(core: &mut Propagator, order: &mut Order) -> Result<(), Al
     if core.levels() == 0 {
         return Ok(());
     }
-    core.levels_are_complete();
-    reopen(core, order, core.limit(0))?;
-    core.undo(0);
-    Ok(())
+    back_to_root(core, order)
 }
 
 // Goes back to the lowest level on which all literals of a learnt clause but its first are false, puts it, and makes the
@@ -123,19 +138,15 @@ pub(crate) fn assert_learnt(
     requires driven { IsDriven core.old }
     requires levels { 0 < length core.old.limits }
     requires learnt { IsLearnt core.old (base_of core.old) clause.now first }
-    ensures vars { core.new.vars ≡ core.old.vars }
+    ensures vars { OnOk result (core.new.vars ≡ core.old.vars) }
     ensures slots { OnOk result (core.new.slots ≡ core.old.slots ++ Some clause.now ∷ []) }
     ensures driven { OnOk result (IsDriven core.new) }
     ensures pending { IfOk result (λ o. IsPending core.new o) }
 {
     match last_false(core, clause, first) {
         None => {
-            core.levels_are_complete();
-            reopen(core, order, core.limit(0))?;
-            core.undo(0);
-            core.levels_are_complete();
-            core.put(clause)?;
-            core.clauses_are_within();
+            back_to_root(core, order)?;
+            put_next(core, clause)?;
             Ok(None)
         }
         Some(second) => go_back(core, order, clause, first, second),

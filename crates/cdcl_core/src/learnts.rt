@@ -13,10 +13,21 @@ const FIRST_INTERVAL: u64 = 1000;
 // So many conflicts more come before each later one.
 const INTERVAL_STEP: u64 = 150;
 
-// A clause of this glue or less is kept.
+// A clause of this glue or less is kept, ..
 const GOOD_GLUE: u32 = 3;
 
-// A clause that may be deleted. The greatest is the worst.
+// .. and in a long search of this.
+const BEST_GLUE: u32 = 2;
+
+// From so many conflicts on a search is long: propagation would slow down with all the clauses that are kept.
+const LONG: u64 = 32_000;
+
+// Whether a search of so many conflicts is long.
+pub(crate) fn is_long(conflicts: u64) -> bool {
+    conflicts >= LONG
+}
+
+// A clause that may go. The greatest is the worst.
 #[derive(Clone, Copy, PartialEq, Eq, PartialOrd, Ord)]
 struct Candidate {
     glue: u32,
@@ -25,7 +36,8 @@ struct Candidate {
 }
 
 // What is known of the learnt clauses: the number of the first, and the glue of each from there on, and whether a conflict rested
-// on it since the last reduction. The sums are of literals: of the formula, and of the clauses learnt since the last collection.
+// on it since the last reduction. The sums are of literals: of the formula, and of the learnt clauses left at the last collection and
+// those learnt or put back since.
 #[derive(Drop)]
 pub(crate) struct Learnts {
     first: usize,
@@ -63,6 +75,11 @@ impl Learnts {
         Ok(())
     }
 
+    // A frozen clause of so many literals was put back: it is worth keeping for a while.
+    pub fn push_thawed(&mut self, length: usize) -> Result<(), AllocError> {
+        self.push(GOOD_GLUE, length)
+    }
+
     // Conflicts rested on these clauses: the glue of one may have fallen.
     pub fn use_all(&mut self, core: &Propagator, pace: &mut Pace, numbers: &[u32]) {
         for number in numbers {
@@ -71,7 +88,7 @@ impl Learnts {
                 continue;
             }
             self.used[place] = true;
-            if self.glues[place] <= GOOD_GLUE || *number as usize >= core.len() {
+            if self.glues[place] <= BEST_GLUE || *number as usize >= core.len() {
                 continue;
             }
             if let Some(clause) = core.clause(*number) {
@@ -80,7 +97,7 @@ impl Learnts {
         }
     }
 
-    // Whether clauses are to be deleted after so many conflicts.
+    // Whether clauses are to be deleted or frozen after so many conflicts.
     pub fn is_due(&mut self, conflicts: u64) -> bool {
         if conflicts < self.due {
             return false;
@@ -90,13 +107,13 @@ impl Learnts {
         true
     }
 
-    fn candidate(&self, core: &Propagator, place: usize) -> Option<Candidate> {
+    fn candidate(&self, core: &Propagator, place: usize, good: u32) -> Option<Candidate> {
         let number = self.first.saturating_add(place);
         if number >= core.len() || place >= self.glues.len() || place >= self.used.len() {
             return None;
         }
         let glue = self.glues[place];
-        if self.used[place] || glue <= GOOD_GLUE {
+        if self.used[place] || glue <= good {
             return None;
         }
         let number = number as u32;
@@ -111,18 +128,29 @@ impl Learnts {
         })
     }
 
-    // The worse half of the clauses that may be deleted, the worst first.
-    pub fn worst(&mut self, alloc: Global, core: &Propagator) -> Result<Vec<u32>, AllocError> {
+    // The worse half of the clauses that may go, the worst first; in a long search all but one in forty.
+    pub fn worst(
+        &mut self,
+        alloc: Global,
+        core: &Propagator,
+        long: bool,
+    ) -> Result<Vec<u32>, AllocError> {
+        let good = if long { BEST_GLUE } else { GOOD_GLUE };
         let mut candidates = Vec::new(alloc);
         for place in 0..self.used.len() {
-            if let Some(candidate) = self.candidate(core, place) {
+            if let Some(candidate) = self.candidate(core, place, good) {
                 candidates.push(candidate)?;
             }
             self.used[place] = false;
         }
         candidates.sort_unstable();
         let mut worst = Vec::new(alloc);
-        for _ in 0..candidates.len() / 2 {
+        let count = if long {
+            candidates.len() - candidates.len() / 40
+        } else {
+            candidates.len() / 2
+        };
+        for _ in 0..count {
             if let Some(candidate) = candidates.pop() {
                 worst.push(candidate.number)?;
             }
@@ -130,7 +158,7 @@ impl Learnts {
         Ok(worst)
     }
 
-    // Whether a third of all literals or more are those of deleted clauses.
+    // Whether more than a third of all literals are those of clauses that were deleted or frozen.
     pub fn is_sparse(&self, core: &Propagator) -> bool {
         let mut left: usize = 0;
         for number in self.first..core.len() {

@@ -13,6 +13,7 @@ mod reduce;
 mod search;
 mod shortening;
 mod solver;
+mod thaw;
 
 pub use crate::laws::logged_lines_are_a_proof;
 pub use crate::log::Log;

@@ -11,7 +11,7 @@ use std::alloc::{AllocError, Global};
 use unit_propagation::Propagator;
 
 // Puts a clause.
-fn put_next(core: &mut Propagator, clause: &[Lit]) -> Result<(), AllocError>
+pub(crate) fn put_next(core: &mut Propagator, clause: &[Lit]) -> Result<(), AllocError>
     requires level { core.old.limits ≡ [] }
     requires driven { IsDriven core.old }
     requires pending { IsPending core.old None }

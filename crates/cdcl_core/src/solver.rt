@@ -1,9 +1,8 @@
 // The solver.
 
 ghost use Rattle.std.specs.Prelude.{◌≡◌, ◌⊎◌, ◌+◌, ◌*◌, ◌<◌, ◌≤◌, ◌++◌, ◌∷◌, [], ℕ, true, false, List, length, Contains, IfOk, IfSome, IfNone, OnOk, Ok, Some, None};
-ghost use Rattle.cnf_form.specs.Cnf.{LitOf, Satisfies, lit_in, Addition, ClauseWithin};
+ghost use Rattle.cnf_form.specs.Cnf.{LitOf, Satisfies, lit_in, Addition};
 ghost use Rattle.cnf_form.specs.declared.literal.TheConstants.{MAX_VARS};
-ghost use Rattle.unit_propagation.specs.Propagation.{ContainsAll};
 ghost use Rattle.unit_propagation.specs.Propagator.{clauses_of};
 ghost use Rattle.sby_edge.specs.Cause.{Rose};
 ghost use Rattle.cdcl_core.specs.Levels.{IsDriven, IsPending, FoundFits, base_of, end_of};
@@ -11,11 +10,12 @@ ghost use Rattle.cdcl_core.specs.Logged.{IsNew, Logged};
 ghost use Rattle.cdcl_core.specs.declared.search.Found.TheVariants.{Assigned};
 ghost use Rattle.cdcl_core.specs.Analysis.{IsIdle, IsListed, Supports, IsLearnt};
 ghost use Rattle.cdcl_core.specs.Reducing.{IsBegun, Reduces, Breaks};
-ghost use Rattle.cdcl_core.specs.Solving.{SolvedFits, TurnFits, StepFits, GoesOn, IsCounted, valued};
+ghost use Rattle.cdcl_core.specs.Present.{all_of};
+ghost use Rattle.cdcl_core.specs.Solving.{SolvedFits, TurnFits, StepFits, LearningFits, LogFits, GoesOn, StepGoesOn, IsHeld, valued};
 
 use crate::analysis::Analysis;
 use crate::choose::has_goal;
-use crate::learn::{assert_learnt, negate_trail};
+use crate::learn::{assert_learnt, back_to_root, negate_trail};
 use crate::learnts::Learnts;
 use crate::load::load;
 use crate::log::Log;
@@ -23,8 +23,10 @@ use crate::pace::Pace;
 use crate::reduce::reduce;
 use crate::search::{Found, find};
 use crate::shortening::Shortening;
+use crate::thaw::thaw;
 use cnf_form::{Formula, Lit, MAX_VARS};
 use decision_order::Order;
+use frozen_clauses::Frozen;
 use std::alloc::{AllocError, Global};
 use unit_propagation::Propagator;
 
@@ -41,13 +43,19 @@ pub enum Solved {
     LogFailed,
 }
 
-// What a conflict comes to: an answer, or a learnt clause, and the one that it falsifies, if any.
+// What a turn comes to: an answer, or a learnt clause, and the one that it falsifies, if any.
 enum Turn {
     Answered(Solved),
     Learnt(Option<u32>),
 }
 
-// What is kept between conflicts beside clauses and values.
+// The same, or that a frozen clause was put back: one that is a subset of the clause to be learnt.
+enum Step {
+    Turned(Turn),
+    Thawed,
+}
+
+// What is kept between conflicts beside the propagator.
 #[derive(Drop)]
 struct Tools {
     analysis: Analysis,
@@ -55,11 +63,13 @@ struct Tools {
     order: Order,
     pace: Pace,
     learnts: Learnts,
+    frozen: Frozen,
 }
 
 impl Tools {
     fn new(alloc: Global, formula: &Formula) -> Result<Self, AllocError>
-        ensures { IfOk result (λ t. IsIdle formula.now.vars t.analysis.seen.items t.analysis.lower.items t.analysis.current.items) }
+        ensures frozen { IfOk result (λ t. t.frozen ≡ record { vars = formula.now.vars; slots = [] }) }
+        ensures idle { IfOk result (λ t. IsIdle formula.now.vars t.analysis.seen.items t.analysis.lower.items t.analysis.current.items) }
     {
         let vars = formula.vars();
         let analysis = Analysis::new(alloc, vars)?;
@@ -71,6 +81,7 @@ impl Tools {
             order,
             pace,
             learnts: Learnts::new(alloc, formula),
+            frozen: Frozen::new(alloc, vars)?,
         })
     }
 }
@@ -173,7 +184,7 @@ fn first_of(
     }
 }
 
-// The same; no present clause is a subset of it.
+// The same; no watched clause is a subset of it, though a frozen one may be.
 fn learn_from(
     core: &Propagator,
     analysis: &mut Analysis,
@@ -209,25 +220,57 @@ fn end<L: Log>(log: &mut L) -> Solved
     Solved::Unsat
 }
 
-// Learns from a falsified clause, and goes back to where the learnt one makes a literal true.
+// Logs and puts the clause that is to be learnt, and goes back to where it makes a literal true.
+fn learn_new<L: Log>(
+    core: &mut Propagator,
+    tools: &mut Tools,
+    log: &mut L,
+    first: Lit,
+) -> Result<Turn, AllocError>
+    requires driven { IsDriven core.old }
+    requires levels { 0 < length core.old.limits }
+    requires learnt { IsLearnt core.old (base_of core.old) tools.old.analysis.clause.items first }
+    ensures vars { OnOk result (core.new.vars ≡ core.old.vars) }
+    ensures analysis { tools.new.analysis ≡ tools.old.analysis }
+    ensures frozen { tools.new.frozen ≡ tools.old.frozen }
+    ensures driven { OnOk result (IsDriven core.new) }
+    ensures goes_on { IfOk result (GoesOn core.new) }
+    ensures logged { IfOk result (LogFits L.takes L.fails core.old core.new tools.old.analysis.clause.items log.old log.new) }
+    ensures later { L.faults log.old ≤ L.faults log.new }
+    ensures cause { result ≡ Ok (Turn.Answered Solved.LogFailed) → Rose (L.faults log.old) (L.faults log.new) }
+{
+    let clause = tools.analysis.clause();
+    let glue = tools.pace.count(core, clause);
+    if log.clause(clause).is_err() {
+        return Ok(Turn::Answered(Solved::LogFailed));
+    }
+    let falsified = assert_learnt(core, &mut tools.order, clause, first)?;
+    tools.learnts.push(glue, clause.len())?;
+    Ok(Turn::Learnt(falsified))
+}
+
+// Learns from a falsified clause, unless a frozen clause is a subset of what would be learnt: that one is put back then, at level 0.
 fn learn_one<L: Log>(
     core: &mut Propagator,
     tools: &mut Tools,
     log: &mut L,
     k: u32,
-) -> Result<Turn, AllocError>
+) -> Result<Step, AllocError>
+    requires frozen { tools.old.frozen.vars ≡ core.old.vars }
     requires idle { IsIdle core.old.vars tools.old.analysis.seen.items tools.old.analysis.lower.items tools.old.analysis.current.items }
     requires driven { IsDriven core.old }
     requires levels { 0 < length core.old.limits }
     requires conflict { IsPending core.old (Some k) }
-    ensures vars { core.new.vars ≡ core.old.vars }
+    ensures vars { OnOk result (core.new.vars ≡ core.old.vars) }
+    ensures frozen { OnOk result (tools.new.frozen.vars ≡ tools.old.frozen.vars) }
     ensures begun { OnOk result ((F : List (List LitOf)) → IsBegun F core.old.slots → IsBegun F core.new.slots) }
     ensures idle { OnOk result (IsIdle core.new.vars tools.new.analysis.seen.items tools.new.analysis.lower.items tools.new.analysis.current.items) }
     ensures driven { OnOk result (IsDriven core.new) }
-    ensures goes_on { IfOk result (GoesOn core.new) }
-    ensures step { IfOk result (StepFits L.takes L.fails core.old core.new log.old log.new) }
+    ensures goes_on { IfOk result (StepGoesOn core.new) }
+    ensures step { IfOk result (LearningFits L.takes L.fails core.old tools.old.frozen core.new tools.new.frozen log.old log.new) }
+    ensures fewer { result ≡ Ok Step.Thawed → length (clauses_of tools.new.frozen.slots) < length (clauses_of tools.old.frozen.slots) }
     ensures later { L.faults log.old ≤ L.faults log.new }
-    ensures cause { result ≡ Ok (Turn.Answered Solved.LogFailed) → Rose (L.faults log.old) (L.faults log.new) }
+    ensures cause { result ≡ Ok (Step.Turned (Turn.Answered Solved.LogFailed)) → Rose (L.faults log.old) (L.faults log.new) }
 {
     let first = learn_from(
         core,
@@ -240,16 +283,70 @@ fn learn_one<L: Log>(
     let used = tools.analysis.used();
     tools.learnts.use_all(core, &mut tools.pace, used);
     let clause = tools.analysis.clause();
-    let glue = tools.pace.count(core, clause);
-    if log.clause(clause).is_err() {
-        return Ok(Turn::Answered(Solved::LogFailed));
+    if let Some(frozen) = tools.frozen.subset_of(clause) {
+        back_to_root(core, &mut tools.order)?;
+        thaw(core, &mut tools.frozen, &mut tools.learnts, frozen)?;
+        return Ok(Step::Thawed);
     }
-    let falsified = assert_learnt(core, &mut tools.order, clause, first)?;
-    tools.learnts.push(glue, clause.len())?;
-    Ok(Turn::Learnt(falsified))
+    let turn = learn_new(core, tools, log, first)?;
+    Ok(Step::Turned(turn))
 }
 
-// Decides until there is an answer, or a clause to be learnt.
+// Whether the search is to begin anew at level 0: also behind a guess, and where the walk is to begin.
+fn begins_anew(tools: &mut Tools) -> bool
+    ensures analysis { tools.new.analysis ≡ tools.old.analysis }
+    ensures frozen { tools.new.frozen ≡ tools.old.frozen }
+{
+    let guesses = tools.order.luck.is_left();
+    if guesses {
+        tools.pace.begin();
+    }
+    tools.pace.is_due() || guesses || tools.order.wants_first_walk()
+}
+
+// Goes on until there is an answer, a clause was learnt, or a frozen one was put back.
+fn next_step<L: Log>(
+    alloc: Global,
+    formula: &Formula,
+    core: &mut Propagator,
+    tools: &mut Tools,
+    log: &mut L,
+    pending: Option<u32>,
+) -> Result<Step, AllocError>
+    requires vars { core.old.vars ≡ formula.now.vars }
+    requires frozen { tools.old.frozen.vars ≡ core.old.vars }
+    requires begun { IsBegun formula.now.clauses core.old.slots }
+    requires idle { IsIdle core.old.vars tools.old.analysis.seen.items tools.old.analysis.lower.items tools.old.analysis.current.items }
+    requires driven { IsDriven core.old }
+    requires pending { IsPending core.old pending }
+    ensures vars { OnOk result (core.new.vars ≡ core.old.vars) }
+    ensures frozen { OnOk result (tools.new.frozen.vars ≡ tools.old.frozen.vars) }
+    ensures begun { OnOk result (IsBegun formula.now.clauses core.new.slots) }
+    ensures idle { OnOk result (IsIdle core.new.vars tools.new.analysis.seen.items tools.new.analysis.lower.items tools.new.analysis.current.items) }
+    ensures driven { OnOk result (IsDriven core.new) }
+    ensures goes_on { IfOk result (StepGoesOn core.new) }
+    ensures fits { IfOk result (λ t. (budget count deleted : ℕ) (before : L) → count < budget
+        → IsHeld L.takes formula.now before log.old (all_of core.old tools.old.frozen) count deleted
+        → StepFits L.takes L.fails formula.now budget count deleted before log.new core.new tools.new.frozen t) }
+    ensures fewer { result ≡ Ok Step.Thawed → length (clauses_of tools.new.frozen.slots) < length (clauses_of tools.old.frozen.slots) }
+    ensures later { L.faults log.old ≤ L.faults log.new }
+    ensures cause { result ≡ Ok (Step.Turned (Turn.Answered Solved.LogFailed)) → Rose (L.faults log.old) (L.faults log.new) }
+{
+    let anew = begins_anew(tools);
+    match find(alloc, core, &mut tools.order, formula, pending, anew)? {
+        Found::Assigned => {
+            let values = satisfying(alloc, core)?;
+            Ok(Step::Turned(Turn::Answered(Solved::Sat(values))))
+        }
+        Found::Refuted => {
+            let solved = end(log);
+            Ok(Step::Turned(Turn::Answered(solved)))
+        }
+        Found::Falsified(k) => learn_one(core, tools, log, k),
+    }
+}
+
+// Goes on until there is an answer, or a clause was learnt.
 fn next_turn<L: Log>(
     alloc: Global,
     formula: &Formula,
@@ -259,37 +356,35 @@ fn next_turn<L: Log>(
     pending: Option<u32>,
 ) -> Result<Turn, AllocError>
     requires vars { core.old.vars ≡ formula.now.vars }
-    requires keeps { ContainsAll formula.now.clauses (clauses_of core.old.slots) }
+    requires frozen { tools.old.frozen.vars ≡ core.old.vars }
+    requires begun { IsBegun formula.now.clauses core.old.slots }
     requires idle { IsIdle core.old.vars tools.old.analysis.seen.items tools.old.analysis.lower.items tools.old.analysis.current.items }
     requires driven { IsDriven core.old }
     requires pending { IsPending core.old pending }
-    ensures vars { core.new.vars ≡ core.old.vars }
-    ensures begun { OnOk result ((F : List (List LitOf)) → IsBegun F core.old.slots → IsBegun F core.new.slots) }
+    ensures vars { OnOk result (core.new.vars ≡ core.old.vars) }
+    ensures frozen { OnOk result (tools.new.frozen.vars ≡ tools.old.frozen.vars) }
+    ensures begun { OnOk result (IsBegun formula.now.clauses core.new.slots) }
     ensures idle { OnOk result (IsIdle core.new.vars tools.new.analysis.seen.items tools.new.analysis.lower.items tools.new.analysis.current.items) }
     ensures driven { OnOk result (IsDriven core.new) }
     ensures goes_on { IfOk result (GoesOn core.new) }
     ensures fits { IfOk result (λ t. (budget count deleted : ℕ) (before : L) → count < budget
-        → IsCounted L.takes formula.now before log.old (clauses_of core.old.slots) count deleted
-        → TurnFits L.takes L.fails formula.now budget count deleted before log.new core.new t) }
+        → IsHeld L.takes formula.now before log.old (all_of core.old tools.old.frozen) count deleted
+        → TurnFits L.takes L.fails formula.now budget count deleted before log.new core.new tools.new.frozen t) }
     ensures later { L.faults log.old ≤ L.faults log.new }
     ensures cause { result ≡ Ok (Turn.Answered Solved.LogFailed) → Rose (L.faults log.old) (L.faults log.new) }
 {
-    let guesses = tools.order.luck.is_left();
-    if guesses {
-        tools.pace.begin();
-    }
-    let anew = tools.pace.is_due() || guesses || tools.order.wants_first_walk();
-    match find(alloc, core, &mut tools.order, formula, pending, anew)? {
-        Found::Assigned => {
-            let values = satisfying(alloc, core)?;
-            Ok(Turn::Answered(Solved::Sat(values)))
+    let mut pending = pending;
+    loop {
+        match next_step(alloc, formula, core, tools, log, pending)? {
+            Step::Turned(turn) => return Ok(turn),
+            Step::Thawed => {
+                pending = None;
+            }
         }
-        Found::Refuted => Ok(Turn::Answered(end(log))),
-        Found::Falsified(k) => learn_one(core, tools, log, k),
     }
 }
 
-// Deletes learnt clauses where it is time to and none is falsified. The number of deletions, unless the log failed.
+// Deletes or freezes learnt clauses where it is time to and none is falsified. The number of deletions, unless the log failed.
 fn reduce_if_due<L: Log>(
     alloc: Global,
     formula: &Formula,
@@ -301,16 +396,18 @@ fn reduce_if_due<L: Log>(
     deleted: u64,
 ) -> Result<Option<u64>, AllocError>
     requires vars { core.old.vars ≡ formula.now.vars }
+    requires frozen { tools.old.frozen.vars ≡ core.old.vars }
     requires begun { IsBegun formula.now.clauses core.old.slots }
     requires driven { IsDriven core.old }
     requires pending { IsPending core.old pending }
-    ensures vars { core.new.vars ≡ core.old.vars }
+    ensures vars { OnOk result (core.new.vars ≡ core.old.vars) }
+    ensures frozen { OnOk result (tools.new.frozen.vars ≡ tools.old.frozen.vars) }
     ensures analysis { tools.new.analysis ≡ tools.old.analysis }
-    ensures begun { IsBegun formula.now.clauses core.new.slots }
-    ensures driven { IsDriven core.new }
-    ensures pending { IsPending core.new pending }
-    ensures reduces { IfOk result (λ o. IfSome o (λ d. Reduces L.takes formula.now (clauses_of core.old.slots) (clauses_of core.new.slots) log.old log.new count deleted d)) }
-    ensures breaks { IfOk result (λ o. IfNone o (Breaks L.takes L.fails formula.now (clauses_of core.old.slots) log.old log.new count deleted)) }
+    ensures begun { OnOk result (IsBegun formula.now.clauses core.new.slots) }
+    ensures driven { OnOk result (IsDriven core.new) }
+    ensures pending { OnOk result (IsPending core.new pending) }
+    ensures reduces { IfOk result (λ o. IfSome o (λ d. Reduces L.takes formula.now (all_of core.old tools.old.frozen) (all_of core.new tools.new.frozen) log.old log.new count deleted d)) }
+    ensures breaks { IfOk result (λ o. IfNone o (Breaks L.takes L.fails formula.now (all_of core.old tools.old.frozen) log.old log.new count deleted)) }
     ensures later { L.faults log.old ≤ L.faults log.new }
     ensures cause { result ≡ Ok None → Rose (L.faults log.old) (L.faults log.new) }
 {
@@ -321,6 +418,7 @@ fn reduce_if_due<L: Log>(
         alloc,
         formula,
         core,
+        &mut tools.frozen,
         &mut tools.order,
         &mut tools.learnts,
         log,
@@ -340,6 +438,7 @@ fn search<L: Log>(
 ) -> Result<Solved, AllocError>
     requires vars { core.old.vars ≡ formula.now.vars }
     requires clauses { clauses_of core.old.slots ≡ formula.now.clauses }
+    requires frozen { tools.old.frozen ≡ record { vars = formula.now.vars; slots = [] } }
     requires begun { IsBegun formula.now.clauses core.old.slots }
     requires idle { IsIdle core.old.vars tools.old.analysis.seen.items tools.old.analysis.lower.items tools.old.analysis.current.items }
     requires driven { IsDriven core.old }

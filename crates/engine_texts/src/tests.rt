@@ -2,4 +2,5 @@
 
 mod asking;
 mod engine;
+mod freezing;
 mod solving;

@@ -1,6 +1,6 @@
 use Rattle.std.proofs.Common.{arith}
 use Rattle.cdcl_core.proofs.Driven.{driven_undone}
-use Rattle.cdcl_core.proofs.learn.restart.Goals as goal
+use Rattle.cdcl_core.proofs.learn.back_to_root.Goals as goal
 
 pub returns-clause-driven : goal.returns-clause-driven
 returns-clause-driven c =
