@@ -1,6 +1,6 @@
 -- Clauses at which nothing is left to do.
 use Rattle.std.proofs.Common.{◌≢◌, ℕ, ◌+◌, ◌<◌, List, [], ◌∷◌, ◌++◌, length, take, sym, ◌∙◌, subst, inl, inr}
-use Rattle.std.specs.Prelude.{Contains, Option, Some, None, IfSome}
+use Rattle.std.specs.Prelude.{Contains, Option, Some}
 use Rattle.std.proofs.lemmas.List.Elements.{Contains-append_cases}
 use Rattle.cnf_form.specs.Cnf.{LitOf, negate}
 use Rattle.cnf_form.proofs.Literals.{lit_cases}
@@ -35,10 +35,6 @@ fixpoint_one t c s d h = subst (IsSettled t) (Contains-one c d h) s
 
 pub fixpoint_both : (t : List LitOf) (F G : List (List LitOf)) → IsFixpoint t F → IsFixpoint t G → IsFixpoint t (F ++ G)
 fixpoint_both t F G f g c h = elim (Contains-append_cases F G c h) [ inl k ↦ f c k | inr k ↦ g c k ]
-
-pub fixpoint_slot : (t : List LitOf) (s : Option (List LitOf)) → IfSome s (IsSettled t) → IsFixpoint t (clauses_of (s ∷ []))
-fixpoint_slot t (Some c) h = fixpoint_one t c h
-fixpoint_slot t None h = fixpoint_empty t
 
 pub fixpoint_take : (t : List LitOf) (slots : List (Option (List LitOf))) (k : ℕ) → k < length slots → IsFixpoint t (clauses_of (take k slots)) → IsFixpoint t (clauses_of (slot_at slots k ∷ [])) → IsFixpoint t (clauses_of (take (k + 1) slots))
 fixpoint_take t slots k h f g = subst (IsFixpoint t) (sym (take_slot slots k h)) (fixpoint_both t (clauses_of (take k slots)) (clauses_of (slot_at slots k ∷ [])) f g)

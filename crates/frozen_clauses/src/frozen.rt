@@ -11,7 +11,8 @@ use cnf_form::{Lit, MAX_VARS};
 use std::alloc::{AllocError, Global};
 use std::marker::Model;
 
-/// Clauses with numbers from 0, each in the list of one of its literals. The marks are all false between calls.
+/// Clauses with numbers from 0 by which nothing is propagated: they are kept, and one that is a subset of a clause is found.
+// Each is in the list of one of its literals. The marks are all false between calls.
 #[derive(Drop)]
 pub struct Frozen {
     alloc: Global,
@@ -94,7 +95,7 @@ impl Frozen {
         lightest
     }
 
-    /// Puts a clause over the variables that isn't empty. If memory runs out, nothing changes.
+    /// Puts a clause over the variables that isn't empty. If memory runs out, or numbers below 2^32 - 1 do, nothing changes.
     pub fn push(&mut self, clause: &[Lit]) -> Result<(), AllocError>
         requires within { ClauseWithin self.old.vars clause.now }
         requires full { 0 < length clause.now }
