@@ -1,18 +1,27 @@
 // The clock of the system.
 
 use sby_edge::Clock;
+use std::sync::atomic::{AtomicU64, Ordering};
 use std::thread;
 use std::time::{Clock as SystemClock, Duration};
 
-/// The system's clock that never goes back, in milliseconds. A reading that fails is 0, which shows no limit.
+/// The system's clock that never goes back, in milliseconds. A reading that fails is the last one that didn't, so it shows no limit that
+/// an earlier one hasn't shown, and a limit that begins with it isn't over at once.
 #[derive(Drop)]
 pub struct RealClock<'a, R: SystemClock + Sync> {
     rt: &'a R,
+    last: AtomicU64,
 }
 
 impl<'a, R: SystemClock + Sync> RealClock<'a, R> {
+    /// The clock, read once.
     pub fn new(rt: &'a R) -> Self {
-        RealClock { rt }
+        let clock = RealClock {
+            rt,
+            last: AtomicU64::new(0),
+        };
+        let _first = clock.now();
+        clock
     }
 }
 
@@ -21,8 +30,12 @@ impl<'a, R: SystemClock + Sync> Clock for RealClock<'a, R> {
 
     fn now(&self) -> u64 {
         match self.rt.monotonic() {
-            Ok(since) => u64::try_from(since.as_millis()).unwrap_or(u64::MAX),
-            Err(_) => 0,
+            Ok(since) => {
+                let now = u64::try_from(since.as_millis()).unwrap_or(u64::MAX);
+                self.last.store(now, Ordering::SeqCst);
+                now
+            }
+            Err(_) => self.last.load(Ordering::SeqCst),
         }
     }
 

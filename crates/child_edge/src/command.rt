@@ -1,12 +1,13 @@
 // What is started for an engine's words.
 
-ghost use Rattle.std.specs.Prelude.{◌≡◌, ◌≢◌, ◌<◌, IfOk, length, map, drop, string_bytes};
+ghost use Rattle.std.specs.Prelude.{◌≡◌, ◌≢◌, ℕ, List, ◌∷◌, ◌++◌, IfOk, IfSome, map, string_bytes};
 ghost use Rattle.std.specs.Process.{command_args};
-ghost use Rattle.child_edge.specs.Engine.{engine_name};
+ghost use Rattle.child_edge.specs.Engine.{IsProgram, engine_name};
 
 use std::alloc::{AllocError, Global};
 use std::env::{self, Env, VarError};
 use std::fs;
+use std::os::unix::fs::PermissionsExt;
 use std::path::AsPath;
 use std::process::{Command, Stdio};
 use std::rt::Files as SystemFiles;
@@ -16,6 +17,34 @@ const ENGINE: &str = "cdcl_program";
 
 // The variable that names another program in its place.
 const VARIABLE: &str = "SBY_ENGINE";
+
+// Where programs are looked for if the variable PATH isn't set.
+const DEFAULT_PATH: &str = "/bin:/usr/bin";
+
+// Any of the three rights to execute.
+const EXECUTE: u32 = 0o111;
+
+// Starts the guard in a session of its own, so that a terminal's signals don't reach it.
+const SESSION: &str = "setsid";
+
+// The guard: it starts the engine in a session of its own, with no input, and ends with the engine's status. Once its input ends,
+// because the child is to be killed or the runner is gone, it kills all that the engine has started in that session; so it does once
+// the engine has ended. The guard itself lets go of the output, which ends as soon as the engine's own does.
+const GUARD: &str = "exec 3<&0
+setsid \"$@\" </dev/null 3<&- & engine=$!
+{ read -r _ <&3; kill -s KILL -- \"-$engine\" \"$engine\"; } >/dev/null 2>&1 & watch=$!
+exec 3<&- >&-
+wait \"$engine\"; status=$?
+kill -s KILL -- \"-$engine\" \"$watch\" 2>/dev/null
+exit \"$status\"";
+
+// Whether a file that may be executed has this path.
+fn is_program<R: SystemFiles>(rt: &R, path: &str) -> bool {
+    match fs::metadata(rt, path) {
+        Ok(found) => found.is_file() && found.permissions().mode() & EXECUTE != 0,
+        Err(_) => false,
+    }
+}
 
 // The engine beside the running program, if there is one.
 fn beside<R: SystemFiles + Alloc<A = Global>>(
@@ -38,7 +67,7 @@ fn beside<R: SystemFiles + Alloc<A = Global>>(
 
 // The program that a word names: the word itself, but for the engine of this repository. That is the variable's, where it is set,
 // else the one beside the running program, else looked for in the path.
-fn program<R: SystemFiles + Env + Alloc<A = Global>>(
+fn program_named<R: SystemFiles + Env + Alloc<A = Global>>(
     rt: &R,
     alloc: Global,
     word: &str,
@@ -58,29 +87,85 @@ fn program<R: SystemFiles + Env + Alloc<A = Global>>(
     String::from_str(alloc, word)
 }
 
-// The command for a program and the words behind it: no input, its output on a pipe, its error output dropped.
-fn command_for(alloc: Global, program: &str, words: &[String]) -> Result<Command, AllocError>
-    ensures { IfOk result (λ command. command_args command ≡ map string_bytes words.now) }
+// The folders in which programs are looked for, as the variable PATH has them.
+fn search_path<R: SystemFiles + Env + Alloc<A = Global>>(
+    rt: &R,
+    alloc: Global,
+) -> Result<String, AllocError> {
+    match env::var(rt, "PATH") {
+        Ok(path) => Ok(path),
+        Err(VarError::OutOfMemory) => Err(AllocError),
+        Err(_) => String::from_str(alloc, DEFAULT_PATH),
+    }
+}
+
+// The path of a program of this name in a folder; an empty name of a folder is the current one's.
+fn path_in(alloc: Global, folder: &str, name: &str) -> Result<String, AllocError>
+    ensures { IfOk result (λ path. (front : List ℕ) × (string_bytes path ≡ front ++ 47 ∷ name.now)) }
 {
-    let mut command = Command::new(alloc, program)?;
+    let folder = if folder.is_empty() { "." } else { folder };
+    format!(in alloc; "{folder}/{name}")
+}
+
+/// The path of the program that an engine's first word names, or nothing where there is no such program.
+pub fn find_program<R: SystemFiles + Env + Alloc<A = Global>>(
+    rt: &R,
+    alloc: Global,
+    word: &str,
+) -> Result<Option<String>, AllocError>
+    ensures { IfOk result (λ found. IfSome found (λ program. IsProgram word.now (string_bytes program))) }
+{
+    let name = program_named(rt, alloc, word)?;
+    if name.as_str().contains('/') {
+        return Ok(is_program(rt, name.as_str()).then_some(name));
+    }
+    let path = search_path(rt, alloc)?;
+    for folder in path.as_str().split(':') {
+        let found = path_in(alloc, folder, name.as_str())?;
+        if is_program(rt, found.as_str()) {
+            return Ok(Some(found));
+        }
+    }
+    Ok(None)
+}
+
+// Adds words behind those of a command.
+fn add_words(command: &mut Command, words: &[String]) -> Result<(), AllocError>
+    ensures { IfOk result (λ _. command_args command.new ≡ command_args command.old ++ map string_bytes words.now) }
+{
     for word in words {
         command.arg(word.as_str())?;
     }
+    Ok(())
+}
+
+/// The command for a program and the words after it: no input, its output on a pipe.
+pub fn plain_command(alloc: Global, program: &str, words: &[String]) -> Result<Command, AllocError>
+    ensures { IfOk result (λ command. command_args command ≡ map string_bytes words.now) }
+{
+    let mut command = Command::new(alloc, program)?;
+    add_words(&mut command, words)?;
     command.stdin(Stdio::null());
     command.stdout(Stdio::piped());
-    command.stderr(Stdio::null());
     Ok(command)
 }
 
-/// The command for these words, of which the first names the program.
-pub fn command_of<R: SystemFiles + Env + Alloc<A = Global>>(
-    rt: &R,
+/// The command by which the guard runs a program with the words after it: its input is a pipe, at whose end it kills the program and
+/// all that it has started, and its output is the program's.
+pub fn guarded_command(
     alloc: Global,
+    program: &str,
     words: &[String],
 ) -> Result<Command, AllocError>
-    requires { 0 < length words.now }
-    ensures { IfOk result (λ command. command_args command ≡ map string_bytes (drop 1 words.now)) }
+    ensures { IfOk result (λ command. (guard : List (List ℕ)) × (command_args command ≡ guard ++ program.now ∷ map string_bytes words.now)) }
 {
-    let program = program(rt, alloc, words[0].as_str())?;
-    command_for(alloc, program.as_str(), &words[1..])
+    let mut command = Command::new(alloc, SESSION)?;
+    for word in ["sh", "-c", GUARD, "guard"] {
+        command.arg(word)?;
+    }
+    command.arg(program)?;
+    add_words(&mut command, words)?;
+    command.stdin(Stdio::piped());
+    command.stdout(Stdio::piped());
+    Ok(command)
 }

@@ -4,11 +4,16 @@ ghost use Rattle.std.specs.Prelude.{◌≡◌, ◌+◌, ◌≤◌, None, IfOk, I
 ghost use Rattle.sby_edge.specs.Cause.{Rose, greatest};
 ghost use Rattle.sby_edge.specs.Files.{GotFits};
 
+use crate::log::Log;
 use sby_edge::{Fail, Failed, Files, Got, Sink};
 use std::alloc::Global;
 use std::fs;
-use std::io::{Read, Seek, SeekFrom, Write};
+use std::io::{ErrorKind, Read, Seek, SeekFrom, Write};
 use std::rt::Files as SystemFiles;
+use std::time::Clock as SystemClock;
+
+// What the name of a file has behind it while the file is written.
+const PART: &str = ".part";
 
 // A file that is read piece by piece.
 #[derive(Drop)]
@@ -23,6 +28,7 @@ struct Reading<S: Drop> {
 #[derive(Drop)]
 pub struct RealFiles<'a, R: SystemFiles> {
     rt: &'a R,
+    log: Option<&'a Log<'a, R>>,
     pub(crate) faults: u64,
     pub(crate) blamed: Option<String>,
     reading: Option<Reading<R::File>>,
@@ -35,6 +41,21 @@ impl<'a, R: SystemFiles> RealFiles<'a, R> {
     {
         RealFiles {
             rt,
+            log: None,
+            faults: 0,
+            blamed: None,
+            reading: None,
+        }
+    }
+
+    /// Files of which the log is told when they are put.
+    pub fn logged(rt: &'a R, log: &'a Log<'a, R>) -> Self
+        ensures faults { result.faults ≡ 0 }
+        ensures blamed { result.blamed ≡ None }
+    {
+        RealFiles {
+            rt,
+            log: Some(log),
             faults: 0,
             blamed: None,
             reading: None,
@@ -102,6 +123,7 @@ fn read_some<R: Read>(alloc: Global, reader: &mut R, most: u64) -> Result<Vec<u8
         match reader.read(&mut buffer[..want]) {
             Ok(0) => break,
             Ok(count) => bytes.extend_from_slice(&buffer[..count])?,
+            Err(e) if e.kind() == ErrorKind::Interrupted => {}
             Err(_) => return Err(Fail::Failed),
         }
     }
@@ -146,19 +168,36 @@ fn open_at<R: SystemFiles>(
     Ok(Reading { file, path, place })
 }
 
-fn make_and_write<R: SystemFiles>(rt: &R, path: &str, bytes: &[u8]) -> Result<(), Failed> {
+// Writes a file beside its place, and then puts it there: what stands at the path is the old content or the new one, whole.
+fn make_and_write<R: SystemFiles>(
+    rt: &R,
+    alloc: Global,
+    path: &str,
+    bytes: &[u8],
+) -> Result<(), Fail> {
     if let Some((folder, _)) = path.rsplit_once('/') {
         if fs::create_dir_all(rt, folder).is_err() {
-            return Err(Failed);
+            return Err(Fail::Failed);
         }
     }
-    match fs::write(rt, path, bytes) {
-        Ok(()) => Ok(()),
-        Err(_) => Err(Failed),
+    let part = format!(in alloc; "{path}{PART}")?;
+    let is_put = fs::write(rt, part.as_str(), bytes).is_ok()
+        && fs::rename(rt, part.as_str(), path).is_ok();
+    if is_put {
+        return Ok(());
     }
+    let _removed = fs::remove_file(rt, part.as_str());
+    Err(Fail::Failed)
 }
 
-impl<'a, R: SystemFiles> Files for RealFiles<'a, R> {
+// The first line of a formula's file.
+fn header(bytes: &[u8]) -> &str {
+    let end = bytes.iter().position(|b| *b == b'\n').unwrap_or(0);
+    let line = str::from_utf8(&bytes[..end]).unwrap_or("");
+    if line.starts_with("p cnf ") { line } else { "" }
+}
+
+impl<'a, R: SystemFiles + SystemClock> Files for RealFiles<'a, R> {
     ghost told = { λ _. None };
 
     ghost faults = { λ f. f.faults };
@@ -189,13 +228,19 @@ impl<'a, R: SystemFiles> Files for RealFiles<'a, R> {
 
     fn put(&mut self, alloc: Global, path: &str, bytes: &[u8]) -> Result<(), Fail> {
         self.reading = None;
-        match make_and_write(self.rt, path, bytes) {
-            Ok(()) => Ok(()),
-            Err(Failed) => {
-                self.fail(alloc, path);
-                Err(Fail::Failed)
-            }
+        let answer = make_and_write(self.rt, alloc, path, bytes);
+        if matches!(answer, Err(Fail::Failed)) {
+            self.fail(alloc, path);
         }
+        if let Some(log) = self.log {
+            let (count, header) = (bytes.len(), header(bytes));
+            let done = if answer.is_ok() { "put" } else { "not put" };
+            log.say(
+                alloc,
+                &format_args!("{path}: {done}, {count} bytes {header}"),
+            );
+        }
+        answer
     }
 }
 

@@ -38,6 +38,26 @@ fn files_are_put_and_got(rt: HostRuntime) -> Result<(), Failure> {
     Ok(())
 }
 
+#[test]
+fn a_failed_put_leaves_what_stood_there(rt: HostRuntime) -> Result<(), Failure> {
+    let alloc = rt.alloc();
+    let mut files = RealFiles::new(&rt);
+    assert!(rt; files.put(alloc, "late/trace.vcd", b"whole").is_ok());
+    // Where the new content is written first, there is a folder.
+    assert!(rt; files.put(alloc, "late/trace.vcd.part/x", b"").is_ok());
+    assert!(rt;
+        matches!(
+            files.put(alloc, "late/trace.vcd", b"torn"),
+            Err(Fail::Failed)
+        )
+    );
+    match &files.get(alloc, "late/trace.vcd", 100) {
+        Ok(Got::All(bytes)) => assert_eq!(rt; bytes.as_slice(), b"whole".as_slice()),
+        _ => assert!(rt; false),
+    }
+    Ok(())
+}
+
 // Whether this piece is got.
 fn gives<F: Files>(
     files: &mut F,
@@ -178,7 +198,8 @@ fn in_yard<Y: Yard>(
 #[test]
 fn children_are_read_killed_and_reaped(rt: HostRuntime) -> Result<(), Failure> {
     let alloc = rt.alloc();
-    let mut yard = RealYard::new(&rt);
+    let log = Log::silent(&rt);
+    let mut yard = RealYard::new(&rt, &log);
     let ended = shell(alloc, "echo 0; echo lost >&2; exit 20")?;
     let answer = in_yard(&mut yard, alloc, &ended, 100, false).map(|seen| (seen.0, seen.2));
     assert_eq!(rt; answer, Ok((2, Exit::Code(20))));
@@ -201,6 +222,125 @@ fn children_are_read_killed_and_reaped(rt: HostRuntime) -> Result<(), Failure> {
         Err(Fail::Failed)
     );
     assert_eq!(rt; yard.start_faults, 1);
+    Ok(())
+}
+
+// Whether a child of a shell's line ends within two seconds of its kill, which comes once its output has so many bytes, or has ended.
+fn dies<Y: Yard, C: Clock>(
+    yard: &mut Y,
+    clock: &C,
+    alloc: Global,
+    line: &str,
+    most: usize,
+) -> Result<bool, Fail> {
+    let words = shell(alloc, line)?;
+    let mut bay = yard.bay(alloc, 0, 0)?;
+    let started = bay.start(alloc, JobName::Step, &words, b"");
+    let ended = match started {
+        Ok((mut pipe, mut hold)) => {
+            let mut buffer = [0u8; 4096];
+            let mut taken = 0usize;
+            for _ in 0..1000 {
+                match pipe.read(&mut buffer) {
+                    Ok(0) | Err(_) => break,
+                    Ok(count) => taken = taken.saturating_add(count),
+                }
+                if taken >= most {
+                    break;
+                }
+            }
+            let before = clock.now();
+            let is_killed = hold.kill().is_ok();
+            let mut is_over = false;
+            for _ in 0..100_000 {
+                if matches!(pipe.read(&mut buffer), Ok(0) | Err(_)) {
+                    is_over = true;
+                    break;
+                }
+            }
+            let exit = hold.reap();
+            bay.finish(pipe, hold);
+            let is_soon = clock.now().saturating_sub(before) < 2000;
+            Ok(is_killed && is_over && is_soon && exit == Ok(Exit::Signal))
+        }
+        Err(fail) => Err(fail),
+    };
+    yard.back(bay);
+    ended
+}
+
+// A file to which the descendants of a test's child write while they live.
+const LIVE: &str = "live";
+
+#[test]
+fn a_kill_ends_what_a_child_has_started(rt: HostRuntime) -> Result<(), Failure> {
+    let alloc = rt.alloc();
+    let log = Log::silent(&rt);
+    let clock = RealClock::new(&rt);
+    let mut yard = RealYard::new(&rt, &log);
+    for (line, most) in [
+        // A descendant has the output's other end.
+        ("echo 1; sleep 1000 | cat", 2),
+        // It has it in a session of its own, which no kill reaches.
+        ("echo 1; setsid sleep 5 & wait", 2),
+        // Ten write on and on.
+        (
+            "for i in 1 2 3 4 5 6 7 8 9; do (while :; do echo $i; done) & done; while :; do echo c; done",
+            100_000,
+        ),
+        // The child doesn't heed any signal that it may ignore.
+        (
+            "trap '' TERM INT HUP; echo 1; while :; do sleep 1000; done",
+            2,
+        ),
+        // It is stopped.
+        ("echo 1; kill -STOP $$; sleep 1000", 2),
+        // It has closed its output, and lives on.
+        ("exec >&-; sleep 1000; :", 1),
+    ] {
+        let dies = dies(&mut yard, &clock, alloc, line, most);
+        assert!(rt; dies == Ok(true), "{line}");
+    }
+    // A descendant that would make a file a little later doesn't live to do so.
+    let line = "echo 1; (sleep 1; echo > live) | cat";
+    assert_eq!(rt; dies(&mut yard, &clock, alloc, line, 2), Ok(true));
+    for _ in 0..1500 {
+        clock.pause();
+    }
+    assert!(rt; matches!(std::fs::exists(&rt, LIVE), Ok(false)));
+    Ok(())
+}
+
+#[test]
+fn programs_are_looked_for(rt: HostRuntime) -> Result<(), Failure> {
+    let alloc = rt.alloc();
+    let log = Log::silent(&rt);
+    let mut yard = RealYard::new(&rt, &log);
+    let mut files = RealFiles::new(&rt);
+    assert!(rt; files.put(alloc, "plain", b"no program").is_ok());
+    for (word, starts) in [
+        ("true", true),
+        ("/bin/true", true),
+        ("no_such_program", false),
+        ("/bin/no_such_program", false),
+        ("./plain", false),
+        ("/", false),
+        ("", false),
+    ] {
+        let mut words = Vec::new(alloc);
+        words.push(String::from_str(alloc, word)?)?;
+        let answer = in_yard(&mut yard, alloc, &words, 1, false);
+        assert_eq!(rt;
+            answer.map(|seen| seen.2),
+            if starts {
+                Ok(Exit::Code(0))
+            } else {
+                Err(Fail::Failed)
+            },
+            "{word}"
+        );
+    }
+    assert_eq!(rt; yard.start_faults, 5);
     Ok(())
 }
 

@@ -3,51 +3,114 @@
 ghost use Rattle.std.specs.Prelude.{◌≡◌, false, None, IfOk};
 ghost use Rattle.sby_edge.specs.Cause.{RisesBy};
 
-use crate::child::{RealHold, RealPipe};
-use crate::command::command_of;
+use crate::child::{Errors, RealHold, RealPipe};
+use crate::command::{find_program, guarded_command, plain_command};
 use crate::files::open_and_read;
+use crate::log::Log;
 use sby_edge::{Fail, Got, Launch, Memory, Yard};
 use sby_terms::JobName;
-use std::alloc::Global;
+use std::alloc::{AllocError, Global};
 use std::env::Env;
-use std::process::{Processes, SystemProcess};
+use std::io::ErrorKind;
+use std::process::{Child, Command, Processes, Stdio, SystemProcess};
 use std::rt::Files as SystemFiles;
+use std::sync::Arc;
+use std::sync::atomic::AtomicBool;
+use std::time::Clock as SystemClock;
 
 /// Starts the children of one lane. Contracts see its counts.
 #[derive(Drop)]
 pub struct RealBay<'a, R> {
     rt: &'a R,
+    log: &'a Log<'a, R>,
+    task: u32,
+    lane: u32,
     start_faults: u64,
     read_faults: u64,
     hold_faults: u64,
 }
 
-fn start<R: Processes<Started = SystemProcess> + SystemFiles + Env + Alloc<A = Global>>(
+// Starts a command, whose error output goes to the log where there is one; nothing where its program isn't there.
+fn spawn<R: Processes<Started = SystemProcess>>(
     rt: &R,
+    log: &Log<'_, R>,
+    command: &mut Command,
+) -> Result<Option<Child<SystemProcess>>, Fail> {
+    if log.is_silent() {
+        command.stderr(Stdio::null());
+    } else {
+        command.stderr(Stdio::piped());
+    }
+    match command.spawn(rt) {
+        Ok(child) => Ok(Some(child)),
+        Err(e) if e.kind() == ErrorKind::NotFound => Ok(None),
+        Err(_) => Err(Fail::Failed),
+    }
+}
+
+// Starts a program: by the guard, or alone on a system that hasn't what the guard needs.
+fn spawn_program<R: Processes<Started = SystemProcess> + SystemFiles + SystemClock>(
+    rt: &R,
+    log: &Log<'_, R>,
+    alloc: Global,
+    program: &str,
+    words: &[String],
+) -> Result<Child<SystemProcess>, Fail> {
+    let mut command = guarded_command(alloc, program, words)?;
+    if let Some(child) = spawn(rt, log, &mut command)? {
+        return Ok(child);
+    }
+    log.say(
+        alloc,
+        &"there is no setsid: what a child starts is not killed with it",
+    );
+    let mut command = plain_command(alloc, program, words)?;
+    match spawn(rt, log, &mut command)? {
+        Some(child) => Ok(child),
+        None => Err(Fail::Failed),
+    }
+}
+
+// The words with a blank between them.
+fn joined(alloc: Global, words: &[String]) -> Result<String, AllocError> {
+    let mut text = String::new(alloc);
+    for word in words {
+        if !text.is_empty() {
+            text.push_str(" ")?;
+        }
+        text.push_str(word.as_str())?;
+    }
+    Ok(text)
+}
+
+fn start<'a, R>(
+    rt: &'a R,
+    log: &'a Log<'a, R>,
     alloc: Global,
     words: &[String],
-) -> Result<(RealPipe, RealHold), Fail>
+) -> Result<(RealPipe<'a, R>, RealHold<'a, R>), Fail>
+where
+    R: Processes<Started = SystemProcess> + SystemFiles + SystemClock + Env + Alloc<A = Global>,
     ensures { IfOk result (λ child. (child.1.is_killed ≡ false) × (child.1.is_reaped ≡ false) × (child.1.exit ≡ None)
         × (child.0.faults ≡ 0) × (child.1.faults ≡ 0)) }
 {
     if words.is_empty() {
         return Err(Fail::Failed);
     }
-    let mut command = command_of(rt, alloc, words)?;
-    let Ok(mut child) = command.spawn(rt) else {
+    let Some(program) = find_program(rt, alloc, words[0].as_str())? else {
         return Err(Fail::Failed);
     };
+    let is_killed = Arc::new(alloc, AtomicBool::new(false))?;
+    let kills = Arc::try_clone(&is_killed)?;
+    let mut child = spawn_program(rt, log, alloc, program.as_str(), &words[1..])?;
+    let guard = child.stdin.take();
+    let id = child.id();
+    let errors = child.stderr.take().map(|output| Errors::new(output, id));
     let Some(output) = child.stdout.take() else {
         return Err(Fail::Failed);
     };
-    let pipe = RealPipe { output, faults: 0 };
-    let hold = RealHold {
-        child,
-        is_killed: false,
-        is_reaped: false,
-        exit: None,
-        faults: 0,
-    };
+    let pipe = RealPipe::new(alloc, log, id, output, errors, is_killed);
+    let hold = RealHold::new(alloc, rt, log, child, guard, kills);
     Ok((pipe, hold))
 }
 
@@ -62,13 +125,49 @@ fn risen(count: u64, part: u64) -> u64
     }
 }
 
+impl<'a, R: SystemFiles + SystemClock> RealBay<'a, R> {
+    // Tells the log of a start.
+    fn say_start(
+        &self,
+        alloc: Global,
+        words: &[String],
+        answer: &Result<(RealPipe<'a, R>, RealHold<'a, R>), Fail>,
+    ) {
+        if self.log.is_silent() {
+            return;
+        }
+        let Ok(text) = joined(alloc, words) else {
+            return;
+        };
+        let (task, lane) = (self.task, self.lane);
+        match answer {
+            Ok((_, hold)) => {
+                let id = hold.child.id();
+                self.log.say(
+                    alloc,
+                    &format_args!("task {task}, lane {lane}: child {id} is {text}"),
+                );
+            }
+            Err(_) => self.log.say(
+                alloc,
+                &format_args!("task {task}, lane {lane}: no start of {text}"),
+            ),
+        }
+    }
+}
+
 impl<'a, R> Launch for RealBay<'a, R>
 where
-    R: Processes<Started = SystemProcess> + SystemFiles + Env + Alloc<A = Global> + Sync,
+    R: Processes<Started = SystemProcess>
+        + SystemFiles
+        + SystemClock
+        + Env
+        + Alloc<A = Global>
+        + Sync,
 {
-    type Pipe = RealPipe;
+    type Pipe = RealPipe<'a, R>;
 
-    type Hold = RealHold;
+    type Hold = RealHold<'a, R>;
 
     ghost told = { λ _. None };
 
@@ -84,8 +183,9 @@ where
         _job: JobName,
         words: &[String],
         _bytes: &[u8],
-    ) -> Result<(RealPipe, RealHold), Fail> {
-        let answer = start(self.rt, alloc, words);
+    ) -> Result<(RealPipe<'a, R>, RealHold<'a, R>), Fail> {
+        let answer = start(self.rt, self.log, alloc, words);
+        self.say_start(alloc, words, &answer);
         if matches!(answer, Err(Fail::Failed)) {
             self.start_faults = self.start_faults.saturating_add(1);
         }
@@ -100,40 +200,33 @@ where
         answer
     }
 
-    fn finish(&mut self, pipe: RealPipe, hold: RealHold) {
-        let RealPipe {
-            output,
-            faults: reads,
-        } = pipe;
-        let RealHold {
-            child,
-            is_killed: _,
-            is_reaped: _,
-            exit: _,
-            faults: holds,
-        } = hold;
-        drop(output);
-        drop(child);
+    fn finish(&mut self, mut pipe: RealPipe<'a, R>, hold: RealHold<'a, R>) {
+        pipe.close();
+        let reads = pipe.into_faults();
+        let holds = hold.into_faults();
         self.read_faults = risen(self.read_faults, reads);
         self.hold_faults = risen(self.hold_faults, holds);
     }
 }
 
-/// The children of the system.
+/// The children of the system, each with the guard that kills all it has started where it is killed, or where this process ends.
 #[derive(Drop)]
 pub struct RealYard<'a, R> {
     rt: &'a R,
+    log: &'a Log<'a, R>,
     pub(crate) start_faults: u64,
     read_faults: u64,
     hold_faults: u64,
 }
 
 impl<'a, R> RealYard<'a, R> {
-    pub fn new(rt: &'a R) -> Self
+    /// Nothing was started yet; the log is told of each child.
+    pub fn new(rt: &'a R, log: &'a Log<'a, R>) -> Self
         ensures { (result.start_faults ≡ 0) × (result.read_faults ≡ 0) × (result.hold_faults ≡ 0) }
     {
         RealYard {
             rt,
+            log,
             start_faults: 0,
             read_faults: 0,
             hold_faults: 0,
@@ -143,7 +236,12 @@ impl<'a, R> RealYard<'a, R> {
 
 impl<'a, R> Yard for RealYard<'a, R>
 where
-    R: Processes<Started = SystemProcess> + SystemFiles + Env + Alloc<A = Global> + Sync,
+    R: Processes<Started = SystemProcess>
+        + SystemFiles
+        + SystemClock
+        + Env
+        + Alloc<A = Global>
+        + Sync,
 {
     type Bay = RealBay<'a, R>;
 
@@ -155,9 +253,12 @@ where
 
     ghost hold_faults = { λ y. y.hold_faults };
 
-    fn bay(&mut self, _alloc: Global, _task: u32, _lane: u32) -> Result<RealBay<'a, R>, Memory> {
+    fn bay(&mut self, _alloc: Global, task: u32, lane: u32) -> Result<RealBay<'a, R>, Memory> {
         Ok(RealBay {
             rt: self.rt,
+            log: self.log,
+            task,
+            lane,
             start_faults: 0,
             read_faults: 0,
             hold_faults: 0,
@@ -167,6 +268,9 @@ where
     fn back(&mut self, bay: RealBay<'a, R>) {
         let RealBay {
             rt: _,
+            log: _,
+            task: _,
+            lane: _,
             start_faults: starts,
             read_faults: reads,
             hold_faults: holds,

@@ -5,7 +5,7 @@ ghost use Rattle.std.specs.Prelude.{◌≡◌, map, string_bytes};
 ghost use Rattle.sby_top.specs.Run.{Did};
 ghost use Rattle.sby_top.specs.declared.outcome.Done.{Done};
 
-use child_edge::{RealClock, RealFiles, RealYard, StdSink};
+use child_edge::{Log, RealClock, RealFiles, RealYard, StdSink};
 use sby_edge::{Clock, Files, Sink, Yard};
 use sby_top::run_sby;
 use std::alloc::{AllocError, Global};
@@ -57,15 +57,13 @@ fn run_program<R: Threads + Wait + Sync, F: Files, S: Sink, Y: Yard, C: Clock>(
 // The program over the real files, a real output, the children of the system and its clock.
 fn main(rt: HostRuntime) -> ExitCode {
     let alloc = rt.alloc();
-    match words(&rt, alloc) {
-        Ok(words) => {
-            let mut files = RealFiles::new(&rt);
-            let mut out = StdSink::new(io::writer(&rt));
-            let mut yard = RealYard::new(&rt);
-            let clock = RealClock::new(&rt);
-            let rc = run_program(&rt, alloc, &words, &mut files, &mut out, &mut yard, &clock);
-            ExitCode::from(rc)
-        }
-        Err(AllocError) => ExitCode::from(OUT_OF_MEMORY),
-    }
+    let (Ok(words), Ok(log)) = (words(&rt, alloc), Log::asked(&rt, alloc)) else {
+        return ExitCode::from(OUT_OF_MEMORY);
+    };
+    let mut files = RealFiles::logged(&rt, &log);
+    let mut out = StdSink::new(io::writer(&rt));
+    let mut yard = RealYard::new(&rt, &log);
+    let clock = RealClock::new(&rt);
+    let rc = run_program(&rt, alloc, &words, &mut files, &mut out, &mut yard, &clock);
+    ExitCode::from(rc)
 }
