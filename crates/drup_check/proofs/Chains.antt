@@ -98,3 +98,68 @@ chains_cleared firsts nexts k n some past all falls = record {
     | inr h ↦ omega (arith, get_or_past (take n nexts) i 0 h)
   ];
 }
+
+-- the clause k is taken off behind the clause b, whose link leads to it
+module _ (nexts : List ℕ) (falls : (i : ℕ) → get_or nexts i 0 ≤ i) (b k : ℕ) (place : b < length nexts) (there : get_or nexts b 0 ≡ k + 1) where
+  abbrev without : List ℕ
+  without = set nexts b (get_or nexts k 0)
+
+  -- what is ahead of a link, but for the clause, stays ahead of it
+  pub ahead_without : (n at j : ℕ) → j ≢ k → after nexts at n ≡ j + 1 → (m : ℕ) × (after without at m ≡ j + 1)
+  ahead_without zero at j ne e = (0, e)
+  ahead_without (suc zero) at j ne e = elim (cases_eq (at - 1) b) [
+    | inl s ↦ absurd (ne (omega (arith, e, ap (λ z. get_or nexts z 0) s, there)))
+    | inr d ↦ (1, get_or-set_other nexts b (at - 1) (get_or nexts k 0) 0 d ∙ e)
+  ]
+  ahead_without (suc (suc n)) at j ne e = elim (cases_eq (at - 1) b) [
+    | inl s ↦
+        let f : get_or nexts (at - 1) 0 - 1 ≡ k = omega (arith, ap (λ z. get_or nexts z 0) s, there) in
+        let w = ahead_without n (get_or nexts k 0) j ne (subst (λ z. after nexts (get_or nexts z 0) n ≡ j + 1) f e) in
+        let g : get_or without (at - 1) 0 ≡ get_or nexts k 0 = ap (λ z. get_or without z 0) s ∙ get_or-set_same nexts b (get_or nexts k 0) 0 place in
+        (suc w.0, ap (λ z. after without z w.0) g ∙ w.1)
+    | inr d ↦
+        let w = ahead_without (suc n) (get_or nexts (at - 1) 0) j ne e in
+        (suc w.0, ap (λ z. after without z w.0) (get_or-set_other nexts b (at - 1) (get_or nexts k 0) 0 d) ∙ w.1)
+  ]
+
+  pub falls_without : (i : ℕ) → get_or without i 0 ≤ i
+  falls_without i = elim (cases_eq i b) [
+    | inl e ↦ omega (arith, e, ap (λ z. get_or without z 0) e ∙ get_or-set_same nexts b (get_or nexts k 0) 0 place, falls k, falls b, there)
+    | inr d ↦ omega (arith, get_or-set_other nexts b i (get_or nexts k 0) 0 d, falls i)
+  ]
+
+-- the clause k is taken off the beginning of the chain at a place
+module _ (firsts nexts : List ℕ) (i k : ℕ) (room : i < length firsts) (there : get_or firsts i 0 ≡ k + 1) where
+  abbrev begun : List ℕ
+  begun = set firsts i (get_or nexts k 0)
+
+  pub keeps_begun : (count h j : ℕ) → j ≢ k → Holds (record { firsts = firsts; nexts = nexts; count = count }) h j → Holds (record { firsts = begun; nexts = nexts; count = count }) h j
+  keeps_begun count h j ne s = elim (cases_eq (h % length firsts) i) [
+    | inl e ↦ moved s.steps e (ap (λ z. after nexts (get_or firsts z 0) s.steps) (sym e) ∙ s.there)
+    | inr d ↦ record { steps = s.steps; there = ap (λ z. after nexts z s.steps) (other d) ∙ s.there }
+  ]
+    where
+      size : length begun ≡ length firsts
+      size = length-set firsts i (get_or nexts k 0)
+
+      other : h % length firsts ≢ i → beginning begun h ≡ beginning firsts h
+      other d = ap (λ n. get_or begun (h % n) 0) size ∙ get_or-set_other firsts i (h % length firsts) (get_or nexts k 0) 0 d
+
+      here : h % length firsts ≡ i → beginning begun h ≡ get_or nexts k 0
+      here e = ap (λ n. get_or begun (h % n) 0) size ∙ ap (λ n. get_or begun n 0) e ∙ get_or-set_same firsts i (get_or nexts k 0) 0 room
+
+      moved : (n : ℕ) → h % length firsts ≡ i → after nexts (get_or firsts i 0) n ≡ j + 1 → Holds (record { firsts = begun; nexts = nexts; count = count }) h j
+      moved zero e f = absurd (ne (omega (arith, f, there)))
+      moved (suc n) e f =
+          let g : get_or firsts i 0 - 1 ≡ k = omega (arith, there) in
+          record { steps = n; there = ap (λ z. after nexts z n) (here e) ∙ ap (λ z. after nexts (get_or nexts z 0) n) (sym g) ∙ f }
+
+  pub below_begun : (count : ℕ) → ((a : ℕ) → get_or firsts a 0 ≤ count) → get_or nexts k 0 ≤ k → (a : ℕ) → get_or begun a 0 ≤ count
+  below_begun count below falls a = elim (cases_eq a i) [
+    | inl e ↦ omega (arith, ap (λ z. get_or begun z 0) e ∙ get_or-set_same firsts i (get_or nexts k 0) 0 room, falls, below i, there)
+    | inr d ↦ omega (arith, get_or-set_other firsts i a (get_or nexts k 0) 0 d, below a)
+  ]
+
+-- a link leads on from an entry alone
+pub entry_of : (xs : List ℕ) (i k : ℕ) → get_or xs i 0 ≡ k + 1 → i < length xs
+entry_of xs i k e = elim (cases_lt i (length xs)) [ inl h ↦ h | inr h ↦ absurd (omega (arith, e, get_or_past xs i 0 h)) ]

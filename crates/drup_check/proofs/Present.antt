@@ -11,7 +11,7 @@ use Rattle.unit_propagation.specs.Propagation.{HasFalsified, IsDerived}
 use Rattle.unit_propagation.specs.Propagator.{PropagatorOf, clauses_of, present, slot_at, IsPut, IsWanting}
 use Rattle.drup_check.specs.Marks.{Weighs, weight}
 use Rattle.drup_check.specs.Copies.{CopiesOf, Holds, beginning, after}
-use Rattle.drup_check.specs.Inside.{IsRoot, IsFree, IsFiled}
+use Rattle.drup_check.specs.Inside.{IsRoot, IsFree, IsFiled, Keeps}
 use Rattle.drup_check.specs.Checking.{CheckerOf}
 use Rattle.unit_propagation.specs.Marks.{Shows}
 use Rattle.unit_propagation.proofs.Slots.{clauses_of-slot}
@@ -166,6 +166,14 @@ module _ (p : PropagatorOf) (k : ℕ) (c d : List LitOf) (at : slot_at p.slots k
 
   pub deletes_without : IsRoot p → p.conflict ≡ false → (Conflict (clauses_of p.slots) → ⊥) → (IsReason (clauses_of p.slots) c → ⊥) → Deletes (clauses_of p.slots) c (clauses_of (set p.slots k None))
   deletes_without r free calm kept = inl (removes_at p.slots k c d at same, calm, kept)
+
+-- a search leaves what is present on its chain
+pub filed_kept : (p : PropagatorOf) (t t' : CopiesOf) → Keeps p.slots t t' → IsFiled p t → IsFiled p t'
+filed_kept p t t' k f = record {
+  each = λ j c e. let v = f.each j c e in (v.0, v.1, k.each v.0 j c e v.2);
+  counted = omega (arith, k.count, f.counted);
+  placed = omega (arith, k.places, f.placed);
+}
 
 -- the clauses below a number are on their chains
 abbrev pub IsFiledTo : PropagatorOf → CopiesOf → ℕ → Type 0

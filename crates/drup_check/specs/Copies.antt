@@ -1,5 +1,5 @@
 -- Chains of clauses by what they weigh. A link is one more than the number of a clause, or 0.
-use Rattle.std.specs.Prelude.{◌≡◌, ℕ, zero, suc, ◌+◌, ◌-◌, ◌%◌, ◌<◌, ◌≤◌, List, length, slice_index_or}
+use Rattle.std.specs.Prelude.{◌≡◌, ℕ, zero, suc, ◌+◌, ◌-◌, ◌%◌, ◌<◌, ◌≤◌, List, length, slice_index_or, Option, Some, None}
 
 -- the links that begin the chains, those from clause to clause, and a bound of them all
 pub record CopiesOf : Type 0 where
@@ -16,6 +16,11 @@ pub record AreChains (firsts nexts : List ℕ) (count : ℕ) : Type 0 where
 -- the link that begins the chain of a weight
 abbrev pub beginning : List ℕ → ℕ → ℕ
 beginning firsts h = slice_index_or firsts (h % length firsts) 0
+
+-- the link from a clause on, or that which begins the chain of a weight
+abbrev pub link_at : CopiesOf → ℕ → Option ℕ → ℕ
+link_at t h (Some k) = slice_index_or t.nexts k 0
+link_at t h None = beginning t.firsts h
 
 -- the link that is so many steps after a link
 abbrev pub after : List ℕ → ℕ → ℕ → ℕ

@@ -1,5 +1,5 @@
 -- What holds of a checker's fields.
-use Rattle.std.specs.Prelude.{◌≡◌, ℕ, ◌+◌, ◌*◌, ◌≤◌, Bool, true, List, [], length, Some}
+use Rattle.std.specs.Prelude.{◌≡◌, ℕ, ◌+◌, ◌*◌, ◌≤◌, Bool, true, List, [], length, Option, Some}
 use Rattle.cnf_form.specs.Cnf.{LitOf}
 use Rattle.unit_propagation.specs.Marks.{Shows}
 use Rattle.unit_propagation.specs.Propagation.{HasFalsified, IsDerived}
@@ -23,3 +23,9 @@ pub record IsFiled (p : PropagatorOf) (t : CopiesOf) : Type 0 where
   pub each : (k : ℕ) (c : List LitOf) → slot_at p.slots k ≡ Some c → (h : ℕ) × Weighs p.vars c h × Holds t h k
   pub counted : t.count ≤ length p.slots
   pub placed : length p.slots ≤ length t.nexts
+
+-- what is present and on a chain stays there, and there are no more entries nor fewer places
+pub record Keeps (slots : List (Option (List LitOf))) (t t' : CopiesOf) : Type 0 where
+  pub each : (h k : ℕ) (c : List LitOf) → slot_at slots k ≡ Some c → Holds t h k → Holds t' h k
+  pub count : t'.count ≡ t.count
+  pub places : length t'.nexts ≡ length t.nexts

@@ -1,7 +1,7 @@
 // Chains of clauses by what the sets of their literals weigh.
 
-ghost use Rattle.std.specs.Prelude.{◌≡◌, ℕ, ◌+◌, ◌<◌, ◌≤◌, ◌++◌, ◌∷◌, [], length, IfOk, OnOk, OnErr, slice_index_or};
-ghost use Rattle.drup_check.specs.Copies.{Holds, beginning};
+ghost use Rattle.std.specs.Prelude.{◌≡◌, ◌≢◌, ℕ, ◌+◌, ◌<◌, ◌≤◌, ◌++◌, ◌∷◌, [], length, IfOk, OnOk, OnErr, slice_index_or};
+ghost use Rattle.drup_check.specs.Copies.{Holds, after, beginning, link_at};
 
 use std::alloc::{AllocError, Global};
 use std::marker::Model;
@@ -9,7 +9,7 @@ use std::marker::Model;
 // A chain has this many clauses on average before there are twice as many chains.
 const FULL: usize = 4;
 
-// A clause goes before the clauses of its chain that have lower numbers, and stays there after it is deleted.
+// A clause goes before the clauses of its chain that have lower numbers, and stays there until a search meets it after it is deleted.
 #[derive(Drop)]
 pub(crate) struct Copies {
     // By chain: one more than the number of its first clause, or 0.
@@ -114,5 +114,26 @@ impl Copies {
         self.nexts[k as usize] = self.firsts[chain];
         self.firsts[chain] = k + 1;
         self.count = k as usize + 1;
+    }
+
+    // Takes off its chain the clause to which this link leads: that after the clause `before`, or the first that has the weight.
+    pub fn unlink(&mut self, weight: u32, before: Option<u32>, k: u32)
+        requires { link_at self.old weight before ≡ k + 1 }
+        ensures next { link_at self.new weight before ≡ slice_index_or self.old.nexts k 0 }
+        ensures keeps { (h j : ℕ) → j ≢ k → Holds self.old h j → Holds self.new h j }
+        ensures ahead { (at n j : ℕ) → j ≢ k → after self.old.nexts at n ≡ j + 1 → (m : ℕ) × (after self.new.nexts at m ≡ j + 1) }
+        ensures falls { (i : ℕ) → slice_index_or self.new.nexts i 0 ≤ i }
+        ensures count { self.new.count ≡ self.old.count }
+        ensures places { length self.new.nexts ≡ length self.old.nexts }
+        ensures chains { length self.new.firsts ≡ length self.old.firsts }
+    {
+        let next = self.next(k);
+        match before {
+            Some(before) => self.nexts[before as usize] = next,
+            None => {
+                let chain = weight as usize % self.firsts.len();
+                self.firsts[chain] = next;
+            }
+        }
     }
 }

@@ -33,6 +33,14 @@ const CHAINS: usize = 64;
 // As many literals of deleted clauses keep their place at least.
 const FEW: usize = 65_536;
 
+// How many literals the clause with a number has; none where it isn't present.
+fn literals(core: &Propagator, k: u32) -> usize {
+    if k as usize >= core.len() {
+        return 0;
+    }
+    core.clause(k).map_or(0, |clause| clause.len())
+}
+
 /// A checker of DRUP proofs, which holds the clauses that are present.
 #[derive(Drop)]
 pub struct Checker {
@@ -188,7 +196,7 @@ impl Checker {
         }
         let Some(found) = find_clause(
             &self.core,
-            &self.copies,
+            &mut self.copies,
             clause,
             &mut self.marks,
             &mut self.others,
@@ -198,9 +206,10 @@ impl Checker {
         if is_reason(&self.core, clause) {
             return;
         }
+        let size = literals(&self.core, found);
         self.core.take_out(found);
-        self.live = self.live.saturating_sub(clause.len());
-        self.dead = self.dead.saturating_add(clause.len());
+        self.live = self.live.saturating_sub(size);
+        self.dead = self.dead.saturating_add(size);
     }
 
     // Whether most literals are those of deleted clauses, and a table by variable is smaller.
@@ -208,19 +217,20 @@ impl Checker {
         self.dead > FEW && self.dead > self.live && self.dead > self.core.vars() as usize
     }
 
-    // Gives the place of deleted clauses back where most literals are theirs, if there is memory for that.
+    // Gives the place of deleted clauses back where most literals are theirs, if there is memory for that; else it is tried again
+    // after as many deletions more.
     fn collect(&mut self)
         ensures { self.new ≡ self.old }
     {
         if !self.is_sparse() {
             return;
         }
+        self.dead = 0;
         if self.core.collect().is_err() {
             return;
         }
         self.copies.clear(self.core.len());
         file_present(&self.core, &mut self.copies, &mut self.marks);
-        self.dead = 0;
     }
 
     /// Deletes one copy of a clause over the formula's variables. Does nothing where there is none, where unit propagation

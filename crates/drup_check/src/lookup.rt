@@ -1,11 +1,11 @@
 // The search for a copy of a clause.
 
-ghost use Rattle.std.specs.Prelude.{◌≡◌, ◌↔◌, ℕ, ◌+◌, ◌*◌, ◌<◌, ◌≤◌, [], List, length, IsTrue, IfOk, IfSome, IfNone, Some, Contains, slice_index_or};
+ghost use Rattle.std.specs.Prelude.{◌≡◌, ◌↔◌, ℕ, ◌+◌, ◌*◌, ◌<◌, ◌≤◌, [], List, length, IsTrue, IfOk, IfSome, IfNone, Some, None, Contains, true};
 ghost use Rattle.cnf_form.specs.Cnf.{LitOf, ClauseWithin, SameClause};
 ghost use Rattle.unit_propagation.specs.Marks.{Shows};
 ghost use Rattle.unit_propagation.specs.Propagator.{clauses_of, slot_at};
-ghost use Rattle.drup_check.specs.Inside.{IsFree, IsFiled};
-ghost use Rattle.drup_check.specs.Copies.{after};
+ghost use Rattle.drup_check.specs.Inside.{IsFree, IsFiled, Keeps};
+ghost use Rattle.drup_check.specs.Copies.{after, beginning};
 
 use crate::copies::Copies;
 use crate::marks::{is_same, mark_all, unmark_all, weigh};
@@ -32,11 +32,22 @@ fn is_copy(core: &Propagator, k: u32, clause: &[Lit], marks: &[bool], other: &mu
     }
 }
 
-// The number of a copy, from a link on.
+// Whether no clause with a number is present.
+fn is_gone(core: &Propagator, k: u32) -> bool
+    ensures gone { result ≡ true → slot_at core.now.slots k ≡ None }
+{
+    if k as usize >= core.len() {
+        return true;
+    }
+    core.clause(k).is_none()
+}
+
+// The number of a copy among the clauses of a weight's chain. Each deleted clause that the search meets is taken off the chain, so that
+// no later one meets it.
 fn find(
     core: &Propagator,
-    copies: &Copies,
-    start: u32,
+    copies: &mut Copies,
+    weight: u32,
     clause: &[Lit],
     marks: &[bool],
     other: &mut [bool],
@@ -45,19 +56,25 @@ fn find(
     requires sized { length marks.now ≡ 2 * core.now.vars + 2 }
     requires shows { Shows marks.now clause.now }
     requires free { IsFree core.now.vars other.old }
-    requires falls { (i : ℕ) → slice_index_or copies.now.nexts i 0 ≤ i }
     ensures free { IsFree core.now.vars other.new }
+    ensures keeps { Keeps core.now.slots copies.old copies.new }
     ensures found { IfSome result (λ k. (d : List LitOf) × (slot_at core.now.slots k ≡ Some d) × SameClause clause.now d) }
-    ensures none { IfNone result ((n k : ℕ) (d : List LitOf) → after copies.now.nexts start n ≡ k + 1
+    ensures none { IfNone result ((n k : ℕ) (d : List LitOf) → after copies.old.nexts (beginning copies.old.firsts weight) n ≡ k + 1
         → slot_at core.now.slots k ≡ Some d → SameClause clause.now d → ⊥) }
 {
-    let mut at = start;
+    let mut before = None;
+    let mut at = copies.first(weight);
     while at != 0 {
         let k = at - 1;
+        at = copies.next(k);
+        if is_gone(core, k) {
+            copies.unlink(weight, before, k);
+            continue;
+        }
         if is_copy(core, k, clause, marks, other) {
             return Some(k);
         }
-        at = copies.next(k);
+        before = Some(k);
     }
     None
 }
@@ -65,7 +82,7 @@ fn find(
 // The number of a copy that is present.
 pub(crate) fn find_clause(
     core: &Propagator,
-    copies: &Copies,
+    copies: &mut Copies,
     clause: &[Lit],
     marks: &mut [bool],
     others: &mut [bool],
@@ -75,13 +92,14 @@ pub(crate) fn find_clause(
     requires others_free { IsFree core.now.vars others.old }
     ensures free { IsFree core.now.vars marks.new }
     ensures others_free { IsFree core.now.vars others.new }
+    ensures filed { IsFiled core.now copies.old → IsFiled core.now copies.new }
     ensures found { IfSome result (λ k. (k < length core.now.slots)
         × ((d : List LitOf) × (slot_at core.now.slots k ≡ Some d) × SameClause clause.now d)) }
-    ensures none { IfNone result (IsFiled core.now copies.now
+    ensures none { IfNone result (IsFiled core.now copies.old
         → (d : List LitOf) → Contains (clauses_of core.now.slots) d → SameClause clause.now d → ⊥) }
 {
     let weight = mark_all(clause, marks);
-    let found = find(core, copies, copies.first(weight), clause, marks, others);
+    let found = find(core, copies, weight, clause, marks, others);
     unmark_all(clause, marks);
     found
 }

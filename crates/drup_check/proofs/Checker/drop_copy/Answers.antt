@@ -49,7 +49,7 @@ invariant_of-self-2 c =
       root_without p c.in-Some.found c.args.clause.now d.0 d.1 d.2 i.0 e kept,
       freed_back p.vars marks.items c.find_clause.new.marks marks.len a b s.free,
       freed_back p.vars others.items c.find_clause.new.others others.len a' b' s.others_free,
-      filed_without p c.in-Some.found c.args.clause.now d.0 d.1 d.2 _ i.3,
+      filed_without p c.in-Some.found c.args.clause.now d.0 d.1 d.2 _ (s.filed i.3),
     )
 
 pub returns-clause-deleted : goal.returns-clause-deleted
