@@ -1,0 +1,143 @@
+"""Runs sby on a prepared task, and tells what happens while it runs."""
+import os
+import re
+import subprocess
+import sys
+import threading
+import time
+
+import config
+import rtlil
+
+PRINTING = threading.Lock()
+
+
+def printer(words, name):
+    """What prints a task's lines; with -q the last one alone."""
+
+    def say(line, is_last=True):
+        if is_last or not words.quiet:
+            with PRINTING:
+                print(line, flush=True)
+
+    return say
+
+
+class Log:
+    """The lines of a task: on the terminal, and in WORKDIR/logfile.txt."""
+
+    def __init__(self, folder, say):
+        self.folder, self.tell = folder, say
+        self.file = open(os.path.join(folder, "logfile.txt"), "w", encoding="utf-8")
+        self.summary = []
+
+    def line(self, text, is_last):
+        line = f"SBY {time.strftime('%H:%M:%S')} [{self.folder}] {text}"
+        self.file.write(line + "\n")
+        self.file.flush()
+        self.tell(line, is_last)
+
+    def say(self, text):
+        self.line(text, False)
+
+    def sum(self, text):
+        """A line that the marker file repeats."""
+        self.summary.append(text)
+        self.say(f"summary: {text}")
+
+    def last(self, text):
+        self.line(text, True)
+        self.file.close()
+
+
+def task_file(task, folder, design="model/design.il"):
+    """The task for sby: one task, one design, the same options."""
+    options = [f"{name} {value}" for name, value in task.options.items() if name != "multiclock"]
+    engines = [" ".join(it) for it in task.engines]
+    return "\n".join(["[options]", *options, "", "[engines]", *engines, "", "[script]", "read_rtlil design.il", "",
+                      "[files]", f"design.il {folder}/{design}", ""])
+
+
+def told(line):
+    """A line of sby's own log, in the words of the terminal, or None."""
+    found = re.fullmatch(r"\s*[\d.]+ (.*)", line.rstrip("\n"))
+    text = found.group(1) if found else line.rstrip("\n")
+    started = re.fullmatch(r"task \d+, lane (\d+): child (\d+) is (.*)", text)
+    if started:
+        return f"engine_{started.group(1)}: starting process {started.group(2)}: {started.group(3)}"
+    return text
+
+
+def watch(pipe, log):
+    for line in pipe:
+        log.say(told(line))
+
+
+def call(sby, folder, path, env, log):
+    """Runs sby on a task file; its lines, and its exit status. Its log comes on its standard error."""
+    words = [sby, "-d", folder, path]
+    child = subprocess.Popen(words, stdin=subprocess.DEVNULL, stdout=subprocess.PIPE, stderr=subprocess.PIPE, text=True,
+                             errors="replace", env=env)
+    watcher = threading.Thread(target=watch, args=(child.stderr, log) if log else (child.stderr, Silent()), daemon=True)
+    watcher.start()
+    try:
+        lines = child.stdout.read().splitlines()
+    except BaseException:
+        child.terminate()
+        raise
+    code = child.wait()
+    watcher.join(5)
+    return lines, code
+
+
+class Silent:
+    def say(self, text):
+        pass
+
+
+def own_lines(lines, folder):
+    """What sby says of the task, without the traces."""
+    front = f"SBY [{folder}] "
+    return [it[len(front) :] for it in lines if it.startswith(front)]
+
+
+def run(task, design, folder, sby, log):
+    """Runs the task by sby; the status, and the exit status."""
+    path = os.path.join(folder, "config.sby")
+    with open(path, "w", encoding="utf-8") as file:
+        file.write(task_file(task, folder))
+    lines, code = call(sby, folder, path, {**os.environ, "SBY_LOG": "-"}, log)
+    with open(os.path.join(folder, "sby.out"), "w", encoding="utf-8") as file:
+        file.write("\n".join(lines) + "\n")
+    task.said = own_lines(lines, folder)
+    for line in task.said:
+        log.say(line if not line.startswith("DONE") else f"sby: {line}")
+    done = re.fullmatch(r"DONE \((\w+), rc=\d+\)", task.said[-1]) if task.said else None
+    if done is None:
+        raise config.Refused(f"sby ended with {code} and no status (see {folder}/logfile.txt)")
+    return done.group(1), code
+
+
+def warn_if_vacuous(task, design, folder, sby, log):
+    """Asks whether any run of the task's depth meets the assumptions, where there are some: else PASS says nothing."""
+    if not design.count("$assume") or task.mode() == "cover":
+        return
+    with open(os.path.join(folder, "model", "design.il"), encoding="utf-8") as file:
+        text = rtlil.without_statements(file.read())
+    inner = os.path.join(folder, "assumptions")
+    os.makedirs(inner, exist_ok=True)
+    with open(os.path.join(inner, "design.il"), "w", encoding="utf-8") as file:
+        file.write(text)
+    asked = config.Task(None, "-")
+    asked.options = {"mode": "bmc", "depth": str(task.depth()), "skip": str(task.depth() - 1)}
+    asked.engines = task.engines
+    path = os.path.join(inner, "config.sby")
+    with open(path, "w", encoding="utf-8") as file:
+        file.write(task_file(asked, inner, "design.il"))
+    log.say(f"assumptions: asking for a run of {task.depth()} cycles that meets them")
+    lines, _ = call(sby, inner, path, None, None)
+    said = own_lines(lines, inner)
+    if said and said[-1].startswith("DONE (PASS"):
+        log.sum(f"WARNING: no run of {task.depth()} cycles meets the assumptions: PASS says nothing of such runs")
+    elif not (said and said[-1].startswith("DONE (FAIL")):
+        log.say("assumptions: no answer")
