@@ -396,9 +396,11 @@ impl<'a, R: SystemFiles + SystemClock> Hold for RealHold<'a, R> {
     fn kill(&mut self) -> Result<(), Failed> {
         self.is_killed = true;
         self.kills.store(true, Ordering::SeqCst);
-        let id = self.child.id();
-        self.log
-            .say(self.alloc, &format_args!("child {id}: killed"));
+        if self.exit.is_none() {
+            let id = self.child.id();
+            self.log
+                .say(self.alloc, &format_args!("child {id}: killed"));
+        }
         if let Some(guard) = self.guard.take() {
             drop(guard);
             if self.has_ended() {
