@@ -3,3 +3,4 @@ pub mod Trail
 pub mod Following
 pub mod Admitting
 pub mod Table
+pub mod Rising

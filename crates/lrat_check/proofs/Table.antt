@@ -1,9 +1,9 @@
 -- The table of clauses by their ids.
-use Rattle.std.proofs.Common.{◌≡◌, ◌≢◌, ℕ, zero, suc, ◌<◌, ◌+◌, ◌*◌, Option, Some, Bool, true, false, eqb, cond, length-take-le, replicate, List, [], ◌∷◌, ◌++◌, length, take, get_or, refl, sym, ◌∙◌, ap, inl, inr, arith}
-use Rattle.std.specs.Prelude.{slice_get, All}
-use Rattle.std.proofs.lemmas.Bool.{cases_Bool, cases_eq, cases_lt, eqb-true, eq-eqb}
+use Rattle.std.proofs.Common.{◌≡◌, ◌≢◌, ℕ, zero, suc, ◌<◌, ◌+◌, ◌*◌, Option, Some, Bool, true, false, eqb, cond, length-take-le, replicate, List, [], ◌∷◌, ◌++◌, length, take, drop, get_or, refl, sym, ◌∙◌, ap, subst, inl, inr, arith, Result, Ok, Err}
+use Rattle.std.specs.Prelude.{slice_get, All, OnOk, OnErr, is_err}
+use Rattle.std.proofs.lemmas.Bool.{false≢true, cases_Bool, cases_eq, cases_lt, eqb-true, eq-eqb}
 use Rattle.std.proofs.lemmas.List.Elements.{All-contains}
-use Rattle.std.proofs.lemmas.List.{get_or-replicate, get_or_past, length-replicate}
+use Rattle.std.proofs.lemmas.List.{append-nil, drop_all, get_or-replicate, get_or_past, length-replicate, take_all}
 use Rattle.cnf_form.specs.Cnf.{LitOf, index_of, ClauseWithin, Within}
 use Rattle.cnf_form.proofs.Members.{take_one_more}
 use Rattle.lrat_check.specs.Hints.{Live, numbered, put}
@@ -76,3 +76,24 @@ checker_new vars live F marks e same within = record {
   clear = clear_new marks (2 * vars + 2) e;
   within = numbered_within vars live F same within;
 }
+
+-- a slice that was lent comes back in its place
+lent_back : (old new : List Bool) (n : ℕ) → n ≡ length old → length new ≡ length old → take n (new ++ drop (length new) old) ≡ new
+lent_back old new n e f =
+    let none : drop (length new) old ≡ [] = drop_all (length new) old (omega (arith, f)) in
+    ap (λ z. take n (new ++ z)) none ∙ ap (take n) (append-nil new) ∙ take_all n new (omega (arith, e, f))
+
+pub checker_back : (vars : ℕ) (live live' : Live) (old new : List Bool) (n : ℕ) → n ≡ length old → length new ≡ length old → IsChecker vars live old → IsClear new → LiveWithin vars live'
+    → IsChecker vars live' (take n (new ++ drop (length new) old))
+checker_back vars live live' old new n e f i clear within = rw (lent_back old new n e f) (record { room = f ∙ i.room; clear = clear; within = within })
+
+pub put_within : (vars : ℕ) (live live' : Live) (id : ℕ) (c : List LitOf) → ((n : ℕ) → live' n ≡ put live id (Some c) n) → LiveWithin vars live → ClauseWithin vars c → LiveWithin vars live'
+put_within vars live live' id c now h w = within_put vars live live' id (Some c) now h (λ d e. let same : c ≡ d = cc in subst (ClauseWithin vars) same w)
+
+pub ok_of : {T E : Type 0} (r : Result T E) (P : Type 0) → false ≡ is_err r → OnOk r P → P
+ok_of (Ok x) P e h = h
+ok_of (Err x) P e h = absurd (false≢true e)
+
+pub err_of : {T E : Type 0} (r : Result T E) (P : Type 0) → true ≡ is_err r → OnErr r P → P
+err_of (Ok x) P e h = absurd (false≢true (sym e))
+err_of (Err x) P e h = h

@@ -1,3 +1,4 @@
 pub mod Hints
 pub mod Checking
 pub mod Marks
+pub mod Table

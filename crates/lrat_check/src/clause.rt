@@ -1,12 +1,9 @@
-// Clauses and their ids.
+// The literals of a clause.
 
-ghost use Rattle.std.specs.Prelude.{◌≡◌, ℕ, Some, IfOk, OnOk, OnErr, nat_eq};
-ghost use Rattle.std.specs.HashMap.{get};
-ghost use Rattle.lrat_check.specs.Hints.{numbered, put};
+ghost use Rattle.std.specs.Prelude.{◌≡◌, IfOk};
 
-use cnf_form::{Clauses, Lit};
+use cnf_form::Lit;
 use std::alloc::{AllocError, Global};
-use std::collections::HashMap;
 use std::marker::Model;
 
 // The literals of a live clause. Its memory goes back as soon as the clause is deleted.
@@ -37,35 +34,4 @@ impl Clause {
     {
         &self.lits
     }
-}
-
-// Gives the id the clause.
-pub(crate) fn put_clause(
-    alloc: Global,
-    clauses: &mut HashMap<u64, Clause>,
-    id: u64,
-    clause: &[Lit],
-) -> Result<(), AllocError>
-    ensures ok { OnOk result ((n : ℕ) → get nat_eq clauses.new n ≡ put (λ k. get nat_eq clauses.old k) id (Some clause.now) n) }
-    ensures err { OnErr result (clauses.new.entries ≡ clauses.old.entries) }
-{
-    let clause = Clause::new(alloc, clause)?;
-    match clauses.insert(id, clause) {
-        Ok(_) => Ok(()),
-        Err(_) => Err(AllocError),
-    }
-}
-
-// The clauses, with the ids from 1.
-pub(crate) fn numbered_clauses(
-    alloc: Global,
-    formula: &Clauses<'_>,
-) -> Result<HashMap<u64, Clause>, AllocError>
-    ensures { IfOk result (λ m. (n : ℕ) → get nat_eq m n ≡ numbered formula.now n) }
-{
-    let mut clauses = HashMap::with_capacity(alloc, formula.len())?;
-    for place in 0..formula.len() {
-        put_clause(alloc, &mut clauses, place as u64 + 1, formula.get(place))?;
-    }
-    Ok(clauses)
 }

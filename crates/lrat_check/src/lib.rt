@@ -7,15 +7,15 @@ ghost use Rattle.lrat_check.specs.Hints.{IsHinted};
 ghost use Rattle.lrat_check.specs.Checking.{HintedOf, live_of, Starts, HasAdded, HasDeleted};
 
 mod clause;
+mod entries;
 mod laws;
 mod propagation;
 
-use clause::{Clause, numbered_clauses, put_clause};
 use cnf_form::{Formula, Lit};
+use entries::{Table, numbered_clauses};
 pub use laws::{hinted_is_admitted, hinted_proof_is_drup};
 use propagation::is_hinted;
 use std::alloc::{AllocError, Global};
-use std::collections::HashMap;
 use std::marker::Model;
 
 /// What a checker answers to a clause and its hints.
@@ -25,13 +25,12 @@ pub enum Added {
     NotHinted,
 }
 
-/// A checker of hinted proofs, which holds the live clauses, each with its id. A deleted clause's memory is given back
-/// at once.
+/// A checker of hinted proofs, which holds the live clauses, each with its id. A deleted clause's literals are given back at once, its
+/// entry once most are deleted.
 #[derive(Drop)]
 pub struct Hinted {
-    alloc: Global,
     vars: u32,
-    clauses: HashMap<u64, Clause>,
+    clauses: Table,
     // The literals that the line at hand has assigned, each marked. Between lines nothing is marked.
     trail: Vec<Lit>,
     marks: Vec<bool>,
@@ -41,16 +40,15 @@ pub struct Hinted {
 }
 
 impl Model for Hinted {
-    ghost use Rattle.std.specs.Prelude.{nat_eq};
-    ghost use Rattle.std.specs.HashMap.{get};
     ghost use Rattle.lrat_check.specs.Checking.{HintedOf};
     ghost use Rattle.lrat_check.specs.Marks.{IsChecker};
+    ghost use Rattle.lrat_check.specs.Table.{IsUpto, held, present};
 
     ghost Value = { HintedOf };
 
-    ghost view = { λ h. record { vars = h.vars; clauses = h.clauses.entries; last_id = h.last_id; refuted = h.refuted; out_of_memory = h.out_of_memory } };
+    ghost view = { λ h. record { vars = h.vars; clauses = present h.clauses; last_id = h.last_id; refuted = h.refuted; out_of_memory = h.out_of_memory } };
 
-    ghost invariant = { λ h. IsChecker h.vars (λ id. get nat_eq h.clauses id) h.marks.items };
+    ghost invariant = { λ h. IsChecker h.vars (held h.clauses) h.marks.items × IsUpto h.clauses h.last_id };
 }
 
 impl Hinted {
@@ -62,7 +60,6 @@ impl Hinted {
         let clauses = numbered_clauses(alloc, &formula.clauses())?;
         let marks = vec![in alloc; false; 2 * vars as usize + 2]?;
         Ok(Hinted {
-            alloc,
             vars,
             clauses,
             trail: Vec::new(alloc),
@@ -84,7 +81,7 @@ impl Hinted {
     pub fn live(&self, id: u64) -> bool
         ensures { result ≡ is_some (live_of self.now id) }
     {
-        self.clauses.contains_key(&id)
+        self.clauses.get(id).is_some()
     }
 
     /// Whether an empty clause was admitted.
@@ -135,7 +132,7 @@ impl Hinted {
                 return Err(e);
             }
         }
-        if put_clause(self.alloc, &mut self.clauses, id, clause).is_err() {
+        if self.clauses.push(id, clause).is_err() {
             self.out_of_memory = true;
             return Err(AllocError);
         }
@@ -150,6 +147,6 @@ impl Hinted {
     pub fn delete(&mut self, id: u64)
         ensures { HasDeleted id self.old self.new }
     {
-        let _ = self.clauses.remove(&id);
+        self.clauses.remove(id);
     }
 }

@@ -1,15 +1,14 @@
 // Unit propagation along hints.
 
-ghost use Rattle.std.specs.Prelude.{◌≡◌, ◌↔◌, ℕ, ◌+◌, ◌*◌, ◌<◌, Bool, true, false, List, [], ◌∷◌, ◌++◌, length, map, All, IsTrue, IsSome, IfOk, OnOk, MatchBool, slice_set, nat_eq};
-ghost use Rattle.std.specs.HashMap.{get};
+ghost use Rattle.std.specs.Prelude.{◌≡◌, ◌↔◌, ℕ, ◌+◌, ◌*◌, ◌<◌, Bool, true, false, List, [], ◌∷◌, ◌++◌, length, map, All, IsTrue, IsSome, IfOk, OnOk, MatchBool, slice_set};
 ghost use Rattle.cnf_form.specs.Cnf.{LitOf, negate, index_of};
 ghost use Rattle.lrat_check.specs.Hints.{Live, IsContradictory, Refutes, IsHinted};
+ghost use Rattle.lrat_check.specs.Table.{held};
 ghost use Rattle.lrat_check.specs.Marks.{is_marked, HasPlaces, Marks, IsClear, IsConsistent, ClauseStands, ClausesHavePlaces};
 
-use crate::clause::Clause;
+use crate::entries::Table;
 use cnf_form::Lit;
 use std::alloc::AllocError;
-use std::collections::HashMap;
 
 // How many literals of a clause are not negated.
 pub(crate) enum Status {
@@ -92,20 +91,22 @@ fn assume(clause: &[Lit], marks: &mut [bool], trail: &mut Vec<Lit>) -> Result<bo
 
 // Whether the hints' clauses lead to a conflict.
 fn follow(
-    clauses: &HashMap<u64, Clause>,
+    clauses: &Table,
     hints: &[u64],
     marks: &mut [bool],
     trail: &mut Vec<Lit>,
 ) -> Result<bool, AllocError>
-    requires live { All (λ id. IsSome (get nat_eq clauses.now id)) hints.now }
-    requires places { ClausesHavePlaces (λ id. get nat_eq clauses.now id) marks.old }
+    requires live { All (λ id. IsSome (held clauses.now id)) hints.now }
+    requires places { ClausesHavePlaces (held clauses.now) marks.old }
     requires marks { Marks marks.old trail.old.items }
     requires consistent { IsConsistent trail.old.items }
     ensures marks { Marks marks.new trail.new.items }
-    ensures exact { IfOk result (λ b. IsTrue b ↔ Refutes (λ id. get nat_eq clauses.now id) trail.old.items hints.now) }
+    ensures exact { IfOk result (λ b. IsTrue b ↔ Refutes (held clauses.now) trail.old.items hints.now) }
 {
     for id in hints {
-        let clause = clauses[id].lits();
+        let Some(clause) = clauses.get(*id) else {
+            unreachable!();
+        };
         match clause_status(clause, marks) {
             Status::Negated => {
                 return Ok(true);
@@ -129,19 +130,19 @@ fn unmark(trail: &[Lit], marks: &mut [bool])
 }
 
 fn leads_to_conflict(
-    clauses: &HashMap<u64, Clause>,
+    clauses: &Table,
     clause: &[Lit],
     hints: &[u64],
     marks: &mut [bool],
     trail: &mut Vec<Lit>,
 ) -> Result<bool, AllocError>
-    requires live { All (λ id. IsSome (get nat_eq clauses.now id)) hints.now }
-    requires places { ClausesHavePlaces (λ id. get nat_eq clauses.now id) marks.old }
+    requires live { All (λ id. IsSome (held clauses.now id)) hints.now }
+    requires places { ClausesHavePlaces (held clauses.now) marks.old }
     requires clause { All (HasPlaces marks.old) clause.now }
     requires none { trail.old.items ≡ [] }
     requires clear { IsClear marks.old }
     ensures marks { Marks marks.new trail.new.items }
-    ensures exact { IfOk result (λ b. IsTrue b ↔ IsHinted (λ id. get nat_eq clauses.now id) clause.now hints.now) }
+    ensures exact { IfOk result (λ b. IsTrue b ↔ IsHinted (held clauses.now) clause.now hints.now) }
 {
     let consistent = assume(clause, marks, trail)?;
     if !consistent {
@@ -152,18 +153,18 @@ fn leads_to_conflict(
 
 // Whether the hints admit the clause. Marks are for this call alone.
 pub(crate) fn is_hinted(
-    clauses: &HashMap<u64, Clause>,
+    clauses: &Table,
     clause: &[Lit],
     hints: &[u64],
     marks: &mut [bool],
     trail: &mut Vec<Lit>,
 ) -> Result<bool, AllocError>
-    requires live { All (λ id. IsSome (get nat_eq clauses.now id)) hints.now }
-    requires places { ClausesHavePlaces (λ id. get nat_eq clauses.now id) marks.old }
+    requires live { All (λ id. IsSome (held clauses.now id)) hints.now }
+    requires places { ClausesHavePlaces (held clauses.now) marks.old }
     requires clause { All (HasPlaces marks.old) clause.now }
     requires clear { IsClear marks.old }
     ensures clear { IsClear marks.new }
-    ensures exact { IfOk result (λ b. IsTrue b ↔ IsHinted (λ id. get nat_eq clauses.now id) clause.now hints.now) }
+    ensures exact { IfOk result (λ b. IsTrue b ↔ IsHinted (held clauses.now) clause.now hints.now) }
 {
     trail.clear();
     let found = leads_to_conflict(clauses, clause, hints, marks, trail);

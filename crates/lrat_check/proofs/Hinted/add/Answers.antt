@@ -1,8 +1,11 @@
-use Rattle.std.proofs.Common.{◌≡◌, Bool, true, List, ℕ, refl, subst}
+use Rattle.std.proofs.Common.{◌≡◌, ◌<◌, Bool, true, List, ℕ, length, refl, sym, subst, rules}
 use Rattle.std.specs.Prelude.{IsTrue, ◌↔◌}
-use Rattle.cnf_form.specs.Cnf.{LitOf}
+use Rattle.cnf_form.specs.Cnf.{ClauseWithin, LitOf}
 use Rattle.lrat_check.specs.Hints.{IsHinted}
 use Rattle.lrat_check.specs.Checking.{HintedOf, live_of}
+use Rattle.lrat_check.specs.Table.{held}
+use Rattle.lrat_check.proofs.Rising.{below_next}
+use Rattle.lrat_check.proofs.Table.{checker_back, err_of, ok_of, put_within}
 use Rattle.lrat_check.proofs.Hinted.add.Goals as goal
 
 hinted : (h h' : HintedOf) (c : List LitOf) (hints : List ℕ) (b : Bool) → h ≡ h' → (IsTrue b ↔ IsHinted (live_of h) c hints) → IsTrue b ↔ IsHinted (live_of h') c hints
@@ -22,3 +25,44 @@ pub returns-else-is_empty-clause-exact : goal.returns-else-is_empty-clause-exact
 returns-else-is_empty-clause-exact c =
     let w = hinted _ c.args.self.now c.args.clause.now c.args.hints.now c.in-Ok-true.field-0 c.self.view_is c.in-Ok-true.ensures.exact in
     (λ e. w.0 (cc), λ h. refl)
+
+pub push-requires : goal.push-requires
+push-requires c =
+    let i = c.self.invariant in
+    below_next c.self.inside.clauses c.self.inside.last_id c.args.id i.1 (subst (λ (h : HintedOf). h.last_id < c.args.id) (sym c.self.view_is) c.requires.id)
+
+-- a table as it was, beside marks that came back
+pub invariant_of-self-then-is_err : goal.invariant_of-self-then-is_err
+invariant_of-self-then-is_err c =
+    let i = c.self.invariant in
+    let marks = c.self.inside.marks in
+    let new = c.is_hinted-found.new.marks in
+    let a : marks.len ≡ length marks.items = search rules in
+    let b : length new ≡ length marks.items = search rules in
+    let same = err_of c.push.result _ c.if-is_err.ensures.value c.push.ensures.err in
+    rw same (checker_back c.self.inside.vars _ (held c.self.inside.clauses) marks.items new marks.len a b i.0 c.is_hinted-found.ensures.clear (let w = i.0 in w.within), i.1)
+
+-- a table with one more clause
+pub invariant_of-self-then-is_empty : goal.invariant_of-self-then-is_empty
+invariant_of-self-then-is_empty c =
+    let i = c.self.invariant in
+    let marks = c.self.inside.marks in
+    let new = c.is_hinted-found.new.marks in
+    let a : marks.len ≡ length marks.items = search rules in
+    let b : length new ≡ length marks.items = search rules in
+    let now = ok_of c.push.result _ c.if-is_err.ensures.value c.push.ensures.held in
+    let clause : ClauseWithin c.self.inside.vars c.args.clause.now = subst (λ (h : HintedOf). ClauseWithin h.vars c.args.clause.now) (sym c.self.view_is) c.requires.clause in
+    let within = put_within c.self.inside.vars (held c.self.inside.clauses) (held c.push.new.self) c.args.id c.args.clause.now now (let w = i.0 in w.within) clause in
+    (checker_back c.self.inside.vars _ (held c.push.new.self) marks.items new marks.len a b i.0 c.is_hinted-found.ensures.clear within, ok_of c.push.result _ c.if-is_err.ensures.value c.push.ensures.ids)
+
+pub invariant_of-self-else-is_empty : goal.invariant_of-self-else-is_empty
+invariant_of-self-else-is_empty c =
+    let i = c.self.invariant in
+    let marks = c.self.inside.marks in
+    let new = c.is_hinted-found.new.marks in
+    let a : marks.len ≡ length marks.items = search rules in
+    let b : length new ≡ length marks.items = search rules in
+    let now = ok_of c.push.result _ c.if-is_err.ensures.value c.push.ensures.held in
+    let clause : ClauseWithin c.self.inside.vars c.args.clause.now = subst (λ (h : HintedOf). ClauseWithin h.vars c.args.clause.now) (sym c.self.view_is) c.requires.clause in
+    let within = put_within c.self.inside.vars (held c.self.inside.clauses) (held c.push.new.self) c.args.id c.args.clause.now now (let w = i.0 in w.within) clause in
+    (checker_back c.self.inside.vars _ (held c.push.new.self) marks.items new marks.len a b i.0 c.is_hinted-found.ensures.clear within, ok_of c.push.result _ c.if-is_err.ensures.value c.push.ensures.ids)

@@ -1,5 +1,5 @@
-use Rattle.std.proofs.Common.{◌≡◌, ◌<◌, ℕ, Some, List, length, get_or, arith, refl, sym, ◌∙◌, ap, nat_eq}
-use Rattle.std.specs.HashMap.{get}
+use Rattle.std.proofs.Common.{◌≡◌, ◌<◌, ℕ, Some, List, length, get_or, arith, refl}
+use Rattle.lrat_check.specs.Table.{held}
 use Rattle.std.proofs.lemmas.Bool.{false≢true}
 use Rattle.cnf_form.specs.Cnf.{LitOf}
 use Rattle.lrat_check.specs.declared.propagation.Status.TheVariants.{Negated, OneLeft, MoreLeft}
@@ -10,25 +10,25 @@ use Rattle.lrat_check.proofs.propagation.follow.Goals.{in-OneLeft+in_ok-assign-i
 
 pub returns-in-Negated-clause-exact : goal.returns-in-Negated-clause-exact
 returns-in-Negated-clause-exact c =
-    let live : Live = λ id. get nat_eq c.args.clauses.now id in
+    let live : Live = held c.args.clauses.now in
     let i = c.loop-id.id-index in
     let hints : List ℕ = c.args.hints.now in
     let f = c.loop-id.invariant in
-    let at : live (get_or hints i 0) ≡ Some c.lits-clause.result.now = c.index.ensures ∙ ap Some (sym c.lits-clause.ensures) in (
-      λ _. followed_conflict live c.args.trail.now.items hints i c.loop-id.marks c.loop-id.trail.items f (get_or hints i 0) c.lits-clause.result.now (omega arith) refl at
-          (stands_as c.loop-id.marks c.loop-id.trail.items c.lits-clause.result.now Negated f.marked c.in-Negated.ensures),
+    let at : live (get_or hints i 0) ≡ Some c.in-Some.clause.now = c.in-Some.ensures in (
+      λ _. followed_conflict live c.args.trail.now.items hints i c.loop-id.marks c.loop-id.trail.items f (get_or hints i 0) c.in-Some.clause.now (omega arith) refl at
+          (stands_as c.loop-id.marks c.loop-id.trail.items c.in-Some.clause.now Negated f.marked c.in-Negated.ensures),
       λ _. refl,
     )
 
 pub loop-id-preserved : goal.loop-id-preserved
 loop-id-preserved c =
-    let live : Live = λ id. get nat_eq c.args.clauses.now id in
+    let live : Live = held c.args.clauses.now in
     let i = c.loop-id.id-index in
     let hints : List ℕ = c.args.hints.now in
     let f = c.loop-id.invariant in
-    let clause : List LitOf = c.lits-clause.result.now in
+    let clause : List LitOf = c.in-Some.clause.now in
     let h : i < length hints = omega arith in
-    let at : live (get_or hints i 0) ≡ Some clause = c.index.ensures ∙ ap Some (sym c.lits-clause.ensures) in
+    let at : live (get_or hints i 0) ≡ Some clause = c.in-Some.ensures in
     elim c.match-clause_status.branch [
       | in-OneLeft+in_ok-assign-in-OneLeft w ↦
           followed_joins live c.args.trail.now.items hints i c.loop-id.marks c.loop-id.trail.items f (get_or hints i 0) clause h refl at w.in-OneLeft.l _ _
@@ -40,5 +40,5 @@ loop-id-preserved c =
 
 pub returns-clause-exact : goal.returns-clause-exact
 returns-clause-exact c =
-    let live : Live = λ id. get nat_eq c.args.clauses.now id in
+    let live : Live = held c.args.clauses.now in
     (λ f. absurd (false≢true f), λ r. absurd (followed_none live c.args.trail.now.items c.args.hints.now c.loop-id.id-index c.loop-id.marks c.loop-id.trail.items c.loop-id.invariant (omega arith) r))

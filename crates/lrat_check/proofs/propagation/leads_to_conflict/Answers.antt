@@ -1,6 +1,6 @@
-use Rattle.std.proofs.Common.{◌≡◌, Bool, true, false, map, refl, subst, nat_eq}
+use Rattle.std.proofs.Common.{◌≡◌, Bool, true, false, map, refl, subst}
 use Rattle.std.specs.Prelude.{MatchBool, IfOk, ◌↔◌, IsTrue}
-use Rattle.std.specs.HashMap.{get}
+use Rattle.lrat_check.specs.Table.{held}
 use Rattle.cnf_form.specs.Cnf.{negate}
 use Rattle.lrat_check.specs.Hints.{Live, contradiction, Refutes}
 use Rattle.lrat_check.proofs.propagation.leads_to_conflict.Goals as goal
@@ -19,6 +19,6 @@ returns-then-not-consistent-clause-exact c =
 
 pub returns-clause-exact : goal.returns-clause-exact
 returns-clause-exact c =
-    let live : Live = λ id. get nat_eq c.args.clauses.now id in
+    let live : Live = held c.args.clauses.now in
     let w = consistent_from c.in_ok-consistent.consistent _ _ (cc) c.in_ok-consistent.ensures.cases in
     subst (λ L. IfOk c.follow.result (λ b. IsTrue b ↔ Refutes live L c.args.hints.now)) w.0 c.follow.ensures.exact
