@@ -1,6 +1,6 @@
 // A child of the system, its output and its end.
 
-ghost use Rattle.std.specs.Prelude.{◌≡◌, ◌≤◌, ◌<◌, false, true, None, length, IfOk};
+ghost use Rattle.std.specs.Prelude.{cond, Some, ◌≡◌, ◌≤◌, ◌<◌, false, true, None, length, IfOk};
 
 use crate::log::Log;
 use libc::net::POLLIN;
@@ -366,7 +366,8 @@ impl<'a, R: SystemFiles + SystemClock> RealHold<'a, R> {
 }
 
 impl<'a, R: SystemFiles + SystemClock> Hold for RealHold<'a, R> {
-    ghost is_killed = { λ h. h.is_killed };
+    // How many bytes the pipe had given isn't told.
+    ghost killed = { λ h. cond h.is_killed (Some 0) None };
 
     ghost is_reaped = { λ h. h.is_reaped };
 

@@ -7,7 +7,7 @@ use crate::child::{Errors, RealHold, RealPipe};
 use crate::command::{find_program, guarded_command, plain_command};
 use crate::files::open_and_read;
 use crate::log::Log;
-use sby_edge::{Fail, Got, Launch, Memory, Yard};
+use sby_edge::{Fail, Failed, Got, Hold, Launch, Memory, Yard};
 use sby_terms::JobName;
 use std::alloc::{AllocError, Global};
 use std::env::Env;
@@ -200,6 +200,10 @@ where
         answer
     }
 
+    fn kill(&self, _pipe: &RealPipe<'a, R>, hold: &mut RealHold<'a, R>) -> Result<(), Failed> {
+        hold.kill()
+    }
+
     fn finish(&mut self, mut pipe: RealPipe<'a, R>, hold: RealHold<'a, R>) {
         pipe.close();
         let reads = pipe.into_faults();
@@ -246,6 +250,8 @@ where
     type Bay = RealBay<'a, R>;
 
     ghost told = { λ _. None };
+
+    ghost started = { λ _. None };
 
     ghost start_faults = { λ y. y.start_faults };
 
