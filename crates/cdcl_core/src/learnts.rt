@@ -1,7 +1,7 @@
 // Which learnt clauses are worth keeping: those of which few levels made the literals false, and those that conflicts rested on
 // lately. Nothing is promised of it.
 
-use crate::pace::Pace;
+use crate::restarts::Restarts;
 use cnf_form::Formula;
 use decision_order::is_satisfied;
 use std::alloc::{AllocError, Global};
@@ -81,7 +81,7 @@ impl Learnts {
     }
 
     // Conflicts rested on these clauses: the glue of one may have fallen.
-    pub fn use_all(&mut self, core: &Propagator, pace: &mut Pace, numbers: &[u32]) {
+    pub fn use_all(&mut self, core: &Propagator, restarts: &mut Restarts, numbers: &[u32]) {
         for number in numbers {
             let place = (*number as usize).wrapping_sub(self.first);
             if place >= self.used.len() || place >= self.glues.len() || self.used[place] {
@@ -92,7 +92,7 @@ impl Learnts {
                 continue;
             }
             if let Some(clause) = core.clause(*number) {
-                self.glues[place] = self.glues[place].min(pace.glue(core, clause));
+                self.glues[place] = self.glues[place].min(restarts.glue(core, clause));
             }
         }
     }
