@@ -32,6 +32,7 @@ fn bump_all(analysis: &Analysis, order: &mut Order) {
         order.bump(l.var());
     }
     order.age();
+    order.goals.count();
 }
 
 // The clause of the first unique implication point, where there is one, without the literals that follow from its others. Its first
@@ -81,7 +82,7 @@ impl Solver {
         let core = &self.core;
         let base = core.limit(core.levels() - 1);
         let root = core.limit(0);
-        self.order.set_calm(self.restarts.is_calm());
+        self.order.set_stable(self.restarts.is_stable());
         self.order.keep_longest(&core.trail()[..base]);
         let point = self.analysis.find(core, k, root, base)?;
         bump_all(&self.analysis, &mut self.order);

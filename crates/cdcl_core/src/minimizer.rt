@@ -1,4 +1,5 @@
-// Which literals of a clause that is to be learnt follow from its others, through the clauses that made them false. Nothing is
+// Which literals of a clause that is to be learnt follow from its others, through the clauses that made them false (minimization:
+// Sörensson and Biere, 2009). Nothing is
 // promised of it: who takes literals out looks at those clauses again.
 
 use crate::analysis::Analysis;

@@ -1,4 +1,4 @@
-// Learnt clauses are deleted or frozen at level 0.
+// Learnt clauses are deleted or frozen at level 0 (freezing: Audemard, Lagniez, Mazure and Saïs, 2011).
 
 ghost use Rattle.std.specs.Prelude.{◌≡◌, ◌+◌, ◌*◌, ◌-◌, ◌<◌, ◌≤◌, ◌^◌, [], true, false, length, Contains, IsTrue, IfErr, OnOk, None};
 ghost use Rattle.cnf_form.specs.Cnf.{ClauseWithin, LitOf};

@@ -1,16 +1,16 @@
-// When the search begins anew at level 0. It goes in stretches, in turns hurried, where it begins anew whenever the clauses learnt
-// lately are worse than those before, which refutes sooner, and calm, where that comes seldom, which finds values sooner. Nothing is
-// promised of it.
+// When the search begins again at level 0. It goes in stretches, in turns in focused mode, where it restarts whenever the glue of the
+// clauses learnt lately is worse than that of those before (Audemard and Simon, 2012), which refutes sooner, and in stable mode, where it
+// restarts by a sequence (Luby, Sinclair and Zuckerman, 1993), which finds values sooner (Oh, 2015). Nothing is promised of it.
 
 use cnf_form::Lit;
 use std::alloc::{AllocError, Global};
 use unit_propagation::Propagator;
 
-// In a hurried stretch, so many conflicts come at least between one restart and the next.
+// In focused mode, so many conflicts come at least between one restart and the next.
 const LEAST: u64 = 50;
 
-// In a calm stretch, the conflicts between one restart and the next are a multiple of this.
-const CALM_UNIT: u64 = 1024;
+// In stable mode, the conflicts between one restart and the next are a multiple of this.
+const STABLE_UNIT: u64 = 1024;
 
 // The first stretches have so many conflicts, and each later pair half as many more.
 const FIRST_STRETCH: u64 = 1000;
@@ -49,7 +49,7 @@ pub(crate) struct Restarts {
     since: u64,
     fast: u64,
     slow: u64,
-    calm: bool,
+    stable: bool,
     change: u64,
     stretch: u64,
     waits: Waits,
@@ -100,7 +100,7 @@ impl Restarts {
             since: 0,
             fast: 0,
             slow: 0,
-            calm: false,
+            stable: false,
             change: FIRST_STRETCH,
             stretch: FIRST_STRETCH,
             waits: Waits { place: 1, wait: 1 },
@@ -152,29 +152,29 @@ impl Restarts {
         if self.counted < self.change {
             return;
         }
-        self.calm = !self.calm;
-        if !self.calm {
+        self.stable = !self.stable;
+        if !self.stable {
             self.stretch = self.stretch.saturating_add(self.stretch / 2);
         }
         self.change = self.counted.saturating_add(self.stretch);
         self.since = 0;
     }
 
-    pub fn is_calm(&self) -> bool {
-        self.calm
+    pub fn is_stable(&self) -> bool {
+        self.stable
     }
 
     // Whether the search is to begin anew.
     pub fn is_due(&mut self) -> bool {
         self.change_mode();
-        let due = if self.calm {
-            self.since >= self.waits.wait.saturating_mul(CALM_UNIT)
+        let due = if self.stable {
+            self.since >= self.waits.wait.saturating_mul(STABLE_UNIT)
         } else {
             self.since >= LEAST && self.fast / 10 * 9 > self.slow
         };
         if due {
             self.since = 0;
-            if self.calm {
+            if self.stable {
                 self.waits.advance();
             }
         }
