@@ -6,9 +6,10 @@ use Rattle.std.proofs.lemmas.List.{get_or-take, length-take, get_or_default}
 use Rattle.std.proofs.lemmas.List.Elements.{Contains-append_left, Contains-push, Contains-push_cases}
 use Rattle.cnf_form.specs.Cnf.{LitOf, negate}
 use Rattle.cnf_form.proofs.Literals.{lit_cases}
+use Rattle.cnf_form.proofs.Members.{Contains-empty}
 use Rattle.unit_propagation.specs.Propagation.{IsConsistent, IsOpen, IsFalsifiedBut, IsFixpoint}
 use Rattle.unit_propagation.specs.Propagator.{PropagatorOf, clauses_of}
-use Rattle.cdcl_core.specs.Logged.{IsNew}
+use Rattle.cdcl_core.specs.Logged.{IsNew, IsContingent}
 use Rattle.cdcl_core.specs.Levels.{base_of}
 use Rattle.cdcl_core.specs.Analysis.{IsLearnt, ComesLast, IsLastOf}
 use Rattle.cdcl_core.proofs.Marks.{in_prefix, prefix_grows, of_prefix}
@@ -103,3 +104,16 @@ module _ (p : PropagatorOf) (c : List LitOf) (first : LitOf) (w : IsLearnt p (ba
         let b = below k.0 low in
         let d = get_or_default p.limits k.0 n 0 (omega (arith, low, few)) in
         before (prefix_grows p.trail n place (negate second) (omega (arith, b, d, is)) (prefix_of_prefix p.trail n lim (negate second) h))
+
+-- all literals of a learnt clause are false, so it is no tautology; it has its first
+pub learnt_contingent : (p : PropagatorOf) (base : ℕ) (c : List LitOf) (first : LitOf) → IsLearnt p base c first → IsConsistent p.trail → IsContingent c
+learnt_contingent p base c first w ok = record {
+  full = λ e. Contains-empty first (subst (λ z. Contains z first) e w.contains);
+  apart = λ l h k. ok.apart (negate l) (off l h) (off (negate l) k);
+}
+  where
+    off : (m : LitOf) → Contains c m → Contains p.trail (negate m)
+    off m h = elim (lit_cases m first) [
+      | inl e ↦ subst (λ z. Contains p.trail (negate z)) (sym e) w.on
+      | inr ne ↦ of_prefix p.trail base (negate m) (w.others m h ne)
+    ]

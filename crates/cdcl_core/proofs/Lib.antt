@@ -3,8 +3,8 @@ mod Analyses
 mod Driven
 mod Backjumps
 mod Answering
-mod Solutions
+pub mod Solutions
 mod Reductions
 mod Orders
 mod Thawing
-mod Learnings
+mod Steps

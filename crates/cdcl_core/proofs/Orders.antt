@@ -83,6 +83,9 @@ slot_parts (None ∷ ss) zero c e = absurd (let f : None ≡ Some c = e in cc)
 slot_parts (Some x ∷ ss) (suc k) c e = let w = slot_parts ss k c e in (x ∷ w.0, w.1, ap (λ z. x ∷ z) w.2, ap (λ z. x ∷ z) w.3)
 slot_parts (None ∷ ss) (suc k) c e = slot_parts ss k c e
 
+pub orders_same : (F : List (List LitOf)) → SameOrders F F
+orders_same F = record { forth = λ H r. r }
+
 pub orders_both : {F G K : List (List LitOf)} → SameOrders F G → SameOrders G K → SameOrders F K
 orders_both s t = record { forth = λ H r. t.forth H (s.forth H r) }
 

@@ -3,4 +3,4 @@ pub mod Levels
 pub mod Analysis
 pub mod Solving
 pub mod Present
-pub mod Reducing
+pub mod Searching

@@ -1,4 +1,4 @@
-// The analysis of a conflict: which clause follows from it.
+// The analysis of a conflict: the clause of its first unique implication point (Marques-Silva and Sakallah, 1996; Zhang and others, 2001).
 
 ghost use Rattle.std.specs.Prelude.{◌≡◌, ◌≢◌, ◌⊎◌, ℕ, ◌+◌, ◌*◌, ◌<◌, ◌≤◌, ◌++◌, ◌∷◌, [], true, List, length, take, Contains, All, IfOk, IfSome, OnOk, IsTrue, Ok, Some};
 ghost use Rattle.cnf_form.specs.Cnf.{LitOf, negate, ClauseWithin};

@@ -6,7 +6,7 @@ ghost use Rattle.unit_propagation.specs.Propagation.{IsOpen};
 ghost use Rattle.cdcl_core.specs.Levels.{IsTotal};
 
 use cnf_form::{Formula, Lit};
-use decision_order::{Order, is_open, open_of};
+use decision_order::{Order, is_open};
 use unit_propagation::Propagator;
 
 // A shorter last clause isn't taken for a goal.
@@ -63,7 +63,7 @@ pub(crate) fn has_goal(formula: &Formula) -> bool {
     clauses.len() > 0 && is_goal(clauses.get(clauses.len() - 1))
 }
 
-// A literal that is open: one that is guessed, else of the formula's last clause first, if that looks like a goal, then in order.
+// A literal that is open: one that is guessed, else the first goal that isn't refuted, else the first in order.
 // None where all variables have values.
 pub(crate) fn choose(core: &Propagator, order: &mut Order, formula: &Formula) -> Option<Lit>
     ensures some { IfSome result (λ l. LitWithin core.now.vars l × IsOpen core.now.trail l) }
@@ -75,8 +75,9 @@ pub(crate) fn choose(core: &Propagator, order: &mut Order, formula: &Formula) ->
         return Some(l);
     }
     let clauses = formula.clauses();
-    if order.has_goal() && clauses.len() > 0 {
-        if let Some(l) = open_of(core, clauses.get(clauses.len() - 1), None) {
+    if clauses.len() > 0 {
+        let goals = clauses.get(clauses.len() - 1);
+        if let Some(l) = order.goals.next(core, goals) {
             return Some(l);
         }
     }

@@ -1,7 +1,7 @@
-// Which learnt clauses are worth keeping: those of which few levels made the literals false, and those that conflicts rested on
-// lately. Nothing is promised of it.
+// Which learnt clauses are worth keeping: those of low glue, of which few levels made the literals false (Audemard and Simon, 2009), and
+// those that conflicts rested on lately. Nothing is promised of it.
 
-use crate::pace::Pace;
+use crate::restarts::Restarts;
 use cnf_form::Formula;
 use decision_order::is_satisfied;
 use std::alloc::{AllocError, Global};
@@ -19,12 +19,21 @@ const GOOD_GLUE: u32 = 3;
 // .. and in a long search of this.
 const BEST_GLUE: u32 = 2;
 
+// A clause up to this glue is in the second tier: it is kept through two reductions behind the last conflict that rested on it, others
+// through one (Chanseok Oh, 2015).
+const MIDDLE_GLUE: u32 = 6;
+
 // From so many conflicts on a search is long: propagation would slow down with all the clauses that are kept.
 const LONG: u64 = 32_000;
 
 // Whether a search of so many conflicts is long.
 pub(crate) fn is_long(conflicts: u64) -> bool {
     conflicts >= LONG
+}
+
+// Through how many reductions a clause is kept since a conflict rested on it.
+fn turns(glue: u32) -> u8 {
+    if glue <= MIDDLE_GLUE { 2 } else { 1 }
 }
 
 // A clause that may go. The greatest is the worst.
@@ -35,14 +44,14 @@ struct Candidate {
     number: u32,
 }
 
-// What is known of the learnt clauses: the number of the first, and the glue of each from there on, and whether a conflict rested
-// on it since the last reduction. The sums are of literals: of the formula, and of the learnt clauses left at the last collection and
+// What is known of the learnt clauses: the number of the first, and the glue of each from there on, and through how many reductions it is
+// kept since a conflict rested on it. The sums are of literals: of the formula, and of the learnt clauses left at the last collection and
 // those learnt or put back since.
 #[derive(Drop)]
 pub(crate) struct Learnts {
     first: usize,
     glues: Vec<u32>,
-    used: Vec<bool>,
+    used: Vec<u8>,
     given: usize,
     learnt: usize,
     due: u64,
@@ -70,7 +79,7 @@ impl Learnts {
     // One more clause, of so many literals.
     pub fn push(&mut self, glue: u32, length: usize) -> Result<(), AllocError> {
         self.glues.push(glue)?;
-        self.used.push(true)?;
+        self.used.push(turns(glue))?;
         self.learnt = self.learnt.saturating_add(length);
         Ok(())
     }
@@ -81,18 +90,22 @@ impl Learnts {
     }
 
     // Conflicts rested on these clauses: the glue of one may have fallen.
-    pub fn use_all(&mut self, core: &Propagator, pace: &mut Pace, numbers: &[u32]) {
+    pub fn use_all(&mut self, core: &Propagator, restarts: &mut Restarts, numbers: &[u32]) {
         for number in numbers {
             let place = (*number as usize).wrapping_sub(self.first);
-            if place >= self.used.len() || place >= self.glues.len() || self.used[place] {
+            if place >= self.used.len() || place >= self.glues.len() {
                 continue;
             }
-            self.used[place] = true;
+            let fresh = self.used[place] == 0;
+            self.used[place] = turns(self.glues[place]);
+            if !fresh {
+                continue;
+            }
             if self.glues[place] <= BEST_GLUE || *number as usize >= core.len() {
                 continue;
             }
             if let Some(clause) = core.clause(*number) {
-                self.glues[place] = self.glues[place].min(pace.glue(core, clause));
+                self.glues[place] = self.glues[place].min(restarts.glue(core, clause));
             }
         }
     }
@@ -113,7 +126,7 @@ impl Learnts {
             return None;
         }
         let glue = self.glues[place];
-        if self.used[place] || glue <= good {
+        if self.used[place] > 0 || glue <= good {
             return None;
         }
         let number = number as u32;
@@ -141,7 +154,7 @@ impl Learnts {
             if let Some(candidate) = self.candidate(core, place, good) {
                 candidates.push(candidate)?;
             }
-            self.used[place] = false;
+            self.used[place] = self.used[place].saturating_sub(1);
         }
         candidates.sort_unstable();
         let mut worst = Vec::new(alloc);

@@ -3,16 +3,18 @@
 
 mod analysis;
 mod choose;
+mod conflict;
 mod laws;
 mod learn;
 mod learnts;
 mod load;
 mod log;
-mod pace;
+mod minimizer;
 mod reduce;
+mod restarts;
 mod search;
-mod shortening;
 mod solver;
+mod stop;
 mod thaw;
 
 pub use crate::laws::logged_lines_are_a_proof;

@@ -12,8 +12,8 @@ pub trait Log {
     /// What becomes of it when it takes a line.
     ghost takes: { Self → Line → Self → Type 0 };
 
-    /// What becomes of it when a call fails.
-    ghost fails: { Self → Self → Type 0 };
+    /// What becomes of it when a call for a line fails.
+    ghost fails: { Self → Line → Self → Type 0 };
 
     /// How often a call failed; it stays at the greatest u64.
     ghost faults: { Self → ℕ };
@@ -21,12 +21,12 @@ pub trait Log {
     /// Takes the addition of a clause.
     fn clause(&mut self, clause: &[Lit]) -> Result<(), Failed>
         ensures ok { OnOk result (takes self.old (Addition clause.now) self.new) }
-        ensures err { OnErr result (fails self.old self.new) }
+        ensures err { OnErr result (fails self.old (Addition clause.now) self.new) }
         ensures cause { HasPlainCause (faults self.old) (faults self.new) result };
 
     /// Takes the deletion of a clause.
     fn delete(&mut self, clause: &[Lit]) -> Result<(), Failed>
         ensures ok { OnOk result (takes self.old (Deletion clause.now) self.new) }
-        ensures err { OnErr result (fails self.old self.new) }
+        ensures err { OnErr result (fails self.old (Deletion clause.now) self.new) }
         ensures cause { HasPlainCause (faults self.old) (faults self.new) result };
 }

@@ -1,19 +1,22 @@
 // Decisions, until a clause is falsified or all variables have values.
 
-ghost use Rattle.std.specs.Prelude.{◌≡◌, ◌*◌, ◌+◌, ◌<◌, [], false, length, IfOk, OnOk};
+ghost use Rattle.std.specs.Prelude.{◌≡◌, ◌*◌, ◌+◌, ◌<◌, ◌≤◌, [], false, length, IfOk, IfSome, IfNone, OnOk};
 ghost use Rattle.cnf_form.specs.Cnf.{LitWithin};
 ghost use Rattle.unit_propagation.specs.Propagation.{IsOpen};
-ghost use Rattle.unit_propagation.specs.Propagator.{EndsDecided};
-ghost use Rattle.cdcl_core.specs.Levels.{IsDriven, IsPending, FoundFits};
+ghost use Rattle.unit_propagation.specs.Propagator.{EndsDecided, clauses_of};
+ghost use Rattle.cdcl_core.specs.Levels.{IsDriven, FoundFits};
+ghost use Rattle.cdcl_core.specs.declared.search.Found.TheVariants.{Assigned, Falsified};
+ghost use Rattle.cdcl_core.specs.Searching.{IsSolver, Moves};
 
 use crate::choose::choose;
 use crate::learn::restart;
+use crate::solver::Solver;
 use cnf_form::{Formula, Lit};
 use decision_order::{Order, find_signs};
-use std::alloc::{AllocError, Global};
+use std::alloc::AllocError;
 use unit_propagation::Propagator;
 
-// What a search found: values for all variables, a falsified clause at level 0, or one above.
+// What is found: values for all variables, a falsified clause at level 0, or one above.
 pub(crate) enum Found {
     Assigned,
     Refuted,
@@ -39,56 +42,108 @@ fn decide(core: &mut Propagator, l: Lit) -> Result<Option<u32>, AllocError>
     Ok(falsified)
 }
 
-// Decides one literal after another.
+// Decides one literal after another, until a clause is falsified, or all variables have values.
 fn decide_on(
     core: &mut Propagator,
     order: &mut Order,
     formula: &Formula,
-) -> Result<Found, AllocError>
+) -> Result<Option<u32>, AllocError>
     requires driven { IsDriven core.old }
     requires conflict { core.old.conflict ≡ false }
     ensures vars { core.new.vars ≡ core.old.vars }
     ensures slots { core.new.slots ≡ core.old.slots }
     ensures driven { OnOk result (IsDriven core.new) }
-    ensures found { IfOk result (λ f. FoundFits core.new f) }
+    ensures falsified { IfOk result (λ o. IfSome o (λ k. FoundFits core.new (Falsified k))) }
+    ensures assigned { IfOk result (λ o. IfNone o (FoundFits core.new Assigned)) }
 {
     while let Some(l) = choose(core, order, formula) {
         if let Some(k) = decide(core, l)? {
-            return Ok(Found::Falsified(k));
+            return Ok(Some(k));
         }
     }
-    Ok(Found::Assigned)
+    Ok(None)
 }
 
-// Searches from where the last clause that was learnt led to, or from level 0.
-pub(crate) fn find(
-    alloc: Global,
-    core: &mut Propagator,
-    order: &mut Order,
-    formula: &Formula,
-    pending: Option<u32>,
-    anew: bool,
-) -> Result<Found, AllocError>
-    requires driven { IsDriven core.old }
-    requires pending { IsPending core.old pending }
-    ensures vars { core.new.vars ≡ core.old.vars }
-    ensures slots { core.new.slots ≡ core.old.slots }
-    ensures driven { OnOk result (IsDriven core.new) }
-    ensures found { IfOk result (λ f. FoundFits core.new f) }
-{
-    if let Some(k) = pending {
-        if core.levels() == 0 {
+impl Solver {
+    // Whether the search is to begin again at level 0: also after a lucky guess, and where the walk is to begin.
+    fn is_restart_due(&mut self) -> bool
+        ensures given { self.new.given ≡ self.old.given }
+        ensures core { self.new.core ≡ self.old.core }
+        ensures frozen { self.new.frozen ≡ self.old.frozen }
+        ensures pending { self.new.pending ≡ self.old.pending }
+        ensures conflicts { self.new.conflicts ≡ self.old.conflicts }
+        ensures deletions { self.new.deletions ≡ self.old.deletions }
+        ensures analysis { self.new.analysis ≡ self.old.analysis }
+    {
+        let guesses = self.order.luck.is_left();
+        if guesses {
+            self.restarts.begin();
+        }
+        self.restarts.is_due() || guesses || self.order.wants_first_walk()
+    }
+
+    // Puts the frozen clauses back at which something is left to do, where level 0 has grown.
+    fn settle_if_grown(&mut self) -> Result<(), AllocError>
+        requires solver { IsSolver self.old }
+        requires level { self.old.core.limits ≡ [] }
+        requires conflict { self.old.core.conflict ≡ false }
+        ensures solver { OnOk result (IsSolver self.new) }
+        ensures moves { OnOk result (Moves self.old self.new) }
+        ensures few { OnOk result (length (clauses_of self.new.frozen.slots) ≤ length (clauses_of self.old.frozen.slots)) }
+    {
+        let fixed = self.core.trail().len();
+        if fixed <= self.fixed {
+            return Ok(());
+        }
+        self.fixed = fixed;
+        self.pending = None;
+        self.thaw_unsettled()
+    }
+
+    // Takes all levels back where it is time to, unless a clause is falsified.
+    pub(crate) fn restart_if_due(&mut self, formula: &Formula) -> Result<(), AllocError>
+        requires solver { IsSolver self.old }
+        ensures solver { OnOk result (IsSolver self.new) }
+        ensures moves { OnOk result (Moves self.old self.new) }
+        ensures few { OnOk result (length (clauses_of self.new.frozen.slots) ≤ length (clauses_of self.old.frozen.slots)) }
+    {
+        if self.pending.is_some() || self.core.conflict() || !self.is_restart_due() {
+            return Ok(());
+        }
+        restart(&mut self.core, &mut self.order)?;
+        self.order.luck.advance();
+        find_signs(
+            self.alloc,
+            &self.core,
+            formula.clauses().len(),
+            &mut self.order,
+        )?;
+        self.settle_if_grown()
+    }
+
+    // Goes on from where the last clause that was learnt led to, or from level 0.
+    pub(crate) fn find(&mut self, formula: &Formula) -> Result<Found, AllocError>
+        requires solver { IsSolver self.old }
+        ensures solver { OnOk result (IsSolver self.new) }
+        ensures moves { OnOk result (Moves self.old self.new) }
+        ensures frozen { self.new.frozen ≡ self.old.frozen }
+        ensures found { IfOk result (λ f. FoundFits self.new.core f) }
+    {
+        if let Some(k) = self.pending {
+            if self.core.levels() == 0 {
+                return Ok(Found::Refuted);
+            }
+            return Ok(Found::Falsified(k));
+        }
+        if self.core.conflict() {
             return Ok(Found::Refuted);
         }
-        return Ok(Found::Falsified(k));
+        match decide_on(&mut self.core, &mut self.order, formula)? {
+            Some(k) => {
+                self.pending = Some(k);
+                Ok(Found::Falsified(k))
+            }
+            None => Ok(Found::Assigned),
+        }
     }
-    if core.conflict() {
-        return Ok(Found::Refuted);
-    }
-    if anew {
-        restart(core, order)?;
-        order.luck.advance();
-        find_signs(alloc, core, formula.clauses().len(), order)?;
-    }
-    decide_on(core, order, formula)
 }

@@ -1,51 +1,17 @@
 // Frozen clauses are put back at level 0.
 
-ghost use Rattle.std.specs.Prelude.{◌≡◌, ◌<◌, ◌∷◌, [], IsTrue, List, length, OnOk, Some, None};
+ghost use Rattle.std.specs.Prelude.{◌≡◌, ◌<◌, ◌≤◌, ◌∷◌, [], IsTrue, List, length, OnOk, Some, None};
 ghost use Rattle.cnf_form.specs.Cnf.{LitOf, ClauseWithin};
 ghost use Rattle.unit_propagation.specs.Propagation.{IsSettled, IsFixpoint};
 ghost use Rattle.unit_propagation.specs.Propagator.{clauses_of, slot_at};
-ghost use Rattle.cdcl_core.specs.Levels.{IsDriven, IsPending};
-ghost use Rattle.cdcl_core.specs.Reducing.{IsBegun};
-ghost use Rattle.cdcl_core.specs.Present.{all_of, SameOrders};
+ghost use Rattle.cdcl_core.specs.Searching.{IsSolver, Moves};
 
-use crate::learnts::Learnts;
 use crate::load::put_next;
+use crate::solver::Solver;
 use cnf_form::Lit;
 use frozen_clauses::Frozen;
 use std::alloc::AllocError;
 use unit_propagation::Propagator;
-
-// Puts a frozen clause back.
-pub(crate) fn thaw(
-    core: &mut Propagator,
-    frozen: &mut Frozen,
-    learnts: &mut Learnts,
-    k: u32,
-) -> Result<(), AllocError>
-    requires vars { frozen.old.vars ≡ core.old.vars }
-    requires clause { k < length frozen.old.slots }
-    requires level { core.old.limits ≡ [] }
-    requires driven { IsDriven core.old }
-    requires pending { IsPending core.old None }
-    ensures vars { OnOk result (core.new.vars ≡ core.old.vars) }
-    ensures frozen_vars { frozen.new.vars ≡ frozen.old.vars }
-    ensures count { length frozen.new.slots ≡ length frozen.old.slots }
-    ensures begun { OnOk result ((F : List (List LitOf)) → IsBegun F core.old.slots → IsBegun F core.new.slots) }
-    ensures level { OnOk result (core.new.limits ≡ []) }
-    ensures driven { OnOk result (IsDriven core.new) }
-    ensures pending { OnOk result (IsPending core.new None) }
-    ensures orders { OnOk result (SameOrders (all_of core.old frozen.old) (all_of core.new frozen.new)) }
-    ensures fewer { OnOk result ((c : List LitOf) → slot_at frozen.old.slots k ≡ Some c
-        → length (clauses_of frozen.new.slots) < length (clauses_of frozen.old.slots)) }
-{
-    let Some(clause) = frozen.clause(k) else {
-        return Ok(());
-    };
-    put_next(core, clause)?;
-    learnts.push_thawed(clause.len())?;
-    frozen.take_out(k);
-    Ok(())
-}
 
 // Whether a clause has a true literal, or two open ones.
 fn is_settled(core: &Propagator, clause: &[Lit]) -> bool
@@ -100,53 +66,64 @@ pub(crate) fn are_settled(core: &Propagator, frozen: &Frozen) -> bool
     true
 }
 
-// Puts a frozen clause back, unless nothing is left to do at it.
-fn thaw_unsettled_at(
-    core: &mut Propagator,
-    frozen: &mut Frozen,
-    learnts: &mut Learnts,
-    k: u32,
-) -> Result<(), AllocError>
-    requires vars { frozen.old.vars ≡ core.old.vars }
-    requires clause { k < length frozen.old.slots }
-    requires level { core.old.limits ≡ [] }
-    requires driven { IsDriven core.old }
-    requires pending { IsPending core.old None }
-    ensures vars { OnOk result (core.new.vars ≡ core.old.vars) }
-    ensures frozen_vars { frozen.new.vars ≡ frozen.old.vars }
-    ensures count { length frozen.new.slots ≡ length frozen.old.slots }
-    ensures begun { OnOk result ((F : List (List LitOf)) → IsBegun F core.old.slots → IsBegun F core.new.slots) }
-    ensures level { OnOk result (core.new.limits ≡ []) }
-    ensures driven { OnOk result (IsDriven core.new) }
-    ensures pending { OnOk result (IsPending core.new None) }
-    ensures orders { OnOk result (SameOrders (all_of core.old frozen.old) (all_of core.new frozen.new)) }
-{
-    if is_settled_at(core, frozen, k) {
-        return Ok(());
+impl Solver {
+    // Puts a frozen clause back.
+    pub(crate) fn thaw(&mut self, k: u32) -> Result<(), AllocError>
+        requires solver { IsSolver self.old }
+        requires clause { k < length self.old.frozen.slots }
+        requires level { self.old.core.limits ≡ [] }
+        requires none { self.old.pending ≡ None }
+        ensures solver { OnOk result (IsSolver self.new) }
+        ensures count { length self.new.frozen.slots ≡ length self.old.frozen.slots }
+        ensures level { OnOk result (self.new.core.limits ≡ []) }
+        ensures none { self.new.pending ≡ None }
+        ensures moves { OnOk result (Moves self.old self.new) }
+        ensures few { OnOk result (length (clauses_of self.new.frozen.slots) ≤ length (clauses_of self.old.frozen.slots)) }
+        ensures fewer { OnOk result ((c : List LitOf) → slot_at self.old.frozen.slots k ≡ Some c
+            → length (clauses_of self.new.frozen.slots) < length (clauses_of self.old.frozen.slots)) }
+    {
+        let Some(clause) = self.frozen.clause(k) else {
+            return Ok(());
+        };
+        put_next(&mut self.core, clause)?;
+        self.learnts.push_thawed(clause.len())?;
+        self.frozen.take_out(k);
+        Ok(())
     }
-    thaw(core, frozen, learnts, k)
-}
 
-// Puts the frozen clauses back at which something is left to do.
-pub(crate) fn thaw_unsettled(
-    core: &mut Propagator,
-    frozen: &mut Frozen,
-    learnts: &mut Learnts,
-) -> Result<(), AllocError>
-    requires vars { frozen.old.vars ≡ core.old.vars }
-    requires level { core.old.limits ≡ [] }
-    requires driven { IsDriven core.old }
-    requires pending { IsPending core.old None }
-    ensures vars { OnOk result (core.new.vars ≡ core.old.vars) }
-    ensures frozen_vars { frozen.new.vars ≡ frozen.old.vars }
-    ensures begun { OnOk result ((F : List (List LitOf)) → IsBegun F core.old.slots → IsBegun F core.new.slots) }
-    ensures level { OnOk result (core.new.limits ≡ []) }
-    ensures driven { OnOk result (IsDriven core.new) }
-    ensures pending { OnOk result (IsPending core.new None) }
-    ensures orders { OnOk result (SameOrders (all_of core.old frozen.old) (all_of core.new frozen.new)) }
-{
-    for k in 0..frozen.len() {
-        thaw_unsettled_at(core, frozen, learnts, k as u32)?;
+    // Puts a frozen clause back, unless nothing is left to do at it.
+    fn thaw_unsettled_at(&mut self, k: u32) -> Result<(), AllocError>
+        requires solver { IsSolver self.old }
+        requires clause { k < length self.old.frozen.slots }
+        requires level { self.old.core.limits ≡ [] }
+        requires none { self.old.pending ≡ None }
+        ensures solver { OnOk result (IsSolver self.new) }
+        ensures count { length self.new.frozen.slots ≡ length self.old.frozen.slots }
+        ensures level { OnOk result (self.new.core.limits ≡ []) }
+        ensures none { self.new.pending ≡ None }
+        ensures moves { OnOk result (Moves self.old self.new) }
+        ensures few { OnOk result (length (clauses_of self.new.frozen.slots) ≤ length (clauses_of self.old.frozen.slots)) }
+    {
+        if is_settled_at(&self.core, &self.frozen, k) {
+            return Ok(());
+        }
+        self.thaw(k)
     }
-    Ok(())
+
+    // Puts the frozen clauses back at which something is left to do.
+    pub(crate) fn thaw_unsettled(&mut self) -> Result<(), AllocError>
+        requires solver { IsSolver self.old }
+        requires level { self.old.core.limits ≡ [] }
+        requires none { self.old.pending ≡ None }
+        ensures solver { OnOk result (IsSolver self.new) }
+        ensures level { OnOk result (self.new.core.limits ≡ []) }
+        ensures none { self.new.pending ≡ None }
+        ensures moves { OnOk result (Moves self.old self.new) }
+        ensures few { OnOk result (length (clauses_of self.new.frozen.slots) ≤ length (clauses_of self.old.frozen.slots)) }
+    {
+        for k in 0..self.frozen.len() {
+            self.thaw_unsettled_at(k as u32)?;
+        }
+        Ok(())
+    }
 }

@@ -9,6 +9,7 @@ use Rattle.cdcl_run.specs.Answer.{IsAnswer}
 use Rattle.cdcl_run.specs.Searching.{IsEnd, Searches}
 use Rattle.cdcl_run.specs.Output.{OutputOf, Puts, grown}
 use Rattle.cdcl_run.specs.Text.{proof_text}
+use Rattle.cdcl_run.proofs.Proofs.{searched_of}
 use Rattle.cdcl_run.proofs.Putting.{grown-nil, puts_both}
 use Rattle.cdcl_run.proofs.Sat.{sat_stream}
 use Rattle.cdcl_run.proofs.Unsat.{unsat_stream}
@@ -33,23 +34,23 @@ pub answer_written : (job : List ℕ) (f : FormulaOf) (budget : ℕ) (old mid ne
 answer_written job f budget old mid new (Sat values) text exit d begun done s e p =
     let stream = proof_text s.0 ++ text in
     let v = e.1 in
-    wrote job budget old new exit stream begun done (puts_both old mid new (proof_text s.0) text s.3 p)
-    (inr (inl (e.0, sat_stream job f s.0 s.1 values.items v.0 stream d s.2 s.4 s.5 v.1 (ap (λ z. proof_text s.0 ++ z) v.2))))
+    wrote job budget old new exit stream begun done (puts_both old mid new (proof_text s.0) text s.5 p)
+    (inr (inl (e.0, sat_stream job f budget s.0 s.1 s.2 values.items v.0 stream d s.3 s.4 s.6 s.7 v.1 (ap (λ z. proof_text s.0 ++ z) v.2))))
 answer_written job f budget old mid new Unsat text exit d begun done s e p =
     let stream = proof_text (s.0 ++ Addition [] ∷ []) ++ text in
-    wrote job budget old new exit stream begun done (puts_both old mid new (proof_text (s.0 ++ Addition [] ∷ [])) text s.3 p)
-    (inl (e.0, unsat_stream job f s.0 s.1 stream d s.2 s.4 (ap (λ z. proof_text (s.0 ++ Addition [] ∷ []) ++ z) e.1)))
+    wrote job budget old new exit stream begun done (puts_both old mid new (proof_text (s.0 ++ Addition [] ∷ [])) text s.5 p)
+    (inl (e.0, unsat_stream job f budget s.0 s.1 s.2 stream d s.3 s.4 s.6 (ap (λ z. proof_text (s.0 ++ Addition [] ∷ []) ++ z) e.1)))
 answer_written job f budget old mid new Budget text exit d begun done s e p =
     let stream = proof_text s.0 ++ text in
-    wrote job budget old new exit stream begun done (puts_both old mid new (proof_text s.0) text s.2 p)
-    (inr (inr (e.0, record { proof = s.0; count = s.1; is = ap (λ z. proof_text s.0 ++ z) e.1 })))
+    wrote job budget old new exit stream begun done (puts_both old mid new (proof_text s.0) text s.3 p)
+    (inr (inr (e.0, record { proof = s.0; searched = searched_of job f s.0 s.1 budget d s.2; is = ap (λ z. proof_text s.0 ++ z) e.1 })))
 answer_written job f budget old mid new LogFailed text exit d begun done s e p = absurd e
 
 pub answer_failed : (f : FormulaOf) (budget : ℕ) (old mid : OutputOf) (s : Solved) (faults : ℕ) → Searches f budget old mid s → mid.faults ≤ faults → (s ≡ LogFailed) ⊎ Rose mid.faults faults → Rose old.faults faults
 answer_failed f budget old mid (Sat values) faults s later (inl e) = cc
-answer_failed f budget old mid (Sat values) faults s later (inr r) = let p = s.3 in subst (λ z. Rose z faults) p.still r
+answer_failed f budget old mid (Sat values) faults s later (inr r) = let p = s.5 in subst (λ z. Rose z faults) p.still r
 answer_failed f budget old mid Unsat faults s later (inl e) = cc
-answer_failed f budget old mid Unsat faults s later (inr r) = let p = s.3 in subst (λ z. Rose z faults) p.still r
+answer_failed f budget old mid Unsat faults s later (inr r) = let p = s.5 in subst (λ z. Rose z faults) p.still r
 answer_failed f budget old mid Budget faults s later (inl e) = cc
-answer_failed f budget old mid Budget faults s later (inr r) = let p = s.2 in subst (λ z. Rose z faults) p.still r
+answer_failed f budget old mid Budget faults s later (inr r) = let p = s.3 in subst (λ z. Rose z faults) p.still r
 answer_failed f budget old mid LogFailed faults s later r = omega (arith, s, later)

@@ -2,12 +2,11 @@
 use Rattle.std.proofs.Common.{◌≡◌, ℕ, List, [], ◌∷◌, ◌++◌, ap, ◌∙◌, sym, subst, append-nil, append_assoc}
 use Rattle.std.specs.Prelude.{Result, Ok, Err, IfOk, OnOk}
 use Rattle.std.specs.declared.alloc.AllocError.{AllocError}
-use Rattle.cnf_form.specs.Cnf.{LitOf, FormulaOf, Line, Addition, Drup}
+use Rattle.cnf_form.specs.Cnf.{FormulaOf, Line, Addition}
 use Rattle.sby_edge.specs.Cause.{Rose}
 use Rattle.cdcl_core.specs.Solving.{Takes, SolvedFits}
 use Rattle.cdcl_core.specs.declared.solver.Solved.{Solved}
 use Rattle.cdcl_core.specs.declared.solver.Solved.TheVariants.{Sat, Unsat, Budget, LogFailed}
-use Rattle.cdcl_core.specs.Logged.{Logged, additions}
 use Rattle.cdcl_run.specs.Searching.{Searches}
 use Rattle.cdcl_run.specs.Output.{OutputOf, Puts, Fails}
 use Rattle.cdcl_run.specs.Text.{proof_line, proof_text}
@@ -58,30 +57,29 @@ pub record Searched {A N M : Type 0} (sink : A → N) (piece : A → M) (out : A
   pub same_piece : piece b ≡ piece a
   pub searches : Searches f budget (out a) (out b) s
 
-module _ {A N M : Type 0} (sink : A → N) (piece : A → M) (out : A → OutputOf) (takes : A → Line → A → Type 0) (fails : A → A → Type 0)
-    (each : (a b : A) (l : Line) → takes a l b → Goes sink piece out a b (proof_line l)) (each_fail : (a b : A) → fails a b → Breaks sink piece out a b)
-    (leads : (F G : List (List LitOf)) (lines : List Line) (n d : ℕ) → Logged F lines G n d → Drup F lines G) (counts : (F G : List (List LitOf)) (lines : List Line) (n d : ℕ) → Logged F lines G n d → additions lines ≡ n) where
+module _ {A N M : Type 0} (sink : A → N) (piece : A → M) (out : A → OutputOf) (takes : A → Line → A → Type 0) (fails : A → Line → A → Type 0)
+    (each : (a b : A) (l : Line) → takes a l b → Goes sink piece out a b (proof_line l)) (each_fail : (a b : A) (l : Line) → fails a l b → Breaks sink piece out a b) where
   searched : (f : FormulaOf) (budget : ℕ) (a b : A) (s : Solved) → SolvedFits takes fails f budget a b s → Searched sink piece out f budget a b s
   searched f budget a b (Sat values) w =
       let s = w.search in
       let h = chain sink piece out takes each s.lines a b s.taken in
-      record { same_sink = h.same_sink; same_piece = h.same_piece; searches = (s.lines, w.present, record { leads = leads f.clauses w.present s.lines w.count s.deletions s.logged; proper = s.proper }, h.puts, w.sized, w.satisfies) }
+      record { same_sink = h.same_sink; same_piece = h.same_piece; searches = (s.lines, w.present, w.count, record { deletions = s.deletions; logged = s.logged; proper = s.proper }, w.in_time, h.puts, w.sized, w.satisfies) }
   searched f budget a b Unsat w =
       let s = w.search in
       let h = chain_end sink piece out takes each s.lines (Addition []) a w.last b s.taken w.empty in
       record {
         same_sink = h.same_sink;
         same_piece = h.same_piece;
-        searches = (s.lines, w.present, record { leads = leads f.clauses w.present s.lines w.count s.deletions s.logged; proper = s.proper }, subst (Puts (out a) (out b)) (sym (proof_text_push s.lines (Addition []))) h.puts, w.admitted);
+        searches = (s.lines, w.present, w.count, record { deletions = s.deletions; logged = s.logged; proper = s.proper }, w.in_time, subst (Puts (out a) (out b)) (sym (proof_text_push s.lines (Addition []))) h.puts, w.admitted);
       }
   searched f budget a b Budget w =
       let s = w.search in
       let h = chain sink piece out takes each s.lines a b s.taken in
-      record { same_sink = h.same_sink; same_piece = h.same_piece; searches = (s.lines, counts f.clauses w.present s.lines budget s.deletions s.logged, h.puts) }
+      record { same_sink = h.same_sink; same_piece = h.same_piece; searches = (s.lines, w.present, record { deletions = s.deletions; logged = s.logged; proper = s.proper }, h.puts) }
   searched f budget a b LogFailed w =
       let s = w.search in
       let h = chain sink piece out takes each s.lines a w.last s.taken in
-      let k = each_fail w.last b w.failed in
+      let k = each_fail w.last b w.line w.failed in
       let p = h.puts in
       record { same_sink = k.same_sink ∙ h.same_sink; same_piece = k.same_piece ∙ h.same_piece; searches = subst (λ n. Rose n (out b).faults) p.still k.fails }
 

@@ -9,3 +9,4 @@ pub mod Sat
 pub mod Answering
 pub mod Contents
 pub mod Promise
+mod Unknown

@@ -4,12 +4,13 @@ use Rattle.std.specs.Prelude.{codes, map}
 use Rattle.cnf_form.specs.Cnf.{LitOf, FormulaOf, Line, Satisfies}
 use Rattle.cnf_form.specs.Dimacs.{IsDimacs}
 use Rattle.cdcl_core.specs.Solving.{valued}
+use Rattle.cdcl_core.proofs.Solutions.{logged_drup}
 use Rattle.stream_judge.specs.Cert.{IsIdle, Names, lines, named_by}
 use Rattle.cdcl_run.specs.Answer.{IsSatStream, literals_from}
 use Rattle.cdcl_run.specs.Searching.{IsProof}
 use Rattle.cdcl_run.specs.Text.{AreValueLines, proof_text, satisfiable_line}
 use Rattle.cdcl_run.proofs.Naming.{bare_values, last_words, literals_in, named_value, names, row_words, satisfies_by, value_lines, values_fed}
-use Rattle.cdcl_run.proofs.Proofs.{full_of, line_first, line_words, proof_leads, proof_lines}
+use Rattle.cdcl_run.proofs.Proofs.{full_of, line_first, line_words, proof_leads, proof_lines, searched_of}
 use Rattle.cdcl_run.proofs.Words.{AreIn}
 use Rattle.cdcl_run.proofs.Rows.{length-literals_from}
 
@@ -20,9 +21,9 @@ status = codes "s" ∷ codes "SATISFIABLE" ∷ []
 idle : IsIdle status
 idle = inr (refl, λ e. (let k : codes "SATISFIABLE" ≡ codes "UNKNOWN" = cc in let j : ◌≡◌ {A = ℕ} 83 85 = cc in omega (arith, j)))
 
-pub sat_stream : (job : List ℕ) (f : FormulaOf) (ls : List Line) (G : List (List LitOf)) (values : List Bool) (text stream : List ℕ) → IsDimacs job f → IsProof f ls G → length values ≡ f.vars + 1 → Satisfies (valued values) f.clauses
-    → AreValueLines (literals_from 1 (drop 1 values)) text → stream ≡ proof_text ls ++ (satisfiable_line ++ text) → IsSatStream job stream
-sat_stream job f ls G values text stream d p sized s v is =
+pub sat_stream : (job : List ℕ) (f : FormulaOf) (budget : ℕ) (ls : List Line) (G : List (List LitOf)) (n : ℕ) (values : List Bool) (text stream : List ℕ) → IsDimacs job f → IsProof f ls G n → n < budget → length values ≡ f.vars + 1 → Satisfies (valued values) f.clauses
+    → AreValueLines (literals_from 1 (drop 1 values)) text → stream ≡ proof_text ls ++ (satisfiable_line ++ text) → IsSatStream job budget stream
+sat_stream job f budget ls G count values text stream d p h sized s v is =
     let small : f.vars < 2 ^ 64 = (let h = d.limit in omega (arith, h)) in
     let lits = literals_from 1 (drop 1 values) in
     let n : length lits ≡ f.vars = (let a = length-literals_from 1 (drop 1 values) in let b : length (drop 1 values) ≡ length values - 1 = length-drop 1 values in omega (arith, a, b, sized)) in
@@ -43,9 +44,10 @@ sat_stream job f ls G values text stream d p sized s v is =
     record {
       cert = cert;
       whole = is ∙ ap (λ z. proof_text ls ++ (satisfiable_line ++ z)) fed ∙ ap (λ z. proof_text ls ++ z) (sym (append_assoc satisfiable_line bare (10 ∷ []))) ∙ sym (append_assoc (proof_text ls) (satisfiable_line ++ bare) (10 ∷ []));
-      formula = f;
-      is_formula = d;
       proof = ls;
+      count = count;
+      searched = searched_of job f ls G count d p;
+      in_time = h;
       values = drop 1 values;
       each = sym (length-literals_from 1 (drop 1 values)) ∙ n;
       text = text;
@@ -60,7 +62,7 @@ sat_stream job f ls G values text stream d p sized s v is =
           G,
           lits,
           read,
-          proof_leads f.vars small ls (status ∷ []) f.clauses G G p.leads p.proper (full_of ls f.clauses G (valued values) p.leads s) (inl (idle, refl)),
+          proof_leads f.vars small ls (status ∷ []) f.clauses G G (logged_drup p.logged) p.proper (full_of ls f.clauses G (valued values) (logged_drup p.logged) s) (inl (idle, refl)),
           named,
           satisfies_by f.vars f.clauses (named_by lits) (valued values) d.within (λ w low high. named_value values w low (omega (arith, high, sized))) s,
         ),

@@ -7,12 +7,13 @@ use Rattle.stream_judge.specs.Cert.{Leads}
 use Rattle.cdcl_run.specs.Answer.{IsUnsatStream}
 use Rattle.cdcl_run.specs.Searching.{IsProof}
 use Rattle.cdcl_run.specs.Text.{proof_text, unsatisfiable_line}
-use Rattle.cdcl_run.proofs.Proofs.{line_words, proof_lines, proof_leads, up_to, proof_text_append}
+use Rattle.cdcl_core.proofs.Solutions.{logged_drup}
+use Rattle.cdcl_run.proofs.Proofs.{searched_of, line_words, proof_lines, proof_leads, up_to, proof_text_append}
 
-pub unsat_stream : (job : List ℕ) (f : FormulaOf) (ls : List Line) (G : List (List LitOf)) (stream : List ℕ) → IsDimacs job f → IsProof f ls G → IsAdmitted G [] → stream ≡ proof_text (ls ++ Addition [] ∷ []) ++ unsatisfiable_line
-    → IsUnsatStream job stream
-unsat_stream job f ls G stream d p a is =
-    let w = up_to ls f.clauses G f.vars p.leads a p.proper in
+pub unsat_stream : (job : List ℕ) (f : FormulaOf) (budget : ℕ) (ls : List Line) (G : List (List LitOf)) (n : ℕ) (stream : List ℕ) → IsDimacs job f → IsProof f ls G n → n < budget → IsAdmitted G [] → stream ≡ proof_text (ls ++ Addition [] ∷ []) ++ unsatisfiable_line
+    → IsUnsatStream job budget stream
+unsat_stream job f budget ls G n stream d p h a is =
+    let w = up_to ls f.clauses G f.vars (logged_drup p.logged) a p.proper in
     let small : f.vars < 2 ^ 64 = (let h = d.limit in omega (arith, h)) in
     let cert = proof_text w.front ++ codes "0" in
     let rest = proof_text w.rest ++ unsatisfiable_line in
@@ -34,5 +35,9 @@ unsat_stream job f ls G stream d p a is =
         ),
       );
       proof = ls;
+      count = n;
+      searched = searched_of job f ls G n d p;
+      in_time = h;
+      admitted = a;
       is = is;
     }

@@ -1,7 +1,7 @@
 -- What a search puts, and how its stream ends.
-use Rattle.std.specs.Prelude.{◌≡◌, ℕ, ◌^◌, ◌+◌, ◌≤◌, drop, List, [], ◌∷◌, ◌++◌, length}
-use Rattle.cnf_form.specs.Cnf.{LitOf, FormulaOf, Satisfies, IsAdmitted, Line, Addition, Drup}
-use Rattle.cdcl_core.specs.Logged.{AreProper, additions}
+use Rattle.std.specs.Prelude.{◌≡◌, ℕ, ◌^◌, ◌+◌, ◌<◌, ◌≤◌, drop, List, [], ◌∷◌, ◌++◌, length}
+use Rattle.cnf_form.specs.Cnf.{LitOf, FormulaOf, Satisfies, IsAdmitted, Line, Addition}
+use Rattle.cdcl_core.specs.Logged.{Logged, AreProper}
 use Rattle.cdcl_core.specs.Solving.{valued}
 use Rattle.cdcl_core.specs.declared.solver.Solved.{Solved}
 use Rattle.cdcl_core.specs.declared.solver.Solved.TheVariants.{Sat, Unsat, Budget, LogFailed}
@@ -9,19 +9,21 @@ use Rattle.cdcl_run.specs.Answer.{literals_from}
 use Rattle.cdcl_run.specs.Output.{OutputOf, Puts, Fails}
 use Rattle.cdcl_run.specs.Text.{proof_text, satisfiable_line, unsatisfiable_line, unknown_line, AreValueLines}
 
--- the lines of a proof over the variables of a formula, which lead to the present clauses
-pub record IsProof (f : FormulaOf) (proof : List Line) (present : List (List LitOf)) : Type 0 where
-  pub leads : Drup f.clauses proof present
+-- the lines of a search, so many of which add clauses, that lead to the present clauses
+pub record IsProof (f : FormulaOf) (proof : List Line) (present : List (List LitOf)) (count : ℕ) : Type 0 where
+  pub deletions : ℕ
+  pub logged : Logged f.clauses proof present count deletions
   pub proper : AreProper f.vars proof
 
 -- what a search put, by its answer
 abbrev pub Searches : FormulaOf → ℕ → OutputOf → OutputOf → Solved → Type 0
 Searches f budget old new (Sat values) =
-    (proof : List Line) × (present : List (List LitOf)) × IsProof f proof present × Puts old new (proof_text proof)
+    (proof : List Line) × (present : List (List LitOf)) × (count : ℕ) × IsProof f proof present count × (count < budget) × Puts old new (proof_text proof)
     × (length values.items ≡ f.vars + 1) × Satisfies (valued values.items) f.clauses
 Searches f budget old new Unsat =
-    (proof : List Line) × (present : List (List LitOf)) × IsProof f proof present × Puts old new (proof_text (proof ++ Addition [] ∷ [])) × IsAdmitted present []
-Searches f budget old new Budget = (proof : List Line) × (additions proof ≡ budget) × Puts old new (proof_text proof)
+    (proof : List Line) × (present : List (List LitOf)) × (count : ℕ) × IsProof f proof present count × (count < budget)
+    × Puts old new (proof_text (proof ++ Addition [] ∷ [])) × IsAdmitted present []
+Searches f budget old new Budget = (proof : List Line) × (present : List (List LitOf)) × IsProof f proof present budget × Puts old new (proof_text proof)
 Searches f budget old new LogFailed = Fails old new
 
 -- how the stream of an answer ends, and with which exit status

@@ -6,11 +6,17 @@ ghost use Rattle.cnf_form.specs.Dimacs.{IsDimacs};
 ghost use Rattle.cdcl_words.specs.Asking.{Asks};
 ghost use Rattle.sby_edge.specs.Cause.{Rose};
 ghost use Rattle.sby_edge.specs.Files.{Store};
-ghost use Rattle.cdcl_run.specs.Answer.{IsAnswer, budget_of};
+ghost use Rattle.cdcl_run.specs.Answer.{IsAnswer, IsUnknownStream, budget_of};
+ghost use Rattle.stream_judge.specs.Fate.{IsFate, Unknown};
 ghost use Rattle.cdcl_run.specs.Output.{grown};
 ghost use Rattle.cdcl_run.specs.Run.{Did, World};
 
 use cnf_form::dimacs_faults_are_decided;
+
+/// A stream that says that it doesn't know, all of whose bytes are taken, comes to nothing else: its fate is Unknown.
+pub fn unknown_streams_are_unknown()
+    ensures { (job stream : List ℕ) (budget most : ℕ) → IsUnknownStream job budget stream → length stream ≤ most → IsFate job stream most Unknown }
+{}
 
 /// Where a store tells a file of at most 2^32 bytes that is a formula, and words ask for it, a call of `run_engine` writes a
 /// whole stream with the answer of its exit status, unless that is 1 or 32; it is 1 only where a call of the store or of the

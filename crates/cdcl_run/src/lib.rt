@@ -8,5 +8,5 @@ mod proof;
 mod run;
 mod values;
 
-pub use laws::promise_is_kept;
+pub use laws::{promise_is_kept, unknown_streams_are_unknown};
 pub use run::run_engine;

@@ -9,7 +9,7 @@ ghost use Rattle.cdcl_run.specs.Output.{Puts};
 
 use crate::output::{put, put_literal};
 use crate::piece::Piece;
-use cdcl_core::{Log, Solved, logged_lines_are_a_proof, solve};
+use cdcl_core::{Log, Solved, solve};
 use cnf_form::{Formula, Lit};
 use sby_edge::{Failed, Sink};
 use std::alloc::{AllocError, Global};
@@ -57,7 +57,7 @@ impl<'a, S: Sink> Log for ProofLog<'a, S> {
         × Puts (record { taken = S.taken a.sink.now; faults = S.faults a.sink.now; gathered = a.piece.now })
         (record { taken = S.taken b.sink.now; faults = S.faults b.sink.now; gathered = b.piece.now }) (proof_line l) };
 
-    ghost fails = { λ a b. (b.sink.ghost_name ≡ a.sink.ghost_name) × (b.piece.ghost_name ≡ a.piece.ghost_name)
+    ghost fails = { λ a l b. (b.sink.ghost_name ≡ a.sink.ghost_name) × (b.piece.ghost_name ≡ a.piece.ghost_name)
         × Rose (S.faults a.sink.now) (S.faults b.sink.now) };
 
     ghost faults = { λ a. S.faults a.sink.now };
@@ -85,7 +85,6 @@ fn solve_to<S: Sink>(
         (record { taken = S.taken log.old.sink.now; faults = S.faults log.old.sink.now; gathered = log.old.piece.now })
         (record { taken = S.taken log.new.sink.now; faults = S.faults log.new.sink.now; gathered = log.new.piece.now }) solved) }
 {
-    logged_lines_are_a_proof();
     solve(alloc, formula, budget, log)
 }
 

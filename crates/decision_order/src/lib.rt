@@ -2,6 +2,7 @@
 #![tactic(auto)]
 
 mod cover;
+mod goals;
 mod luck;
 mod open;
 mod order;

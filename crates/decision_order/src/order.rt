@@ -1,7 +1,9 @@
-// The order in which variables are decided: those that conflicts rested on lately come first. Nothing is promised of it.
+// The order in which variables are decided: those that conflicts rested on lately come first, by activities that fade (VSIDS: Moskewicz
+// and others, 2001; Eén and Sörensson, 2003). Nothing is promised of it.
 
 ghost use Rattle.std.specs.Prelude.{◌<◌};
 
+use crate::goals::Goals;
 use crate::luck::Luck;
 use crate::walks::Walks;
 use cnf_form::Lit;
@@ -9,6 +11,9 @@ use std::alloc::{AllocError, Global};
 
 // Where an activity is halved with all others.
 const MAX_ACTIVITY: u64 = 1 << 60;
+
+// One in so many stretches in stable mode begins with all variables true.
+const TURNED: u32 = 4;
 
 // The place of a variable that isn't in the heap.
 const NO_PLACE: u32 = 0xffff_ffff;
@@ -20,9 +25,10 @@ pub struct Order {
     activities: Vec<u64>,
     signs: Vec<bool>,
     step: u64,
-    has_goal: bool,
+    pub goals: Goals,
     pub luck: Luck,
-    calm: bool,
+    stable: bool,
+    stretches: u32,
     targets: Vec<bool>,
     longest: usize,
     pub(crate) walks: Walks,
@@ -48,18 +54,14 @@ impl Order {
             activities,
             signs,
             step: 1 << 20,
-            has_goal,
+            goals: Goals::new(has_goal),
             luck: Luck::new(has_goal),
-            calm: false,
+            stable: false,
+            stretches: 0,
             targets,
             longest: 0,
             walks: Walks::new(),
         })
-    }
-
-    /// Whether the formula's last clause is decided first.
-    pub fn has_goal(&self) -> bool {
-        self.has_goal
     }
 
     /// How many variables are in the heap.
@@ -67,9 +69,9 @@ impl Order {
         self.heap.len()
     }
 
-    /// Whether a variable is to be false: as it was on the longest trail of a calm stretch, else as it was last.
+    /// Whether a variable is to be false: its phase (Pipatsrisawat and Darwiche, 2007), or target phase (Biere and Fleury, 2020): as it was on the longest trail of a stretch in stable mode, else as it was last.
     pub fn sign(&self, var: u32) -> bool {
-        let sign = if self.calm {
+        let sign = if self.stable {
             self.targets.get(var as usize)
         } else {
             self.signs.get(var as usize)
@@ -80,17 +82,20 @@ impl Order {
         }
     }
 
-    /// A stretch that is calm, or not, goes on or begins.
-    pub fn set_calm(&mut self, calm: bool) {
-        if calm && !self.calm {
+    /// A stretch in stable mode, or focused mode, goes on or begins. Some in stable mode begin with all variables true (rephasing:
+    /// Biere and Fleury, 2020), the others with the signs that variables had last.
+    pub fn set_stable(&mut self, stable: bool) {
+        if stable && !self.stable {
             self.longest = 0;
+            self.stretches = self.stretches.saturating_add(1);
+            let turned = self.stretches % TURNED == 1;
             for index in 0..self.targets.len() {
                 if index < self.signs.len() {
-                    self.targets[index] = self.signs[index];
+                    self.targets[index] = !turned && self.signs[index];
                 }
             }
         }
-        self.calm = calm;
+        self.stable = stable;
     }
 
     /// Whether the walk is to begin or to go on, once guesses are over.
@@ -114,13 +119,13 @@ impl Order {
             }
         }
         if satisfy {
-            self.has_goal = false;
+            self.goals.end();
         }
     }
 
-    /// Keeps the signs of these true literals, where they are the most of a calm stretch.
+    /// Keeps the signs of these true literals, where they are the most of a stretch in stable mode.
     pub fn keep_longest(&mut self, lits: &[Lit]) {
-        if !self.calm || lits.len() <= self.longest {
+        if !self.stable || lits.len() <= self.longest {
             return;
         }
         self.longest = lits.len();

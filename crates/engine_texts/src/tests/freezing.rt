@@ -48,7 +48,7 @@ struct FairLog {
 impl Log for FairLog {
     ghost takes = { λ log line next. Unit {0} };
 
-    ghost fails = { λ log next. Unit {0} };
+    ghost fails = { λ log line next. Unit {0} };
 
     ghost faults = { λ log. 0 };
 

@@ -18,7 +18,7 @@ struct CountingLog {
 impl Log for CountingLog {
     ghost takes = { λ log line next. Unit {0} };
 
-    ghost fails = { λ log next. Unit {0} };
+    ghost fails = { λ log line next. Unit {0} };
 
     ghost faults = { λ log. log.faults };
 

@@ -18,9 +18,8 @@ whole : (g : given.Over) (c : goal.After-solve g) → IfOk c.solve.result (λ s.
 whole g c =
     answered (λ (a : State g). a.sink.ghost_name) (λ (a : State g). a.piece.ghost_name) (out g)
     (λ a l b. (b.sink.ghost_name ≡ a.sink.ghost_name) × (b.piece.ghost_name ≡ a.piece.ghost_name) × Puts (out g a) (out g b) (proof_line l))
-    (λ a b. (b.sink.ghost_name ≡ a.sink.ghost_name) × (b.piece.ghost_name ≡ a.piece.ghost_name) × Rose (g.S.Sink.faults a.sink.now) (g.S.Sink.faults b.sink.now))
-    (λ a b l w. record { same_sink = w.0; same_piece = w.1; puts = w.2 }) (λ a b w. record { same_sink = w.0; same_piece = w.1; fails = w.2 })
-    c.logged_lines_are_a_proof.ensures.proof c.logged_lines_are_a_proof.ensures.added
+    (λ a l b. (b.sink.ghost_name ≡ a.sink.ghost_name) × (b.piece.ghost_name ≡ a.piece.ghost_name) × Rose (g.S.Sink.faults a.sink.now) (g.S.Sink.faults b.sink.now))
+    (λ a b l w. record { same_sink = w.0; same_piece = w.1; puts = w.2 }) (λ a b l w. record { same_sink = w.0; same_piece = w.1; fails = w.2 })
     c.args.formula.now c.args.budget c.args.log.now c.solve.new.log c.solve.result c.solve.ensures.solved
 
 pub returns-clause-searches : goal.returns-clause-searches

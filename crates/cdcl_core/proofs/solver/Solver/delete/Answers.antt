@@ -1,0 +1,67 @@
+use Rattle.std.proofs.Common.{◌+◌, ◌≤◌, rules, refl, set, sym, ap, subst, ◌∙◌}
+use Rattle.std.specs.Prelude.{None}
+use Rattle.cnf_form.specs.Cnf.{Deletion}
+use Rattle.sby_edge.specs.Cause.{Rose}
+use Rattle.unit_propagation.specs.Propagation.{IsFixpoint}
+use Rattle.unit_propagation.specs.Propagator.{PropagatorOf, clauses_of}
+use Rattle.cdcl_core.specs.Levels.{IsDriven}
+use Rattle.cdcl_core.specs.Analysis.{IsIdle}
+use Rattle.cdcl_core.specs.declared.solver.Solver.{Solver}
+use Rattle.cdcl_core.proofs.Reductions.{deletes_at, driven_less}
+use Rattle.cdcl_core.proofs.Steps.{leads_deleted, fails_deleted, pending_rest}
+use Rattle.cdcl_core.proofs.Thawing.{fixpoint_both}
+use Rattle.cdcl_core.proofs.solver.Solver.delete.Goals as goal
+
+pub returns-then-is_err-clause-stopped : goal.returns-then-is_err-clause-stopped
+returns-then-is_err-clause-stopped g c =
+    let s = c.args.self.now in
+    let p = s.core in
+    let t = c.requires.rest in
+    let cl = c.in-Some.clause.now in
+    let f = c.conflict-fixpoint.ensures in
+    let e = c.in-Some.ensures in
+    let i = c.is_loose.ensures in
+    let a = c.args.log.now in
+    let b = c.delete.new.self in
+    let fix = fixpoint_both p.trail (clauses_of p.slots) (clauses_of s.frozen.slots) (f.fixpoint t.conflict) t.settled in
+    let proper = i.proper c.if-not-is_loose.false in
+    let broke : g.L.Log.fails a (Deletion cl) b = search rules in
+    let rose : Rose (g.L.Log.faults a) (g.L.Log.faults b) = search rules in
+    fails_deleted g.L.Log.takes g.L.Log.faults g.L.Log.fails s c.args.k cl a b e.there fix (i.untrue c.if-not-is_loose.false) proper c.requires.few broke rose
+
+pub returns-clause-reduces : goal.returns-clause-reduces
+returns-clause-reduces g c =
+    let s = c.args.self.now in
+    let p = s.core in
+    let r = c.requires.solver in
+    let t = c.requires.rest in
+    let cl = c.in-Some.clause.now in
+    let f = c.conflict-fixpoint.ensures in
+    let e = c.in-Some.ensures in
+    let i = c.is_loose.ensures in
+    let a = c.args.log.now in
+    let b = c.delete.new.self in
+    let q = c.take_out.new.self in
+    let o = c.take_out.ensures in
+    let fix = fixpoint_both p.trail (clauses_of p.slots) (clauses_of s.frozen.slots) (f.fixpoint t.conflict) t.settled in
+    let proper = i.proper c.if-not-is_loose.false in
+    let taken : g.L.Log.takes a (Deletion cl) b = search rules in
+    let later : g.L.Log.faults a ≤ g.L.Log.faults b = search rules in
+    let less = deletes_at p.trail p.slots c.args.k cl (f.fixpoint t.conflict) e.there (i.untrue c.if-not-is_loose.false) in
+    let new : Solver = record s { core = q; deletions = s.deletions + 1 } in
+    record {
+      leads = leads_deleted g.L.Log.takes g.L.Log.faults s new c.args.k cl a b e.there c.requires.learnt fix (i.untrue c.if-not-is_loose.false) proper c.requires.few taken later
+          (ap (λ (x : PropagatorOf). x.vars) o) (ap (λ (x : PropagatorOf). x.slots) o) refl refl refl refl;
+      solver = record {
+        frozen = r.frozen ∙ sym (ap (λ (x : PropagatorOf). x.vars) o);
+        idle = subst (λ (x : PropagatorOf). IsIdle x.vars s.analysis.seen.items s.analysis.lower.items s.analysis.current.items) (sym o) r.idle;
+        driven = subst IsDriven (sym o) (driven_less p (set p.slots c.args.k None) cl t.level less r.driven);
+        pending = pending_rest p q s.pending t.conflict (ap (λ (x : PropagatorOf). x.conflict) o ∙ t.conflict) r.pending;
+      };
+      rest = record {
+        level = ap (λ (x : PropagatorOf). x.limits) o ∙ t.level;
+        conflict = ap (λ (x : PropagatorOf). x.conflict) o ∙ t.conflict;
+        settled = subst (λ (x : PropagatorOf). IsFixpoint x.trail (clauses_of s.frozen.slots)) (sym o) t.settled;
+      };
+      conflicts = refl;
+    }

@@ -1,0 +1,30 @@
+use Rattle.std.proofs.Common.{◌≡◌, refl, length, set, ap, sym, subst, arith}
+use Rattle.std.specs.Prelude.{None, ◌<◌, ◌≤◌}
+use Rattle.unit_propagation.specs.Propagator.{clauses_of}
+use Rattle.frozen_clauses.specs.Frozen.{FrozenOf}
+use Rattle.cdcl_core.specs.declared.solver.Solver.{Solver}
+use Rattle.cdcl_core.proofs.Orders.{clauses_less}
+use Rattle.cdcl_core.proofs.Steps.{moves_thaw}
+use Rattle.cdcl_core.proofs.solver.Solver.thaw.Goals as goal
+
+pub returns-clause-moves : goal.returns-clause-moves
+returns-clause-moves c =
+    let s = c.args.self.now in
+    let e = c.in_ok-put_next.ensures in
+    let f = c.in-Some.ensures in
+    let rest : c.take_out.new.self.slots ≡ set s.frozen.slots c.args.k None = ap (λ (y : FrozenOf). y.slots) c.take_out.ensures in
+    let new : Solver = record s { core = c.put_next.new.core; frozen = c.take_out.new.self; learnts = c.push_thawed.new.self } in
+    moves_thaw s new c.args.k c.in-Some.clause.now f.there e.vars e.slots refl rest refl refl
+
+pub returns-clause-few : goal.returns-clause-few
+returns-clause-few c =
+    let z = c.args.self.now.frozen in
+    let f = c.in-Some.ensures in
+    let rest : c.take_out.new.self.slots ≡ set z.slots c.args.k None = ap (λ (y : FrozenOf). y.slots) c.take_out.ensures in
+    subst (λ y. length (clauses_of y) ≤ length (clauses_of z.slots)) (sym rest) (let h = clauses_less z.slots c.args.k c.in-Some.clause.now f.there in omega (arith, h))
+
+pub returns-clause-fewer : goal.returns-clause-fewer
+returns-clause-fewer c d h =
+    let z = c.args.self.now.frozen in
+    let rest : c.take_out.new.self.slots ≡ set z.slots c.args.k None = ap (λ (y : FrozenOf). y.slots) c.take_out.ensures in
+    subst (λ y. length (clauses_of y) < length (clauses_of z.slots)) (sym rest) (clauses_less z.slots c.args.k d h)

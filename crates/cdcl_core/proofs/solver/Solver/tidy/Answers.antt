@@ -1,0 +1,27 @@
+use Rattle.std.proofs.Common.{refl, sym, ◌∙◌, ap, subst}
+use Rattle.unit_propagation.specs.Propagator.{PropagatorOf}
+use Rattle.cdcl_core.specs.Levels.{IsDriven}
+use Rattle.cdcl_core.specs.Analysis.{IsIdle}
+use Rattle.cdcl_core.specs.declared.solver.Solver.{Solver}
+use Rattle.cdcl_core.proofs.Steps.{moves_collect, driven_collect, pending_rest}
+use Rattle.cdcl_core.proofs.solver.Solver.tidy.Goals as goal
+
+pub returns-clause-solver : goal.returns-clause-solver
+returns-clause-solver c =
+    let s = c.args.self.now in
+    let r = c.requires.solver in
+    let t = c.requires.rest in
+    let e = c.in_ok-collect.ensures.ok in
+    record {
+      frozen = r.frozen ∙ sym (ap (λ (p : PropagatorOf). p.vars) e);
+      idle = subst (λ (p : PropagatorOf). IsIdle p.vars s.analysis.seen.items s.analysis.lower.items s.analysis.current.items) (sym e) r.idle;
+      driven = subst IsDriven (sym e) (driven_collect s.core r.driven);
+      pending = pending_rest s.core c.collect.new.self s.pending t.conflict (ap (λ (p : PropagatorOf). p.conflict) e ∙ t.conflict) r.pending;
+    }
+
+pub returns-clause-moves : goal.returns-clause-moves
+returns-clause-moves c =
+    let s = c.args.self.now in
+    let e = c.in_ok-collect.ensures.ok in
+    let new : Solver = record s { core = c.collect.new.self; learnts = c.renumber.new.self } in
+    moves_collect s new (ap (λ (p : PropagatorOf). p.vars) e) (ap (λ (p : PropagatorOf). p.slots) e) refl refl refl refl

@@ -1,0 +1,106 @@
+-- A search on its way: the solver's state, and how far its log leads.
+use Rattle.std.specs.Prelude.{◌≡◌, ◌≢◌, ℕ, ◌<◌, ◌+◌, ◌≤◌, false, List, [], length, Option, Some, slice_index_or}
+use Rattle.cnf_form.specs.Cnf.{LitOf, FormulaOf, IsAdmitted, Line}
+use Rattle.sby_edge.specs.Cause.{Rose}
+use Rattle.unit_propagation.specs.Propagation.{IsFixpoint}
+use Rattle.unit_propagation.specs.Propagator.{PropagatorOf, clauses_of, slot_at}
+use Rattle.frozen_clauses.specs.Frozen.{FrozenOf}
+use Rattle.cdcl_core.specs.Present.{all_of, Reorders, SameOrders}
+use Rattle.cdcl_core.specs.Levels.{IsDriven, IsPending}
+use Rattle.cdcl_core.specs.Logged.{IsNew, IsContingent, IsProper}
+use Rattle.cdcl_core.specs.Analysis.{IsIdle}
+use Rattle.cdcl_core.specs.Solving.{IsSearch, IsStopped, IsBroken, SolvedFits}
+use Rattle.cdcl_core.specs.declared.solver.Solver.{Solver}
+use Rattle.cdcl_core.specs.declared.solver.Solved.TheVariants.{LogFailed}
+use Rattle.cdcl_core.specs.declared.solver.Step.{Step}
+use Rattle.cdcl_core.specs.declared.solver.Step.TheVariants.{Answered, Learnt, Thawed}
+use Rattle.cdcl_core.specs.declared.stop.Stop.{Stop}
+use Rattle.cdcl_core.specs.declared.stop.Stop.TheVariants.{OutOfMemory, Failed}
+
+-- What is true of a solver between two of its calls: frozen clauses are over its variables, no literal is marked, each level follows
+-- from its decision, and a falsified clause is known.
+pub record IsSolver (s : Solver) : Type 0 where
+  pub frozen : s.frozen.vars ≡ s.core.vars
+  pub idle : IsIdle s.core.vars s.analysis.seen.items s.analysis.lower.items s.analysis.current.items
+  pub driven : IsDriven s.core
+  pub pending : IsPending s.core s.pending
+
+-- it is at level 0, with nothing left to do at any present clause
+pub record IsAtRest (s : Solver) : Type 0 where
+  pub level : s.core.limits ≡ []
+  pub conflict : s.core.conflict ≡ false
+  pub settled : IsFixpoint s.core.trail (clauses_of s.frozen.slots)
+
+-- all clauses that are present
+abbrev pub present_of : Solver → List (List LitOf)
+present_of s = all_of s.core s.frozen
+
+-- the clauses stand at the first numbers, in order
+abbrev pub IsBegun : List (List LitOf) → List (Option (List LitOf)) → Type 0
+IsBegun F slots = (j : ℕ) (d : List LitOf) → j < length F → slot_at slots j ≡ Some (slice_index_or F j d)
+
+-- it searches for values of this formula, whose clauses stand first
+pub record IsOf (f : FormulaOf) (s : Solver) : Type 0 where
+  pub vars : s.core.vars ≡ f.vars
+  pub given : s.given ≡ length f.clauses
+  pub begun : IsBegun f.clauses s.core.slots
+
+-- lines were logged that lead to these clauses, in some order: so many additions and deletions
+pub record IsHeld {A : Type 0} (takes : A → Line → A → Type 0) (f : FormulaOf) (first now : A) (present : List (List LitOf)) (count deleted : ℕ) : Type 0 where
+  pub order : List (List LitOf)
+  pub reorders : Reorders present order
+  pub search : IsSearch takes f first now order count
+  pub deletions : search.deletions ≡ deleted
+
+-- what a log took since it was begun leads from a formula to a solver's clauses
+pub record HasLogged {A : Type 0} (takes : A → Line → A → Type 0) (f : FormulaOf) (first now : A) (s : Solver) : Type 0 where
+  pub of : IsOf f s
+  pub held : IsHeld takes f first now (present_of s) s.conflicts s.deletions
+
+-- What was logged since a solver's old state leads on to its new one; no call of the log failed the less.
+pub record Leads {A : Type 0} (takes : A → Line → A → Type 0) (faults : A → ℕ) (old new : Solver) (now next : A) : Type 0 where
+  pub on : (f : FormulaOf) (first : A) → HasLogged takes f first now old → HasLogged takes f first next new
+  pub later : faults now ≤ faults next
+
+-- the same where clauses were only moved between the watched and the frozen ones
+pub record Moves (old new : Solver) : Type 0 where
+  pub of : (f : FormulaOf) → IsOf f old → IsOf f new
+  pub orders : SameOrders (present_of old) (present_of new)
+  pub conflicts : new.conflicts ≡ old.conflicts
+  pub deletions : new.deletions ≡ old.deletions
+
+-- the same of a reduction: no clause is learnt in it, and it leaves the solver at rest
+pub record Reduces {A : Type 0} (takes : A → Line → A → Type 0) (faults : A → ℕ) (old new : Solver) (now next : A) : Type 0 where
+  pub leads : Leads takes faults old new now next
+  pub solver : IsSolver new
+  pub rest : IsAtRest new
+  pub conflicts : new.conflicts ≡ old.conflicts
+
+-- why a search stops without an answer, where the log led to a solver's old state before the budget was spent
+abbrev pub Stops : {A : Type 0} → (A → Line → A → Type 0) → (A → Line → A → Type 0) → (A → ℕ) → Solver → A → A → Stop → Type 0
+Stops takes fails faults old now next OutOfMemory =
+    (f : FormulaOf) (first : _) (budget : ℕ) → old.conflicts < budget → HasLogged takes f first now old → IsStopped takes f budget first next
+Stops takes fails faults old now next Failed =
+    ((f : FormulaOf) (first : _) (budget : ℕ) → old.conflicts < budget → HasLogged takes f first now old → IsBroken takes fails f budget first next)
+    × Rose (faults now) (faults next)
+
+-- how a search ended that stopped
+abbrev pub EndsBy : {A : Type 0} → (A → Line → A → Type 0) → (A → Line → A → Type 0) → FormulaOf → ℕ → A → A → Stop → Type 0
+EndsBy takes fails f budget first now OutOfMemory = IsStopped takes f budget first now
+EndsBy takes fails f budget first now Failed = IsBroken takes fails f budget first now
+
+-- what a step comes to: an answer, one more clause that was learnt, or a frozen one that was put back
+abbrev pub StepFits : {A : Type 0} → (A → Line → A → Type 0) → (A → Line → A → Type 0) → (A → ℕ) → Solver → Solver → A → A → Step → Type 0
+StepFits takes fails faults old new now next (Answered s) =
+    (s ≢ LogFailed) × ((f : FormulaOf) (first : _) (budget : ℕ) → old.conflicts < budget → HasLogged takes f first now old → SolvedFits takes fails f budget first next s)
+StepFits takes fails faults old new now next Learnt = Leads takes faults old new now next × (new.conflicts ≡ old.conflicts + 1)
+StepFits takes fails faults old new now next Thawed =
+    Leads takes faults old new now next × (new.conflicts ≡ old.conflicts)
+    × (length (clauses_of new.frozen.slots) < length (clauses_of old.frozen.slots))
+
+-- a clause that may be logged and put: the watched clauses admit it, no present one is a subset of it, and it is neither empty nor a tautology
+pub record IsAddable (p : PropagatorOf) (z : FrozenOf) (c : List LitOf) : Type 0 where
+  pub admitted : IsAdmitted (clauses_of p.slots) c
+  pub new : IsNew (all_of p z) c
+  pub contingent : IsContingent c
+  pub proper : IsProper p.vars c

@@ -1,0 +1,209 @@
+// What a search learns from a falsified clause.
+
+ghost use Rattle.std.specs.Prelude.{◌≡◌, ◌+◌, ◌*◌, ◌-◌, ◌^◌, ◌<◌, ◌≤◌, ◌++◌, ◌∷◌, [], List, length, Contains, IfOk, IfErr, IfSome, OnOk, Some};
+ghost use Rattle.cnf_form.specs.Cnf.{LitOf};
+ghost use Rattle.unit_propagation.specs.Propagator.{clauses_of, slot_at};
+ghost use Rattle.cdcl_core.specs.Levels.{IsDriven, IsPending, base_of, end_of};
+ghost use Rattle.cdcl_core.specs.Logged.{IsContingent, IsNew};
+ghost use Rattle.cdcl_core.specs.Analysis.{IsIdle, IsListed, Supports, IsLearnt};
+ghost use Rattle.cdcl_core.specs.Searching.{IsAddable, IsSolver, Leads, Moves, StepFits, Stops};
+
+use crate::analysis::Analysis;
+use crate::learn::{assert_learnt, back_to_root, negate_trail};
+use crate::log::Log;
+use crate::minimizer::Minimizer;
+use crate::restarts::Restarts;
+use crate::solver::{Solver, Step};
+use crate::stop::Stop;
+use cnf_form::Lit;
+use decision_order::Order;
+use std::alloc::AllocError;
+use unit_propagation::Propagator;
+
+// Makes the variables that a conflict rested on more active, unless it came of a lucky guess.
+fn bump_all(analysis: &Analysis, order: &mut Order) {
+    if order.luck.is_left() {
+        return;
+    }
+    for l in analysis.current() {
+        order.bump(l.var());
+    }
+    for l in analysis.lower() {
+        order.bump(l.var());
+    }
+    order.age();
+    order.goals.count();
+}
+
+// The clause of the first unique implication point, where there is one, without the literals that follow from its others. Its first
+// literal.
+fn minimize(
+    core: &Propagator,
+    analysis: &mut Analysis,
+    minimizer: &mut Minimizer,
+    restarts: &mut Restarts,
+    point: Option<Lit>,
+    root: usize,
+    base: usize,
+) -> Result<Option<Lit>, AllocError>
+    requires sized { length analysis.old.seen.items ≡ 2 * core.now.vars + 2 }
+    requires listed { IsListed core.now.trail base analysis.old.seen.items analysis.old.lower.items analysis.old.current.items }
+    requires driven { IsDriven core.now }
+    requires root { root ≡ end_of core.now 0 }
+    requires supports { IfSome point (λ l. Supports (clauses_of core.now.slots) core.now.trail root analysis.old.seen.items) }
+    requires on { IfSome point (λ l. Contains core.now.trail l) }
+    ensures sized { length analysis.new.seen.items ≡ 2 * core.now.vars + 2 }
+    ensures listed { IsListed core.now.trail base analysis.new.seen.items analysis.new.lower.items analysis.new.current.items }
+    ensures learnt { IfOk result (λ o. IfSome o (λ first. IsLearnt core.now base analysis.new.clause.items first)) }
+{
+    let Some(l) = point else {
+        return Ok(None);
+    };
+    minimizer.run(core, restarts, analysis, root)?;
+    analysis.finish(core, l, minimizer.implied(), root, base)
+}
+
+impl Solver {
+    // The clause that is learnt from a falsified one. Its first literal.
+    fn analyze_conflict(&mut self, k: u32) -> Result<Lit, AllocError>
+        requires idle { IsIdle self.old.core.vars self.old.analysis.seen.items self.old.analysis.lower.items self.old.analysis.current.items }
+        requires driven { IsDriven self.old.core }
+        requires levels { 0 < length self.old.core.limits }
+        requires conflict { IsPending self.old.core (Some k) }
+        ensures core { self.new.core ≡ self.old.core }
+        ensures given { self.new.given ≡ self.old.given }
+        ensures frozen { self.new.frozen ≡ self.old.frozen }
+        ensures pending { self.new.pending ≡ self.old.pending }
+        ensures conflicts { self.new.conflicts ≡ self.old.conflicts }
+        ensures deletions { self.new.deletions ≡ self.old.deletions }
+        ensures idle { OnOk result (IsIdle self.old.core.vars self.new.analysis.seen.items self.new.analysis.lower.items self.new.analysis.current.items) }
+        ensures learnt { IfOk result (λ first. IsLearnt self.old.core (base_of self.old.core) self.new.analysis.clause.items first) }
+    {
+        let core = &self.core;
+        let base = core.limit(core.levels() - 1);
+        let root = core.limit(0);
+        self.order.set_stable(self.restarts.is_stable());
+        self.order.keep_longest(&core.trail()[..base]);
+        let point = self.analysis.find(core, k, root, base)?;
+        bump_all(&self.analysis, &mut self.order);
+        let learnt = minimize(
+            core,
+            &mut self.analysis,
+            &mut self.minimizer,
+            &mut self.restarts,
+            point,
+            root,
+            base,
+        )?;
+        self.analysis.reset();
+        match learnt {
+            Some(first) => Ok(first),
+            None => negate_trail(core, k, base, &mut self.analysis.clause),
+        }
+    }
+
+    // The same; no watched clause is a subset of it, though a frozen one may be.
+    fn analyze(&mut self, k: u32) -> Result<Lit, AllocError>
+        requires idle { IsIdle self.old.core.vars self.old.analysis.seen.items self.old.analysis.lower.items self.old.analysis.current.items }
+        requires driven { IsDriven self.old.core }
+        requires levels { 0 < length self.old.core.limits }
+        requires conflict { IsPending self.old.core (Some k) }
+        ensures core { self.new.core ≡ self.old.core }
+        ensures given { self.new.given ≡ self.old.given }
+        ensures frozen { self.new.frozen ≡ self.old.frozen }
+        ensures pending { self.new.pending ≡ self.old.pending }
+        ensures conflicts { self.new.conflicts ≡ self.old.conflicts }
+        ensures deletions { self.new.deletions ≡ self.old.deletions }
+        ensures idle { OnOk result (IsIdle self.old.core.vars self.new.analysis.seen.items self.new.analysis.lower.items self.new.analysis.current.items) }
+        ensures learnt { IfOk result (λ first. IsLearnt self.old.core (base_of self.old.core) self.new.analysis.clause.items first) }
+        ensures new { OnOk result (IsNew (clauses_of self.old.core.slots) self.new.analysis.clause.items) }
+        ensures contingent { OnOk result (IsContingent self.new.analysis.clause.items) }
+    {
+        self.core.levels_are_complete();
+        let first = self.analyze_conflict(k)?;
+        Ok(first)
+    }
+
+    // Puts the clause that was learnt, and goes back to where it makes a literal true.
+    fn put_learnt(&mut self, first: Lit, glue: u32) -> Result<(), AllocError>
+        requires frozen { self.old.frozen.vars ≡ self.old.core.vars }
+        requires idle { IsIdle self.old.core.vars self.old.analysis.seen.items self.old.analysis.lower.items self.old.analysis.current.items }
+        requires driven { IsDriven self.old.core }
+        requires levels { 0 < length self.old.core.limits }
+        requires learnt { IsLearnt self.old.core (base_of self.old.core) self.old.analysis.clause.items first }
+        requires room { self.old.conflicts < 2 ^ 64 - 1 }
+        ensures solver { OnOk result (IsSolver self.new) }
+        ensures vars { OnOk result (self.new.core.vars ≡ self.old.core.vars) }
+        ensures slots { OnOk result (self.new.core.slots ≡ self.old.core.slots ++ Some self.old.analysis.clause.items ∷ []) }
+        ensures given { OnOk result (self.new.given ≡ self.old.given) }
+        ensures frozen { OnOk result (self.new.frozen ≡ self.old.frozen) }
+        ensures conflicts { OnOk result (self.new.conflicts ≡ self.old.conflicts + 1) }
+        ensures deletions { OnOk result (self.new.deletions ≡ self.old.deletions) }
+    {
+        let clause = self.analysis.clause();
+        self.pending = assert_learnt(&mut self.core, &mut self.order, clause, first)?;
+        self.learnts.push(glue, clause.len())?;
+        self.conflicts += 1;
+        Ok(())
+    }
+
+    // Logs the clause that was learnt, and puts it.
+    fn add<L: Log>(&mut self, log: &mut L, first: Lit) -> Result<(), Stop>
+        requires frozen { self.old.frozen.vars ≡ self.old.core.vars }
+        requires idle { IsIdle self.old.core.vars self.old.analysis.seen.items self.old.analysis.lower.items self.old.analysis.current.items }
+        requires driven { IsDriven self.old.core }
+        requires levels { 0 < length self.old.core.limits }
+        requires learnt { IsLearnt self.old.core (base_of self.old.core) self.old.analysis.clause.items first }
+        requires addable { IsAddable self.old.core self.old.frozen self.old.analysis.clause.items }
+        requires room { self.old.conflicts < 2 ^ 64 - 1 }
+        ensures solver { OnOk result (IsSolver self.new) }
+        ensures conflicts { OnOk result (self.new.conflicts ≡ self.old.conflicts + 1) }
+        ensures leads { OnOk result (Leads L.takes L.faults self.old self.new log.old log.new) }
+        ensures stopped { IfErr result (λ e. Stops L.takes L.fails L.faults self.old log.old log.new e) }
+    {
+        let clause = self.analysis.clause();
+        let glue = self.restarts.count(&self.core, clause);
+        if log.clause(clause).is_err() {
+            return Err(Stop::Failed);
+        }
+        self.put_learnt(first, glue)?;
+        Ok(())
+    }
+
+    // Puts a frozen clause back, at level 0.
+    fn back_and_thaw(&mut self, k: u32) -> Result<(), AllocError>
+        requires solver { IsSolver self.old }
+        requires levels { 0 < length self.old.core.limits }
+        requires clause { k < length self.old.frozen.slots }
+        ensures solver { OnOk result (IsSolver self.new) }
+        ensures moves { OnOk result (Moves self.old self.new) }
+        ensures fewer { OnOk result ((c : List LitOf) → slot_at self.old.frozen.slots k ≡ Some c
+            → length (clauses_of self.new.frozen.slots) < length (clauses_of self.old.frozen.slots)) }
+    {
+        back_to_root(&mut self.core, &mut self.order)?;
+        self.pending = None;
+        self.thaw(k)
+    }
+
+    // Learns from a falsified clause, unless a frozen clause is a subset of what would be learnt: that one is put back then.
+    pub(crate) fn learn<L: Log>(&mut self, log: &mut L, k: u32) -> Result<Step, Stop>
+        requires solver { IsSolver self.old }
+        requires levels { 0 < length self.old.core.limits }
+        requires conflict { IsPending self.old.core (Some k) }
+        requires room { self.old.conflicts < 2 ^ 64 - 1 }
+        ensures solver { OnOk result (IsSolver self.new) }
+        ensures fits { IfOk result (λ s. StepFits L.takes L.fails L.faults self.old self.new log.old log.new s) }
+        ensures stopped { IfErr result (λ e. Stops L.takes L.fails L.faults self.old log.old log.new e) }
+    {
+        let first = self.analyze(k)?;
+        let used = self.analysis.used();
+        self.learnts.use_all(&self.core, &mut self.restarts, used);
+        let clause = self.analysis.clause();
+        if let Some(frozen) = self.frozen.subset_of(clause) {
+            self.back_and_thaw(frozen)?;
+            return Ok(Step::Thawed);
+        }
+        self.add(log, first)?;
+        Ok(Step::Learnt)
+    }
+}
