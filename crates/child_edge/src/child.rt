@@ -1,6 +1,6 @@
 // A child of the system, its output and its end.
 
-ghost use Rattle.std.specs.Prelude.{◌≡◌, false, None};
+ghost use Rattle.std.specs.Prelude.{◌≡◌, cond, None, Some};
 
 use sby_edge::{Exit, Failed, Hold, Pipe};
 use std::io::Read;
@@ -49,7 +49,8 @@ fn exit_of(status: &ExitStatus) -> Exit {
 }
 
 impl Hold for RealHold {
-    ghost is_killed = { λ h. h.is_killed };
+    // How many bytes the pipe had given isn't told.
+    ghost killed = { λ h. cond h.is_killed (Some 0) None };
 
     ghost is_reaped = { λ h. h.is_reaped };
 

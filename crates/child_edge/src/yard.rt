@@ -6,7 +6,7 @@ ghost use Rattle.sby_edge.specs.Cause.{RisesBy};
 use crate::child::{RealHold, RealPipe};
 use crate::command::command_of;
 use crate::files::open_and_read;
-use sby_edge::{Fail, Got, Launch, Memory, Yard};
+use sby_edge::{Fail, Failed, Got, Hold, Launch, Memory, Yard};
 use sby_terms::JobName;
 use std::alloc::Global;
 use std::env::Env;
@@ -100,6 +100,10 @@ where
         answer
     }
 
+    fn kill(&self, _pipe: &RealPipe, hold: &mut RealHold) -> Result<(), Failed> {
+        hold.kill()
+    }
+
     fn finish(&mut self, pipe: RealPipe, hold: RealHold) {
         let RealPipe {
             output,
@@ -148,6 +152,8 @@ where
     type Bay = RealBay<'a, R>;
 
     ghost told = { λ _. None };
+
+    ghost started = { λ _. None };
 
     ghost start_faults = { λ y. y.start_faults };
 

@@ -19,7 +19,7 @@ use Rattle.race_core.specs.declared.part.Reader.TheVariants as reader
 use Rattle.lane_child.specs.Judging.{Within}
 use Rattle.lane_child.specs.Reading.{Comes, IsProof, NoneLeft, TookProof, TookSome, bytes_read}
 use Rattle.lane_child.specs.Sides.{RanFrom}
-use Rattle.lane_child.specs.Starting.{IsFront, NoStart, ReadsScript, Starts, start_of, with_starts}
+use Rattle.lane_child.specs.Starting.{IsFront, IsKilledFor, NoStart, ReadsScript, Starts, start_of, with_starts}
 use Rattle.lane_child.proofs.Readers.{comes_within}
 
 -- what an ended output comes to, it comes to where something else says that it ended
@@ -49,18 +49,9 @@ comes_ended st en pr A B output proof reader.Wrong t h = absurd h
 pub comes_for : {T : Type 0} (st en pr : List ℕ → Judged T → Type 0) (For : T → Type 0) (ended : Type 0) (output proof : List ℕ) (part : Reader T) (f : T)
     → ((bytes : List ℕ) (f : T) → st bytes (Found f) ⊎ (en bytes (Found f) ⊎ pr bytes (Found f)) → For f)
     → Comes st en pr ended output proof part → HasEnd part (end.Found f) → For f
-comes_for {T} st en pr For ended output proof (reader.Holding f by.Bytes) g is h e = subst For (value f g e) (is output f (inl h))
-  where
-    value : (f g : T) → end.Found g ≡ end.Found f → f ≡ g
-    value f g e = cc
-comes_for {T} st en pr For ended output proof (reader.Holding f by.Close) g is h e = subst For (value f g e) (is output f (inr (inl h.1)))
-  where
-    value : (f g : T) → end.Found g ≡ end.Found f → f ≡ g
-    value f g e = cc
-comes_for {T} st en pr For ended output proof (reader.Holding f by.File) g is h e = subst For (value f g e) (is proof f (inr (inr h.2)))
-  where
-    value : (f g : T) → end.Found g ≡ end.Found f → f ≡ g
-    value f g e = cc
+comes_for {T} st en pr For ended output proof (reader.Holding f by.Bytes) g is h e = absurd e
+comes_for {T} st en pr For ended output proof (reader.Holding f by.Close) g is h e = absurd e
+comes_for {T} st en pr For ended output proof (reader.Holding f by.File) g is h e = absurd e
 comes_for {T} st en pr For ended output proof (reader.Found f by.Bytes won) g is h e = subst For (value f g e) (is output f (inl h))
   where
     value : (f g : T) → end.Found g ≡ end.Found f → f ≡ g
@@ -84,9 +75,9 @@ comes_for st en pr For ended output proof reader.Short g is h e = absurd e
 comes_for st en pr For ended output proof reader.Wrong g is h e = absurd e
 
 -- the start at the end of a list is finished
-given_last : (given : ℕ) (start : StartOf) (starts : List StartOf) → with_given (length starts) given (starts ++ start ∷ []) ≡ starts ++ gave given start ∷ []
-given_last given start [] = refl
-given_last given start (s ∷ ss) = ap (λ l. s ∷ l) (given_last given start ss)
+given_last : (given : ℕ) (killed : Option ℕ) (start : StartOf) (starts : List StartOf) → with_given (length starts) given killed (starts ++ start ∷ []) ≡ starts ++ gave given killed start ∷ []
+given_last given killed start [] = refl
+given_last given killed start (s ∷ ss) = ap (λ l. s ∷ l) (given_last given killed start ss)
 
 -- what was taken of the pipe of a start is a front of its script's output
 front_gate : (script : ScriptOf) (place : ℕ) (output rest : List ℕ) (gate : Option GateOf)
@@ -105,20 +96,24 @@ place_taken script place now output (inl h) = (ap (λ (p : PipeOf). p.place) h.0
 place_taken script place now output (inr h) = (h.0, omega (h.1, arith))
 
 -- A child that was started ran. What its bay told before, after the start, and after its end; and its pipe.
-pub record Life {T : Type 0} (st en pr : List ℕ → Judged T → Type 0) (job : JobName) (words : List (List ℕ)) (file : List ℕ) (most most_output : ℕ) (bay bay' : Option BayOf) (events : List (LaneEvent T)) : Type 0 where
-  pub told : bay' ≡ option_map (with_starts (start_of job words file (Some (bytes_read events)) ∷ [])) bay
+pub record Life {T : Type 0} (st en pr : List ℕ → Judged T → Type 0) (job : JobName) (words : List (List ℕ)) (file : List ℕ) (most most_output : ℕ) (bay bay' : Option BayOf) (events kept : List (LaneEvent T)) : Type 0 where
+  pub killed : Option ℕ
+  pub for : IsKilledFor (bytes_read events) kept killed
+  pub told : bay' ≡ option_map (with_starts (start_of job words file (Some (bytes_read events)) killed ∷ [])) bay
   pub reads : ReadsScript st en pr bay job most most_output events
 
-finished_bay : (job : JobName) (words : List (List ℕ)) (file : List ℕ) (bay : BayOf) (now : PipeOf) (n : ℕ) → now.place ≡ length bay.starts → now.given ≡ n
-    → finished (Some now) (record bay { starts = bay.starts ++ record { job = job; words = words; bytes = file; given = None } ∷ [] }) ≡ with_starts (start_of job words file (Some n) ∷ []) bay
-finished_bay job words file bay now n at given = ap (λ (l : List StartOf). record bay { starts = l })
-    (subst (λ (p : ℕ). with_given p now.given (bay.starts ++ record { job = job; words = words; bytes = file; given = None } ∷ []) ≡ bay.starts ++ start_of job words file (Some n) ∷ []) (sym at)
-    (subst (λ (m : ℕ). with_given (length bay.starts) m (bay.starts ++ record { job = job; words = words; bytes = file; given = None } ∷ []) ≡ bay.starts ++ start_of job words file (Some n) ∷ []) (sym given)
-    (given_last n (record { job = job; words = words; bytes = file; given = None }) bay.starts)))
+finished_bay : (job : JobName) (words : List (List ℕ)) (file : List ℕ) (bay : BayOf) (now : PipeOf) (n : ℕ) (killed : Option ℕ) → now.place ≡ length bay.starts → now.given ≡ n
+    → finished (Some now) killed (record bay { starts = bay.starts ++ record { job = job; words = words; bytes = file; given = None; killed = None } ∷ [] }) ≡ with_starts (start_of job words file (Some n) killed ∷ []) bay
+finished_bay job words file bay now n killed at given = ap (λ (l : List StartOf). record bay { starts = l })
+    (subst (λ (p : ℕ). with_given p now.given killed (bay.starts ++ record { job = job; words = words; bytes = file; given = None; killed = None } ∷ []) ≡ bay.starts ++ start_of job words file (Some n) killed ∷ []) (sym at)
+    (subst (λ (m : ℕ). with_given (length bay.starts) m killed (bay.starts ++ record { job = job; words = words; bytes = file; given = None; killed = None } ∷ []) ≡ bay.starts ++ start_of job words file (Some n) killed ∷ []) (sym given)
+    (given_last n killed (record { job = job; words = words; bytes = file; given = None; killed = None }) bay.starts)))
 
-module _ {T : Type 0} (st en pr : List ℕ → Judged T → Type 0) (job : JobName) (words : List (List ℕ)) (file : List ℕ) (most most_output : ℕ) (events : List (LaneEvent T)) where
-  life_untold : (bay' : Option BayOf) → RanFrom st en pr job most most_output None bay' None events → Life st en pr job words file most most_output None bay' events
-  life_untold bay' (now, output, proof, told, took, read, filed, is_proof, comes, closed, bound) = record {
+module _ {T : Type 0} (st en pr : List ℕ → Judged T → Type 0) (job : JobName) (words : List (List ℕ)) (file : List ℕ) (most most_output : ℕ) (events kept : List (LaneEvent T)) where
+  life_untold : (bay' : Option BayOf) → RanFrom st en pr job most most_output None bay' None events kept → Life st en pr job words file most most_output None bay' events kept
+  life_untold bay' (now, output, proof, killed, told, for, took, read, filed, is_proof, comes, closed, bound) = record {
+    killed = Some (bytes_read events);
+    for = inl refl;
     told = told;
     reads = record {
       output = output;
@@ -138,13 +133,15 @@ module _ {T : Type 0} (st en pr : List ℕ → Judged T → Type 0) (job : JobNa
       at (inl is) = inl tt
       at (inr none) = inr none
 
-  life_told : (bay : BayOf) (bay' : Option BayOf) → RanFrom st en pr job most most_output (Some (record bay { starts = bay.starts ++ record { job = job; words = words; bytes = file; given = None } ∷ [] })) bay' (Some (pipe_of (bay.scripts job) (length bay.starts))) events
-      → Life st en pr job words file most most_output (Some bay) bay' events
-  life_told bay bay' (None, output, proof, told, took, read, filed, is_proof, comes, closed, bound) = absurd took
-  life_told bay bay' (Some now, output, proof, told, took, read, filed, is_proof, comes, closed, bound) =
+  life_told : (bay : BayOf) (bay' : Option BayOf) → RanFrom st en pr job most most_output (Some (record bay { starts = bay.starts ++ record { job = job; words = words; bytes = file; given = None; killed = None } ∷ [] })) bay' (Some (pipe_of (bay.scripts job) (length bay.starts))) events kept
+      → Life st en pr job words file most most_output (Some bay) bay' events kept
+  life_told bay bay' (None, output, proof, killed, told, for, took, read, filed, is_proof, comes, closed, bound) = absurd took
+  life_told bay bay' (Some now, output, proof, killed, told, for, took, read, filed, is_proof, comes, closed, bound) =
       let place = place_taken (bay.scripts job) (length bay.starts) now output took in
       record {
-        told = told ∙ ap Some (finished_bay job words file bay now (bytes_read events) place.0 (place.1 ∙ sym read));
+        killed = killed;
+        for = elim for [ inl last ↦ inl (last ∙ ap Some (place.1 ∙ sym read)) | inr has ↦ inr has ];
+        told = told ∙ ap Some (finished_bay job words file bay now (bytes_read events) killed place.0 (place.1 ∙ sym read));
         reads = record {
           output = output;
           rest = now.bytes;
@@ -166,10 +163,10 @@ module _ {T : Type 0} (st en pr : List ℕ → Judged T → Type 0) (job : JobNa
   -- what is told of a start, and of the life behind it
   pub life : {X : Type 0} (bay between bay' : Option BayOf) (pipe : Option PipeOf) (x : X) → between ≡ option_map (started (Ok x) job words file) bay
       → pipe ≡ option_map (λ (b : BayOf). pipe_of (b.scripts job) (length b.starts)) bay
-      → RanFrom st en pr job most most_output between bay' pipe events → Life st en pr job words file most most_output bay bay' events
-  life None between bay' pipe x is at h = life_untold bay' (subst (λ (b : Option BayOf). RanFrom st en pr job most most_output b bay' None events) is (subst (λ (p : Option PipeOf). RanFrom st en pr job most most_output between bay' p events) at h))
+      → RanFrom st en pr job most most_output between bay' pipe events kept → Life st en pr job words file most most_output bay bay' events kept
+  life None between bay' pipe x is at h = life_untold bay' (subst (λ (b : Option BayOf). RanFrom st en pr job most most_output b bay' None events kept) is (subst (λ (p : Option PipeOf). RanFrom st en pr job most most_output between bay' p events kept) at h))
   life (Some bay) between bay' pipe x is at h =
-      life_told bay bay' (subst (λ (b : Option BayOf). RanFrom st en pr job most most_output b bay' (Some (pipe_of (bay.scripts job) (length bay.starts))) events) is (subst (λ (p : Option PipeOf). RanFrom st en pr job most most_output between bay' p events) at h))
+      life_told bay bay' (subst (λ (b : Option BayOf). RanFrom st en pr job most most_output b bay' (Some (pipe_of (bay.scripts job) (length bay.starts))) events kept) is (subst (λ (p : Option PipeOf). RanFrom st en pr job most most_output between bay' p events kept) at h))
 
 -- what is read by a judge is what its maker says
 pub reads_within : {T : Type 0} (st st' en en' pr pr' : List ℕ → Judged T → Type 0) (bay : Option BayOf) (job : JobName) (most few most_output : ℕ) (events : List (LaneEvent T))
@@ -188,15 +185,20 @@ reads_within st st' en en' pr pr' bay job most few most_output events hs he hp s
 }
 
 -- so are the starts
-pub starts_within : {T : Type 0} (job : JobName) (words words' : List (List ℕ)) (file file' : List ℕ) (A B : Type 0) (events : List (LaneEvent T)) (e : JobEnd T) (starts : List StartOf)
-    → words ≡ words' → file ≡ file' → (A → B) → Starts job words file A events e starts → Starts job words' file' B events e starts
-starts_within job words words' file file' A B events e starts is bytes t (inl h) = inl h
-starts_within job words words' file file' A B events e starts is bytes t (inr (inl h)) = inr (inl (h.0, h.1, subst (λ (w : List (List ℕ)). starts ≡ start_of job w file' None ∷ []) is (subst (λ (b : List ℕ). starts ≡ start_of job words b None ∷ []) bytes h.2)))
-starts_within job words words' file file' A B events e starts is bytes t (inr (inr h)) = inr (inr (
+pub starts_within : {T : Type 0} (job : JobName) (words words' : List (List ℕ)) (file file' : List ℕ) (A B : Type 0) (events kept : List (LaneEvent T)) (e : JobEnd T) (starts : List StartOf)
+    → words ≡ words' → file ≡ file' → (A → B) → Starts job words file A events kept e starts → Starts job words' file' B events kept e starts
+starts_within job words words' file file' A B events kept e starts is bytes t (inl h) = inl h
+starts_within job words words' file file' A B events kept e starts is bytes t (inr (inl h)) =
+    inr (inl (h.0, h.1, subst (λ (w : List (List ℕ)). starts ≡ start_of job w file' None None ∷ []) is (subst (λ (b : List ℕ). starts ≡ start_of job words b None None ∷ []) bytes h.2)))
+starts_within job words words' file file' A B events kept e starts is bytes t (inr (inr h)) = inr (inr (
   h.0,
   t h.1,
-  subst (λ (w : List (List ℕ)). starts ≡ start_of job w file' (Some (bytes_read events)) ∷ []) is
-      (subst (λ (b : List ℕ). starts ≡ start_of job words b (Some (bytes_read events)) ∷ []) bytes h.2),
+  (
+    h.2.0,
+    h.2.1,
+    subst (λ (w : List (List ℕ)). starts ≡ start_of job w file' (Some (bytes_read events)) h.2.0 ∷ []) is
+        (subst (λ (b : List ℕ). starts ≡ start_of job words b (Some (bytes_read events)) h.2.0 ∷ []) bytes h.2.2),
+  ),
 ))
 
 -- no start more
@@ -213,9 +215,9 @@ pub none_started : {X : Type 0} (r : Result X Fail) (e : Fail) (job : JobName) (
     → bay' ≡ option_map (with_starts []) bay
 none_started r e job words file bay bay' is memory told = told ∙ (same_bay r e job words file bay is memory ∙ no_starts bay)
 
-pub none_for_want : {T : Type 0} (job : JobName) (words : List (List ℕ)) (file : List ℕ) (A : Type 0) (events : List (LaneEvent T)) (e : JobEnd T) → e ≡ end.Memory → events ≡ [] → Starts job words file A events e []
-none_for_want {T} job words file A events e is none = inl (subst (λ (e : JobEnd T). NoStart e) (sym is) tt, none, refl)
+pub none_for_want : {T : Type 0} (job : JobName) (words : List (List ℕ)) (file : List ℕ) (A : Type 0) (events kept : List (LaneEvent T)) (e : JobEnd T) → e ≡ end.Memory → events ≡ [] → Starts job words file A events kept e []
+none_for_want {T} job words file A events kept e is none = inl (subst (λ (e : JobEnd T). NoStart e) (sym is) tt, none, refl)
 
 -- a job that wasn't asked to start
-pub none_for_end : {T : Type 0} (job : JobName) (words : List (List ℕ)) (file : List ℕ) (A : Type 0) (events : List (LaneEvent T)) (e : JobEnd T) → NoStart e → events ≡ [] → Starts job words file A events e []
-none_for_end job words file A events e is none = inl (is, none, refl)
+pub none_for_end : {T : Type 0} (job : JobName) (words : List (List ℕ)) (file : List ℕ) (A : Type 0) (events kept : List (LaneEvent T)) (e : JobEnd T) → NoStart e → events ≡ [] → Starts job words file A events kept e []
+none_for_end job words file A events kept e is none = inl (is, none, refl)

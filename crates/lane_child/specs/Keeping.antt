@@ -35,6 +35,28 @@ abbrev pub HasReading : {T : Type 0} → ℕ → List (LaneEvent T) → Type 0
 HasReading r [] = ⊥
 HasReading r (e ∷ es) = IsReading r e ⊎ HasReading r es
 
+-- the event is the keeper's kill
+abbrev pub IsKill : {T : Type 0} → LaneEvent T → Type 0
+IsKill (event.Read n p) = ⊥
+IsKill (event.File n p) = ⊥
+IsKill (event.Settle won) = ⊥
+IsKill event.ReaderMemory = ⊥
+IsKill (event.Turns n) = ⊥
+IsKill (event.Poll p) = ⊥
+IsKill (event.Clock r) = ⊥
+IsKill (event.Look c known) = ⊥
+IsKill event.Kill = Unit {0}
+IsKill event.KeeperMemory = ⊥
+IsKill event.Took = ⊥
+IsKill event.Start = ⊥
+IsKill event.Finish = ⊥
+IsKill event.Gave = ⊥
+
+-- the list has a kill
+abbrev pub HasKill : {T : Type 0} → List (LaneEvent T) → Type 0
+HasKill [] = ⊥
+HasKill (e ∷ es) = IsKill e ⊎ HasKill es
+
 -- what the looks of a list show, and its readings, are those of another list, with those of this entry
 pub record Adds {T : Type 0} (entry : LaneEvent T) (events events' : List (LaneEvent T)) : Type 0 where
   pub looks : (place : ℕ) (f : T) → Looked place f events' → Looked place f events ⊎ Looked place f (entry ∷ [])

@@ -15,7 +15,7 @@ use Rattle.race_core.specs.declared.part.Reader.TheVariants as reader
 use Rattle.race_core.specs.declared.part.Reason.{Reason}
 use Rattle.race_core.specs.declared.part.Reason.TheVariants as reason
 use Rattle.lane_child.specs.Judging.{Within}
-use Rattle.lane_child.specs.Keeping.{EndsChild, Keeps, TakesTurns}
+use Rattle.lane_child.specs.Keeping.{EndsChild, HasKill, Keeps, TakesTurns}
 use Rattle.lane_child.specs.Reading.{Comes, HasRead, NoneLeft, Proves, ReadSoFar, Settles, Took, TookProof, bytes_filed, bytes_read, empty_reads}
 
 -- A reader's work on a fresh pipe with a fresh list. Its part is that of its list, and what its output comes to; it asks for the proof
@@ -58,18 +58,30 @@ Finishes {T} proves bay job most why part now filed = (between : Reader T) × As
 
 -- the bay after one more start
 abbrev pub with_start : JobName → List (List ℕ) → List ℕ → BayOf → BayOf
-with_start job words bytes bay = record bay { starts = bay.starts ++ record { job = job; words = words; bytes = bytes; given = None } ∷ [] }
+with_start job words bytes bay = record bay { starts = bay.starts ++ record { job = job; words = words; bytes = bytes; given = None; killed = None } ∷ [] }
 
 -- the pipe of the next start
 abbrev pub next_pipe : JobName → BayOf → PipeOf
 next_pipe job bay = pipe_of (bay.scripts job) (length bay.starts)
 
+-- a child was killed when its pipe had given all that it gave, where the pipe tells
+abbrev pub KilledLast : Option PipeOf → Option ℕ → Type 0
+KilledLast None killed = Unit {0}
+KilledLast (Some pipe) killed = killed ≡ Some pipe.given
+
+-- so is one that its keeper didn't kill
+abbrev pub KilledBy : {T : Type 0} → Option (Reason T) → Option PipeOf → Option ℕ → Type 0
+KilledBy (Some why) pipe killed = Unit {0}
+KilledBy None pipe killed = KilledLast pipe killed
+
 -- A child whose pipe was this ran and is finished: its reader took an output of the pipe, and perhaps a proof file, as many bytes as its
--- list tells; its part is what these come to. The output is at most one buffer longer than the longest that comes to nothing.
-abbrev pub RanFrom : {T : Type 0} → (stands ends proves : List ℕ → Judged T → Type 0) → JobName → ℕ → ℕ → Option BayOf → Option BayOf → Option PipeOf → List (LaneEvent T) → Type 0
-RanFrom stands ends proves job most most_output bay bay' pipe events =
-    (now : Option PipeOf) × (output : List ℕ) × (proof : List ℕ)
-    × (bay' ≡ option_map (finished now) bay)
+-- list tells; its part is what these come to. The output is at most one buffer longer than the longest that comes to nothing. The child was
+-- killed when its pipe had given all that it gave, or its keeper's list has a kill.
+abbrev pub RanFrom : {T : Type 0} → (stands ends proves : List ℕ → Judged T → Type 0) → JobName → ℕ → ℕ → Option BayOf → Option BayOf → Option PipeOf → List (LaneEvent T) → List (LaneEvent T) → Type 0
+RanFrom stands ends proves job most most_output bay bay' pipe events kept =
+    (now : Option PipeOf) × (output : List ℕ) × (proof : List ℕ) × (killed : Option ℕ)
+    × (bay' ≡ option_map (finished now killed) bay)
+    × (KilledLast now killed ⊎ HasKill kept)
     × Took pipe now output
     × (bytes_read events ≡ length output) × (bytes_filed events ≡ length proof)
     × TookProof bay' job most proof (reader_from reader.Fresh events)

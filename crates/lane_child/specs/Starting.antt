@@ -9,6 +9,7 @@ use Rattle.race_core.specs.declared.end.JobEnd.TheVariants as end
 use Rattle.race_core.specs.declared.event.Judged.{Judged}
 use Rattle.race_core.specs.declared.event.LaneEvent.{LaneEvent}
 use Rattle.race_core.specs.declared.part.Reader.TheVariants as reader
+use Rattle.lane_child.specs.Keeping.{HasKill}
 use Rattle.lane_child.specs.Reading.{Comes, TookProof, bytes_filed, bytes_read, empty_reads}
 
 -- an end of a job whose child ran
@@ -68,14 +69,19 @@ pub record ReadsScript {T : Type 0} (stands ends proves : List ℕ → Judged T 
 abbrev pub with_starts : List StartOf → BayOf → BayOf
 with_starts starts bay = record bay { starts = bay.starts ++ starts }
 
--- a start of the job with these words and these bytes of the job, whose pipe gave so many bytes, if it was finished
-abbrev pub start_of : JobName → List (List ℕ) → List ℕ → Option ℕ → StartOf
-start_of job words file given = record { job = job; words = words; bytes = file; given = given }
+-- A start of the job with these words and these bytes of the job. If it was finished: so many bytes its pipe gave, and so many it had given
+-- when its child was killed.
+abbrev pub start_of : JobName → List (List ℕ) → List ℕ → Option ℕ → Option ℕ → StartOf
+start_of job words file given killed = record { job = job; words = words; bytes = file; given = given; killed = killed }
 
--- The starts of a job: none; or one with these words and this file that failed; or one whose child ran, and gave as many bytes as the
--- reader's list tells.
-abbrev pub Starts : {T : Type 0} → JobName → List (List ℕ) → List ℕ → Type 0 → List (LaneEvent T) → JobEnd T → List StartOf → Type 0
-Starts job words file ran events e starts =
+-- The child of a pipe that gave so many bytes was killed when it had given them all, its reader being done; or its keeper's list has a kill.
+abbrev pub IsKilledFor : {T : Type 0} → ℕ → List (LaneEvent T) → Option ℕ → Type 0
+IsKilledFor given kept killed = (killed ≡ Some given) ⊎ HasKill kept
+
+-- The starts of a job, by the lists of its reader and its keeper: none; or one with these words and this file that failed; or one whose
+-- child ran, gave as many bytes as the reader's list tells, and was killed by its keeper alone before that.
+abbrev pub Starts : {T : Type 0} → JobName → List (List ℕ) → List ℕ → Type 0 → (events kept : List (LaneEvent T)) → JobEnd T → List StartOf → Type 0
+Starts job words file ran events kept e starts =
     (NoStart e × (events ≡ []) × (starts ≡ []))
-    ⊎ (((e ≡ end.StartFailed) × (events ≡ []) × (starts ≡ start_of job words file None ∷ []))
-    ⊎ (HasRun e × ran × (starts ≡ start_of job words file (Some (bytes_read events)) ∷ [])))
+    ⊎ (((e ≡ end.StartFailed) × (events ≡ []) × (starts ≡ start_of job words file None None ∷ []))
+    ⊎ (HasRun e × ran × ((killed : Option ℕ) × IsKilledFor (bytes_read events) kept killed × (starts ≡ start_of job words file (Some (bytes_read events)) killed ∷ []))))

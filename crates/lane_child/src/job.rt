@@ -175,7 +175,7 @@ fn conclude<L: Launch, S: Subject<T> + Drop, T: Settled + Drop>(
 }
 
 /// Runs a job whose child was started, and not killed since: its reader and its keeper beside each other, a kill where none came, the reap in every case, and
-/// the end; then the proof file, where the output leaves the end to it, and the settle of what was found. Waits for the child.
+/// the end. Until its reader has ended, the child is killed only by a kill of its keeper's list, for which that has a reason. Then the proof file, where the output leaves the end to it, and the settle of what was found. Waits for the child.
 #[tactic(auto, using(crate::proofs::Endings::rose_later, crate::proofs::Endings::rose_earlier))]
 pub fn run_started<
     R: Threads + Wait + Sync,
@@ -199,7 +199,7 @@ pub fn run_started<
     requires fresh { (S.taken subject ≡ []) × (reader_events.events ≡ []) }
     requires reader_room { 1 ≤ reader_events.room }
     requires goes_on { S.goes_on subject }
-    requires alive { L.Hold.is_killed child.1 ≡ false }
+    requires alive { L.Hold.killed child.1 ≡ None }
     requires cell { watch.now.terms.now.cell < length watch.now.cells.now }
     requires other { IfSome watch.now.other (λ o. o.0 < length watch.now.cells.now) }
     requires notes { AreNotesOf watch.now.cells.now notes.old }
@@ -211,7 +211,7 @@ pub fn run_started<
     ensures keeps { Keeps (IsOfCell T.problem T.job (J.problem watch.now.asks.now) watch.now.terms.now watch.now.other) (C.may_read watch.now.clock.now) notes.old notes.new keeper_events.old.events keeper_events.new.events }
     ensures won { IfWon (reader_from reader.Fresh result.events.events) (λ f. known_at notes.new watch.now.terms.now.cell ≡ Some f) }
     ensures ran { RanFrom (S.stands subject) (S.ends subject) (S.proves subject) asked.now.job asked.now.most (S.most subject) (L.told bay.old) (L.told bay.new)
-        (L.Pipe.told child.0) result.events.events }
+        (L.Pipe.told child.0) result.events.events keeper_events.new.events }
     ensures started { HasRun result.end }
     ensures read_failed { result.end ≡ end.ReadFailed → Rose (L.read_faults bay.old) (L.read_faults bay.new) }
     ensures hold_failed { result.end ≡ end.HoldFailed → Rose (L.hold_faults bay.old) (L.hold_faults bay.new) }

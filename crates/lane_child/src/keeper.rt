@@ -1,6 +1,6 @@
 // The keeper of a job: it has the child, and ends it where there is a reason to.
 
-ghost use Rattle.std.specs.Prelude.{◌≡◌, ◌≢◌, ◌⊎◌, ℕ, ◌+◌, ◌<◌, ◌≤◌, Option, Some, None, IfSome, IfOk, IsOkAnd, length, true};
+ghost use Rattle.std.specs.Prelude.{◌≡◌, ◌≢◌, ◌⊎◌, ℕ, ◌+◌, ◌<◌, ◌≤◌, Option, Some, None, IfNone, IfSome, IfOk, IsOkAnd, length, true};
 ghost use Rattle.std.specs.Option.{MatchOption};
 ghost use Rattle.lane_child.specs.Keeping.{EndsChild, IsOfCell, IsPlain, Keeps, Remember, TakesTurns};
 ghost use Rattle.race_cells.specs.Notes.{AreNotesOf, known_at};
@@ -187,7 +187,7 @@ fn poll<J: Asks<T>, T: Settled + Drop, C: Clock, H: Hold>(
     ensures due { MatchOption result (TakesTurns (keeper_from (terms_of T.job T.answer watch.now.terms.now) keeper.Fresh events.new.events)) (λ why. keeper_from (terms_of T.job T.answer watch.now.terms.now) keeper.Fresh events.new.events ≡ keeper.Due why) }
     ensures room { events.old.room ≤ events.new.room + 1 }
     ensures keeps { Keeps (IsOfCell T.problem T.job (J.problem watch.now.asks.now) watch.now.terms.now watch.now.other) (C.may_read watch.now.clock.now) notes.now notes.now events.old.events events.new.events }
-    ensures hold { (H.is_killed hold.new ≡ H.is_killed hold.old) × (H.is_reaped hold.new ≡ H.is_reaped hold.old) × (H.faults hold.old ≤ H.faults hold.new) }
+    ensures hold { (H.killed hold.new ≡ H.killed hold.old) × (H.is_reaped hold.new ≡ H.is_reaped hold.old) × (H.faults hold.old ≤ H.faults hold.new) }
     ensures fault { IfSome result (λ why. EndsChild why × (why ≡ reason.Fault → 0 < H.faults hold.new)) }
 {
     match hold.poll() {
@@ -220,7 +220,7 @@ fn turn<J: Asks<T>, T: Settled + Drop, C: Clock, H: Hold>(
     ensures due { MatchOption result (TakesTurns (keeper_from (terms_of T.job T.answer watch.now.terms.now) keeper.Fresh events.new.events)) (λ why. keeper_from (terms_of T.job T.answer watch.now.terms.now) keeper.Fresh events.new.events ≡ keeper.Due why) }
     ensures room { MatchOption result (2 ≤ events.new.room) (λ why. 1 ≤ events.new.room) }
     ensures keeps { Keeps (IsOfCell T.problem T.job (J.problem watch.now.asks.now) watch.now.terms.now watch.now.other) (C.may_read watch.now.clock.now) notes.old notes.new events.old.events events.new.events }
-    ensures hold { (H.is_killed hold.new ≡ H.is_killed hold.old) × (H.is_reaped hold.new ≡ H.is_reaped hold.old) × (H.faults hold.old ≤ H.faults hold.new) }
+    ensures hold { (H.killed hold.new ≡ H.killed hold.old) × (H.is_reaped hold.new ≡ H.is_reaped hold.old) × (H.faults hold.old ≤ H.faults hold.new) }
     ensures fault { IfSome result (λ why. EndsChild why × (why ≡ reason.Fault → 0 < H.faults hold.new)) }
 {
     if events.take_room(ROOM).is_err() {
@@ -260,7 +260,7 @@ fn kill<J: Asks<T>, T: Settled + Drop, C: Clock, H: Hold>(
     ensures why { result.why ≡ Some why }
     ensures killed { keeper_from (terms_of T.job T.answer watch.now.terms.now) keeper.Fresh events.new.events ≡ keeper.Killed why }
     ensures keeps { Keeps (IsOfCell T.problem T.job (J.problem watch.now.asks.now) watch.now.terms.now watch.now.other) (C.may_read watch.now.clock.now) notes.now notes.now events.old.events events.new.events }
-    ensures hold { (H.is_killed hold.new ≡ true) × (H.is_reaped hold.new ≡ H.is_reaped hold.old) × (H.faults hold.old ≤ H.faults hold.new) }
+    ensures hold { (H.is_reaped hold.new ≡ H.is_reaped hold.old) × (H.faults hold.old ≤ H.faults hold.new) }
     ensures fault { result.is_failed ≡ true → 0 < H.faults hold.new }
 {
     enter_plain(watch, notes, events, LaneEvent::Kill);
@@ -287,7 +287,7 @@ pub(crate) fn keep<R: Wait, J: Asks<T>, T: Settled + Drop, C: Clock, H: Hold>(
     requires turns { TakesTurns (keeper_from (terms_of T.job T.answer watch.now.terms.now) keeper.Fresh events.old.events) }
     ensures kept { MatchOption result.why (TakesTurns (keeper_from (terms_of T.job T.answer watch.now.terms.now) keeper.Fresh events.new.events)) (λ why. keeper_from (terms_of T.job T.answer watch.now.terms.now) keeper.Fresh events.new.events ≡ keeper.Killed why) }
     ensures keeps { Keeps (IsOfCell T.problem T.job (J.problem watch.now.asks.now) watch.now.terms.now watch.now.other) (C.may_read watch.now.clock.now) notes.old notes.new events.old.events events.new.events }
-    ensures killed { MatchOption result.why (H.is_killed hold.new ≡ H.is_killed hold.old) (λ why. H.is_killed hold.new ≡ true) }
+    ensures killed { IfNone result.why (H.killed hold.new ≡ H.killed hold.old) }
     ensures hold { (H.is_reaped hold.new ≡ H.is_reaped hold.old) × (H.faults hold.old ≤ H.faults hold.new) }
     ensures fault { IfSome result.why (λ why. EndsChild why × (why ≡ reason.Fault → 0 < H.faults hold.new)) }
     ensures failed { result.is_failed ≡ true → 0 < H.faults hold.new }

@@ -1,11 +1,11 @@
 // A child's life, from its start to its end.
 
-ghost use Rattle.std.specs.Prelude.{◌≡◌, ◌⊎◌, ℕ, ◌+◌, ◌<◌, ◌≤◌, ◌^◌, [], Option, IfSome, option_map, length, false, true};
+ghost use Rattle.std.specs.Prelude.{◌≡◌, ◌⊎◌, ℕ, ◌+◌, ◌<◌, ◌≤◌, ◌^◌, [], None, Option, IfNone, IfSome, option_map, length, true};
 ghost use Rattle.std.specs.Option.{MatchOption};
 ghost use Rattle.lane_child.specs.Judging.{Within};
 ghost use Rattle.lane_child.specs.Keeping.{EndsChild, IsOfCell, Keeps, TakesTurns};
 ghost use Rattle.lane_child.specs.Reading.{Comes, HasRead, NoneLeft, ReadSoFar};
-ghost use Rattle.lane_child.specs.Sides.{KeptOut, ReadOut};
+ghost use Rattle.lane_child.specs.Sides.{KeptOut, KilledBy, ReadOut};
 ghost use Rattle.race_cells.specs.Notes.{AreNotesOf};
 ghost use Rattle.race_core.specs.Asking.{terms_of};
 ghost use Rattle.race_core.specs.Parts.{keeper_from, reader_of};
@@ -60,7 +60,7 @@ fn run_beside<
     events: &mut EventList<T>,
 ) -> (X, Kept<T>)
     requires reader { A.can_run reader.old }
-    requires alive { H.is_killed hold.old ≡ false }
+    requires alive { H.killed hold.old ≡ None }
     requires cell { watch.now.terms.now.cell < length watch.now.cells.now }
     requires other { IfSome watch.now.other (λ o. o.0 < length watch.now.cells.now) }
     requires notes { AreNotesOf watch.now.cells.now notes.old }
@@ -69,7 +69,7 @@ fn run_beside<
     ensures reader { A.runs reader.old result.0 reader.new }
     ensures kept { KeptOut (terms_of T.job T.answer watch.now.terms.now) (IsOfCell T.problem T.job (J.problem watch.now.asks.now) watch.now.terms.now watch.now.other) (C.may_read watch.now.clock.now) notes.old notes.new events.old.events events.new.events
         (H.faults hold.new) result.1.why result.1.is_failed }
-    ensures killed { MatchOption result.1.why (H.is_killed hold.new ≡ false) (λ why. H.is_killed hold.new ≡ true) }
+    ensures killed { IfNone result.1.why (H.killed hold.new ≡ None) }
     ensures reaped { H.is_reaped hold.new ≡ H.is_reaped hold.old }
 {
     let (kept, given) = join_mut(
@@ -130,16 +130,36 @@ pub(crate) struct Lived<S, T> {
     pub(crate) is_failed: bool,
 }
 
-// Kills a child that its keeper didn't kill, and reaps it. Answers whether a kill or the reap failed.
-fn end_child<H: Hold, T>(hold: &mut H, kept: &Kept<T>) -> bool
-    requires { kept.now.is_failed ≡ true → 0 < H.faults hold.old }
-    ensures reaped { H.is_reaped hold.new ≡ true }
-    ensures faults { H.faults hold.old ≤ H.faults hold.new }
-    ensures failed { result ≡ true → 0 < H.faults hold.new }
+// Kills a child that its keeper didn't kill, behind its reader. Answers whether that failed.
+fn kill_last<L: Launch, T>(
+    bay: &L,
+    pipe: &L::Pipe,
+    hold: &mut L::Hold,
+    why: &Option<Reason<T>>,
+) -> bool
+    requires { IfNone why.now (L.Hold.killed hold.old ≡ None) }
+    ensures killed { KilledBy why.now (L.Pipe.told pipe.now) (L.Hold.killed hold.new) }
+    ensures faults { L.Hold.faults hold.old ≤ L.Hold.faults hold.new }
+    ensures failed { result ≡ true → 0 < L.Hold.faults hold.new }
 {
-    let is_killed = kept.why.is_some() || hold.kill().is_ok();
-    let is_reaped = hold.reap().is_ok();
-    kept.is_failed || !is_killed || !is_reaped
+    match why {
+        Some(_) => false,
+        None => bay.kill(pipe, hold).is_err(),
+    }
+}
+
+// Kills a child that its keeper didn't kill, and reaps it. Answers whether a kill or the reap failed.
+fn end_child<L: Launch, T>(bay: &L, pipe: &L::Pipe, hold: &mut L::Hold, kept: &Kept<T>) -> bool
+    requires failed { kept.now.is_failed ≡ true → 0 < L.Hold.faults hold.old }
+    requires alive { IfNone kept.now.why (L.Hold.killed hold.old ≡ None) }
+    ensures killed { KilledBy kept.now.why (L.Pipe.told pipe.now) (L.Hold.killed hold.new) }
+    ensures reaped { L.Hold.is_reaped hold.new ≡ true }
+    ensures faults { L.Hold.faults hold.old ≤ L.Hold.faults hold.new }
+    ensures failed { result ≡ true → 0 < L.Hold.faults hold.new }
+{
+    let is_alive = kill_last(bay, pipe, hold, &kept.why);
+    let is_lost = hold.reap().is_err();
+    kept.is_failed || is_alive || is_lost
 }
 
 // The life of a child that was started: reader and keeper beside each other, then the kill, where none came, the reap in every case,
@@ -165,7 +185,7 @@ pub(crate) fn live<
     requires fresh { (S.taken subject ≡ []) × (reader_events.events ≡ []) }
     requires reader_room { 1 ≤ reader_events.room }
     requires goes_on { S.goes_on subject }
-    requires alive { L.Hold.is_killed child.1 ≡ false }
+    requires alive { L.Hold.killed child.1 ≡ None }
     requires cell { watch.now.terms.now.cell < length watch.now.cells.now }
     requires other { IfSome watch.now.other (λ o. o.0 < length watch.now.cells.now) }
     requires notes { AreNotesOf watch.now.cells.now notes.old }
@@ -177,7 +197,7 @@ pub(crate) fn live<
     ensures awaits { result.part ≡ reader.Asking → S.awaits result.subject }
     ensures proves { Within (S.proves result.subject) (S.proves subject) }
     ensures most { length (S.taken result.subject) ≤ S.most subject + 2 ^ 16 }
-    ensures reader { (now : Option PipeOf) × (L.told bay.new ≡ option_map (finished now) (L.told bay.old))
+    ensures reader { (now : Option PipeOf) × (killed : Option ℕ) × (L.told bay.new ≡ option_map (finished now killed) (L.told bay.old)) × KilledBy result.why now killed
         × ReadSoFar (L.Pipe.told child.0) now (S.taken result.subject) result.events.events
         × Comes (S.stands subject) (S.ends subject) (S.proves subject) (NoneLeft now) (S.taken result.subject) [] result.part }
     ensures read_failed { result.part ≡ reader.Failed → Rose (L.read_faults bay.old) (L.read_faults bay.new) }
@@ -207,7 +227,7 @@ pub(crate) fn live<
         notes,
         keeper_events,
     );
-    let is_failed = end_child(&mut hold, &kept);
+    let is_failed = end_child(bay, &reader.pipe, &mut hold, &kept);
     let ReaderSide {
         rt: _,
         alloc: _,

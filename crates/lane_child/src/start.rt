@@ -239,7 +239,7 @@ fn start_child<
     ensures starts { (starts : List StartOf) × (L.told bay.new ≡ option_map (with_starts starts) (L.told bay.old))
         × Starts watch.now.terms.now.job (map string_bytes child.words.items) bytes.now
         (ReadsScript (S.stands child.subject) (S.ends child.subject) (S.proves child.subject) (L.told bay.old) watch.now.terms.now.job most (S.most child.subject) result.events.events)
-        result.events.events result.end starts }
+        result.events.events keeper_events.new.events result.end starts }
     ensures start_failed { result.end ≡ end.StartFailed → Rose (L.start_faults bay.old) (L.start_faults bay.new) }
     ensures read_failed { result.end ≡ end.ReadFailed → Rose (L.read_faults bay.old) (L.read_faults bay.new) }
     ensures hold_failed { result.end ≡ end.HoldFailed → Rose (L.hold_faults bay.old) (L.hold_faults bay.new) }
@@ -319,7 +319,7 @@ pub fn run_child<
         × Starts watch.now.terms.now.job (M.words watch.now.asks.now lane watch.now.terms.now.job) (M.file watch.now.asks.now watch.now.terms.now.job)
         (ReadsScript (M.stands watch.now.asks.now lane watch.now.terms.now.job) (M.ends watch.now.asks.now lane watch.now.terms.now.job) (M.proves watch.now.asks.now lane watch.now.terms.now.job)
         (L.told bay.old) watch.now.terms.now.job (M.most watch.now.asks.now) (M.most_output watch.now.asks.now lane) result.events.events)
-        result.events.events result.end starts }
+        result.events.events keeper_events.new.events result.end starts }
     ensures start_failed { result.end ≡ end.StartFailed → Rose (L.start_faults bay.old) (L.start_faults bay.new) }
     ensures read_failed { result.end ≡ end.ReadFailed → Rose (L.read_faults bay.old) (L.read_faults bay.new) }
     ensures hold_failed { result.end ≡ end.HoldFailed → Rose (L.hold_faults bay.old) (L.hold_faults bay.new) }

@@ -21,7 +21,7 @@ use Rattle.lane_run.proofs.Jobs.{replayed_same}
 
 -- a reader has one end
 one_end : {T : Type 0} (r : Reader T) (e : JobEnd T) (f : T) → HasEnd r e → HasEnd r (end.Found f) → e ≡ end.Found f
-one_end (reader.Holding g b) e f h is = h ∙ sym is
+one_end (reader.Holding g b) e f h is = absurd h
 one_end (reader.Found g b won) e f h is = h ∙ sym is
 one_end (reader.Unknown b) e f h is = h ∙ sym is
 one_end (reader.Bad number at b) e f h is = h ∙ sym is
@@ -47,7 +47,7 @@ unread_none reader.Short f is h = h
 unread_none reader.Wrong f is h = h
 
 leaves_none : {T : Type 0} (r : Reader T) (k : Keeper T) (f : T) → HasEnd r (end.Found f) → Leaves r k → ⊥
-leaves_none (reader.Holding g b) k f is h = elim h [ inl x ↦ x | inr y ↦ elim y [ inl x ↦ x.0 | inr x ↦ x.0 ] ]
+leaves_none (reader.Holding g b) k f is h = is
 leaves_none (reader.Found g b won) k f is h = elim h [ inl x ↦ x | inr y ↦ elim y [ inl x ↦ x.0 | inr x ↦ x.0 ] ]
 leaves_none (reader.Unknown b) k f is h = absurd cc
 leaves_none (reader.Bad number at b) k f is h = absurd cc

@@ -62,7 +62,7 @@ module _ {T : Type 0} (stands ends proves : List ℕ → Judged T → Type 0) (s
 
   pub plain_unknown : (r : Reader T) → HasEnd r end.Unknown → Got proof ⊎ ((proof ≡ []) × NotByFile r) → Comes stands ends proves (rest ≡ []) output proof r → ComesTo ends proves Got whole judged.Unknown
   plain_unknown (reader.Unknown b) h got comes = plain_by b judged.Unknown unknown_some (got_or (b ≢ by.File) got) comes
-  plain_unknown (reader.Holding f b) h got comes = absurd cc
+  plain_unknown (reader.Holding f b) h got comes = absurd h
   plain_unknown (reader.Found f b won) h got comes = absurd cc
   plain_unknown (reader.Bad number at b) h got comes = absurd cc
   plain_unknown reader.Failed h got comes = absurd cc
@@ -76,7 +76,7 @@ module _ {T : Type 0} (stands ends proves : List ℕ → Judged T → Type 0) (s
   pub plain_bad : (n a : ℕ) (r : Reader T) → HasEnd r (end.Bad n a) → Got proof ⊎ ((proof ≡ []) × NotByFile r) → Comes stands ends proves (rest ≡ []) output proof r → ComesTo ends proves Got whole (judged.Bad n a)
   plain_bad n a (reader.Bad m x b) h got comes = subst (λ (p : Judged T). ComesTo ends proves Got whole p) (same_bad n a m x h) (plain_by b (judged.Bad m x) (bad_some m x) (got_or (b ≢ by.File) got) comes)
   plain_bad n a (reader.Unknown b) h got comes = absurd cc
-  plain_bad n a (reader.Holding f b) h got comes = absurd cc
+  plain_bad n a (reader.Holding f b) h got comes = absurd h
   plain_bad n a (reader.Found f b won) h got comes = absurd cc
   plain_bad n a reader.Failed h got comes = absurd cc
   plain_bad n a reader.Fresh h got comes = absurd h
@@ -93,7 +93,7 @@ module _ {T : Type 0} (stands ends proves : List ℕ → Judged T → Type 0) (s
   same_found f g h = cc
 
   pub plain_found : (f : T) (r : Reader T) → HasEnd r (end.Found f) → Got proof ⊎ ((proof ≡ []) × NotByFile r) → Comes stands ends proves (rest ≡ []) output proof r → ComesTo ends proves Got whole (judged.Found f)
-  plain_found f (reader.Holding g b) h got comes = subst (λ (p : Judged T). ComesTo ends proves Got whole p) (same_found f g h) (plain_by b (judged.Found g) (found_some g) (got_or (b ≢ by.File) got) comes)
+  plain_found f (reader.Holding g b) h got comes = absurd h
   plain_found f (reader.Found g b won) h got comes = subst (λ (p : Judged T). ComesTo ends proves Got whole p) (same_found f g h) (plain_by b (judged.Found g) (found_some g) (got_or (b ≢ by.File) got) comes)
   plain_found f (reader.Unknown b) h got comes = absurd cc
   plain_found f (reader.Bad number at b) h got comes = absurd cc
@@ -106,11 +106,11 @@ module _ {T : Type 0} (stands ends proves : List ℕ → Judged T → Type 0) (s
   plain_found f reader.Wrong h got comes = absurd h
 
 -- a job whose child was started, and whose start didn't fail, ran
-ran_of : {T : Type 0} (job : JobName) (words : List (List ℕ)) (file : List ℕ) (ran : Type 0) (events : List (LaneEvent T)) (e : JobEnd T) (starts : List StartOf)
-    → (NoStart e → ⊥) → (e ≡ end.StartFailed → ⊥) → Starts job words file ran events e starts → ran
-ran_of job words file ran events e starts unasked failed (inl h) = absurd (unasked h.0)
-ran_of job words file ran events e starts unasked failed (inr (inl h)) = absurd (failed h.0)
-ran_of job words file ran events e starts unasked failed (inr (inr h)) = h.1
+ran_of : {T : Type 0} (job : JobName) (words : List (List ℕ)) (file : List ℕ) (ran : Type 0) (events kept : List (LaneEvent T)) (e : JobEnd T) (starts : List StartOf)
+    → (NoStart e → ⊥) → (e ≡ end.StartFailed → ⊥) → Starts job words file ran events kept e starts → ran
+ran_of job words file ran events kept e starts unasked failed (inl h) = absurd (unasked h.0)
+ran_of job words file ran events kept e starts unasked failed (inr (inl h)) = absurd (failed h.0)
+ran_of job words file ran events kept e starts unasked failed (inr (inr h)) = h.1
 
 -- no end that ends the lane's work
 last_not : {T : Type 0} (e : JobEnd T) → IsLast e → ((t : ℕ) → e ≡ end.Stopped t → ⊥) → (e ≡ end.Memory → ⊥) → ⊥
@@ -149,7 +149,7 @@ module _ {T : Type 0} (For : ℕ → T → Type 0) (serves : ℕ → Type 0) (te
     | inl late ↦ absurd (not_late j lt late.0)
     | inr s ↦ ran_of (name_at mode j) (words (name_at mode j)) (file (name_at mode j))
         (ReadsScript (stands (name_at mode j)) (ends (name_at mode j)) (proves (name_at mode j)) (Some bay) (name_at mode j) most most_output (events_at r j).reader)
-        (events_at r j).reader (end_at r j) (starts.starts j) unasked failed s
+        (events_at r j).reader (events_at r j).keeper (end_at r j) (starts.starts j) unasked failed s
   ]
 
   unknown_at : (j : ℕ) → j < n → end_at r j ≡ end.Unknown → HasEnd (reader_of (events_at r j)) end.Unknown

@@ -58,11 +58,11 @@ reads_before st en pr starts bay job most most_output events h = record {
 
 -- so a job's starts are the same to a bay with fewer
 job_before : {T : Type 0} (words : JobName → List (List ℕ)) (file : JobName → List ℕ) (st en pr : JobName → List ℕ → Judged T → Type 0) (most most_output : ℕ) (job : JobName) (first : List StartOf) (bay : Option BayOf)
-    (events : List (LaneEvent T)) (e : JobEnd T) (starts : List StartOf)
-    → JobStarts words file st en pr most most_output job (option_map (with_starts first) bay) events e starts → JobStarts words file st en pr most most_output job bay events e starts
-job_before words file st en pr most most_output job first bay events e starts (inl h) = inl h
-job_before words file st en pr most most_output job first bay events e starts (inr (inl h)) = inr (inl h)
-job_before words file st en pr most most_output job first bay events e starts (inr (inr h)) = inr (inr (h.0, reads_before (st job) (en job) (pr job) first bay job most most_output events h.1, h.2))
+    (es : EventsOf T) (e : JobEnd T) (starts : List StartOf)
+    → JobStarts words file st en pr most most_output job (option_map (with_starts first) bay) es e starts → JobStarts words file st en pr most most_output job bay es e starts
+job_before words file st en pr most most_output job first bay es e starts (inl h) = inl h
+job_before words file st en pr most most_output job first bay es e starts (inr (inl h)) = inr (inl h)
+job_before words file st en pr most most_output job first bay es e starts (inr (inr h)) = inr (inr (h.0, reads_before (st job) (en job) (pr job) first bay job most most_output es.reader h.1, h.2))
 
 -- the starts of each job, with those of one job put in
 with_job : ℕ → List StartOf → (ℕ → List StartOf) → ℕ → List StartOf
@@ -114,7 +114,7 @@ module _ {T : Type 0} (words : JobName → List (List ℕ)) (file : JobName → 
   -- one more job
   pub starts_more : (before mid now : Option BayOf) (n : ℕ) (r r' : ReportOf T) (new : List StartOf) → LaneStarts words file st en pr most most_output mode before mid n r → Stand n r r'
       → now ≡ option_map (with_starts new) mid
-      → (CameLate r' n × (new ≡ [])) ⊎ JobStarts words file st en pr most most_output (name_at mode n) mid (events_at r' n).reader (end_at r' n) new
+      → (CameLate r' n × (new ≡ [])) ⊎ JobStarts words file st en pr most most_output (name_at mode n) mid (events_at r' n) (end_at r' n) new
       → LaneStarts words file st en pr most most_output mode before now (n + 1) r'
   starts_more before mid now n r r' new lane stand told job = record {
     starts = all;
@@ -130,30 +130,30 @@ module _ {T : Type 0} (words : JobName → List (List ℕ)) (file : JobName → 
       all = with_job n new lane.starts
 
       At : ℕ → Type 0
-      At j = (CameLate r' j × (all j ≡ [])) ⊎ JobStarts words file st en pr most most_output (name_at mode j) before (events_at r' j).reader (end_at r' j) (all j)
+      At j = (CameLate r' j × (all j ≡ [])) ⊎ JobStarts words file st en pr most most_output (name_at mode j) before (events_at r' j) (end_at r' j) (all j)
 
       listed : starts_upto (n + 1) all ≡ starts_upto n lane.starts ++ new
       listed = upto_next n all ∙ (ap (λ (l : List StartOf). l ++ all n) (upto_same n all lane.starts (λ j lt. with_job_below n new lane.starts j lt))
           ∙ ap (λ (l : List StartOf). starts_upto n lane.starts ++ l) (with_job_there n new lane.starts))
 
-      put : (CameLate r' n × (new ≡ [])) ⊎ JobStarts words file st en pr most most_output (name_at mode n) mid (events_at r' n).reader (end_at r' n) new
-          → (CameLate r' n × (new ≡ [])) ⊎ JobStarts words file st en pr most most_output (name_at mode n) before (events_at r' n).reader (end_at r' n) new
+      put : (CameLate r' n × (new ≡ [])) ⊎ JobStarts words file st en pr most most_output (name_at mode n) mid (events_at r' n) (end_at r' n) new
+          → (CameLate r' n × (new ≡ [])) ⊎ JobStarts words file st en pr most most_output (name_at mode n) before (events_at r' n) (end_at r' n) new
       put (inl late) = inl late
-      put (inr h) = inr (job_before words file st en pr most most_output (name_at mode n) (starts_upto n lane.starts) before (events_at r' n).reader (end_at r' n) new
-          (subst (λ (b : Option BayOf). JobStarts words file st en pr most most_output (name_at mode n) b (events_at r' n).reader (end_at r' n) new) lane.told h))
+      put (inr h) = inr (job_before words file st en pr most most_output (name_at mode n) (starts_upto n lane.starts) before (events_at r' n) (end_at r' n) new
+          (subst (λ (b : Option BayOf). JobStarts words file st en pr most most_output (name_at mode n) b (events_at r' n) (end_at r' n) new) lane.told h))
 
       here : At n
-      here = subst (λ (l : List StartOf). (CameLate r' n × (l ≡ [])) ⊎ JobStarts words file st en pr most most_output (name_at mode n) before (events_at r' n).reader (end_at r' n) l)
+      here = subst (λ (l : List StartOf). (CameLate r' n × (l ≡ [])) ⊎ JobStarts words file st en pr most most_output (name_at mode n) before (events_at r' n) (end_at r' n) l)
           (sym (with_job_there n new lane.starts)) (put job)
 
       earlier : (j : ℕ) → j < n
-          → (CameLate r j × (lane.starts j ≡ [])) ⊎ JobStarts words file st en pr most most_output (name_at mode j) before (events_at r j).reader (end_at r j) (lane.starts j)
+          → (CameLate r j × (lane.starts j ≡ [])) ⊎ JobStarts words file st en pr most most_output (name_at mode j) before (events_at r j) (end_at r j) (lane.starts j)
           → At j
       earlier j lt (inl late) = inl (late_stands n r r' j stand lt late.0, with_job_below n new lane.starts j lt ∙ late.1)
       earlier j lt (inr h) = inr (
-          subst (λ (l : List StartOf). JobStarts words file st en pr most most_output (name_at mode j) before (events_at r' j).reader (end_at r' j) l) (sym (with_job_below n new lane.starts j lt))
-          (subst (λ (e : JobEnd T). JobStarts words file st en pr most most_output (name_at mode j) before (events_at r' j).reader e (lane.starts j)) (sym (stand j lt).0)
-          (subst (λ (es : EventsOf T). JobStarts words file st en pr most most_output (name_at mode j) before es.reader (end_at r j) (lane.starts j)) (sym (stand j lt).1) h)))
+          subst (λ (l : List StartOf). JobStarts words file st en pr most most_output (name_at mode j) before (events_at r' j) (end_at r' j) l) (sym (with_job_below n new lane.starts j lt))
+          (subst (λ (e : JobEnd T). JobStarts words file st en pr most most_output (name_at mode j) before (events_at r' j) e (lane.starts j)) (sym (stand j lt).0)
+          (subst (λ (es : EventsOf T). JobStarts words file st en pr most most_output (name_at mode j) before es (end_at r j) (lane.starts j)) (sym (stand j lt).1) h)))
 
 -- the report with one more job: the earlier ones stand
 module _ {T : Type 0} (n : ℕ) (r r' : ReportOf T) (e : JobEnd T) (es : EventsOf T) (ends : length r.ends ≡ n) (is : r' ≡ record r { events = set r.events n es; ends = r.ends ++ e ∷ [] }) where
@@ -193,7 +193,7 @@ module _ {T : Type 0} (n : ℕ) (r r' : ReportOf T) (e : JobEnd T) (ends : lengt
 -- the starts of a job, as its report tells of it
 pub in_report : {T : Type 0} (words : JobName → List (List ℕ)) (file : JobName → List ℕ) (st en pr : JobName → List ℕ → Judged T → Type 0) (most most_output : ℕ) (job : JobName) (bay : Option BayOf) (n : ℕ) (r : ReportOf T)
     (e : JobEnd T) (es : EventsOf T) (starts : List StartOf) → end_at r n ≡ e → events_at r n ≡ es
-    → JobStarts words file st en pr most most_output job bay es.reader e starts → JobStarts words file st en pr most most_output job bay (events_at r n).reader (end_at r n) starts
+    → JobStarts words file st en pr most most_output job bay es e starts → JobStarts words file st en pr most most_output job bay (events_at r n) (end_at r n) starts
 in_report {T} words file st en pr most most_output job bay n r e es starts ended told h =
-    subst (λ (x : JobEnd T). JobStarts words file st en pr most most_output job bay (events_at r n).reader x starts) (sym ended)
-    (subst (λ (x : EventsOf T). JobStarts words file st en pr most most_output job bay x.reader e starts) (sym told) h)
+    subst (λ (x : JobEnd T). JobStarts words file st en pr most most_output job bay (events_at r n) x starts) (sym ended)
+    (subst (λ (x : EventsOf T). JobStarts words file st en pr most most_output job bay x e starts) (sym told) h)

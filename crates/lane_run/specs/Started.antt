@@ -5,18 +5,18 @@ use Rattle.sby_terms.specs.declared.names.JobName.{JobName}
 use Rattle.sby_terms.specs.declared.names.Mode.{Mode}
 use Rattle.race_core.specs.Asking.{name_at}
 use Rattle.race_core.specs.Consistent.{end_at, events_at}
-use Rattle.race_core.specs.Report.{ReportOf}
+use Rattle.race_core.specs.Report.{EventsOf, ReportOf}
 use Rattle.race_core.specs.declared.end.JobEnd.{JobEnd}
 use Rattle.race_core.specs.declared.event.Judged.{Judged}
-use Rattle.race_core.specs.declared.event.LaneEvent.{LaneEvent}
 use Rattle.lane_child.specs.Starting.{ReadsScript, Starts, with_starts}
 use Rattle.lane_run.specs.Done.{CameLate}
 
--- The starts of one job: none or one, which has its words and its file; what its reader read is of the script that the bay tells for it.
+-- The starts of one job: none or one, which has its words and its file; what its reader read is of the script that the bay tells for it; and
+-- until its reader was done, its child was killed by its keeper alone.
 abbrev pub JobStarts : {T : Type 0} → (JobName → List (List ℕ)) → (JobName → List ℕ) → (stands ends proves : JobName → List ℕ → Judged T → Type 0) → ℕ → ℕ → JobName
-    → Option BayOf → List (LaneEvent T) → JobEnd T → List StartOf → Type 0
-JobStarts words file stands ends proves most most_output job bay events e starts =
-    Starts job (words job) (file job) (ReadsScript (stands job) (ends job) (proves job) bay job most most_output events) events e starts
+    → Option BayOf → EventsOf T → JobEnd T → List StartOf → Type 0
+JobStarts words file stands ends proves most most_output job bay es e starts =
+    Starts job (words job) (file job) (ReadsScript (stands job) (ends job) (proves job) bay job most most_output es.reader) es.reader es.keeper e starts
 
 -- the starts of the first jobs, one job's behind the other's
 abbrev pub starts_upto : ℕ → (ℕ → List StartOf) → List StartOf
@@ -30,4 +30,4 @@ pub record LaneStarts {T : Type 0} (words : JobName → List (List ℕ)) (file :
   pub told : now ≡ option_map (with_starts (starts_upto n starts)) before
   pub each : (j : ℕ) → j < n
       → (CameLate r j × (starts j ≡ []))
-      ⊎ JobStarts words file stands ends proves most most_output (name_at mode j) before (events_at r j).reader (end_at r j) (starts j)
+      ⊎ JobStarts words file stands ends proves most most_output (name_at mode j) before (events_at r j) (end_at r j) (starts j)

@@ -61,7 +61,7 @@ fn do_job<
     ensures faults { JobFaults (record { starts = L.start_faults bay.old; reads = L.read_faults bay.old; holds = L.hold_faults bay.old }) (record { starts = L.start_faults bay.new; reads = L.read_faults bay.new; holds = L.hold_faults bay.new }) result.end }
     ensures starts { (starts : List StartOf) × (L.told bay.new ≡ option_map (with_starts starts) (L.told bay.old))
         × JobStarts (M.words task.now.makes.now report.now.lane) (M.file task.now.makes.now) (M.stands task.now.makes.now report.now.lane) (M.ends task.now.makes.now report.now.lane) (M.proves task.now.makes.now report.now.lane)
-        (M.most task.now.makes.now) (M.most_output task.now.makes.now report.now.lane) (name_at task.now.mode place) (L.told bay.old) result.events.events result.end starts }
+        (M.most task.now.makes.now) (M.most_output task.now.makes.now report.now.lane) (name_at task.now.mode place) (L.told bay.old) (record { reader = result.events.events; keeper = keeper.new.events }) result.end starts }
 {
     let terms = task.terms(place);
     let watch = Watch {
@@ -148,7 +148,7 @@ fn run_job<
     ensures stand { Stand place report.old report.new }
     ensures starts { (starts : List StartOf) × (L.told bay.new ≡ option_map (with_starts starts) (L.told bay.old))
         × JobStarts (M.words task.now.makes.now report.old.lane) (M.file task.now.makes.now) (M.stands task.now.makes.now report.old.lane) (M.ends task.now.makes.now report.old.lane) (M.proves task.now.makes.now report.old.lane)
-        (M.most task.now.makes.now) (M.most_output task.now.makes.now report.old.lane) (name_at task.now.mode place) (L.told bay.old) (events_at report.new place).reader (end_at report.new place) starts }
+        (M.most task.now.makes.now) (M.most_output task.now.makes.now report.old.lane) (name_at task.now.mode place) (L.told bay.old) (events_at report.new place) (end_at report.new place) starts }
 {
     let Ok(reader) = EventList::new(alloc, 1) else {
         return want_lists(task, place, report);
@@ -199,7 +199,7 @@ fn run_next<
     ensures stand { Stand place report.old report.new }
     ensures starts { (starts : List StartOf) × (L.told bay.new ≡ option_map (with_starts starts) (L.told bay.old))
         × ((CameLate report.new place × (starts ≡ [])) ⊎ JobStarts (M.words task.now.makes.now report.old.lane) (M.file task.now.makes.now) (M.stands task.now.makes.now report.old.lane) (M.ends task.now.makes.now report.old.lane) (M.proves task.now.makes.now report.old.lane)
-        (M.most task.now.makes.now) (M.most_output task.now.makes.now report.old.lane) (name_at task.now.mode place) (L.told bay.old) (events_at report.new place).reader (end_at report.new place) starts) }
+        (M.most task.now.makes.now) (M.most_output task.now.makes.now report.old.lane) (name_at task.now.mode place) (L.told bay.old) (events_at report.new place) (end_at report.new place) starts) }
 {
     match lasting_end(report.ends()) {
         Some(end) => report.push_end(end),

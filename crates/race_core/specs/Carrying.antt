@@ -12,7 +12,19 @@ use Rattle.race_core.specs.declared.end.JobEnd.TheVariants as end
 abbrev pub Looked : {T : Type 0} → ℕ → T → List (LaneEvent T) → Type 0
 Looked c f [] = ⊥
 Looked c f (event.Look d known ∷ es) = ((d ≡ c) × (known ≡ Some f)) ⊎ Looked c f es
-Looked c f (e ∷ es) = Looked c f es
+Looked c f (event.Read n p ∷ es) = Looked c f es
+Looked c f (event.File n p ∷ es) = Looked c f es
+Looked c f (event.Settle won ∷ es) = Looked c f es
+Looked c f (event.ReaderMemory ∷ es) = Looked c f es
+Looked c f (event.Turns n ∷ es) = Looked c f es
+Looked c f (event.Poll p ∷ es) = Looked c f es
+Looked c f (event.Clock t ∷ es) = Looked c f es
+Looked c f (event.Kill ∷ es) = Looked c f es
+Looked c f (event.KeeperMemory ∷ es) = Looked c f es
+Looked c f (event.Took ∷ es) = Looked c f es
+Looked c f (event.Start ∷ es) = Looked c f es
+Looked c f (event.Finish ∷ es) = Looked c f es
+Looked c f (event.Gave ∷ es) = Looked c f es
 
 -- the lane knew this finding by the events of an earlier job: its own, or one that a look showed
 abbrev pub KnewBy : {T : Type 0} → (ℕ → EventsOf T) → ℕ → T → Type 0

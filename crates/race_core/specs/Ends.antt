@@ -39,7 +39,7 @@ NoReason (keeper.Killed why) = ⊥
 NoReason keeper.Wrong = ⊥
 
 -- What a reader came to gives way to the kill: an unknown, or an early end, that came only with the stream's end; so does an output
--- that ended before its proof file was terms for.
+-- that ended before its proof file was asked for.
 abbrev pub Yields : {T : Type 0} → Reader T → Type 0
 Yields (reader.Unknown b) = b ≡ by.Close
 Yields (reader.Bad number at b) = (b ≡ by.Close) × (number ≡ 48)
@@ -53,9 +53,9 @@ Yields reader.Failed = ⊥
 Yields reader.Short = ⊥
 Yields reader.Wrong = ⊥
 
--- the reader has an end of its own
+-- The reader has an end of its own. A finding is one once it is settled.
 abbrev pub HasEnd : {T : Type 0} → Reader T → JobEnd T → Type 0
-HasEnd (reader.Holding f b) e = e ≡ end.Found f
+HasEnd (reader.Holding f b) e = ⊥
 HasEnd (reader.Found f b won) e = e ≡ end.Found f
 HasEnd (reader.Unknown b) e = e ≡ end.Unknown
 HasEnd (reader.Bad number at b) e = e ≡ end.Bad number at
@@ -70,11 +70,29 @@ HasEnd reader.Wrong e = ⊥
 -- nothing was read: the job has no child
 abbrev pub IsUnread : {T : Type 0} → Reader T → Type 0
 IsUnread reader.Fresh = Unit
-IsUnread r = ⊥
+IsUnread reader.Reading = ⊥
+IsUnread reader.Asking = ⊥
+IsUnread reader.Unjudged = ⊥
+IsUnread (reader.Holding f b) = ⊥
+IsUnread (reader.Found f b won) = ⊥
+IsUnread (reader.Unknown b) = ⊥
+IsUnread (reader.Bad number at b) = ⊥
+IsUnread reader.Failed = ⊥
+IsUnread reader.Short = ⊥
+IsUnread reader.Wrong = ⊥
 
 abbrev pub IsShort : {T : Type 0} → Reader T → Type 0
 IsShort reader.Short = Unit
-IsShort r = ⊥
+IsShort reader.Fresh = ⊥
+IsShort reader.Reading = ⊥
+IsShort reader.Asking = ⊥
+IsShort reader.Unjudged = ⊥
+IsShort (reader.Holding f b) = ⊥
+IsShort (reader.Found f b won) = ⊥
+IsShort (reader.Unknown b) = ⊥
+IsShort (reader.Bad number at b) = ⊥
+IsShort reader.Failed = ⊥
+IsShort reader.Wrong = ⊥
 
 -- the reader is over, and leaves the end to what comes behind it
 abbrev pub Leaves : {T : Type 0} → Reader T → Keeper T → Type 0

@@ -75,7 +75,16 @@ reader_after (event.Read n p) r = after_read n p r
 reader_after (event.File n p) r = after_file p r
 reader_after (event.Settle won) r = after_settle won r
 reader_after event.ReaderMemory r = after_want r
-reader_after e r = reader.Wrong
+reader_after (event.Turns n) r = reader.Wrong
+reader_after (event.Poll p) r = reader.Wrong
+reader_after (event.Clock t) r = reader.Wrong
+reader_after (event.Look c known) r = reader.Wrong
+reader_after event.Kill r = reader.Wrong
+reader_after event.KeeperMemory r = reader.Wrong
+reader_after event.Took r = reader.Wrong
+reader_after event.Start r = reader.Wrong
+reader_after event.Finish r = reader.Wrong
+reader_after event.Gave r = reader.Wrong
 
 -- a keeper that has no reason yet gets one
 abbrev pub comes_due : {T : Type 0} → Reason T → Keeper T → Keeper T
@@ -128,7 +137,7 @@ abbrev pub after_kill : {T : Type 0} → Keeper T → Keeper T
 after_kill (keeper.Due why) = keeper.Killed why
 after_kill k = keeper.Wrong
 
--- the keeper after one of its events; those of the allowance leave it
+-- The keeper after one of its events. Those of the allowance are Wrong, since no lane waits for a place yet.
 abbrev pub keeper_after : {T : Type 0} → Terms T → LaneEvent T → Keeper T → Keeper T
 keeper_after a (event.Poll polled.Failed) k = comes_due reason.Fault k
 keeper_after a (event.Poll polled.Exited) k = turns k
@@ -137,11 +146,14 @@ keeper_after a (event.Clock r) k = cond (shows_limit a.start a.limit r) (comes_d
 keeper_after a (event.Look c known) k = after_look (c == a.cell) known (tells_ending (ending a (c == a.cell) k) known) k
 keeper_after a event.Kill k = after_kill k
 keeper_after a event.KeeperMemory k = comes_due reason.Memory k
-keeper_after a event.Took k = k
-keeper_after a event.Start k = k
-keeper_after a event.Finish k = k
-keeper_after a event.Gave k = k
-keeper_after a e k = keeper.Wrong
+keeper_after a event.Took k = keeper.Wrong
+keeper_after a event.Start k = keeper.Wrong
+keeper_after a event.Finish k = keeper.Wrong
+keeper_after a event.Gave k = keeper.Wrong
+keeper_after a (event.Read n p) k = keeper.Wrong
+keeper_after a (event.File n p) k = keeper.Wrong
+keeper_after a (event.Settle won) k = keeper.Wrong
+keeper_after a event.ReaderMemory k = keeper.Wrong
 
 -- what is held of the allowance, after one of the keeper's events
 abbrev pub place_after : {T : Type 0} → LaneEvent T → Place → Place
@@ -154,7 +166,16 @@ place_after event.Took p = place.Wrong
 place_after event.Start p = place.Wrong
 place_after event.Finish p = place.Wrong
 place_after event.Gave p = place.Wrong
-place_after e p = p
+place_after (event.Read n p) q = q
+place_after (event.File n p) q = q
+place_after (event.Settle won) q = q
+place_after event.ReaderMemory q = q
+place_after (event.Turns n) q = q
+place_after (event.Poll p) q = q
+place_after (event.Clock t) q = q
+place_after (event.Look c known) q = q
+place_after event.Kill q = q
+place_after event.KeeperMemory q = q
 
 -- the parts after a list of events
 abbrev pub reader_from : {T : Type 0} → Reader T → List (LaneEvent T) → Reader T
@@ -174,8 +195,21 @@ keeper_of a events = keeper_from a keeper.Fresh events.keeper
 -- no event came that can't come there
 abbrev pub RightReader : {T : Type 0} → Reader T → Type 0
 RightReader reader.Wrong = ⊥
-RightReader r = Unit
+RightReader reader.Fresh = Unit
+RightReader reader.Reading = Unit
+RightReader reader.Asking = Unit
+RightReader reader.Unjudged = Unit
+RightReader (reader.Holding f b) = Unit
+RightReader (reader.Found f b won) = Unit
+RightReader (reader.Unknown b) = Unit
+RightReader (reader.Bad number at b) = Unit
+RightReader reader.Failed = Unit
+RightReader reader.Short = Unit
 
 abbrev pub RightKeeper : {T : Type 0} → Keeper T → Type 0
 RightKeeper keeper.Wrong = ⊥
-RightKeeper k = Unit
+RightKeeper keeper.Fresh = Unit
+RightKeeper keeper.Looked = Unit
+RightKeeper keeper.Turning = Unit
+RightKeeper (keeper.Due why) = Unit
+RightKeeper (keeper.Killed why) = Unit

@@ -228,8 +228,14 @@ pub fn keeper_step<T: Settled + Drop>(
             _ => Keeper::Wrong,
         },
         LaneEvent::KeeperMemory => due(Reason::Memory, part),
-        LaneEvent::Took | LaneEvent::Start | LaneEvent::Finish | LaneEvent::Gave => part,
-        _ => Keeper::Wrong,
+        LaneEvent::Took
+        | LaneEvent::Start
+        | LaneEvent::Finish
+        | LaneEvent::Gave
+        | LaneEvent::Read { .. }
+        | LaneEvent::File { .. }
+        | LaneEvent::Settle { .. }
+        | LaneEvent::ReaderMemory => Keeper::Wrong,
     }
 }
 

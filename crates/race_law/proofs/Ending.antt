@@ -35,7 +35,7 @@ found-same f g e = cc
 pub end-found : {T : Type 0} (P : T → Type 0) (script : Option (Script T)) (taken : ℕ) (K : Type 0) (r : Reader T) (f : T) → FromScript P script taken K r → HasEnd r (end.Found f)
     → OfScript script (λ s. P f × ((plain s ≡ progress.Found f) ⊎ K))
 unfolding kind
-end-found P script taken K (reader.Holding g b) f o h = subst (λ x. OfScript script (λ s. P x × ((plain s ≡ progress.Found x) ⊎ K))) (sym (found-same f g h)) o
+end-found P script taken K (reader.Holding g b) f o h = absurd h
 end-found P script taken K (reader.Found g b won) f o h = subst (λ x. OfScript script (λ s. P x × ((plain s ≡ progress.Found x) ⊎ K))) (sym (found-same f g h)) o
 end-found P script taken K (reader.Unknown b) f o h = absurd (apart 0 1 (omega arith) (ap (λ x. kind x) h))
 end-found P script taken K (reader.Bad number at b) f o h = absurd (apart 0 2 (omega arith) (ap (λ x. kind x) h))
@@ -47,7 +47,7 @@ pub end-unknown : {T : Type 0} (P : T → Type 0) (script : Option (Script T)) (
     → OfScript script (λ s. (plain s ≡ progress.Unknown) ⊎ (K × Yields r))
 unfolding kind
 end-unknown P script taken K (reader.Unknown b) o h = o
-end-unknown P script taken K (reader.Holding g b) o h = absurd (apart 0 1 (omega arith) (sym (ap (λ x. kind x) h)))
+end-unknown P script taken K (reader.Holding g b) o h = absurd h
 end-unknown P script taken K (reader.Found g b won) o h = absurd (apart 0 1 (omega arith) (sym (ap (λ x. kind x) h)))
 end-unknown P script taken K (reader.Bad number at b) o h = absurd (apart 1 2 (omega arith) (ap (λ x. kind x) h))
 end-unknown P script taken K reader.Failed o h = absurd (apart 1 3 (omega arith) (ap (λ x. kind x) h))
@@ -62,7 +62,7 @@ pub end-bad : {T : Type 0} (P : T → Type 0) (script : Option (Script T)) (take
 unfolding kind
 end-bad P script taken K (reader.Bad m x b) n a o h = let same = bad-same n a m x (end.Bad n a) refl h in subst (λ (i : ℕ). OfScript script (λ s. (plain s ≡ progress.Bad i a) ⊎ K)) (sym same.0)
     (subst (λ (j : ℕ). OfScript script (λ s. (plain s ≡ progress.Bad m j) ⊎ K)) (sym same.1) o)
-end-bad P script taken K (reader.Holding g b) n a o h = absurd (apart 0 2 (omega arith) (sym (ap (λ x. kind x) h)))
+end-bad P script taken K (reader.Holding g b) n a o h = absurd h
 end-bad P script taken K (reader.Found g b won) n a o h = absurd (apart 0 2 (omega arith) (sym (ap (λ x. kind x) h)))
 end-bad P script taken K (reader.Unknown b) n a o h = absurd (apart 1 2 (omega arith) (sym (ap (λ x. kind x) h)))
 end-bad P script taken K reader.Failed n a o h = absurd (apart 2 3 (omega arith) (ap (λ x. kind x) h))

@@ -1,5 +1,5 @@
 -- What every step of a world keeps, of one lane's job.
-use Rattle.std.specs.Prelude.{◌≡◌, ◌⊎◌, ℕ, Bool, true, List, [], ◌∷◌, Option, Some}
+use Rattle.std.specs.Prelude.{◌≡◌, ◌⊎◌, ℕ, Bool, true, false, List, [], ◌∷◌, Option, Some, None}
 use Rattle.race_core.specs.Ends.{IsKilled}
 use Rattle.race_core.specs.Report.{EventsOf}
 use Rattle.race_core.specs.Parts.{Terms, reader_of, keeper_of, RightReader, RightKeeper}
@@ -25,29 +25,60 @@ FromScript P script taken K (reader.Holding f b) = OfScript script (λ s. P f ×
 FromScript P script taken K (reader.Found f b won) = OfScript script (λ s. P f × ((plain s ≡ progress.Found f) ⊎ K))
 FromScript P script taken K (reader.Unknown b) = OfScript script (λ s. (plain s ≡ progress.Unknown) ⊎ (K × (b ≡ by.Close)))
 FromScript P script taken K (reader.Bad number at b) = OfScript script (λ s. (plain s ≡ progress.Bad number at) ⊎ K)
-FromScript P script taken K r = Unit
+FromScript P script taken K reader.Unjudged = Unit
+FromScript P script taken K reader.Failed = Unit
+FromScript P script taken K reader.Short = Unit
+FromScript P script taken K reader.Wrong = Unit
 
 -- A keeper's reason is a finding that stands in a cell and ends the job, or else Q.
 abbrev pub ReasonOk : {T : Type 0} → (T → Bool) → (ℕ → Option T) → Type 0 → Reason T → Type 0
 ReasonOk needless cells Q (reason.Skip f) = (needless f ≡ true) × ((c : ℕ) × (cells c ≡ Some f))
 ReasonOk needless cells Q (reason.Needless f) = (needless f ≡ true) × ((c : ℕ) × (cells c ≡ Some f))
-ReasonOk needless cells Q why = Q
+ReasonOk needless cells Q (reason.Limit t) = Q
+ReasonOk needless cells Q reason.Fault = Q
+ReasonOk needless cells Q reason.Memory = Q
 
 abbrev pub KeeperOk : {T : Type 0} → (T → Bool) → (ℕ → Option T) → Type 0 → Keeper T → Type 0
 KeeperOk needless cells Q (keeper.Due why) = ReasonOk needless cells Q why
 KeeperOk needless cells Q (keeper.Killed why) = ReasonOk needless cells Q why
-KeeperOk needless cells Q k = Unit
+KeeperOk needless cells Q keeper.Fresh = Unit
+KeeperOk needless cells Q keeper.Looked = Unit
+KeeperOk needless cells Q keeper.Turning = Unit
+KeeperOk needless cells Q keeper.Wrong = Unit
 
 -- what the looks of a list know stands in the cells
 abbrev pub LooksOk : {T : Type 0} → (ℕ → Option T) → List (LaneEvent T) → Type 0
 LooksOk cells [] = Unit
 LooksOk cells (event.Look c (Some f) ∷ es) = (cells c ≡ Some f) × LooksOk cells es
-LooksOk cells (e ∷ es) = LooksOk cells es
+LooksOk cells (event.Look c None ∷ es) = LooksOk cells es
+LooksOk cells (event.Read n p ∷ es) = LooksOk cells es
+LooksOk cells (event.File n p ∷ es) = LooksOk cells es
+LooksOk cells (event.Settle won ∷ es) = LooksOk cells es
+LooksOk cells (event.ReaderMemory ∷ es) = LooksOk cells es
+LooksOk cells (event.Turns n ∷ es) = LooksOk cells es
+LooksOk cells (event.Poll p ∷ es) = LooksOk cells es
+LooksOk cells (event.Clock t ∷ es) = LooksOk cells es
+LooksOk cells (event.Kill ∷ es) = LooksOk cells es
+LooksOk cells (event.KeeperMemory ∷ es) = LooksOk cells es
+LooksOk cells (event.Took ∷ es) = LooksOk cells es
+LooksOk cells (event.Start ∷ es) = LooksOk cells es
+LooksOk cells (event.Finish ∷ es) = LooksOk cells es
+LooksOk cells (event.Gave ∷ es) = LooksOk cells es
 
 -- what a settle won stands in the job's cell
 abbrev pub WonOk : {T : Type 0} → (ℕ → Option T) → ℕ → Reader T → Type 0
 WonOk cells j (reader.Found f b true) = cells j ≡ Some f
-WonOk cells j r = Unit
+WonOk cells j (reader.Found f b false) = Unit
+WonOk cells j reader.Fresh = Unit
+WonOk cells j reader.Reading = Unit
+WonOk cells j reader.Asking = Unit
+WonOk cells j reader.Unjudged = Unit
+WonOk cells j (reader.Holding f b) = Unit
+WonOk cells j (reader.Unknown b) = Unit
+WonOk cells j (reader.Bad number at b) = Unit
+WonOk cells j reader.Failed = Unit
+WonOk cells j reader.Short = Unit
+WonOk cells j reader.Wrong = Unit
 
 -- What every step keeps of one lane's job. Q is what noise leaves open: nothing in a quiet run, all in another.
 pub record SeatInv {T : Type 0} (P : T → Type 0) (Q : Type 0) (script : Option (Script T)) (a : Terms T) (j : ℕ) (es : EventsOf T) (cells : ℕ → Option T) : Type 0 where

@@ -20,7 +20,7 @@ pub record Script (T : Type 0) : Type 0 where
   pub file : Judged T
   pub size : ℕ
 
--- what a job is terms, by its place, and the script of each lane's job; None where the lane doesn't serve it
+-- what a job is asked under, by its place, and the script of each lane's job; None where the lane doesn't serve it
 pub record Race (T : Type 0) : Type 0 where
   pub lanes : ℕ
   pub jobs : ℕ
@@ -41,7 +41,19 @@ pub record Step (T : Type 0) : Type 0 where
 abbrev pub read_bytes : {T : Type 0} → List (LaneEvent T) → ℕ
 read_bytes [] = 0
 read_bytes (event.Read n p ∷ es) = n + read_bytes es
-read_bytes (e ∷ es) = read_bytes es
+read_bytes (event.File n p ∷ es) = read_bytes es
+read_bytes (event.Settle won ∷ es) = read_bytes es
+read_bytes (event.ReaderMemory ∷ es) = read_bytes es
+read_bytes (event.Turns n ∷ es) = read_bytes es
+read_bytes (event.Poll p ∷ es) = read_bytes es
+read_bytes (event.Clock t ∷ es) = read_bytes es
+read_bytes (event.Look c known ∷ es) = read_bytes es
+read_bytes (event.Kill ∷ es) = read_bytes es
+read_bytes (event.KeeperMemory ∷ es) = read_bytes es
+read_bytes (event.Took ∷ es) = read_bytes es
+read_bytes (event.Start ∷ es) = read_bytes es
+read_bytes (event.Finish ∷ es) = read_bytes es
+read_bytes (event.Gave ∷ es) = read_bytes es
 
 -- a read of so many bytes gives this progress, where the script has it, where it failed, or where memory was wanting
 abbrev pub ReadGives : {T : Type 0} → Script T → ℕ → Keeper T → ℕ → Judged T → Type 0
@@ -50,11 +62,14 @@ ReadGives s taken k n progress.Unjudged = Unit
 ReadGives s taken k zero p = (p ≡ s.ended taken) × ((taken ≡ s.size) ⊎ IsKilled k)
 ReadGives s taken k (suc n) p = (p ≡ s.at (taken + suc n)) × (taken + suc n ≤ s.size)
 
--- the proof file is terms for after the whole output, where the keeper didn't kill
+-- the proof file is asked for after the whole output, where the keeper didn't kill
 abbrev pub FileGives : {T : Type 0} → Script T → ℕ → Keeper T → Judged T → Type 0
 FileGives s taken k progress.Failed = IsKilled k → ⊥
 FileGives s taken k progress.Unjudged = IsKilled k → ⊥
-FileGives s taken k p = (p ≡ s.file) × (taken ≡ s.size) × (IsKilled k → ⊥)
+FileGives s taken k progress.More = (progress.More ≡ s.file) × (taken ≡ s.size) × (IsKilled k → ⊥)
+FileGives s taken k (progress.Found f) = ((progress.Found f) ≡ s.file) × (taken ≡ s.size) × (IsKilled k → ⊥)
+FileGives s taken k progress.Unknown = (progress.Unknown ≡ s.file) × (taken ≡ s.size) × (IsKilled k → ⊥)
+FileGives s taken k (progress.Bad number at) = ((progress.Bad number at) ≡ s.file) × (taken ≡ s.size) × (IsKilled k → ⊥)
 
 -- a served job
 abbrev pub OfScript : {T : Type 0} → Option (Script T) → (Script T → Type 0) → Type 0
@@ -64,7 +79,16 @@ OfScript (Some s) P = P s
 -- the reader holds this finding
 abbrev pub Holds : {T : Type 0} → Reader T → T → Type 0
 Holds (reader.Holding g b) f = g ≡ f
-Holds r f = ⊥
+Holds reader.Fresh f = ⊥
+Holds reader.Reading f = ⊥
+Holds reader.Asking f = ⊥
+Holds reader.Unjudged f = ⊥
+Holds (reader.Found g b won) f = ⊥
+Holds (reader.Unknown b) f = ⊥
+Holds (reader.Bad number at b) f = ⊥
+Holds reader.Failed f = ⊥
+Holds reader.Short f = ⊥
+Holds reader.Wrong f = ⊥
 
 -- A set-once exchange: it wins on an empty cell, and leaves a full one.
 abbrev pub Exchanges : {T : Type 0} → ℕ → Reader T → Bool → (ℕ → Option T) → (ℕ → Option T) → Type 0
@@ -82,7 +106,16 @@ Meets script job es k (event.Read n p) before after = OfScript script (λ s. Rea
 Meets script job es k (event.File n p) before after = OfScript script (λ s. FileGives s (read_bytes es.reader) k p) × Stays before after
 Meets script job es k (event.Settle won) before after = Exchanges job (reader_of es) won before after
 Meets script job es k (event.Look c known) before after = (known ≡ before c) × Stays before after
-Meets script job es k e before after = Stays before after
+Meets script job es k event.ReaderMemory before after = Stays before after
+Meets script job es k (event.Turns n) before after = Stays before after
+Meets script job es k (event.Poll p) before after = Stays before after
+Meets script job es k (event.Clock t) before after = Stays before after
+Meets script job es k event.Kill before after = Stays before after
+Meets script job es k event.KeeperMemory before after = Stays before after
+Meets script job es k event.Took before after = Stays before after
+Meets script job es k event.Start before after = Stays before after
+Meets script job es k event.Finish before after = Stays before after
+Meets script job es k event.Gave before after = Stays before after
 
 -- the events with one more, of the reader or of the keeper
 abbrev pub with_event : {T : Type 0} → LaneEvent T → EventsOf T → EventsOf T
@@ -90,7 +123,16 @@ with_event (event.Read n p) es = record es { reader = es.reader ++ event.Read n 
 with_event (event.File n p) es = record es { reader = es.reader ++ event.File n p ∷ [] }
 with_event (event.Settle won) es = record es { reader = es.reader ++ event.Settle won ∷ [] }
 with_event event.ReaderMemory es = record es { reader = es.reader ++ event.ReaderMemory ∷ [] }
-with_event e es = record es { keeper = es.keeper ++ e ∷ [] }
+with_event (event.Turns n) es = record es { keeper = es.keeper ++ event.Turns n ∷ [] }
+with_event (event.Poll p) es = record es { keeper = es.keeper ++ event.Poll p ∷ [] }
+with_event (event.Clock t) es = record es { keeper = es.keeper ++ event.Clock t ∷ [] }
+with_event (event.Look c known) es = record es { keeper = es.keeper ++ event.Look c known ∷ [] }
+with_event event.Kill es = record es { keeper = es.keeper ++ event.Kill ∷ [] }
+with_event event.KeeperMemory es = record es { keeper = es.keeper ++ event.KeeperMemory ∷ [] }
+with_event event.Took es = record es { keeper = es.keeper ++ event.Took ∷ [] }
+with_event event.Start es = record es { keeper = es.keeper ++ event.Start ∷ [] }
+with_event event.Finish es = record es { keeper = es.keeper ++ event.Finish ∷ [] }
+with_event event.Gave es = record es { keeper = es.keeper ++ event.Gave ∷ [] }
 
 -- One step of the world: the event is met, it makes no part Wrong, and it is the only one that is new.
 pub record Steps {T : Type 0} (race : Race T) (w : World T) (s : Step T) (v : World T) : Type 0 where

@@ -27,17 +27,17 @@ script_next i ss s other task lane job h e t =
     unfolded i ss s other task lane job h e ∙ (ap (λ b. cond b s.script (script_at (drop (suc i) ss) other task lane job)) t ∙ ap (λ n. script_at (drop n ss) other task lane job) (sym (add-one i)))
 
 -- what a start gave is put at its place
-pub given_set : (place given : ℕ) (starts : List StartOf) (s : StartOf) → place < length starts → s ≡ get_or starts place s
-    → set starts place (gave given s) ≡ with_given place given starts
-given_set place given [] s h e = absurd (omega arith)
-given_set zero given (x ∷ starts) s h e = ap (λ y. gave given y ∷ starts) e
-given_set (suc place) given (x ∷ starts) s h e = ap (λ rest. x ∷ rest) (given_set place given starts s (omega arith) e)
+pub given_set : (place given : ℕ) (killed : Option ℕ) (starts : List StartOf) (s : StartOf) → place < length starts → s ≡ get_or starts place s
+    → set starts place (gave given killed s) ≡ with_given place given killed starts
+given_set place given killed [] s h e = absurd (omega arith)
+given_set zero given killed (x ∷ starts) s h e = ap (λ y. gave given killed y ∷ starts) e
+given_set (suc place) given killed (x ∷ starts) s h e = ap (λ rest. x ∷ rest) (given_set place given killed starts s (omega arith) e)
 
 -- past the starts nothing is
-pub given_past : (place given : ℕ) (starts : List StartOf) → length starts ≤ place → with_given place given starts ≡ starts
-given_past place given [] h = refl
-given_past zero given (x ∷ starts) h = absurd (omega arith)
-given_past (suc place) given (x ∷ starts) h = ap (λ rest. x ∷ rest) (given_past place given starts (omega arith))
+pub given_past : (place given : ℕ) (killed : Option ℕ) (starts : List StartOf) → length starts ≤ place → with_given place given killed starts ≡ starts
+given_past place given killed [] h = refl
+given_past zero given killed (x ∷ starts) h = absurd (omega arith)
+given_past (suc place) given killed (x ∷ starts) h = ap (λ rest. x ∷ rest) (given_past place given killed starts (omega arith))
 
 abbrev pipe_at : ℕ → ℕ → List ℕ → PipeOf
 pipe_at place given bytes = record { place = place; given = given; bytes = bytes; instead = None }

@@ -1,5 +1,6 @@
 -- What the parts of a child tell.
-use Rattle.std.specs.Prelude.{◌≡◌, ℕ, zero, suc, ◌+◌, List, [], ◌∷◌, ◌++◌, length, take, drop, Option, None, Some, option_map, Result, Ok, Err, IfSome, IsSomeAnd, ◌⊎◌}
+use Rattle.std.specs.Prelude.{◌≡◌, ℕ, zero, suc, ◌+◌, List, [], ◌∷◌, ◌++◌, length, take, drop, Option, None, Some, option_map, Result, Ok, Err, IfSome, IsSome, IsSomeAnd, ◌⊎◌}
+use Rattle.sby_edge.specs.Cause.{CountsOf}
 use Rattle.sby_edge.specs.declared.outside.Fail.{Fail}
 use Rattle.sby_edge.specs.declared.outside.Fail.TheVariants.{Failed as FailFailed, Memory as FailMemory}
 use Rattle.sby_edge.specs.declared.script.Exit.{Exit}
@@ -12,17 +13,42 @@ use Rattle.sby_terms.specs.declared.names.JobName.{JobName}
 abbrev pub YardOf : Type 0
 YardOf = ℕ → ℕ → JobName → ScriptOf
 
--- a start that was asked for, with the job's bytes that it was given, and from its finish on how many bytes its pipe gave
+-- A start that was asked for, with the job's bytes that it was given. From its finish on: how many bytes its pipe gave; and, if its child
+-- was killed, how many it had given then.
 pub record StartOf : Type 0 where
   pub job : JobName
   pub words : List (List ℕ)
   pub bytes : List ℕ
   pub given : Option ℕ
+  pub killed : Option ℕ
 
--- a bay tells its lane's scripts and its starts, the first one first
+-- a bay tells its task and its lane, the lane's scripts and its starts, the first one first
 pub record BayOf : Type 0 where
+  pub task : ℕ
+  pub lane : ℕ
   pub scripts : JobName → ScriptOf
   pub starts : List StartOf
+
+-- a bay of a task's lane before its first start, where the yard tells its scripts
+abbrev pub new_bay : Option YardOf → ℕ → ℕ → Option BayOf
+new_bay told task lane = option_map (λ scripts. record { task = task; lane = lane; scripts = scripts task lane; starts = [] }) told
+
+-- what a bay that came back has left: its task and its lane, its starts, and its counts of failed calls
+pub record LaneOf : Type 0 where
+  pub task : ℕ
+  pub lane : ℕ
+  pub starts : List StartOf
+  pub counts : CountsOf
+
+-- what a bay leaves, where it tells
+abbrev pub left_by : Option BayOf → CountsOf → List LaneOf
+left_by None counts = []
+left_by (Some bay) counts = record { task = bay.task; lane = bay.lane; starts = bay.starts; counts = counts } ∷ []
+
+-- what a yard tells of the bays that came back, when these lanes more did: they stand behind the earlier ones; or, since memory was
+-- wanting to keep them, it tells no more
+abbrev pub IsLogged : List LaneOf → Option (List LaneOf) → Option (List LaneOf) → Type 0
+IsLogged lanes before now = (now ≡ option_map (λ earlier. earlier ++ lanes) before) ⊎ (now ≡ None)
 
 -- a pipe tells the place of its start among those of its bay, how many bytes it gave, and the bytes left up to its script's
 -- stall; these are `bytes`, or, while the gate isn't decided, it may be `instead`
@@ -65,29 +91,40 @@ Reads (Some before) (Some now) buffer (Ok count) = GivesSome before (take count 
 
 -- the bay after a start was asked for; want of memory leaves it
 abbrev pub started : {T : Type 0} → Result T Fail → JobName → List (List ℕ) → List ℕ → BayOf → BayOf
-started (Ok _) job words bytes bay = record bay { starts = bay.starts ++ record { job = job; words = words; bytes = bytes; given = None } ∷ [] }
-started (Err FailFailed) job words bytes bay = record bay { starts = bay.starts ++ record { job = job; words = words; bytes = bytes; given = None } ∷ [] }
+started (Ok _) job words bytes bay = record bay { starts = bay.starts ++ record { job = job; words = words; bytes = bytes; given = None; killed = None } ∷ [] }
+started (Err FailFailed) job words bytes bay = record bay { starts = bay.starts ++ record { job = job; words = words; bytes = bytes; given = None; killed = None } ∷ [] }
 started (Err FailMemory) job words bytes bay = bay
 
--- a start whose pipe gave so many bytes
-abbrev pub gave : ℕ → StartOf → StartOf
-gave given start = record start { given = Some given }
+-- a start whose pipe gave so many bytes, and whose child was killed when it had given so many, if it was
+abbrev pub gave : ℕ → Option ℕ → StartOf → StartOf
+gave given killed start = record start { given = Some given; killed = killed }
 
--- the starts, with so many bytes given at the one at this place
-abbrev pub with_given : ℕ → ℕ → List StartOf → List StartOf
-with_given place given [] = []
-with_given zero given (start ∷ starts) = gave given start ∷ starts
-with_given (suc place) given (start ∷ starts) = start ∷ with_given place given starts
+-- the starts, with that of the one at this place
+abbrev pub with_given : ℕ → ℕ → Option ℕ → List StartOf → List StartOf
+with_given place given killed [] = []
+with_given zero given killed (start ∷ starts) = gave given killed start ∷ starts
+with_given (suc place) given killed (start ∷ starts) = start ∷ with_given place given killed starts
 
 -- what is got of the proof file of a job's child, where the bay tells
 abbrev pub ProofFrom : Option BayOf → JobName → ℕ → Got → Type 0
 ProofFrom None job most got = Unit {0}
 ProofFrom (Some bay) job most got = GotOf (bay.scripts job).proof most got
 
--- the bay after the child of this pipe is finished
-abbrev pub finished : Option PipeOf → BayOf → BayOf
-finished None bay = bay
-finished (Some pipe) bay = record bay { starts = with_given pipe.place pipe.given bay.starts }
+-- the bay after the child of this pipe is finished, which was killed when its pipe had given so many bytes, if it was
+abbrev pub finished : Option PipeOf → Option ℕ → BayOf → BayOf
+finished None killed bay = bay
+finished (Some pipe) killed bay = record bay { starts = with_given pipe.place pipe.given killed bay.starts }
+
+-- a kill by the hold alone: the child was killed when its pipe had given some number of bytes; a first kill stands
+abbrev pub Kills : Option ℕ → Option ℕ → Type 0
+Kills None now = IsSome now
+Kills (Some given) now = now ≡ Some given
+
+-- a child is killed whose pipe is read no more: it has given all that it gives
+abbrev pub KillsAt : Option PipeOf → Option ℕ → Option ℕ → Type 0
+KillsAt None before now = Kills before now
+KillsAt (Some pipe) None now = now ≡ Some pipe.given
+KillsAt (Some pipe) (Some given) now = now ≡ Some given
 
 -- the exit that is known after a call that gave this one, or none; a child has one exit
 abbrev pub Learns : Option Exit → Option Exit → Option Exit → Type 0

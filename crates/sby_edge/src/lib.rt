@@ -21,6 +21,6 @@ pub use none::{NoBay, NoHold, NoPipe, NoYard, StillClock};
 pub use outside::{Fail, Failed, Files, Got, Memory, Sink};
 pub use script::{Call, CallFault, Exit, Gate, Script};
 pub use script_child::{ScriptHold, ScriptPipe};
-pub use script_yard::{ScriptBay, ScriptYard, Started};
+pub use script_yard::{LaneStarts, ScriptBay, ScriptYard, Started};
 pub use scripted::Scripted;
 pub use stage::Stage;

@@ -1,6 +1,6 @@
 // A yard without children, and a clock that stands.
 
-ghost use Rattle.std.specs.Prelude.{◌≡◌, ℕ, ◌<◌, None, true, IsErr};
+ghost use Rattle.std.specs.Prelude.{◌≡◌, ℕ, ◌<◌, None, Some, true, cond, IsErr};
 ghost use Rattle.sby_edge.specs.Cause.{HasCause, HasPlainCause, RisesBy, counted};
 
 use crate::{Clock, Exit, Fail, Failed, Got, Hold, Launch, Memory, Pipe, Yard};
@@ -51,7 +51,8 @@ impl Model for NoHold {
 }
 
 impl Hold for NoHold {
-    ghost is_killed = { λ h. h.is_killed };
+    // The pipe gives nothing.
+    ghost killed = { λ h. cond h.is_killed (Some 0) None };
 
     ghost is_reaped = { λ h. h.is_reaped };
 
@@ -142,6 +143,14 @@ impl Launch for NoBay {
         Err(Fail::Failed)
     }
 
+    fn kill(&self, _pipe: &NoPipe, hold: &mut NoHold) -> Result<(), Failed>
+        ensures fails { IsErr result }
+        ensures calls { hold.new ≡ record hold.old { is_killed = true; faults = counted hold.old.faults } }
+        ensures cause { HasPlainCause hold.old.faults hold.new.faults result }
+    {
+        hold.kill()
+    }
+
     fn finish(&mut self, pipe: NoPipe, hold: NoHold) {
         let NoPipe { faults: reads } = pipe;
         let NoHold {
@@ -197,6 +206,8 @@ impl Yard for NoYard {
     type Bay = NoBay;
 
     ghost told = { λ _. None };
+
+    ghost started = { λ _. None };
 
     ghost start_faults = { λ y. y.starts };
 

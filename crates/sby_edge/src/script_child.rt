@@ -1,6 +1,6 @@
 // The children of a yard of scripts.
 
-ghost use Rattle.std.specs.Prelude.{◌≡◌, ◌<◌, ◌≤◌, ◌+◌, ◌⊎◌, true, false, None, Some, IsSomeAnd, length, option_copied, drop, take};
+ghost use Rattle.std.specs.Prelude.{◌≡◌, ◌<◌, ◌≤◌, ◌+◌, ◌⊎◌, true, None, Some, IsSomeAnd, length, option_copied, drop, take, unwrap_or};
 ghost use Rattle.std.specs.Option.{ForSome};
 ghost use Rattle.sby_edge.specs.Cause.{HasPlainCause, greatest};
 ghost use Rattle.sby_edge.specs.Child.{Learns, PipeOf, Reads};
@@ -135,6 +135,7 @@ impl<'a, R: Wait + SystemClock> Pipe for ScriptPipe<'a, R> {
         }
         copy_from(self.stream, self.given, count, buf);
         self.given += count;
+        self.stage.take(self.rt, self.actor, Turn::Gave(self.given));
         Ok(count)
     }
 }
@@ -145,7 +146,8 @@ pub struct ScriptHold<'a, R: Wait> {
     pub(crate) stage: &'a Stage,
     pub(crate) script: &'a Script,
     pub(crate) actor: usize,
-    pub(crate) is_killed: bool,
+    // How many bytes its pipe had given when it was first killed, if it was.
+    pub(crate) killed: Option<usize>,
     pub(crate) is_reaped: bool,
     pub(crate) polls: u32,
     pub(crate) kills: u32,
@@ -153,8 +155,35 @@ pub struct ScriptHold<'a, R: Wait> {
     pub(crate) faults: u64,
 }
 
+impl<'a, R: Wait> ScriptHold<'a, R> {
+    // How many bytes its pipe has given by now.
+    fn given(&self) -> usize {
+        match self.stage.standing(self.rt, self.actor) {
+            Some(standing) => standing.given,
+            None => 0,
+        }
+    }
+
+    // Asks the child to end, whose pipe has given so many bytes.
+    pub(crate) fn kill_at(&mut self, given: usize) -> Result<(), Failed>
+        ensures killed { self.new.killed ≡ Some (unwrap_or self.old.killed given) }
+        ensures reaped { self.new.is_reaped ≡ self.old.is_reaped }
+        ensures script { self.new.script ≡ self.old.script }
+        ensures cause { HasPlainCause self.old.faults self.new.faults result }
+    {
+        self.killed = Some(self.killed.unwrap_or(given));
+        self.kills = self.kills.saturating_add(1);
+        self.stage.take(self.rt, self.actor, Turn::Killed);
+        if self.script.fails(Call::Kill, self.kills) {
+            self.faults = self.faults.saturating_add(1);
+            return Err(Failed);
+        }
+        Ok(())
+    }
+}
+
 impl<'a, R: Wait> Hold for ScriptHold<'a, R> {
-    ghost is_killed = { λ h. h.is_killed };
+    ghost killed = { λ h. h.killed };
 
     ghost is_reaped = { λ h. h.is_reaped };
 
@@ -177,14 +206,8 @@ impl<'a, R: Wait> Hold for ScriptHold<'a, R> {
     }
 
     fn kill(&mut self) -> Result<(), Failed> {
-        self.is_killed = true;
-        self.kills = self.kills.saturating_add(1);
-        self.stage.take(self.rt, self.actor, Turn::Killed);
-        if self.script.fails(Call::Kill, self.kills) {
-            self.faults = self.faults.saturating_add(1);
-            return Err(Failed);
-        }
-        Ok(())
+        let given = self.given();
+        self.kill_at(given)
     }
 
     fn reap(&mut self) -> Result<Exit, Failed> {

@@ -28,11 +28,15 @@ pub struct Standing {
     pub is_killed: bool,
     // Its pipe gave the stream's end.
     pub has_ended: bool,
+    // How many bytes its pipe gave.
+    pub given: usize,
 }
 
 #[derive(Clone, Copy, Debug, PartialEq, Eq)]
 pub enum Turn {
     Killed,
+    // Its pipe gave so many bytes in all.
+    Gave(usize),
     Ended,
     Reaped,
 }
@@ -57,6 +61,7 @@ impl Actors {
                 has_met,
                 is_killed: false,
                 has_ended: false,
+                given: 0,
             },
         })?;
         for actor in self.list.iter_mut() {
@@ -71,6 +76,7 @@ impl Actors {
         if let Some(actor) = self.list.get_mut(place) {
             match turn {
                 Turn::Killed => actor.standing.is_killed = true,
+                Turn::Gave(given) => actor.standing.given = given,
                 Turn::Ended => actor.standing.has_ended = true,
                 Turn::Reaped => actor.is_live = false,
             }

@@ -88,7 +88,7 @@ fn children_play_their_scripts(rt: HostRuntime) -> Result<(), TestFail> {
     let other = script_of(alloc, b"c ab\n0\n")?;
     let mut scripts = Vec::new(alloc);
     push_two(alloc, &mut scripts)?;
-    let mut yard = ScriptYard::new(&rt, &stage, &scripts, &other);
+    let mut yard = ScriptYard::new(&rt, alloc, &stage, &scripts, &other);
     let answers = [
         played(&mut yard, alloc, 0),
         played(&mut yard, alloc, 1),
@@ -115,7 +115,7 @@ fn failing(
     let mut other = script_of(alloc, b"0\n")?;
     other.faults.push(CallFault { call, nth: 1 })?;
     let scripts = Vec::<Scripted>::new(alloc);
-    let mut yard = ScriptYard::new(rt, &stage, &scripts, &other);
+    let mut yard = ScriptYard::new(rt, alloc, &stage, &scripts, &other);
     played(&mut yard, alloc, 0)
 }
 
@@ -205,7 +205,7 @@ fn gated(
     let mut scripts = Vec::new(alloc);
     push_gated(alloc, &mut scripts, 0)?;
     push_gated(alloc, &mut scripts, 1)?;
-    let mut yard = ScriptYard::new(rt, &stage, &scripts, &other);
+    let mut yard = ScriptYard::new(rt, alloc, &stage, &scripts, &other);
     in_two_bays(&mut yard, alloc, beside)
 }
 
@@ -229,14 +229,17 @@ fn bays_keep_starts_and_get_proofs(rt: HostRuntime) -> Result<(), TestFail> {
     let stage = Stage::new(alloc);
     let other = script_of(alloc, b"0\n")?;
     let scripts = Vec::<Scripted>::new(alloc);
-    let mut yard = ScriptYard::new(&rt, &stage, &scripts, &other);
+    let mut yard = ScriptYard::new(&rt, alloc, &stage, &scripts, &other);
     if let Ok(mut bay) = yard.bay(alloc, 0, 0) {
         let played = play(&mut bay, alloc);
         let given = bay.started().first().map(|start| start.given);
+        let killed = bay.started().first().map(|start| start.killed);
         let proofs = [proof_of(&mut bay, alloc, 3), proof_of(&mut bay, alloc, 1)];
         yard.back(bay);
         assert_eq!(rt; played, Ok((2, 0, Exit::Code(20))));
         assert_eq!(rt; given, Some(Some(2)));
+        assert_eq!(rt; killed, Some(Some(0)));
+        assert_eq!(rt; yard.lanes().map(|lanes| lanes.len()), Some(1));
         assert_eq!(rt; proofs, [Ok((true, 3)), Ok((false, 2))]);
         return Ok(());
     }

@@ -9,6 +9,7 @@ use Rattle.lane_child.specs.Sides.{kept_by}
 use Rattle.race_core.specs.Ends.{IsKilled}
 use Rattle.lane_child.proofs.Endings.{comes_finished, ends_kept, kept_looked, proof_finished, right_kept}
 use Rattle.lane_child.proofs.Keepers.{keeps_remember, keeps_then}
+use Rattle.lane_child.proofs.Kills.{killed_for}
 use Rattle.lane_child.proofs.job.run_started.Goals as goal
 
 pub returns-clause-end : goal.returns-clause-end
@@ -33,9 +34,11 @@ returns-clause-ran g c =
       r.0,
       g.S.Subject.taken c.live-lived.result.subject,
       asks.0,
-      c.conclude.ensures.told ∙ r.1,
-      r.2.took,
-      c.conclude.ensures.read ∙ r.2.counted,
+      r.1,
+      c.conclude.ensures.told ∙ r.2,
+      killed_for (terms_of g.T.Settled.job g.T.Settled.answer c.args.watch.now.terms.now) c.live-lived.result.why c.live-lived.new.keeper_events.events r.0 r.1 c.live-lived.ensures.kept r.3,
+      r.4.took,
+      c.conclude.ensures.read ∙ r.4.counted,
       asks.1,
       proof_finished (g.L.Launch.told c.live-lived.new.bay) (g.L.Launch.told c.conclude.new.bay) c.args.asked.now.job c.args.asked.now.most asks.0
           c.live-lived.result.part f.0 (reader_from reader.Fresh c.conclude.result.events.events)
@@ -45,7 +48,7 @@ returns-clause-ran g c =
           (NoneLeft r.0) (g.S.Subject.taken c.live-lived.result.subject) asks.0 c.live-lived.result.part f.0 (reader_from reader.Fresh c.conclude.result.events.events)
           (c.live-lived.result.part ≡ reader.Asking → IsKilled (kept_by c.live-lived.result.why))
           (TookProof (g.L.Launch.told c.live-lived.new.bay) c.args.asked.now.job c.args.asked.now.most asks.0 f.0)
-          r.3 c.live-lived.ensures.proves asks.2 f.2,
-      (λ some. r.2.closed (subst (λ (n : ℕ). 0 < n) c.conclude.ensures.empty some)),
+          r.5 c.live-lived.ensures.proves asks.2 f.2,
+      (λ some. r.4.closed (subst (λ (n : ℕ). 0 < n) c.conclude.ensures.empty some)),
       c.live-lived.ensures.most,
     )

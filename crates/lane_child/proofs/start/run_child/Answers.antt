@@ -13,7 +13,7 @@ returns-in-Some-clause-starts g c =
       no_starts (g.L.Launch.told c.args.bay.now),
       none_for_end job (g.M.Makes.words m c.args.lane job) (g.M.Makes.file m job)
           (ReadsScript (g.M.Makes.stands m c.args.lane job) (g.M.Makes.ends m c.args.lane job) (g.M.Makes.proves m c.args.lane job) (g.L.Launch.told c.args.bay.now) job (g.M.Makes.most m) (g.M.Makes.most_output m c.args.lane) c.args.reader_events.events)
-          c.args.reader_events.events c.in-Some.end c.in-Some.ensures.end.0 c.requires.fresh.0,
+          c.args.reader_events.events c.look_first.new.events.events c.in-Some.end c.in-Some.ensures.end.0 c.requires.fresh.0,
     )
 
 pub returns-in_default-make-clause-starts : goal.returns-in_default-make-clause-starts
@@ -24,7 +24,7 @@ returns-in_default-make-clause-starts g c =
       no_starts (g.L.Launch.told c.args.bay.now),
       none_for_want job (g.M.Makes.words m c.args.lane job) (g.M.Makes.file m job)
           (ReadsScript (g.M.Makes.stands m c.args.lane job) (g.M.Makes.ends m c.args.lane job) (g.M.Makes.proves m c.args.lane job) (g.L.Launch.told c.args.bay.now) job (g.M.Makes.most m) (g.M.Makes.most_output m c.args.lane) c.args.reader_events.events)
-          c.args.reader_events.events c.want.result c.want.ensures.is c.requires.fresh.0,
+          c.args.reader_events.events c.want.new.events.events c.want.result c.want.ensures.is c.requires.fresh.0,
     )
 
 pub returns-clause-keeps : goal.returns-clause-keeps
@@ -48,7 +48,7 @@ returns-clause-starts g c =
       starts_within job (map string_bytes c.in-Ok.child.words.items) (g.M.Makes.words m c.args.lane job) c.bytes.result.now (g.M.Makes.file m job)
           (ReadsScript (g.M.Subject.Subject.stands s) (g.M.Subject.Subject.ends s) (g.M.Subject.Subject.proves s) bay job (g.M.Makes.most m) (g.M.Subject.Subject.most s) events)
           (ReadsScript (g.M.Makes.stands m c.args.lane job) (g.M.Makes.ends m c.args.lane job) (g.M.Makes.proves m c.args.lane job) bay job (g.M.Makes.most m) (g.M.Makes.most_output m c.args.lane) events)
-          events c.start_child.result.end h.0 c.in-Ok.ensures.words c.bytes.ensures
+          events c.start_child.new.keeper_events.events c.start_child.result.end h.0 c.in-Ok.ensures.words c.bytes.ensures
           (reads_within (g.M.Subject.Subject.stands s) (g.M.Makes.stands m c.args.lane job) (g.M.Subject.Subject.ends s) (g.M.Makes.ends m c.args.lane job) (g.M.Subject.Subject.proves s) (g.M.Makes.proves m c.args.lane job)
           bay job (g.M.Makes.most m) (g.M.Subject.Subject.most s) (g.M.Makes.most_output m c.args.lane) events w.0 w.1 w.2 c.in-Ok.ensures.most)
           (rw c.most.ensures at h.2),

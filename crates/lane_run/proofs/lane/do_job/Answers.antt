@@ -3,6 +3,7 @@ use Rattle.sby_edge.specs.Child.{StartOf}
 use Rattle.race_core.specs.Asking.{name_at, terms_of}
 use Rattle.race_core.specs.Carrying.{KnewBy}
 use Rattle.race_core.specs.Consistent.{events_at}
+use Rattle.race_core.specs.Report.{EventsOf}
 use Rattle.race_core.specs.declared.event.LaneEvent.{LaneEvent}
 use Rattle.race_core.specs.declared.step.JobTerms.{JobTerms}
 use Rattle.lane_child.specs.Starting.{with_starts}
@@ -65,7 +66,7 @@ returns-then-serves-clause-starts g c =
     let L = g.L.Launch in
     let bay = L.told c.args.bay.now in
     let bay' = L.told c.run_child.new.bay in
-    let events = c.run_child.result.events.events in
+    let events : EventsOf g.row.T.Denot = record { reader = c.run_child.result.events.events; keeper = c.run_child.new.keeper_events.events } in
     subst (λ (l : ℕ). (starts : List StartOf) × (bay' ≡ option_map (with_starts starts) bay)
     × JobStarts (g.M.Makes.words m l) (g.M.Makes.file m) (g.M.Makes.stands m l) (g.M.Makes.ends m l) (g.M.Makes.proves m l) (g.M.Makes.most m) (g.M.Makes.most_output m l) (name_at c.args.task.now.mode c.args.place) bay events c.run_child.result.end starts) c.lane-then-serves.ensures
     (subst (λ (x : JobTerms). (starts : List StartOf) × (bay' ≡ option_map (with_starts starts) bay)

@@ -48,7 +48,7 @@ loop-place-preserved g c =
       starts = starts_more (g.M.Makes.words t.makes.now c.args.report.now.lane) (g.M.Makes.file t.makes.now) (g.M.Makes.stands t.makes.now c.args.report.now.lane) (g.M.Makes.ends t.makes.now c.args.report.now.lane) (g.M.Makes.proves t.makes.now c.args.report.now.lane) (g.M.Makes.most t.makes.now) (g.M.Makes.most_output t.makes.now c.args.report.now.lane) t.mode
           (g.L.Launch.told c.args.bay.now) (g.L.Launch.told l.bay) (g.L.Launch.told c.run_next.new.bay) l.place l.report c.run_next.new.report e.starts.0 l.invariant.starts e.stand e.starts.1
           (subst (λ (lane : ℕ). (CameLate c.run_next.new.report l.place × (e.starts.0 ≡ [])) ⊎ JobStarts (g.M.Makes.words t.makes.now lane) (g.M.Makes.file t.makes.now) (g.M.Makes.stands t.makes.now lane) (g.M.Makes.ends t.makes.now lane) (g.M.Makes.proves t.makes.now lane) (g.M.Makes.most t.makes.now) (g.M.Makes.most_output t.makes.now lane) (name_at t.mode l.place)
-          (g.L.Launch.told l.bay) (events_at c.run_next.new.report l.place).reader (end_at c.run_next.new.report l.place) e.starts.0) l.invariant.same.0 e.starts.2);
+          (g.L.Launch.told l.bay) (events_at c.run_next.new.report l.place) (end_at c.run_next.new.report l.place) e.starts.0) l.invariant.same.0 e.starts.2);
       of = e.remember.cells ∙ l.invariant.of;
     }
 
