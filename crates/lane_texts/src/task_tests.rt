@@ -1,9 +1,14 @@
 // Whole tasks, from the bays of a yard to what their lanes report.
 
+ghost use Rattle.std.specs.Prelude.{None};
+
 use super::tests::{Ended, Kind, TURNS, end_of, engines_of, problem_of, script_of};
 use judge::{Finding, Problem};
 use race_core::Report;
-use sby_edge::{Call, CallFault, Clock, ListClock, Script, ScriptYard, Scripted, Stage, Yard};
+use sby_edge::{
+    Call, CallFault, Clock, Fail as EdgeFail, Files, Got, ListClock, Script, ScriptYard, Scripted,
+    Stage, Yard,
+};
 use sby_terms::{Answer, Engine, JobName};
 use std::alloc::{AllocError, Global};
 use std::sync::Wait;
@@ -73,6 +78,40 @@ fn clock_of(alloc: Global) -> Result<ListClock, AllocError> {
     Ok(ListClock::new(readings))
 }
 
+// A store that tells nothing, and of which each call fails. The children of scripts read no file.
+struct NoFiles {
+    faults: u64,
+}
+
+impl Files for NoFiles {
+    ghost told = { λ _. None };
+
+    ghost faults = { λ f. f.faults };
+
+    ghost blamed = { λ _. None };
+
+    fn get(&mut self, _alloc: Global, _path: &str, _most: u64) -> Result<Got, EdgeFail> {
+        self.faults = self.faults.saturating_add(1);
+        Err(EdgeFail::Failed)
+    }
+
+    fn get_piece(
+        &mut self,
+        _alloc: Global,
+        _path: &str,
+        _from: u64,
+        _most: usize,
+    ) -> Result<Vec<u8>, EdgeFail> {
+        self.faults = self.faults.saturating_add(1);
+        Err(EdgeFail::Failed)
+    }
+
+    fn put(&mut self, _alloc: Global, _path: &str, _bytes: &[u8]) -> Result<(), EdgeFail> {
+        self.faults = self.faults.saturating_add(1);
+        Err(EdgeFail::Failed)
+    }
+}
+
 // Races lanes.
 fn race_over<R: Threads + Wait + Sync, Y: Yard, C: Clock>(
     rt: &R,
@@ -81,7 +120,8 @@ fn race_over<R: Threads + Wait + Sync, Y: Yard, C: Clock>(
     clock: &C,
     racing: &Racing<'_>,
 ) -> Result<RanLanes, AllocError> {
-    race_task(rt, alloc, yard, clock, racing)
+    let files = NoFiles { faults: 0 };
+    race_task(rt, alloc, &files, yard, clock, racing)
 }
 
 // Races these lanes over these scripts.
@@ -94,7 +134,7 @@ fn race_scripts<R: Threads + Wait + SystemClock + Sync>(
 ) -> Result<RanLanes, AllocError> {
     let clock = clock_of(alloc)?;
     let stage = Stage::new(alloc);
-    let mut yard = ScriptYard::new(rt, &stage, scripts, other);
+    let mut yard = ScriptYard::new(rt, alloc, &stage, scripts, other);
     race_over(rt, alloc, &mut yard, &clock, racing)
 }
 

@@ -284,7 +284,7 @@ pub fn race_over<R: Threads + Wait + SystemClock + Sync, M: Makes<Finding> + Syn
 {
     let clock = clock_of(alloc, terms.last)?;
     let stage = Stage::new(alloc);
-    let mut yard = ScriptYard::new(rt, &stage, scripts, other);
+    let mut yard = ScriptYard::new(rt, alloc, &stage, scripts, other);
     let bays = bays_of(alloc, &mut yard, lanes)?;
     match race_bays(rt, alloc, &mut yard, makes, cells, &clock, terms, bays) {
         Some(raced) => Ok(course_of(&raced)),

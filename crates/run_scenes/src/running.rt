@@ -33,7 +33,7 @@ pub fn run_into<H: Threads + Wait + SystemClock + Sync + Alloc<A = Global>, S: S
     let alloc = rt.alloc();
     let unknown = script_of(alloc, Vec::from_slice(alloc, b"s UNKNOWN\n")?);
     let stage = Stage::new(alloc);
-    let mut yard = ScriptYard::new(rt, &stage, scripts, &unknown);
+    let mut yard = ScriptYard::new(rt, alloc, &stage, scripts, &unknown);
     Ok(run_sby(rt, alloc, words, files, out, &mut yard, clock).rc)
 }
 

@@ -11,7 +11,7 @@ ghost use Rattle.sby_lines.specs.Jobs.{HasJobs};
 ghost use Rattle.sby_lines.specs.Lines.{HasJobLines, HasStopLines, HasVerdictLines, done_line, early_text, line_if, race_lines, settled_lines, skipped_lines, told_answers, unless_decided, unput_lines};
 ghost use Rattle.sby_lines.specs.Telling.{Tells};
 ghost use Rattle.sby_lines.specs.Texts.{design_text, line_of, not_written_text, stopped_text, trace_path};
-ghost use Rattle.sby_lines.specs.Told.{AreInPlace, AreReported, IsCollected, IsStopReading, asked_by, came};
+ghost use Rattle.sby_lines.specs.Told.{AreInPlace, AreLimited, AreReported, IsCollected, IsStopReading, asked_by, came};
 
 use crate::collected::{Collected, told_answers};
 use crate::counts::counts_of;
@@ -247,7 +247,7 @@ fn tell_verdict<S: Sink>(
 }
 
 /// Offers the lines of a task's design and of its jobs, by what its lanes report, the reading of the clock at which they started, in
-/// milliseconds, and what the reports come to.
+/// milliseconds, and what the reports come to. A lane is stopped under a limit alone, so these lines exist.
 pub fn tell_jobs<S: Sink>(
     alloc: Global,
     out: &mut S,
@@ -258,6 +258,7 @@ pub fn tell_jobs<S: Sink>(
     collected: &Collected,
 ) -> Result<(), Stop>
     requires reports { AreReported heading.now.mode heading.now.span flat.now reports.now }
+    requires limited { AreLimited start heading.now.limit reports.now }
     requires collected { IsCollected heading.now.mode heading.now.span flat.now reports.now collected.now }
     ensures { (expect : List Status) (lines : List (List ℕ))
         → HasJobLines (asked_by heading.now expect) (came flat.now reports.now start) collected.now.status lines

@@ -16,19 +16,19 @@ use Rattle.sby_top.specs.declared.outcome.Done.{Done}
 use Rattle.sby_top.specs.declared.outcome.TaskEnd.{TaskEnd}
 
 pub pass_claimed : (may_read : ℕ → Type 0) (number : ℕ) (start finish : World) (task : TaskOf) (end : TaskEnd) (exit : Exit) → TaskRan may_read number start finish task end exit → end.status ≡ Pass → task.request.mode ≡ Bmc
-    → (d : DesignOf) × IsDesignOf start task d × NoBreak d task.request.span.skip task.request.span.depth
+    → (d : DesignOf) × IsDesignOf start task end d × NoBreak d task.request.span.skip task.request.span.depth
 pass_claimed may_read number start finish task end exit ran status bmc =
     let is : IsTrueOf start.told task end.text (PassClaim Bmc task end) = subst (λ m. IsTrueOf start.told task end.text (PassClaim m task end)) bmc (ran.pass status) in
-    (is.1.0, record { text = end.text; got = is.0; reads = is.1.1; flat = is.1.2 }, is.1.3)
+    (is.1.0, record { got = is.0; reads = is.1.1; flat = is.1.2 }, is.1.3)
 
 pub prove_pass_claimed : (may_read : ℕ → Type 0) (number : ℕ) (start finish : World) (task : TaskOf) (end : TaskEnd) (exit : Exit) → TaskRan may_read number start finish task end exit → end.status ≡ Pass → task.request.mode ≡ Prove
-    → (d : DesignOf) × IsDesignOf start task d × NeverBreak d
+    → (d : DesignOf) × IsDesignOf start task end d × NeverBreak d
 prove_pass_claimed may_read number start finish task end exit ran status prove =
     let is : IsTrueOf start.told task end.text (PassClaim Prove task end) = subst (λ m. IsTrueOf start.told task end.text (PassClaim m task end)) prove (ran.pass status) in
-    (is.1.0, record { text = end.text; got = is.0; reads = is.1.1; flat = is.1.2 }, is.1.3)
+    (is.1.0, record { got = is.0; reads = is.1.1; flat = is.1.2 }, is.1.3)
 
 whole_or_cut : (start finish : World) (task : TaskOf) (end : TaskEnd) (exit : Exit)
-    → IsPrinted start.taken finish.taken start.sink_faults finish.sink_faults finish.ended (AreLines task end) task.request.expect (HasOwnStatus task end) end.status exit → end.status ≢ Memory
+    → IsPrinted task.request.name start.taken finish.taken start.sink_faults finish.sink_faults finish.ended (AreLines task end) task.request.expect (HasOwnStatus task end) end.status exit → end.status ≢ Memory
     → (lines : List (List ℕ)) × AreLines task end lines × HasPrinted start finish lines
 whole_or_cut start finish task end (Code rc) printed apart = elim printed.2.2 [
   | inl whole ↦ (printed.2.0, printed.2.1, inl (printed.0, whole.1))
@@ -42,7 +42,7 @@ shown_break may_read number start finish task end exit ran status is =
     let printed = whole_or_cut start finish task end exit ran.printed (λ e. let z : Fail ≡ Memory = sym status ∙ e in cc) in
     record {
       design = is.1.0;
-      is_design = record { text = end.text; got = is.0; reads = is.1.1; flat = is.1.2 };
+      is_design = record { got = is.0; reads = is.1.1; flat = is.1.2 };
       run = shown.run;
       assertion = shown.assertion;
       cell = shown.cell;
@@ -67,7 +67,7 @@ cover_pass_claimed may_read number start finish task end exit ran status cover =
     let printed = whole_or_cut start finish task end exit ran.printed (λ e. let z : Pass ≡ Memory = sym status ∙ e in cc) in
     record {
       design = is.1.0;
-      is_design = record { text = end.text; got = is.0; reads = is.1.1; flat = is.1.2 };
+      is_design = record { got = is.0; reads = is.1.1; flat = is.1.2 };
       lines = printed.0;
       are_lines = printed.1;
       each = λ k lt. let shown = is.1.3 k lt in record {
@@ -87,7 +87,7 @@ cover_fail_claimed may_read number start finish task end exit ran status cover =
     let unreached = is.1.3.2 in
     record {
       design = is.1.0;
-      is_design = record { text = end.text; got = is.0; reads = is.1.1; flat = is.1.2 };
+      is_design = record { got = is.0; reads = is.1.1; flat = is.1.2 };
       statement = is.1.3.0;
       cell = unreached.cell;
       is_cell = unreached.is_cell;

@@ -1,6 +1,7 @@
 -- Lanes that nothing disturbed come to Plain's status.
 use Rattle.std.proofs.Common.{◌≡◌, ℕ, zero, suc, ◌<◌, List, [], ◌∷◌, refl, ap, sym, ◌∙◌, subst, inl, inr, ◌⊎◌, length, arith}
 use Rattle.std.specs.Prelude.{Contains, IsSome, Option, Some, None, slice_get}
+use Rattle.sby_edge.specs.Cause.{CountsOf}
 use Rattle.sby_edge.specs.Child.{YardOf}
 use Rattle.sby_edge.specs.Files.{Store}
 use Rattle.sby_edge.specs.Script.{ScriptOf}
@@ -24,9 +25,10 @@ use Rattle.sby_terms.specs.declared.names.Status.{Status}
 use Rattle.sby_lines.specs.Lines.{IsStatus}
 use Rattle.sby_lines.specs.Told.{AreReported, IsRaceStatus, job_of}
 use Rattle.sby_lines.proofs.PlaceLemmas.{at_contains, job_named}
+use Rattle.task_race.specs.Bays.{AreCountsOf}
 use Rattle.task_race.specs.Ends.{HasEndCause, IsEndOfFate, script_of}
 use Rattle.task_race.specs.Ran.{LanesRan, Serves, job_count, terms_in}
-use Rattle.task_race.proofs.EndLemmas.{end_cause}
+use Rattle.task_race.proofs.EndLemmas.{lane_cause}
 use Rattle.task_race.proofs.FateLemmas.{end_of_fate}
 use Rattle.sby_top.specs.Claims.{IsJudgedAt}
 use Rattle.sby_top.specs.Complete.{ArePlain, IsByLook, IsPlainEnd, IsUndisturbed, IsVerdictStatus, PassesOn}
@@ -66,8 +68,8 @@ module _ (fate : Fate) where
 
 module _ (laws : FileLaws) (may_read : ℕ → Type 0) (number : ℕ) (start finish : World) (task : TaskOf) (end : TaskEnd) (exit : Exit) (engines : List Engine) (now : Store)
     (ran : TaskRan may_read number start finish task end exit) (judged : IsJudgedAt may_read number start finish task end now) (service : task.service ≡ Lanes engines)
-    (calm : IsUndisturbed may_read number start finish task end) (plain : List (ReportOf FindingOf)) (are_plain : ArePlain (racing_of task judged.done.problem number engines) start.scripts plain) where
-  lanes_ran : LanesRan (racing_of task judged.done.problem number engines) may_read start.scripts start.children finish.children end.start end.reports.items
+    (calm : IsUndisturbed may_read number start finish task end) (plain : List (ReportOf FindingOf)) (are_plain : ArePlain (racing_of task judged.done.problem number engines) start.yard.scripts plain) where
+  lanes_ran : LanesRan (racing_of task judged.done.problem number engines) may_read start.yard finish.yard end.start end.reports.items
   lanes_ran = subst (λ s. AreReports s may_read task judged.done.problem judged.middle.told (race_of number start finish end.start) end.reports.items) service judged.done.reports_are
 
   mode_is : judged.done.problem.problem.mode ≡ task.request.mode
@@ -90,43 +92,44 @@ module _ (laws : FileLaws) (may_read : ℕ → Type 0) (number : ℕ) (start fin
     place = is_place judged.done.problem.problem.mode judged.done.problem.problem.span judged.done.problem.design k lt
 
     own_cause : (r : ReportOf FindingOf) → slice_get end.reports.items lane ≡ Some r
-        → HasEndCause (racing_of task judged.done.problem number engines) may_read start.scripts start.children finish.children end.start lane (name_at judged.done.problem.problem.mode k) (end_at r k)
-    own_cause r at = end_cause (racing_of task judged.done.problem number engines) may_read start.scripts start.children finish.children end.start end.reports.items lanes_ran lane k r at lt (end_at r k) refl
+        → (counts : CountsOf) × AreCountsOf number lane start.yard finish.yard counts
+        × HasEndCause (racing_of task judged.done.problem number engines) may_read start.yard.scripts counts end.start lane (name_at judged.done.problem.problem.mode k) (end_at r k)
+    own_cause r at = lane_cause (racing_of task judged.done.problem number engines) may_read start.yard finish.yard end.start end.reports.items lanes_ran lane k r at lt (end_at r k) refl
 
     -- an end whose job's fate is known says it, or passes on a finding
-    by_fate : (r : ReportOf FindingOf) → Contains end.reports.items r → (fate : Fate) (e : JobEnd FindingOf) → end_at r k ≡ e
-        → HasEndCause (racing_of task judged.done.problem number engines) may_read start.scripts start.children finish.children end.start lane (name_at judged.done.problem.problem.mode k) e → IsEndOfFate fate e
+    by_fate : (r : ReportOf FindingOf) → Contains end.reports.items r → (fate : Fate) (e : JobEnd FindingOf) → end_at r k ≡ e → (counts : CountsOf) → AreCountsOf number lane start.yard finish.yard counts
+        → HasEndCause (racing_of task judged.done.problem number engines) may_read start.yard.scripts counts end.start lane (name_at judged.done.problem.problem.mode k) e → IsEndOfFate fate e
         → ((end_answer e ≡ fate_answer (Some fate)) × (told_by e ≡ fate_event (Some fate))) ⊎ ((f : FindingOf) × PassesOn e f × Spares judged.done.problem.problem.mode k f.job f.answer)
-    by_fate r among fate (Found f) is cause of = inl (found_says fate f of)
-    by_fate r among fate Unknown is cause of = inl (unknown_says fate of)
-    by_fate r among fate (Bad kind at) is cause of = inl (bad_says fate kind at of)
-    by_fate r among fate NotServed is cause of = absurd of
-    by_fate r among fate ReadFailed is cause of = absurd (calm.calls (inr (inl cause)))
-    by_fate r among fate StartFailed is cause of = absurd (calm.calls (inl cause))
-    by_fate r among fate HoldFailed is cause of = absurd (calm.calls (inr (inr cause)))
-    by_fate r among fate (Skipped f) is cause of = inr (f, (refl, λ g no. cc), skipping_spares judged.done.problem.problem.mode k f.job f.answer place cause.2)
-    by_fate r among fate (CalledOff f) is cause of = inr (f, (refl, λ g no. cc), calling_spares judged.done.problem.problem.mode k f.job f.answer place cause.2)
-    by_fate r among fate (Stopped t) is cause of = absurd (calm.in_time cause.begun t cause.millis cause.limit_is cause.may_start cause.may_stop cause.shows.0 cause.shows.1)
-    by_fate r among fate MemoryEnd is cause of = absurd (calm.lanes_memory r k among is)
+    by_fate r among fate (Found f) is counts own cause of = inl (found_says fate f of)
+    by_fate r among fate Unknown is counts own cause of = inl (unknown_says fate of)
+    by_fate r among fate (Bad kind at) is counts own cause of = inl (bad_says fate kind at of)
+    by_fate r among fate NotServed is counts own cause of = absurd of
+    by_fate r among fate ReadFailed is counts own cause of = absurd (calm.calls (inr (inl (own.rose.reads cause))))
+    by_fate r among fate StartFailed is counts own cause of = absurd (calm.calls (inl (own.rose.starts cause)))
+    by_fate r among fate HoldFailed is counts own cause of = absurd (calm.calls (inr (inr (own.rose.holds cause))))
+    by_fate r among fate (Skipped f) is counts own cause of = inr (f, (refl, λ g no. cc), skipping_spares judged.done.problem.problem.mode k f.job f.answer place cause.2)
+    by_fate r among fate (CalledOff f) is counts own cause of = inr (f, (refl, λ g no. cc), calling_spares judged.done.problem.problem.mode k f.job f.answer place cause.2)
+    by_fate r among fate (Stopped t) is counts own cause of = absurd (calm.in_time cause.begun t cause.millis cause.limit_is cause.may_start cause.may_stop cause.shows.0 cause.shows.1)
+    by_fate r among fate MemoryEnd is counts own cause of = absurd (calm.lanes_memory r k among is)
 
     -- an end of a job that isn't served says so, or passes on a finding
-    unserved : (e : JobEnd FindingOf) → (IsServing (slice_get engines lane) → ⊥) → (r : ReportOf FindingOf) → Contains end.reports.items r → end_at r k ≡ e
-        → HasEndCause (racing_of task judged.done.problem number engines) may_read start.scripts start.children finish.children end.start lane (name_at judged.done.problem.problem.mode k) e
+    unserved : (e : JobEnd FindingOf) → (IsServing (slice_get engines lane) → ⊥) → (r : ReportOf FindingOf) → Contains end.reports.items r → end_at r k ≡ e → (counts : CountsOf) → AreCountsOf number lane start.yard finish.yard counts
+        → HasEndCause (racing_of task judged.done.problem number engines) may_read start.yard.scripts counts end.start lane (name_at judged.done.problem.problem.mode k) e
         → ((end_answer NotServed ≡ end_answer e) × (told_by {T = FindingOf} NotServed ≡ told_by e)) ⊎ ((f : FindingOf) × PassesOn e f × Spares judged.done.problem.problem.mode k f.job f.answer)
-    unserved NotServed apart r among is cause = inl (refl, refl)
-    unserved (Found f) apart r among is cause = absurd (apart cause.0.0)
-    unserved Unknown apart r among is cause = absurd (apart cause.0.0)
-    unserved (Bad kind at) apart r among is cause = absurd (apart cause.0.0)
-    unserved ReadFailed apart r among is cause = absurd (calm.calls (inr (inl cause)))
-    unserved StartFailed apart r among is cause = absurd (calm.calls (inl cause))
-    unserved HoldFailed apart r among is cause = absurd (calm.calls (inr (inr cause)))
-    unserved (Skipped f) apart r among is cause = inr (f, (refl, λ g no. cc), skipping_spares judged.done.problem.problem.mode k f.job f.answer place cause.2)
-    unserved (CalledOff f) apart r among is cause = inr (f, (refl, λ g no. cc), calling_spares judged.done.problem.problem.mode k f.job f.answer place cause.2)
-    unserved (Stopped t) apart r among is cause = absurd (calm.in_time cause.begun t cause.millis cause.limit_is cause.may_start cause.may_stop cause.shows.0 cause.shows.1)
-    unserved MemoryEnd apart r among is cause = absurd (calm.lanes_memory r k among is)
+    unserved NotServed apart r among is counts own cause = inl (refl, refl)
+    unserved (Found f) apart r among is counts own cause = absurd (apart cause.0.0)
+    unserved Unknown apart r among is counts own cause = absurd (apart cause.0.0)
+    unserved (Bad kind at) apart r among is counts own cause = absurd (apart cause.0.0)
+    unserved ReadFailed apart r among is counts own cause = absurd (calm.calls (inr (inl (own.rose.reads cause))))
+    unserved StartFailed apart r among is counts own cause = absurd (calm.calls (inl (own.rose.starts cause)))
+    unserved HoldFailed apart r among is counts own cause = absurd (calm.calls (inr (inr (own.rose.holds cause))))
+    unserved (Skipped f) apart r among is counts own cause = inr (f, (refl, λ g no. cc), skipping_spares judged.done.problem.problem.mode k f.job f.answer place cause.2)
+    unserved (CalledOff f) apart r among is counts own cause = inr (f, (refl, λ g no. cc), calling_spares judged.done.problem.problem.mode k f.job f.answer place cause.2)
+    unserved (Stopped t) apart r among is counts own cause = absurd (calm.in_time cause.begun t cause.millis cause.limit_is cause.may_start cause.may_stop cause.shows.0 cause.shows.1)
+    unserved MemoryEnd apart r among is counts own cause = absurd (calm.lanes_memory r k among is)
 
     -- the script of the lane's job
-    own_script : (o : Option YardOf) → start.scripts ≡ o → IsSome o → (script : ScriptOf) × (script_of start.scripts number lane (name_at judged.done.problem.problem.mode k) ≡ Some script)
+    own_script : (o : Option YardOf) → start.yard.scripts ≡ o → IsSome o → (script : ScriptOf) × (script_of start.yard.scripts number lane (name_at judged.done.problem.problem.mode k) ≡ Some script)
     own_script None is some = absurd (cc)
     own_script (Some scripts) is some = (scripts number lane (name_at judged.done.problem.problem.mode k), ap (λ (x : Option YardOf). script_of x number lane (name_at judged.done.problem.problem.mode k)) is)
 
@@ -134,20 +137,21 @@ module _ (laws : FileLaws) (may_read : ℕ → Type 0) (number : ℕ) (start fin
     matches : (q r : ReportOf FindingOf) → slice_get plain lane ≡ Some q → slice_get end.reports.items lane ≡ Some r → Matches judged.done.problem.problem.mode k (end_at q k) (end_at r k)
     matches q r at_q at_r =
         let among = at_contains end.reports.items lane r at_r in
-        let script = own_script start.scripts refl calm.told in
+        let script = own_script start.yard.scripts refl calm.told in
         let free = calm.ungated lane (name_at judged.done.problem.problem.mode k) script.0 script.1 in
         let file = own_file in
+        let cause = own_cause r at_r in
         let own = (are_plain.each lane q at_q).1 k lt in
-        elim (plain_fate (racing_of task judged.done.problem number engines) start.scripts lane (name_at judged.done.problem.problem.mode k) script.0 file.0 script.1 free file.1 (end_at q k) own) [
-          | inl none ↦ subst (λ (e : JobEnd FindingOf). Matches judged.done.problem.problem.mode k e (end_at r k)) (sym none.0) (unserved (end_at r k) none.1 r among refl (own_cause r at_r))
+        elim (plain_fate (racing_of task judged.done.problem number engines) start.yard.scripts lane (name_at judged.done.problem.problem.mode k) script.0 file.0 script.1 free file.1 (end_at q k) own) [
+          | inl none ↦ subst (λ (e : JobEnd FindingOf). Matches judged.done.problem.problem.mode k e (end_at r k)) (sym none.0) (unserved (end_at r k) none.1 r among refl cause.0 cause.1 cause.2)
           | inr served ↦
               let fate = served.1.0 in
-              let of = end_of_fate (racing_of task judged.done.problem number engines) may_read start.scripts start.children finish.children end.start lane (name_at judged.done.problem.problem.mode k) script.0 file.0 fate
-              served.0 script.1 free file.1 served.1.1 (end_at r k) (own_cause r at_r) in
-              by_own fate (end_at q k) served.1.2 own (by_fate r among fate (end_at r k) refl (own_cause r at_r) of)
+              let of = end_of_fate (racing_of task judged.done.problem number engines) may_read start.yard.scripts cause.0 end.start lane (name_at judged.done.problem.problem.mode k) script.0 file.0 fate
+              served.0 script.1 free file.1 served.1.1 (end_at r k) cause.2 in
+              by_own fate (end_at q k) served.1.2 own (by_fate r among fate (end_at r k) refl cause.0 cause.1 cause.2 of)
         ]
       where
-        by_own : (fate : Fate) (e : JobEnd FindingOf) → IsEndOfFate fate e → IsPlainEnd (racing_of task judged.done.problem number engines) start.scripts lane (name_at judged.done.problem.problem.mode k) e
+        by_own : (fate : Fate) (e : JobEnd FindingOf) → IsEndOfFate fate e → IsPlainEnd (racing_of task judged.done.problem number engines) start.yard.scripts lane (name_at judged.done.problem.problem.mode k) e
             → ((end_answer (end_at r k) ≡ fate_answer (Some fate)) × (told_by (end_at r k) ≡ fate_event (Some fate))) ⊎ ((f : FindingOf) × PassesOn (end_at r k) f × Spares judged.done.problem.problem.mode k f.job f.answer)
             → Matches judged.done.problem.problem.mode k e (end_at r k)
         by_own fate (Found f) of own (inl says) = let mine = found_says fate f of in inl (mine.0 ∙ sym says.0, mine.1 ∙ sym says.1)
@@ -164,10 +168,10 @@ module _ (laws : FileLaws) (may_read : ℕ → Type 0) (number : ℕ) (start fin
         by_own fate e of own (inr passed) = inr passed
 
     -- Plain's ends carry what is found for their jobs
-    plain_own : (e : JobEnd FindingOf) → IsPlainEnd (racing_of task judged.done.problem number engines) start.scripts lane (name_at judged.done.problem.problem.mode k) e → (f : FindingOf) → Carries e f
+    plain_own : (e : JobEnd FindingOf) → IsPlainEnd (racing_of task judged.done.problem number engines) start.yard.scripts lane (name_at judged.done.problem.problem.mode k) e → (f : FindingOf) → Carries e f
         → (e ≡ Found f) × (f.job ≡ name_at judged.done.problem.problem.mode k)
     plain_own (Found g) own f carries =
-        (ap Found carries, ap (λ (x : FindingOf). x.job) (sym carries) ∙ judged_job (racing_of task judged.done.problem number engines) start.scripts lane (name_at judged.done.problem.problem.mode k) g own)
+        (ap Found carries, ap (λ (x : FindingOf). x.job) (sym carries) ∙ judged_job (racing_of task judged.done.problem number engines) start.yard.scripts lane (name_at judged.done.problem.problem.mode k) g own)
     plain_own Unknown own f carries = absurd carries
     plain_own NotServed own f carries = absurd carries
     plain_own (Bad kind at) own f carries = absurd carries
@@ -182,9 +186,9 @@ module _ (laws : FileLaws) (may_read : ℕ → Type 0) (number : ℕ) (start fin
     -- a finding that the reports carry for the job answers as Plain's does
     agrees : (q : ReportOf FindingOf) (f g : FindingOf) → slice_get plain lane ≡ Some q → end_at q k ≡ Found f → SettledIn job_of end.reports.items (name_at judged.done.problem.problem.mode k) g → f.answer ≡ g.answer
     agrees q f g at_q is settled =
-        let own = subst (λ (e : JobEnd FindingOf). IsPlainEnd (racing_of task judged.done.problem number engines) start.scripts lane (name_at judged.done.problem.problem.mode k) e) is ((are_plain.each lane q at_q).1 k lt) in
+        let own = subst (λ (e : JobEnd FindingOf). IsPlainEnd (racing_of task judged.done.problem number engines) start.yard.scripts lane (name_at judged.done.problem.problem.mode k) e) is ((are_plain.each lane q at_q).1 k lt) in
         let file = own_file in
-        let says = judged_says (racing_of task judged.done.problem number engines) start.scripts lane (name_at judged.done.problem.problem.mode k) f file.0 file.1.0 file.1 file.1.3 own in
+        let says = judged_says (racing_of task judged.done.problem number engines) start.yard.scripts lane (name_at judged.done.problem.problem.mode k) f file.0 file.1.0 file.1 file.1.3 own in
         let true_of = lanes_ran.are_true settled.0 g settled.1 settled.2 in
         sym (answers_agree laws judged.done.problem (name_at judged.done.problem.problem.mode k) file.0 g judged.done.served.0.problem file.1 true_of.0 true_of.1 settled.3 f.answer says)
 
@@ -202,9 +206,9 @@ module _ (laws : FileLaws) (may_read : ℕ → Type 0) (number : ℕ) (start fin
         (both.0, subst (λ m. f.job ≡ name_at m k) mode_is both.1);
     found = λ lane k r f at lt is.
         let cause = own_cause lane k (back_in k lt) r at in
-        let own = subst (λ (e : JobEnd FindingOf). HasEndCause (racing_of task judged.done.problem number engines) may_read start.scripts start.children finish.children end.start lane
-        (name_at judged.done.problem.problem.mode k) e) is cause in
-        subst (λ m. f.job ≡ name_at m k) mode_is (judged_job (racing_of task judged.done.problem number engines) start.scripts lane (name_at judged.done.problem.problem.mode k) f own);
+        let own = subst (λ (e : JobEnd FindingOf). HasEndCause (racing_of task judged.done.problem number engines) may_read start.yard.scripts cause.0 end.start lane
+        (name_at judged.done.problem.problem.mode k) e) is cause.2 in
+        subst (λ m. f.job ≡ name_at m k) mode_is (judged_job (racing_of task judged.done.problem number engines) start.yard.scripts lane (name_at judged.done.problem.problem.mode k) f own);
     matches = λ lane k q r at_q at_r lt. subst (λ m. Matches m k (end_at q k) (end_at r k)) mode_is (matches lane k (back_in k lt) q r at_q at_r);
     agree = λ lane k q f g at lt is settled. agrees lane k (back_in k lt) q f g at is (subst (λ m. SettledIn job_of end.reports.items (name_at m k) g) (sym mode_is) settled);
     sources = λ lane k r f at lt carries.

@@ -22,27 +22,27 @@ use Rattle.sby_lines.specs.declared.early.Early.{Early}
 use Rattle.sby_lines.specs.declared.tell.Stop.{Stop}
 use Rattle.sby_lines.specs.declared.tell.Stop.TheVariants.{Memory as MemoryStop, Sink}
 use Rattle.sby_top.specs.End.{AreShownPut, IsFaultTold, ended}
-use Rattle.sby_top.specs.Headline.{Exit, IsPrinted}
+use Rattle.sby_top.specs.Headline.{EndIn, Exit, IsPrinted}
 
 -- MEMORY has its number, whatever is expected
 memory_code : (expect : List Status) → HasCode expect Memory 32
 memory_code expect = record { expected = λ apart among. absurd (apart refl); unexpected = λ none. refl; memory = λ is. refl }
 
-printed_by : {T : Type 0} (before now : Option (List ℕ)) (f g : ℕ) (when : Option ℕ) (are_lines : List (List ℕ) → Type 0) (expect : List Status) (own : Status → Type 0) (lines : List (List ℕ)) (told : Result T Stop)
-    (decided : Status) (rc : ℕ) → are_lines lines → Tells before now f g when lines told → HasCode expect decided rc → own decided
-    → IsPrinted before now f g when are_lines expect (own (ended told decided rc).0) (ended told decided rc).0 (ended told decided rc).1
-printed_by before now f g when are_lines expect own lines (Ok x) decided rc are tells code holds = (tells.still, code, (lines, are, inl (holds, tells.whole)))
-printed_by before now f g when are_lines expect own lines (Err MemoryStop) decided rc are tells code holds =
+printed_by : {T : Type 0} (name : List ℕ) (before now : Option (List ℕ)) (f g : ℕ) (when : Option ℕ) (are_lines : List (List ℕ) → Type 0) (expect : List Status) (own : Status → Type 0) (lines : List (List ℕ)) (told : Result T Stop)
+    (decided : Status) (rc : ℕ) → are_lines lines → EndIn (done_line name decided rc) lines → Tells before now f g when lines told → HasCode expect decided rc → own decided
+    → IsPrinted name before now f g when are_lines expect (own (ended told decided rc).0) (ended told decided rc).0 (ended told decided rc).1
+printed_by name before now f g when are_lines expect own lines (Ok x) decided rc are last tells code holds = (tells.still, code, (lines, are, inl (holds, tells.whole, last)))
+printed_by name before now f g when are_lines expect own lines (Err MemoryStop) decided rc are last tells code holds =
     (tells.still_memory refl, memory_code expect, (lines, are, inr (refl, tells.memory refl)))
-printed_by before now f g when are_lines expect own lines (Err Sink) decided rc are tells code holds =
+printed_by name before now f g when are_lines expect own lines (Err Sink) decided rc are last tells code holds =
     ((tells.fault refl).0, tells.last refl, (lines, are, holds, (tells.fault refl).1))
 
 -- lines were told, and so printed
-pub printed_as : {T : Type 0} (before now : Option (List ℕ)) (f g : ℕ) (when : Option ℕ) (are_lines : List (List ℕ) → Type 0) (expect : List Status) (own : Status → Type 0) (lines : List (List ℕ)) (told : Result T Stop)
-    (decided : Status) (rc : ℕ) (status : Status) (exit : Exit) → (status, exit) ≡ ended told decided rc → are_lines lines → Tells before now f g when lines told → HasCode expect decided rc → own decided
-    → IsPrinted before now f g when are_lines expect (own status) status exit
-printed_as before now f g when are_lines expect own lines told decided rc status exit is are tells code holds =
-    subst (λ (x : Status × Exit). IsPrinted before now f g when are_lines expect (own x.0) x.0 x.1) (sym is) (printed_by before now f g when are_lines expect own lines told decided rc are tells code holds)
+pub printed_as : {T : Type 0} (name : List ℕ) (before now : Option (List ℕ)) (f g : ℕ) (when : Option ℕ) (are_lines : List (List ℕ) → Type 0) (expect : List Status) (own : Status → Type 0) (lines : List (List ℕ)) (told : Result T Stop)
+    (decided : Status) (rc : ℕ) (status : Status) (exit : Exit) → (status, exit) ≡ ended told decided rc → are_lines lines → EndIn (done_line name decided rc) lines → Tells before now f g when lines told → HasCode expect decided rc → own decided
+    → IsPrinted name before now f g when are_lines expect (own status) status exit
+printed_as name before now f g when are_lines expect own lines told decided rc status exit is are last tells code holds =
+    subst (λ (x : Status × Exit). IsPrinted name before now f g when are_lines expect (own x.0) x.0 x.1) (sym is) (printed_by name before now f g when are_lines expect own lines told decided rc are last tells code holds)
 
 status_by : {T : Type 0} (own : Status → Type 0) (told : Result T Stop) (decided : Status) (rc : ℕ) → own decided → own (ended told decided rc).0 ⊎ ((ended told decided rc).0 ≡ Memory)
 status_by own (Ok x) decided rc holds = inl holds
@@ -81,12 +81,16 @@ fault_told request early name slices expect before now f g when told decided rc 
     (subst (λ k. Tells before now f g when (line_if name (early_text k early) ++ done_line name decided rc ∷ []) told) (sym count) tells) in
     record {
       own = status_as (λ s. (c : CameTo) → IsStatus request (Some early) c s) told decided rc status exit is holds;
-      printed = printed_as before now f g when (HasLines request [] (Some early) [] None []) request.expect (λ s. (c : CameTo) → IsStatus request (Some early) c s) lines told decided rc status exit is are own_tells own_code holds;
+      printed = printed_as request.name before now f g when (HasLines request [] (Some early) [] None []) request.expect (λ s. (c : CameTo) → IsStatus request (Some early) c s) lines told decided rc status exit is are (body, refl) own_tells own_code holds;
     }
 
 -- a list that has a last has some
 pub some_last : {X : Type 0} (xs : List X) (x : X) → 0 < length (xs ++ x ∷ [])
 some_last xs x = let both = length-append xs (x ∷ []) in omega (arith, both)
+
+-- lines that end so end with their last one
+pub served_last : (lines unput : List (List ℕ)) (line : List ℕ) → EndIn line (lines ++ (unput ++ line ∷ []))
+served_last lines unput line = (lines ++ unput, sym (append_assoc lines unput (line ∷ [])))
 
 -- a task that was served has these lines
 pub served_lines : (request : Request) (text : List ℕ) (d : DesignOf) (reports : List (ReportOf FindingOf)) (start : Option ℕ) (unput : List ℕ) (status : Status) (rc : ℕ) (lines : List (List ℕ)) → Reads text d

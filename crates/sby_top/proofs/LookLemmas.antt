@@ -49,7 +49,7 @@ no_unread reader.Wrong f has unread = unread
 
 -- a reader has one end
 one_end : {T : Type 0} (r : Reader T) (d e : JobEnd T) → HasEnd r d → HasEnd r e → d ≡ e
-one_end (reader.Holding g b) d e one other = one ∙ sym other
+one_end (reader.Holding g b) d e one other = absurd one
 one_end (reader.Found g b won) d e one other = one ∙ sym other
 one_end (reader.Unknown b) d e one other = one ∙ sym other
 one_end (reader.Bad number at b) d e one other = one ∙ sym other

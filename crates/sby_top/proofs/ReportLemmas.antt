@@ -30,7 +30,7 @@ use Rattle.sby_top.specs.Task.{Lanes, Service, Streams, TaskOf}
 use Rattle.sby_top.specs.World.{RaceOf}
 use Rattle.task_race.specs.Ends.{HasEndCause}
 use Rattle.task_race.specs.Ran.{LanesRan}
-use Rattle.task_race.proofs.EndLemmas.{end_cause, limited as race_limited}
+use Rattle.task_race.proofs.EndLemmas.{lane_cause, limited as race_limited}
 use Rattle.task_race.proofs.RanLemmas.{winners_find}
 use Rattle.sby_top.proofs.JobLemmas.{judged_count}
 
@@ -168,8 +168,11 @@ pub caused : (may_read : ℕ → Type 0) (now : Option Store) (task : TaskOf) (p
     → IsCausedEnd service may_read task p race lane place e
 caused may_read now task p race (Streams paths) reports are mode lane place r e at lt is = subst IsStoredEnd is (one_stored p now paths reports are.0 r (at_contains reports lane r at) place)
 caused may_read now task p race (Lanes engines) reports ran mode lane place r e at lt is =
-    subst (λ (m : Mode). HasEndCause (racing_of task p race.task engines) may_read race.scripts race.before race.after race.start lane (name_at m place) e) mode
-    (end_cause (racing_of task p race.task engines) may_read race.scripts race.before race.after race.start reports ran lane place r at lt e is)
+    let cause = lane_cause (racing_of task p race.task engines) may_read race.before race.after race.start reports ran lane place r at lt e is in (
+      cause.0,
+      cause.1,
+      subst (λ (m : Mode). HasEndCause (racing_of task p race.task engines) may_read race.before.scripts cause.0 race.start lane (name_at m place) e) mode cause.2,
+    )
 
 -- ---- what is reported
 
@@ -200,7 +203,7 @@ stream_reported told now task p paths reports accepted are =
     }
 
 lanes_reported : (may_read : ℕ → Type 0) (told : Option Store) (task : TaskOf) (p : AskedOf) (race : RaceOf) (engines : List Engine) (reports : List (ReportOf FindingOf)) → IsAccepted told task p
-    → LanesRan (racing_of task p race.task engines) may_read race.scripts race.before race.after race.start reports → AreReported task.request.mode task.request.span p.design reports
+    → LanesRan (racing_of task p race.task engines) may_read race.before race.after race.start reports → AreReported task.request.mode task.request.span p.design reports
 lanes_reported may_read told task p race engines reports accepted ran =
     let span : p.problem.span ≡ task.request.span = ap (λ (q : ProblemOf). q.span) accepted.asked in
     let mode : p.problem.mode ≡ task.request.mode = ap (λ (q : ProblemOf). q.mode) accepted.asked in
@@ -222,6 +225,12 @@ pub reported : (may_read : ℕ → Type 0) (told now : Option Store) (task : Tas
 reported may_read told now task p race (Streams paths) reports accepted are = stream_reported told now task p paths reports accepted are.0
 reported may_read told now task p race (Lanes engines) reports accepted ran = lanes_reported may_read told task p race engines reports accepted ran
 
+-- the findings that are carried are true ones of the problem
+pub true_findings : (may_read : ℕ → Type 0) (now : Option Store) (task : TaskOf) (p : AskedOf) (race : RaceOf) (service : Service) (reports : List (ReportOf FindingOf)) → AreReports service may_read task p now race reports
+    → (r : ReportOf FindingOf) (f : FindingOf) → Contains reports r → CarriedIn r.ends f → IsTrueFinding f × (f.problem ≡ p.problem)
+true_findings may_read now task p race (Streams paths) reports are r f among carried = (plain_at p now paths reports are.0 among.0 r (contains_at reports r among)).carried f carried
+true_findings may_read now task p race (Lanes engines) reports ran r f among carried = ran.are_true r f among carried
+
 is_given : (o : Option ℕ) → IsSome o → IsGiven o
 is_given None some = absurd (cc)
 is_given (Some n) some = (n, refl)
@@ -231,5 +240,5 @@ pub limited : (may_read : ℕ → Type 0) (now : Option Store) (task : TaskOf) (
     → AreLimited race.start task.request.limit reports
 limited may_read now task p race (Streams paths) reports are = λ r k t in_reports stopped. absurd (not_stopped p now paths reports are.0 r in_reports k t stopped)
 limited may_read now task p race (Lanes engines) reports ran = λ r k t in_reports stopped.
-    let both = race_limited (racing_of task p race.task engines) may_read race.scripts race.before race.after race.start reports ran r k t in_reports stopped in
+    let both = race_limited (racing_of task p race.task engines) may_read race.before race.after race.start reports ran r k t in_reports stopped in
     (is_given race.start both.0, is_given task.request.limit both.1)

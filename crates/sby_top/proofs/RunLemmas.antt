@@ -24,21 +24,21 @@ use Rattle.sby_top.proofs.ReportLemmas.{nothing_in}
 use Rattle.sby_top.proofs.TruthLemmas.{Laws, is_fail_true, is_pass_true}
 
 -- what was printed, by other lines and another status of the same kind
-pub printed_weaker : (before now : Option (List ℕ)) (f g : ℕ) (when : Option ℕ) (are other : List (List ℕ) → Type 0) (expect : List Status) (own same : Type 0) (status : Status) (exit : Exit) → ((lines : List (List ℕ)) → are lines → other lines)
-    → (own → same) → IsPrinted before now f g when are expect own status exit → IsPrinted before now f g when other expect same status exit
-printed_weaker before now f g when are other expect own same status (Code rc) lines holds h = (
+pub printed_weaker : (name : List ℕ) (before now : Option (List ℕ)) (f g : ℕ) (when : Option ℕ) (are other : List (List ℕ) → Type 0) (expect : List Status) (own same : Type 0) (status : Status) (exit : Exit) → ((lines : List (List ℕ)) → are lines → other lines)
+    → (own → same) → IsPrinted name before now f g when are expect own status exit → IsPrinted name before now f g when other expect same status exit
+printed_weaker name before now f g when are other expect own same status (Code rc) lines holds h = (
   h.0,
   h.1,
   (
     h.2.0,
     lines h.2.0 h.2.1,
     elim h.2.2 [
-      | inl whole ↦ inl (holds whole.0, whole.1)
+      | inl whole ↦ inl (holds whole.0, whole.1, whole.2)
       | inr part ↦ inr part
     ],
   ),
 )
-printed_weaker before now f g when are other expect own same status Cut lines holds h = (h.0, h.1, (h.2.0, lines h.2.0 h.2.1, holds h.2.2, h.2.3))
+printed_weaker name before now f g when are other expect own same status Cut lines holds h = (h.0, h.1, (h.2.0, lines h.2.0 h.2.1, holds h.2.2, h.2.3))
 
 -- ---- a fault before the lanes
 
@@ -53,9 +53,9 @@ fault_lines : (task : TaskOf) (end : TaskEnd) (early : Early) (lines : List (Lis
 fault_lines task end early lines is unput has = rw (is.text_is, is.early_is, is.reports_are, is.start_is, unput) has
 
 pub fault_printed : (task : TaskOf) (end : TaskEnd) (early : Early) (before now : Option (List ℕ)) (f g : ℕ) (when : Option ℕ) (exit : Exit) → IsEnd task.request.name (Some early) [] [] None end → end.unput.items ≡ []
-    → IsFaultTold task.request early before now f g when end.status exit → IsPrinted before now f g when (AreLines task end) task.request.expect (HasOwnStatus task end) end.status exit
+    → IsFaultTold task.request early before now f g when end.status exit → IsPrinted task.request.name before now f g when (AreLines task end) task.request.expect (HasOwnStatus task end) end.status exit
 fault_printed task end early before now f g when exit is unput told =
-    printed_weaker before now f g when _ (AreLines task end) task.request.expect _ (HasOwnStatus task end) end.status exit (λ lines has. fault_lines task end early lines is unput has) (fault_status task end early is.early_is) told.printed
+    printed_weaker task.request.name before now f g when _ (AreLines task end) task.request.expect _ (HasOwnStatus task end) end.status exit (λ lines has. fault_lines task end early lines is unput has) (fault_status task end early is.early_is) told.printed
 
 own_or : (task : TaskOf) (end : TaskEnd) (early : Early) → end.early ≡ Some early → (((c : CameTo) → IsStatus task.request (Some early) c end.status) ⊎ (end.status ≡ Memory)) → HasOwnStatus task end ⊎ (end.status ≡ Memory)
 own_or task end early is (inl holds) = inl (fault_status task end early is holds)
@@ -63,7 +63,7 @@ own_or task end early is (inr memory) = inr memory
 
 pub fault_named : (may_read : ℕ → Type 0) (number : ℕ) (before after : World) (task : TaskOf) (end : TaskEnd) (early : Early) (told now : Option (List ℕ)) (f g : ℕ) (when : Option ℕ) (exit : Exit) → IsEnd task.request.name (Some early) [] [] None end → end.unput.items ≡ []
     → IsFaultTold task.request early told now f g when end.status exit → HasReason task (files_of before) (files_of after) early
-    → (after.children ≡ before.children) ⊎ (early ≡ MemoryEarly) → NamesEvent may_read number before after task end
+    → (after.yard ≡ before.yard) ⊎ (early ≡ MemoryEarly) → NamesEvent may_read number before after task end
 fault_named may_read number before after task end early told now f g when exit is unput was reason spared = record {
   name = is.name_is;
   status = own_or task end early is.early_is was.own;
@@ -83,7 +83,7 @@ served_named may_read number before after start task end p text reports middle d
 
 -- a task that came to this end was run
 pub task_ran : Laws → (may_read : ℕ → Type 0) (number : ℕ) (before after : World) (task : TaskOf) (end : TaskEnd) (exit : Exit) → IsAskable task → NamesEvent may_read number before after task end
-    → IsPrinted before.taken after.taken before.sink_faults after.sink_faults after.ended (AreLines task end) task.request.expect (HasOwnStatus task end) end.status exit
+    → IsPrinted task.request.name before.taken after.taken before.sink_faults after.sink_faults after.ended (AreLines task end) task.request.expect (HasOwnStatus task end) end.status exit
     → IsLater before after → TaskRan may_read number before after task end exit
 task_ran laws may_read number before after task end exit askable named printed later = record {
   pass = is_pass_true laws may_read number before after task end askable named;
@@ -102,11 +102,11 @@ some_status name early status (inl holds) = inl (no_end, holds no_end)
 some_status name early status (inr memory) = inr memory
 
 -- where nothing is expected, the number is the status's own
-refused_code : (before now : Option (List ℕ)) (f g : ℕ) (when : Option ℕ) (are : List (List ℕ) → Type 0) (own : Type 0) (status : Status) (exit : Exit) → IsPrinted before now f g when are [] own status exit
+refused_code : (name : List ℕ) (before now : Option (List ℕ)) (f g : ℕ) (when : Option ℕ) (are : List (List ℕ) → Type 0) (own : Type 0) (status : Status) (exit : Exit) → IsPrinted name before now f g when are [] own status exit
     → (rc : ℕ) → exit ≡ Code rc → rc ≡ code_of status
-refused_code before now f g when are own status (Code n) printed rc is =
+refused_code name before now f g when are own status (Code n) printed rc is =
     let same : n ≡ rc = cc in sym same ∙ printed.1.unexpected (λ among. nothing_in status among)
-refused_code before now f g when are own status Cut printed rc is = cc
+refused_code name before now f g when are own status Cut printed rc is = cc
 
 -- only a fault was told
 pub fault_refused : (before after : World) (name : List ℕ) (early : Early) (end : TaskEnd) (exit : Exit) → IsEnd name (Some early) [] [] None end → end.unput.items ≡ []
@@ -120,8 +120,8 @@ fault_refused before after name early end exit is unput told files yard later = 
   text = is.text_is;
   start = is.start_is;
   status = some_status name early end.status told.own;
-  code = refused_code before.taken after.taken before.sink_faults after.sink_faults after.ended _ _ end.status exit told.printed;
-  printed = printed_weaker before.taken after.taken before.sink_faults after.sink_faults after.ended _ _ [] _ (IsRefusedStatus name early end.status) end.status exit (λ lines has. has) (λ holds. (no_end, holds no_end)) told.printed;
+  code = refused_code name before.taken after.taken before.sink_faults after.sink_faults after.ended _ _ end.status exit told.printed;
+  printed = printed_weaker name before.taken after.taken before.sink_faults after.sink_faults after.ended _ _ [] _ (IsRefusedStatus name early end.status) end.status exit (λ lines has. has) (λ holds. (no_end, holds no_end)) told.printed;
   files = files;
   yard = yard;
   later = later;

@@ -18,7 +18,7 @@ use Rattle.sby_terms.specs.declared.names.Mode.{Mode}
 use Rattle.sby_lines.proofs.PlaceLemmas.{at_contains, job_named}
 use Rattle.task_race.specs.Ends.{HasEndCause}
 use Rattle.task_race.specs.Ran.{RacingOf}
-use Rattle.task_race.proofs.EndLemmas.{end_cause}
+use Rattle.task_race.proofs.EndLemmas.{lane_cause}
 use Rattle.sby_top.specs.Judged.{AreReports, AreStreamReports, racing_of}
 use Rattle.sby_top.specs.Served.{IsAccepted, jobs_in}
 use Rattle.sby_top.specs.Task.{Lanes, Service, Streams, TaskOf}
@@ -31,22 +31,22 @@ use Rattle.sby_top.proofs.PlainLemmas.{carried_at}
 use Rattle.sby_top.proofs.ReportLemmas.{first_or_later, nothing_in}
 
 -- in a lane: its own find is one for the job, and it is skipped or called off by one that spares it
-pub lane_spares : (racing : RacingOf) (may_read : ℕ → Type 0) (told : Option YardOf) (before now : CountsOf) (start : Option ℕ) (lane place : ℕ) (mode : Mode) → IsPlace mode place → (e : JobEnd FindingOf)
-    → HasEndCause racing may_read told before now start lane (name_at mode place) e → (f : FindingOf) → Carries e f → Spares mode place f.job f.answer
-lane_spares racing may_read told before now start lane place mode within (Found g) cause f carries =
+pub lane_spares : (racing : RacingOf) (may_read : ℕ → Type 0) (told : Option YardOf) (counts : CountsOf) (start : Option ℕ) (lane place : ℕ) (mode : Mode) → IsPlace mode place → (e : JobEnd FindingOf)
+    → HasEndCause racing may_read told counts start lane (name_at mode place) e → (f : FindingOf) → Carries e f → Spares mode place f.job f.answer
+lane_spares racing may_read told counts start lane place mode within (Found g) cause f carries =
     subst (λ (x : FindingOf). Spares mode place x.job x.answer) carries (inl (judged_job racing told lane (name_at mode place) g cause))
-lane_spares racing may_read told before now start lane place mode within (Skipped g) cause f carries =
+lane_spares racing may_read told counts start lane place mode within (Skipped g) cause f carries =
     subst (λ (x : FindingOf). Spares mode place x.job x.answer) carries (skipping_spares mode place g.job g.answer within cause.2)
-lane_spares racing may_read told before now start lane place mode within (CalledOff g) cause f carries =
+lane_spares racing may_read told counts start lane place mode within (CalledOff g) cause f carries =
     subst (λ (x : FindingOf). Spares mode place x.job x.answer) carries (calling_spares mode place g.job g.answer within cause.2)
-lane_spares racing may_read told before now start lane place mode within Unknown cause f carries = absurd carries
-lane_spares racing may_read told before now start lane place mode within NotServed cause f carries = absurd carries
-lane_spares racing may_read told before now start lane place mode within (Bad number at) cause f carries = absurd carries
-lane_spares racing may_read told before now start lane place mode within ReadFailed cause f carries = absurd carries
-lane_spares racing may_read told before now start lane place mode within StartFailed cause f carries = absurd carries
-lane_spares racing may_read told before now start lane place mode within HoldFailed cause f carries = absurd carries
-lane_spares racing may_read told before now start lane place mode within (Stopped t) cause f carries = absurd carries
-lane_spares racing may_read told before now start lane place mode within MemoryEnd cause f carries = absurd carries
+lane_spares racing may_read told counts start lane place mode within Unknown cause f carries = absurd carries
+lane_spares racing may_read told counts start lane place mode within NotServed cause f carries = absurd carries
+lane_spares racing may_read told counts start lane place mode within (Bad number at) cause f carries = absurd carries
+lane_spares racing may_read told counts start lane place mode within ReadFailed cause f carries = absurd carries
+lane_spares racing may_read told counts start lane place mode within StartFailed cause f carries = absurd carries
+lane_spares racing may_read told counts start lane place mode within HoldFailed cause f carries = absurd carries
+lane_spares racing may_read told counts start lane place mode within (Stopped t) cause f carries = absurd carries
+lane_spares racing may_read told counts start lane place mode within MemoryEnd cause f carries = absurd carries
 
 -- of stored streams: each finding is one for its job
 stream_job : (p : AskedOf) (told : Option Store) (paths : List (List ℕ)) (reports : List (ReportOf FindingOf)) → AreStreamReports p told paths reports → (lane place : ℕ) (r : ReportOf FindingOf)
@@ -69,6 +69,7 @@ carried_spares may_read now task p race (Streams paths) reports are accepted lan
     inl (stream_job p now paths reports are.0 lane place r at lt f carries ∙ ap (λ m. name_at m place) mode)
 carried_spares may_read now task p race (Lanes engines) reports ran accepted lane place r at lt f carries =
     let mode : p.problem.mode ≡ task.request.mode = ap (λ (q : ProblemOf). q.mode) accepted.asked in
+    let cause = lane_cause (racing_of task p race.task engines) may_read race.before race.after race.start reports ran lane place r at lt (end_at r place) refl in
     subst (λ m. Spares m place f.job f.answer) mode
-    (lane_spares (racing_of task p race.task engines) may_read race.scripts race.before race.after race.start lane place p.problem.mode (is_place p.problem.mode p.problem.span p.design place lt) (end_at r place)
-    (end_cause (racing_of task p race.task engines) may_read race.scripts race.before race.after race.start reports ran lane place r at lt (end_at r place) refl) f carries)
+    (lane_spares (racing_of task p race.task engines) may_read race.before.scripts cause.0 race.start lane place p.problem.mode (is_place p.problem.mode p.problem.span p.design place lt) (end_at r place)
+    cause.2 f carries)

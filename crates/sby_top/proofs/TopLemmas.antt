@@ -1,8 +1,6 @@
 -- What words ask was done.
 use Rattle.std.proofs.Common.{◌≡◌, ℕ, List, [], ◌∷◌, refl, subst, inl, inr}
 use Rattle.std.specs.Prelude.{Option, None, Result, Ok, Err}
-use Rattle.sby_edge.specs.Cause.{CountsOf}
-use Rattle.sby_edge.specs.Child.{YardOf}
 use Rattle.sby_edge.specs.Files.{Store}
 use Rattle.sby_file.specs.Config.{ConfigOf}
 use Rattle.sby_file.specs.Sby.{SbyText}
@@ -19,6 +17,7 @@ use Rattle.sby_top.specs.Run.{LinesAlone, NamesTold, SameSink, TurnsDone, name_l
 use Rattle.sby_top.specs.Served.{IsGot}
 use Rattle.sby_top.specs.Steps.{IsFailedCall}
 use Rattle.sby_top.specs.Turns.{AreTextTurns, HasTurns, IsNamesFault, IsTextGot, Refused, Turn, gen_stem, most_task_file}
+use Rattle.task_race.specs.Bays.{YardAt}
 use Rattle.sby_top.specs.World.{FilesOf, SameYard, World, files_of, world_at}
 use Rattle.sby_top.specs.declared.outcome.Done.{Done}
 use Rattle.sby_top.proofs.ServeLemmas.{same_files}
@@ -54,15 +53,15 @@ alone_by before after lines done (Err MemoryStop) rc ends files yard tells = rec
 alone_by before after lines done (Err Sink) rc ends files yard tells = record { ends = ends; files = files; yard = yard; sink = tells.later; line = inr (inl (rc, (tells.fault refl).0, tells.last refl, (tells.fault refl).1)) }
 
 -- lines alone were told
-pub lines_alone : {T : Type 0} (told_files : Option Store) (faults : ℕ) (blamed before now : Option (List ℕ)) (f g : ℕ) (d e : Option ℕ) (scripts : Option YardOf) (children : CountsOf) (lines : List (List ℕ)) (done : Done) (told : Result T Stop) → done.rc ≡ told_code told → done.ends.items ≡ []
-    → Tells before now f g e lines told → LinesAlone (world_at told_files faults blamed before f d scripts children) (world_at told_files faults blamed now g e scripts children) lines done
-lines_alone told_files faults blamed before now f g d e scripts children lines done told rc ends tells =
-    alone_by (world_at told_files faults blamed before f d scripts children) (world_at told_files faults blamed now g e scripts children) lines done told rc ends refl (refl, refl) tells
+pub lines_alone : {T : Type 0} (told_files : Option Store) (faults : ℕ) (blamed before now : Option (List ℕ)) (f g : ℕ) (d e : Option ℕ) (yard : YardAt) (lines : List (List ℕ)) (done : Done) (told : Result T Stop) → done.rc ≡ told_code told → done.ends.items ≡ []
+    → Tells before now f g e lines told → LinesAlone (world_at told_files faults blamed before f d yard) (world_at told_files faults blamed now g e yard) lines done
+lines_alone told_files faults blamed before now f g d e yard lines done told rc ends tells =
+    alone_by (world_at told_files faults blamed before f d yard) (world_at told_files faults blamed now g e yard) lines done told rc ends refl refl tells
 
 -- the same, since a moment at which the files were the same
-pub alone_since : (t0 t1 : Option Store) (f0 f1 : ℕ) (b0 b1 before now : Option (List ℕ)) (f g : ℕ) (d e : Option ℕ) (scripts : Option YardOf) (children : CountsOf) (lines : List (List ℕ)) (done : Done) → t1 ≡ t0 → f1 ≡ f0 → b1 ≡ b0
-    → LinesAlone (world_at t1 f1 b1 before f d scripts children) (world_at t1 f1 b1 now g e scripts children) lines done → LinesAlone (world_at t0 f0 b0 before f d scripts children) (world_at t1 f1 b1 now g e scripts children) lines done
-alone_since t0 t1 f0 f1 b0 b1 before now f g d e scripts children lines done told faults blamed alone =
+pub alone_since : (t0 t1 : Option Store) (f0 f1 : ℕ) (b0 b1 before now : Option (List ℕ)) (f g : ℕ) (d e : Option ℕ) (yard : YardAt) (lines : List (List ℕ)) (done : Done) → t1 ≡ t0 → f1 ≡ f0 → b1 ≡ b0
+    → LinesAlone (world_at t1 f1 b1 before f d yard) (world_at t1 f1 b1 now g e yard) lines done → LinesAlone (world_at t0 f0 b0 before f d yard) (world_at t1 f1 b1 now g e yard) lines done
+alone_since t0 t1 f0 f1 b0 b1 before now f g d e yard lines done told faults blamed alone =
     record { ends = alone.ends; files = same_files t0 t1 f0 f1 b0 b1 told faults blamed; yard = alone.yard; sink = alone.sink; line = alone.line }
 
 -- the names of a file's tasks were told, or its fault

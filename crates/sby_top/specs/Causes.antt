@@ -62,7 +62,7 @@ pub record AreTracesPut (task : TaskOf) (before after : FilesOf) (problem : Aske
   pub put : ArePutTraces task.request problem.design (take count traces) before after unput
   pub whole : stopped ⊎ (AreTraces task.request (record { design = problem.design; reports = reports; start = None }) traces × (take count traces ≡ traces))
 
--- no child ran; or memory was wanting behind the lanes
+-- no child was started; or memory was wanting, perhaps behind the lanes
 abbrev pub AreSpared : RaceOf → Early → Type 0
 AreSpared race early = (race.start ≡ None) × ((race.after ≡ race.before) ⊎ (early ≡ Memory))
 

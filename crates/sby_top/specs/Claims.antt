@@ -1,5 +1,5 @@
 -- What is claimed of a call, task by task.
-use Rattle.std.specs.Prelude.{◌≡◌, ◌⊎◌, ℕ, ◌+◌, ◌<◌, ◌≤◌, List, [], ◌∷◌, length, slice_get, take, Option, Some, None, Contains}
+use Rattle.std.specs.Prelude.{◌≡◌, ◌⊎◌, ℕ, ◌+◌, ◌<◌, ◌≤◌, ◌^◌, List, [], ◌∷◌, ◌++◌, length, slice_get, string_bytes, take, Option, Some, None, Contains}
 use Rattle.std.specs.List.{concat}
 use Rattle.sby_edge.specs.Cause.{CountsOf, Rose}
 use Rattle.sby_edge.specs.Files.{Store}
@@ -10,23 +10,27 @@ use Rattle.design_core.specs.Shape.{CellOf, DesignOf}
 use Rattle.judge.specs.Finding.{FindingOf}
 use Rattle.judge.specs.Problem.{AskedOf}
 use Rattle.race_core.specs.Asking.{name_at}
+use Rattle.race_core.specs.Carrying.{Carries}
+use Rattle.race_core.specs.Collect.{SettledIn}
 use Rattle.race_core.specs.Consistent.{end_at}
 use Rattle.race_core.specs.Report.{ReportOf}
 use Rattle.race_core.specs.declared.end.JobEnd.{JobEnd}
 use Rattle.race_core.specs.declared.end.JobEnd.TheVariants.{Found, Unknown as UnknownEnd, NotServed, Bad, ReadFailed, StartFailed, HoldFailed, Skipped, CalledOff, Stopped, Memory as MemoryEnd}
 use Rattle.design_check.specs.Faults.{IsFlat}
 use Rattle.design_reader.specs.Grammar.{Reads}
+use Rattle.sby_terms.specs.declared.engine.Engine.{Engine}
 use Rattle.sby_terms.specs.declared.names.Answer.{Answer}
 use Rattle.sby_terms.specs.declared.names.Answer.TheVariants.{Sat, Unsat}
 use Rattle.sby_terms.specs.declared.names.JobName.TheVariants.{Base, Cover as CoverJob}
 use Rattle.sby_terms.specs.declared.names.Status.{Status}
 use Rattle.sby_terms.specs.declared.names.Status.TheVariants.{Pass, Fail, Unknown, Error, Timeout, Memory}
 use Rattle.sby_lines.specs.Broken.{IsFirstBroken, last_of}
+use Rattle.sby_lines.specs.Lines.{done_line}
 use Rattle.sby_lines.specs.Reached.{unreached_line}
 use Rattle.sby_lines.specs.Telling.{GrownBySome, grown}
-use Rattle.sby_lines.specs.Told.{AreAnswers}
+use Rattle.sby_lines.specs.Told.{AreAnswers, job_of}
 use Rattle.sby_lines.specs.declared.early.Early.{Early}
-use Rattle.sby_words.specs.Requests.{Request as Asked}
+use Rattle.sby_words.specs.Requests.{AskNames, Request as Asked}
 use Rattle.sby_words.specs.Words.{IsAsked}
 use Rattle.sby_top.specs.Causes.{AreTracesPut, HasReason, IsDone, IsOutcome}
 use Rattle.sby_top.specs.Headline.{AreLines, ArePrintedOf, Exit, Code, IsCarried, IsReachPrinted, WasStopped}
@@ -34,10 +38,11 @@ use Rattle.sby_top.specs.Run.{SameSink, TurnRan}
 use Rattle.sby_top.specs.Served.{ArePut, IsServed, IsTextOf, jobs_in}
 use Rattle.sby_top.specs.Judged.{racing_of}
 use Rattle.sby_top.specs.Task.{Lanes, Service, Streams, TaskOf}
-use Rattle.sby_top.specs.Turns.{HasTurns, Run, Turn}
+use Rattle.sby_top.specs.Turns.{HasTurns, Refused, Run, Turn}
 use Rattle.sby_top.specs.Traces.{TraceOf, with_trace}
 use Rattle.sby_top.specs.World.{FilesOf, RaceOf, World, files_of, race_of}
-use Rattle.task_race.specs.Ends.{HasEndCause, IsLimitShown}
+use Rattle.task_race.specs.Bays.{AreCountsOf, YardAt}
+use Rattle.task_race.specs.Ends.{HasEndCause, IsCalledOffBy, IsLimitShown, IsSkippedBy}
 use Rattle.sby_top.specs.declared.outcome.Done.{Done}
 use Rattle.sby_top.specs.declared.outcome.TaskEnd.{TaskEnd}
 
@@ -96,11 +101,10 @@ pub record IsJudgedAt (may_read : ℕ → Type 0) (number : ℕ) (start finish :
   pub traced : AreTracesPut task middle (files_of finish) done.problem end.reports.items end.unput.items (WasStopped start finish end)
   pub told : middle.told ≡ Some now
 
--- the design's text, as it was got when the task began, or as the task file has it, reads this flat design
-pub record IsDesignOf (start : World) (task : TaskOf) (d : DesignOf) : Type 0 where
-  pub text : List ℕ
-  pub got : IsTextOf start.told task.design text
-  pub reads : Reads text d
+-- the text that the end keeps, which is the design's as it was got when the task began, or as the task file has it, reads this flat design
+pub record IsDesignOf (start : World) (task : TaskOf) (end : TaskEnd) (d : DesignOf) : Type 0 where
+  pub got : IsTextOf start.told task.design end.text
+  pub reads : Reads end.text d
   pub flat : IsFlat d
 
 -- a run of more than k and at most n cycles, all assumed, whose last breaks this assertion, the first in the file of those that it breaks
@@ -118,10 +122,36 @@ HasPrinted start finish lines =
     ((finish.sink_faults ≡ start.sink_faults) × (finish.taken ≡ grown start.taken (concat lines)))
     ⊎ (Rose start.sink_faults finish.sink_faults × GrownBySome start.taken finish.taken (concat lines))
 
+-- The sink tells what it has taken, no call of it failed between these moments, and what it took between them ends with the last line of a
+-- task of this name, with this status and this number.
+pub record HasTold (start finish : World) (name : List ℕ) (status : Status) (rc : ℕ) : Type 0 where
+  pub still : Rose start.sink_faults finish.sink_faults → ⊥
+  pub earlier : List ℕ
+  pub front : List ℕ
+  pub begun : start.taken ≡ Some earlier
+  pub taken : finish.taken ≡ Some (earlier ++ (front ++ done_line name status rc))
+  pub small : rc < 2 ^ 64
+
+-- each turn is a task that was run, and its end has a status that the task expects
+abbrev pub AreExpected : List Turn → List TaskEnd → Type 0
+AreExpected [] [] = Unit {0}
+AreExpected [] (end ∷ ends) = ⊥
+AreExpected (Run task ∷ turns) [] = ⊥
+AreExpected (Refused name early ∷ turns) [] = ⊥
+AreExpected (Run task ∷ turns) (end ∷ ends) = (string_bytes end.name ≡ task.request.name) × Contains task.request.expect end.status × AreExpected turns ends
+AreExpected (Refused name early ∷ turns) (end ∷ ends) = ⊥
+
+-- The words ask for the names of a file's tasks; or all the turns that they ask were had, and ended as their tasks expect.
+abbrev pub AllExpected : World → List (List ℕ) → Done → Type 0
+AllExpected before words done =
+    (asked : Asked) × IsAsked words (Some asked)
+    × (((file : List ℕ) × (asked ≡ AskNames file))
+    ⊎ ((begun : World) × SameSink before begun × ((turns : List Turn) × HasTurns (files_of before) (files_of begun) asked turns × AreExpected turns done.ends.items)))
+
 -- the design and its run that breaks an assertion, and that they were printed
 pub record IsShownBreak (start finish : World) (task : TaskOf) (end : TaskEnd) : Type 0 where
   pub design : DesignOf
-  pub is_design : IsDesignOf start task design
+  pub is_design : IsDesignOf start task end design
   pub run : List CycleOf
   pub assertion : ℕ
   pub cell : CellOf
@@ -151,7 +181,7 @@ pub record IsReachIn (task : TaskOf) (end : TaskEnd) (d : DesignOf) (lines : Lis
 -- the design, for each of its cover statements a run that reaches it, and that these were printed
 pub record AreShownReaches (start finish : World) (task : TaskOf) (end : TaskEnd) : Type 0 where
   pub design : DesignOf
-  pub is_design : IsDesignOf start task design
+  pub is_design : IsDesignOf start task end design
   pub lines : List (List ℕ)
   pub are_lines : AreLines task end lines
   pub each : (k : ℕ) → k < length (covers design) → IsReachIn task end design lines k
@@ -160,7 +190,7 @@ pub record AreShownReaches (start finish : World) (task : TaskOf) (end : TaskEnd
 -- the design and a cover statement that no run of at most so many cycles reaches, and that it was named
 pub record IsNamedUnreached (start finish : World) (task : TaskOf) (end : TaskEnd) : Type 0 where
   pub design : DesignOf
-  pub is_design : IsDesignOf start task design
+  pub is_design : IsDesignOf start task end design
   pub statement : ℕ
   pub cell : CellOf
   pub is_cell : slice_get (covers design) statement ≡ Some cell
@@ -234,11 +264,12 @@ pub record IsUnsettledEnd (reports : List (ReportOf FindingOf)) (answers : List 
   pub end_is : end_at report place ≡ e
 
 -- Why the job at a place ended so, by what serves the jobs: by its stored stream; or, in a lane, by its child, a call for it that failed,
--- or the limit.
+-- or the limit. A call that failed is one of the lane's own bay.
 abbrev pub IsCausedEnd : Service → (ℕ → Type 0) → TaskOf → AskedOf → RaceOf → ℕ → ℕ → JobEnd FindingOf → Type 0
 IsCausedEnd (Streams paths) may_read task p race lane place e = IsStoredEnd e
 IsCausedEnd (Lanes engines) may_read task p race lane place e =
-    HasEndCause (racing_of task p race.task engines) may_read race.scripts race.before race.after race.start lane (name_at task.request.mode place) e
+    (counts : CountsOf) × AreCountsOf race.task lane race.before race.after counts
+    × HasEndCause (racing_of task p race.task engines) may_read race.before.scripts counts race.start lane (name_at task.request.mode place) e
 
 -- an end of an unsettled job of a task that was judged, with its cause
 pub record IsOpenEnd (may_read : ℕ → Type 0) (number : ℕ) (start finish : World) (task : TaskOf) (end : TaskEnd) (p : AskedOf) (answers : List (Option Answer)) (e : JobEnd FindingOf) : Type 0 where
@@ -268,9 +299,26 @@ IsEvent may_read number start finish task end Error =
 abbrev pub HasFailedCall : CountsOf → CountsOf → Type 0
 HasFailedCall before now = Rose before.starts now.starts ⊎ Rose before.reads now.reads ⊎ Rose before.holds now.holds
 
--- The status is this one; or memory was wanting; or it is TIMEOUT, and a reading shows the limit; or ERROR, and a call for a child failed.
-abbrev pub IsInTime : (ℕ → Type 0) → World → World → TaskOf → TaskEnd → Status → Type 0
-IsInTime may_read start finish task end status =
+-- a call for a child of this lane of the task failed
+abbrev pub HasOwnFailedCall : (number lane : ℕ) → YardAt → YardAt → Type 0
+HasOwnFailedCall number lane before now = (counts : CountsOf) × AreCountsOf number lane before now counts × ((0 < counts.starts) ⊎ (0 < counts.reads) ⊎ (0 < counts.holds))
+
+-- A lane's job, whose child's certificate is valid for this answer, is settled with it: a report carries a finding for it with this answer.
+-- Or a call for a child of the lane itself failed; a reading shows the limit; the lane ended the job for want of memory; or it was skipped or
+-- called off by a finding of the task that decides it.
+abbrev pub IsJobInTime : (ℕ → Type 0) → (number lane place : ℕ) → World → World → TaskOf → AskedOf → List Engine → TaskEnd → Answer → Type 0
+IsJobInTime may_read number lane place start finish task p engines end answer =
+    ((f : FindingOf) × SettledIn job_of end.reports.items (name_at task.request.mode place) f × (f.answer ≡ answer))
+    ⊎ HasOwnFailedCall number lane start.yard finish.yard
+    ⊎ ((t : ℕ) × IsLimitShown may_read task.request.limit end.start t)
+    ⊎ ((r : ReportOf FindingOf) × Contains end.reports.items r × (end_at r place ≡ MemoryEnd))
+    ⊎ ((r : ReportOf FindingOf) × (f : FindingOf) × Contains end.reports.items r × Carries (end_at r place) f
+    × (IsSkippedBy (racing_of task p number engines) (name_at task.request.mode place) f ⊎ IsCalledOffBy (racing_of task p number engines) (name_at task.request.mode place) f))
+
+-- The status is this one; or memory was wanting; or it is TIMEOUT, and a reading shows the limit; or ERROR, and a call for a child of the
+-- lane itself failed.
+abbrev pub IsInTime : (ℕ → Type 0) → (number lane : ℕ) → World → World → TaskOf → TaskEnd → Status → Type 0
+IsInTime may_read number lane start finish task end status =
     (end.status ≡ status) ⊎ (end.status ≡ Memory)
     ⊎ ((end.status ≡ Timeout) × ((t : ℕ) × IsLimitShown may_read task.request.limit end.start t))
-    ⊎ ((end.status ≡ Error) × HasFailedCall start.children finish.children)
+    ⊎ ((end.status ≡ Error) × HasOwnFailedCall number lane start.yard finish.yard)

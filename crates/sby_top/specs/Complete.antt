@@ -53,7 +53,7 @@ pub record ArePlain (racing : RacingOf) (told : Option YardOf) (reports : List (
 -- the status that Plain's reports give a task
 pub record IsPlainLanesStatus (start : World) (task : TaskOf) (p : AskedOf) (number : ℕ) (engines : List Engine) (status : Status) : Type 0 where
   pub reports : List (ReportOf FindingOf)
-  pub are_plain : ArePlain (racing_of task p number engines) start.scripts reports
+  pub are_plain : ArePlain (racing_of task p number engines) start.yard.scripts reports
   pub is_status : IsRaceStatus task.request (record { design = p.design; reports = reports; start = None }) status
 
 -- the status of a verdict
@@ -63,9 +63,9 @@ IsVerdictStatus status = (status ≡ Pass) ⊎ (status ≡ Fail)
 -- The yard tells its scripts, and none of the task's has a gate; no call for a child failed; there is no timeout, or no two readings that
 -- the clock may give are the limit apart; and memory was not wanting.
 pub record IsUndisturbed (may_read : ℕ → Type 0) (number : ℕ) (start finish : World) (task : TaskOf) (end : TaskEnd) : Type 0 where
-  pub told : IsSome start.scripts
-  pub ungated : (lane : ℕ) (job : JobName) (script : ScriptOf) → script_of start.scripts number lane job ≡ Some script → script.gate ≡ None
-  pub calls : HasFailedCall start.children finish.children → ⊥
+  pub told : IsSome start.yard.scripts
+  pub ungated : (lane : ℕ) (job : JobName) (script : ScriptOf) → script_of start.yard.scripts number lane job ≡ Some script → script.gate ≡ None
+  pub calls : HasFailedCall start.yard.counts finish.yard.counts → ⊥
   pub in_time : (a b millis : ℕ) → task.request.limit ≡ Some millis → may_read a → may_read b → a ≤ b → millis ≤ b - a → ⊥
   pub memory : end.status ≢ Memory
   pub lanes_memory : (r : ReportOf FindingOf) (place : ℕ) → Contains end.reports.items r → end_at r place ≡ MemoryEnd → ⊥

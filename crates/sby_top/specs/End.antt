@@ -39,7 +39,7 @@ pub record IsEnd (name : List ℕ) (early : Option Early) (text : List ℕ) (rep
 -- the lines of a fault before the lanes were printed, and the status is that of the fault, or MEMORY
 pub record IsFaultTold (request : Request) (early : Early) (before now : Option (List ℕ)) (faults_before faults : ℕ) (when : Option ℕ) (status : Status) (exit : Exit) : Type 0 where
   pub own : ((c : CameTo) → IsStatus request (Some early) c status) ⊎ (status ≡ Memory)
-  pub printed : IsPrinted before now faults_before faults when (HasLines request [] (Some early) [] None []) request.expect ((c : CameTo) → IsStatus request (Some early) c status) status exit
+  pub printed : IsPrinted request.name before now faults_before faults when (HasLines request [] (Some early) [] None []) request.expect ((c : CameTo) → IsStatus request (Some early) c status) status exit
 
 -- The trace files of the first runs shown were put, of all of them where this was not stopped.
 pub record AreShownPut (request : Request) (d : DesignOf) (reports : List (ReportOf FindingOf)) (before after : FilesOf) (unput : List ℕ) (whole : Type 0) : Type 0 where

@@ -36,7 +36,7 @@ use Rattle.sby_terms.specs.declared.names.Verdict.{Verdict}
 use Rattle.sby_words.specs.Kinds.{IsKindNamed}
 use Rattle.sby_lines.specs.Broken.{AreLinesOf, IsFirstBroken, broken_line, last_of}
 use Rattle.sby_lines.specs.Reached.{reached_line, unreached_line}
-use Rattle.sby_lines.specs.Lines.{HasLines, IsStatus}
+use Rattle.sby_lines.specs.Lines.{HasLines, IsStatus, done_line}
 use Rattle.sby_lines.specs.Telling.{GrownByFirst, GrownBySome, grown}
 use Rattle.sby_lines.specs.Told.{job_of}
 use Rattle.sby_lines.specs.declared.early.Early.{Early}
@@ -143,13 +143,17 @@ pub data Exit : Type 0 where
   Code : ℕ → Exit
   Cut : Exit
 
--- The lines were printed, whole or up to a line for which, or for a trace file, memory was wanting, where no call of the sink failed;
--- they were cut short where one did, and it took nothing behind that call.
-abbrev pub IsPrinted : Option (List ℕ) → Option (List ℕ) → ℕ → ℕ → Option ℕ → (List (List ℕ) → Type 0) → List Status → Type 0 → Status → Exit → Type 0
-IsPrinted before now faults_before faults ended are_lines expect own status (Code rc) =
+-- these lines end with this one
+abbrev pub EndIn : List ℕ → List (List ℕ) → Type 0
+EndIn line lines = (body : List (List ℕ)) × (lines ≡ body ++ line ∷ [])
+
+-- The lines of a task of this name were printed, where no call of the sink failed: whole, the last one with the status and its number; or up
+-- to a line for which, or for a trace file, memory was wanting. They were cut short where one did, and it took nothing behind that call.
+abbrev pub IsPrinted : List ℕ → Option (List ℕ) → Option (List ℕ) → ℕ → ℕ → Option ℕ → (List (List ℕ) → Type 0) → List Status → Type 0 → Status → Exit → Type 0
+IsPrinted name before now faults_before faults ended are_lines expect own status (Code rc) =
     (faults ≡ faults_before) × HasCode expect status rc
-    × ((lines : List (List ℕ)) × are_lines lines × ((own × (now ≡ grown before (concat lines))) ⊎ ((status ≡ Memory) × GrownByFirst before now lines)))
-IsPrinted before now faults_before faults ended are_lines expect own status Cut =
+    × ((lines : List (List ℕ)) × are_lines lines × ((own × (now ≡ grown before (concat lines)) × EndIn (done_line name status rc) lines) ⊎ ((status ≡ Memory) × GrownByFirst before now lines)))
+IsPrinted name before now faults_before faults ended are_lines expect own status Cut =
     Rose faults_before faults × AreAll ended now × ((lines : List (List ℕ)) × are_lines lines × own × GrownBySome before now (concat lines))
 
 -- the answer and the event of a job by its stream's fate; without a stream it has neither
@@ -234,14 +238,14 @@ IsComplete before after task end =
 pub record IsLater (before after : World) : Type 0 where
   pub files : before.file_faults ≤ after.file_faults
   pub sink : before.sink_faults ≤ after.sink_faults
-  pub children : AreLater before.children after.children
-  pub scripts : after.scripts ≡ before.scripts
+  pub children : AreLater before.yard.counts after.yard.counts
+  pub scripts : after.yard.scripts ≡ before.yard.scripts
 
 -- a task, which has this number in its call, was run, from one moment to another
 pub record TaskRan (may_read : ℕ → Type 0) (number : ℕ) (before after : World) (task : TaskOf) (end : TaskEnd) (exit : Exit) : Type 0 where
   pub pass : end.status ≡ Pass → IsTrueOf before.told task end.text (PassClaim task.request.mode task end)
   pub fail : end.status ≡ Fail → IsTrueOf before.told task end.text (FailClaim task.request.mode task end)
   pub named : NamesEvent may_read number before after task end
-  pub printed : IsPrinted before.taken after.taken before.sink_faults after.sink_faults after.ended (AreLines task end) task.request.expect (HasOwnStatus task end) end.status exit
+  pub printed : IsPrinted task.request.name before.taken after.taken before.sink_faults after.sink_faults after.ended (AreLines task end) task.request.expect (HasOwnStatus task end) end.status exit
   pub complete : IsComplete before after task end
   pub later : IsLater before after

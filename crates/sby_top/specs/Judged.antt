@@ -109,8 +109,8 @@ racing_of task p number engines = record { problem = p; engines = engines; folde
 abbrev pub AreStreamReports : AskedOf → Option Store → List (List ℕ) → List (ReportOf FindingOf) → Type 0
 AreStreamReports p told paths reports = (report : ReportOf FindingOf) × IsReport p told paths report × (reports ≡ report ∷ [])
 
--- The reports of a task, by what serves its jobs: that of its stored streams, without any child; or those of the lanes of its engines.
+-- The reports of a task, by what serves its jobs: that of its stored streams, for which no child was started; or those of the lanes of its engines.
 abbrev pub AreReports : Service → (ℕ → Type 0) → TaskOf → AskedOf → Option Store → RaceOf → List (ReportOf FindingOf) → Type 0
 AreReports (Streams paths) may_read task p told race reports = AreStreamReports p told paths reports × (race.start ≡ None) × (race.after ≡ race.before)
 AreReports (Lanes engines) may_read task p told race reports =
-    LanesRan (racing_of task p race.task engines) may_read race.scripts race.before race.after race.start reports
+    LanesRan (racing_of task p race.task engines) may_read race.before race.after race.start reports

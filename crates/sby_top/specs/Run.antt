@@ -42,7 +42,7 @@ pub record WasRefused (before after : World) (name : List ℕ) (early : Early) (
   pub start : end.start ≡ None
   pub status : IsRefusedStatus name early end.status ⊎ (end.status ≡ Memory)
   pub code : (rc : ℕ) → exit ≡ Code rc → rc ≡ code_of end.status
-  pub printed : IsPrinted before.taken after.taken before.sink_faults after.sink_faults after.ended
+  pub printed : IsPrinted name before.taken after.taken before.sink_faults after.sink_faults after.ended
       (HasLines (refused_request name) [] (Some early) [] None []) [] (IsRefusedStatus name early end.status) end.status exit
   pub files : files_of after ≡ files_of before
   pub yard : SameYard before after

@@ -1,11 +1,11 @@
 -- The outside at a moment.
 use Rattle.std.specs.Prelude.{◌≡◌, ℕ, List, Option, IfSome}
-use Rattle.sby_edge.specs.Cause.{CountsOf, Rose}
-use Rattle.sby_edge.specs.Child.{YardOf}
+use Rattle.sby_edge.specs.Cause.{Rose}
 use Rattle.sby_edge.specs.Files.{Store}
+use Rattle.task_race.specs.Bays.{YardAt}
 
 -- What the file store and the sink tell; their counts of faults; the path at which a file call last failed, and how many bytes the sink
--- had taken when a call of it last did, where these are told; the scripts of children, where the yard tells them, and its counts of faults.
+-- had taken when a call of it last did, where these are told; and the yard.
 pub record World : Type 0 where
   pub told : Option Store
   pub file_faults : ℕ
@@ -13,8 +13,7 @@ pub record World : Type 0 where
   pub taken : Option (List ℕ)
   pub sink_faults : ℕ
   pub ended : Option ℕ
-  pub scripts : Option YardOf
-  pub children : CountsOf
+  pub yard : YardAt
 
 -- what the file store tells, its count of faults, and the path at which a call of it last failed
 pub record FilesOf : Type 0 where
@@ -32,22 +31,21 @@ pub record IsFailedAt (before now : FilesOf) (path : List ℕ) : Type 0 where
   pub same : now.told ≡ before.told
 
 -- the outside, by what the file store, the sink and the yard tell
-abbrev pub world_at : Option Store → ℕ → Option (List ℕ) → Option (List ℕ) → ℕ → Option ℕ → Option YardOf → CountsOf → World
-world_at told faults blamed taken sink_faults ended scripts children =
-    record { told = told; file_faults = faults; blamed = blamed; taken = taken; sink_faults = sink_faults; ended = ended; scripts = scripts; children = children }
+abbrev pub world_at : Option Store → ℕ → Option (List ℕ) → Option (List ℕ) → ℕ → Option ℕ → YardAt → World
+world_at told faults blamed taken sink_faults ended yard =
+    record { told = told; file_faults = faults; blamed = blamed; taken = taken; sink_faults = sink_faults; ended = ended; yard = yard }
 
--- What the lanes of a task, which has this number in its call, know of the yard: the scripts that it tells, and its counts before them and
--- behind them; and the reading at which they started, where they have a limit.
+-- What the lanes of a task, which has this number in its call, know of the yard, before them and behind them; and the reading at which they
+-- started, where they have a limit.
 pub record RaceOf : Type 0 where
   pub task : ℕ
-  pub scripts : Option YardOf
-  pub before : CountsOf
-  pub after : CountsOf
+  pub before : YardAt
+  pub after : YardAt
   pub start : Option ℕ
 
 abbrev pub race_of : ℕ → World → World → Option ℕ → RaceOf
-race_of number before after start = record { task = number; scripts = before.scripts; before = before.children; after = after.children; start = start }
+race_of number before after start = record { task = number; before = before.yard; after = after.yard; start = start }
 
--- the yard is as it was
+-- the yard is as it was: it tells no new start, and no call for a child failed
 abbrev pub SameYard : World → World → Type 0
-SameYard before after = (after.scripts ≡ before.scripts) × (after.children ≡ before.children)
+SameYard before after = after.yard ≡ before.yard

@@ -12,6 +12,8 @@ ghost use Rattle.design_core.specs.Shape.{DesignOf};
 ghost use Rattle.design_reader.specs.Grammar.{Reads};
 ghost use Rattle.judge.specs.Fault.{IsProblemFault};
 ghost use Rattle.judge.specs.Jobs.{jobs_in};
+ghost use Rattle.judge.specs.Problem.{IsJobFile};
+ghost use Rattle.race_core.specs.Asking.{name_at};
 ghost use Rattle.judge.specs.declared.problem.ProblemFault.{ProblemFault};
 ghost use Rattle.sby_edge.specs.Child.{up_to};
 ghost use Rattle.sby_edge.specs.Files.{Store};
@@ -30,7 +32,7 @@ ghost use Rattle.sby_terms.specs.declared.names.Status.TheVariants.{Memory};
 ghost use Rattle.sby_terms.specs.declared.names.Verdict.{Verdict};
 ghost use Rattle.sby_words.specs.Kinds.{IsKindNamed};
 ghost use Rattle.sby_words.specs.Requests.{JudgeRequest};
-ghost use Rattle.sby_top.specs.Claims.{IsInTime, IsJudgedAt, IsTaskOf, status_for};
+ghost use Rattle.sby_top.specs.Claims.{IsInTime, IsJobInTime, IsJudgedAt, IsTaskOf, status_for};
 ghost use Rattle.sby_top.specs.Complete.{IsByLook, IsPlainLanesStatus, IsUndisturbed, IsVerdictStatus};
 ghost use Rattle.sby_top.specs.Headline.{AreFates, AreWhole, IsSmooth, fate_answer};
 ghost use Rattle.sby_top.specs.Served.{IsTextOf, jobs_in as jobs_asked, most_stream};
@@ -104,19 +106,32 @@ pub fn stored_certificate_gives_its_verdict<C: Clock>(clock: &C)
 /// A valid certificate of a child, judged in time, gives its verdict, PASS for Unsat and FAIL for Sat: of bmc of one slice, where the script
 /// of a lane's child is told and has no gate, the lane's engine serves jobs, and what the child leaves is a certificate for this answer of the
 /// job's file, as it stands when the task is judged: what it writes, up to its stall; or, where the engine's kind is such and that comes to
-/// nothing, its proof file. Else memory was wanting; a reading of the clock showed the limit, with TIMEOUT; or a call for a child failed, with
-/// ERROR.
+/// nothing, its proof file. Else memory was wanting; a reading of the clock showed the limit, with TIMEOUT; or a call for a child of this lane
+/// failed, with ERROR.
 pub fn valid_child_gives_its_verdict<C: Clock>(clock: &C)
     ensures { (before start finish : World) (words : List (List ℕ)) (done : Done) (task : TaskOf) (end : TaskEnd) (engines : List Engine) (lane : ℕ) (script : ScriptOf) (now : Store) (file : List ℕ) (answer : Answer)
         → (is : IsTaskOf (C.may_read clock.now) before words done start finish task end) → IsJudgedAt (C.may_read clock.now) is.place start finish task end now
         → task.request.mode ≡ Bmc → slices_of task.request.span ≡ 1 → task.service ≡ Lanes engines → IsServing (slice_get engines lane)
-        → script_of start.scripts is.place lane (Base 0) ≡ Some script → script.gate ≡ None
+        → script_of start.yard.scripts is.place lane (Base 0) ≡ Some script → script.gate ≡ None
         → now (job_path task.request.name 1 (Base 0)) ≡ Some file → IsFateOf (evidence_at (slice_get engines lane)) file (up_to script.stalls script.bytes) (take (most_stream + 1) script.proof) (Found answer)
-        → IsInTime (C.may_read clock.now) start finish task end (status_for answer) }
+        → IsInTime (C.may_read clock.now) is.place lane start finish task end (status_for answer) }
 {
     files_tell_what_jobs_ask();
     findings_tell_what_can_be_solved();
 }
+
+/// A valid certificate of a child settles its job, in every mode: where the script of a lane's child is told and has no gate, the lane's engine
+/// serves jobs, and what the child leaves is a certificate for this answer of the job's file, some report carries a finding for the job with
+/// this answer. Else a call for a child of this lane failed, whatever failed in another; a reading of the clock showed the limit; the lane
+/// wanted memory; or the job was skipped or called off by a finding that decides it.
+pub fn valid_child_settles_its_job<C: Clock>(clock: &C)
+    ensures { (before start finish : World) (words : List (List ℕ)) (done : Done) (task : TaskOf) (end : TaskEnd) (engines : List Engine) (lane place : ℕ) (script : ScriptOf) (now : Store) (file : List ℕ) (answer : Answer)
+        → (is : IsTaskOf (C.may_read clock.now) before words done start finish task end) → (judged : IsJudgedAt (C.may_read clock.now) is.place start finish task end now)
+        → task.service ≡ Lanes engines → place < length (jobs_asked judged.done.problem) → IsServing (slice_get engines lane)
+        → script_of start.yard.scripts is.place lane (name_at task.request.mode place) ≡ Some script → script.gate ≡ None → IsJobFile judged.done.problem (name_at task.request.mode place) file
+        → IsFateOf (evidence_at (slice_get engines lane)) file (up_to script.stalls script.bytes) (take (most_stream + 1) script.proof) (Found answer)
+        → IsJobInTime (C.may_read clock.now) is.place lane place start finish task judged.done.problem engines end answer }
+{}
 
 /// Lanes that nothing disturbed give Plain's status, which goes by the scripts and the engine lines alone: always where that is a verdict; else
 /// so, or some job's finding came by a look, while no lane's end of that job is Found. Nothing disturbs them where the yard tells its scripts

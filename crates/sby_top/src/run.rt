@@ -16,7 +16,7 @@ ghost use Rattle.sby_top.specs.Shown.{AreFitting, ArePutUpto, trace_seen};
 ghost use Rattle.sby_top.specs.Steps.{files_at};
 ghost use Rattle.sby_top.specs.Task.{IsAskable, task_seen};
 ghost use Rattle.sby_top.specs.World.{world_at};
-ghost use Rattle.task_race.specs.Bays.{counts_at};
+ghost use Rattle.task_race.specs.Bays.{counts_at, yard_at};
 
 use crate::outcome::TaskEnd;
 use crate::serve::{Served, serve};
@@ -44,6 +44,7 @@ pub enum Exit {
 fn heading(task: &Task) -> Heading<'_>
     ensures request { asked_by result (task_seen task.now).request.expect ≡ (task_seen task.now).request }
     ensures mode { result.mode ≡ task.now.mode }
+    ensures limit { result.limit ≡ task.now.limit }
     ensures span { result.span ≡ task.now.span }
 {
     Heading {
@@ -108,6 +109,7 @@ fn tell_served<F: Files, S: Sink>(
     rc: u8,
 ) -> Result<(), Stop>
     requires reported { AreReported heading.now.mode heading.now.span served.now.problem.design served.now.reports.items }
+    requires limited { AreLimited served.now.start heading.now.limit served.now.reports.items }
     requires collected { IsCollected heading.now.mode heading.now.span served.now.problem.design served.now.reports.items served.now.collected }
     requires fitting { AreFitting served.now.problem.design (map trace_seen runs.now) }
     requires none { unput.old.items ≡ [] }
@@ -161,6 +163,7 @@ fn tell_task<F: Files, S: Sink>(
     rc: u8,
 ) -> Result<(), Stop>
     requires reported { AreReported heading.now.mode heading.now.span served.now.problem.design served.now.reports.items }
+    requires limited { AreLimited served.now.start heading.now.limit served.now.reports.items }
     requires collected { IsCollected heading.now.mode heading.now.span served.now.problem.design served.now.reports.items served.now.collected }
     requires none { unput.old.items ≡ [] }
     ensures told { (expect : List StatusOf) (lines : List (List ℕ)) → HasJobLines (asked_by heading.now expect) (came served.now.problem.design served.now.reports.items served.now.start) served.now.collected.status lines
@@ -198,7 +201,7 @@ fn finish_served<F: Files, S: Sink>(
     requires collected { IsCollected task.mode task.span served.problem.design served.reports.items served.collected }
     ensures end { IsEnd (string_bytes task.name) None served.problem.problem.text served.reports.items served.start result.0 }
     ensures status { HasOwnStatus (task_seen task) result.0 ⊎ (result.0.status ≡ MemoryStatus) }
-    ensures printed { IsPrinted (S.taken out.old) (S.taken out.new) (S.faults out.old) (S.faults out.new) (S.ended out.new) (AreLines (task_seen task) result.0) task.expect (HasOwnStatus (task_seen task) result.0) result.0.status (exit_seen result.1) }
+    ensures printed { IsPrinted (string_bytes task.name) (S.taken out.old) (S.taken out.new) (S.faults out.old) (S.faults out.new) (S.ended out.new) (AreLines (task_seen task) result.0) task.expect (HasOwnStatus (task_seen task) result.0) result.0.status (exit_seen result.1) }
     ensures put { AreTracesPut (task_seen task) (files_at (F.told files.old) (F.faults files.old) (F.blamed files.old)) (files_at (F.told files.new) (F.faults files.new) (F.blamed files.new)) served.problem served.reports.items result.0.unput.items
         ((result.0.status ≡ MemoryStatus) ⊎ Rose (S.faults out.old) (S.faults out.new)) }
     ensures files { F.faults files.old ≤ F.faults files.new }
@@ -236,8 +239,8 @@ pub fn run_task<R: Threads + Wait + Sync, F: Files, S: Sink, Y: Yard, C: Clock>(
 ) -> (TaskEnd, Exit)
     requires { IsAskable (task_seen task) }
     ensures { TaskRan (C.may_read clock.now) number
-        (world_at (F.told files.old) (F.faults files.old) (F.blamed files.old) (S.taken out.old) (S.faults out.old) (S.ended out.old) (Y.told yard.old) (counts_at (Y.start_faults yard.old) (Y.read_faults yard.old) (Y.hold_faults yard.old)))
-        (world_at (F.told files.new) (F.faults files.new) (F.blamed files.new) (S.taken out.new) (S.faults out.new) (S.ended out.new) (Y.told yard.new) (counts_at (Y.start_faults yard.new) (Y.read_faults yard.new) (Y.hold_faults yard.new)))
+        (world_at (F.told files.old) (F.faults files.old) (F.blamed files.old) (S.taken out.old) (S.faults out.old) (S.ended out.old) (yard_at (Y.told yard.old) (Y.started yard.old) (counts_at (Y.start_faults yard.old) (Y.read_faults yard.old) (Y.hold_faults yard.old))))
+        (world_at (F.told files.new) (F.faults files.new) (F.blamed files.new) (S.taken out.new) (S.faults out.new) (S.ended out.new) (yard_at (Y.told yard.new) (Y.started yard.new) (counts_at (Y.start_faults yard.new) (Y.read_faults yard.new) (Y.hold_faults yard.new))))
         (task_seen task) result.0 (exit_seen result.1) }
 {
     // PASS of prove and of bmc stands on these laws, and what is shown on the others.

@@ -15,12 +15,12 @@ ghost use Rattle.sby_terms.specs.Problem.{ProblemOf};
 ghost use Rattle.sby_terms.specs.Path.{job_path};
 ghost use Rattle.sby_lines.specs.Told.{AreLimited, AreReported, IsCollected};
 ghost use Rattle.sby_top.specs.Task.{IsAskable, problem_of, design_seen, service_seen, streams_in, task_seen};
-ghost use Rattle.task_race.specs.Bays.{AreLater, counts_at};
+ghost use Rattle.task_race.specs.Bays.{AreLater, counts_at, yard_at};
 ghost use Rattle.task_race.specs.Ran.{LanesRan};
 
 use crate::judge_stream::judge_stored;
 use crate::task::{DesignAt, Service, Task};
-use judge::{Finding, Problem, ProblemFault};
+use judge::{Finding, Problem, ProblemFault, one_file};
 use race_core::{JobEnd, Report};
 use sby_edge::{Clock, Fail, Files, Got, Yard};
 use sby_lines::{Collected, Early};
@@ -337,27 +337,32 @@ fn race_jobs<R: Threads + Wait + Sync, F: Files, Y: Yard, C: Clock>(
     number: u32,
 ) -> Result<RanLanes, Early>
     ensures put { OnOk result (ArePut problem.now (task_seen task.now).request.name (jobs_in problem.now) (F.told files.old) (F.told files.new)) }
-    ensures ok { IfOk result (λ ran. LanesRan (racing_of (task_seen task.now) problem.now number engines.now) (C.may_read clock.now) (Y.told yard.old)
-        (counts_at (Y.start_faults yard.old) (Y.read_faults yard.old) (Y.hold_faults yard.old)) (counts_at (Y.start_faults yard.new) (Y.read_faults yard.new) (Y.hold_faults yard.new)) ran.start ran.reports.items) }
+    ensures ok { IfOk result (λ ran. LanesRan (racing_of (task_seen task.now) problem.now number engines.now) (C.may_read clock.now)
+        (yard_at (Y.told yard.old) (Y.started yard.old) (counts_at (Y.start_faults yard.old) (Y.read_faults yard.old) (Y.hold_faults yard.old)))
+        (yard_at (Y.told yard.new) (Y.started yard.new) (counts_at (Y.start_faults yard.new) (Y.read_faults yard.new) (Y.hold_faults yard.new))) ran.start ran.reports.items) }
     ensures err { IfErr result (IsCutShort problem.now (task_seen task.now).request.name [] (files_at (F.told files.old) (F.faults files.old) (F.blamed files.old)) (files_at (F.told files.new) (F.faults files.new) (F.blamed files.new))) }
-    ensures spared { OnErr result (counts_at (Y.start_faults yard.new) (Y.read_faults yard.new) (Y.hold_faults yard.new) ≡ counts_at (Y.start_faults yard.old) (Y.read_faults yard.old) (Y.hold_faults yard.old)) }
+    ensures spared { IfErr result (λ early. (yard_at (Y.told yard.new) (Y.started yard.new) (counts_at (Y.start_faults yard.new) (Y.read_faults yard.new) (Y.hold_faults yard.new))
+        ≡ yard_at (Y.told yard.old) (Y.started yard.old) (counts_at (Y.start_faults yard.old) (Y.read_faults yard.old) (Y.hold_faults yard.old))) ⊎ (early ≡ EarlyMemory)) }
     ensures still { OnOk result (F.faults files.new ≡ F.faults files.old) }
     ensures blamed { OnOk result (F.blamed files.new ≡ F.blamed files.old) }
     ensures later { F.faults files.old ≤ F.faults files.new }
     ensures scripts { Y.told yard.new ≡ Y.told yard.old }
     ensures children { AreLater (counts_at (Y.start_faults yard.old) (Y.read_faults yard.old) (Y.hold_faults yard.old)) (counts_at (Y.start_faults yard.new) (Y.read_faults yard.new) (Y.hold_faults yard.new)) }
 {
-    let folder = task.name.as_str();
-    put_jobs(alloc, files, problem, folder)?;
+    // A job has one file, and the problem is one.
+    one_file();
+    let _ = problem.flat();
+    let name = task.name.as_str();
+    put_jobs(alloc, files, problem, name)?;
     let racing = Racing {
         problem,
         engines,
-        folder,
+        folder: name,
         task: number,
         wait: task.wait,
         limit: task.limit,
     };
-    match race_task(rt, alloc, yard, clock, &racing) {
+    match race_task(rt, alloc, files, yard, clock, &racing) {
         Ok(ran) => Ok(ran),
         Err(_) => Err(Early::Memory),
     }
@@ -378,13 +383,13 @@ fn serve_jobs<R: Threads + Wait + Sync, F: Files, Y: Yard, C: Clock>(
     ensures ok { IfOk result (λ ran. AreReports (service_seen task.now.service) (C.may_read clock.now) (task_seen task.now) problem.now (F.told files.new)
         (record {
           task = number;
-          scripts = Y.told yard.old;
-          before = counts_at (Y.start_faults yard.old) (Y.read_faults yard.old) (Y.hold_faults yard.old);
-          after = counts_at (Y.start_faults yard.new) (Y.read_faults yard.new) (Y.hold_faults yard.new);
+          before = yard_at (Y.told yard.old) (Y.started yard.old) (counts_at (Y.start_faults yard.old) (Y.read_faults yard.old) (Y.hold_faults yard.old));
+          after = yard_at (Y.told yard.new) (Y.started yard.new) (counts_at (Y.start_faults yard.new) (Y.read_faults yard.new) (Y.hold_faults yard.new));
           start = ran.start;
         }) ran.reports.items) }
     ensures err { IfErr result (IsCutShort problem.now (task_seen task.now).request.name (streams_in (service_seen task.now.service)) (files_at (F.told files.old) (F.faults files.old) (F.blamed files.old)) (files_at (F.told files.new) (F.faults files.new) (F.blamed files.new))) }
-    ensures spared { OnErr result (counts_at (Y.start_faults yard.new) (Y.read_faults yard.new) (Y.hold_faults yard.new) ≡ counts_at (Y.start_faults yard.old) (Y.read_faults yard.old) (Y.hold_faults yard.old)) }
+    ensures spared { IfErr result (λ early. (yard_at (Y.told yard.new) (Y.started yard.new) (counts_at (Y.start_faults yard.new) (Y.read_faults yard.new) (Y.hold_faults yard.new))
+        ≡ yard_at (Y.told yard.old) (Y.started yard.old) (counts_at (Y.start_faults yard.old) (Y.read_faults yard.old) (Y.hold_faults yard.old))) ⊎ (early ≡ EarlyMemory)) }
     ensures still { OnOk result (F.faults files.new ≡ F.faults files.old) }
     ensures blamed { OnOk result (F.blamed files.new ≡ F.blamed files.old) }
     ensures later { F.faults files.old ≤ F.faults files.new }
@@ -436,16 +441,16 @@ pub fn serve<R: Threads + Wait + Sync, F: Files, Y: Yard, C: Clock>(
     ensures done { IfOk result (λ s. (done : IsDone (C.may_read clock.now) (task_seen task.now) (files_at (F.told files.old) (F.faults files.old) (F.blamed files.old)) (files_at (F.told files.new) (F.faults files.new) (F.blamed files.new))
         (record {
           task = number;
-          scripts = Y.told yard.old;
-          before = counts_at (Y.start_faults yard.old) (Y.read_faults yard.old) (Y.hold_faults yard.old);
-          after = counts_at (Y.start_faults yard.new) (Y.read_faults yard.new) (Y.hold_faults yard.new);
+          before = yard_at (Y.told yard.old) (Y.started yard.old) (counts_at (Y.start_faults yard.old) (Y.read_faults yard.old) (Y.hold_faults yard.old));
+          after = yard_at (Y.told yard.new) (Y.started yard.new) (counts_at (Y.start_faults yard.new) (Y.read_faults yard.new) (Y.hold_faults yard.new));
           start = s.start;
         }) s.problem.problem.text s.reports.items) × (done.problem ≡ s.problem)) }
     ensures reported { IfOk result (λ s. AreReported task.now.mode task.now.span s.problem.design s.reports.items) }
     ensures limited { IfOk result (λ s. AreLimited s.start task.now.limit s.reports.items) }
     ensures collected { IfOk result (λ s. IsCollected task.now.mode task.now.span s.problem.design s.reports.items s.collected) }
     ensures err { IfErr result (HasReason (task_seen task.now) (files_at (F.told files.old) (F.faults files.old) (F.blamed files.old)) (files_at (F.told files.new) (F.faults files.new) (F.blamed files.new))) }
-    ensures spared { IfErr result (λ early. (counts_at (Y.start_faults yard.new) (Y.read_faults yard.new) (Y.hold_faults yard.new) ≡ counts_at (Y.start_faults yard.old) (Y.read_faults yard.old) (Y.hold_faults yard.old)) ⊎ (early ≡ EarlyMemory)) }
+    ensures spared { IfErr result (λ early. (yard_at (Y.told yard.new) (Y.started yard.new) (counts_at (Y.start_faults yard.new) (Y.read_faults yard.new) (Y.hold_faults yard.new))
+        ≡ yard_at (Y.told yard.old) (Y.started yard.old) (counts_at (Y.start_faults yard.old) (Y.read_faults yard.old) (Y.hold_faults yard.old))) ⊎ (early ≡ EarlyMemory)) }
     ensures later { F.faults files.old ≤ F.faults files.new }
     ensures scripts { Y.told yard.new ≡ Y.told yard.old }
     ensures children { AreLater (counts_at (Y.start_faults yard.old) (Y.read_faults yard.old) (Y.hold_faults yard.old)) (counts_at (Y.start_faults yard.new) (Y.read_faults yard.new) (Y.hold_faults yard.new)) }

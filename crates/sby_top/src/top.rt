@@ -3,7 +3,6 @@
 ghost use Rattle.std.specs.Prelude.{◌≡◌, ◌⊎◌, ◌<◌, ◌≤◌, [], ◌∷◌, List, ℕ, IfOk, None, Option, Some, length, map, option_map, string_bytes, vec_capacity};
 ghost use Rattle.gen_design.specs.Ring.{task_lines, text_of};
 ghost use Rattle.sby_edge.specs.Cause.{CountsOf, Rose};
-ghost use Rattle.sby_edge.specs.Child.{YardOf};
 ghost use Rattle.sby_edge.specs.Files.{Store};
 ghost use Rattle.sby_edge.specs.Sink.{AreAll};
 ghost use Rattle.sby_lines.specs.Telling.{GrownBySome, Tells, grown};
@@ -15,7 +14,7 @@ ghost use Rattle.sby_top.specs.Ending.{IsAsk, RanTo, told_code};
 ghost use Rattle.sby_top.specs.Run.{Did, LinesAlone, NamesTold, TurnRan, TurnsDone, WasRefused, name_lines, rc_of_exit};
 ghost use Rattle.sby_top.specs.Turns.{AreTextTurns, AreTurnsOf, IsSound, Refused, Turn as TurnOf, asked_tasks, gen_stem, turn_seen};
 ghost use Rattle.sby_top.specs.World.{world_at};
-ghost use Rattle.task_race.specs.Bays.{counts_at};
+ghost use Rattle.task_race.specs.Bays.{YardAt, counts_at, yard_at};
 
 use crate::outcome::{Done, TaskEnd};
 use crate::run::{Exit, finish_fault, run_task};
@@ -35,8 +34,8 @@ const MOST_TASK_FILE: u64 = 1 << 24;
 
 // Only a fault is told, under this name. Its status has its number whatever is expected.
 fn refuse<S: Sink>(alloc: Global, out: &mut S, name: String, early: Early) -> (TaskEnd, Exit)
-    ensures { (told : Option Store) (faults : ℕ) (blamed : Option (List ℕ)) (scripts : Option YardOf) (children : CountsOf) → WasRefused
-        (world_at told faults blamed (S.taken out.old) (S.faults out.old) (S.ended out.old) scripts children) (world_at told faults blamed (S.taken out.new) (S.faults out.new) (S.ended out.new) scripts children)
+    ensures { (told : Option Store) (faults : ℕ) (blamed : Option (List ℕ)) (yard : YardAt) → WasRefused
+        (world_at told faults blamed (S.taken out.old) (S.faults out.old) (S.ended out.old) yard) (world_at told faults blamed (S.taken out.new) (S.faults out.new) (S.ended out.new) yard)
         (string_bytes name) early result.0 (exit_seen result.1) }
 {
     let expect = Expect::new(Vec::new(alloc));
@@ -56,8 +55,8 @@ fn run_turn<R: Threads + Wait + Sync, F: Files, S: Sink, Y: Yard, C: Clock>(
 ) -> (TaskEnd, Exit)
     requires { IsSound (turn_seen turn) }
     ensures { TurnRan (C.may_read clock.now) number
-        (world_at (F.told files.old) (F.faults files.old) (F.blamed files.old) (S.taken out.old) (S.faults out.old) (S.ended out.old) (Y.told yard.old) (counts_at (Y.start_faults yard.old) (Y.read_faults yard.old) (Y.hold_faults yard.old)))
-        (world_at (F.told files.new) (F.faults files.new) (F.blamed files.new) (S.taken out.new) (S.faults out.new) (S.ended out.new) (Y.told yard.new) (counts_at (Y.start_faults yard.new) (Y.read_faults yard.new) (Y.hold_faults yard.new)))
+        (world_at (F.told files.old) (F.faults files.old) (F.blamed files.old) (S.taken out.old) (S.faults out.old) (S.ended out.old) (yard_at (Y.told yard.old) (Y.started yard.old) (counts_at (Y.start_faults yard.old) (Y.read_faults yard.old) (Y.hold_faults yard.old))))
+        (world_at (F.told files.new) (F.faults files.new) (F.blamed files.new) (S.taken out.new) (S.faults out.new) (S.ended out.new) (yard_at (Y.told yard.new) (Y.started yard.new) (counts_at (Y.start_faults yard.new) (Y.read_faults yard.new) (Y.hold_faults yard.new))))
         (turn_seen turn) result.0 (exit_seen result.1) }
 {
     match turn {
@@ -89,8 +88,8 @@ fn run_only<R: Threads + Wait + Sync, F: Files, S: Sink, Y: Yard, C: Clock>(
 ) -> Done
     requires { IsSound (turn_seen turn) }
     ensures { RanTo (C.may_read clock.now)
-        (world_at (F.told files.old) (F.faults files.old) (F.blamed files.old) (S.taken out.old) (S.faults out.old) (S.ended out.old) (Y.told yard.old) (counts_at (Y.start_faults yard.old) (Y.read_faults yard.old) (Y.hold_faults yard.old))) (turn_seen turn ∷ [])
-        (world_at (F.told files.new) (F.faults files.new) (F.blamed files.new) (S.taken out.new) (S.faults out.new) (S.ended out.new) (Y.told yard.new) (counts_at (Y.start_faults yard.new) (Y.read_faults yard.new) (Y.hold_faults yard.new))) result }
+        (world_at (F.told files.old) (F.faults files.old) (F.blamed files.old) (S.taken out.old) (S.faults out.old) (S.ended out.old) (yard_at (Y.told yard.old) (Y.started yard.old) (counts_at (Y.start_faults yard.old) (Y.read_faults yard.old) (Y.hold_faults yard.old)))) (turn_seen turn ∷ [])
+        (world_at (F.told files.new) (F.faults files.new) (F.blamed files.new) (S.taken out.new) (S.faults out.new) (S.ended out.new) (yard_at (Y.told yard.new) (Y.started yard.new) (counts_at (Y.start_faults yard.new) (Y.read_faults yard.new) (Y.hold_faults yard.new)))) result }
 {
     let mut ends = match Vec::with_capacity(alloc, 1) {
         Ok(ends) => ends,
@@ -128,8 +127,8 @@ fn run_asked<R: Threads + Wait + Sync, F: Files, S: Sink, Y: Yard, C: Clock>(
 ) -> bool
     requires { length done.old.ends.items < vec_capacity done.old.ends }
     ensures asked { IsAsk (C.may_read clock.now)
-        (world_at (F.told files.old) (F.faults files.old) (F.blamed files.old) (S.taken out.old) (S.faults out.old) (S.ended out.old) (Y.told yard.old) (counts_at (Y.start_faults yard.old) (Y.read_faults yard.old) (Y.hold_faults yard.old)))
-        (world_at (F.told files.new) (F.faults files.new) (F.blamed files.new) (S.taken out.new) (S.faults out.new) (S.ended out.new) (Y.told yard.new) (counts_at (Y.start_faults yard.new) (Y.read_faults yard.new) (Y.hold_faults yard.new)))
+        (world_at (F.told files.old) (F.faults files.old) (F.blamed files.old) (S.taken out.old) (S.faults out.old) (S.ended out.old) (yard_at (Y.told yard.old) (Y.started yard.old) (counts_at (Y.start_faults yard.old) (Y.read_faults yard.old) (Y.hold_faults yard.old))))
+        (world_at (F.told files.new) (F.faults files.new) (F.blamed files.new) (S.taken out.new) (S.faults out.new) (S.ended out.new) (yard_at (Y.told yard.new) (Y.started yard.new) (counts_at (Y.start_faults yard.new) (Y.read_faults yard.new) (Y.hold_faults yard.new))))
         book.now.stem.now (option_map (λ s. s.now) book.now.directory) book.now.config.now (option_map (λ s. s.now) asked.entry) done.old done.new result }
     ensures room { vec_capacity done.old.ends ≤ vec_capacity done.new.ends }
 {
@@ -167,8 +166,8 @@ fn run_named<R: Threads + Wait + Sync, F: Files, S: Sink, Y: Yard, C: Clock>(
     requires { 0 < length names.now }
     ensures { (turns : List TurnOf) × AreTurnsOf book.now.stem.now (option_map (λ s. s.now) book.now.directory) book.now.config.now (map Some (map string_bytes names.now)) turns
         × RanTo (C.may_read clock.now)
-        (world_at (F.told files.old) (F.faults files.old) (F.blamed files.old) (S.taken out.old) (S.faults out.old) (S.ended out.old) (Y.told yard.old) (counts_at (Y.start_faults yard.old) (Y.read_faults yard.old) (Y.hold_faults yard.old))) turns
-        (world_at (F.told files.new) (F.faults files.new) (F.blamed files.new) (S.taken out.new) (S.faults out.new) (S.ended out.new) (Y.told yard.new) (counts_at (Y.start_faults yard.new) (Y.read_faults yard.new) (Y.hold_faults yard.new))) result }
+        (world_at (F.told files.old) (F.faults files.old) (F.blamed files.old) (S.taken out.old) (S.faults out.old) (S.ended out.old) (yard_at (Y.told yard.old) (Y.started yard.old) (counts_at (Y.start_faults yard.old) (Y.read_faults yard.old) (Y.hold_faults yard.old)))) turns
+        (world_at (F.told files.new) (F.faults files.new) (F.blamed files.new) (S.taken out.new) (S.faults out.new) (S.ended out.new) (yard_at (Y.told yard.new) (Y.started yard.new) (counts_at (Y.start_faults yard.new) (Y.read_faults yard.new) (Y.hold_faults yard.new)))) result }
 {
     let ends = match Vec::with_capacity(alloc, names.len()) {
         Ok(ends) => ends,
@@ -205,8 +204,8 @@ fn run_nameless<R: Threads + Wait + Sync, F: Files, S: Sink, Y: Yard, C: Clock>(
 ) -> Done
     ensures { (turns : List TurnOf) × AreTurnsOf book.now.stem.now (option_map (λ s. s.now) book.now.directory) book.now.config.now (None ∷ []) turns
         × RanTo (C.may_read clock.now)
-        (world_at (F.told files.old) (F.faults files.old) (F.blamed files.old) (S.taken out.old) (S.faults out.old) (S.ended out.old) (Y.told yard.old) (counts_at (Y.start_faults yard.old) (Y.read_faults yard.old) (Y.hold_faults yard.old))) turns
-        (world_at (F.told files.new) (F.faults files.new) (F.blamed files.new) (S.taken out.new) (S.faults out.new) (S.ended out.new) (Y.told yard.new) (counts_at (Y.start_faults yard.new) (Y.read_faults yard.new) (Y.hold_faults yard.new))) result }
+        (world_at (F.told files.old) (F.faults files.old) (F.blamed files.old) (S.taken out.old) (S.faults out.old) (S.ended out.old) (yard_at (Y.told yard.old) (Y.started yard.old) (counts_at (Y.start_faults yard.old) (Y.read_faults yard.old) (Y.hold_faults yard.old)))) turns
+        (world_at (F.told files.new) (F.faults files.new) (F.blamed files.new) (S.taken out.new) (S.faults out.new) (S.ended out.new) (yard_at (Y.told yard.new) (Y.started yard.new) (counts_at (Y.start_faults yard.new) (Y.read_faults yard.new) (Y.hold_faults yard.new)))) result }
 {
     match turn_of(alloc, book, None) {
         Ok(turn) => run_only(rt, alloc, files, out, yard, clock, turn),
@@ -227,8 +226,8 @@ fn run_book<R: Threads + Wait + Sync, F: Files, S: Sink, Y: Yard, C: Clock>(
 ) -> Done
     ensures { (turns : List TurnOf) × AreTurnsOf book.now.stem.now (option_map (λ s. s.now) book.now.directory) book.now.config.now (asked_tasks (map string_bytes names.now) book.now.config.now) turns
         × RanTo (C.may_read clock.now)
-        (world_at (F.told files.old) (F.faults files.old) (F.blamed files.old) (S.taken out.old) (S.faults out.old) (S.ended out.old) (Y.told yard.old) (counts_at (Y.start_faults yard.old) (Y.read_faults yard.old) (Y.hold_faults yard.old))) turns
-        (world_at (F.told files.new) (F.faults files.new) (F.blamed files.new) (S.taken out.new) (S.faults out.new) (S.ended out.new) (Y.told yard.new) (counts_at (Y.start_faults yard.new) (Y.read_faults yard.new) (Y.hold_faults yard.new))) result }
+        (world_at (F.told files.old) (F.faults files.old) (F.blamed files.old) (S.taken out.old) (S.faults out.old) (S.ended out.old) (yard_at (Y.told yard.old) (Y.started yard.old) (counts_at (Y.start_faults yard.old) (Y.read_faults yard.old) (Y.hold_faults yard.old)))) turns
+        (world_at (F.told files.new) (F.faults files.new) (F.blamed files.new) (S.taken out.new) (S.faults out.new) (S.ended out.new) (yard_at (Y.told yard.new) (Y.started yard.new) (counts_at (Y.start_faults yard.new) (Y.read_faults yard.new) (Y.hold_faults yard.new)))) result }
 {
     if !names.is_empty() {
         return run_named(rt, alloc, files, out, yard, clock, book, names);
@@ -254,9 +253,9 @@ fn run_fault<R: Threads + Wait + Sync, F: Files, S: Sink, Y: Yard, C: Clock>(
     early: Early,
 ) -> Done
     ensures { RanTo (C.may_read clock.now)
-        (world_at (F.told files.old) (F.faults files.old) (F.blamed files.old) (S.taken out.old) (S.faults out.old) (S.ended out.old) (Y.told yard.old) (counts_at (Y.start_faults yard.old) (Y.read_faults yard.old) (Y.hold_faults yard.old)))
+        (world_at (F.told files.old) (F.faults files.old) (F.blamed files.old) (S.taken out.old) (S.faults out.old) (S.ended out.old) (yard_at (Y.told yard.old) (Y.started yard.old) (counts_at (Y.start_faults yard.old) (Y.read_faults yard.old) (Y.hold_faults yard.old))))
         (Refused (task_folder stem.now (option_map (λ s. s.now) directory.entry) []) early ∷ [])
-        (world_at (F.told files.new) (F.faults files.new) (F.blamed files.new) (S.taken out.new) (S.faults out.new) (S.ended out.new) (Y.told yard.new) (counts_at (Y.start_faults yard.new) (Y.read_faults yard.new) (Y.hold_faults yard.new))) result }
+        (world_at (F.told files.new) (F.faults files.new) (F.blamed files.new) (S.taken out.new) (S.faults out.new) (S.ended out.new) (yard_at (Y.told yard.new) (Y.started yard.new) (counts_at (Y.start_faults yard.new) (Y.read_faults yard.new) (Y.hold_faults yard.new)))) result }
 {
     match folder_of(alloc, stem, directory, "") {
         Ok(name) => run_only(
@@ -287,8 +286,8 @@ fn run_text<R: Threads + Wait + Sync, F: Files, S: Sink, Y: Yard, C: Clock>(
 ) -> Done
     ensures { (turns : List TurnOf) × AreTextTurns stem.now (option_map (λ s. s.now) directory.entry) (map string_bytes names.now) text.now turns
         × RanTo (C.may_read clock.now)
-        (world_at (F.told files.old) (F.faults files.old) (F.blamed files.old) (S.taken out.old) (S.faults out.old) (S.ended out.old) (Y.told yard.old) (counts_at (Y.start_faults yard.old) (Y.read_faults yard.old) (Y.hold_faults yard.old))) turns
-        (world_at (F.told files.new) (F.faults files.new) (F.blamed files.new) (S.taken out.new) (S.faults out.new) (S.ended out.new) (Y.told yard.new) (counts_at (Y.start_faults yard.new) (Y.read_faults yard.new) (Y.hold_faults yard.new))) result }
+        (world_at (F.told files.old) (F.faults files.old) (F.blamed files.old) (S.taken out.old) (S.faults out.old) (S.ended out.old) (yard_at (Y.told yard.old) (Y.started yard.old) (counts_at (Y.start_faults yard.old) (Y.read_faults yard.old) (Y.hold_faults yard.old)))) turns
+        (world_at (F.told files.new) (F.faults files.new) (F.blamed files.new) (S.taken out.new) (S.faults out.new) (S.ended out.new) (yard_at (Y.told yard.new) (Y.started yard.new) (counts_at (Y.start_faults yard.new) (Y.read_faults yard.new) (Y.hold_faults yard.new)))) result }
 {
     match read(alloc, text) {
         Ok(Ok(config)) => {
@@ -345,8 +344,8 @@ fn run_tasks<R: Threads + Wait + Sync, F: Files, S: Sink, Y: Yard, C: Clock>(
     words: &TaskWords,
 ) -> Done
     ensures { TurnsDone (C.may_read clock.now)
-        (world_at (F.told files.old) (F.faults files.old) (F.blamed files.old) (S.taken out.old) (S.faults out.old) (S.ended out.old) (Y.told yard.old) (counts_at (Y.start_faults yard.old) (Y.read_faults yard.old) (Y.hold_faults yard.old)))
-        (world_at (F.told files.new) (F.faults files.new) (F.blamed files.new) (S.taken out.new) (S.faults out.new) (S.ended out.new) (Y.told yard.new) (counts_at (Y.start_faults yard.new) (Y.read_faults yard.new) (Y.hold_faults yard.new)))
+        (world_at (F.told files.old) (F.faults files.old) (F.blamed files.old) (S.taken out.old) (S.faults out.old) (S.ended out.old) (yard_at (Y.told yard.old) (Y.started yard.old) (counts_at (Y.start_faults yard.old) (Y.read_faults yard.old) (Y.hold_faults yard.old))))
+        (world_at (F.told files.new) (F.faults files.new) (F.blamed files.new) (S.taken out.new) (S.faults out.new) (S.ended out.new) (yard_at (Y.told yard.new) (Y.started yard.new) (counts_at (Y.start_faults yard.new) (Y.read_faults yard.new) (Y.hold_faults yard.new))))
         result (AskTasks words.now) }
 {
     let stem = stem_of(words.file.as_str());
@@ -390,8 +389,8 @@ fn run_gen<R: Threads + Wait + Sync, F: Files, S: Sink, Y: Yard, C: Clock>(
 ) -> Done
     requires { 2 ≤ words.now.size }
     ensures { TurnsDone (C.may_read clock.now)
-        (world_at (F.told files.old) (F.faults files.old) (F.blamed files.old) (S.taken out.old) (S.faults out.old) (S.ended out.old) (Y.told yard.old) (counts_at (Y.start_faults yard.old) (Y.read_faults yard.old) (Y.hold_faults yard.old)))
-        (world_at (F.told files.new) (F.faults files.new) (F.blamed files.new) (S.taken out.new) (S.faults out.new) (S.ended out.new) (Y.told yard.new) (counts_at (Y.start_faults yard.new) (Y.read_faults yard.new) (Y.hold_faults yard.new)))
+        (world_at (F.told files.old) (F.faults files.old) (F.blamed files.old) (S.taken out.old) (S.faults out.old) (S.ended out.old) (yard_at (Y.told yard.old) (Y.started yard.old) (counts_at (Y.start_faults yard.old) (Y.read_faults yard.old) (Y.hold_faults yard.old))))
+        (world_at (F.told files.new) (F.faults files.new) (F.blamed files.new) (S.taken out.new) (S.faults out.new) (S.ended out.new) (yard_at (Y.told yard.new) (Y.started yard.new) (counts_at (Y.start_faults yard.new) (Y.read_faults yard.new) (Y.hold_faults yard.new))))
         result (AskGen words.now) }
 {
     match generated(alloc, words.size) {
@@ -427,8 +426,8 @@ fn run_judge<R: Threads + Wait + Sync, F: Files, S: Sink, Y: Yard, C: Clock>(
     requires least { 1 ≤ words.depth }
     requires most { words.depth ≤ 100000 }
     ensures { TurnsDone (C.may_read clock.now)
-        (world_at (F.told files.old) (F.faults files.old) (F.blamed files.old) (S.taken out.old) (S.faults out.old) (S.ended out.old) (Y.told yard.old) (counts_at (Y.start_faults yard.old) (Y.read_faults yard.old) (Y.hold_faults yard.old)))
-        (world_at (F.told files.new) (F.faults files.new) (F.blamed files.new) (S.taken out.new) (S.faults out.new) (S.ended out.new) (Y.told yard.new) (counts_at (Y.start_faults yard.new) (Y.read_faults yard.new) (Y.hold_faults yard.new)))
+        (world_at (F.told files.old) (F.faults files.old) (F.blamed files.old) (S.taken out.old) (S.faults out.old) (S.ended out.old) (yard_at (Y.told yard.old) (Y.started yard.old) (counts_at (Y.start_faults yard.old) (Y.read_faults yard.old) (Y.hold_faults yard.old))))
+        (world_at (F.told files.new) (F.faults files.new) (F.blamed files.new) (S.taken out.new) (S.faults out.new) (S.ended out.new) (yard_at (Y.told yard.new) (Y.started yard.new) (counts_at (Y.start_faults yard.new) (Y.read_faults yard.new) (Y.hold_faults yard.new))))
         result (AskJudge words) }
 {
     match judge_task(alloc, words) {
@@ -460,8 +459,8 @@ fn told_code(told: Result<(), Stop>) -> u8
 
 // Prints the names of a file's tasks.
 fn tell_names<S: Sink>(alloc: Global, out: &mut S, config: &Config) -> Done
-    ensures { (told : Option Store) (faults : ℕ) (blamed : Option (List ℕ)) (scripts : Option YardOf) (children : CountsOf) → LinesAlone
-        (world_at told faults blamed (S.taken out.old) (S.faults out.old) (S.ended out.old) scripts children) (world_at told faults blamed (S.taken out.new) (S.faults out.new) (S.ended out.new) scripts children)
+    ensures { (told : Option Store) (faults : ℕ) (blamed : Option (List ℕ)) (yard : YardAt) → LinesAlone
+        (world_at told faults blamed (S.taken out.old) (S.faults out.old) (S.ended out.old) yard) (world_at told faults blamed (S.taken out.new) (S.faults out.new) (S.ended out.new) yard)
         (name_lines config.now.tasks) result }
 {
     let told = offer_names(alloc, out, config.tasks());
@@ -482,8 +481,8 @@ fn run_names<R: Threads + Wait + Sync, F: Files, S: Sink, Y: Yard, C: Clock>(
     file: &str,
 ) -> Done
     ensures { NamesTold (C.may_read clock.now)
-        (world_at (F.told files.old) (F.faults files.old) (F.blamed files.old) (S.taken out.old) (S.faults out.old) (S.ended out.old) (Y.told yard.old) (counts_at (Y.start_faults yard.old) (Y.read_faults yard.old) (Y.hold_faults yard.old)))
-        (world_at (F.told files.new) (F.faults files.new) (F.blamed files.new) (S.taken out.new) (S.faults out.new) (S.ended out.new) (Y.told yard.new) (counts_at (Y.start_faults yard.new) (Y.read_faults yard.new) (Y.hold_faults yard.new)))
+        (world_at (F.told files.old) (F.faults files.old) (F.blamed files.old) (S.taken out.old) (S.faults out.old) (S.ended out.old) (yard_at (Y.told yard.old) (Y.started yard.old) (counts_at (Y.start_faults yard.old) (Y.read_faults yard.old) (Y.hold_faults yard.old))))
+        (world_at (F.told files.new) (F.faults files.new) (F.blamed files.new) (S.taken out.new) (S.faults out.new) (S.ended out.new) (yard_at (Y.told yard.new) (Y.started yard.new) (counts_at (Y.start_faults yard.new) (Y.read_faults yard.new) (Y.hold_faults yard.new))))
         file.now result }
 {
     let stem = stem_of(file);
@@ -551,8 +550,8 @@ pub fn run_sby<R: Threads + Wait + Sync, F: Files, S: Sink, Y: Yard, C: Clock>(
 ) -> Done
     // The headline.
     ensures { Did (C.may_read clock.now)
-        (world_at (F.told files.old) (F.faults files.old) (F.blamed files.old) (S.taken out.old) (S.faults out.old) (S.ended out.old) (Y.told yard.old) (counts_at (Y.start_faults yard.old) (Y.read_faults yard.old) (Y.hold_faults yard.old)))
-        (world_at (F.told files.new) (F.faults files.new) (F.blamed files.new) (S.taken out.new) (S.faults out.new) (S.ended out.new) (Y.told yard.new) (counts_at (Y.start_faults yard.new) (Y.read_faults yard.new) (Y.hold_faults yard.new)))
+        (world_at (F.told files.old) (F.faults files.old) (F.blamed files.old) (S.taken out.old) (S.faults out.old) (S.ended out.old) (yard_at (Y.told yard.old) (Y.started yard.old) (counts_at (Y.start_faults yard.old) (Y.read_faults yard.old) (Y.hold_faults yard.old))))
+        (world_at (F.told files.new) (F.faults files.new) (F.blamed files.new) (S.taken out.new) (S.faults out.new) (S.ended out.new) (yard_at (Y.told yard.new) (Y.started yard.new) (counts_at (Y.start_faults yard.new) (Y.read_faults yard.new) (Y.hold_faults yard.new))))
         (map string_bytes words.now) result }
 {
     match asked_of(alloc, words) {

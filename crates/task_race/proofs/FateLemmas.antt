@@ -72,7 +72,7 @@ module _ (p : AskedOf) (job : JobName) (said : Judged FindingOf) (some : said �
   of_fate (ProofFile kind) (inl is) comes = of_output kind is comes
   of_fate (ProofFile kind) (inr is) comes = of_proof kind is.0 is.1 comes
 
-module _ (racing : RacingOf) (may_read : ℕ → Type 0) (told : Option YardOf) (before now : CountsOf) (start : Option ℕ) (lane : ℕ) (job : JobName)
+module _ (racing : RacingOf) (may_read : ℕ → Type 0) (told : Option YardOf) (counts : CountsOf) (start : Option ℕ) (lane : ℕ) (job : JobName)
     (script : ScriptOf) (file : List ℕ) (fate : Fate) (serving : IsServing (slice_get racing.engines lane)) (script_is : script_of told racing.task lane job ≡ Some script) (none : script.gate ≡ None)
     (is_file : IsJobFile racing.problem job file)
     (is_fate : IsFateOf (evidence_in racing lane) file (up_to script.stalls script.bytes) (take (most_bytes + 1) script.proof) fate) where
@@ -93,7 +93,7 @@ module _ (racing : RacingOf) (may_read : ℕ → Type 0) (told : Option YardOf) 
   bad_some : (number at : ℕ) → ◌≢◌ {A = Judged FindingOf} (judged.Bad number at) judged.More
   bad_some number at is = cc
 
-  pub end_of_fate : (e : JobEnd FindingOf) → HasEndCause racing may_read told before now start lane job e → IsEndOfFate fate e
+  pub end_of_fate : (e : JobEnd FindingOf) → HasEndCause racing may_read told counts start lane job e → IsEndOfFate fate e
   end_of_fate (end.Found f) cause = let tells = (said_of (judged.Found f) (found_some f) cause).0 in let same : fate ≡ Found f.answer = cc in same
   end_of_fate end.Unknown cause = let tells = said_of judged.Unknown unknown_some cause in let same : fate ≡ Unknown = cc in same
   end_of_fate (end.Bad number at) cause =

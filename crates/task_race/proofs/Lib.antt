@@ -1,3 +1,4 @@
+pub mod BackLemmas
 pub mod CountLemmas
 pub mod EndLemmas
 pub mod FateLemmas

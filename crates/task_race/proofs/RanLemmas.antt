@@ -1,9 +1,9 @@
 -- What the lanes of a task leave, by what each of them left its bay.
-use Rattle.std.proofs.Common.{◌≡◌, ℕ, ◌<◌, List, length, map, sym, subst, ◌∙◌, arith}
+use Rattle.std.proofs.Common.{◌≡◌, ℕ, ◌<◌, List, length, map, refl, sym, subst, ◌∙◌, arith}
 use Rattle.std.specs.Prelude.{Option, Some, None, Result, Ok, Err, All, Contains, IfOk, IfSome, slice_get, unwrap_or}
 use Rattle.std.proofs.lemmas.Option.{slice_get_within}
-use Rattle.sby_edge.specs.Cause.{CountsOf, Rose}
-use Rattle.sby_edge.specs.Child.{BayOf, YardOf}
+use Rattle.sby_edge.specs.Cause.{CountsOf}
+use Rattle.sby_edge.specs.Child.{BayOf, IsLogged, new_bay}
 use Rattle.judge.specs.Finding.{FindingOf, IsTrueFinding}
 use Rattle.race_core.specs.Carrying.{Carries}
 use Rattle.race_cells.specs.Notes.{NoteOf}
@@ -20,35 +20,18 @@ use Rattle.lane_run.specs.Started.{LaneStarts}
 use Rattle.lane_judge.specs.Fates.{Ends, Proves, Stands, most_bytes, most_output}
 use Rattle.lane_judge.specs.Serving.{IsServed, file_of}
 use Rattle.sby_terms.specs.declared.names.Mode.{Mode}
-use Rattle.task_race.specs.Bays.{AreLater, CameBack, HaveRisenFor, bay_at, none_failed}
-use Rattle.task_race.specs.Ran.{RacingOf, AreConsistent, AreDone, AreStarts, EachLane, IsStart, LanesRan, Serves, WinnersFind, answer_in, evidence_in, job_count, job_in, limit_from, name_in, problem_in, terms_in, words_in}
+use Rattle.task_race.specs.Bays.{BackOf, CameBack, YardAt, left_all, none_failed}
+use Rattle.task_race.specs.Ran.{RacingOf, AreConsistent, AreDone, AreStarts, EachBack, EachLane, IsStart, LanesRan, Serves, WinnersFind, answer_in, evidence_in, job_count, job_in, limit_from, name_in, problem_in, terms_in, words_in}
+use Rattle.task_race.proofs.BackLemmas.{counts_left}
 use Rattle.task_race.proofs.PlaceLemmas.{all_at, at_contains, at_map, contains_at, stands_at}
 use Rattle.task_race.proofs.WonLemmas.{winner_finds}
-use Rattle.std.proofs.lemmas.List.{get_or_default}
+use Rattle.std.proofs.lemmas.List.{get_or_default, length-map}
 
-above : (n : ℕ) → Rose 0 n → 0 < n
-above n rose = omega (rose, arith)
-
--- what a lane's bay counted, its yard counts
-yard_faults : (part before now : CountsOf) (n : ℕ) (r : ReportOf FindingOf) → AreLater before now → HaveRisenFor part before now → LaneFaults none_failed part n r → LaneFaults before now n r
-yard_faults part before now n r later risen faults = record {
-  later = (later.starts, later.reads, later.holds);
-  each = λ j lt. job (end_at r j) (faults.each j lt);
-}
-  where
-    job : (e : JobEnd FindingOf) → JobFaults none_failed part e → JobFaults before now e
-    job e own = record {
-      later = (later.starts, later.reads, later.holds);
-      start = λ is. risen.starts (above part.starts (own.start is));
-      read = λ is. risen.reads (above part.reads (own.read is));
-      hold = λ is. risen.holds (above part.holds (own.hold is));
-    }
-
-module _ {B : Type 0} (counts : B → CountsOf) (tells : B → Option BayOf) (racing : RacingOf) (may_read : ℕ → Type 0) (told : Option YardOf) (before now : CountsOf) (start : Option ℕ)
+module _ {B : Type 0} (counts : B → CountsOf) (tells : B → Option BayOf) (racing : RacingOf) (may_read : ℕ → Type 0) (before now : YardAt) (start : Option ℕ)
     (bays backs : List B) (reports : List (ReportOf FindingOf))
     (consistent : AreConsistent racing start reports)
     (many : length bays ≡ length racing.engines) (same : length backs ≡ length bays)
-    (fresh : (lane : ℕ) (b : B) → slice_get bays lane ≡ Some b → (tells b ≡ bay_at told racing.task lane) × (counts b ≡ none_failed)) where
+    (fresh : (lane : ℕ) (b : B) → slice_get bays lane ≡ Some b → (tells b ≡ new_bay before.scripts racing.task lane) × (counts b ≡ none_failed)) where
   -- the bay of a lane, as it was made and as it came back
   bay_of : (lane : ℕ) (r : ReportOf FindingOf) → slice_get reports lane ≡ Some r → (b : B) × (slice_get bays lane ≡ Some b)
   bay_of lane r at = stands_at bays lane (omega (slice_get_within reports lane r at, consistent.lanes_are, many, arith))
@@ -56,21 +39,33 @@ module _ {B : Type 0} (counts : B → CountsOf) (tells : B → Option BayOf) (ra
   back_of : (lane : ℕ) (r : ReportOf FindingOf) → slice_get reports lane ≡ Some r → (d : B) × (slice_get backs lane ≡ Some d)
   back_of lane r at = stands_at backs lane (omega (slice_get_within reports lane r at, consistent.lanes_are, many, same, arith))
 
-  lane_faults : CameBack (map counts backs) before now
-      → ((i : ℕ) (b d : B) (q : ReportOf FindingOf) → slice_get bays i ≡ Some b → slice_get backs i ≡ Some d → slice_get reports i ≡ Some q → LaneFaults (counts b) (counts d) (job_count racing) q)
-      → EachLane reports (λ lane r. LaneFaults before now (job_count racing) r)
-  lane_faults back faults = λ lane r at.
+  view : B → BackOf
+  view b = record { told = tells b; counts = counts b }
+
+  some_same : {X : Type 0} (x y : X) → ◌≡◌ {A = Option X} (Some x) (Some y) → x ≡ y
+  some_same x y h = cc
+
+  -- what a lane's bay left is that of the bay at its place
+  left_of : (lane : ℕ) (d : B) (back : BackOf) → slice_get backs lane ≡ Some d → slice_get (map view backs) lane ≡ Some back → view d ≡ back
+  left_of lane d back at is = some_same (view d) back (sym (at_map view backs lane d at) ∙ is)
+
+  lane_faults : ((i : ℕ) (b d : B) (q : ReportOf FindingOf) → slice_get bays i ≡ Some b → slice_get backs i ≡ Some d → slice_get reports i ≡ Some q → LaneFaults (counts b) (counts d) (job_count racing) q)
+      → EachBack reports (map view backs) (λ lane r back. LaneFaults none_failed back.counts (job_count racing) r)
+  unfolding view
+  lane_faults faults = λ lane r back at is.
       let b = bay_of lane r at in
       let d = back_of lane r at in
-      let own = subst (λ (c : CountsOf). LaneFaults c (counts d.0) (job_count racing) r) (fresh lane b.0 b.1).1 (faults lane b.0 d.0 r b.1 d.1 at) in
-      yard_faults (counts d.0) before now (job_count racing) r back.later (back.rose (counts d.0) (at_contains (map counts backs) lane (counts d.0) (at_map counts backs lane d.0 d.1))) own
+      subst (λ (x : BackOf). LaneFaults none_failed x.counts (job_count racing) r) (left_of lane d.0 back d.1 is)
+      (subst (λ (c : CountsOf). LaneFaults c (counts d.0) (job_count racing) r) (fresh lane b.0 b.1).1 (faults lane b.0 d.0 r b.1 d.1 at))
 
   lane_starts : ((i : ℕ) (b d : B) (q : ReportOf FindingOf) → slice_get bays i ≡ Some b → slice_get backs i ≡ Some d → slice_get reports i ≡ Some q → AreStarts racing (tells b) (tells d) i q)
-      → EachLane reports (λ lane r. (bay : Option BayOf) × AreStarts racing (bay_at told racing.task lane) bay lane r)
-  lane_starts starts = λ lane r at.
+      → EachBack reports (map view backs) (λ lane r back. AreStarts racing (new_bay before.scripts racing.task lane) back.told lane r)
+  unfolding view
+  lane_starts starts = λ lane r back at is.
       let b = bay_of lane r at in
       let d = back_of lane r at in
-      (tells d.0, subst (λ (was : Option BayOf). AreStarts racing was (tells d.0) lane r) (fresh lane b.0 b.1).0 (starts lane b.0 d.0 r b.1 d.1 at))
+      subst (λ (x : BackOf). AreStarts racing (new_bay before.scripts racing.task lane) x.told lane r) (left_of lane d.0 back d.1 is)
+      (subst (λ (was : Option BayOf). AreStarts racing was (tells d.0) lane r) (fresh lane b.0 b.1).0 (starts lane b.0 d.0 r b.1 d.1 at))
 
   -- what an end carries is of the problem
   carried_problem : (r : ReportOf FindingOf) (f : FindingOf) → Contains reports r → CarriedIn r.ends f → f.problem ≡ racing.problem.problem
@@ -85,14 +80,20 @@ module _ {B : Type 0} (counts : B → CountsOf) (tells : B → Option BayOf) (ra
       → ((i : ℕ) (b d : B) (q : ReportOf FindingOf) → slice_get bays i ≡ Some b → slice_get backs i ≡ Some d → slice_get reports i ≡ Some q → LaneFaults (counts b) (counts d) (job_count racing) q)
       → ((i : ℕ) (b d : B) (q : ReportOf FindingOf) → slice_get bays i ≡ Some b → slice_get backs i ≡ Some d → slice_get reports i ≡ Some q → AreStarts racing (tells b) (tells d) i q)
       → All (λ q. LaneStops may_read (limit_from racing start) (job_count racing) q) reports
-      → CameBack (map counts backs) before now
-      → LanesRan racing may_read told before now start reports
-  lanes_ran began notes done are_true faults starts stopped back = record {
+      → CameBack (map counts backs) before.counts now.counts
+      → IsLogged (left_all (map (λ b. record { told = tells b; counts = counts b }) backs)) before.started now.started
+      → LanesRan racing may_read before now start reports
+  unfolding view
+  lanes_ran began notes done are_true faults starts stopped back logged = record {
+    backs = map view backs;
+    backs_are = length-map backs view ∙ (same ∙ many);
+    came_back = subst (λ (parts : List CountsOf). CameBack parts before.counts now.counts) (sym (counts_left view counts backs (λ b. refl))) back;
+    logged = logged;
     start_is = began;
     consistent = consistent;
     are_true = λ r f among carried. (are_true r f among carried, carried_problem r f among carried);
     done = (notes, done);
-    faults = lane_faults back faults;
+    faults = lane_faults faults;
     starts = lane_starts starts;
     stopped = λ lane r at. all_at (λ (q : ReportOf FindingOf). LaneStops may_read (limit_from racing start) (job_count racing) q) reports lane r stopped at;
   }

@@ -1,11 +1,7 @@
--- What bays tell when they are made, and what a yard counts when they come back.
-use Rattle.std.specs.Prelude.{◌≡◌, ℕ, ◌<◌, ◌≤◌, List, [], Option, All, Contains, option_map}
+-- What a yard tells and counts when bays come back.
+use Rattle.std.specs.Prelude.{◌≡◌, ℕ, ◌<◌, ◌≤◌, List, [], ◌∷◌, ◌++◌, Option, All, Contains, IfSome}
 use Rattle.sby_edge.specs.Cause.{CountsOf, RisesBy, Rose}
-use Rattle.sby_edge.specs.Child.{BayOf, YardOf}
-
--- what the bay of a lane tells at first: the lane's scripts, and no start
-abbrev pub bay_at : Option YardOf → ℕ → ℕ → Option BayOf
-bay_at told task lane = option_map (λ scripts. record { scripts = scripts task lane; starts = [] }) told
+use Rattle.sby_edge.specs.Child.{BayOf, IsLogged, LaneOf, YardOf, left_by}
 
 -- the three counts
 abbrev pub counts_at : ℕ → ℕ → ℕ → CountsOf
@@ -39,3 +35,38 @@ pub record CameBack (parts : List CountsOf) (before now : CountsOf) : Type 0 whe
   pub later : AreLater before now
   pub rose : (part : CountsOf) → Contains parts part → HaveRisenFor part before now
   pub stood : All (λ part. part ≡ none_failed) parts → now ≡ before
+
+-- a yard at a moment: the scripts that it tells; what it tells of the bays that came back; and its counts of failed calls
+pub record YardAt : Type 0 where
+  pub scripts : Option YardOf
+  pub started : Option (List LaneOf)
+  pub counts : CountsOf
+
+abbrev pub yard_at : Option YardOf → Option (List LaneOf) → CountsOf → YardAt
+yard_at scripts started counts = record { scripts = scripts; started = started; counts = counts }
+
+-- a bay that comes back: what it tells then, and its counts of failed calls
+pub record BackOf : Type 0 where
+  pub told : Option BayOf
+  pub counts : CountsOf
+
+abbrev pub counts_in : BackOf → CountsOf
+counts_in back = back.counts
+
+-- what bays leave that come back from the last one to the first
+abbrev pub left_all : List BackOf → List LaneOf
+left_all [] = []
+left_all (back ∷ backs) = left_all backs ++ left_by back.told back.counts
+
+-- nothing was started: no count changed, and the bays that came back, if any did, have no start
+pub record NoneStarted (before now : YardAt) : Type 0 where
+  pub scripts : now.scripts ≡ before.scripts
+  pub counts : now.counts ≡ before.counts
+  pub lanes : List LaneOf
+  pub logged : IsLogged lanes before.started now.started
+  pub unstarted : All (λ lane. lane.starts ≡ []) lanes
+
+-- The counts with which the bay of a task's lane came back: those of its yard rose for them; and the yard tells them, where it tells of its bays.
+pub record AreCountsOf (task lane : ℕ) (before now : YardAt) (counts : CountsOf) : Type 0 where
+  pub rose : HaveRisenFor counts before.counts now.counts
+  pub told : IfSome before.scripts (λ _. IfSome now.started (λ lanes. (left : LaneOf) × Contains lanes left × (left.task ≡ task) × (left.lane ≡ lane) × (left.counts ≡ counts)))

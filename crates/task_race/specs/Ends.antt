@@ -1,6 +1,6 @@
 -- Why a job of a lane ended so.
-use Rattle.std.specs.Prelude.{◌≡◌, ◌⊎◌, ℕ, ◌+◌, ◌-◌, ◌≤◌, false, true, List, Option, None, Some, IsSomeAnd, option_map, slice_get, take}
-use Rattle.sby_edge.specs.Cause.{CountsOf, Rose}
+use Rattle.std.specs.Prelude.{◌≡◌, ◌⊎◌, ℕ, ◌+◌, ◌-◌, ◌<◌, ◌≤◌, false, true, List, Option, None, Some, IsSomeAnd, option_map, slice_get, take}
+use Rattle.sby_edge.specs.Cause.{CountsOf}
 use Rattle.sby_edge.specs.Child.{YardOf, up_to}
 use Rattle.sby_edge.specs.Script.{ScriptOf}
 use Rattle.sby_terms.specs.declared.names.JobName.{JobName}
@@ -63,17 +63,17 @@ pub record IsLimitShown (may_read : ℕ → Type 0) (limit start : Option ℕ) (
   pub may_stop : may_read t
   pub shows : (begun ≤ t) × (millis ≤ t - begun)
 
--- A job of a lane that started at this reading, over what its yard tells, between two moments of the yard's counts.
-module _ (racing : RacingOf) (may_read : ℕ → Type 0) (told : Option YardOf) (before now : CountsOf) (start : Option ℕ) (lane : ℕ) (job : JobName) where
+-- A job of a lane that started at this reading, over what its yard tells; its bay came back with these counts.
+module _ (racing : RacingOf) (may_read : ℕ → Type 0) (told : Option YardOf) (counts : CountsOf) (start : Option ℕ) (lane : ℕ) (job : JobName) where
   -- the cause of its end, by its case; want of memory is free
   abbrev pub HasEndCause : JobEnd FindingOf → Type 0
   HasEndCause (end.Found f) = IsJudgedAs racing told lane job (judged.Found f)
   HasEndCause end.Unknown = IsJudgedAs racing told lane job judged.Unknown
   HasEndCause (end.Bad number at) = IsJudgedAs racing told lane job (judged.Bad number at)
   HasEndCause end.NotServed = IsServing (slice_get racing.engines lane) → ⊥
-  HasEndCause end.ReadFailed = Rose before.reads now.reads
-  HasEndCause end.StartFailed = Rose before.starts now.starts
-  HasEndCause end.HoldFailed = Rose before.holds now.holds
+  HasEndCause end.ReadFailed = 0 < counts.reads
+  HasEndCause end.StartFailed = 0 < counts.starts
+  HasEndCause end.HoldFailed = 0 < counts.holds
   HasEndCause (end.Skipped f) = IsSkippedBy racing job f
   HasEndCause (end.CalledOff f) = IsCalledOffBy racing job f
   HasEndCause (end.Stopped t) = IsLimitShown may_read racing.limit start t

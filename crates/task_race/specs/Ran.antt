@@ -1,7 +1,7 @@
 -- What the lanes of a task leave.
-use Rattle.std.specs.Prelude.{◌≡◌, ℕ, Bool, List, Option, None, Some, length, slice_get, unwrap_or}
-use Rattle.sby_edge.specs.Cause.{CountsOf}
-use Rattle.sby_edge.specs.Child.{BayOf, YardOf}
+use Rattle.std.specs.Prelude.{◌≡◌, ℕ, Bool, List, Option, None, Some, length, map, slice_get, unwrap_or}
+use Rattle.sby_edge.specs.Child.{BayOf, IsLogged, new_bay}
+use Rattle.sby_edge.specs.Files.{Store}
 use Rattle.sby_terms.specs.Path.{job_path}
 use Rattle.sby_terms.specs.Problem.{ProblemOf}
 use Rattle.sby_terms.specs.Span.{slices_of}
@@ -10,7 +10,7 @@ use Rattle.sby_terms.specs.declared.names.Answer.{Answer}
 use Rattle.sby_terms.specs.declared.names.JobName.{JobName}
 use Rattle.judge.specs.Finding.{FindingOf, IsTrueFinding}
 use Rattle.judge.specs.Jobs.{jobs_of}
-use Rattle.judge.specs.Problem.{AskedOf}
+use Rattle.judge.specs.Problem.{AskedOf, IsJobFile}
 use Rattle.race_cells.specs.Notes.{NoteOf}
 use Rattle.race_core.specs.Asking.{name_at, terms_of}
 use Rattle.race_core.specs.Collect.{AreTrue, HasFinding, HasWon}
@@ -26,7 +26,7 @@ use Rattle.lane_judge.specs.Fates.{Ends, Proves, Stands, most_bytes, most_output
 use Rattle.lane_judge.specs.Serving.{IsServed, evidence_at, file_of}
 use Rattle.lane_judge.specs.Words.{proof_path, words_at}
 use Rattle.lane_judge.specs.declared.evidence.Evidence.{Evidence}
-use Rattle.task_race.specs.Bays.{bay_at}
+use Rattle.task_race.specs.Bays.{BackOf, CameBack, YardAt, counts_in, left_all, none_failed}
 use Rattle.task_race.specs.declared.racing.Racing.{Racing}
 
 -- What is raced: the jobs of a problem, by one lane for each engine line; the work folder, in which the jobs' files lie; the number of the
@@ -114,13 +114,26 @@ AreStarts racing before now lane r =
     (λ job. Stands racing.problem job (evidence_in racing lane)) (λ job. Ends racing.problem job (evidence_in racing lane)) (λ job. Proves racing.problem job (evidence_in racing lane))
     most_bytes (most_output (evidence_in racing lane)) racing.problem.problem.mode before now (job_count racing) r
 
--- What lanes that started at this reading report, over what their yard tells, between two moments of its counts. What they carry is true;
--- an end that tells of a failed call comes only where its count rose; and they stop by readings alone which the clock may give.
-pub record LanesRan (racing : RacingOf) (may_read : ℕ → Type 0) (told : Option YardOf) (before now : CountsOf) (start : Option ℕ) (reports : List (ReportOf FindingOf)) : Type 0 where
+-- the report of each lane, with what its bay left, is such
+abbrev pub EachBack : List (ReportOf FindingOf) → List BackOf → (ℕ → ReportOf FindingOf → BackOf → Type 0) → Type 0
+EachBack reports backs P = (lane : ℕ) (r : ReportOf FindingOf) (back : BackOf) → slice_get reports lane ≡ Some r → slice_get backs lane ≡ Some back → P lane r back
+
+-- What lanes that started at this reading report, over their yard at two moments. What they carry is true; their bays came back, one for
+-- each engine line, and the yard counts their failed calls and tells what they left; an end that tells of a failed call comes only where
+-- the lane's own bay counted one; what each started is what its bay left; and they stop by readings alone which the clock may give.
+pub record LanesRan (racing : RacingOf) (may_read : ℕ → Type 0) (before now : YardAt) (start : Option ℕ) (reports : List (ReportOf FindingOf)) : Type 0 where
   pub start_is : IsStart may_read racing.limit start
   pub consistent : AreConsistent racing start reports
   pub done : (notes : List (NoteOf FindingOf)) × AreDone racing may_read start notes reports
   pub are_true : AreTrue problem_in IsTrueFinding racing.problem.problem reports
-  pub faults : EachLane reports (λ lane r. LaneFaults before now (job_count racing) r)
-  pub starts : EachLane reports (λ lane r. (bay : Option BayOf) × AreStarts racing (bay_at told racing.task lane) bay lane r)
+  pub backs : List BackOf
+  pub backs_are : length backs ≡ length racing.engines
+  pub came_back : CameBack (map counts_in backs) before.counts now.counts
+  pub logged : IsLogged (left_all backs) before.started now.started
+  pub faults : EachBack reports backs (λ lane r back. LaneFaults none_failed back.counts (job_count racing) r)
+  pub starts : EachBack reports backs (λ lane r back. AreStarts racing (new_bay before.scripts racing.task lane) back.told lane r)
   pub stopped : EachLane reports (λ lane r. LaneStops may_read (limit_from racing start) (job_count racing) r)
+
+-- the store has the file of each job, at its path in the work folder
+abbrev pub HasJobFiles : RacingOf → Store → Type 0
+HasJobFiles racing store = (job : JobName) (file : List ℕ) → IsJobFile racing.problem job file → store (job_path racing.folder (slices_of racing.problem.problem.span) job) ≡ Some file

@@ -5,8 +5,9 @@ ghost use Rattle.judge.specs.Finding.{FindingOf};
 ghost use Rattle.judge.specs.Jobs.{jobs_of};
 ghost use Rattle.race_core.specs.Report.{ReportOf};
 ghost use Rattle.lane_run.specs.Done.{LaneFaults, LaneStops};
-ghost use Rattle.task_race.specs.Bays.{AreLater, counts_at};
-ghost use Rattle.task_race.specs.Ran.{AreConsistent, AreDone, AreStarts, IsStart, LanesRan, job_count, limit_from, racing_seen};
+ghost use Rattle.sby_edge.specs.Files.{Store};
+ghost use Rattle.task_race.specs.Bays.{AreLater, NoneStarted, counts_at, yard_at};
+ghost use Rattle.task_race.specs.Ran.{AreConsistent, AreDone, AreStarts, HasJobFiles, IsStart, LanesRan, job_count, limit_from, racing_seen};
 
 use crate::bays::{give_back, take_bays};
 use crate::truth::learn_reports;
@@ -15,7 +16,7 @@ use lane_judge::ProblemLanes;
 use lane_run::{Limit, Raced, Task, race};
 use race_cells::Cells;
 use race_core::Report;
-use sby_edge::{Clock, Launch, Yard};
+use sby_edge::{Clock, Files, Launch, Yard};
 use sby_terms::Engine;
 use std::alloc::{AllocError, Global};
 use std::sync::Wait;
@@ -102,20 +103,24 @@ fn race_bays<R: Threads + Wait + Sync, L: Launch + Send, C: Clock>(
     race(rt, alloc, &task, job_count(racing.problem), bays)
 }
 
-/// Races the lanes of a task, in bays of a yard that all come back to it. Where memory is wanting before the first child starts, the
-/// yard is as it was.
-pub fn race_task<R: Threads + Wait + Sync, Y: Yard, C: Clock>(
+/// Races the lanes of a task, in bays of a yard that all come back to it. A store that tells has the files of all jobs before. Where
+/// memory is wanting before the first child starts, none is started.
+pub fn race_task<R: Threads + Wait + Sync, F: Files, Y: Yard, C: Clock>(
     rt: &R,
     alloc: Global,
+    files: &F,
     yard: &mut Y,
     clock: &C,
     racing: &Racing<'_>,
 ) -> Result<RanLanes, AllocError>
+    requires files { (store : Store) → F.told files.now ≡ Some store → HasJobFiles (racing_seen racing.now) store }
     ensures told { Y.told yard.new ≡ Y.told yard.old }
     ensures later { AreLater (counts_at (Y.start_faults yard.old) (Y.read_faults yard.old) (Y.hold_faults yard.old)) (counts_at (Y.start_faults yard.new) (Y.read_faults yard.new) (Y.hold_faults yard.new)) }
-    ensures ran { IfOk result (λ ran. LanesRan (racing_seen racing.now) (C.may_read clock.now) (Y.told yard.old)
-        (counts_at (Y.start_faults yard.old) (Y.read_faults yard.old) (Y.hold_faults yard.old)) (counts_at (Y.start_faults yard.new) (Y.read_faults yard.new) (Y.hold_faults yard.new)) ran.start ran.reports.items) }
-    ensures memory { OnErr result (counts_at (Y.start_faults yard.new) (Y.read_faults yard.new) (Y.hold_faults yard.new) ≡ counts_at (Y.start_faults yard.old) (Y.read_faults yard.old) (Y.hold_faults yard.old)) }
+    ensures ran { IfOk result (λ ran. LanesRan (racing_seen racing.now) (C.may_read clock.now)
+        (yard_at (Y.told yard.old) (Y.started yard.old) (counts_at (Y.start_faults yard.old) (Y.read_faults yard.old) (Y.hold_faults yard.old)))
+        (yard_at (Y.told yard.new) (Y.started yard.new) (counts_at (Y.start_faults yard.new) (Y.read_faults yard.new) (Y.hold_faults yard.new))) ran.start ran.reports.items) }
+    ensures memory { OnErr result (NoneStarted (yard_at (Y.told yard.old) (Y.started yard.old) (counts_at (Y.start_faults yard.old) (Y.read_faults yard.old) (Y.hold_faults yard.old)))
+        (yard_at (Y.told yard.new) (Y.started yard.new) (counts_at (Y.start_faults yard.new) (Y.read_faults yard.new) (Y.hold_faults yard.new)))) }
 {
     // So many lanes as a number of 32 bits can't count aren't raced.
     let Ok(lanes) = u32::try_from(racing.engines.len()) else {

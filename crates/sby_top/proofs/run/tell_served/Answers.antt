@@ -1,7 +1,7 @@
-use Rattle.std.proofs.Common.{[], ◌∷◌, ◌++◌, Err, refl}
+use Rattle.std.proofs.Common.{[], ◌∷◌, ◌++◌, Err, refl, subst, sym}
 use Rattle.std.proofs.lemmas.Result.{err_from_is_err_and}
 use Rattle.sby_lines.specs.Lines.{done_line, unput_lines}
-use Rattle.sby_lines.specs.Told.{asked_by}
+use Rattle.sby_lines.specs.Told.{AreLimited, asked_by}
 use Rattle.sby_lines.specs.declared.tell.Stop.TheVariants.{Memory}
 use Rattle.sby_lines.proofs.TellLemmas.{tells_nothing, tells_stopped, tells_then}
 use Rattle.sby_top.proofs.EndLemmas.{some_last}
@@ -24,3 +24,6 @@ returns-in-Err-clause-told g c = λ expect lines has. tells_then {T = Unit {0}} 
     (unput_lines (asked_by c.args.heading.now expect) c.put_traces.new.unput.items ++ done_line c.args.heading.now.name.now c.args.served.now.collected.status c.args.rc ∷ []) tt (Err Memory)
     (c.in_ok-tell_jobs.ensures expect lines (rw (c.flat-flat.ensures.flat, c.deref.ensures.value) has))
     (tells_nothing _ _ _ (some_last (unput_lines (asked_by c.args.heading.now expect) c.put_traces.new.unput.items) (done_line c.args.heading.now.name.now c.args.served.now.collected.status c.args.rc)))
+
+pub tell_jobs-requires-clause-limited : goal.tell_jobs-requires-clause-limited
+tell_jobs-requires-clause-limited g c = subst (λ rs. AreLimited c.args.served.now.start c.args.heading.now.limit rs) (sym c.deref.ensures.value) c.requires.limited

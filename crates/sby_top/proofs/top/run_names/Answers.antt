@@ -12,7 +12,7 @@ pub returns-in-Ok-Ok : goal.returns-in-Ok-Ok
 returns-in-Ok-Ok g c =
     let h = c.in-Ok.ensures in
     names_told (g.C.Clock.may_read c.args.clock.now) _ _ c.args.file.now c.in-Ok.text.items c.in-Ok-Ok.config c.tell_names.result h.got (subst (λ t. SbyText t c.in-Ok-Ok.config) c.deref.ensures.value (rw c.in-Ok-Ok.field-0-is at c.in-Ok-Ok.ensures.text))
-    (alone_since _ _ _ _ _ _ _ _ _ _ _ _ _ _ _ c.tell_names.result h.told h.still h.blamed (c.tell_names.ensures _ _ _ _ _))
+    (alone_since _ _ _ _ _ _ _ _ _ _ _ _ _ _ c.tell_names.result h.told h.still h.blamed (c.tell_names.ensures _ _ _ _))
 
 pub returns-in-Ok-Err : goal.returns-in-Ok-Err
 returns-in-Ok-Err g c =

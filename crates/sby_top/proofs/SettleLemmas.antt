@@ -1,0 +1,96 @@
+-- A valid certificate of a child settles its job, in every mode.
+use Rattle.std.proofs.Common.{◌≡◌, ℕ, ◌+◌, ◌<◌, List, refl, ap, sym, ◌∙◌, subst, inl, inr, ◌⊎◌, length, take, arith}
+use Rattle.std.specs.Prelude.{Contains, None, Some, slice_get}
+use Rattle.std.proofs.lemmas.List.{get_or_default}
+use Rattle.sby_edge.specs.Child.{up_to}
+use Rattle.sby_edge.specs.Files.{Store}
+use Rattle.sby_edge.specs.Script.{ScriptOf}
+use Rattle.stream_judge.specs.Fate.{Found as FoundFate, Unknown as UnknownFate, Bad as BadFate}
+use Rattle.judge.specs.Finding.{FindingOf}
+use Rattle.judge.specs.Problem.{IsJobFile}
+use Rattle.race_core.specs.Asking.{name_at}
+use Rattle.race_core.specs.Carrying.{Carries}
+use Rattle.race_core.specs.Collect.{SettledIn}
+use Rattle.race_core.specs.Consistent.{end_at}
+use Rattle.race_core.specs.Report.{ReportOf}
+use Rattle.race_core.specs.declared.end.JobEnd.{JobEnd}
+use Rattle.race_core.specs.declared.end.JobEnd.TheVariants.{Found, Unknown as UnknownEnd, NotServed, Bad, ReadFailed, StartFailed, HoldFailed, Skipped, CalledOff, Stopped, Memory as MemoryEnd}
+use Rattle.sby_edge.specs.Cause.{CountsOf}
+use Rattle.sby_lines.specs.Told.{job_of}
+use Rattle.sby_terms.specs.Problem.{ProblemOf}
+use Rattle.sby_terms.specs.declared.engine.Engine.{Engine}
+use Rattle.sby_terms.specs.declared.names.Answer.{Answer}
+use Rattle.sby_terms.specs.declared.names.Mode.{Mode}
+use Rattle.lane_judge.specs.Fates.{most_bytes}
+use Rattle.lane_judge.specs.Serving.{IsServing, evidence_at}
+use Rattle.task_race.specs.Bays.{AreCountsOf}
+use Rattle.task_race.specs.Ends.{HasEndCause, IsEndOfFate, IsFateOf, script_of}
+use Rattle.task_race.specs.Ran.{LanesRan}
+use Rattle.task_race.proofs.EndLemmas.{lane_cause}
+use Rattle.task_race.proofs.FateLemmas.{end_of_fate}
+use Rattle.task_race.proofs.PlaceLemmas.{at_contains, stands_at}
+use Rattle.sby_top.specs.Claims.{IsJobInTime, IsJudgedAt}
+use Rattle.sby_top.specs.Judged.{AreReports, racing_of}
+use Rattle.sby_top.specs.Served.{jobs_in}
+use Rattle.sby_top.specs.Task.{Lanes, TaskOf}
+use Rattle.sby_top.specs.World.{World, race_of}
+use Rattle.sby_top.specs.declared.outcome.TaskEnd.{TaskEnd}
+use Rattle.sby_top.proofs.ChildLemmas.{serving_within}
+use Rattle.sby_top.proofs.EvidenceLemmas.{judged_job}
+
+module _ (may_read : ℕ → Type 0) (number : ℕ) (start finish : World) (task : TaskOf) (end : TaskEnd) (engines : List Engine) (lane place : ℕ) (script : ScriptOf) (now : Store) (file : List ℕ) (answer : Answer)
+    (judged : IsJudgedAt may_read number start finish task end now) (service : task.service ≡ Lanes engines) (lt : place < length (jobs_in judged.done.problem)) (serving : IsServing (slice_get engines lane))
+    (script_is : script_of start.yard.scripts number lane (name_at task.request.mode place) ≡ Some script) (no_gate : script.gate ≡ None) (own_file : IsJobFile judged.done.problem (name_at task.request.mode place) file)
+    (valid : IsFateOf (evidence_at (slice_get engines lane)) file (up_to script.stalls script.bytes) (take (most_bytes + 1) script.proof) (FoundFate answer)) where
+  lanes_ran : LanesRan (racing_of task judged.done.problem number engines) may_read start.yard finish.yard end.start end.reports.items
+  lanes_ran = subst (λ s. AreReports s may_read task judged.done.problem judged.middle.told (race_of number start finish end.start) end.reports.items) service judged.done.reports_are
+
+  own_report : (r : ReportOf FindingOf) × (slice_get end.reports.items lane ≡ Some r)
+  own_report = let count = lanes_ran.consistent.lanes_are in let within = serving_within engines lane serving in stands_at end.reports.items lane (omega (arith, count, within))
+
+  own_cause : (counts : CountsOf) × AreCountsOf number lane start.yard finish.yard counts
+      × HasEndCause (racing_of task judged.done.problem number engines) may_read start.yard.scripts counts end.start lane (name_at task.request.mode place) (end_at own_report.0 place)
+  own_cause =
+      let cause = lane_cause (racing_of task judged.done.problem number engines) may_read start.yard finish.yard end.start end.reports.items lanes_ran lane place own_report.0 own_report.1 lt (end_at own_report.0 place) refl in (
+        cause.0,
+        cause.1,
+        subst (λ (m : Mode). HasEndCause (racing_of task judged.done.problem number engines) may_read start.yard.scripts cause.0 end.start lane (name_at m place) (end_at own_report.0 place))
+            (ap (λ (q : ProblemOf). q.mode) judged.done.served.0.asked) cause.2,
+      )
+
+  own_fate : IsEndOfFate (FoundFate answer) (end_at own_report.0 place)
+  own_fate = end_of_fate (racing_of task judged.done.problem number engines) may_read start.yard.scripts own_cause.0 end.start lane (name_at task.request.mode place) script file (FoundFate answer) serving script_is no_gate own_file
+      valid (end_at own_report.0 place) own_cause.2
+
+  among : Contains end.reports.items own_report.0
+  among = at_contains end.reports.items lane own_report.0 own_report.1
+
+  settles : (f : FindingOf) → end_at own_report.0 place ≡ Found f → f.job ≡ name_at task.request.mode place → SettledIn job_of end.reports.items (name_at task.request.mode place) f
+  settles f is of_job =
+      let size = (lanes_ran.consistent.replays lane own_report.0 own_report.1).ends in
+      let within : place < length own_report.0.ends = omega (arith, size, lt) in (
+        own_report.0,
+        among,
+        (end_at own_report.0 place, (place, within, get_or_default own_report.0.ends place (end_at own_report.0 place) NotServed within), subst (λ (x : JobEnd FindingOf). Carries x f) (sym is) refl),
+        of_job,
+      )
+
+  by_end : (e : JobEnd FindingOf) → end_at own_report.0 place ≡ e
+      → HasEndCause (racing_of task judged.done.problem number engines) may_read start.yard.scripts own_cause.0 end.start lane (name_at task.request.mode place) e → IsEndOfFate (FoundFate answer) e
+      → IsJobInTime may_read number lane place start finish task judged.done.problem engines end answer
+  by_end (Found f) is cause fate =
+      let same : f.answer ≡ answer = cc in
+      inl (f, settles f is (judged_job (racing_of task judged.done.problem number engines) start.yard.scripts lane (name_at task.request.mode place) f cause), same)
+  by_end UnknownEnd is cause fate = let no : FoundFate answer ≡ UnknownFate = fate in cc
+  by_end (Bad kind at) is cause fate = let no : FoundFate answer ≡ BadFate fate.0 at = fate.2 in cc
+  by_end NotServed is cause fate = absurd fate
+  by_end ReadFailed is cause fate = inr (inl (own_cause.0, own_cause.1, inr (inl cause)))
+  by_end StartFailed is cause fate = inr (inl (own_cause.0, own_cause.1, inl cause))
+  by_end HoldFailed is cause fate = inr (inl (own_cause.0, own_cause.1, inr (inr cause)))
+  by_end (Skipped f) is cause fate = inr (inr (inr (inr (own_report.0, f, among, subst (λ (x : JobEnd FindingOf). Carries x f) (sym is) refl, inl cause))))
+  by_end (CalledOff f) is cause fate = inr (inr (inr (inr (own_report.0, f, among, subst (λ (x : JobEnd FindingOf). Carries x f) (sym is) refl, inr cause))))
+  by_end (Stopped t) is cause fate = inr (inr (inl (t, cause)))
+  by_end MemoryEnd is cause fate = inr (inr (inr (inl (own_report.0, among, is))))
+
+  pub child_settles : IsJobInTime may_read number lane place start finish task judged.done.problem engines end answer
+  child_settles = by_end (end_at own_report.0 place) refl own_cause.2 own_fate

@@ -1,0 +1,83 @@
+-- What bays leave to their yard.
+use Rattle.std.proofs.Common.{◌≡◌, ℕ, ◌≤◌, inl, inr, ◌⊎◌, List, [], ◌∷◌, ◌++◌, length, map, option_map, refl, sym, ap, subst, ◌∙◌, arith, append_assoc, append-nil, rules}
+use Rattle.std.specs.Prelude.{Option, Some, None, All, Contains, IfSome, slice_get}
+use Rattle.std.proofs.lemmas.List.Elements.{All-append, Contains-append_left, Contains-append_right}
+use Rattle.sby_edge.specs.Cause.{CountsOf}
+use Rattle.sby_edge.specs.Child.{BayOf, IsLogged, LaneOf, StartOf, YardOf, left_by, new_bay}
+use Rattle.lane_child.specs.Starting.{with_starts}
+use Rattle.task_race.specs.Bays.{AreCountsOf, BackOf, CameBack, YardAt, counts_in, left_all, none_failed}
+use Rattle.task_race.proofs.PlaceLemmas.{first_or_later}
+
+-- ---- lists that yards tell
+
+-- no lane more
+pub none_logged : (started : Option (List LaneOf)) → IsLogged [] started started
+none_logged None = inl refl
+none_logged (Some lanes) = inl (ap Some (sym (append-nil lanes)))
+
+two_logs : (first then : List LaneOf) (started : Option (List LaneOf))
+    → option_map (λ (l : List LaneOf). l ++ then) (option_map (λ (l : List LaneOf). l ++ first) started) ≡ option_map (λ (l : List LaneOf). l ++ (first ++ then)) started
+two_logs first then None = refl
+two_logs first then (Some lanes) = ap Some (append_assoc lanes first then)
+
+-- some lanes, and then others
+pub logged_more : (first then : List LaneOf) (before mid now : Option (List LaneOf)) → IsLogged first before mid → IsLogged then mid now → IsLogged (first ++ then) before now
+logged_more first then before mid now (inl h) (inl k) = inl (k ∙ (ap (λ (o : Option (List LaneOf)). option_map (λ (l : List LaneOf). l ++ then) o) h ∙ two_logs first then before))
+logged_more first then before mid now (inr h) (inl k) = inr (k ∙ ap (λ (o : Option (List LaneOf)). option_map (λ (l : List LaneOf). l ++ then) o) h)
+logged_more first then before mid now h (inr k) = inr k
+
+-- ---- what is left
+
+-- bays that started nothing leave no start
+pub unstarted_left : (bay : Option BayOf) (counts : CountsOf) (told : Option YardOf) (task lane : ℕ) → bay ≡ new_bay told task lane → All (λ (l : LaneOf). l.starts ≡ []) (left_by bay counts)
+unstarted_left bay counts None task lane is = subst (λ (b : Option BayOf). All (λ (l : LaneOf). l.starts ≡ []) (left_by b counts)) (sym is) (λ i d lt. absurd (omega (lt, arith)))
+unstarted_left bay counts (Some scripts) task lane is =
+    subst (λ (b : Option BayOf). All (λ (l : LaneOf). l.starts ≡ []) (left_by b counts)) (sym is) (search rules)
+
+pub unstarted_all : {B : Type 0} (view : B → BackOf) (told : Option YardOf) (task : ℕ) (bays : List B) → ((b : B) → Contains bays b → (lane : ℕ) × ((view b).told ≡ new_bay told task lane))
+    → All (λ (l : LaneOf). l.starts ≡ []) (left_all (map view bays))
+unstarted_all view told task [] fresh = λ i d lt. absurd (omega (lt, arith))
+unstarted_all view told task (b ∷ bays) fresh =
+    let first = fresh b (0, omega arith, refl) in
+    All-append (λ (l : LaneOf). l.starts ≡ []) (left_all (map view bays)) (left_by (view b).told (view b).counts)
+    (unstarted_all view told task bays (λ x among. fresh x (Contains-append_right (b ∷ []) bays x among)))
+    (unstarted_left (view b).told (view b).counts told task first.0 first.1)
+
+-- a bay that told leaves what it told
+entry : BayOf → CountsOf → LaneOf
+entry bay counts = record { task = bay.task; lane = bay.lane; starts = bay.starts; counts = counts }
+
+left_entry : (back : BackOf) (bay : BayOf) → back.told ≡ Some bay → Contains (left_by back.told back.counts) (entry bay back.counts)
+unfolding entry
+left_entry back bay is = subst (λ (b : Option BayOf). Contains (left_by b back.counts) (entry bay back.counts)) (sym is) (0, omega arith, refl)
+
+left_contains : (backs : List BackOf) (back : BackOf) (bay : BayOf) → Contains backs back → back.told ≡ Some bay → Contains (left_all backs) (entry bay back.counts)
+left_contains [] back bay among is = absurd (omega (among.1, arith))
+left_contains (first ∷ backs) back bay among is = elim (first_or_later first back backs among) [
+  | inl here ↦ Contains-append_right (left_all backs) (left_by first.told first.counts) (entry bay back.counts)
+      (subst (λ (b : BackOf). Contains (left_by b.told b.counts) (entry bay back.counts)) (sym here) (left_entry back bay is))
+  | inr rest ↦ Contains-append_left (left_all backs) (left_by first.told first.counts) (entry bay back.counts) (left_contains backs back bay rest is)
+]
+
+pub counts_told : (scripts : Option YardOf) (before now : Option (List LaneOf)) (task lane : ℕ) (backs : List BackOf) (back : BackOf) (starts : List StartOf)
+    → Contains backs back → back.told ≡ option_map (with_starts starts) (new_bay scripts task lane) → IsLogged (left_all backs) before now
+    → IfSome scripts (λ _. IfSome now (λ lanes. (left : LaneOf) × Contains lanes left × (left.task ≡ task) × (left.lane ≡ lane) × (left.counts ≡ back.counts)))
+unfolding entry
+counts_told None before now task lane backs back starts among is logged = tt
+counts_told (Some scripts) before None task lane backs back starts among is logged = tt
+counts_told (Some scripts) before (Some lanes) task lane backs back starts among is (inr none) = absurd cc
+counts_told (Some scripts) None (Some lanes) task lane backs back starts among is (inl logged) = absurd cc
+counts_told (Some scripts) (Some earlier) (Some lanes) task lane backs back starts among is (inl logged) =
+    let bay : BayOf = record { task = task; lane = lane; scripts = scripts task lane; starts = [] ++ starts } in
+    let same : lanes ≡ earlier ++ left_all backs = cc in (
+      entry bay back.counts,
+      subst (λ (l : List LaneOf). Contains l (entry bay back.counts)) (sym same) (Contains-append_right earlier (left_all backs) (entry bay back.counts) (left_contains backs back bay among is)),
+      refl,
+      refl,
+      refl,
+    )
+
+-- the counts of bays, by what they left
+pub counts_left : {B : Type 0} (view : B → BackOf) (counts : B → CountsOf) (bays : List B) → ((b : B) → (view b).counts ≡ counts b) → map counts_in (map view bays) ≡ map counts bays
+counts_left view counts [] same = refl
+counts_left view counts (b ∷ bays) same = ap (λ (l : List CountsOf). (view b).counts ∷ l) (counts_left view counts bays same) ∙ ap (λ (c : CountsOf). c ∷ map counts bays) (same b)
