@@ -13,7 +13,7 @@ use std::alloc::{AllocError, Global};
 const MAX_ACTIVITY: u64 = 1 << 60;
 
 // One in so many stretches in stable mode begins with all variables true.
-const TURNED: u32 = 4;
+const TURNED: u32 = 8;
 
 // The place of a variable that isn't in the heap.
 const NO_PLACE: u32 = 0xffff_ffff;
@@ -88,7 +88,7 @@ impl Order {
         if stable && !self.stable {
             self.longest = 0;
             self.stretches = self.stretches.saturating_add(1);
-            let turned = self.stretches % TURNED == 1;
+            let turned = self.stretches % TURNED == 4;
             for index in 0..self.targets.len() {
                 if index < self.signs.len() {
                     self.targets[index] = !turned && self.signs[index];
