@@ -472,7 +472,7 @@ impl Analysis {
     }
 
     // Goes through what a falsified clause rests on until one literal of the last level alone is left: that literal.
-    pub fn find(
+    pub fn first_uip(
         &mut self,
         core: &Propagator,
         k: u32,

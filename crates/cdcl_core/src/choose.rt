@@ -71,7 +71,7 @@ pub(crate) fn choose(core: &Propagator, order: &mut Order, formula: &Formula) ->
     ensures room { length core.now.trail ≤ 2 * core.now.vars + 2 }
 {
     let _room = core.trail().len();
-    if let Some(l) = order.luck.next(core, formula) {
+    if let Some(l) = order.lucky.next(core, formula) {
         return Some(l);
     }
     let clauses = formula.clauses();

@@ -22,7 +22,7 @@ use unit_propagation::Propagator;
 
 // Makes the variables that a conflict rested on more active, unless it came of a lucky guess.
 fn bump_all(analysis: &Analysis, order: &mut Order) {
-    if order.luck.is_left() {
+    if order.lucky.is_left() {
         return;
     }
     for l in analysis.current() {
@@ -31,7 +31,7 @@ fn bump_all(analysis: &Analysis, order: &mut Order) {
     for l in analysis.lower() {
         order.bump(l.var());
     }
-    order.age();
+    order.decay();
     order.goals.count();
 }
 
@@ -83,8 +83,8 @@ impl Solver {
         let base = core.limit(core.levels() - 1);
         let root = core.limit(0);
         self.order.set_stable(self.restarts.is_stable());
-        self.order.keep_longest(&core.trail()[..base]);
-        let point = self.analysis.find(core, k, root, base)?;
+        self.order.save_target(&core.trail()[..base]);
+        let point = self.analysis.first_uip(core, k, root, base)?;
         bump_all(&self.analysis, &mut self.order);
         let learnt = minimize(
             core,

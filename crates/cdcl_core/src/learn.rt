@@ -89,7 +89,7 @@ fn last_false(core: &Propagator, clause: &[Lit], first: Lit) -> Option<Lit>
 fn reopen(core: &Propagator, order: &mut Order, place: usize) -> Result<(), AllocError> {
     let trail = core.trail();
     for place in place..trail.len() {
-        order.put(trail[place].var(), trail[place].is_negated())?;
+        order.unassign(trail[place].var(), trail[place].is_negated())?;
     }
     Ok(())
 }

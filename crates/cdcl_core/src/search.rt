@@ -75,7 +75,7 @@ impl Solver {
         ensures deletions { self.new.deletions ≡ self.old.deletions }
         ensures analysis { self.new.analysis ≡ self.old.analysis }
     {
-        let guesses = self.order.luck.is_left();
+        let guesses = self.order.lucky.is_left();
         if guesses {
             self.restarts.begin();
         }
@@ -111,7 +111,7 @@ impl Solver {
             return Ok(());
         }
         restart(&mut self.core, &mut self.order)?;
-        self.order.luck.advance();
+        self.order.lucky.advance();
         find_signs(
             self.alloc,
             &self.core,

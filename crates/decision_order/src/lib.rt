@@ -3,14 +3,14 @@
 
 mod cover;
 mod goals;
-mod luck;
+mod lucky;
 mod open;
 mod order;
 mod walk;
 mod walks;
 mod weights;
 
-pub use crate::luck::Luck;
+pub use crate::lucky::Lucky;
 pub use crate::open::{is_open, is_satisfied, open_of};
 pub use crate::order::Order;
 pub use crate::walk::find_signs;

@@ -4,7 +4,7 @@
 ghost use Rattle.std.specs.Prelude.{◌<◌};
 
 use crate::goals::Goals;
-use crate::luck::Luck;
+use crate::lucky::Lucky;
 use crate::walks::Walks;
 use cnf_form::Lit;
 use std::alloc::{AllocError, Global};
@@ -13,7 +13,7 @@ use std::alloc::{AllocError, Global};
 const MAX_ACTIVITY: u64 = 1 << 60;
 
 // One in so many stretches in stable mode begins with all variables true.
-const TURNED: u32 = 4;
+const TURNED: u32 = 8;
 
 // The place of a variable that isn't in the heap.
 const NO_PLACE: u32 = 0xffff_ffff;
@@ -26,7 +26,7 @@ pub struct Order {
     signs: Vec<bool>,
     step: u64,
     pub goals: Goals,
-    pub luck: Luck,
+    pub lucky: Lucky,
     stable: bool,
     stretches: u32,
     targets: Vec<bool>,
@@ -55,7 +55,7 @@ impl Order {
             signs,
             step: 1 << 20,
             goals: Goals::new(has_goal),
-            luck: Luck::new(has_goal),
+            lucky: Lucky::new(has_goal),
             stable: false,
             stretches: 0,
             targets,
@@ -88,7 +88,7 @@ impl Order {
         if stable && !self.stable {
             self.longest = 0;
             self.stretches = self.stretches.saturating_add(1);
-            let turned = self.stretches % TURNED == 1;
+            let turned = self.stretches % TURNED == 4;
             for index in 0..self.targets.len() {
                 if index < self.signs.len() {
                     self.targets[index] = !turned && self.signs[index];
@@ -100,7 +100,7 @@ impl Order {
 
     /// Whether the walk is to begin or to go on, once guesses are over.
     pub fn wants_walk(&self) -> bool {
-        self.walks.is_due() && !self.luck.is_left()
+        self.walks.is_due() && !self.lucky.is_left()
     }
 
     /// Whether it is to begin.
@@ -124,7 +124,7 @@ impl Order {
     }
 
     /// Keeps the signs of these true literals, where they are the most of a stretch in stable mode.
-    pub fn keep_longest(&mut self, lits: &[Lit]) {
+    pub fn save_target(&mut self, lits: &[Lit]) {
         if !self.stable || lits.len() <= self.longest {
             return;
         }
@@ -227,11 +227,11 @@ impl Order {
         top
     }
 
-    /// Puts a variable that isn't in the heap, with the sign that it had, unless that was guessed.
-    pub fn put(&mut self, var: u32, sign: bool) -> Result<(), AllocError> {
+    /// A variable is open again, with the sign that it had, unless that was guessed.
+    pub fn unassign(&mut self, var: u32, sign: bool) -> Result<(), AllocError> {
         let index = var as usize;
         self.walks.open();
-        if index < self.signs.len() && !self.luck.is_left() {
+        if index < self.signs.len() && !self.lucky.is_left() {
             self.signs[index] = sign;
         }
         if index < self.places.len() && self.places[index] == NO_PLACE {
@@ -261,7 +261,7 @@ impl Order {
     }
 
     /// Makes later conflicts count more.
-    pub fn age(&mut self) {
+    pub fn decay(&mut self) {
         self.step = self.step.saturating_add(self.step / 20);
     }
 

@@ -1,5 +1,5 @@
-// Guesses that are followed before the search for a goal begins, each from level 0 until a clause is falsified: a machine often has
-// a run in which all that its clauses leave open is the same. Nothing is promised of it.
+// Lucky phases (Biere, 2019): guesses that are followed before the search for a goal begins, each from level 0 until a clause is
+// falsified: a machine often has a run in which all that its clauses leave open is the same. Nothing is promised of it.
 
 ghost use Rattle.std.specs.Prelude.{IfSome};
 ghost use Rattle.cnf_form.specs.Cnf.{LitWithin};
@@ -18,16 +18,16 @@ const BY_VARS: u32 = 2;
 /// The guesses are numbered from 1: that all is false; that all is true; of each clause that isn't true a negated literal, and what is
 /// left is true; the same with the signs turned. The places are those of the next clause and variable.
 #[derive(Drop)]
-pub struct Luck {
+pub struct Lucky {
     guess: u32,
     clause: usize,
     var: u32,
 }
 
-impl Luck {
+impl Lucky {
     /// Before the first guess, or where there is no goal behind the last.
     pub fn new(has_goal: bool) -> Self {
-        Luck {
+        Lucky {
             guess: if has_goal { 0 } else { GUESSES + 1 },
             clause: 0,
             var: 0,
