@@ -4,7 +4,7 @@ use Rattle.std.specs.Prelude.{Contains, IsSome, Option, Some, None, slice_get}
 use Rattle.sby_edge.specs.Child.{YardOf}
 use Rattle.sby_edge.specs.Files.{Store}
 use Rattle.sby_edge.specs.Script.{ScriptOf}
-use Rattle.stream_judge.specs.Fate.{Fate, Found as FoundFate, Unknown as UnknownFate, Bad as BadFate}
+use Rattle.cert_judge.specs.Fate.{Fate, Found as FoundFate, Unknown as UnknownFate, Bad as BadFate}
 use Rattle.judge.specs.Finding.{FindingOf}
 use Rattle.judge.specs.Jobs.{jobs_in as jobs_of_mode}
 use Rattle.judge.specs.Problem.{AskedOf, IsJobFile}
