@@ -7,8 +7,8 @@ use Rattle.cnf_form.specs.Cnf.{LitOf, LitWithin, ClauseWithin, Within, Assignmen
 use Rattle.cnf_form.specs.Dimacs.{literal_text}
 use Rattle.cert_stream.specs.Text.{NoFeed, lines_of, put_first}
 use Rattle.cdcl_core.specs.Solving.{valued}
-use Rattle.stream_judge.specs.Cert.{Names, lines, named_by, words}
-use Rattle.stream_judge.specs.Values.{named, named_from, unnamed}
+use Rattle.cert_judge.specs.DrupCert.{Names, lines, named_by, words}
+use Rattle.cert_judge.specs.Values.{named, named_from, unnamed}
 use Rattle.cdcl_run.specs.Answer.{literals_from}
 use Rattle.cdcl_run.specs.Text.{spaced, value_line, last_value_line}
 use Rattle.cdcl_run.proofs.Proofs.{line_first}

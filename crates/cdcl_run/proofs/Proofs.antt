@@ -9,7 +9,7 @@ use Rattle.cnf_form.proofs.Removal.{Deletes-within}
 use Rattle.cnf_form.proofs.Rup.{Admitted-true, Satisfies-push}
 use Rattle.cert_stream.specs.Text.{NoFeed}
 use Rattle.cert_stream.proofs.Apart.{fed_lines}
-use Rattle.stream_judge.specs.Cert.{Leads, lines, words}
+use Rattle.cert_judge.specs.DrupCert.{Leads, lines, words}
 use Rattle.cdcl_core.specs.Logged.{AreProper, IsProper, clause_of}
 use Rattle.cdcl_run.specs.Answer.{IsSearched}
 use Rattle.cdcl_run.specs.Searching.{IsProof}

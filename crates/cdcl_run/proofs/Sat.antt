@@ -5,7 +5,7 @@ use Rattle.cnf_form.specs.Cnf.{LitOf, FormulaOf, Line, Satisfies}
 use Rattle.cnf_form.specs.Dimacs.{IsDimacs}
 use Rattle.cdcl_core.specs.Solving.{valued}
 use Rattle.cdcl_core.proofs.Solutions.{logged_drup}
-use Rattle.stream_judge.specs.Cert.{IsIdle, Names, lines, named_by}
+use Rattle.cert_judge.specs.DrupCert.{IsIdle, Names, lines, named_by}
 use Rattle.cdcl_run.specs.Answer.{IsSatStream, literals_from}
 use Rattle.cdcl_run.specs.Searching.{IsProof}
 use Rattle.cdcl_run.specs.Text.{AreValueLines, proof_text, satisfiable_line}

@@ -9,13 +9,16 @@ use Rattle.cert_stream.specs.Places.{AreDone, IsList}
 use Rattle.cert_stream.specs.Telling.{Saying, IsClause, IsDelete}
 use Rattle.cert_stream.specs.Stream.{bad, heard_says, line_says, lines_say}
 use Rattle.cert_stream.specs.declared.mode.ListKind.TheVariants.{Clause as ClauseList, Deletion as DeletionList}
-use Rattle.cert_stream.specs.declared.mode.WireFaultKind.TheVariants.{BadLine}
+use Rattle.cert_stream.specs.declared.mode.ParseFaultKind.TheVariants.{BadLine}
 use Rattle.cert_stream.proofs.Apart.{fed_lines, list_line}
 use Rattle.cert_stream.proofs.Streams.{some_line}
-use Rattle.stream_judge.specs.Cert.{words, Writes, IsEnded}
-use Rattle.stream_judge.specs.Values.{unnamed}
-use Rattle.stream_judge.specs.Fate.{ComesTo, IsFate, Unknown}
-use Rattle.stream_judge.proofs.Lines.{texts, line_texts, done_all, ends_at, done_last, writes_read}
+use Rattle.cert_judge.specs.DrupCert.{words, Writes, IsEnded}
+use Rattle.cert_judge.specs.Values.{unnamed}
+use Rattle.cert_judge.specs.Drup.{ComesTo}
+use Rattle.cert_judge.specs.Fate.{Unknown}
+use Rattle.cert_judge.specs.Kinds.{IsFate}
+use Rattle.cert_judge.specs.declared.stream.StreamKind.TheVariants.{Drup as DrupKind}
+use Rattle.cert_judge.proofs.DrupLines.{texts, line_texts, done_all, ends_at, done_last, writes_read}
 use Rattle.cdcl_core.specs.Logged.{Logged, none, added, deleted, AreProper, IsProper, clause_of}
 use Rattle.cdcl_core.proofs.Solutions.{logged_drup}
 use Rattle.cdcl_run.specs.Answer.{IsUnknownStream}
@@ -125,7 +128,7 @@ module _ (vars : ℕ) (small : vars < 2 ^ 64) (C : List (List LitOf)) where
       subst (λ z. Comes F (lines_say vars true false at (lines_of z))) (sym (append_assoc (proof_line (Deletion c)) (proof_text ls) unknown_line ∙ ap (λ z. 100 ∷ 32 ∷ z) (bare_line vars small c s)))
       (first_line at F t s w.0 w.1 (refl, (refl, bare_feed vars small c i)) w.2 (subst (Comes F) (sym said) (d.0, d.1, k)))
 
-pub unknown_fate : (job stream : List ℕ) (budget most : ℕ) → IsUnknownStream job budget stream → length stream ≤ most → IsFate job stream most Unknown
+pub unknown_fate : (job stream : List ℕ) (budget most : ℕ) → IsUnknownStream job budget stream → length stream ≤ most → IsFate DrupKind job stream most Unknown
 unknown_fate job stream budget most w l =
     let s = w.searched in
     let f = s.formula in

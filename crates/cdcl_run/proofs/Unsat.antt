@@ -3,7 +3,7 @@ use Rattle.std.proofs.Common.{◌≡◌, ℕ, ◌<◌, ◌^◌, List, [], ◌∷
 use Rattle.std.specs.Prelude.{codes, map}
 use Rattle.cnf_form.specs.Cnf.{LitOf, FormulaOf, Line, Addition, IsAdmitted}
 use Rattle.cnf_form.specs.Dimacs.{IsDimacs}
-use Rattle.stream_judge.specs.Cert.{Leads}
+use Rattle.cert_judge.specs.DrupCert.{Leads}
 use Rattle.cdcl_run.specs.Answer.{IsUnsatStream}
 use Rattle.cdcl_run.specs.Searching.{IsProof}
 use Rattle.cdcl_run.specs.Text.{proof_text, unsatisfiable_line}

@@ -12,8 +12,8 @@ use Rattle.cnf_form.specs.Cnf.{LitOf, LitWithin, ClauseWithin}
 use Rattle.cnf_form.specs.Dimacs.{literal_text, clause_text}
 use Rattle.cnf_form.proofs.Numerals.{digits_back}
 use Rattle.cert_stream.specs.Text.{NoFeed, is_blank, is_digit, is_number, literal_of, words_from}
-use Rattle.stream_judge.specs.Cert.{IsEnded, Writes, words}
-use Rattle.stream_judge.proofs.Lines.{texts, line_texts}
+use Rattle.cert_judge.specs.DrupCert.{IsEnded, Writes, words}
+use Rattle.cert_judge.proofs.DrupLines.{texts, line_texts}
 use Rattle.cdcl_run.specs.Text.{spaced}
 
 -- no white space

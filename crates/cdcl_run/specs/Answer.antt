@@ -4,7 +4,7 @@ use Rattle.cnf_form.specs.Cnf.{LitOf, FormulaOf, Line, Addition, IsAdmitted}
 use Rattle.cnf_form.specs.Dimacs.{IsDimacs}
 use Rattle.cdcl_core.specs.Logged.{Logged, AreProper}
 use Rattle.sby_terms.specs.declared.names.Answer.TheVariants.{Sat as SatAnswer, Unsat as UnsatAnswer}
-use Rattle.stream_judge.specs.Cert.{IsCert}
+use Rattle.cert_judge.specs.DrupCert.{IsCert}
 use Rattle.cdcl_run.specs.Text.{proof_text, line, satisfiable_line, unsatisfiable_line, unknown_line, AreValueLines}
 
 -- the most conflicts: without a number the greatest u64

@@ -7,7 +7,9 @@ ghost use Rattle.cdcl_words.specs.Asking.{Asks};
 ghost use Rattle.sby_edge.specs.Cause.{Rose};
 ghost use Rattle.sby_edge.specs.Files.{Store};
 ghost use Rattle.cdcl_run.specs.Answer.{IsAnswer, IsUnknownStream, budget_of};
-ghost use Rattle.stream_judge.specs.Fate.{IsFate, Unknown};
+ghost use Rattle.cert_judge.specs.Fate.{Unknown};
+ghost use Rattle.cert_judge.specs.Kinds.{IsFate};
+ghost use Rattle.cert_judge.specs.declared.stream.StreamKind.TheVariants.{Drup};
 ghost use Rattle.cdcl_run.specs.Output.{grown};
 ghost use Rattle.cdcl_run.specs.Run.{Did, World};
 
@@ -15,7 +17,7 @@ use cnf_form::dimacs_faults_are_decided;
 
 /// A stream that says that it doesn't know, all of whose bytes are taken, comes to nothing else: its fate is Unknown.
 pub fn unknown_streams_are_unknown()
-    ensures { (job stream : List ℕ) (budget most : ℕ) → IsUnknownStream job budget stream → length stream ≤ most → IsFate job stream most Unknown }
+    ensures { (job stream : List ℕ) (budget most : ℕ) → IsUnknownStream job budget stream → length stream ≤ most → IsFate Drup job stream most Unknown }
 {}
 
 /// Where a store tells a file of at most 2^32 bytes that is a formula, and words ask for it, a call of `run_engine` writes a

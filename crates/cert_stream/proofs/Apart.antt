@@ -8,7 +8,7 @@ use Rattle.std.proofs.lemmas.List.Elements.{Contains-append_left, Contains-appen
 use Rattle.cnf_form.proofs.Members.{Contains-head}
 use Rattle.cnf_form.specs.Cnf.{LitOf}
 use Rattle.cert_stream.specs.Text.{Word, NoFeed, is_digit, literal_of, lines_of, put_first, words_from}
-use Rattle.cert_stream.specs.Machine.{WireOf, turn, end_word, end_line, unended}
+use Rattle.cert_stream.specs.Machine.{DrupOf, turn, end_word, end_line, unended}
 use Rattle.cert_stream.specs.Scan.{Scanned, Reads, Misfit, scan}
 use Rattle.cert_stream.specs.Words.{IsRead}
 use Rattle.cert_stream.specs.Telling.{Saying, IsFault, told_by, after, said, fresh}
@@ -17,13 +17,13 @@ use Rattle.cert_stream.specs.Beginning.{HasNoFault}
 use Rattle.cert_stream.specs.Places.{AreLines, AreDone, Write, IsZero, IsList}
 use Rattle.cert_stream.specs.declared.mode.ListKind.{ListKind}
 use Rattle.cert_stream.specs.declared.mode.ListKind.TheVariants.{Clause, Deletion, Values}
-use Rattle.cert_stream.specs.declared.mode.WireFault.{WireFault}
-use Rattle.cert_stream.specs.declared.mode.WireFaultKind.TheVariants.{BadLine}
+use Rattle.cert_stream.specs.declared.mode.ParseFault.{ParseFault}
+use Rattle.cert_stream.specs.declared.mode.ParseFaultKind.TheVariants.{BadLine}
 use Rattle.cert_stream.specs.declared.mode.Part.{Part}
 use Rattle.cert_stream.specs.declared.mode.Part.TheVariants.{Gap, Minus, Zero, Digits}
 use Rattle.cert_stream.specs.declared.mode.Mode.{Mode}
 use Rattle.cert_stream.specs.declared.mode.Mode.TheVariants.{Start, Skip, Head, StatusHead, StatusGap, Spelled, Whole, InList, Closed, Bad, Lost}
-use Rattle.cert_stream.proofs.Turning.{wire}
+use Rattle.cert_stream.proofs.Turning.{parser}
 use Rattle.cert_stream.proofs.Cutting.{after_append, after_taken}
 use Rattle.cert_stream.proofs.Speaking.{speak, speak_is, from_line, start_forgets}
 use Rattle.cert_stream.proofs.Streams.{some_line, fed_says, lines_spoken, stream_spoken}
@@ -35,14 +35,14 @@ use Rattle.cert_stream.proofs.Digits.{digit_bounds, goes_on_is}
 use Rattle.cert_stream.proofs.Reading.{word_read, literal_first, begins_digit}
 use Rattle.cert_stream.proofs.Tails.{word_says}
 
-speak_append : (ended : Bool) (front text : List ℕ) (w : WireOf) → speak ended w (front ++ text) ≡ said w front ++ speak ended (after w front) text
+speak_append : (ended : Bool) (front text : List ℕ) (w : DrupOf) → speak ended w (front ++ text) ≡ said w front ++ speak ended (after w front) text
 speak_append ended [] text w = refl
 speak_append ended (b ∷ bs) text w =
     let z = (turn w b).to in
     ap (λ x. told_by z (turn w b).event ++ x) (speak_append ended bs text z) ∙ sym (append_assoc (told_by z (turn w b).event) (said z bs) (speak ended (after z bs) text))
 
-pub kept : (bytes : List ℕ) (w : WireOf) → Going w.vars w.mode
-    → (((after w bytes).vars ≡ w.vars) × Going w.vars (after w bytes).mode) ⊎ ((f : WireFault) × ((after w bytes).mode ≡ Bad f))
+pub kept : (bytes : List ℕ) (w : DrupOf) → Going w.vars w.mode
+    → (((after w bytes).vars ≡ w.vars) × Going w.vars (after w bytes).mode) ⊎ ((f : ParseFault) × ((after w bytes).mode ≡ Bad f))
 kept [] w n = inl (refl, n)
 kept (b ∷ bs) w n =
     let t = turn_next w b n in
@@ -57,14 +57,14 @@ kept (b ∷ bs) w n =
 
 -- behind a line feed a line starts
 abbrev StartsLine : Mode → Type 0
-StartsLine m = ((amid : Bool) × (m ≡ Start amid)) ⊎ ((f : WireFault) × (m ≡ Bad f)) ⊎ (m ≡ Lost)
+StartsLine m = ((amid : Bool) × (m ≡ Start amid)) ⊎ ((f : ParseFault) × (m ≡ Bad f)) ⊎ (m ≡ Lost)
 
-unended_starts : (w : WireOf) (kind : ListKind) → StartsLine (unended w kind).to.mode
+unended_starts : (w : DrupOf) (kind : ListKind) → StartsLine (unended w kind).to.mode
 unended_starts w Clause = inr (inl (_, refl))
 unended_starts w Deletion = inr (inl (_, refl))
 unended_starts w Values = inl (true, refl)
 
-end_line_starts : (w : WireOf) (m : Mode) → StartsLine (end_line w m).to.mode
+end_line_starts : (w : DrupOf) (m : Mode) → StartsLine (end_line w m).to.mode
 end_line_starts w (Start amid) = inl (amid, refl)
 end_line_starts w (Skip amid) = inl (amid, refl)
 end_line_starts w (Head kind) = unended_starts w kind
@@ -77,7 +77,7 @@ end_line_starts w Closed = inl (false, refl)
 end_line_starts w (Bad f) = inr (inl (f, refl))
 end_line_starts w Lost = inr (inr refl)
 
-turn_starts : (w : WireOf) → StartsLine (turn w 10).to.mode
+turn_starts : (w : DrupOf) → StartsLine (turn w 10).to.mode
 turn_starts w = end_line_starts (end_word w w.mode).to (end_word w w.mode).to.mode
 
 going_starts : (vars : ℕ) (m : Mode) → Going vars m → StartsLine m → (amid : Bool) × (m ≡ Start amid)
@@ -90,14 +90,14 @@ module _ (vars : ℕ) where
   at_start front (inl e) n = (false, ap (λ z. (after (fresh vars) z).mode) e)
   at_start front (inr (bs, e)) n =
       let k : after (fresh vars) front ≡ (turn (after (fresh vars) bs) 10).to = ap (after (fresh vars)) e ∙ after_append (fresh vars) bs (10 ∷ []) in
-      let s : StartsLine (after (fresh vars) front).mode = subst (λ (z : WireOf). StartsLine z.mode) (sym k) (turn_starts (after (fresh vars) bs)) in
+      let s : StartsLine (after (fresh vars) front).mode = subst (λ (z : DrupOf). StartsLine z.mode) (sym k) (turn_starts (after (fresh vars) bs)) in
       going_starts vars (after (fresh vars) front).mode n s
 
-  start_says : (ended : Bool) (w : WireOf) (at : ℕ) (amid : Bool) (text : List ℕ) → w.vars ≡ vars → w.taken ≡ at → w.mode ≡ Start amid → speak ended w text ≡ from_line vars ended at amid text
+  start_says : (ended : Bool) (w : DrupOf) (at : ℕ) (amid : Bool) (text : List ℕ) → w.vars ≡ vars → w.taken ≡ at → w.mode ≡ Start amid → speak ended w text ≡ from_line vars ended at amid text
   start_says ended w at amid text v t m =
-      ap (λ z. speak ended (wire z w.taken w.place w.mode w.lits) text) v
-      ∙ ap (λ z. speak ended (wire vars z w.place w.mode w.lits) text) t
-      ∙ ap (λ z. speak ended (wire vars at w.place z w.lits) text) m
+      ap (λ z. speak ended (parser z w.taken w.place w.mode w.lits) text) v
+      ∙ ap (λ z. speak ended (parser vars z w.place w.mode w.lits) text) t
+      ∙ ap (λ z. speak ended (parser vars at w.place z w.lits) text) m
       ∙ start_forgets ended vars at w.place amid w.lits text
 
   -- what lines say, and behind it what the rest says
@@ -274,7 +274,7 @@ module _ (vars : ℕ) (front t : List ℕ) (lines : AreLines front) (h : NoFeed 
             ++ cond z (flat_map (heard_says kind) lits ++ ended_says kind place lits ∷ lines_say vars ended false (length front + length t + 1) (lines_of rest)) (bad BadLine place)) x,
       )
       on false x e u =
-          let f : WireFault = record { kind = BadLine; byte = place } in
+          let f : ParseFault = record { kind = BadLine; byte = place } in
           let k : sayings vars false (front ++ (t ++ 10 ∷ [])) ≡ sayings vars false front ++ bad BadLine place =
           u ∙ ap (λ z. sayings vars false front
           ++ cond z (flat_map (heard_says kind) lits ++ ended_says kind place lits ∷ lines_say vars false false (length front + length t + 1) (lines_of [])) (bad BadLine place)) x in

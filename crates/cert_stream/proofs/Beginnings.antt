@@ -5,13 +5,13 @@ use Rattle.std.proofs.lemmas.List.{length-append}
 use Rattle.std.proofs.lemmas.List.Elements.{Contains-append_cases, Contains-append_right}
 use Rattle.std.proofs.Math.Seq.{take-append_seam, take-append-add}
 use Rattle.cnf_form.proofs.Members.{Contains-empty, Contains-head, Contains-one}
-use Rattle.cert_stream.specs.Machine.{WireOf, turn, at_end, fault_of}
+use Rattle.cert_stream.specs.Machine.{DrupOf, turn, at_end, fault_of}
 use Rattle.cert_stream.specs.Telling.{IsFault, saying, told_by, after, said, fresh, fault_said, spoken}
 use Rattle.cert_stream.specs.Stream.{sayings}
 use Rattle.cert_stream.specs.Beginning.{Begins, HasFault, HasNoFault}
 use Rattle.cert_stream.specs.declared.mode.Event.{Event}
 use Rattle.cert_stream.specs.declared.mode.Event.TheVariants.{Clause, Delete, Value, ValuesEnd, Unknown}
-use Rattle.cert_stream.specs.declared.mode.WireFault.{WireFault}
+use Rattle.cert_stream.specs.declared.mode.ParseFault.{ParseFault}
 use Rattle.cert_stream.specs.declared.mode.Mode.{Mode}
 use Rattle.cert_stream.specs.declared.mode.Mode.TheVariants.{Start, Skip, Head, StatusHead, StatusGap, Spelled, Whole, InList, Closed, Bad, Lost}
 use Rattle.cert_stream.proofs.Cutting.{after_append}
@@ -20,28 +20,28 @@ use Rattle.cert_stream.proofs.Going.{Going, turn_next, completes}
 use Rattle.cert_stream.proofs.Streams.{stream_spoken}
 
 -- no event is a fault
-saying_none : (w : WireOf) (e : Event) (f : WireFault) → saying w e ≡ IsFault f → ⊥
+saying_none : (w : DrupOf) (e : Event) (f : ParseFault) → saying w e ≡ IsFault f → ⊥
 saying_none w Clause f h = cc
 saying_none w Delete f h = cc
 saying_none w (Value l) f h = cc
 saying_none w ValuesEnd f h = cc
 saying_none w Unknown f h = cc
 
-told_none : (w : WireOf) (e : Option Event) (f : WireFault) → Contains (told_by w e) (IsFault f) → ⊥
+told_none : (w : DrupOf) (e : Option Event) (f : ParseFault) → Contains (told_by w e) (IsFault f) → ⊥
 told_none w None f h = Contains-empty (IsFault f) h
 told_none w (Some e) f h = saying_none w e f (Contains-one (saying w e) (IsFault f) h)
 
-said_none : (bytes : List ℕ) (w : WireOf) (f : WireFault) → Contains (said w bytes) (IsFault f) → ⊥
+said_none : (bytes : List ℕ) (w : DrupOf) (f : ParseFault) → Contains (said w bytes) (IsFault f) → ⊥
 said_none [] w f h = Contains-empty (IsFault f) h
 said_none (b ∷ bs) w f h =
     let z = (turn w b).to in
     elim (Contains-append_cases (told_by z (turn w b).event) (said z bs) (IsFault f) h) [ inl k ↦ told_none z (turn w b).event f k | inr k ↦ said_none bs z f k ]
 
-ended_none : (ended : Bool) (w : WireOf) (e : Option Event) (f : WireFault) → Contains (cond ended (told_by w e) []) (IsFault f) → ⊥
+ended_none : (ended : Bool) (w : DrupOf) (e : Option Event) (f : ParseFault) → Contains (cond ended (told_by w e) []) (IsFault f) → ⊥
 ended_none true w e f h = told_none w e f h
 ended_none false w e f h = Contains-empty (IsFault f) h
 
-mode_fault : (m : Mode) (f : WireFault) → Contains (fault_said (fault_of m)) (IsFault f) → m ≡ Bad f
+mode_fault : (m : Mode) (f : ParseFault) → Contains (fault_said (fault_of m)) (IsFault f) → m ≡ Bad f
 mode_fault (Start amid) f h = absurd (Contains-empty (IsFault f) h)
 mode_fault (Skip amid) f h = absurd (Contains-empty (IsFault f) h)
 mode_fault (Head kind) f h = absurd (Contains-empty (IsFault f) h)
@@ -55,11 +55,11 @@ mode_fault (Bad g) f h = let e : IsFault g ≡ IsFault f = Contains-one (IsFault
 mode_fault Lost f h = absurd (Contains-empty (IsFault f) h)
 
 module _ (vars : ℕ) where
-  abbrev at : List ℕ → WireOf
+  abbrev at : List ℕ → DrupOf
   at bytes = after (fresh vars) bytes
 
   -- the fault is in what is said exactly where the bytes are at it
-  pub fault_is : (ended : Bool) (bytes : List ℕ) (f : WireFault) → HasFault (sayings vars ended bytes) f → (at bytes).mode ≡ Bad f
+  pub fault_is : (ended : Bool) (bytes : List ℕ) (f : ParseFault) → HasFault (sayings vars ended bytes) f → (at bytes).mode ≡ Bad f
   fault_is ended bytes f h =
       let e = stream_spoken vars ended bytes in
       let told = cond ended (told_by (at bytes) (at_end (at bytes).mode)) [] in
@@ -73,7 +73,7 @@ module _ (vars : ℕ) where
         ]
       ]
 
-  pub fault_in : (ended : Bool) (bytes : List ℕ) (f : WireFault) → (at bytes).mode ≡ Bad f → HasFault (sayings vars ended bytes) f
+  pub fault_in : (ended : Bool) (bytes : List ℕ) (f : ParseFault) → (at bytes).mode ≡ Bad f → HasFault (sayings vars ended bytes) f
   fault_in ended bytes f h =
       let told = cond ended (told_by (at bytes) (at_end (at bytes).mode)) [] in
       let c : Contains (fault_said (fault_of (at bytes).mode)) (IsFault f) = subst (λ m. Contains (fault_said (fault_of m)) (IsFault f)) (sym h) (Contains-head (IsFault f) []) in
@@ -81,7 +81,7 @@ module _ (vars : ℕ) where
       (Contains-append_right (said (fresh vars) bytes) (told ++ fault_said (fault_of (at bytes).mode)) (IsFault f) (Contains-append_right told (fault_said (fault_of (at bytes).mode)) (IsFault f) c))
 
 -- where a fault came
-record FirstBad (w : WireOf) (bytes : List ℕ) (f : WireFault) : Type 0 where
+record FirstBad (w : DrupOf) (bytes : List ℕ) (f : ParseFault) : Type 0 where
   pub front : List ℕ
   pub byte : ℕ
   pub rest : List ℕ
@@ -90,10 +90,10 @@ record FirstBad (w : WireOf) (bytes : List ℕ) (f : WireFault) : Type 0 where
   pub before : Going (after w front).vars (after w front).mode
   pub past : (after w (front ++ byte ∷ [])).mode ≡ Bad f
 
-not_going : (vars : ℕ) (m : Mode) (f : WireFault) → m ≡ Bad f → Going vars m → ⊥
+not_going : (vars : ℕ) (m : Mode) (f : ParseFault) → m ≡ Bad f → Going vars m → ⊥
 not_going vars m f e n = subst (λ z. Going vars z) e n
 
-first_bad : (f : WireFault) (bytes : List ℕ) (w : WireOf) → Going w.vars w.mode → (after w bytes).mode ≡ Bad f → FirstBad w bytes f
+first_bad : (f : ParseFault) (bytes : List ℕ) (w : DrupOf) → Going w.vars w.mode → (after w bytes).mode ≡ Bad f → FirstBad w bytes f
 first_bad f [] w n h = absurd (not_going w.vars w.mode f h n)
 first_bad f (b ∷ bs) w n h =
     let t = turn_next w b n in
@@ -104,12 +104,12 @@ first_bad f (b ∷ bs) w n h =
           record { front = b ∷ k.front; byte = k.byte; rest = k.rest; are = ap (λ z. b ∷ z) k.are; place = omega (arith, k.place); before = k.before; past = k.past }
       | inr g ↦
           let i : g.0 ≡ f = (let e : Bad g.0 ≡ Bad f = sym (bad_stays g.0 v bs g.1) ∙ h in cc) in
-          let p : f.byte ≡ w.taken + length {A = ℕ} [] = sym (ap (λ (z : WireFault). z.byte) i) ∙ g.2 ∙ omega arith in
+          let p : f.byte ≡ w.taken + length {A = ℕ} [] = sym (ap (λ (z : ParseFault). z.byte) i) ∙ g.2 ∙ omega arith in
           record { front = []; byte = b; rest = bs; are = refl; place = p; before = n; past = g.1 ∙ ap Bad i }
     ]
 
 -- bytes go on, or are at a fault
-going_after : (bytes : List ℕ) (w : WireOf) → Going w.vars w.mode → Going (after w bytes).vars (after w bytes).mode ⊎ ((f : WireFault) × ((after w bytes).mode ≡ Bad f))
+going_after : (bytes : List ℕ) (w : DrupOf) → Going w.vars w.mode → Going (after w bytes).vars (after w bytes).mode ⊎ ((f : ParseFault) × ((after w bytes).mode ≡ Bad f))
 going_after [] w n = inl n
 going_after (b ∷ bs) w n =
     let t = turn_next w b n in
@@ -122,13 +122,13 @@ module _ (vars : ℕ) where
       let w = after (fresh vars) bytes in
       let c = completes w.vars w.taken w.place w.mode w.lits n in
       let e : after (fresh vars) (bytes ++ (c.more ++ 10 ∷ [])) ≡ after (after w c.more) (10 ∷ []) = after_append (fresh vars) bytes (c.more ++ 10 ∷ []) ∙ after_append w c.more (10 ∷ []) in
-      let m : (after (fresh vars) (bytes ++ (c.more ++ 10 ∷ []))).mode ≡ Start c.amid = ap (λ (z : WireOf). z.mode) e ∙ fed (after w c.more) c.amid c.whole in
+      let m : (after (fresh vars) (bytes ++ (c.more ++ 10 ∷ []))).mode ≡ Start c.amid = ap (λ (z : DrupOf). z.mode) e ∙ fed (after w c.more) c.amid c.whole in
       (c.more, λ f h. let k = fault_is vars true (bytes ++ (c.more ++ 10 ∷ [])) f h in let x : Start c.amid ≡ Bad f = sym m ∙ k in cc)
     where
-      fed : (w : WireOf) (amid : Bool) → w.mode ≡ Start amid → (after w (10 ∷ [])).mode ≡ Start amid
-      fed w amid e = subst (λ m. (after (let v : WireOf = record w { mode = m } in v) (10 ∷ [])).mode ≡ Start amid) (sym e) refl
+      fed : (w : DrupOf) (amid : Bool) → w.mode ≡ Start amid → (after w (10 ∷ [])).mode ≡ Start amid
+      fed w amid e = subst (λ m. (after (let v : DrupOf = record w { mode = m } in v) (10 ∷ [])).mode ≡ Start amid) (sym e) refl
 
-  module _ (ended : Bool) (bytes : List ℕ) (f : WireFault) (h : HasFault (sayings vars ended bytes) f) where
+  module _ (ended : Bool) (bytes : List ℕ) (f : ParseFault) (h : HasFault (sayings vars ended bytes) f) where
     first : FirstBad (fresh vars) bytes f
     first = first_bad f bytes (fresh vars) tt (fault_is vars ended bytes f h)
 
@@ -152,7 +152,7 @@ module _ (vars : ℕ) where
     begins_past g =
         let k : Begins vars (first.front ++ first.byte ∷ []) = subst (Begins vars) past_is g in
         let e : (after (fresh vars) ((first.front ++ first.byte ∷ []) ++ (k.0 ++ 10 ∷ []))).mode ≡ Bad f =
-        ap (λ (z : WireOf). z.mode) (after_append (fresh vars) (first.front ++ first.byte ∷ []) (k.0 ++ 10 ∷ [])) ∙ bad_stays f (after (fresh vars) (first.front ++ first.byte ∷ [])) (k.0 ++ 10 ∷ []) first.past in
+        ap (λ (z : DrupOf). z.mode) (after_append (fresh vars) (first.front ++ first.byte ∷ []) (k.0 ++ 10 ∷ [])) ∙ bad_stays f (after (fresh vars) (first.front ++ first.byte ∷ [])) (k.0 ++ 10 ∷ []) first.past in
         k.1 f (fault_in vars true ((first.front ++ first.byte ∷ []) ++ (k.0 ++ 10 ∷ [])) f e)
 
   pub begins_all : (ended : Bool) (bytes : List ℕ) → HasNoFault (sayings vars ended bytes) → Begins vars bytes

@@ -4,7 +4,7 @@ use Rattle.std.proofs.lemmas.Bool.{cases_Bool, eqb-true}
 use Rattle.std.proofs.lemmas.List.{append-nil}
 use Rattle.cnf_form.specs.Cnf.{LitOf}
 use Rattle.cert_stream.specs.Text.{is_blank}
-use Rattle.cert_stream.specs.Machine.{WireOf, turn, ended}
+use Rattle.cert_stream.specs.Machine.{DrupOf, turn, ended}
 use Rattle.cert_stream.specs.Telling.{Saying, IsUnknown, told_by, fresh}
 use Rattle.cert_stream.specs.Stream.{sayings, ended_says}
 use Rattle.cert_stream.specs.declared.mode.ListKind.{ListKind}
@@ -12,7 +12,7 @@ use Rattle.cert_stream.specs.declared.mode.ListKind.TheVariants.{Clause, Deletio
 use Rattle.cert_stream.specs.declared.mode.Part.TheVariants.{Gap, Minus, Zero, Digits}
 use Rattle.cert_stream.specs.declared.mode.Mode.{Mode}
 use Rattle.cert_stream.specs.declared.mode.Mode.TheVariants.{Start, Skip, Head, StatusHead, StatusGap, Spelled, Whole, InList, Closed, Bad, Lost}
-use Rattle.cert_stream.proofs.Turning.{wire}
+use Rattle.cert_stream.proofs.Turning.{parser}
 use Rattle.cert_stream.proofs.Speaking.{speak, speak_is, last_of, bad_ever}
 use Rattle.cert_stream.proofs.Streams.{stream_spoken}
 
@@ -35,13 +35,13 @@ module _ {X : Type 0} where
 
 -- whatever follows, and where the stream ends
 module _ (ended : Bool) (vars taken place : ℕ) (lits : List LitOf) (rest : List ℕ) where
-  last_goes_on : (m : Mode) → Starts (last_of false place lits m) (speak ended (wire vars taken place m lits) rest)
+  last_goes_on : (m : Mode) → Starts (last_of false place lits m) (speak ended (parser vars taken place m lits) rest)
   last_goes_on (Start amid) = starts_none _
   last_goes_on (Skip amid) = starts_none _
   last_goes_on (Head kind) = starts_none _
   last_goes_on StatusHead = starts_none _
   last_goes_on StatusGap = starts_none _
-  last_goes_on (Spelled n) = subst (λ z. Starts z (speak ended (wire vars taken place (Spelled n) lits) rest)) (sym (no_end (IsUnknown ∷ []) n)) (starts_none _)
+  last_goes_on (Spelled n) = subst (λ z. Starts z (speak ended (parser vars taken place (Spelled n) lits) rest)) (sym (no_end (IsUnknown ∷ []) n)) (starts_none _)
   last_goes_on Whole = starts_none _
   last_goes_on (InList kind Gap) = starts_none _
   last_goes_on (InList kind Minus) = starts_none _
@@ -51,29 +51,29 @@ module _ (ended : Bool) (vars taken place : ℕ) (lits : List LitOf) (rest : Lis
   last_goes_on (Bad f) = ([], bad_ever ended f vars taken place lits rest)
   last_goes_on Lost = starts_none _
 
-goes_on : (ended : Bool) (bytes rest : List ℕ) (w : WireOf) → Starts (speak false w bytes) (speak ended w (bytes ++ rest))
+goes_on : (ended : Bool) (bytes rest : List ℕ) (w : DrupOf) → Starts (speak false w bytes) (speak ended w (bytes ++ rest))
 goes_on ended [] rest w = last_goes_on ended w.vars w.taken w.place w.lits rest w.mode
 goes_on ended (b ∷ bs) rest w =
     starts_told (told_by (turn w b).to (turn w b).event) (speak false (turn w b).to bs) (speak ended (turn w b).to (bs ++ rest)) (goes_on ended bs rest (turn w b).to)
 
 -- the end counts with a line feed too
-zero_fed : (vars taken place : ℕ) (lits : List LitOf) (rest : List ℕ) (kind : ListKind) → Starts (ended_says kind place lits ∷ []) (speak false (wire vars taken place (InList kind Zero) lits) (10 ∷ rest))
+zero_fed : (vars taken place : ℕ) (lits : List LitOf) (rest : List ℕ) (kind : ListKind) → Starts (ended_says kind place lits ∷ []) (speak false (parser vars taken place (InList kind Zero) lits) (10 ∷ rest))
 zero_fed vars taken place lits rest Clause = (_, refl)
 zero_fed vars taken place lits rest Deletion = (_, refl)
 zero_fed vars taken place lits rest Values = (_, refl)
 
 module _ (vars taken place : ℕ) (lits : List LitOf) (rest : List ℕ) where
-  spelled_feed : (n : ℕ) → Starts (cond (eqb n 7 && true) (IsUnknown ∷ []) []) (speak false (wire vars taken place (Spelled n) lits) (10 ∷ rest))
-  spelled_feed n = elim (cases_Bool (eqb n 7)) [ inl t ↦ rw t (speak false (wire vars (taken + 1) place (Start false) lits) rest, refl) | inr f ↦ rw f (starts_none _) ]
+  spelled_feed : (n : ℕ) → Starts (cond (eqb n 7 && true) (IsUnknown ∷ []) []) (speak false (parser vars taken place (Spelled n) lits) (10 ∷ rest))
+  spelled_feed n = elim (cases_Bool (eqb n 7)) [ inl t ↦ rw t (speak false (parser vars (taken + 1) place (Start false) lits) rest, refl) | inr f ↦ rw f (starts_none _) ]
 
-  last_fed : (m : Mode) → Starts (last_of true place lits m) (speak false (wire vars taken place m lits) (10 ∷ rest))
+  last_fed : (m : Mode) → Starts (last_of true place lits m) (speak false (parser vars taken place m lits) (10 ∷ rest))
   last_fed (Start amid) = starts_none _
   last_fed (Skip amid) = starts_none _
   last_fed (Head kind) = starts_none _
   last_fed StatusHead = starts_none _
   last_fed StatusGap = starts_none _
   last_fed (Spelled n) = spelled_feed n
-  last_fed Whole = (speak false (wire vars (taken + 1) place (Start false) lits) rest, refl)
+  last_fed Whole = (speak false (parser vars (taken + 1) place (Start false) lits) rest, refl)
   last_fed (InList kind Gap) = starts_none _
   last_fed (InList kind Minus) = starts_none _
   last_fed (InList kind Zero) = zero_fed vars taken place lits rest kind
@@ -82,7 +82,7 @@ module _ (vars taken place : ℕ) (lits : List LitOf) (rest : List ℕ) where
   last_fed (Bad f) = ([], bad_ever false f vars taken place lits (10 ∷ rest))
   last_fed Lost = starts_none _
 
-fed : (bytes rest : List ℕ) (w : WireOf) → Starts (speak true w bytes) (speak false w (bytes ++ 10 ∷ rest))
+fed : (bytes rest : List ℕ) (w : DrupOf) → Starts (speak true w bytes) (speak false w (bytes ++ 10 ∷ rest))
 fed [] rest w = last_fed w.vars w.taken w.place w.lits rest w.mode
 fed (b ∷ bs) rest w =
     starts_told (told_by (turn w b).to (turn w b).event) (speak true (turn w b).to bs) (speak false (turn w b).to (bs ++ 10 ∷ rest)) (fed bs rest (turn w b).to)
@@ -105,11 +105,11 @@ parted_told told at_end all h =
     }
 
 module _ (vars taken place : ℕ) (lits : List LitOf) (b : ℕ) (rest : List ℕ) (h : eqb b 10 ≡ false) (g : is_blank b ≡ true) where
-  zero_blank : (kind : ListKind) → Starts (ended_says kind place lits ∷ []) (speak false (wire vars taken place (InList kind Zero) lits) (b ∷ rest))
+  zero_blank : (kind : ListKind) → Starts (ended_says kind place lits ∷ []) (speak false (parser vars taken place (InList kind Zero) lits) (b ∷ rest))
   zero_blank kind = rw (h, g) (of kind)
     where
       of : (kind : ListKind) → Starts (ended_says kind place lits ∷ [])
-          (told_by (wire vars (taken + 1) place Closed lits) (Some (ended kind)) ++ speak false (wire vars (taken + 1) place Closed lits) rest)
+          (told_by (parser vars (taken + 1) place Closed lits) (Some (ended kind)) ++ speak false (parser vars (taken + 1) place Closed lits) rest)
       of Clause = (_, refl)
       of Deletion = (_, refl)
       of Values = (_, refl)
@@ -118,7 +118,7 @@ module _ (vars taken place : ℕ) (lits : List LitOf) (b : ℕ) (rest : List ℕ
   maybe_unknown true all = record { said = []; starts = starts_none all; ends = inr refl }
   maybe_unknown false all = record { said = []; starts = starts_none all; ends = inl refl }
 
-  last_parted : (m : Mode) → Parted (last_of true place lits m) (speak false (wire vars taken place m lits) (b ∷ rest))
+  last_parted : (m : Mode) → Parted (last_of true place lits m) (speak false (parser vars taken place m lits) (b ∷ rest))
   last_parted (Start amid) = parted_same _ _ (starts_none _)
   last_parted (Skip amid) = parted_same _ _ (starts_none _)
   last_parted (Head kind) = parted_same _ _ (starts_none _)
@@ -134,7 +134,7 @@ module _ (vars taken place : ℕ) (lits : List LitOf) (b : ℕ) (rest : List ℕ
   last_parted (Bad f) = parted_same _ _ ([], bad_ever false f vars taken place lits (b ∷ rest))
   last_parted Lost = parted_same _ _ (starts_none _)
 
-parted : (bytes : List ℕ) (b : ℕ) (rest : List ℕ) → eqb b 10 ≡ false → is_blank b ≡ true → (w : WireOf) → Parted (speak true w bytes) (speak false w (bytes ++ b ∷ rest))
+parted : (bytes : List ℕ) (b : ℕ) (rest : List ℕ) → eqb b 10 ≡ false → is_blank b ≡ true → (w : DrupOf) → Parted (speak true w bytes) (speak false w (bytes ++ b ∷ rest))
 parted [] b rest h g w = last_parted w.vars w.taken w.place w.lits b rest h g w.mode
 parted (c ∷ bs) b rest h g w =
     parted_told (told_by (turn w c).to (turn w c).event) (speak true (turn w c).to bs) (speak false (turn w c).to (bs ++ b ∷ rest)) (parted bs b rest h g (turn w c).to)

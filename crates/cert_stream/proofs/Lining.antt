@@ -10,12 +10,12 @@ use Rattle.cert_stream.specs.Scan.{first_next}
 use Rattle.cert_stream.specs.Stream.{bad, unended_says, list_says, status_says, alone, plain_says, visible_says, line_says}
 use Rattle.cert_stream.specs.declared.mode.ListKind.{ListKind}
 use Rattle.cert_stream.specs.declared.mode.ListKind.TheVariants.{Clause, Deletion, Values}
-use Rattle.cert_stream.specs.declared.mode.WireFaultKind.{WireFaultKind}
-use Rattle.cert_stream.specs.declared.mode.WireFaultKind.TheVariants.{BadLine}
+use Rattle.cert_stream.specs.declared.mode.ParseFaultKind.{ParseFaultKind}
+use Rattle.cert_stream.specs.declared.mode.ParseFaultKind.TheVariants.{BadLine}
 use Rattle.cert_stream.specs.declared.mode.Part.{Part}
 use Rattle.cert_stream.specs.declared.mode.Part.TheVariants.{Gap}
 use Rattle.cert_stream.specs.declared.mode.Mode.TheVariants.{Start, Head, InList, Bad}
-use Rattle.cert_stream.proofs.Turning.{wire, by_next, first_is}
+use Rattle.cert_stream.proofs.Turning.{parser, by_next, first_is}
 use Rattle.cert_stream.proofs.Wording.{HasWord, has_word, words_visible, after_first, first_alone, alone_says}
 use Rattle.cert_stream.proofs.Speaking.{speak, bad_ever}
 use Rattle.cert_stream.proofs.Tails.{Tail}
@@ -29,8 +29,8 @@ module _ (vars : ℕ) (ended fed counted : Bool) (broken going more : List Sayin
 
   -- behind d or v
   head_text : (place : ℕ) (kind : ListKind) (t : List ℕ) (taken : ℕ) → NoFeed t → taken + length t ≡ feed
-      → speak ended (wire vars taken place (Head kind) []) (t ++ tail) ≡ after_first (listed kind place) fed taken t
-  head_text place kind [] taken h e = let k : taken ≡ feed = omega (arith, e) in ap (λ z. speak ended (wire vars z place (Head kind) []) tail) k ∙ behind.head place kind []
+      → speak ended (parser vars taken place (Head kind) []) (t ++ tail) ≡ after_first (listed kind place) fed taken t
+  head_text place kind [] taken h e = let k : taken ≡ feed = omega (arith, e) in ap (λ z. speak ended (parser vars z place (Head kind) []) tail) k ∙ behind.head place kind []
   head_text place kind (b ∷ bs) taken (h, hs) e =
       let k : taken + 1 + length bs ≡ feed = omega (arith, e) in
       elim (cases_Bool (is_blank b)) [
@@ -40,19 +40,19 @@ module _ (vars : ℕ) (ended fed counted : Bool) (broken going more : List Sayin
 
   module _ (taken place : ℕ) (lits : List LitOf) (b : ℕ) (bs : List ℕ) (h : eqb b 10 ≡ false) (hs : NoFeed bs) (g : is_blank b ≡ false) (k : taken + 1 + length bs ≡ feed) where
     abbrev said : Bool → List Saying
-    said amid = speak ended (wire vars taken place (Start amid) lits) (b ∷ bs ++ tail)
+    said amid = speak ended (parser vars taken place (Start amid) lits) (b ∷ bs ++ tail)
 
     -- a clause, from its first byte on
     clause_text : eqb b 99 ≡ false → eqb b 118 ≡ false → eqb b 115 ≡ false → eqb b 100 ≡ false → (eqb b 45 || is_digit b) ≡ true
         → said false ≡ listed Clause taken (words_from fed taken [] (b ∷ bs))
     clause_text nc nv ns nd s =
-        let e : turn (wire vars taken place (Start false) lits) b ≡ with_count taken (visible_first (wire vars taken taken (Start false) []) Clause b) = rw (h, g, nc, nv, ns, nd, s) refl in
-        let f : turn (wire vars taken taken (InList Clause Gap) []) b ≡ with_count taken (visible_first (wire vars taken taken (InList Clause Gap) []) Clause b) = rw (h, g) refl in
+        let e : turn (parser vars taken place (Start false) lits) b ≡ with_count taken (visible_first (parser vars taken taken (Start false) []) Clause b) = rw (h, g, nc, nv, ns, nd, s) refl in
+        let f : turn (parser vars taken taken (InList Clause Gap) []) b ≡ with_count taken (visible_first (parser vars taken taken (InList Clause Gap) []) Clause b) = rw (h, g) refl in
         ap (λ (z : Turn). told_by z.to z.event ++ speak ended z.to (bs ++ tail))
-        (e ∙ ap (with_count taken) (first_is (wire vars taken taken (Start false) []) Clause b ∙ same (first_next vars (leb vars (length {A = LitOf} [])) b) ∙ sym (first_is (wire vars taken taken (InList Clause Gap) []) Clause b)) ∙ sym f)
+        (e ∙ ap (with_count taken) (first_is (parser vars taken taken (Start false) []) Clause b ∙ same (first_next vars (leb vars (length {A = LitOf} [])) b) ∙ sym (first_is (parser vars taken taken (InList Clause Gap) []) Clause b)) ∙ sym f)
         ∙ list_text vars ended fed counted broken going more feed tail behind Clause taken (b ∷ bs) (h, hs) taken [] Gap [] refl (omega arith) (omega (arith, k))
       where
-        same : (next : Result Part WireFaultKind) → by_next (wire vars taken taken (Start false) []) Clause next ≡ by_next (wire vars taken taken (InList Clause Gap) []) Clause next
+        same : (next : Result Part ParseFaultKind) → by_next (parser vars taken taken (Start false) []) Clause next ≡ by_next (parser vars taken taken (InList Clause Gap) []) Clause next
         same (Ok part) = refl
         same (Err x) = refl
 
@@ -63,10 +63,10 @@ module _ (vars : ℕ) (ended fed counted : Bool) (broken going more : List Sayin
       alone_is : (f : List Word → List Saying) → after_first f fed (taken + 1) bs ≡ alone w.word (f w.others)
       alone_is f = sym (alone_says f fed taken b bs) ∙ ap (first_alone f) w.are
 
-      headed : (kind : ListKind) → speak ended (wire vars (taken + 1) taken (Head kind) []) (bs ++ tail) ≡ alone w.word (listed kind w.word.place w.others)
+      headed : (kind : ListKind) → speak ended (parser vars (taken + 1) taken (Head kind) []) (bs ++ tail) ≡ alone w.word (listed kind w.word.place w.others)
       headed kind = head_text taken kind bs (taken + 1) hs k ∙ alone_is (listed kind taken) ∙ ap (λ z. alone w.word (listed kind z w.others)) (sym at)
 
-      bad_here : speak ended (wire vars (taken + 1) taken (Bad (record { kind = BadLine; byte = taken })) []) (bs ++ tail) ≡ bad BadLine w.word.place
+      bad_here : speak ended (parser vars (taken + 1) taken (Bad (record { kind = BadLine; byte = taken })) []) (bs ++ tail) ≡ bad BadLine w.word.place
       bad_here = bad_ever ended (record { kind = BadLine; byte = taken }) vars (taken + 1) taken [] (bs ++ tail) ∙ ap (bad BadLine) (sym at)
 
       clause_is : listed Clause taken (words_from fed taken [] (b ∷ bs)) ≡ listed Clause w.word.place (w.word ∷ w.others)
@@ -107,8 +107,8 @@ module _ (vars : ℕ) (ended fed counted : Bool) (broken going more : List Sayin
 
   -- from the start of a line on
   pub start_text : (amid : Bool) (t : List ℕ) (taken place : ℕ) (lits : List LitOf) → NoFeed t → taken + length t ≡ feed
-      → speak ended (wire vars taken place (Start amid) lits) (t ++ tail) ≡ line_says vars counted amid broken going more (words_from fed taken [] t)
-  start_text amid [] taken place lits h e = let k : taken ≡ feed = omega (arith, e) in ap (λ z. speak ended (wire vars z place (Start amid) lits) tail) k ∙ behind.start place amid lits
+      → speak ended (parser vars taken place (Start amid) lits) (t ++ tail) ≡ line_says vars counted amid broken going more (words_from fed taken [] t)
+  start_text amid [] taken place lits h e = let k : taken ≡ feed = omega (arith, e) in ap (λ z. speak ended (parser vars z place (Start amid) lits) tail) k ∙ behind.start place amid lits
   start_text amid (b ∷ bs) taken place lits (h, hs) e =
       let k : taken + 1 + length bs ≡ feed = omega (arith, e) in
       elim (cases_Bool (is_blank b)) [

@@ -9,12 +9,12 @@ use Rattle.cert_stream.specs.Telling.{Saying, told_by}
 use Rattle.cert_stream.specs.Scan.{Scanned, Reads, Misfit, part_next, scan}
 use Rattle.cert_stream.specs.Stream.{bad, ended_says, heard_says, unended_says, behind_says, list_says}
 use Rattle.cert_stream.specs.declared.mode.ListKind.{ListKind}
-use Rattle.cert_stream.specs.declared.mode.WireFaultKind.{WireFaultKind}
-use Rattle.cert_stream.specs.declared.mode.WireFaultKind.TheVariants.{BadLine, BadLiteral}
+use Rattle.cert_stream.specs.declared.mode.ParseFaultKind.{ParseFaultKind}
+use Rattle.cert_stream.specs.declared.mode.ParseFaultKind.TheVariants.{BadLine, BadLiteral}
 use Rattle.cert_stream.specs.declared.mode.Part.{Part}
 use Rattle.cert_stream.specs.declared.mode.Part.TheVariants.{Gap, Minus, Zero, Digits}
 use Rattle.cert_stream.specs.declared.mode.Mode.TheVariants.{InList, Closed, Bad}
-use Rattle.cert_stream.proofs.Turning.{wire, turn_blank, turn_visible, by_next, part_is, told_ended, told_heard}
+use Rattle.cert_stream.proofs.Turning.{parser, turn_blank, turn_visible, by_next, part_is, told_ended, told_heard}
 use Rattle.cert_stream.proofs.Scanning.{scan_more, scan_bad}
 use Rattle.cert_stream.proofs.Wording.{has_word, words_blank, words_visible}
 use Rattle.cert_stream.proofs.Speaking.{speak, bad_ever}
@@ -23,10 +23,10 @@ use Rattle.cert_stream.proofs.Tails.{Tail, word_says}
 module _ (vars : ℕ) (ended fed counted : Bool) (broken going more : List Saying) (feed : ℕ) (tail : List ℕ) (behind : Tail vars ended fed counted broken going more feed tail) where
   -- behind the 0
   closed_text : (place : ℕ) (t : List ℕ) (taken : ℕ) (lits : List LitOf) → NoFeed t → taken + length t ≡ feed
-      → speak ended (wire vars taken place Closed lits) (t ++ tail) ≡ behind_says more (words_from fed taken [] t)
+      → speak ended (parser vars taken place Closed lits) (t ++ tail) ≡ behind_says more (words_from fed taken [] t)
   closed_text place [] taken lits h e =
       let k : taken ≡ feed = omega (arith, e) in
-      ap (λ z. speak ended (wire vars z place Closed lits) tail) k ∙ behind.closed place lits
+      ap (λ z. speak ended (parser vars z place Closed lits) tail) k ∙ behind.closed place lits
   closed_text place (b ∷ bs) taken lits (h, hs) e =
       elim (cases_Bool (is_blank b)) [
         | inl t ↦ rw (h, t) (closed_text place bs (taken + 1) lits hs (omega (arith, e)))
@@ -52,29 +52,29 @@ module _ (vars : ℕ) (ended fed counted : Bool) (broken going more : List Sayin
         let k : Gap ≡ part = cc in ap (λ z. one_says lits (Reads z) (record { place = at - length {A = ℕ} []; text = []; done = done }) ws) k
     flushed at lits done part (c ∷ q) ws e = ap (λ s. one_says lits s (record { place = at - length (c ∷ q); text = c ∷ q; done = done }) ws) e
 
-    misfit_says : (lits : List LitOf) (k : WireFaultKind) (at n : ℕ) (text : List ℕ) (w : Word) (ws : List Word) → w.text ≡ text → scan vars (leb vars (length lits)) Gap text ≡ Misfit k n
+    misfit_says : (lits : List LitOf) (k : ParseFaultKind) (at n : ℕ) (text : List ℕ) (w : Word) (ws : List Word) → w.text ≡ text → scan vars (leb vars (length lits)) Gap text ≡ Misfit k n
         → w.place + n ≡ at → words_say lits (w ∷ ws) ≡ bad k at
     misfit_says lits k at n text w ws t e a = ap (λ s. one_says lits s w ws) (ap (scan vars (leb vars (length lits)) Gap) t ∙ e) ∙ ap (bad k) a
 
     abbrev Again : List ℕ → Type 0
     Again bs = (taken : ℕ) (lits : List LitOf) (part : Part) (p : List ℕ) → scan vars (leb vars (length lits)) Gap p ≡ Reads part → length p ≤ taken → taken + length bs ≡ feed
-        → speak ended (wire vars taken place (InList kind part) lits) (bs ++ tail) ≡ words_say lits (words_from fed taken p bs)
+        → speak ended (parser vars taken place (InList kind part) lits) (bs ++ tail) ≡ words_say lits (words_from fed taken p bs)
 
     module _ (bs : List ℕ) (hs : NoFeed bs) (again : Again bs) (taken : ℕ) (lits : List LitOf) (p : List ℕ) (n : length p ≤ taken) (m : taken + 1 + length bs ≡ feed) where
       blank_says : (part : Part)
-          → (let z = with_count taken (end_part (wire vars taken place (InList kind part) lits) kind part) in told_by z.to z.event ++ speak ended z.to (bs ++ tail))
+          → (let z = with_count taken (end_part (parser vars taken place (InList kind part) lits) kind part) in told_by z.to z.event ++ speak ended z.to (bs ++ tail))
           ≡ one_says lits (Reads part) (record { place = taken - length p; text = p; done = true }) (words_from fed (taken + 1) [] bs)
       blank_says Gap = again (taken + 1) lits Gap [] refl (omega arith) m
       blank_says Minus = bad_ever ended (record { kind = BadLiteral; byte = taken }) vars (taken + 1) place lits (bs ++ tail) ∙ ap (bad BadLiteral) (omega arith)
       blank_says Zero =
-          ap (λ z. z ++ speak ended (wire vars (taken + 1) place Closed lits) (bs ++ tail)) (told_ended kind vars (taken + 1) place lits)
+          ap (λ z. z ++ speak ended (parser vars (taken + 1) place Closed lits) (bs ++ tail)) (told_ended kind vars (taken + 1) place lits)
           ∙ ap (λ z. ended_says kind place lits ∷ z) (closed_text place bs (taken + 1) lits hs m)
       blank_says (Digits l) =
-          ap (λ z. z ++ speak ended (wire vars (taken + 1) place (InList kind Gap) (lits ++ l ∷ [])) (bs ++ tail)) (told_heard kind l (wire vars (taken + 1) place (InList kind Gap) (lits ++ l ∷ [])))
+          ap (λ z. z ++ speak ended (parser vars (taken + 1) place (InList kind Gap) (lits ++ l ∷ [])) (bs ++ tail)) (told_heard kind l (parser vars (taken + 1) place (InList kind Gap) (lits ++ l ∷ [])))
           ∙ ap (λ z. heard_says kind l ++ z) (again (taken + 1) (lits ++ l ∷ []) Gap [] refl (omega arith) m)
 
-      visible_next : (b : ℕ) (part : Part) (next : Result Part WireFaultKind) → scan vars (leb vars (length lits)) Gap p ≡ Reads part → part_next vars (leb vars (length lits)) part b ≡ next
-          → (let z = with_count taken (by_next (wire vars taken place (InList kind part) lits) kind next) in told_by z.to z.event ++ speak ended z.to (bs ++ tail))
+      visible_next : (b : ℕ) (part : Part) (next : Result Part ParseFaultKind) → scan vars (leb vars (length lits)) Gap p ≡ Reads part → part_next vars (leb vars (length lits)) part b ≡ next
+          → (let z = with_count taken (by_next (parser vars taken place (InList kind part) lits) kind next) in told_by z.to z.event ++ speak ended z.to (bs ++ tail))
           ≡ words_say lits (words_from fed (taken + 1) (p ++ b ∷ []) bs)
       visible_next b part (Ok to) e x =
           let len : length (p ++ b ∷ []) ≡ length p + 1 = length-append p (b ∷ []) in
@@ -84,7 +84,7 @@ module _ (vars : ℕ) (ended fed counted : Bool) (broken going more : List Sayin
       visible_next b part (Err k) e x = misfit p e n
         where
           misfit : (p : List ℕ) → scan vars (leb vars (length lits)) Gap p ≡ Reads part → length p ≤ taken
-              → speak ended (wire vars (taken + 1) place (Bad (record { kind = k; byte = taken })) lits) (bs ++ tail) ≡ words_say lits (words_from fed (taken + 1) (p ++ b ∷ []) bs)
+              → speak ended (parser vars (taken + 1) place (Bad (record { kind = k; byte = taken })) lits) (bs ++ tail) ≡ words_say lits (words_from fed (taken + 1) (p ++ b ∷ []) bs)
           misfit [] e n =
               let w = has_word fed (taken + 1) b [] bs in
               let at : w.word.place + 0 ≡ taken = omega (arith, w.place) in
@@ -104,10 +104,10 @@ module _ (vars : ℕ) (ended fed counted : Bool) (broken going more : List Sayin
     pub list_text : (t : List ℕ) → NoFeed t → Again t
     list_text [] h taken lits part p e n m =
         let k : taken ≡ feed = omega (arith, m) in
-        subst (λ z. speak ended (wire vars z place (InList kind part) lits) tail ≡ words_say lits (words_from fed z p [])) (sym k)
+        subst (λ z. speak ended (parser vars z place (InList kind part) lits) tail ≡ words_say lits (words_from fed z p [])) (sym k)
         (behind.list place kind lits part p (omega (arith, n, k)) ∙ sym (flushed feed lits fed part p [] e))
     list_text (b ∷ bs) (h, hs) taken lits part p e n m =
-        let w = wire vars taken place (InList kind part) lits in
+        let w = parser vars taken place (InList kind part) lits in
         let m' : taken + 1 + length bs ≡ feed = omega (arith, m) in
         elim (cases_Bool (is_blank b)) [
           | inl t ↦

@@ -1,23 +1,23 @@
 -- The loop over a piece.
 use Rattle.std.proofs.Common.{◌≡◌, ◌⊎◌, ℕ, ◌+◌, ◌-◌, ◌<◌, ◌≤◌, Bool, true, false, List, ◌∷◌, ◌++◌, length, take, drop, get_or, Option, Some, None, refl, ap, sym, ◌∙◌, inl, inr, arith, subst}
 use Rattle.std.proofs.lemmas.List.{drop_more, drop-drop, take_rest, length-drop, drop_all}
-use Rattle.cert_stream.specs.Machine.{WireOf, Turn, turn, is_in_literal}
+use Rattle.cert_stream.specs.Machine.{DrupOf, Turn, turn, is_in_literal}
 use Rattle.cert_stream.specs.Telling.{Saying, TakesMemory, saying, told_by, after, said, Gets}
 use Rattle.cert_stream.specs.declared.mode.Event.{Event}
 
--- what is still to come of the piece, from the wire w and the receiver x on, makes the whole of it
-pub record Left {A : Type 0} (gets : A → Saying → A → Type 0) (stops : A → Bool) (start : WireOf) (first : A) (piece : List ℕ) (w : WireOf) (x : A) (i : ℕ) : Type 0 where
+-- what is still to come of the piece, from the parser w and the receiver x on, makes the whole of it
+pub record Left {A : Type 0} (gets : A → Saying → A → Type 0) (stops : A → Bool) (start : DrupOf) (first : A) (piece : List ℕ) (w : DrupOf) (x : A) (i : ℕ) : Type 0 where
   pub told : (y : A) (stopped : Bool) → Gets gets stops x (said w (drop i piece)) y stopped → Gets gets stops first (said start piece) y stopped
   pub kept : after w (drop i piece) ≡ after start piece
   pub count : w.taken ≡ start.taken + i
   pub within : i ≤ length piece
   pub memory : TakesMemory w (drop i piece) → TakesMemory start piece
 
-module _ {A : Type 0} (gets : A → Saying → A → Type 0) (stops : A → Bool) (start : WireOf) (first : A) (piece : List ℕ) where
+module _ {A : Type 0} (gets : A → Saying → A → Type 0) (stops : A → Bool) (start : DrupOf) (first : A) (piece : List ℕ) where
   pub left_start : Left gets stops start first piece start first 0
   left_start = record { told = λ y s h. h; kept = refl; count = omega arith; within = omega arith; memory = λ h. h }
 
-  module _ (w v : WireOf) (x : A) (i : ℕ) (event : Option Event) (h : Left gets stops start first piece w x i) (l : i < length piece)
+  module _ (w v : DrupOf) (x : A) (i : ℕ) (event : Option Event) (h : Left gets stops start first piece w x i) (l : i < length piece)
       (r : (let t : Turn = record { to = v; event = event } in t) ≡ turn w (get_or piece i 0)) where
     said_now : said w (drop i piece) ≡ told_by v event ++ said v (drop (i + 1) piece)
     said_now = ap (said w) (drop_more piece i 0 l) ∙ ap (λ (t : Turn). told_by t.to t.event ++ said t.to (drop (i + 1) piece)) (sym r)
@@ -54,19 +54,19 @@ module _ {A : Type 0} (gets : A → Saying → A → Type 0) (stops : A → Bool
       pub left_stopped : stops z ≡ true → Gets gets stops first (said start piece) z true
       left_stopped t = h.told z true (subst (λ a. Gets gets stops x a z true) (sym said_more) (z, g, inl (t, refl, refl)))
 
-  pub left_told_all : (w : WireOf) (x : A) (i : ℕ) → Left gets stops start first piece w x i → length piece ≤ i → Gets gets stops first (said start piece) x false
+  pub left_told_all : (w : DrupOf) (x : A) (i : ℕ) → Left gets stops start first piece w x i → length piece ≤ i → Gets gets stops first (said start piece) x false
   left_told_all w x i h l = h.told x false (subst (λ a. Gets gets stops x (said w a) x false) (sym (drop_all i piece l)) (refl, refl))
 
-  pub left_kept_all : (w : WireOf) (x : A) (i : ℕ) → Left gets stops start first piece w x i → length piece ≤ i → w ≡ after start piece
+  pub left_kept_all : (w : DrupOf) (x : A) (i : ℕ) → Left gets stops start first piece w x i → length piece ≤ i → w ≡ after start piece
   left_kept_all w x i h l = sym (ap (after w) (drop_all i piece l)) ∙ h.kept
 
   -- bytes that are passed over
-  pub left_moved : (w v : WireOf) (x : A) (i j : ℕ) → Left gets stops start first piece w x i → after v (drop j piece) ≡ after w (drop i piece) → said v (drop j piece) ≡ said w (drop i piece)
+  pub left_moved : (w v : DrupOf) (x : A) (i j : ℕ) → Left gets stops start first piece w x i → after v (drop j piece) ≡ after w (drop i piece) → said v (drop j piece) ≡ said w (drop i piece)
       → v.taken + i ≡ w.taken + j → j ≤ length piece → (TakesMemory v (drop j piece) → TakesMemory w (drop i piece)) → Left gets stops start first piece v x j
   left_moved w v x i j h a s c l t =
       record { told = λ y st g. h.told y st (subst (λ z. Gets gets stops x z y st) s g); kept = a ∙ h.kept; count = omega (arith, c, h.count); within = l; memory = λ k. h.memory (t k) }
 
-  pub left_passed : (w v : WireOf) (x : A) (i n : ℕ) → Left gets stops start first piece w x i
+  pub left_passed : (w v : DrupOf) (x : A) (i n : ℕ) → Left gets stops start first piece w x i
       → after v (drop n (take (length piece - i) (drop i piece))) ≡ after w (take (length piece - i) (drop i piece))
       → said v (drop n (take (length piece - i) (drop i piece))) ≡ said w (take (length piece - i) (drop i piece)) → v.taken ≡ w.taken + n
       → n ≤ length (take (length piece - i) (drop i piece))

@@ -3,12 +3,12 @@ use Rattle.std.proofs.Common.{◌≡◌, ◌⊎◌, ℕ, ◌+◌, Bool, true, fa
 use Rattle.std.proofs.lemmas.Bool.{cases_Bool}
 use Rattle.cnf_form.specs.Cnf.{LitOf}
 use Rattle.cert_stream.specs.Text.{NoFeed, AreBlank, is_blank}
-use Rattle.cert_stream.specs.Machine.{WireOf, Turn, turn, spelling, is_in_literal}
+use Rattle.cert_stream.specs.Machine.{DrupOf, Turn, turn, spelling, is_in_literal}
 use Rattle.cert_stream.specs.Telling.{TakesMemory}
 use Rattle.cert_stream.specs.declared.mode.Event.{Event}
 use Rattle.cert_stream.specs.declared.mode.Mode.{Mode}
 use Rattle.cert_stream.specs.declared.mode.Mode.TheVariants.{Start, Skip, Head, StatusHead, StatusGap, Spelled, Whole, InList, Closed, Bad, Lost}
-use Rattle.cert_stream.proofs.Turning.{wire}
+use Rattle.cert_stream.proofs.Turning.{parser}
 use Rattle.cert_stream.proofs.GoingOn.{blank_no_feed}
 
 -- in a comment or a status line, or behind its fault
@@ -33,13 +33,13 @@ still_either true m n h k = h
 still_either false m n h k = k
 
 module _ (vars taken place : ℕ) (lits : List LitOf) (b : ℕ) (h : eqb b 10 ≡ false) where
-  by_blank : (m : Mode) → (is_blank b ≡ true → Stays (turn (wire vars taken place m lits) b)) → (is_blank b ≡ false → Stays (turn (wire vars taken place m lits) b)) → Stays (turn (wire vars taken place m lits) b)
+  by_blank : (m : Mode) → (is_blank b ≡ true → Stays (turn (parser vars taken place m lits) b)) → (is_blank b ≡ false → Stays (turn (parser vars taken place m lits) b)) → Stays (turn (parser vars taken place m lits) b)
   by_blank m x y = elim (cases_Bool (is_blank b)) [ inl t ↦ x t | inr f ↦ y f ]
 
   spelled_stays : (n : ℕ) → Still (cond (not (leb 7 n) && eqb b (spelling n)) (Spelled (n + 1)) (Skip false))
   spelled_stays n = still_either (not (leb 7 n) && eqb b (spelling n)) (Spelled (n + 1)) (Skip false) tt tt
 
-  still_turn : (m : Mode) → Still m → Stays (turn (wire vars taken place m lits) b)
+  still_turn : (m : Mode) → Still m → Stays (turn (parser vars taken place m lits) b)
   still_turn (Start amid) s = absurd s
   still_turn (Skip amid) s = by_blank (Skip amid) (λ t. rw (h, t) (tt, refl)) (λ f. rw (h, f) (tt, refl))
   still_turn (Head kind) s = absurd s
@@ -68,34 +68,34 @@ not_in_literal Lost s e = s
 not_told : (o : Option Event) → o ≡ None → (e : Event) × (o ≡ Some e) → ⊥
 not_told o n (e, k) = let q : None ≡ Some e = sym n ∙ k in cc
 
-still_text : (t : List ℕ) (w : WireOf) → NoFeed t → Still w.mode → TakesMemory w t → ⊥
+still_text : (t : List ℕ) (w : DrupOf) → NoFeed t → Still w.mode → TakesMemory w t → ⊥
 still_text [] w n s k = k
 still_text (b ∷ bs) w (n, ns) s (inl k) = not_in_literal w.mode s k
 still_text (b ∷ bs) w (n, ns) s (inr (inl k)) = not_told (turn w b).event (still_turn w.vars w.taken w.place w.lits b n w.mode s).1 k
 still_text (b ∷ bs) w (n, ns) s (inr (inr k)) = still_text bs (turn w b).to ns (still_turn w.vars w.taken w.place w.lits b n w.mode s).0 k
 
 -- c or s
-first_still : (vars taken place : ℕ) (lits : List LitOf) (amid : Bool) (b : ℕ) → (b ≡ 99) ⊎ (b ≡ 115) → Stays (turn (wire vars taken place (Start amid) lits) b)
-first_still vars taken place lits amid b (inl e) = subst (λ z. Stays (turn (wire vars taken place (Start amid) lits) z)) (sym e) (tt, refl)
-first_still vars taken place lits true b (inr e) = subst (λ z. Stays (turn (wire vars taken place (Start true) lits) z)) (sym e) (tt, refl)
-first_still vars taken place lits false b (inr e) = subst (λ z. Stays (turn (wire vars taken place (Start false) lits) z)) (sym e) (tt, refl)
+first_still : (vars taken place : ℕ) (lits : List LitOf) (amid : Bool) (b : ℕ) → (b ≡ 99) ⊎ (b ≡ 115) → Stays (turn (parser vars taken place (Start amid) lits) b)
+first_still vars taken place lits amid b (inl e) = subst (λ z. Stays (turn (parser vars taken place (Start amid) lits) z)) (sym e) (tt, refl)
+first_still vars taken place lits true b (inr e) = subst (λ z. Stays (turn (parser vars taken place (Start true) lits) z)) (sym e) (tt, refl)
+first_still vars taken place lits false b (inr e) = subst (λ z. Stays (turn (parser vars taken place (Start false) lits) z)) (sym e) (tt, refl)
 
 start_text : (vars place : ℕ) (lits : List LitOf) (amid : Bool) (blanks : List ℕ) (b : ℕ) (text : List ℕ) (taken : ℕ) → AreBlank blanks → (b ≡ 99) ⊎ (b ≡ 115) → NoFeed text
-    → TakesMemory (wire vars taken place (Start amid) lits) (blanks ++ b ∷ text) → ⊥
+    → TakesMemory (parser vars taken place (Start amid) lits) (blanks ++ b ∷ text) → ⊥
 start_text vars place lits amid [] b text taken a c n (inl k) = cc
-start_text vars place lits amid [] b text taken a c n (inr (inl k)) = not_told (turn (wire vars taken place (Start amid) lits) b).event (first_still vars taken place lits amid b c).1 k
-start_text vars place lits amid [] b text taken a c n (inr (inr k)) = still_text text (turn (wire vars taken place (Start amid) lits) b).to n (first_still vars taken place lits amid b c).0 k
+start_text vars place lits amid [] b text taken a c n (inr (inl k)) = not_told (turn (parser vars taken place (Start amid) lits) b).event (first_still vars taken place lits amid b c).1 k
+start_text vars place lits amid [] b text taken a c n (inr (inr k)) = still_text text (turn (parser vars taken place (Start amid) lits) b).to n (first_still vars taken place lits amid b c).0 k
 start_text vars place lits amid (x ∷ blanks) b text taken (a, others) c n k = blank (λ j. start_text vars place lits amid blanks b text (taken + 1) others c n j) k
   where
-    step : turn (wire vars taken place (Start amid) lits) x ≡ (let t : Turn = record { to = wire vars (taken + 1) place (Start amid) lits; event = None } in t)
+    step : turn (parser vars taken place (Start amid) lits) x ≡ (let t : Turn = record { to = parser vars (taken + 1) place (Start amid) lits; event = None } in t)
     step = let h = blank_no_feed x a in rw (h, a) refl
 
-    blank : (TakesMemory (wire vars (taken + 1) place (Start amid) lits) (blanks ++ b ∷ text) → ⊥) → TakesMemory (wire vars taken place (Start amid) lits) (x ∷ blanks ++ b ∷ text) → ⊥
+    blank : (TakesMemory (parser vars (taken + 1) place (Start amid) lits) (blanks ++ b ∷ text) → ⊥) → TakesMemory (parser vars taken place (Start amid) lits) (x ∷ blanks ++ b ∷ text) → ⊥
     blank again (inl k) = cc
-    blank again (inr (inl k)) = not_told (turn (wire vars taken place (Start amid) lits) x).event (ap (λ (t : Turn). t.event) step) k
+    blank again (inr (inl k)) = not_told (turn (parser vars taken place (Start amid) lits) x).event (ap (λ (t : Turn). t.event) step) k
     blank again (inr (inr k)) = again (subst (λ (t : Turn). TakesMemory t.to (blanks ++ b ∷ text)) step k)
 
-pub quiet_line : (w : WireOf) (amid : Bool) (blanks : List ℕ) (b : ℕ) (text : List ℕ) → w.mode ≡ Start amid → AreBlank blanks → (b ≡ 99) ⊎ (b ≡ 115) → NoFeed text
+pub quiet_line : (w : DrupOf) (amid : Bool) (blanks : List ℕ) (b : ℕ) (text : List ℕ) → w.mode ≡ Start amid → AreBlank blanks → (b ≡ 99) ⊎ (b ≡ 115) → NoFeed text
     → TakesMemory w (blanks ++ b ∷ text) → ⊥
 quiet_line w amid blanks b text m a c n k =
-    start_text w.vars w.place w.lits amid blanks b text w.taken a c n (subst (λ z. TakesMemory (wire w.vars w.taken w.place z w.lits) (blanks ++ b ∷ text)) m k)
+    start_text w.vars w.place w.lits amid blanks b text w.taken a c n (subst (λ z. TakesMemory (parser w.vars w.taken w.place z w.lits) (blanks ++ b ∷ text)) m k)

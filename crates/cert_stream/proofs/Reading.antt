@@ -9,8 +9,8 @@ use Rattle.cert_stream.specs.Text.{is_digit, is_number, literal_of}
 use Rattle.cert_stream.specs.Machine.{begins_literal, goes_on, literal, with_digit}
 use Rattle.cert_stream.specs.Scan.{Scanned, Reads, Misfit, digit_next, first_next, part_next, shift, scan}
 use Rattle.cert_stream.specs.Words.{IsListWord, BeginsWord, BeginsLiteral, IsPart, IsMisfit, IsRead}
-use Rattle.cert_stream.specs.declared.mode.WireFaultKind.{WireFaultKind}
-use Rattle.cert_stream.specs.declared.mode.WireFaultKind.TheVariants.{BadLine, BadLiteral, LineTooLong}
+use Rattle.cert_stream.specs.declared.mode.ParseFaultKind.{ParseFaultKind}
+use Rattle.cert_stream.specs.declared.mode.ParseFaultKind.TheVariants.{BadLine, BadLiteral, LineTooLong}
 use Rattle.cert_stream.specs.declared.mode.Part.{Part}
 use Rattle.cert_stream.specs.declared.mode.Part.TheVariants.{Gap, Minus, Zero, Digits}
 use Rattle.cert_stream.proofs.Digits.{value, both_true, signed, of_digits, literal_plain, some_digits, number_above, digit_no_minus, HasDigits, has_digits, digit_step, digit_back}
@@ -20,20 +20,20 @@ use Rattle.cert_stream.proofs.Scanning.{shift_shift}
 digit_ok : (vars : ℕ) (negated : Bool) (n b : ℕ) (to : Part) → digit_next vars negated n b ≡ Ok to → (goes_on vars n b ≡ true) × (to ≡ Digits (literal (with_digit n b) negated))
 digit_ok vars negated n b to h = on (goes_on vars n b) refl h
   where
-    on : (g : Bool) → goes_on vars n b ≡ g → (let r : Result Part WireFaultKind = cond g (Ok (Digits (literal (with_digit n b) negated))) (Err BadLiteral) in r) ≡ Ok to
+    on : (g : Bool) → goes_on vars n b ≡ g → (let r : Result Part ParseFaultKind = cond g (Ok (Digits (literal (with_digit n b) negated))) (Err BadLiteral) in r) ≡ Ok to
         → (goes_on vars n b ≡ true) × (to ≡ Digits (literal (with_digit n b) negated))
     on true e k = let i : to ≡ Digits (literal (with_digit n b) negated) = cc in (e, i)
     on false e k = cc
 
-digit_none : (vars : ℕ) (negated : Bool) (n b : ℕ) (k : WireFaultKind) → digit_next vars negated n b ≡ Err k → (goes_on vars n b ≡ false) × (k ≡ BadLiteral)
+digit_none : (vars : ℕ) (negated : Bool) (n b : ℕ) (k : ParseFaultKind) → digit_next vars negated n b ≡ Err k → (goes_on vars n b ≡ false) × (k ≡ BadLiteral)
 digit_none vars negated n b k h = on (goes_on vars n b) refl h
   where
-    on : (g : Bool) → goes_on vars n b ≡ g → (let r : Result Part WireFaultKind = cond g (Ok (Digits (literal (with_digit n b) negated))) (Err BadLiteral) in r) ≡ Err k → (goes_on vars n b ≡ false) × (k ≡ BadLiteral)
+    on : (g : Bool) → goes_on vars n b ≡ g → (let r : Result Part ParseFaultKind = cond g (Ok (Digits (literal (with_digit n b) negated))) (Err BadLiteral) in r) ≡ Err k → (goes_on vars n b ≡ false) × (k ≡ BadLiteral)
     on true e x = cc
     on false e x = let i : k ≡ BadLiteral = cc in (e, i)
 
 -- how the first byte is read
-data First (vars : ℕ) (full : Bool) (b : ℕ) : Result Part WireFaultKind → Type 0 where
+data First (vars : ℕ) (full : Bool) (b : ℕ) : Result Part ParseFaultKind → Type 0 where
   IsZero : eqb b 48 ≡ true → First vars full b (Ok Zero)
   IsNone : eqb b 48 ≡ false → begins_literal vars b ≡ false → First vars full b (Err BadLiteral)
   IsLong : eqb b 48 ≡ false → begins_literal vars b ≡ true → full ≡ true → First vars full b (Err LineTooLong)
@@ -72,7 +72,7 @@ no_minus more e = let i : 45 ≡ 48 = ap (λ t. slice_index t 0) e in omega (ari
 step : (vars : ℕ) (full : Bool) (text : List ℕ) (part : Part) (b : ℕ) (to : Part) → IsPart vars full text part → part_next vars full part b ≡ Ok to → IsPart vars full (text ++ b ∷ []) to
 step vars full text Gap b to h e = subst (λ t. IsPart vars full (t ++ b ∷ []) to) (sym h) (one (first_next vars full b) (first_is vars full b) e)
   where
-    one : (r : Result Part WireFaultKind) → First vars full b r → r ≡ Ok to → IsPart vars full (b ∷ []) to
+    one : (r : Result Part ParseFaultKind) → First vars full b r → r ≡ Ok to → IsPart vars full (b ∷ []) to
     one r (IsZero t) k = let i : to ≡ Zero = cc in subst (IsPart vars full (b ∷ [])) (sym i) (ap (λ z. z ∷ []) (eqb-true b 48 t))
     one r (IsNone f g) k = cc
     one r (IsLong f g t) k = cc
@@ -132,10 +132,10 @@ literal_first vars b more l h =
     zero_first more z = let w = both_true (list_all is_digit (48 ∷ more)) (not (eqb 48 48)) z in let k : false ≡ true = w.1 in cc
 
 -- behind a byte that isn't read no word of a list goes on
-stop : (vars : ℕ) (full : Bool) (text : List ℕ) (part : Part) (b : ℕ) (k : WireFaultKind) → IsPart vars full text part → part_next vars full part b ≡ Err k → BeginsWord vars full (text ++ b ∷ []) → ⊥
+stop : (vars : ℕ) (full : Bool) (text : List ℕ) (part : Part) (b : ℕ) (k : ParseFaultKind) → IsPart vars full text part → part_next vars full part b ≡ Err k → BeginsWord vars full (text ++ b ∷ []) → ⊥
 stop vars full text Gap b k h e (more, w) = one (first_next vars full b) (first_is vars full b) e (subst (λ t. IsListWord vars full ((t ++ b ∷ []) ++ more)) h w)
   where
-    one : (r : Result Part WireFaultKind) → First vars full b r → r ≡ Err k → IsListWord vars full (b ∷ more) → ⊥
+    one : (r : Result Part ParseFaultKind) → First vars full b r → r ≡ Err k → IsListWord vars full (b ∷ more) → ⊥
     one r (IsZero t) x v = cc
     one r (IsNone f g) x (inl z) = let i : b ≡ 48 = cc in let y : eqb 48 48 ≡ false = subst (λ z. eqb z 48 ≡ false) i f in cc
     one r (IsNone f g) x (inr (n, l, z)) = let y = literal_first vars b more l z in let q : true ≡ false = sym y.0 ∙ g in cc
@@ -184,11 +184,11 @@ stop vars full text (Digits l) b k (n, h) e (more, w) =
         sym (literal_plain vars c (cs ++ b ∷ more) f) ∙ z
 
 -- why a byte isn't read
-kind_of : (vars : ℕ) (full : Bool) (part : Part) (b : ℕ) (k : WireFaultKind) → part_next vars full part b ≡ Err k
+kind_of : (vars : ℕ) (full : Bool) (part : Part) (b : ℕ) (k : ParseFaultKind) → part_next vars full part b ≡ Err k
     → (k ≡ BadLiteral) ⊎ ((k ≡ LineTooLong) × (part ≡ Gap) × (full ≡ true) × (begins_literal vars b ≡ true))
 kind_of vars full Gap b k e = one (first_next vars full b) (first_is vars full b) e
   where
-    one : (r : Result Part WireFaultKind) → First vars full b r → r ≡ Err k → (k ≡ BadLiteral) ⊎ ((k ≡ LineTooLong) × (Gap ≡ Gap) × (full ≡ true) × (begins_literal vars b ≡ true))
+    one : (r : Result Part ParseFaultKind) → First vars full b r → r ≡ Err k → (k ≡ BadLiteral) ⊎ ((k ≡ LineTooLong) × (Gap ≡ Gap) × (full ≡ true) × (begins_literal vars b ≡ true))
     one r (IsZero t) x = cc
     one r (IsNone f g) x = let i : k ≡ BadLiteral = cc in inl i
     one r (IsLong f g t) x = let i : k ≡ LineTooLong = cc in inr (i, refl, t, g)
@@ -216,7 +216,7 @@ no_text vars full text Minus (h, s) e = absurd (let k : codes "-" ≡ [] = sym h
 no_text vars full text Zero h e = absurd (let k : codes "0" ≡ [] = sym h ∙ e in cc)
 no_text vars full text (Digits l) (n, h) e = absurd (let k : literal_of vars [] ≡ Some l = ap (literal_of vars) (sym e) ∙ h in cc)
 
-module _ (vars : ℕ) (full : Bool) (text : List ℕ) (part : Part) (b : ℕ) (bs : List ℕ) (k : WireFaultKind) (h : IsPart vars full text part) (e : part_next vars full part b ≡ Err k) where
+module _ (vars : ℕ) (full : Bool) (text : List ℕ) (part : Part) (b : ℕ) (bs : List ℕ) (k : ParseFaultKind) (h : IsPart vars full text part) (e : part_next vars full part b ≡ Err k) where
   not_line : k ≡ BadLine → ⊥
   not_line i = elim (kind_of vars full part b k e) [ inl j ↦ (let q : BadLiteral ≡ BadLine = sym j ∙ i in cc) | inr j ↦ (let q : LineTooLong ≡ BadLine = sym j.0 ∙ i in cc) ]
 
@@ -233,7 +233,7 @@ module _ (vars : ℕ) (full : Bool) (text : List ℕ) (part : Part) (b : ℕ) (b
       let w = literal_first vars b more l z in
       one (first_next vars full b) (first_is vars full b) (subst (λ q. part_next vars full q b ≡ Err k) p e) w
     where
-      one : (r : Result Part WireFaultKind) → First vars full b r → r ≡ Err k → (begins_literal vars b ≡ true) × (eqb b 48 ≡ false) → k ≡ LineTooLong
+      one : (r : Result Part ParseFaultKind) → First vars full b r → r ≡ Err k → (begins_literal vars b ≡ true) × (eqb b 48 ≡ false) → k ≡ LineTooLong
       one r (IsZero y) x w = cc
       one r (IsNone f g) x w = absurd (let q : true ≡ false = sym w.0 ∙ g in cc)
       one r (IsLong f g y) x w = cc
@@ -258,7 +258,7 @@ read_on : (vars : ℕ) (full : Bool) (u : List ℕ) (text : List ℕ) (part : Pa
 read_on vars full [] text part h = subst (λ t. IsPart vars full t part) (sym (append-nil text)) h
 read_on vars full (b ∷ bs) text part h = on (part_next vars full part b) refl (λ to k. read_on vars full bs (text ++ b ∷ []) to k)
   where
-    on : (r : Result Part WireFaultKind) → part_next vars full part b ≡ r
+    on : (r : Result Part ParseFaultKind) → part_next vars full part b ≡ r
         → ((to : Part) → IsPart vars full (text ++ b ∷ []) to → IsRead vars full ((text ++ b ∷ []) ++ bs) (shift (length (text ++ b ∷ [])) (scan vars full to bs)))
         → IsRead vars full (text ++ b ∷ bs) (shift (length text) (elim r as (λ _. Scanned Part) [ Ok next ↦ shift 1 (scan vars full next bs) | Err kind ↦ Misfit kind 0 ]))
     on (Ok to) e again =

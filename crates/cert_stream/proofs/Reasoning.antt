@@ -16,13 +16,13 @@ use Rattle.cert_stream.specs.Places.{AreLines, AreDone, Write}
 use Rattle.cert_stream.specs.Reasons.{IsAt, starts_line, is_alone, IsListOf, Reason, OtherLine, NotAlone, BehindZero, NoZero, BadWord, MinusAlone, HasReason}
 use Rattle.cert_stream.specs.declared.mode.ListKind.{ListKind}
 use Rattle.cert_stream.specs.declared.mode.ListKind.TheVariants.{Clause, Deletion, Values}
-use Rattle.cert_stream.specs.declared.mode.WireFault.{WireFault}
-use Rattle.cert_stream.specs.declared.mode.WireFaultKind.{WireFaultKind}
-use Rattle.cert_stream.specs.declared.mode.WireFaultKind.TheVariants.{BadLine, BadLiteral}
+use Rattle.cert_stream.specs.declared.mode.ParseFault.{ParseFault}
+use Rattle.cert_stream.specs.declared.mode.ParseFaultKind.{ParseFaultKind}
+use Rattle.cert_stream.specs.declared.mode.ParseFaultKind.TheVariants.{BadLine, BadLiteral}
 use Rattle.cert_stream.specs.declared.mode.Part.{Part}
 use Rattle.cert_stream.specs.declared.mode.Part.TheVariants.{Gap, Minus, Zero, Digits}
 use Rattle.cert_stream.specs.declared.mode.Mode.TheVariants.{Bad}
-use Rattle.cert_stream.specs.Machine.{WireOf}
+use Rattle.cert_stream.specs.Machine.{DrupOf}
 use Rattle.cert_stream.proofs.Going.{Going}
 use Rattle.cert_stream.proofs.Faults.{bad_stays}
 use Rattle.cert_stream.proofs.Cutting.{after_append}
@@ -32,29 +32,29 @@ use Rattle.cert_stream.proofs.Streams.{cut}
 use Rattle.cert_stream.proofs.Beginnings.{fault_is, fault_in}
 use Rattle.cert_stream.proofs.Apart.{kept, lines_apart, fed_lines}
 
-one_fault : (k : WireFaultKind) (n : ℕ) (f : WireFault) → HasFault (bad k n) f → IsAt f k n
+one_fault : (k : ParseFaultKind) (n : ℕ) (f : ParseFault) → HasFault (bad k n) f → IsAt f k n
 one_fault k n f h =
-    let g : WireFault = record { kind = k; byte = n } in
+    let g : ParseFault = record { kind = k; byte = n } in
     let e : IsFault g ≡ IsFault f = Contains-one (IsFault g) (IsFault f) h in
     let i : g ≡ f = cc in
-    (sym (ap (λ (z : WireFault). z.kind) i), sym (ap (λ (z : WireFault). z.byte) i))
+    (sym (ap (λ (z : ParseFault). z.kind) i), sym (ap (λ (z : ParseFault). z.byte) i))
 
-behind_one : (s : Saying) (ss : List Saying) (f : WireFault) → (s ≡ IsFault f → ⊥) → HasFault (s ∷ ss) f → HasFault ss f
+behind_one : (s : Saying) (ss : List Saying) (f : ParseFault) → (s ≡ IsFault f → ⊥) → HasFault (s ∷ ss) f → HasFault ss f
 behind_one s ss f n h = elim (Contains-cases s (IsFault f) ss h) [ inl e ↦ absurd (n e) | inr k ↦ k ]
 
-none_fault : (f : WireFault) → HasFault [] f → ⊥
+none_fault : (f : ParseFault) → HasFault [] f → ⊥
 none_fault f h = Contains-empty (IsFault f) h
 
-split : (f : WireFault) (c : Bool) (xs ys : List Saying) → HasFault (cond c xs ys) f → ((c ≡ true) × HasFault xs f) ⊎ ((c ≡ false) × HasFault ys f)
+split : (f : ParseFault) (c : Bool) (xs ys : List Saying) → HasFault (cond c xs ys) f → ((c ≡ true) × HasFault xs f) ⊎ ((c ≡ false) × HasFault ys f)
 split f true xs ys h = inl (refl, h)
 split f false xs ys h = inr (refl, h)
 
-ended_none : (f : WireFault) (kind : ListKind) (place : ℕ) (lits : List LitOf) → ended_says kind place lits ≡ IsFault f → ⊥
+ended_none : (f : ParseFault) (kind : ListKind) (place : ℕ) (lits : List LitOf) → ended_says kind place lits ≡ IsFault f → ⊥
 ended_none f Clause place lits e = cc
 ended_none f Deletion place lits e = cc
 ended_none f Values place lits e = cc
 
-behind_heard : (f : WireFault) (kind : ListKind) (l : LitOf) (ss : List Saying) → HasFault (heard_says kind l ++ ss) f → HasFault ss f
+behind_heard : (f : ParseFault) (kind : ListKind) (l : LitOf) (ss : List Saying) → HasFault (heard_says kind l ++ ss) f → HasFault ss f
 behind_heard f Clause l ss h = h
 behind_heard f Deletion l ss h = h
 behind_heard f Values l ss h = behind_one (IsValue l) ss f (λ e. cc) h
@@ -83,7 +83,7 @@ write_push vars ws lits w l (d, m, n) e r f =
     let len : length (lits ++ l ∷ []) ≡ length lits + 1 = length-append lits (l ∷ []) in
     (done_push ws w d e, map-append (λ (v : Word). literal_of vars v.text) ws (w ∷ []) ∙ ap (λ z. z ++ literal_of vars w.text ∷ []) m ∙ ap (λ z. map Some lits ++ z ∷ []) r ∙ sym (map-append Some lits (l ∷ [])), omega (arith, g, len))
 
-module _ (vars : ℕ) (amid fed : Bool) (feed : ℕ) (words : List Word) (f : WireFault) where
+module _ (vars : ℕ) (amid fed : Bool) (feed : ℕ) (words : List Word) (f : ParseFault) where
   abbrev Why : Type 0
   Why = Reason vars amid fed feed words f
 
@@ -148,7 +148,7 @@ no_start_amid amid b a c v = rw (a, c, v) refl
 no_start : (amid : Bool) (b : ℕ) → amid ≡ false → eqb b 99 ≡ false → eqb b 118 ≡ false → eqb b 115 ≡ false → eqb b 100 ≡ false → (eqb b 45 || is_digit b) ≡ false → starts_line amid b ≡ false
 no_start amid b a c v s d o = rw (a, c, v, s, d, o) refl
 
-module _ (vars : ℕ) (amid fed : Bool) (feed : ℕ) (words : List Word) (f : WireFault) (counted : Bool) (broken going more : List Saying) (is_broken : broken ≡ cond fed (bad BadLine feed) []) where
+module _ (vars : ℕ) (amid fed : Bool) (feed : ℕ) (words : List Word) (f : ParseFault) (counted : Bool) (broken going more : List Saying) (is_broken : broken ≡ cond fed (bad BadLine feed) []) where
   -- a reason in the line, or a fault behind it
   abbrev Found : Type 0
   Found = Reason vars amid fed feed words f ⊎ HasFault going f ⊎ HasFault more f
@@ -217,7 +217,7 @@ module _ (vars : ℕ) (amid fed : Bool) (feed : ℕ) (words : List Word) (f : Wi
   line_reason [] e t h = elim (split f amid going more h) [ inl x ↦ inr (inl x.1) | inr x ↦ inr (inr x.1) ]
   line_reason (w ∷ ws) e t h = visible_reason w ws e t h
 
-module _ (vars : ℕ) (ended : Bool) (f : WireFault) where
+module _ (vars : ℕ) (ended : Bool) (f : ParseFault) where
   none_amid : (amid : Bool) → HasFault (cond amid [] []) f → ⊥
   none_amid true h = none_fault f h
   none_amid false h = none_fault f h
@@ -277,9 +277,9 @@ module _ (vars : ℕ) (ended : Bool) (f : WireFault) where
                   let lines' : AreLines front' = inr (front ++ k.text, sym (append_assoc front k.text (10 ∷ []))) in
                   subst (λ z. HasReason vars ended z f) whole (reasons fuel front' k.rest (omega (arith, len, l)) lines' none' h')
               | inr g ↦
-                  let e : (after (fresh vars) (front' ++ k.rest)).mode ≡ Bad g.0 = ap (λ (z : WireOf). z.mode) (after_append (fresh vars) front' k.rest) ∙ bad_stays g.0 (after (fresh vars) front') k.rest g.1 in
+                  let e : (after (fresh vars) (front' ++ k.rest)).mode ≡ Bad g.0 = ap (λ (z : DrupOf). z.mode) (after_append (fresh vars) front' k.rest) ∙ bad_stays g.0 (after (fresh vars) front') k.rest g.1 in
                   let i : g.0 ≡ f = (let x : Bad g.0 ≡ Bad f = sym e ∙ fault_is vars ended (front' ++ k.rest) f h' in cc) in
-                  let x : HasFault (sayings vars false front') f = subst (λ (z : WireFault). HasFault (sayings vars false front') z) i (fault_in vars false front' g.0 g.1) in
+                  let x : HasFault (sayings vars false front') f = subst (λ (z : ParseFault). HasFault (sayings vars false front') z) i (fault_in vars false front' g.0 g.1) in
                   subst (λ z. HasReason vars ended z f) (ap (λ z. front ++ z) (sym k.are)) (fed_reason front k.text k.rest k.none lines none x)
             ]
       ]

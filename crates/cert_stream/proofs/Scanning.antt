@@ -1,7 +1,7 @@
 -- How a word is read from the left.
 use Rattle.std.proofs.Common.{◌≡◌, ℕ, ◌+◌, List, [], ◌∷◌, ◌++◌, length, Result, Ok, Err, refl, ap, ◌∙◌, arith}
 use Rattle.cert_stream.specs.Scan.{Scanned, Reads, Misfit, shift, scan_by}
-use Rattle.cert_stream.specs.declared.mode.WireFaultKind.{WireFaultKind}
+use Rattle.cert_stream.specs.declared.mode.ParseFaultKind.{ParseFaultKind}
 
 module _ {A : Type 0} where
   -- reading goes on where it was
@@ -20,15 +20,15 @@ module _ {A : Type 0} where
   same_read : (from to : A) → (let s : Scanned A = Reads from in s) ≡ Reads to → from ≡ to
   same_read from to e = cc
 
-  module _ (next : A → ℕ → Result A WireFaultKind) where
-    abbrev on : Result A WireFaultKind → List ℕ → Scanned A
+  module _ (next : A → ℕ → Result A ParseFaultKind) where
+    abbrev on : Result A ParseFaultKind → List ℕ → Scanned A
     on r u = elim r as (λ _. Scanned A) [ Ok x ↦ shift 1 (scan_by next x u) | Err k ↦ Misfit k 0 ]
 
     pub scan_append : (from to : A) (p u : List ℕ) → scan_by next from p ≡ Reads to → scan_by next from (p ++ u) ≡ shift (length p) (scan_by next to u)
     scan_append from to [] u e = ap (λ z. scan_by next z u) (same_read from to e) ∙ shift_none (scan_by next to u)
     scan_append from to (b ∷ p) u e = step (λ x q. scan_append x to p u q) (next from b) e
       where
-        step : ((x : A) → scan_by next x p ≡ Reads to → scan_by next x (p ++ u) ≡ shift (length p) (scan_by next to u)) → (r : Result A WireFaultKind)
+        step : ((x : A) → scan_by next x p ≡ Reads to → scan_by next x (p ++ u) ≡ shift (length p) (scan_by next to u)) → (r : Result A ParseFaultKind)
             → on r p ≡ Reads to → on r (p ++ u) ≡ shift (length (b ∷ p)) (scan_by next to u)
         step again (Err k) h = cc
         step again (Ok x) h =
@@ -40,6 +40,6 @@ module _ {A : Type 0} where
     scan_more from part to p b e x = scan_append from part p (b ∷ []) e ∙ ap (λ r. shift (length p) (on r [])) x
 
     -- no word goes on behind a byte that doesn't fit
-    pub scan_bad : (from part : A) (p : List ℕ) (b : ℕ) (u : List ℕ) (k : WireFaultKind) → scan_by next from p ≡ Reads part → next part b ≡ Err k
+    pub scan_bad : (from part : A) (p : List ℕ) (b : ℕ) (u : List ℕ) (k : ParseFaultKind) → scan_by next from p ≡ Reads part → next part b ≡ Err k
         → scan_by next from (p ++ b ∷ u) ≡ Misfit k (length p)
     scan_bad from part p b u k e x = scan_append from part p (b ∷ u) e ∙ ap (λ r. shift (length p) (on r u)) x ∙ ap (Misfit k) (omega arith)

@@ -3,17 +3,17 @@ use Rattle.std.proofs.Common.{◌≡◌, ℕ, ◌+◌, Bool, true, false, cond, 
 use Rattle.std.proofs.lemmas.Bool.{cases_Bool}
 use Rattle.cnf_form.specs.Cnf.{LitOf}
 use Rattle.cert_stream.specs.Text.{is_blank}
-use Rattle.cert_stream.specs.Machine.{WireOf, turn, at_end, fault_of}
+use Rattle.cert_stream.specs.Machine.{DrupOf, turn, at_end, fault_of}
 use Rattle.cert_stream.specs.Telling.{Saying, IsUnknown, IsFault, told_by, after, said, fault_said, spoken}
 use Rattle.cert_stream.specs.Stream.{ended_says}
 use Rattle.cert_stream.specs.declared.mode.ListKind.{ListKind}
 use Rattle.cert_stream.specs.declared.mode.ListKind.TheVariants.{Clause, Deletion, Values}
-use Rattle.cert_stream.specs.declared.mode.WireFault.{WireFault}
+use Rattle.cert_stream.specs.declared.mode.ParseFault.{ParseFault}
 use Rattle.cert_stream.specs.declared.mode.Part.{Part}
 use Rattle.cert_stream.specs.declared.mode.Part.TheVariants.{Gap, Minus, Zero, Digits}
 use Rattle.cert_stream.specs.declared.mode.Mode.{Mode}
 use Rattle.cert_stream.specs.declared.mode.Mode.TheVariants.{Start, Skip, Head, StatusHead, StatusGap, Spelled, Whole, InList, Closed, Bad, Lost}
-use Rattle.cert_stream.proofs.Turning.{wire}
+use Rattle.cert_stream.proofs.Turning.{parser}
 
 -- what is said at the end, mode by mode
 abbrev pub last_part : Bool → ℕ → List LitOf → ListKind → Part → List Saying
@@ -35,7 +35,7 @@ last_of ended place lits Closed = []
 last_of ended place lits (Bad f) = IsFault f ∷ []
 last_of ended place lits Lost = []
 
-abbrev pub speak : Bool → WireOf → List ℕ → List Saying
+abbrev pub speak : Bool → DrupOf → List ℕ → List Saying
 speak ended w [] = last_of ended w.place w.lits w.mode
 speak ended w (b ∷ bs) = told_by (turn w b).to (turn w b).event ++ speak ended (turn w b).to bs
 
@@ -44,7 +44,7 @@ none_last true = refl
 none_last false = refl
 
 last_is : (ended : Bool) (vars taken place : ℕ) (lits : List LitOf) (mode : Mode)
-    → last_of ended place lits mode ≡ cond ended (told_by (wire vars taken place mode lits) (at_end mode)) [] ++ fault_said (fault_of mode)
+    → last_of ended place lits mode ≡ cond ended (told_by (parser vars taken place mode lits) (at_end mode)) [] ++ fault_said (fault_of mode)
 last_is true vars taken place lits (Start amid) = refl
 last_is true vars taken place lits (Skip amid) = refl
 last_is true vars taken place lits (Head kind) = refl
@@ -76,7 +76,7 @@ last_is false vars taken place lits Closed = refl
 last_is false vars taken place lits (Bad f) = refl
 last_is false vars taken place lits Lost = refl
 
-pub speak_is : (ended : Bool) (w : WireOf) (bytes : List ℕ) → speak ended w bytes ≡ spoken ended w bytes
+pub speak_is : (ended : Bool) (w : DrupOf) (bytes : List ℕ) → speak ended w bytes ≡ spoken ended w bytes
 speak_is ended w [] = last_is ended w.vars w.taken w.place w.lits w.mode
 speak_is ended w (b ∷ bs) =
     let z = (turn w b).to in
@@ -84,7 +84,7 @@ speak_is ended w (b ∷ bs) =
     ∙ sym (append_assoc (told_by z (turn w b).event) (said z bs) (cond ended (told_by (after z bs) (at_end (after z bs).mode)) [] ++ fault_said (fault_of (after z bs).mode)))
 
 -- behind a fault nothing is said
-pub bad_ever : (ended : Bool) (f : WireFault) (vars taken place : ℕ) (lits : List LitOf) (bs : List ℕ) → speak ended (wire vars taken place (Bad f) lits) bs ≡ IsFault f ∷ []
+pub bad_ever : (ended : Bool) (f : ParseFault) (vars taken place : ℕ) (lits : List LitOf) (bs : List ℕ) → speak ended (parser vars taken place (Bad f) lits) bs ≡ IsFault f ∷ []
 bad_ever ended f vars taken place lits [] = refl
 bad_ever ended f vars taken place lits (b ∷ bs) =
     elim (cases_Bool (eqb b 10)) [
@@ -94,10 +94,10 @@ bad_ever ended f vars taken place lits (b ∷ bs) =
 
 -- what bytes say from the start of a line on
 abbrev pub from_line : ℕ → Bool → ℕ → Bool → List ℕ → List Saying
-from_line vars ended at amid bytes = speak ended (wire vars at 0 (Start amid) []) bytes
+from_line vars ended at amid bytes = speak ended (parser vars at 0 (Start amid) []) bytes
 
 -- a new line knows nothing of the earlier one's literals
-pub start_forgets : (ended : Bool) (vars taken place : ℕ) (amid : Bool) (lits : List LitOf) (bs : List ℕ) → speak ended (wire vars taken place (Start amid) lits) bs ≡ from_line vars ended taken amid bs
+pub start_forgets : (ended : Bool) (vars taken place : ℕ) (amid : Bool) (lits : List LitOf) (bs : List ℕ) → speak ended (parser vars taken place (Start amid) lits) bs ≡ from_line vars ended taken amid bs
 start_forgets ended vars taken place amid lits [] = refl
 start_forgets ended vars taken place amid lits (b ∷ bs) =
     elim (cases_Bool (eqb b 10)) [

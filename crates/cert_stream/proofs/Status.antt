@@ -4,12 +4,12 @@ use Rattle.std.proofs.lemmas.Bool.{cases_Bool, eqb-true}
 use Rattle.std.specs.Prelude.{bytes_eq}
 use Rattle.cnf_form.specs.Cnf.{LitOf}
 use Rattle.cert_stream.specs.Text.{Word, words_from, is_blank, NoFeed}
-use Rattle.cert_stream.specs.Machine.{WireOf, Turn, counted as with_count, quiet, visible_spelled}
+use Rattle.cert_stream.specs.Machine.{DrupOf, Turn, counted as with_count, quiet, visible_spelled}
 use Rattle.cert_stream.specs.Telling.{Saying, IsUnknown, told_by}
 use Rattle.cert_stream.specs.Stream.{status_says}
-use Rattle.cert_stream.specs.declared.mode.WireFaultKind.TheVariants.{BadLine}
+use Rattle.cert_stream.specs.declared.mode.ParseFaultKind.TheVariants.{BadLine}
 use Rattle.cert_stream.specs.declared.mode.Mode.TheVariants.{Skip, StatusHead, StatusGap, Spelled, Whole}
-use Rattle.cert_stream.proofs.Turning.{wire, turn_visible}
+use Rattle.cert_stream.proofs.Turning.{parser, turn_visible}
 use Rattle.cert_stream.proofs.Wording.{has_word, words_visible, after_first}
 use Rattle.cert_stream.proofs.Speaking.{speak, bad_ever}
 use Rattle.cert_stream.proofs.Tails.{Tail}
@@ -24,9 +24,9 @@ Off p = (x : List ℕ) → bytes_eq (p ++ x) unknown ≡ false
 module _ (vars : ℕ) (ended fed counted : Bool) (broken going more : List Saying) (feed : ℕ) (tail : List ℕ) (behind : Tail vars ended fed counted broken going more feed tail) where
   -- behind a comment's first byte
   pub skip_text : (place : ℕ) (amid : Bool) (t : List ℕ) (taken : ℕ) (lits : List LitOf) → NoFeed t → taken + length t ≡ feed
-      → speak ended (wire vars taken place (Skip amid) lits) (t ++ tail) ≡ cond amid going more
+      → speak ended (parser vars taken place (Skip amid) lits) (t ++ tail) ≡ cond amid going more
   skip_text place amid [] taken lits h e =
-      let k : taken ≡ feed = omega (arith, e) in ap (λ z. speak ended (wire vars z place (Skip amid) lits) tail) k ∙ behind.skip place amid lits
+      let k : taken ≡ feed = omega (arith, e) in ap (λ z. speak ended (parser vars z place (Skip amid) lits) tail) k ∙ behind.skip place amid lits
   skip_text place amid (b ∷ bs) taken lits (h, hs) e =
       elim (cases_Bool (is_blank b)) [
         | inl t ↦ rw (h, t) (skip_text place amid bs (taken + 1) lits hs (omega (arith, e)))
@@ -47,10 +47,10 @@ module _ (vars : ℕ) (ended fed counted : Bool) (broken going more : List Sayin
 
   -- behind UNKNOWN and white space
   whole_text : (place : ℕ) (u : Word) → bytes_eq u.text unknown ≡ true → (t : List ℕ) (taken : ℕ) (lits : List LitOf) → NoFeed t → taken + length t ≡ feed
-      → speak ended (wire vars taken place Whole lits) (t ++ tail) ≡ status_says counted more (u ∷ words_from fed taken [] t)
+      → speak ended (parser vars taken place Whole lits) (t ++ tail) ≡ status_says counted more (u ∷ words_from fed taken [] t)
   whole_text place u x [] taken lits h e =
       let k : taken ≡ feed = omega (arith, e) in
-      ap (λ z. speak ended (wire vars z place Whole lits) tail) k ∙ behind.whole place lits ∙ sym (ap (λ z. cond (z && counted) (IsUnknown ∷ more) more) x)
+      ap (λ z. speak ended (parser vars z place Whole lits) tail) k ∙ behind.whole place lits ∙ sym (ap (λ z. cond (z && counted) (IsUnknown ∷ more) more) x)
   whole_text place u x (b ∷ bs) taken lits (h, hs) e =
       elim (cases_Bool (is_blank b)) [
         | inl t ↦ rw (h, t) (whole_text place u x bs (taken + 1) lits hs (omega (arith, e)))
@@ -62,17 +62,17 @@ module _ (vars : ℕ) (ended fed counted : Bool) (broken going more : List Sayin
   -- behind the first bytes of a word, which are so many of UNKNOWN
   abbrev Spells : ℕ → List ℕ → Type 0
   Spells n p = (place : ℕ) (t : List ℕ) (taken : ℕ) (lits : List LitOf) → NoFeed t → taken + length t ≡ feed
-      → speak ended (wire vars taken place (Spelled n) lits) (t ++ tail) ≡ status_says counted more (words_from fed taken p t)
+      → speak ended (parser vars taken place (Spelled n) lits) (t ++ tail) ≡ status_says counted more (words_from fed taken p t)
 
-  module _ (n m c d : ℕ) (q : List ℕ) (s : (w : WireOf) (b : ℕ) → visible_spelled w n b ≡ quiet w (cond (eqb b c) (Spelled m) (Skip false))) (few : eqb n 7 ≡ false)
+  module _ (n m c d : ℕ) (q : List ℕ) (s : (w : DrupOf) (b : ℕ) → visible_spelled w n b ≡ quiet w (cond (eqb b c) (Spelled m) (Skip false))) (few : eqb n 7 ≡ false)
       (short : bytes_eq (d ∷ q) unknown ≡ false) (off : (b : ℕ) → eqb b c ≡ false → Off (d ∷ q ++ b ∷ [])) (next : Spells m (d ∷ q ++ c ∷ [])) where
     spells : Spells n (d ∷ q)
     spells place [] taken lits h e =
         let k : taken ≡ feed = omega (arith, e) in
         let none : cond (eqb n 7 && counted) (IsUnknown ∷ more) more ≡ status_says counted more (words_from fed feed (d ∷ q) []) = rw (few, short) refl in
-        subst (λ z. speak ended (wire vars z place (Spelled n) lits) tail ≡ status_says counted more (words_from fed z (d ∷ q) [])) (sym k) (behind.spelled place n lits ∙ none)
+        subst (λ z. speak ended (parser vars z place (Spelled n) lits) tail ≡ status_says counted more (words_from fed z (d ∷ q) [])) (sym k) (behind.spelled place n lits ∙ none)
     spells place (b ∷ bs) taken lits (h, hs) e =
-        let w = wire vars taken place (Spelled n) lits in
+        let w = parser vars taken place (Spelled n) lits in
         let k : taken + 1 + length bs ≡ feed = omega (arith, e) in
         let on : (x : Bool) → eqb b c ≡ x → (let z = with_count taken (quiet w (cond x (Spelled m) (Skip false))) in told_by z.to z.event ++ speak ended z.to (bs ++ tail))
         ≡ status_says counted more (words_from fed (taken + 1) (d ∷ q ++ b ∷ []) bs) = λ x y. goes place b bs taken lits hs k x y in
@@ -85,7 +85,7 @@ module _ (vars : ℕ) (ended fed counted : Bool) (broken going more : List Sayin
         ]
       where
         goes : (place b : ℕ) (bs : List ℕ) (taken : ℕ) (lits : List LitOf) → NoFeed bs → taken + 1 + length bs ≡ feed → (x : Bool) → eqb b c ≡ x
-            → (let z = with_count taken (quiet (wire vars taken place (Spelled n) lits) (cond x (Spelled m) (Skip false))) in told_by z.to z.event ++ speak ended z.to (bs ++ tail))
+            → (let z = with_count taken (quiet (parser vars taken place (Spelled n) lits) (cond x (Spelled m) (Skip false))) in told_by z.to z.event ++ speak ended z.to (bs ++ tail))
             ≡ status_says counted more (words_from fed (taken + 1) (d ∷ q ++ b ∷ []) bs)
         goes place b bs taken lits hs k true y =
             let i : b ≡ c = eqb-true b c y in
@@ -95,7 +95,7 @@ module _ (vars : ℕ) (ended fed counted : Bool) (broken going more : List Sayin
   seven : Spells 7 (codes "UNKNOWN")
   seven place [] taken lits h e =
       let k : taken ≡ feed = omega (arith, e) in
-      subst (λ z. speak ended (wire vars z place (Spelled 7) lits) tail ≡ status_says counted more (words_from fed z (codes "UNKNOWN") [])) (sym k) (behind.spelled place 7 lits)
+      subst (λ z. speak ended (parser vars z place (Spelled 7) lits) tail ≡ status_says counted more (words_from fed z (codes "UNKNOWN") [])) (sym k) (behind.spelled place 7 lits)
   seven place (b ∷ bs) taken lits (h, hs) e =
       let k : taken + 1 + length bs ≡ feed = omega (arith, e) in
       elim (cases_Bool (is_blank b)) [
@@ -123,8 +123,8 @@ module _ (vars : ℕ) (ended fed counted : Bool) (broken going more : List Sayin
 
   -- behind s and white space
   gap_text : (place : ℕ) (t : List ℕ) (taken : ℕ) (lits : List LitOf) → NoFeed t → taken + length t ≡ feed
-      → speak ended (wire vars taken place StatusGap lits) (t ++ tail) ≡ status_says counted more (words_from fed taken [] t)
-  gap_text place [] taken lits h e = let k : taken ≡ feed = omega (arith, e) in ap (λ z. speak ended (wire vars z place StatusGap lits) tail) k ∙ behind.status_gap place lits
+      → speak ended (parser vars taken place StatusGap lits) (t ++ tail) ≡ status_says counted more (words_from fed taken [] t)
+  gap_text place [] taken lits h e = let k : taken ≡ feed = omega (arith, e) in ap (λ z. speak ended (parser vars z place StatusGap lits) tail) k ∙ behind.status_gap place lits
   gap_text place (b ∷ bs) taken lits (h, hs) e =
       let k : taken + 1 + length bs ≡ feed = omega (arith, e) in
       elim (cases_Bool (is_blank b)) [
@@ -139,8 +139,8 @@ module _ (vars : ℕ) (ended fed counted : Bool) (broken going more : List Sayin
 
   -- behind s
   pub status_text : (place : ℕ) (t : List ℕ) (taken : ℕ) (lits : List LitOf) → NoFeed t → taken + length t ≡ feed
-      → speak ended (wire vars taken place StatusHead lits) (t ++ tail) ≡ after_first (status_says counted more) fed taken t
-  status_text place [] taken lits h e = let k : taken ≡ feed = omega (arith, e) in ap (λ z. speak ended (wire vars z place StatusHead lits) tail) k ∙ behind.status_head place lits
+      → speak ended (parser vars taken place StatusHead lits) (t ++ tail) ≡ after_first (status_says counted more) fed taken t
+  status_text place [] taken lits h e = let k : taken ≡ feed = omega (arith, e) in ap (λ z. speak ended (parser vars z place StatusHead lits) tail) k ∙ behind.status_head place lits
   status_text place (b ∷ bs) taken lits (h, hs) e =
       let k : taken + 1 + length bs ≡ feed = omega (arith, e) in
       elim (cases_Bool (is_blank b)) [

@@ -5,7 +5,7 @@ use Rattle.std.proofs.lemmas.List.{append-nil, length-append}
 use Rattle.cert_stream.specs.Text.{NoFeed, lines_of, put_first, words_from}
 use Rattle.cert_stream.specs.Telling.{fresh, spoken}
 use Rattle.cert_stream.specs.Stream.{bad, line_says, lines_say, sayings}
-use Rattle.cert_stream.specs.declared.mode.WireFaultKind.TheVariants.{BadLine}
+use Rattle.cert_stream.specs.declared.mode.ParseFaultKind.TheVariants.{BadLine}
 use Rattle.cert_stream.proofs.Speaking.{speak_is, from_line}
 use Rattle.cert_stream.proofs.Tails.{fed_tail, no_tail}
 use Rattle.cert_stream.proofs.Lining.{start_text}

@@ -10,7 +10,7 @@ use Rattle.cert_stream.specs.Telling.{Saying, IsUnknown}
 use Rattle.cert_stream.specs.Stream.{bad, ended_says, heard_says, behind_says, list_says, is_unknown, status_says, alone, plain_says, line_says, lines_say, sayings, AreWithin}
 use Rattle.cert_stream.specs.declared.mode.ListKind.{ListKind}
 use Rattle.cert_stream.specs.declared.mode.ListKind.TheVariants.{Clause, Deletion, Values}
-use Rattle.cert_stream.specs.declared.mode.WireFaultKind.TheVariants.{BadLine}
+use Rattle.cert_stream.specs.declared.mode.ParseFaultKind.TheVariants.{BadLine}
 use Rattle.cert_stream.specs.declared.mode.Part.{Part}
 use Rattle.cert_stream.specs.declared.mode.Part.TheVariants.{Gap, Minus, Zero, Digits}
 use Rattle.cert_stream.proofs.Digits.{number_above, has_digits}

@@ -6,7 +6,7 @@ use Rattle.std.proofs.lemmas.List.{append-nil, length-append}
 use Rattle.cert_stream.specs.Text.{Word, flush, words_from, is_blank}
 use Rattle.cert_stream.specs.Telling.{Saying}
 use Rattle.cert_stream.specs.Stream.{alone, bad}
-use Rattle.cert_stream.specs.declared.mode.WireFaultKind.TheVariants.{BadLine}
+use Rattle.cert_stream.specs.declared.mode.ParseFaultKind.TheVariants.{BadLine}
 
 -- a word that has begun
 pub record HasWord (at : ℕ) (p : List ℕ) (ws : List Word) : Type 0 where

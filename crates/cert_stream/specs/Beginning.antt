@@ -2,14 +2,14 @@
 use Rattle.std.specs.Prelude.{ℕ, true, List, [], ◌∷◌, ◌++◌, Contains}
 use Rattle.cert_stream.specs.Telling.{Saying, IsFault}
 use Rattle.cert_stream.specs.Stream.{sayings}
-use Rattle.cert_stream.specs.declared.mode.WireFault.{WireFault}
+use Rattle.cert_stream.specs.declared.mode.ParseFault.{ParseFault}
 
 -- one of these is the fault
-abbrev pub HasFault : List Saying → WireFault → Type 0
+abbrev pub HasFault : List Saying → ParseFault → Type 0
 HasFault ss f = Contains ss (IsFault f)
 
 abbrev pub HasNoFault : List Saying → Type 0
-HasNoFault ss = (f : WireFault) → HasFault ss f → ⊥
+HasNoFault ss = (f : ParseFault) → HasFault ss f → ⊥
 
 -- some stream begins with the bytes: they can go on so that all lines, the last one too, are whole and no fault is in them
 abbrev pub Begins : ℕ → List ℕ → Type 0

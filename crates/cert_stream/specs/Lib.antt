@@ -8,3 +8,7 @@ pub mod Beginning
 pub mod Words
 pub mod Places
 pub mod Reasons
+pub mod LratMachine
+pub mod LratTelling
+pub mod LratScan
+pub mod LratLines

@@ -4,9 +4,9 @@ use Rattle.cnf_form.specs.Cnf.{LitOf, LitWithin}
 use Rattle.cert_stream.specs.Text.{is_blank, is_digit}
 use Rattle.cert_stream.specs.declared.mode.ListKind.{ListKind}
 use Rattle.cert_stream.specs.declared.mode.ListKind.TheVariants.{Clause as ClauseList, Deletion, Values}
-use Rattle.cert_stream.specs.declared.mode.WireFaultKind.{WireFaultKind}
-use Rattle.cert_stream.specs.declared.mode.WireFaultKind.TheVariants.{BadLine, BadLiteral, LineTooLong}
-use Rattle.cert_stream.specs.declared.mode.WireFault.{WireFault}
+use Rattle.cert_stream.specs.declared.mode.ParseFaultKind.{ParseFaultKind}
+use Rattle.cert_stream.specs.declared.mode.ParseFaultKind.TheVariants.{BadLine, BadLiteral, LineTooLong}
+use Rattle.cert_stream.specs.declared.mode.ParseFault.{ParseFault}
 use Rattle.cert_stream.specs.declared.mode.Part.{Part}
 use Rattle.cert_stream.specs.declared.mode.Part.TheVariants.{Gap, Minus, Zero, Digits}
 use Rattle.cert_stream.specs.declared.mode.Mode.{Mode}
@@ -15,7 +15,7 @@ use Rattle.cert_stream.specs.declared.mode.Event.{Event}
 use Rattle.cert_stream.specs.declared.mode.Event.TheVariants.{Clause, Delete, Value, ValuesEnd, Unknown}
 
 -- what is kept: how many bytes were taken, where the line's first visible byte stands, how its reading stands, its literals so far
-pub record WireOf : Type 0 where
+pub record DrupOf : Type 0 where
   pub vars : ℕ
   pub taken : ℕ
   pub place : ℕ
@@ -24,17 +24,17 @@ pub record WireOf : Type 0 where
 
 -- what a byte makes of it, and what is said then
 pub record Turn : Type 0 where
-  pub to : WireOf
+  pub to : DrupOf
   pub event : Option Event
 
-abbrev pub quiet : WireOf → Mode → Turn
+abbrev pub quiet : DrupOf → Mode → Turn
 quiet w m = record { to = record w { mode = m }; event = None }
 
-abbrev pub telling : WireOf → Mode → Event → Turn
+abbrev pub telling : DrupOf → Mode → Event → Turn
 telling w m e = record { to = record w { mode = m }; event = Some e }
 
 -- no stream goes on with the byte
-abbrev pub fails : WireOf → WireFaultKind → Turn
+abbrev pub fails : DrupOf → ParseFaultKind → Turn
 fails w kind = quiet w (Bad (record { kind = kind; byte = w.taken }))
 
 -- what a list says with its 0
@@ -50,14 +50,14 @@ heard Deletion l = None
 heard Values l = Some (Value l)
 
 -- white space or a line feed behind a part of a word of a list
-abbrev pub end_part : WireOf → ListKind → Part → Turn
+abbrev pub end_part : DrupOf → ListKind → Part → Turn
 end_part w kind Gap = quiet w (InList kind Gap)
 end_part w kind Minus = fails w BadLiteral
 end_part w kind Zero = telling w Closed (ended kind)
 end_part w kind (Digits l) = record { to = record w { mode = InList kind Gap; lits = w.lits ++ l ∷ [] }; event = heard kind l }
 
 -- white space or a line feed behind whatever was read
-abbrev pub end_word : WireOf → Mode → Turn
+abbrev pub end_word : DrupOf → Mode → Turn
 end_word w (Start amid) = quiet w (Start amid)
 end_word w (Skip amid) = quiet w (Skip amid)
 end_word w (Head kind) = quiet w (InList kind Gap)
@@ -71,12 +71,12 @@ end_word w (Bad f) = quiet w (Bad f)
 end_word w Lost = quiet w Lost
 
 -- a line feed, behind white space: only values may go on in another line
-abbrev pub unended : WireOf → ListKind → Turn
+abbrev pub unended : DrupOf → ListKind → Turn
 unended w ClauseList = fails w BadLine
 unended w Deletion = fails w BadLine
 unended w Values = quiet w (Start true)
 
-abbrev pub end_line : WireOf → Mode → Turn
+abbrev pub end_line : DrupOf → Mode → Turn
 end_line w (Start amid) = quiet w (Start amid)
 end_line w (Skip amid) = quiet w (Start amid)
 end_line w (Head kind) = unended w kind
@@ -110,34 +110,34 @@ abbrev pub begins_literal : ℕ → ℕ → Bool
 begins_literal vars b = (eqb b 45 && leb 1 vars) || goes_on vars 0 b
 
 -- digits behind a number, with its sign
-abbrev pub visible_digit : WireOf → ListKind → Bool → ℕ → ℕ → Turn
+abbrev pub visible_digit : DrupOf → ListKind → Bool → ℕ → ℕ → Turn
 visible_digit w kind negated n b = cond (goes_on w.vars n b) (quiet w (InList kind (Digits (literal (with_digit n b) negated)))) (fails w BadLiteral)
 
 -- the first byte of a word of a list
-abbrev pub visible_first : WireOf → ListKind → ℕ → Turn
+abbrev pub visible_first : DrupOf → ListKind → ℕ → Turn
 visible_first w kind b =
     cond (eqb b 48) (quiet w (InList kind Zero))
     (cond (not (begins_literal w.vars b)) (fails w BadLiteral)
     (cond (leb w.vars (length w.lits)) (fails w LineTooLong)
     (cond (eqb b 45) (quiet w (InList kind Minus)) (visible_digit w kind false 0 b))))
 
-abbrev pub visible_part : WireOf → ListKind → Part → ℕ → Turn
+abbrev pub visible_part : DrupOf → ListKind → Part → ℕ → Turn
 visible_part w kind Gap b = visible_first w kind b
 visible_part w kind Minus b = visible_digit w kind true 0 b
 visible_part w kind Zero b = fails w BadLiteral
 visible_part w kind (Digits l) b = visible_digit w kind l.negated l.var b
 
 -- the first visible byte of a line
-abbrev pub emptied : WireOf → WireOf
+abbrev pub emptied : DrupOf → DrupOf
 emptied w = record w { place = w.taken; lits = [] }
 
-abbrev pub visible_plain : WireOf → ℕ → Turn
+abbrev pub visible_plain : DrupOf → ℕ → Turn
 visible_plain w b =
     cond (eqb b 115) (quiet w StatusHead)
     (cond (eqb b 100) (quiet w (Head Deletion))
     (cond (eqb b 45 || is_digit b) (visible_first w ClauseList b) (fails w BadLine)))
 
-abbrev pub visible_start : WireOf → Bool → ℕ → Turn
+abbrev pub visible_start : DrupOf → Bool → ℕ → Turn
 visible_start w amid b =
     cond (eqb b 99) (quiet w (Skip amid))
     (cond (eqb b 118) (quiet w (Head Values))
@@ -148,11 +148,11 @@ abbrev pub spelling : ℕ → ℕ
 spelling n =
     cond (eqb n 0) 85 (cond (eqb n 1) 78 (cond (eqb n 2) 75 (cond (eqb n 3) 78 (cond (eqb n 4) 79 (cond (eqb n 5) 87 (cond (eqb n 6) 78 0))))))
 
-abbrev pub visible_spelled : WireOf → ℕ → ℕ → Turn
+abbrev pub visible_spelled : DrupOf → ℕ → ℕ → Turn
 visible_spelled w n b = quiet w (cond (not (leb 7 n) && eqb b (spelling n)) (Spelled (n + 1)) (Skip false))
 
 -- a byte that is no white space and no line feed
-abbrev pub visible : WireOf → Mode → ℕ → Turn
+abbrev pub visible : DrupOf → Mode → ℕ → Turn
 visible w (Start amid) b = visible_start (emptied w) amid b
 visible w (Skip amid) b = quiet w (Skip amid)
 visible w (Head kind) b = fails w BadLine
@@ -165,14 +165,14 @@ visible w Closed b = fails w BadLine
 visible w (Bad f) b = quiet w (Bad f)
 visible w Lost b = quiet w Lost
 
-abbrev pub read : WireOf → ℕ → Turn
+abbrev pub read : DrupOf → ℕ → Turn
 read w b = cond (eqb b 10) (feed_behind (end_word w w.mode)) (cond (is_blank b) (end_word w w.mode) (visible w w.mode b))
 
 abbrev pub counted : ℕ → Turn → Turn
 counted taken t = record { to = record t.to { taken = taken + 1 }; event = t.event }
 
 -- a byte
-abbrev pub turn : WireOf → ℕ → Turn
+abbrev pub turn : DrupOf → ℕ → Turn
 turn w b = counted w.taken (read w b)
 
 -- what a 0, or UNKNOWN, says that the stream's end follows
@@ -216,7 +216,7 @@ is_in_literal (Bad f) = false
 is_in_literal Lost = false
 
 -- where no stream goes on
-abbrev pub fault_of : Mode → Option WireFault
+abbrev pub fault_of : Mode → Option ParseFault
 fault_of (Start amid) = None
 fault_of (Skip amid) = None
 fault_of (Head kind) = None

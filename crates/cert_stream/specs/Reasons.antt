@@ -7,11 +7,11 @@ use Rattle.cert_stream.specs.Stream.{lines_say, sayings}
 use Rattle.cert_stream.specs.Places.{AreLines, Write}
 use Rattle.cert_stream.specs.declared.mode.ListKind.{ListKind}
 use Rattle.cert_stream.specs.declared.mode.ListKind.TheVariants.{Clause, Deletion, Values}
-use Rattle.cert_stream.specs.declared.mode.WireFault.{WireFault}
-use Rattle.cert_stream.specs.declared.mode.WireFaultKind.{WireFaultKind}
-use Rattle.cert_stream.specs.declared.mode.WireFaultKind.TheVariants.{BadLine, BadLiteral}
+use Rattle.cert_stream.specs.declared.mode.ParseFault.{ParseFault}
+use Rattle.cert_stream.specs.declared.mode.ParseFaultKind.{ParseFaultKind}
+use Rattle.cert_stream.specs.declared.mode.ParseFaultKind.TheVariants.{BadLine, BadLiteral}
 
-abbrev pub IsAt : WireFault → WireFaultKind → ℕ → Type 0
+abbrev pub IsAt : ParseFault → ParseFaultKind → ℕ → Type 0
 IsAt f kind byte = (f.kind ≡ kind) × (f.byte ≡ byte)
 
 -- a line may begin with the byte; amid values only a comment's and that of values may
@@ -31,20 +31,20 @@ IsListOf Values words ws = (first : Word) × (words ≡ first ∷ ws) × (first.
 -- The fault of a line with these words, whose line feed, if it has one, is byte number `feed`. BadLine: at the first byte of a line that
 -- is of no kind; at the second byte of s, d or v; at a word behind a list's 0; at the line feed of a clause or deletion without its 0.
 -- BadLiteral: where no word of a list begins any more, or behind a minus alone; a literal too many begins there where the line is full.
-pub data Reason (vars : ℕ) (amid fed : Bool) (feed : ℕ) (words : List Word) (f : WireFault) : Type 0 where
+pub data Reason (vars : ℕ) (amid fed : Bool) (feed : ℕ) (words : List Word) (f : ParseFault) : Type 0 where
   OtherLine : (first : Word) (others : List Word) → words ≡ first ∷ others → starts_line amid (slice_index first.text 0) ≡ false → IsAt f BadLine first.place → Reason vars amid fed feed words f
   NotAlone : (first : Word) (others : List Word) → words ≡ first ∷ others → is_alone amid (slice_index first.text 0) ≡ true → 2 ≤ length first.text → IsAt f BadLine (first.place + 1) → Reason vars amid fed feed words f
   BehindZero : (kind : ListKind) (ws : List Word) (lits : List LitOf) (zero w : Word) (more : List Word) → IsListOf kind words (ws ++ zero ∷ w ∷ more) → Write vars ws lits → zero.text ≡ codes "0"
       → IsAt f BadLine w.place → Reason vars amid fed feed words f
   NoZero : (kind : ListKind) (ws : List Word) (lits : List LitOf) → fed ≡ true → (kind ≡ Clause) ⊎ (kind ≡ Deletion) → IsListOf kind words ws → Write vars ws lits
       → IsAt f BadLine feed → Reason vars amid fed feed words f
-  BadWord : (kind : ListKind) (ws : List Word) (lits : List LitOf) (w : Word) (more : List Word) (k : WireFaultKind) (n : ℕ) → IsListOf kind words (ws ++ w ∷ more) → Write vars ws lits
+  BadWord : (kind : ListKind) (ws : List Word) (lits : List LitOf) (w : Word) (more : List Word) (k : ParseFaultKind) (n : ℕ) → IsListOf kind words (ws ++ w ∷ more) → Write vars ws lits
       → IsMisfit vars (leb vars (length lits)) w.text k n → IsAt f k (w.place + n) → Reason vars amid fed feed words f
   MinusAlone : (kind : ListKind) (ws : List Word) (lits : List LitOf) (w : Word) (more : List Word) → IsListOf kind words (ws ++ w ∷ more) → Write vars ws lits
       → w.text ≡ codes "-" → w.done ≡ true → IsAt f BadLiteral (w.place + length w.text) → Reason vars amid fed feed words f
 
 -- behind whole lines without a fault, which leave the stream amid values or not, a line has a reason to be at fault
-pub record HasReason (vars : ℕ) (ended : Bool) (bytes : List ℕ) (f : WireFault) : Type 0 where
+pub record HasReason (vars : ℕ) (ended : Bool) (bytes : List ℕ) (f : ParseFault) : Type 0 where
   pub front : List ℕ
   pub line : List ℕ
   pub rest : List ℕ

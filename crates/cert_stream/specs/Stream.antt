@@ -6,12 +6,12 @@ use Rattle.cert_stream.specs.Scan.{Reads, Misfit, scan}
 use Rattle.cert_stream.specs.Telling.{Saying, IsClause, IsDelete, IsValue, IsValuesEnd, IsUnknown, IsFault}
 use Rattle.cert_stream.specs.declared.mode.ListKind.{ListKind}
 use Rattle.cert_stream.specs.declared.mode.ListKind.TheVariants.{Clause as ClauseList, Deletion, Values}
-use Rattle.cert_stream.specs.declared.mode.WireFaultKind.{WireFaultKind}
-use Rattle.cert_stream.specs.declared.mode.WireFaultKind.TheVariants.{BadLine, BadLiteral}
+use Rattle.cert_stream.specs.declared.mode.ParseFaultKind.{ParseFaultKind}
+use Rattle.cert_stream.specs.declared.mode.ParseFaultKind.TheVariants.{BadLine, BadLiteral}
 use Rattle.cert_stream.specs.declared.mode.Part.TheVariants.{Gap, Minus, Zero, Digits}
 
 -- no stream begins with the bytes up to and with this one
-abbrev pub bad : WireFaultKind → ℕ → List Saying
+abbrev pub bad : ParseFaultKind → ℕ → List Saying
 bad kind byte = IsFault (record { kind = kind; byte = byte }) ∷ []
 
 -- what a list says with its 0

@@ -3,8 +3,8 @@ use Rattle.std.specs.Prelude.{◌≡◌, ◌⊎◌, ◌↔◌, ℕ, Bool, true, 
 use Rattle.cnf_form.specs.Cnf.{LitOf}
 use Rattle.cert_stream.specs.Text.{literal_of}
 use Rattle.cert_stream.specs.Scan.{Scanned, Reads, Misfit}
-use Rattle.cert_stream.specs.declared.mode.WireFaultKind.{WireFaultKind}
-use Rattle.cert_stream.specs.declared.mode.WireFaultKind.TheVariants.{BadLine, LineTooLong}
+use Rattle.cert_stream.specs.declared.mode.ParseFaultKind.{ParseFaultKind}
+use Rattle.cert_stream.specs.declared.mode.ParseFaultKind.TheVariants.{BadLine, LineTooLong}
 use Rattle.cert_stream.specs.declared.mode.Part.{Part}
 use Rattle.cert_stream.specs.declared.mode.Part.TheVariants.{Gap, Minus, Zero, Digits}
 
@@ -28,7 +28,7 @@ IsPart vars full text Zero = text ≡ codes "0"
 IsPart vars full text (Digits l) = (full ≡ false) × (literal_of vars text ≡ Some l)
 
 -- a byte with which no such word begins any more; in a full line it may begin a literal
-pub record IsMisfit (vars : ℕ) (full : Bool) (text : List ℕ) (kind : WireFaultKind) (n : ℕ) : Type 0 where
+pub record IsMisfit (vars : ℕ) (full : Bool) (text : List ℕ) (kind : ParseFaultKind) (n : ℕ) : Type 0 where
   pub front : List ℕ
   pub byte : ℕ
   pub rest : List ℕ

@@ -2,13 +2,13 @@
 
 ghost use Rattle.std.specs.Prelude.{◌≡◌, ◌≢◌, ℕ, ◌+◌, ◌<◌, ◌≤◌, ◌^◌, Bool, true, false, List, [], ◌∷◌, ◌++◌, length, Option, Some, None, IfOk, IfSome, OnErr, IsErr, Ok, ◌⊎◌};
 ghost use Rattle.cnf_form.specs.Cnf.{LitOf, LitWithin, ClauseWithin};
-ghost use Rattle.cert_stream.specs.Machine.{WireOf, Turn, IsEventWithin, turn, at_end, fault_of};
+ghost use Rattle.cert_stream.specs.Machine.{DrupOf, Turn, IsEventWithin, turn, at_end, fault_of};
 ghost use Rattle.cert_stream.specs.Telling.{Saying, TakesMemory, IsClause, IsDelete, IsValue, IsValuesEnd, IsUnknown, saying, told_by, after, said, answer, Gets, is_stopped};
 ghost use Rattle.cert_stream.specs.declared.mode.Mode.TheVariants.{Lost};
 
-use crate::mode::{Event, WireFault};
+use crate::mode::{Event, ParseFault};
+use crate::parser::DrupParser;
 use crate::steps::{Count, Steps, Uncounted};
-use crate::wire::Wire;
 use cnf_form::Lit;
 use std::alloc::AllocError;
 use std::sync::ledger::Ledger;
@@ -66,16 +66,20 @@ pub enum Fed {
 }
 
 // Hands on what a byte said.
-fn tell<R: Receiver>(wire: &Wire, receiver: &mut R, event: Event) -> Result<bool, AllocError>
-    requires vars { R.vars receiver.old ≡ wire.now.vars }
-    requires within { IsEventWithin wire.now.vars (Some event) }
+fn tell<R: Receiver>(
+    parser: &DrupParser,
+    receiver: &mut R,
+    event: Event,
+) -> Result<bool, AllocError>
+    requires vars { R.vars receiver.old ≡ parser.now.vars }
+    requires within { IsEventWithin parser.now.vars (Some event) }
     ensures vars { IfOk result (λ _. R.vars receiver.new ≡ R.vars receiver.old) }
-    ensures gets { IfOk result (λ _. R.gets receiver.old (saying wire.now event) receiver.new) }
+    ensures gets { IfOk result (λ _. R.gets receiver.old (saying parser.now event) receiver.new) }
     ensures stops { IfOk result (λ stop. stop ≡ R.stops receiver.new) }
 {
     match event {
-        Event::Clause => receiver.clause(wire.lits(), wire.place()),
-        Event::Delete => receiver.delete(wire.lits()),
+        Event::Clause => receiver.clause(parser.lits(), parser.place()),
+        Event::Delete => receiver.delete(parser.lits()),
         Event::Value(l) => receiver.value(l),
         Event::ValuesEnd => receiver.values_end(),
         Event::Unknown => receiver.unknown(),
@@ -84,31 +88,31 @@ fn tell<R: Receiver>(wire: &Wire, receiver: &mut R, event: Event) -> Result<bool
 
 // Takes a piece, with a step for each turn, and answers whether the receiver stopped.
 fn take_piece<R: Receiver, N: Count>(
-    wire: &mut Wire,
+    parser: &mut DrupParser,
     piece: &[u8],
     receiver: &mut R,
     steps: &mut N,
 ) -> Result<bool, AllocError>
-    requires vars { R.vars receiver.old ≡ wire.old.vars }
-    requires count { wire.old.taken + length piece.now < 2 ^ 64 }
-    ensures told { IfOk result (λ stopped. Gets R.gets R.stops receiver.old (said wire.old piece.now) receiver.new stopped) }
-    ensures kept { IfOk result (λ stopped. stopped ≡ false → wire.new ≡ after wire.old piece.now) }
-    ensures vars { IfOk result (λ _. R.vars receiver.new ≡ wire.new.vars) }
-    ensures count { IfOk result (λ _. wire.new.taken ≤ wire.old.taken + length piece.now) }
-    ensures memory { OnErr result (TakesMemory wire.old piece.now) }
+    requires vars { R.vars receiver.old ≡ parser.old.vars }
+    requires count { parser.old.taken + length piece.now < 2 ^ 64 }
+    ensures told { IfOk result (λ stopped. Gets R.gets R.stops receiver.old (said parser.old piece.now) receiver.new stopped) }
+    ensures kept { IfOk result (λ stopped. stopped ≡ false → parser.new ≡ after parser.old piece.now) }
+    ensures vars { IfOk result (λ _. R.vars receiver.new ≡ parser.new.vars) }
+    ensures count { IfOk result (λ _. parser.new.taken ≤ parser.old.taken + length piece.now) }
+    ensures memory { OnErr result (TakesMemory parser.old piece.now) }
     ensures steps { N.count steps.new ≤ N.count steps.old + length piece.now }
 {
     let mut i = 0;
     while i < piece.len() {
         steps.step();
-        i += wire.pass(&piece[i..]);
+        i += parser.pass(&piece[i..]);
         if i >= piece.len() {
             return Ok(false);
         }
-        let event = wire.turn(piece[i])?;
+        let event = parser.turn(piece[i])?;
         i += 1;
         if let Some(event) = event {
-            if tell(wire, receiver, event)? {
+            if tell(parser, receiver, event)? {
                 return Ok(true);
             }
         }
@@ -117,24 +121,24 @@ fn take_piece<R: Receiver, N: Count>(
 }
 
 // Tells what counts by the stream's end, and answers whether the receiver stopped.
-fn take_end<R: Receiver>(wire: &Wire, receiver: &mut R) -> Result<bool, AllocError>
-    requires { R.vars receiver.old ≡ wire.now.vars }
-    ensures told { IfOk result (λ stopped. Gets R.gets R.stops receiver.old (told_by wire.now (at_end wire.now.mode)) receiver.new stopped) }
-    ensures vars { IfOk result (λ _. R.vars receiver.new ≡ wire.now.vars) }
-    ensures memory { OnErr result (at_end wire.now.mode ≢ None) }
+fn take_end<R: Receiver>(parser: &DrupParser, receiver: &mut R) -> Result<bool, AllocError>
+    requires { R.vars receiver.old ≡ parser.now.vars }
+    ensures told { IfOk result (λ stopped. Gets R.gets R.stops receiver.old (told_by parser.now (at_end parser.now.mode)) receiver.new stopped) }
+    ensures vars { IfOk result (λ _. R.vars receiver.new ≡ parser.now.vars) }
+    ensures memory { OnErr result (at_end parser.now.mode ≢ None) }
 {
-    let Some(event) = wire.at_end() else {
+    let Some(event) = parser.at_end() else {
         return Ok(false);
     };
-    tell(wire, receiver, event)
+    tell(parser, receiver, event)
 }
 
-impl Wire {
+impl DrupParser {
     // What a call answers.
     fn answer(
         &mut self,
         stopped: Result<bool, AllocError>,
-    ) -> Result<Result<Fed, WireFault>, AllocError>
+    ) -> Result<Result<Fed, ParseFault>, AllocError>
         ensures stopped { IfOk result (λ fed. stopped ≡ Ok (is_stopped fed)) }
         ensures kept { IfOk result (λ _. self.new ≡ self.old) }
         ensures answer { IfOk result (λ fed. is_stopped fed ≡ false → fed ≡ answer (fault_of self.old.mode)) }
@@ -163,7 +167,7 @@ impl Wire {
         &mut self,
         piece: &[u8],
         receiver: &mut R,
-    ) -> Result<Result<Fed, WireFault>, AllocError>
+    ) -> Result<Result<Fed, ParseFault>, AllocError>
         requires vars { R.vars receiver.old ≡ self.old.vars }
         requires count { self.old.taken + length piece.now < 2 ^ 64 }
         ensures told { IfOk result (λ fed. Gets R.gets R.stops receiver.old (said self.old piece.now) receiver.new (is_stopped fed)) }
@@ -188,7 +192,7 @@ impl Wire {
         piece: &[u8],
         receiver: &mut R,
         steps: &mut Steps<L>,
-    ) -> Result<Result<Fed, WireFault>, AllocError>
+    ) -> Result<Result<Fed, ParseFault>, AllocError>
         requires vars { R.vars receiver.old ≡ self.old.vars }
         requires count { self.old.taken + length piece.now < 2 ^ 64 }
         ensures told { IfOk result (λ fed. Gets R.gets R.stops receiver.old (said self.old piece.now) receiver.new (is_stopped fed)) }
@@ -212,7 +216,7 @@ impl Wire {
     pub fn end<R: Receiver>(
         &mut self,
         receiver: &mut R,
-    ) -> Result<Result<Fed, WireFault>, AllocError>
+    ) -> Result<Result<Fed, ParseFault>, AllocError>
         requires { R.vars receiver.old ≡ self.old.vars }
         ensures told { IfOk result (λ fed. Gets R.gets R.stops receiver.old (told_by self.old (at_end self.old.mode)) receiver.new (is_stopped fed)) }
         ensures kept { IfOk result (λ _. self.new ≡ self.old) }

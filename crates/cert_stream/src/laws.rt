@@ -1,7 +1,7 @@
 // Laws of streams in pieces.
 
 ghost use Rattle.std.specs.Prelude.{◌≡◌, ◌⊎◌, ◌<◌, ◌+◌, ℕ, Bool, true, false, List, [], ◌∷◌, ◌++◌, flat_map, length, take};
-ghost use Rattle.cert_stream.specs.Machine.{WireOf};
+ghost use Rattle.cert_stream.specs.Machine.{DrupOf};
 ghost use Rattle.cert_stream.specs.Stream.{AreWithin, ended_says, heard_says, lines_say, sayings};
 ghost use Rattle.cert_stream.specs.Places.{AreLines, IsList};
 ghost use Rattle.cert_stream.specs.declared.mode.ListKind.{ListKind};
@@ -13,25 +13,25 @@ ghost use Rattle.cert_stream.specs.Reasons.{HasReason};
 ghost use Rattle.cert_stream.specs.Words.{IsRead};
 ghost use Rattle.cert_stream.specs.declared.mode.Part.TheVariants.{Gap};
 ghost use Rattle.cert_stream.specs.Telling.{IsUnknown, Saying, StandsFor, TakesMemory, after, fresh, said, spoken};
-ghost use Rattle.cert_stream.specs.declared.mode.WireFault.{WireFault};
+ghost use Rattle.cert_stream.specs.declared.mode.ParseFault.{ParseFault};
 ghost use Rattle.cert_stream.specs.declared.mode.Mode.TheVariants.{Bad, Start};
 
 /// What stands for the bytes so far stands, after a piece, for these with the piece behind them.
 #[tactic(auto, using(crate::proofs::Cutting::stands_append))]
 pub fn pieces_join()
-    ensures { (vars : ℕ) (w : WireOf) (bytes piece : List ℕ) → StandsFor vars w bytes → StandsFor vars (after w piece) (bytes ++ piece) }
+    ensures { (vars : ℕ) (w : DrupOf) (bytes piece : List ℕ) → StandsFor vars w bytes → StandsFor vars (after w piece) (bytes ++ piece) }
 {}
 
 /// Bytes say the same in pieces.
 #[tactic(auto, using(crate::proofs::Cutting::said_append))]
 pub fn pieces_say_the_same()
-    ensures { (w : WireOf) (front back : List ℕ) → said w (front ++ back) ≡ said w front ++ said (after w front) back }
+    ensures { (w : DrupOf) (front back : List ℕ) → said w (front ++ back) ≡ said w front ++ said (after w front) back }
 {}
 
 /// A fault stays, whatever follows.
 #[tactic(auto, using(crate::proofs::Faults::bad_stays))]
 pub fn faults_stay()
-    ensures { (f : WireFault) (w : WireOf) (bytes : List ℕ) → w.mode ≡ Bad f → (after w bytes).mode ≡ Bad f }
+    ensures { (f : ParseFault) (w : DrupOf) (bytes : List ℕ) → w.mode ≡ Bad f → (after w bytes).mode ≡ Bad f }
 {}
 
 /// What is said of a stream's bytes, whether it ends with them or may go on, is what its lines say.
@@ -44,9 +44,9 @@ pub fn streams_say_lines()
 /// fault, some stream begins with all bytes.
 #[tactic(auto, using(crate::proofs::Beginnings::fault_within, crate::proofs::Beginnings::begins_before, crate::proofs::Beginnings::begins_past, crate::proofs::Beginnings::begins_all))]
 pub fn fault_is_first()
-    ensures within { (vars : ℕ) (ended : Bool) (bytes : List ℕ) (f : WireFault) → HasFault (sayings vars ended bytes) f → f.byte < length bytes }
-    ensures before { (vars : ℕ) (ended : Bool) (bytes : List ℕ) (f : WireFault) → HasFault (sayings vars ended bytes) f → Begins vars (take f.byte bytes) }
-    ensures past { (vars : ℕ) (ended : Bool) (bytes : List ℕ) (f : WireFault) → HasFault (sayings vars ended bytes) f
+    ensures within { (vars : ℕ) (ended : Bool) (bytes : List ℕ) (f : ParseFault) → HasFault (sayings vars ended bytes) f → f.byte < length bytes }
+    ensures before { (vars : ℕ) (ended : Bool) (bytes : List ℕ) (f : ParseFault) → HasFault (sayings vars ended bytes) f → Begins vars (take f.byte bytes) }
+    ensures past { (vars : ℕ) (ended : Bool) (bytes : List ℕ) (f : ParseFault) → HasFault (sayings vars ended bytes) f
         → Begins vars (take (f.byte + 1) bytes) → ⊥ }
     ensures none { (vars : ℕ) (ended : Bool) (bytes : List ℕ) → HasNoFault (sayings vars ended bytes) → Begins vars bytes }
 {}
@@ -99,12 +99,12 @@ pub fn whole_lines_are_said()
 /// A fault tells what is wrong with the line that it stands in.
 #[tactic(auto, using(crate::proofs::Reasoning::fault_reason))]
 pub fn faults_have_reasons()
-    ensures { (vars : ℕ) (ended : Bool) (f : WireFault) (bytes : List ℕ) → HasFault (sayings vars ended bytes) f → HasReason vars ended bytes f }
+    ensures { (vars : ℕ) (ended : Bool) (f : ParseFault) (bytes : List ℕ) → HasFault (sayings vars ended bytes) f → HasReason vars ended bytes f }
 {}
 
 /// A comment's bytes and a status line's, up to their line feed, take no memory.
 #[tactic(auto, using(crate::proofs::Quiet::quiet_line))]
 pub fn comments_take_no_memory()
-    ensures { (w : WireOf) (amid : Bool) (blanks : List ℕ) (b : ℕ) (text : List ℕ) → w.mode ≡ Start amid → AreBlank blanks → (b ≡ 99) ⊎ (b ≡ 115) → NoFeed text
+    ensures { (w : DrupOf) (amid : Bool) (blanks : List ℕ) (b : ℕ) (text : List ℕ) → w.mode ≡ Start amid → AreBlank blanks → (b ≡ 99) ⊎ (b ≡ 115) → NoFeed text
         → TakesMemory w (blanks ++ b ∷ text) → ⊥ }
 {}

@@ -1,11 +1,13 @@
-//! An engine's stream, read piece by piece. Of the bytes so far no more is kept than the literals of the line that they end in.
+//! Streams of lines that are certificates, read piece by piece: DRUP text, and hinted proofs (LRAT without negative hints). Of the bytes so
+//! far no more is kept than the literals and ids of the line that they end in.
 #![tactic(auto)]
 
 mod feeding;
 mod laws;
+pub mod lrat;
 mod mode;
+mod parser;
 mod steps;
-mod wire;
 
 pub use feeding::{Fed, Receiver};
 pub use laws::{
@@ -13,6 +15,6 @@ pub use laws::{
     pieces_join, pieces_say_the_same, sayings_are_within, sayings_go_on, sayings_stay_before_more,
     streams_say_lines, whole_lines_are_said, words_are_read,
 };
-pub use mode::{Event, ListKind, Mode, Part, WireFault, WireFaultKind};
+pub use mode::{Event, ListKind, Mode, ParseFault, ParseFaultKind, Part};
+pub use parser::DrupParser;
 pub use steps::Steps;
-pub use wire::Wire;

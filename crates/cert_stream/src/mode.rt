@@ -12,7 +12,7 @@ pub enum ListKind {
 
 /// What is wrong where no stream goes on.
 #[derive(Clone, Copy, Debug, PartialEq, Eq)]
-pub enum WireFaultKind {
+pub enum ParseFaultKind {
     /// The line's kind, its end, or what stands behind its 0.
     BadLine,
     /// A word of a list is neither 0 nor a literal.
@@ -24,8 +24,8 @@ pub enum WireFaultKind {
 /// A fault: no stream begins with the bytes up to and with byte number `byte`, counted from 0, but some stream begins with those
 /// before it.
 #[derive(Clone, Copy, Debug, PartialEq, Eq)]
-pub struct WireFault {
-    pub kind: WireFaultKind,
+pub struct ParseFault {
+    pub kind: ParseFaultKind,
     pub byte: u64,
 }
 
@@ -58,7 +58,7 @@ pub enum Mode {
     InList(ListKind, Part),
     /// White space behind its 0.
     Closed,
-    Bad(WireFault),
+    Bad(ParseFault),
     /// Memory was wanting.
     Lost,
 }

@@ -6,18 +6,18 @@ use Rattle.cnf_form.specs.Cnf.{Assignment, FormulaOf}
 use Rattle.cnf_form.specs.Dimacs.{IsDimacs}
 use Rattle.job_cnf.specs.Decoding.{values_of}
 use Rattle.job_cnf.specs.Encoding.{EncodedOf}
-use Rattle.kind_judge.specs.Fates.{IsFate, IsFateSoFar, stream_values}
-use Rattle.kind_judge.specs.Judging.{Feeds as StreamFeeds, IsOver, IsSameJudge as IsSameStream, KindOf, Stands, bits_of, formula_of, is_wanting, kind_of, most_of, outcome_of}
+use Rattle.cert_judge.specs.Kinds.{IsFate, IsFateSoFar, stream_values}
+use Rattle.cert_judge.specs.Judging.{Feeds as StreamFeeds, IsOver, IsSameJudge as IsSameStream, JudgeOf as StreamOf, Stands, bits_of, formula_of, kind_of, outcome_of}
 use Rattle.sby_terms.specs.declared.names.Answer.{Answer}
 use Rattle.sby_terms.specs.declared.names.Answer.TheVariants.{Sat}
 use Rattle.sby_terms.specs.declared.names.JobName.{JobName}
-use Rattle.stream_judge.specs.Fate.{Fate, Found}
-use Rattle.stream_judge.specs.Judging.{AreValuesTold}
-use Rattle.stream_judge.specs.Outcomes.{fate_of, fate_told as outcome_told}
-use Rattle.stream_judge.specs.declared.stream.BadCert.{BadCert}
-use Rattle.stream_judge.specs.declared.stream.Outcome.{Outcome}
-use Rattle.stream_judge.specs.declared.stream.Outcome.TheVariants.{Refuted, Satisfied, Unknown as UnknownOutcome, Bad as BadOutcome}
-use Rattle.stream_judge.specs.declared.stream.StreamKind.{StreamKind}
+use Rattle.cert_judge.specs.Fate.{Fate, Found}
+use Rattle.cert_judge.specs.Lines.{AreValuesTold}
+use Rattle.cert_judge.specs.Outcomes.{fate_of, fate_told as outcome_told}
+use Rattle.cert_judge.specs.declared.stream.BadCert.{BadCert}
+use Rattle.cert_judge.specs.declared.stream.Outcome.{Outcome}
+use Rattle.cert_judge.specs.declared.stream.Outcome.TheVariants.{Refuted, Satisfied, Unknown as UnknownOutcome, Bad as BadOutcome}
+use Rattle.cert_judge.specs.declared.stream.StreamKind.{StreamKind}
 use Rattle.judge.proofs.Problems.{one_formula}
 use Rattle.judge.specs.Judging.{Ends, Feeds, Finds, FindsPlayed, FindsRunOf, Heard, IsForJob, IsJudge, IsTrueOutcome, JudgeOf, fate_told, state_behind, state_told}
 use Rattle.judge.specs.Played.{IsPlayed}
@@ -28,14 +28,14 @@ use Rattle.judge.specs.declared.judging.State.{State}
 use Rattle.judge.specs.declared.judging.State.TheVariants.{Reading, Over}
 
 -- what a stream's judge answers is true of its formula
-pub true_so_far : (old new : KindOf) (bytes : List ℕ) (o : Option Outcome) → StreamFeeds old new bytes o → IsTrueOutcome (formula_of old) (bits_of new) o
+pub true_so_far : (old new : StreamOf) (bytes : List ℕ) (o : Option Outcome) → StreamFeeds old new bytes o → IsTrueOutcome (formula_of old) (bits_of new) o
 true_so_far old new bytes None f = tt
 true_so_far old new bytes (Some Refuted) f = f.refuted refl
 true_so_far old new bytes (Some Satisfied) f = let v = f.values in v.2
 true_so_far old new bytes (Some UnknownOutcome) f = tt
 true_so_far old new bytes (Some (BadOutcome b)) f = tt
 
-pub true_at_end : (j : KindOf) (bytes : List ℕ) (o : Outcome) → IsOver j bytes o → IsTrueOutcome (formula_of j) (bits_of j) (Some o)
+pub true_at_end : (j : StreamOf) (bytes : List ℕ) (o : Outcome) → IsOver j bytes o → IsTrueOutcome (formula_of j) (bits_of j) (Some o)
 true_at_end j bytes Refuted f = f.refuted refl
 true_at_end j bytes Satisfied f = let v = f.values in v.2
 true_at_end j bytes UnknownOutcome f = tt
@@ -62,14 +62,14 @@ finds_run p job kind most g ended bytes bits o (Ok (Done f)) formula played told
 finds_run p job kind most g ended bytes bits o (Ok Unknown) formula played told v = tt
 finds_run p job kind most g ended bytes bits o (Err b) formula played told v = tt
 
-abbrev pub judge_of : AskedOf → JobName → StreamKind → ℕ → KindOf → State → JudgeOf
+abbrev pub judge_of : AskedOf → JobName → StreamKind → ℕ → StreamOf → State → JudgeOf
 judge_of p job kind most stream state = record { asked = p; job = job; kind = kind; most = most; stream = stream; state = state }
 
-abbrev behind : JudgeOf → KindOf → Result Progress BadCert → JudgeOf
+abbrev behind : JudgeOf → StreamOf → Result Progress BadCert → JudgeOf
 behind j stream r = record j { stream = stream; state = state_behind r }
 
 -- more of a stream
-module _ (j : JudgeOf) (stream : KindOf) (bytes : List ℕ) (r : Result Progress BadCert) (finds : Finds j.asked j.job r) (played : FindsPlayed j.asked j.job (values_of (bits_of stream)) r) where
+module _ (j : JudgeOf) (stream : StreamOf) (bytes : List ℕ) (r : Result Progress BadCert) (finds : Finds j.asked j.job r) (played : FindsPlayed j.asked j.job (values_of (bits_of stream)) r) where
   pub feeds : IsForJob j → (o : Option Outcome) → StreamFeeds j.stream stream bytes o → fate_told r ≡ outcome_told o → Feeds j (behind j stream r) bytes r
   feeds is o f told = record {
     same = (refl, refl, refl, refl);
@@ -86,10 +86,10 @@ module _ (j : JudgeOf) (stream : KindOf) (bytes : List ℕ) (r : Result Progress
         let one = one_formula j.asked j.job w.0 (formula_of j.stream) w.1 is.formula in
         subst (λ (kind : StreamKind). IsFateSoFar kind file bytes j.most (fate_told r)) is.kind
         (subst (λ (most : ℕ). IsFateSoFar (kind_of j.stream) file bytes most (fate_told r)) is.most
-        (subst (λ (fate : Option Fate). IsFateSoFar (kind_of j.stream) file bytes (most_of j.stream) fate) (sym told) (f.fate file (subst (λ (g : FormulaOf). IsDimacs file g) one w.3))));
+        (subst (λ (fate : Option Fate). IsFateSoFar (kind_of j.stream) file bytes j.stream.most fate) (sym told) (f.fate file (subst (λ (g : FormulaOf). IsDimacs file g) one w.3))));
   }
 
-  pub ends : IsFormulaOf j.asked j.job (formula_of stream) → kind_of stream ≡ j.kind → most_of stream ≡ j.most → (o : Outcome) → IsOver stream bytes o → fate_told r ≡ Some (fate_of o) → Ends j (behind j stream r) bytes r
+  pub ends : IsFormulaOf j.asked j.job (formula_of stream) → kind_of stream ≡ j.kind → stream.most ≡ j.most → (o : Outcome) → IsOver stream bytes o → fate_told r ≡ Some (fate_of o) → Ends j (behind j stream r) bytes r
   ends formula same_kind same_most o f told = record {
     same = (refl, refl, refl, refl);
     state = refl;
@@ -102,7 +102,7 @@ module _ (j : JudgeOf) (stream : KindOf) (bytes : List ℕ) (r : Result Progress
         (subst (λ (most : ℕ). AreValuesTold g (stream_values (kind_of stream) g.vars true bytes most) (bits_of stream) (Some o)) same_most f.values));
     fate = λ file w.
         let one = one_formula j.asked j.job w.0 (formula_of stream) w.1 formula in
-        let fate : IsFate (kind_of stream) file bytes (most_of stream) (fate_of o) = f.fate file (subst (λ (g : FormulaOf). IsDimacs file g) one w.3) in
+        let fate : IsFate (kind_of stream) file bytes stream.most (fate_of o) = f.fate file (subst (λ (g : FormulaOf). IsDimacs file g) one w.3) in
         subst (λ (t : Option Fate). MatchOption t ⊥ (IsFate j.kind file bytes j.most)) (sym told)
         (subst (λ (kind : StreamKind). IsFate kind file bytes j.most (fate_of o)) same_kind
         (subst (λ (most : ℕ). IsFate (kind_of stream) file bytes most (fate_of o)) same_most fate));
@@ -121,14 +121,14 @@ not_wanting true h = sym (h refl)
 not_wanting false h = refl
 
 -- the stream's judge tells the fate of what was taken, or tells it again
-pub ended : (old new : KindOf) (bytes : List ℕ) (o : Outcome) → (is_wanting old ≡ true → false ≡ true)
-    → ((p : Outcome) → is_wanting old ≡ false → outcome_of old ≡ Some p → ◌≡◌ {A = Result Outcome AllocError} (Ok o) (Ok p) × (new ≡ old))
+pub ended : (old new : StreamOf) (bytes : List ℕ) (o : Outcome) → (old.wanting ≡ true → false ≡ true)
+    → ((p : Outcome) → old.wanting ≡ false → outcome_of old ≡ Some p → ◌≡◌ {A = Result Outcome AllocError} (Ok o) (Ok p) × (new ≡ old))
     → (Stands old bytes → IsOver new bytes o) → Heard old bytes → IsOver new bytes o
 ended old new bytes o kept again ends (inl stands) = ends stands
 ended old new bytes o kept again ends (inr (p, over)) =
-    let w = again p (not_wanting (is_wanting old) kept) over.outcome in
+    let w = again p (not_wanting old.wanting kept) over.outcome in
     let same : o ≡ p = let e = w.0 in cc in
-    subst (λ (q : Outcome). IsOver new bytes q) (sym same) (subst (λ (s : KindOf). IsOver s bytes p) (sym w.1) over)
+    subst (λ (q : Outcome). IsOver new bytes q) (sym same) (subst (λ (s : StreamOf). IsOver s bytes p) (sym w.1) over)
 
 -- a judge that reads or is over
 pub heard_so_far : (j : JudgeOf) → IsJudge j → (j.state ≡ Reading) ⊎ (j.state ≡ Over) → IsForJob j × ((bytes : List ℕ) × Heard j.stream bytes)
@@ -136,7 +136,7 @@ heard_so_far j is (inl reading) = let r = is.reading reading in (r.0, (r.1.0, in
 heard_so_far j is (inr over) = is.over over
 
 -- what a judge's answer rests on, and how it stands behind it
-module _ (j : JudgeOf) (is : IsForJob j) (stream : KindOf) (same : IsSameStream j.stream stream) where
+module _ (j : JudgeOf) (is : IsForJob j) (stream : StreamOf) (same : IsSameStream j.stream stream) where
   outcome_of_job : (g : FormulaOf) (bits : List Bool) (o : Option Outcome) → IsFormulaOf j.asked j.job g → bits ≡ bits_of stream → IsTrueOutcome g (bits_of stream) o
       → (e : EncodedOf) × IsEncodedOf j.asked j.job e × IsTrueOutcome e.formula bits o
   outcome_of_job g bits o w at tells =

@@ -26,8 +26,8 @@ use Rattle.word_model.proofs.Alike.{alike-turned, assumed-alike, broken-alike, f
 use Rattle.word_model.proofs.Runs.{reach-to, shows-to}
 use Rattle.word_model.specs.Layout.{HasConstants, IsAlike, valued}
 use Rattle.judge.proofs.Carrying.{constants}
-use Rattle.kind_judge.specs.Fates.{stream_values}
-use Rattle.stream_judge.specs.declared.stream.StreamKind.{StreamKind}
+use Rattle.cert_judge.specs.Kinds.{stream_values}
+use Rattle.cert_judge.specs.declared.stream.StreamKind.{StreamKind}
 use Rattle.judge.proofs.Problems.{one_encoded}
 use Rattle.judge.proofs.Cycles.{alike-on, rows-alike, rows-fit, runs-same, valued-alike}
 use Rattle.judge.specs.Finding.{Claim, FindingOf, IsTrueFinding}

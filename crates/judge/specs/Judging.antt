@@ -7,13 +7,13 @@ use Rattle.job_cnf.specs.Decoding.{values_of}
 use Rattle.sby_terms.specs.declared.names.Answer.TheVariants.{Sat}
 use Rattle.sby_terms.specs.declared.names.JobName.{JobName}
 use Rattle.sby_terms.specs.declared.names.JobName.TheVariants.{Step}
-use Rattle.kind_judge.specs.Fates.{IsFate, IsFateSoFar}
-use Rattle.kind_judge.specs.Judging.{IsOver, KindOf, Stands, formula_of, kind_of, most_of}
-use Rattle.stream_judge.specs.Fate.{Fate, Found, Unknown, Bad}
-use Rattle.stream_judge.specs.declared.stream.BadCert.{BadCert}
-use Rattle.stream_judge.specs.declared.stream.Outcome.{Outcome}
-use Rattle.stream_judge.specs.declared.stream.Outcome.TheVariants.{Refuted, Satisfied, Unknown as UnknownOutcome, Bad as BadOutcome}
-use Rattle.stream_judge.specs.declared.stream.StreamKind.{StreamKind}
+use Rattle.cert_judge.specs.Kinds.{IsFate, IsFateSoFar}
+use Rattle.cert_judge.specs.Judging.{IsOver, JudgeOf as StreamOf, Stands, formula_of, kind_of}
+use Rattle.cert_judge.specs.Fate.{Fate, Found, Unknown, Bad}
+use Rattle.cert_judge.specs.declared.stream.BadCert.{BadCert}
+use Rattle.cert_judge.specs.declared.stream.Outcome.{Outcome}
+use Rattle.cert_judge.specs.declared.stream.Outcome.TheVariants.{Refuted, Satisfied, Unknown as UnknownOutcome, Bad as BadOutcome}
+use Rattle.cert_judge.specs.declared.stream.StreamKind.{StreamKind}
 use Rattle.judge.specs.Finding.{FindingOf}
 use Rattle.judge.specs.Played.{IsStreamsRun, ShowsPlayed}
 use Rattle.judge.specs.Problem.{AskedOf, IsFormulaOf, IsJobFile}
@@ -28,17 +28,17 @@ pub record JudgeOf : Type 0 where
   pub job : JobName
   pub kind : StreamKind
   pub most : ℕ
-  pub stream : KindOf
+  pub stream : StreamOf
   pub state : State
 
 -- the stream is judged for the job's formula
 pub record IsForJob (j : JudgeOf) : Type 0 where
   pub formula : IsFormulaOf j.asked j.job (formula_of j.stream)
   pub kind : kind_of j.stream ≡ j.kind
-  pub most : most_of j.stream ≡ j.most
+  pub most : j.stream.most ≡ j.most
 
 -- the bytes were taken; the stream may have ended with them
-abbrev pub Heard : KindOf → List ℕ → Type 0
+abbrev pub Heard : StreamOf → List ℕ → Type 0
 Heard stream bytes = Stands stream bytes ⊎ ((o : Outcome) × IsOver stream bytes o)
 
 -- some bytes were taken, and more may be, or they came to an outcome

@@ -5,8 +5,8 @@ use Rattle.design_meaning.specs.Runs.{CycleOf, IsRunOf, valuations}
 use Rattle.job_cnf.specs.Encoding.{EncodedOf, decoded}
 use Rattle.model_core.specs.Choices.{Plays}
 use Rattle.model_core.specs.Meaning.{Cycle}
-use Rattle.kind_judge.specs.Fates.{stream_values}
-use Rattle.stream_judge.specs.declared.stream.StreamKind.{StreamKind}
+use Rattle.cert_judge.specs.Kinds.{stream_values}
+use Rattle.cert_judge.specs.declared.stream.StreamKind.{StreamKind}
 use Rattle.word_model.specs.Layout.{IsAlike, valued}
 use Rattle.sby_terms.specs.declared.names.JobName.{JobName}
 use Rattle.sby_terms.specs.declared.names.JobName.TheVariants.{Step}

@@ -1,12 +1,13 @@
 -- A judge of the output of a solver that leaves a proof file, and what its answers tell.
 use Rattle.std.specs.Prelude.{◌≡◌, ℕ, Bool, true, false, List, Option, Result, Ok, Err}
 use Rattle.std.specs.declared.alloc.AllocError.{AllocError}
-use Rattle.output_judge.specs.Fate.{IsOutputFate, IsOutputFateSoFar}
-use Rattle.output_judge.specs.Judging.{OutputOf, Stands}
-use Rattle.output_judge.specs.Output.{stream_of}
+use Rattle.cert_judge.specs.Judging.{formula_of}
+use Rattle.cert_judge.specs.OutputFate.{IsOutputFate, IsOutputFateSoFar}
+use Rattle.cert_judge.specs.OutputJudging.{OutputOf, Stands}
+use Rattle.cert_judge.specs.Output.{stream_of}
 use Rattle.sby_terms.specs.declared.names.JobName.{JobName}
-use Rattle.stream_judge.specs.declared.stream.BadCert.{BadCert}
-use Rattle.stream_judge.specs.declared.stream.StreamKind.TheVariants.{Drup}
+use Rattle.cert_judge.specs.declared.stream.BadCert.{BadCert}
+use Rattle.cert_judge.specs.declared.stream.StreamKind.TheVariants.{Drup}
 use Rattle.judge.specs.Judging.{Finds, FindsRunOf, fate_told}
 use Rattle.judge.specs.Problem.{AskedOf, IsFormulaOf, IsJobFile}
 use Rattle.judge.specs.declared.judging.Progress.{Progress}
@@ -22,7 +23,7 @@ pub record SolverOf : Type 0 where
 
 -- the output is judged for the job's formula
 pub record IsForJob (j : SolverOf) : Type 0 where
-  pub formula : IsFormulaOf j.asked j.job j.output.judge.formula
+  pub formula : IsFormulaOf j.asked j.job (formula_of j.output.judge)
   pub most : j.output.judge.most ≡ j.most
 
 -- some bytes were taken, and more may be

@@ -5,16 +5,15 @@ ghost use Rattle.job_cnf.specs.Decoding.{values_of};
 ghost use Rattle.job_cnf.specs.Encoding.{EncodedOf};
 ghost use Rattle.judge.specs.Judging.{Ends, Feeds, Finds, FindsPlayed, IsTrueOutcome, Took, TookAll, fate_told, state_told};
 ghost use Rattle.judge.specs.Problem.{IsEncodedOf, IsJob};
-ghost use Rattle.stream_judge.specs.Outcomes.{fate_told as outcome_told};
-ghost use Rattle.stream_judge.specs.declared.stream.BadCert.{BadCert};
+ghost use Rattle.cert_judge.specs.Outcomes.{fate_told as outcome_told};
+ghost use Rattle.cert_judge.specs.declared.stream.BadCert.{BadCert};
 
 use crate::finding::{Finding, sat, unsat};
 use crate::problem::Problem;
-use kind_judge::KindJudge;
+use cert_judge::{BadCert, Judge as StreamJudge, Outcome, StreamKind};
 use sby_terms::JobName;
 use std::alloc::{AllocError, Global};
 use std::marker::Model;
-use stream_judge::{BadCert, Outcome, StreamKind};
 
 /// What a judge answers to a piece of its stream.
 #[derive(Drop)]
@@ -48,7 +47,7 @@ pub struct Judge<'a> {
     job: JobName,
     kind: StreamKind,
     most: u64,
-    stream: KindJudge<'a>,
+    stream: StreamJudge<'a>,
     state: State,
 }
 
@@ -83,7 +82,7 @@ impl<'a> Judge<'a> {
         ensures took { IfOk result (λ j. Took j []) }
     {
         let formula = problem.encoded(job).formula();
-        let stream = KindJudge::new(alloc, formula, kind, most)?;
+        let stream = StreamJudge::new(alloc, formula, kind, most)?;
         Ok(Judge {
             alloc,
             problem,

@@ -29,7 +29,7 @@ ghost use Rattle.sby_terms.specs.declared.names.JobName.TheVariants.{Base, Cover
 ghost use Rattle.sby_terms.specs.declared.names.Mode.{Mode};
 ghost use Rattle.sby_terms.specs.declared.names.Mode.TheVariants.{Bmc};
 ghost use Rattle.sby_terms.specs.declared.span.Span.{Span};
-ghost use Rattle.stream_judge.specs.declared.stream.StreamKind.{StreamKind};
+ghost use Rattle.cert_judge.specs.declared.stream.StreamKind.{StreamKind};
 ghost use Rattle.word_model.specs.Layout.{state_place, valued};
 ghost use Rattle.word_model.specs.Registers.{BeginsWith};
 ghost use Rattle.judge.specs.Fault.{IsTooMany};

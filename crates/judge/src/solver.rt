@@ -7,11 +7,10 @@ ghost use Rattle.judge.specs.Solver.{Ends, Feeds, Took, is_open};
 use crate::finding::Finding;
 use crate::judging::{Progress, answer};
 use crate::problem::Problem;
-use output_judge::OutputJudge;
+use cert_judge::{BadCert, OutputJudge};
 use sby_terms::JobName;
 use std::alloc::{AllocError, Global};
 use std::marker::Model;
-use stream_judge::BadCert;
 
 /// A judge of the standard output of a solver that leaves a proof file, for a job of a problem. Values that it prints are a certificate
 /// for Sat; where it prints none, and not that it doesn't know, the proof file decides. It keeps no bytes of the output.

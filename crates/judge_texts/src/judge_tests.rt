@@ -4,12 +4,12 @@ ghost use Rattle.std.specs.Prelude.{◌≡◌, ◌≤◌, ◌^◌, ℕ, List, If
 ghost use Rattle.judge.specs.Judging.{Took};
 ghost use Rattle.judge.specs.Problem.{IsJob};
 
+use cert_judge::{BadCert, StreamKind};
 use judge::{Finding, Judge, Problem, Progress};
 use run_scenes::T;
 use sby_terms::{Answer, JobName, Mode, Settled, Span};
 use std::alloc::{AllocError, Global};
 use std::test::Fail;
-use stream_judge::{BadCert, StreamKind};
 
 // What a judge told: by a letter, for a finding with the number of its run's cycles, or by a refusal's number and byte.
 type Told = (u8, u64);

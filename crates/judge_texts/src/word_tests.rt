@@ -1,11 +1,11 @@
 // Words that are asked, and words that are refused.
 
+use cert_judge::StreamKind;
 use run_scenes::owned;
 use sby_terms::Mode;
 use sby_words::{Asked, JudgeWords, asked_of, stream_kind};
 use std::alloc::{AllocError, Global};
 use std::test::Fail;
-use stream_judge::StreamKind;
 
 // Lines of words; the first has none.
 const REFUSED: &str = "

@@ -2,17 +2,17 @@
 use Rattle.std.proofs.Common.{◌≡◌, ◌≢◌, ◌^◌, ℕ, ◌≤◌, ◌<◌, ◌+◌, true, false, List, ◌++◌, length, Option, None, Some, Result, Ok, Err, refl, sym, subst, ◌∙◌, arith}
 use Rattle.std.specs.Prelude.{IfOk, MatchOption}
 use Rattle.std.specs.declared.alloc.AllocError.{AllocError}
-use Rattle.kind_judge.proofs.Fates.{within_most}
-use Rattle.kind_judge.specs.Fates.{IsFate, IsFateSoFar}
+use Rattle.cert_judge.proofs.KindFates.{within_most}
+use Rattle.cert_judge.specs.Kinds.{IsFate, IsFateSoFar}
 use Rattle.lane_child.specs.Judging.{Says}
-use Rattle.output_judge.specs.Fate.{IsOutputFate, IsOutputFateSoFar}
+use Rattle.cert_judge.specs.OutputFate.{IsOutputFate, IsOutputFateSoFar}
 use Rattle.race_core.specs.declared.event.Judged.{Judged}
 use Rattle.race_core.specs.declared.event.Judged.TheVariants as judged
 use Rattle.sby_terms.specs.declared.names.JobName.{JobName}
-use Rattle.stream_judge.specs.Fate.{Fate}
-use Rattle.stream_judge.specs.declared.stream.BadCert.{BadCert}
-use Rattle.stream_judge.specs.declared.stream.StreamKind.{StreamKind}
-use Rattle.stream_judge.specs.declared.stream.StreamKind.TheVariants.{Drup}
+use Rattle.cert_judge.specs.Fate.{Fate}
+use Rattle.cert_judge.specs.declared.stream.BadCert.{BadCert}
+use Rattle.cert_judge.specs.declared.stream.StreamKind.{StreamKind}
+use Rattle.cert_judge.specs.declared.stream.StreamKind.TheVariants.{Drup}
 use Rattle.judge.specs.Finding.{FindingOf}
 use Rattle.judge.specs.Judging.{Ends as JudgeEnds, Feeds as JudgeFeeds, Finds, JudgeOf, Took, fate_told, state_behind}
 use Rattle.judge.specs.Problem.{AskedOf, IsJobFile}
@@ -24,7 +24,7 @@ use Rattle.lane_judge.specs.Fates.{Ends, GoesOn, IsSoFar, IsWhole, SolverGoesOn,
 use Rattle.lane_judge.specs.Watching.{EndedSo, FedSo, told_as}
 use Rattle.lane_judge.specs.declared.evidence.Evidence.{Evidence}
 use Rattle.lane_judge.specs.declared.evidence.Evidence.TheVariants.{Output, ProofFile}
-use Rattle.output_judge.proofs.Deciding.{output_within}
+use Rattle.cert_judge.proofs.OutputDeciding.{output_within}
 
 -- an answer tells its fate
 tells : (p : AskedOf) (job : JobName) (r : Result Progress BadCert) → Finds p job r → Tells p.problem job (judged_as r) (fate_told r)

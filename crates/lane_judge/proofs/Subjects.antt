@@ -10,7 +10,7 @@ use Rattle.lane_child.specs.Judging.{Says}
 use Rattle.race_core.specs.declared.event.Judged.{Judged}
 use Rattle.race_core.specs.declared.event.Judged.TheVariants as judged
 use Rattle.sby_terms.specs.declared.names.JobName.{JobName}
-use Rattle.stream_judge.specs.declared.stream.StreamKind.{StreamKind}
+use Rattle.cert_judge.specs.declared.stream.StreamKind.{StreamKind}
 use Rattle.std.specs.Prelude.{None, Some}
 use Rattle.lane_judge.specs.Fates.{Ends, GoesOn, ProvesAs, SolverGoesOn, Stands, stays_law}
 use Rattle.lane_judge.specs.Watching.{Awaits, EndedSo, FedSo, IsReading, Watches}

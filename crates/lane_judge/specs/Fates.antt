@@ -5,15 +5,15 @@ use Rattle.sby_terms.specs.Problem.{ProblemOf}
 use Rattle.sby_terms.specs.declared.names.JobName.{JobName}
 use Rattle.race_core.specs.declared.event.Judged.{Judged}
 use Rattle.race_core.specs.declared.event.Judged.TheVariants as judged
-use Rattle.stream_judge.specs.Fate.{Fate, Found, Unknown, Bad}
-use Rattle.stream_judge.specs.Numbers.{number_of}
-use Rattle.stream_judge.specs.declared.stream.BadCert.{BadCert}
-use Rattle.stream_judge.specs.declared.stream.CertKind.{CertKind}
-use Rattle.stream_judge.specs.declared.stream.StreamKind.{StreamKind}
-use Rattle.kind_judge.proofs.Fates.{stays}
-use Rattle.kind_judge.specs.Fates.{IsFate, IsFateSoFar}
-use Rattle.output_judge.proofs.Fates.{output_at_end, output_stays}
-use Rattle.output_judge.specs.Fate.{IsOutputFate, IsOutputFateSoFar}
+use Rattle.cert_judge.specs.Fate.{Fate, Found, Unknown, Bad}
+use Rattle.cert_judge.specs.Numbers.{number_of}
+use Rattle.cert_judge.specs.declared.stream.BadCert.{BadCert}
+use Rattle.cert_judge.specs.declared.stream.CertKind.{CertKind}
+use Rattle.cert_judge.specs.declared.stream.StreamKind.{StreamKind}
+use Rattle.cert_judge.proofs.KindFates.{stays}
+use Rattle.cert_judge.specs.Kinds.{IsFate, IsFateSoFar}
+use Rattle.cert_judge.proofs.OutputFates.{output_at_end, output_stays}
+use Rattle.cert_judge.specs.OutputFate.{IsOutputFate, IsOutputFateSoFar}
 use Rattle.judge.specs.Finding.{FindingOf}
 use Rattle.judge.specs.Judging.{JudgeOf, Took}
 use Rattle.judge.specs.Problem.{AskedOf, IsJob, IsJobFile}

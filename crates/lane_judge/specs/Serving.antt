@@ -8,7 +8,7 @@ use Rattle.sby_edge.specs.Scripts.{is_job}
 use Rattle.sby_terms.specs.declared.engine.Engine.{Engine}
 use Rattle.sby_terms.specs.declared.engine.Engine.TheVariants as engine
 use Rattle.sby_terms.specs.declared.names.JobName.{JobName}
-use Rattle.stream_judge.specs.declared.stream.StreamKind.TheVariants.{Drup, Lrat, Proof, ProofBinary}
+use Rattle.cert_judge.specs.declared.stream.StreamKind.TheVariants.{Drup, Lrat, Proof, ProofBinary}
 use Rattle.lane_judge.specs.declared.evidence.Evidence.{Evidence}
 use Rattle.lane_judge.specs.declared.evidence.Evidence.TheVariants.{Output, ProofFile}
 

@@ -1,6 +1,6 @@
 // Where the certificate of a child comes from.
 
-use stream_judge::StreamKind;
+use cert_judge::StreamKind;
 
 /// Where the certificate of a child comes from.
 #[derive(Clone, Copy, Debug, PartialEq, Eq)]

@@ -13,11 +13,11 @@ use crate::evidence::Evidence;
 use crate::output::{Output, Told};
 use crate::subject::{JobJudge, Watch};
 use crate::words::{proof_path, words_of};
+use cert_judge::StreamKind;
 use judge::{Finding, Judge, Problem, SolverJudge, one_file};
 use lane_child::{Asks, Child, Makes};
 use sby_terms::{Engine, JobName, MAX_STREAM, job_path};
 use std::alloc::{AllocError, Global};
-use stream_judge::StreamKind;
 
 /// The lanes of a problem, one for each engine line: every engine but `btor` serves every job. The jobs' files lie in the work folder,
 /// below `model`, and so do the proof files that children leave.

@@ -8,16 +8,16 @@ ghost use Rattle.lane_judge.specs.Watching.{Awaits, EndedSo, FedSo, IsReading, W
 ghost use Rattle.lane_judge.specs.declared.evidence.Evidence.TheVariants as evidence;
 ghost use Rattle.race_core.specs.declared.event.Judged.TheVariants as judged;
 ghost use Rattle.sby_terms.specs.declared.names.JobName.{JobName};
-ghost use Rattle.stream_judge.specs.declared.stream.StreamKind.{StreamKind};
+ghost use Rattle.cert_judge.specs.declared.stream.StreamKind.{StreamKind};
 
 use crate::evidence::Evidence;
 use crate::output::{Output, Told};
+use cert_judge::{BadCert, StreamKind};
 use judge::{Finding, Judge, Problem, Progress, SolverJudge};
 use lane_child::Subject;
 use race_core::Judged;
 use sby_terms::{JobName, MAX_STREAM};
 use std::alloc::{AllocError, Global};
-use stream_judge::{BadCert, StreamKind};
 
 // Who judges the output itself.
 #[derive(Drop)]

@@ -2,13 +2,13 @@
 use Rattle.std.proofs.Common.{◌≡◌, ℕ, List, length, Option, None, Result, Ok, Err, refl, sym, subst, ◌∙◌}
 use Rattle.std.specs.Prelude.{◌≤◌, IfOk}
 use Rattle.std.specs.declared.alloc.AllocError.{AllocError}
-use Rattle.kind_judge.proofs.Fates.{within_most}
-use Rattle.kind_judge.specs.Fates.{IsFateSoFar}
+use Rattle.cert_judge.proofs.KindFates.{within_most}
+use Rattle.cert_judge.specs.Kinds.{IsFateSoFar}
 use Rattle.lane_child.specs.Judging.{Says}
 use Rattle.race_core.specs.declared.event.Judged.TheVariants as judged
 use Rattle.sby_terms.specs.declared.names.JobName.{JobName}
-use Rattle.stream_judge.specs.Fate.{Fate}
-use Rattle.stream_judge.specs.declared.stream.BadCert.{BadCert}
+use Rattle.cert_judge.specs.Fate.{Fate}
+use Rattle.cert_judge.specs.declared.stream.BadCert.{BadCert}
 use Rattle.judge.specs.Judging.{Ends, Feeds, Finds, JudgeOf, fate_told, state_behind}
 use Rattle.judge.specs.Problem.{AskedOf, IsJobFile}
 use Rattle.judge.specs.declared.judging.Progress.{Progress}

@@ -14,6 +14,7 @@ ghost use Rattle.sby_terms.specs.declared.names.JobName.{JobName};
 use super::tests::{
     Course, Ended, FREE, Kind, Seen, TURNS, engines_of, problem_of, race_over, script_of,
 };
+use cert_judge::{BadCert, StreamKind};
 use judge::{Finding, Judge, Problem, Progress, State};
 use lane_child::{Asks, Child, Makes, Subject};
 use lane_judge::{Output, ProblemLanes, Told};
@@ -26,7 +27,6 @@ use std::sync::Wait;
 use std::test::Fail;
 use std::thread::Threads;
 use std::time::Clock as SystemClock;
-use stream_judge::{BadCert, StreamKind};
 
 // No bytes.
 #[derive(Drop)]

@@ -6,8 +6,8 @@ use Rattle.cnf_form.specs.Cnf.{LitOf}
 use Rattle.cnf_form.specs.Coding.{lit_from}
 use Rattle.cert_stream.specs.Stream.{bad}
 use Rattle.cert_stream.specs.Telling.{Saying, IsFault}
-use Rattle.cert_stream.specs.declared.mode.WireFault.{WireFault}
-use Rattle.cert_stream.specs.declared.mode.WireFaultKind.TheVariants.{BadLine, BadLiteral}
+use Rattle.cert_stream.specs.declared.mode.ParseFault.{ParseFault}
+use Rattle.cert_stream.specs.declared.mode.ParseFaultKind.TheVariants.{BadLine, BadLiteral}
 use Rattle.proof_stream.specs.Numbers.{NumberOf, GroupsRead, Goes, Whole, Unfit, group_next, groups_read, if_room, is_literal, may_go_on, number, numbers_from, with_group}
 use Rattle.proof_stream.specs.Binary.{BinaryOf, BinaryTurn, binary_fresh, binary_told, binary_turn, counted, groups, line_said, literal_read}
 use Rattle.proof_stream.specs.File.{FileOf, InBinary, spoken}
@@ -85,7 +85,7 @@ module _ (vars total : ℕ) (ended : Bool) where
   abbrev room : List LitOf → Bool
   room lits = leb vars (length lits)
 
-  bad_spoken : (f : WireFault) (at place : ℕ) (lits : List LitOf) (bytes : List ℕ) → spoken ended (binary at place (Bad f) lits) bytes ≡ IsFault f ∷ []
+  bad_spoken : (f : ParseFault) (at place : ℕ) (lits : List LitOf) (bytes : List ℕ) → spoken ended (binary at place (Bad f) lits) bytes ≡ IsFault f ∷ []
   bad_spoken f at place lits [] = elim (cases_Bool ended) [ inl t ↦ rw t refl | inr n ↦ rw n refl ]
   bad_spoken f at place lits (b ∷ bs) = spoken_step ended (binary at place (Bad f) lits) b bs ∙ bad_spoken f (at + 1) place lits bs
 
@@ -190,7 +190,7 @@ module _ (vars total : ℕ) (ended : Bool) where
       outside_other : eqb b 97 ≡ false → eqb b 100 ≡ false → Outside b
       outside_other f g =
           let m = next_number at [] b bs b [] refl in
-          let f0 : WireFault = record { kind = BadLine; byte = at } in
+          let f0 : ParseFault = record { kind = BadLine; byte = at } in
           let t : binary_turn head b ≡ record { to = record { vars = vars; taken = at + 1; place = place; spot = Bad f0; lits = lits }; event = None } = rw (f, g) refl in
           spoken_step ended (InBinary head) b bs
           ∙ ap (λ (x : BinaryTurn). binary_told x.to x.event ++ spoken ended (InBinary x.to) bs) t

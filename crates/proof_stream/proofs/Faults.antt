@@ -2,10 +2,10 @@
 use Rattle.std.proofs.Common.{◌≡◌, ℕ, ◌&&◌, List, [], ◌∷◌, Some, None, refl, ap, inl, inr}
 use Rattle.std.specs.Prelude.{Option}
 use Rattle.std.proofs.lemmas.Bool.{cases_Bool}
-use Rattle.cert_stream.specs.Machine.{WireOf, fault_of, turn}
+use Rattle.cert_stream.specs.Machine.{DrupOf, fault_of, turn}
 use Rattle.cert_stream.specs.declared.mode.Mode.{Mode}
 use Rattle.cert_stream.specs.declared.mode.Mode.TheVariants.{Start, Skip, Head, StatusHead, StatusGap, Spelled, Whole, InList, Closed, Bad, Lost}
-use Rattle.cert_stream.specs.declared.mode.WireFault.{WireFault}
+use Rattle.cert_stream.specs.declared.mode.ParseFault.{ParseFault}
 use Rattle.cert_stream.proofs.Faults.{bad_next}
 use Rattle.proof_stream.specs.Text.{fault_or, is_claim, text_fault, text_next}
 use Rattle.proof_stream.specs.Binary.{BinaryOf, binary_turn, spot_fault}
@@ -14,7 +14,7 @@ use Rattle.proof_stream.specs.declared.spot.Spot.{Spot}
 use Rattle.proof_stream.specs.declared.spot.Spot.TheVariants.{Between, Gap, InNumber, Bad as BadSpot}
 use Rattle.proof_stream.proofs.Passing.{text}
 
-module _ (f : WireFault) where
+module _ (f : ParseFault) where
   pub mode_bad : (m : Mode) → fault_of m ≡ Some f → m ≡ Bad f
   mode_bad (Start a) e = absurd (let k = e in cc)
   mode_bad (Skip a) e = absurd (let k = e in cc)
@@ -35,19 +35,19 @@ module _ (f : WireFault) where
   spot_bad (BadSpot g) e = let k : g ≡ f = cc in ap BadSpot k
 
   -- a fault of the stream, with whatever was refused behind it
-  wire_first : (m : Mode) (o : Option WireFault) → m ≡ Bad f → fault_or (fault_of m) o ≡ Some f
-  wire_first m o e = rw e refl
+  parser_first : (m : Mode) (o : Option ParseFault) → m ≡ Bad f → fault_or (fault_of m) o ≡ Some f
+  parser_first m o e = rw e refl
 
-  text_stays : (w : WireOf) (s : _) (r : Option WireFault) (b : ℕ) → text_fault (text w s r) ≡ Some f → text_fault (text_next (text w s r) b) ≡ Some f
+  text_stays : (w : DrupOf) (s : _) (r : Option ParseFault) (b : ℕ) → text_fault (text w s r) ≡ Some f → text_fault (text_next (text w s r) b) ≡ Some f
   text_stays w s (Some g) b e = e
   text_stays w s None b e =
       let m : w.mode ≡ Bad f = mode_bad w.mode (or_none (fault_of w.mode) e) in
       elim (cases_Bool (s && is_claim b)) [
-        | inl t ↦ rw t (wire_first w.mode (Some _) m)
-        | inr n ↦ rw n (wire_first (turn w b).to.mode None (bad_next f w b m))
+        | inl t ↦ rw t (parser_first w.mode (Some _) m)
+        | inr n ↦ rw n (parser_first (turn w b).to.mode None (bad_next f w b m))
       ]
     where
-      or_none : (o : Option WireFault) → fault_or o None ≡ Some f → o ≡ Some f
+      or_none : (o : Option ParseFault) → fault_or o None ≡ Some f → o ≡ Some f
       or_none None e = e
       or_none (Some g) e = e
 
@@ -55,12 +55,12 @@ module _ (f : WireFault) where
   binary_stays w b e = let k : w.spot ≡ BadSpot f = spot_bad w.spot e in rw k refl
 
   pub next_stays : (r : FileOf) (b : ℕ) → fault r ≡ Some f → fault (next r b) ≡ Some f
-  next_stays (InText t) b e = text_stays t.wire t.starts t.refused b e
+  next_stays (InText t) b e = text_stays t.parser t.starts t.refused b e
   next_stays (InBinary w) b e = binary_stays w b e
 
   stays : (r : FileOf) (bytes : List ℕ) → fault r ≡ Some f → fault (after r bytes) ≡ Some f
   stays r [] e = e
   stays r (b ∷ bs) e = stays (next r b) bs (next_stays r b e)
 
-pub fault_stays : (r : FileOf) (bytes : List ℕ) (f : WireFault) → fault r ≡ Some f → fault (after r bytes) ≡ Some f
+pub fault_stays : (r : FileOf) (bytes : List ℕ) (f : ParseFault) → fault r ≡ Some f → fault (after r bytes) ≡ Some f
 fault_stays r bytes f e = stays f r bytes e

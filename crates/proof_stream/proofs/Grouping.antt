@@ -2,7 +2,7 @@
 use Rattle.std.proofs.Common.{◌≡◌, ◌⊎◌, ℕ, ◌+◌, ◌*◌, ◌≤◌, Bool, true, false, ◌&&◌, ◌||◌, leb, List, [], ◌∷◌, ◌++◌, length, refl, ap, sym, ◌∙◌, inl, inr, arith, append_assoc, subst, length-append}
 use Rattle.std.proofs.lemmas.Bool.{le-leb, leb-true}
 use Rattle.std.proofs.lemmas.List.{append-nil}
-use Rattle.cert_stream.specs.declared.mode.WireFaultKind.TheVariants.{LineTooLong}
+use Rattle.cert_stream.specs.declared.mode.ParseFaultKind.TheVariants.{LineTooLong}
 use Rattle.cert_stream.proofs.Digits.{both_true}
 use Rattle.proof_stream.specs.Numbers.{Goes, Whole, Unfit, groups_read, is_literal, may_go_on, seven, with_group}
 use Rattle.proof_stream.specs.Spelling.{AreGroups, groups_value}

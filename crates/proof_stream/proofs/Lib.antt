@@ -11,3 +11,4 @@ pub mod Binaries
 pub mod Files
 pub mod Spelling
 pub mod Grouping
+pub mod Alone

@@ -6,7 +6,7 @@ use Rattle.proof_stream.specs.Binary.{BinaryOf, BinaryTurn, binary_told, binary_
 use Rattle.proof_stream.specs.File.{FileOf, InBinary, after, said}
 use Rattle.proof_stream.specs.declared.spot.LineKind.{LineKind}
 
--- what is still to come of the piece, from the wire w and the receiver x on, makes the whole of it
+-- what is still to come of the piece, from the parser w and the receiver x on, makes the whole of it
 pub record Left {A : Type 0} (gets : A → Saying → A → Type 0) (stops : A → Bool) (start : BinaryOf) (first : A) (piece : List ℕ) (w : BinaryOf) (x : A) (i : ℕ) : Type 0 where
   pub told : (y : A) (stopped : Bool) → Gets gets stops x (said (InBinary w) (drop i piece)) y stopped → Gets gets stops first (said (InBinary start) piece) y stopped
   pub kept : after (InBinary w) (drop i piece) ≡ after (InBinary start) piece

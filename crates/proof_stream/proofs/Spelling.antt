@@ -12,7 +12,7 @@ use Rattle.cert_stream.specs.declared.mode.Part.TheVariants.{Gap, Digits}
 use Rattle.cert_stream.specs.Places.{IsList}
 use Rattle.cert_stream.specs.Stream.{bad, heard_says, line_says, lines_say}
 use Rattle.cert_stream.specs.Telling.{Saying}
-use Rattle.cert_stream.specs.declared.mode.WireFaultKind.TheVariants.{BadLine}
+use Rattle.cert_stream.specs.declared.mode.ParseFaultKind.TheVariants.{BadLine}
 use Rattle.cert_stream.proofs.Apart.{fed_lines, list_line, literal_read}
 use Rattle.cert_stream.proofs.Streams.{fed_says, some_line}
 use Rattle.cert_stream.proofs.Wording.{has_word, words_blank, words_visible}

@@ -3,9 +3,9 @@ use Rattle.std.specs.Prelude.{◌≤◌, ℕ, ◌+◌, ◌*◌, cond, eqb, leb, 
 use Rattle.cnf_form.specs.Cnf.{LitOf}
 use Rattle.cnf_form.specs.Coding.{lit_from}
 use Rattle.cert_stream.specs.Telling.{Saying, IsClause, IsDelete}
-use Rattle.cert_stream.specs.declared.mode.WireFault.{WireFault}
-use Rattle.cert_stream.specs.declared.mode.WireFaultKind.{WireFaultKind}
-use Rattle.cert_stream.specs.declared.mode.WireFaultKind.TheVariants.{BadLine}
+use Rattle.cert_stream.specs.declared.mode.ParseFault.{ParseFault}
+use Rattle.cert_stream.specs.declared.mode.ParseFaultKind.{ParseFaultKind}
+use Rattle.cert_stream.specs.declared.mode.ParseFaultKind.TheVariants.{BadLine}
 use Rattle.proof_stream.specs.Numbers.{GroupsRead, Goes, Whole, Unfit, group_next}
 use Rattle.proof_stream.specs.declared.spot.LineKind.{LineKind}
 use Rattle.proof_stream.specs.declared.spot.LineKind.TheVariants.{Clause, Deletion}
@@ -33,7 +33,7 @@ abbrev pub quietly : BinaryOf → Spot → BinaryTurn
 quietly w s = record { to = record w { spot = s }; event = None }
 
 -- no proof goes on: a line's kind, or a literal that begins at `byte`
-abbrev pub breaks : BinaryOf → WireFaultKind → ℕ → BinaryTurn
+abbrev pub breaks : BinaryOf → ParseFaultKind → ℕ → BinaryTurn
 breaks w kind byte = quietly w (Bad (record { kind = kind; byte = byte }))
 
 -- the first byte of a line
@@ -81,14 +81,14 @@ abbrev pub binary_told : BinaryOf → Option LineKind → List Saying
 binary_told w None = []
 binary_told w (Some kind) = line_said kind w.place w.lits ∷ []
 
-abbrev pub spot_fault : Spot → Option WireFault
+abbrev pub spot_fault : Spot → Option ParseFault
 spot_fault Between = None
 spot_fault (Gap kind) = None
 spot_fault (InNumber kind g) = None
 spot_fault (Bad f) = Some f
 
 -- where the file ends within a line, its fault is behind the last byte
-abbrev pub spot_end : ℕ → Spot → Option WireFault
+abbrev pub spot_end : ℕ → Spot → Option ParseFault
 spot_end taken Between = None
 spot_end taken (Gap kind) = Some (record { kind = BadLine; byte = taken })
 spot_end taken (InNumber kind g) = Some (record { kind = BadLine; byte = taken })

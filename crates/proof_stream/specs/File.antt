@@ -1,7 +1,7 @@
 -- What the bytes of a proof file say, and what is kept of them.
 use Rattle.std.specs.Prelude.{◌≡◌, ℕ, Bool, cond, List, [], ◌∷◌, ◌++◌, Option}
 use Rattle.cert_stream.specs.Telling.{Saying, fault_said}
-use Rattle.cert_stream.specs.declared.mode.WireFault.{WireFault}
+use Rattle.cert_stream.specs.declared.mode.ParseFault.{ParseFault}
 use Rattle.proof_stream.specs.Text.{TextOf, text_fault, text_fresh, text_next, text_says}
 use Rattle.proof_stream.specs.Binary.{BinaryOf, binary_fresh, binary_told, binary_turn, spot_end, spot_fault}
 use Rattle.proof_stream.specs.declared.spot.Form.{Form}
@@ -37,16 +37,16 @@ said r [] = []
 said r (b ∷ bs) = says r b ++ said (next r b) bs
 
 abbrev pub vars_of : FileOf → ℕ
-vars_of (InText t) = t.wire.vars
+vars_of (InText t) = t.parser.vars
 vars_of (InBinary w) = w.vars
 
 -- how many bytes were taken, where there is no fault
 abbrev pub taken_of : FileOf → ℕ
-taken_of (InText t) = t.wire.taken
+taken_of (InText t) = t.parser.taken
 taken_of (InBinary w) = w.taken
 
 -- where no file goes on
-abbrev pub fault : FileOf → Option WireFault
+abbrev pub fault : FileOf → Option ParseFault
 fault (InText t) = text_fault t
 fault (InBinary w) = spot_fault w.spot
 
@@ -56,7 +56,7 @@ abbrev pub end_says : FileOf → List Saying
 end_says (InText t) = said (InText t) (10 ∷ [])
 end_says (InBinary w) = []
 
-abbrev pub end_fault : FileOf → Option WireFault
+abbrev pub end_fault : FileOf → Option ParseFault
 end_fault (InText t) = fault (after (InText t) (10 ∷ []))
 end_fault (InBinary w) = spot_end w.taken w.spot
 

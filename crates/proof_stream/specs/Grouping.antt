@@ -1,6 +1,6 @@
 -- The groups of a literal.
 use Rattle.std.specs.Prelude.{◌≡◌, ◌⊎◌, ℕ, ◌+◌, ◌*◌, ◌≤◌, Bool, true, false, List, [], ◌∷◌, ◌++◌}
-use Rattle.cert_stream.specs.declared.mode.WireFaultKind.TheVariants.{BadLine, BadLiteral, LineTooLong}
+use Rattle.cert_stream.specs.declared.mode.ParseFaultKind.TheVariants.{BadLine, BadLiteral, LineTooLong}
 use Rattle.proof_stream.specs.Numbers.{GroupsRead, Goes, Whole, Unfit}
 use Rattle.proof_stream.specs.Spelling.{IsNumber}
 

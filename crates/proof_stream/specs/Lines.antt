@@ -6,7 +6,7 @@ use Rattle.cert_stream.specs.Text.{AreBlank}
 use Rattle.cert_stream.specs.Places.{AreLines}
 use Rattle.cert_stream.specs.Stream.{bad, sayings}
 use Rattle.cert_stream.specs.Telling.{Saying, IsClause, IsDelete, IsValue, IsValuesEnd, IsUnknown, IsFault}
-use Rattle.cert_stream.specs.declared.mode.WireFaultKind.TheVariants.{BadLine}
+use Rattle.cert_stream.specs.declared.mode.ParseFaultKind.TheVariants.{BadLine}
 use Rattle.proof_stream.specs.Text.{is_claim}
 use Rattle.proof_stream.specs.Numbers.{NumberOf, Goes, Whole, Unfit, groups_read, numbers_from}
 use Rattle.proof_stream.specs.Binary.{line_said}
@@ -68,3 +68,13 @@ numbers_say vars unended (Some l) (n ∷ ns) =
 abbrev pub FileSays : Form → ℕ → Bool → List ℕ → List Saying → Type 0
 FileSays TextForm vars ended bytes ss = TextSays vars (cond ended (bytes ++ 10 ∷ []) bytes) ss
 FileSays BinaryForm vars ended bytes ss = ss ≡ numbers_say vars (cond ended (bad BadLine (length bytes)) []) None (numbers_from 0 [] bytes)
+
+-- clauses, deletions and faults alone
+abbrev pub AreProofLines : List Saying → Type 0
+AreProofLines [] = Unit {0}
+AreProofLines (IsClause lits place ∷ ss) = AreProofLines ss
+AreProofLines (IsDelete lits ∷ ss) = AreProofLines ss
+AreProofLines (IsValue l ∷ ss) = ⊥
+AreProofLines (IsValuesEnd ∷ ss) = ⊥
+AreProofLines (IsUnknown ∷ ss) = ⊥
+AreProofLines (IsFault f ∷ ss) = AreProofLines ss

@@ -1,7 +1,7 @@
 -- Numbers of a binary proof: groups of seven bits, the low group first; the top bit of a byte says that a group follows.
 use Rattle.std.specs.Prelude.{ℕ, ◌+◌, ◌-◌, ◌*◌, Bool, true, false, cond, ◌&&◌, ◌||◌, leb, List, [], ◌∷◌, ◌++◌, length}
-use Rattle.cert_stream.specs.declared.mode.WireFaultKind.{WireFaultKind}
-use Rattle.cert_stream.specs.declared.mode.WireFaultKind.TheVariants.{BadLiteral, LineTooLong}
+use Rattle.cert_stream.specs.declared.mode.ParseFaultKind.{ParseFaultKind}
+use Rattle.cert_stream.specs.declared.mode.ParseFaultKind.TheVariants.{BadLiteral, LineTooLong}
 
 -- a number's bytes, the place of the first of them in the file, and whether its last group is there
 pub record NumberOf : Type 0 where
@@ -38,7 +38,7 @@ may_go_on vars n weight = leb weight 268435456 && (is_literal vars n || (leb n 1
 pub data GroupsRead : Type 0 where
   Goes : ℕ → ℕ → GroupsRead
   Whole : ℕ → GroupsRead
-  Unfit : WireFaultKind → GroupsRead
+  Unfit : ParseFaultKind → GroupsRead
 
 -- in a full line no literal may begin
 abbrev pub if_room : Bool → GroupsRead → GroupsRead

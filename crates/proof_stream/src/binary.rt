@@ -10,7 +10,7 @@ ghost use Rattle.proof_stream.specs.Binary.{BinaryOf, BinaryTurn, IsSpotWithin, 
 ghost use Rattle.proof_stream.specs.File.{FileOf, InBinary, after, fault, said};
 
 use crate::spot::{Groups, LineKind, Spot};
-use cert_stream::{Fed, Receiver, WireFault, WireFaultKind};
+use cert_stream::{Fed, ParseFault, ParseFaultKind, Receiver};
 use cnf_form::Lit;
 use std::alloc::{AllocError, Global};
 use std::marker::Model;
@@ -20,7 +20,7 @@ const LAST_WEIGHT: u64 = 1 << 28;
 
 /// Reads a binary proof.
 #[derive(Drop)]
-pub(crate) struct BinaryWire {
+pub(crate) struct BinaryParser {
     vars: u32,
     taken: u64,
     place: u64,
@@ -28,7 +28,7 @@ pub(crate) struct BinaryWire {
     lits: Vec<Lit>,
 }
 
-impl Model for BinaryWire {
+impl Model for BinaryParser {
     ghost use Rattle.std.specs.Prelude.{◌≤◌};
     ghost use Rattle.cnf_form.specs.Cnf.{ClauseWithin};
     ghost use Rattle.cnf_form.specs.declared.literal.TheConstants.{MAX_VARS};
@@ -96,12 +96,12 @@ fn with_group(value: u64, weight: u64, b: u8) -> u64
     value + seven(b) * weight
 }
 
-impl BinaryWire {
+impl BinaryParser {
     pub(crate) fn new(alloc: Global, vars: u32) -> Self
         requires { vars ≤ MAX_VARS }
         ensures { result ≡ binary_fresh vars }
     {
-        BinaryWire {
+        BinaryParser {
             vars,
             taken: 0,
             place: 0,
@@ -110,10 +110,10 @@ impl BinaryWire {
         }
     }
 
-    fn fail(&mut self, kind: WireFaultKind, byte: u64)
+    fn fail(&mut self, kind: ParseFaultKind, byte: u64)
         ensures { self.new ≡ (breaks self.old kind byte).to }
     {
-        self.spot = Spot::Bad(WireFault { kind, byte });
+        self.spot = Spot::Bad(ParseFault { kind, byte });
     }
 
     fn open(&mut self, kind: LineKind)
@@ -130,7 +130,7 @@ impl BinaryWire {
         match b {
             b'a' => self.open(LineKind::Clause),
             b'd' => self.open(LineKind::Deletion),
-            _ => self.fail(WireFaultKind::BadLine, self.taken),
+            _ => self.fail(ParseFaultKind::BadLine, self.taken),
         }
     }
 
@@ -162,9 +162,9 @@ impl BinaryWire {
         let weight = 128 * groups.weight;
         let goes_on = b >= 128;
         if !fits(vars, value, weight, goes_on) {
-            self.fail(WireFaultKind::BadLiteral, place);
+            self.fail(ParseFaultKind::BadLiteral, place);
         } else if self.lits.len() >= vars as usize {
-            self.fail(WireFaultKind::LineTooLong, place);
+            self.fail(ParseFaultKind::LineTooLong, place);
         } else if goes_on {
             self.go_on(
                 kind,
@@ -220,7 +220,7 @@ impl BinaryWire {
         Ok(event)
     }
 
-    pub(crate) fn fault(&self) -> Option<WireFault>
+    pub(crate) fn fault(&self) -> Option<ParseFault>
         ensures { result ≡ spot_fault self.now.spot }
     {
         match self.spot {
@@ -274,7 +274,7 @@ impl BinaryWire {
         &mut self,
         piece: &[u8],
         receiver: &mut R,
-    ) -> Result<Result<Fed, WireFault>, AllocError>
+    ) -> Result<Result<Fed, ParseFault>, AllocError>
         requires vars { R.vars receiver.old ≡ self.old.vars }
         requires count { self.old.taken + length piece.now < 2 ^ 64 }
         ensures told { IfOk result (λ fed. Gets R.gets R.stops receiver.old (said (InBinary self.old) piece.now) receiver.new (is_stopped fed)) }
@@ -293,13 +293,13 @@ impl BinaryWire {
     }
 
     /// The fault at the file's end.
-    pub(crate) fn end_fault(&self) -> Option<WireFault>
+    pub(crate) fn end_fault(&self) -> Option<ParseFault>
         ensures { result ≡ spot_end self.now.taken self.now.spot }
     {
         match self.spot {
             Spot::Between => None,
-            Spot::Gap(_) | Spot::InNumber(..) => Some(WireFault {
-                kind: WireFaultKind::BadLine,
+            Spot::Gap(_) | Spot::InNumber(..) => Some(ParseFault {
+                kind: ParseFaultKind::BadLine,
                 byte: self.taken,
             }),
             Spot::Bad(fault) => Some(fault),

@@ -6,26 +6,26 @@ ghost use Rattle.cert_stream.specs.Telling.{Gets, answer, is_stopped};
 ghost use Rattle.proof_stream.specs.File.{FileOf, after, end_fault, end_says, fault, fresh, said, taken_of, vars_of};
 ghost use Rattle.proof_stream.specs.Reading.{file_of};
 
-use crate::binary::BinaryWire;
+use crate::binary::BinaryParser;
 use crate::spot::Form;
-use crate::text::TextWire;
-use cert_stream::{Fed, Receiver, WireFault};
+use crate::text::TextParser;
+use cert_stream::{Fed, ParseFault, Receiver};
 use std::alloc::{AllocError, Global};
 use std::marker::Model;
 
 #[derive(Drop)]
 pub(crate) enum Reading {
-    Text(TextWire),
-    Binary(BinaryWire),
+    Text(TextParser),
+    Binary(BinaryParser),
 }
 
 /// Reads a proof file, and keeps nothing of earlier lines, and of its line no more than its literals so far.
 #[derive(Drop)]
-pub struct ProofWire {
+pub struct ProofParser {
     reading: Reading,
 }
 
-impl Model for ProofWire {
+impl Model for ProofParser {
     ghost use Rattle.proof_stream.specs.File.{FileOf};
     ghost use Rattle.proof_stream.specs.Reading.{file_of};
 
@@ -36,16 +36,16 @@ impl Model for ProofWire {
     ghost invariant = { λ a. Unit {0} };
 }
 
-impl ProofWire {
+impl ProofParser {
     /// Before the first byte of a file over the variables from 1 to `vars`, at most `MAX_VARS`.
     pub fn new(alloc: Global, vars: u32, form: Form) -> Self
         requires { vars ≤ MAX_VARS }
         ensures { result ≡ fresh form vars }
     {
-        ProofWire {
+        ProofParser {
             reading: match form {
-                Form::Text => Reading::Text(TextWire::new(alloc, vars)),
-                Form::Binary => Reading::Binary(BinaryWire::new(alloc, vars)),
+                Form::Text => Reading::Text(TextParser::new(alloc, vars)),
+                Form::Binary => Reading::Binary(BinaryParser::new(alloc, vars)),
             },
         }
     }
@@ -61,7 +61,7 @@ impl ProofWire {
     }
 
     /// Where no proof file goes on.
-    pub fn fault(&self) -> Option<WireFault>
+    pub fn fault(&self) -> Option<ParseFault>
         ensures { result ≡ fault self.now }
     {
         match &self.reading {
@@ -78,7 +78,7 @@ impl ProofWire {
         &mut self,
         piece: &[u8],
         receiver: &mut R,
-    ) -> Result<Result<Fed, WireFault>, AllocError>
+    ) -> Result<Result<Fed, ParseFault>, AllocError>
         requires vars { R.vars receiver.old ≡ vars_of self.old }
         requires count { taken_of self.old + length piece.now < 2 ^ 64 }
         ensures told { IfOk result (λ fed. Gets R.gets R.stops receiver.old (said self.old piece.now) receiver.new (is_stopped fed)) }
@@ -98,7 +98,7 @@ impl ProofWire {
     pub fn end<R: Receiver>(
         &mut self,
         receiver: &mut R,
-    ) -> Result<Result<Fed, WireFault>, AllocError>
+    ) -> Result<Result<Fed, ParseFault>, AllocError>
         requires vars { R.vars receiver.old ≡ vars_of self.old }
         requires count { taken_of self.old + 1 < 2 ^ 64 }
         ensures told { IfOk result (λ fed. Gets R.gets R.stops receiver.old (end_says self.old) receiver.new (is_stopped fed)) }

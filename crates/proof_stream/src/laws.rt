@@ -2,9 +2,9 @@
 
 ghost use Rattle.std.specs.Prelude.{◌≡◌, ℕ, Bool, List, ◌++◌, Option, Some};
 ghost use Rattle.cert_stream.specs.Telling.{Saying};
-ghost use Rattle.cert_stream.specs.declared.mode.WireFault.{WireFault};
+ghost use Rattle.cert_stream.specs.declared.mode.ParseFault.{ParseFault};
 ghost use Rattle.proof_stream.specs.File.{FileOf, StandsFor, after, fault, fresh, said, spoken};
-ghost use Rattle.proof_stream.specs.Lines.{FileSays};
+ghost use Rattle.proof_stream.specs.Lines.{AreProofLines, FileSays};
 ghost use Rattle.proof_stream.specs.Numbers.{groups_read};
 ghost use Rattle.proof_stream.specs.Grouping.{IsRead};
 ghost use Rattle.proof_stream.specs.Spelling.{AreSaid, ProofLine, Spelt};
@@ -26,7 +26,7 @@ pub fn pieces_say_the_same()
 /// A fault stays, whatever follows.
 #[tactic(auto, using(crate::proofs::Faults::fault_stays))]
 pub fn faults_stay()
-    ensures { (r : FileOf) (bytes : List ℕ) (f : WireFault) → fault r ≡ Some f → fault (after r bytes) ≡ Some f }
+    ensures { (r : FileOf) (bytes : List ℕ) (f : ParseFault) → fault r ≡ Some f → fault (after r bytes) ≡ Some f }
 {}
 
 /// What is said of a file's bytes, whether it ends with them or may go on, is what its lines say, and nothing else is.
@@ -34,6 +34,12 @@ pub fn faults_stay()
 pub fn files_say_lines()
     ensures says { (form : Form) (vars : ℕ) (ended : Bool) (bytes : List ℕ) → FileSays form vars ended bytes (spoken ended (fresh form vars) bytes) }
     ensures once { (form : Form) (vars : ℕ) (ended : Bool) (bytes : List ℕ) (ss : List Saying) → FileSays form vars ended bytes ss → ss ≡ spoken ended (fresh form vars) bytes }
+{}
+
+/// A proof file says clauses, deletions and faults alone: no values, and never that a solver doesn't know.
+#[tactic(auto, using(crate::proofs::Alone::file_lines))]
+pub fn files_say_proof_lines()
+    ensures { (form : Form) (vars : ℕ) (ended : Bool) (bytes : List ℕ) (ss : List Saying) → FileSays form vars ended bytes ss → AreProofLines ss }
 {}
 
 /// A binary proof and the text that spells it say the same lines, and nothing else, but for their places.

@@ -8,9 +8,9 @@ mod laws;
 mod spot;
 mod text;
 
-pub use file::ProofWire;
+pub use file::ProofParser;
 pub use laws::{
-    faults_stay, files_say_lines, groups_are_read, pieces_join, pieces_say_the_same,
-    spelt_files_say_the_same,
+    faults_stay, files_say_lines, files_say_proof_lines, groups_are_read, pieces_join,
+    pieces_say_the_same, spelt_files_say_the_same,
 };
 pub use spot::{Form, Groups, LineKind, Spot};

@@ -1,6 +1,6 @@
 // How the reading of a proof file stands.
 
-use cert_stream::WireFault;
+use cert_stream::ParseFault;
 
 /// What a proof file is written in.
 #[derive(Clone, Copy, Debug, PartialEq, Eq)]
@@ -35,5 +35,5 @@ pub enum Spot {
     Gap(LineKind),
     /// In a literal.
     InNumber(LineKind, Groups),
-    Bad(WireFault),
+    Bad(ParseFault),
 }

@@ -8,25 +8,25 @@ ghost use Rattle.proof_stream.specs.Text.{TextOf, is_claim, starts_behind, text_
 ghost use Rattle.proof_stream.specs.File.{FileOf, InText, after, fault, said};
 ghost use Rattle.proof_stream.specs.Passing.{Passes, starts_after};
 
-use cert_stream::{Fed, Receiver, Wire, WireFault, WireFaultKind};
+use cert_stream::{DrupParser, Fed, ParseFault, ParseFaultKind, Receiver};
 use std::alloc::{AllocError, Global};
 use std::marker::Model;
 
 /// Reads a proof file in text.
 #[derive(Drop)]
-pub(crate) struct TextWire {
-    wire: Wire,
+pub(crate) struct TextParser {
+    parser: DrupParser,
     // The line has no visible byte so far.
     starts: bool,
-    refused: Option<WireFault>,
+    refused: Option<ParseFault>,
 }
 
-impl Model for TextWire {
+impl Model for TextParser {
     ghost use Rattle.proof_stream.specs.Text.{TextOf};
 
     ghost Value = { TextOf };
 
-    ghost view = { λ a. record { wire = a.wire; starts = a.starts; refused = a.refused } };
+    ghost view = { λ a. record { parser = a.parser; starts = a.starts; refused = a.refused } };
 
     ghost invariant = { λ a. Unit {0} };
 }
@@ -50,7 +50,7 @@ fn claims(starts: bool, b: u8) -> bool
     starts && is_claim(b)
 }
 
-fn is_stopped(fed: Result<Fed, WireFault>) -> bool
+fn is_stopped(fed: Result<Fed, ParseFault>) -> bool
     ensures { result ≡ is_stopped fed }
 {
     match fed {
@@ -78,49 +78,49 @@ fn pass(starts: &mut bool, bytes: &[u8]) -> usize
     i
 }
 
-impl TextWire {
+impl TextParser {
     pub(crate) fn new(alloc: Global, vars: u32) -> Self
         requires { vars ≤ MAX_VARS }
         ensures { result ≡ text_fresh vars }
     {
-        TextWire {
-            wire: Wire::new(alloc, vars),
+        TextParser {
+            parser: DrupParser::new(alloc, vars),
             starts: true,
             refused: None,
         }
     }
 
-    pub(crate) fn fault(&self) -> Option<WireFault>
+    pub(crate) fn fault(&self) -> Option<ParseFault>
         ensures { result ≡ text_fault self.now }
     {
-        self.wire.fault().or(self.refused)
+        self.parser.fault().or(self.refused)
     }
 
     pub(crate) fn taken(&self) -> u64
-        ensures { result ≡ self.now.wire.taken }
+        ensures { result ≡ self.now.parser.taken }
     {
-        self.wire.taken()
+        self.parser.taken()
     }
 
     // Takes the part of a piece that a stream may have too, and answers whether the receiver stopped.
     fn take_open<R: Receiver>(&mut self, piece: &[u8], receiver: &mut R) -> Result<bool, AllocError>
         requires open { self.old.refused ≡ None }
-        requires vars { R.vars receiver.old ≡ self.old.wire.vars }
-        requires count { self.old.wire.taken + length piece.now < 2 ^ 64 }
+        requires vars { R.vars receiver.old ≡ self.old.parser.vars }
+        requires count { self.old.parser.taken + length piece.now < 2 ^ 64 }
         ensures told { IfOk result (λ stopped. Gets R.gets R.stops receiver.old (said (InText self.old) piece.now) receiver.new stopped) }
         ensures kept { IfOk result (λ stopped. stopped ≡ false → (let r : FileOf = InText self.new in r) ≡ after (InText self.old) piece.now) }
-        ensures vars { IfOk result (λ _. R.vars receiver.new ≡ self.new.wire.vars) }
-        ensures count { IfOk result (λ _. self.new.wire.taken ≤ self.old.wire.taken + length piece.now) }
+        ensures vars { IfOk result (λ _. R.vars receiver.new ≡ self.new.parser.vars) }
+        ensures count { IfOk result (λ _. self.new.parser.taken ≤ self.old.parser.taken + length piece.now) }
     {
         let count = pass(&mut self.starts, piece);
-        let fed = self.wire.feed(&piece[..count], receiver)?;
+        let fed = self.parser.feed(&piece[..count], receiver)?;
         if is_stopped(fed) {
             return Ok(true);
         }
         if count < piece.len() {
-            self.refused = Some(WireFault {
-                kind: WireFaultKind::BadLine,
-                byte: self.wire.taken(),
+            self.refused = Some(ParseFault {
+                kind: ParseFaultKind::BadLine,
+                byte: self.parser.taken(),
             });
         }
         Ok(false)
@@ -129,12 +129,12 @@ impl TextWire {
     // Takes a piece, of which nothing is read behind a refused line.
     #[tactic(auto, using(crate::proofs::Passing::refused_told, crate::proofs::Passing::refused_kept))]
     fn take<R: Receiver>(&mut self, piece: &[u8], receiver: &mut R) -> Result<bool, AllocError>
-        requires vars { R.vars receiver.old ≡ self.old.wire.vars }
-        requires count { self.old.wire.taken + length piece.now < 2 ^ 64 }
+        requires vars { R.vars receiver.old ≡ self.old.parser.vars }
+        requires count { self.old.parser.taken + length piece.now < 2 ^ 64 }
         ensures told { IfOk result (λ stopped. Gets R.gets R.stops receiver.old (said (InText self.old) piece.now) receiver.new stopped) }
         ensures kept { IfOk result (λ stopped. stopped ≡ false → (let r : FileOf = InText self.new in r) ≡ after (InText self.old) piece.now) }
-        ensures vars { IfOk result (λ _. R.vars receiver.new ≡ self.new.wire.vars) }
-        ensures count { IfOk result (λ _. self.new.wire.taken ≤ self.old.wire.taken + length piece.now) }
+        ensures vars { IfOk result (λ _. R.vars receiver.new ≡ self.new.parser.vars) }
+        ensures count { IfOk result (λ _. self.new.parser.taken ≤ self.old.parser.taken + length piece.now) }
     {
         if self.refused.is_some() {
             return Ok(false);
@@ -146,14 +146,14 @@ impl TextWire {
         &mut self,
         piece: &[u8],
         receiver: &mut R,
-    ) -> Result<Result<Fed, WireFault>, AllocError>
-        requires vars { R.vars receiver.old ≡ self.old.wire.vars }
-        requires count { self.old.wire.taken + length piece.now < 2 ^ 64 }
+    ) -> Result<Result<Fed, ParseFault>, AllocError>
+        requires vars { R.vars receiver.old ≡ self.old.parser.vars }
+        requires count { self.old.parser.taken + length piece.now < 2 ^ 64 }
         ensures told { IfOk result (λ fed. Gets R.gets R.stops receiver.old (said (InText self.old) piece.now) receiver.new (is_stopped fed)) }
         ensures kept { IfOk result (λ fed. is_stopped fed ≡ false → (let r : FileOf = InText self.new in r) ≡ after (InText self.old) piece.now) }
-        ensures vars { IfOk result (λ _. R.vars receiver.new ≡ self.new.wire.vars) }
+        ensures vars { IfOk result (λ _. R.vars receiver.new ≡ self.new.parser.vars) }
         ensures answer { IfOk result (λ fed. is_stopped fed ≡ false → fed ≡ answer (fault (after (InText self.old) piece.now))) }
-        ensures count { IfOk result (λ _. self.new.wire.taken ≤ self.old.wire.taken + length piece.now) }
+        ensures count { IfOk result (λ _. self.new.parser.taken ≤ self.old.parser.taken + length piece.now) }
     {
         if self.take(piece, receiver)? {
             return Ok(Ok(Fed::Stopped));

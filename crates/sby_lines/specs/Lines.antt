@@ -1,8 +1,8 @@
 -- The lines of a task.
 use Rattle.std.specs.Prelude.{◌≡◌, ℕ, ◌+◌, ◌==◌, if◌then◌else◌, List, [], ◌∷◌, ◌++◌, map, slice_get, string_bytes, Option, Some, None}
 use Rattle.judge.specs.Finding.{FindingOf}
-use Rattle.stream_judge.specs.declared.stream.CertKind.{CertKind}
-use Rattle.stream_judge.specs.Numbers.{kind_of}
+use Rattle.cert_judge.specs.declared.stream.CertKind.{CertKind}
+use Rattle.cert_judge.specs.Numbers.{kind_of}
 use Rattle.race_core.specs.Report.{ReportOf}
 use Rattle.race_core.specs.Told.{Decided}
 use Rattle.race_core.specs.declared.end.JobEnd.{JobEnd}

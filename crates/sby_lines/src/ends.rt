@@ -3,15 +3,15 @@
 ghost use Rattle.std.specs.Prelude.{◌≡◌, ◌≢◌, IfOk, OnErr, None, Some, option_map, string_bytes};
 ghost use Rattle.sby_lines.specs.Lines.{HasLine, IsStatus, bad_text, early_text, end_text};
 ghost use Rattle.sby_lines.specs.Told.{CameTo, Request};
-ghost use Rattle.stream_judge.specs.Numbers.{kind_of};
+ghost use Rattle.cert_judge.specs.Numbers.{kind_of};
 
 use crate::early::Early;
 use crate::text;
+use cert_judge::CertKind;
 use judge::Finding;
 use race_core::JobEnd;
 use sby_terms::{Status, job_text};
 use std::alloc::{AllocError, Global};
-use stream_judge::CertKind;
 
 fn fault_text(alloc: Global, slices: u32, early: &Early) -> Result<String, AllocError>
     requires { early_text slices early.now ≢ None }

@@ -4,13 +4,13 @@ ghost use Rattle.std.specs.Prelude.{◌≡◌, ◌<◌, ◌∷◌, ◌++◌, [],
 ghost use Rattle.sby_lines.specs.Texts.{answer_text, broken_text, cert_kind_text, cert_text, design_kind_text, design_text, done_text, fault_text, file_text, hold_failed_text, lane_text, line_of, memory_text, not_served_text, not_written_text, reached_text, read_failed_text, read_kind_text, read_text, sby_kind_text, sby_text, settled_text, skipped_text, start_failed_text, status_text, stopped_text, streams_text, task_kind_text, too_many_text, trace_path, unknown_text, unreached_text, usage_line};
 
 use crate::counts::Counts;
+use cert_judge::CertKind;
 use design_check::fault::FaultKind;
 use design_reader::ReadFaultKind;
 use sby_file::SbyKind;
 use sby_task::TaskKind;
 use sby_terms::{Answer, Mode, Status};
 use std::alloc::{AllocError, Global};
-use stream_judge::CertKind;
 
 /// The usage line.
 #[tactic(auto, unfolding(crate::specs::Texts::usage_line))]

@@ -3,8 +3,8 @@ use Rattle.std.proofs.Common.{◌≡◌, ◌≢◌, ℕ, zero, suc, List, [], �
 use Rattle.std.specs.Prelude.{Option, Some, None, slice_get}
 use Rattle.std.proofs.lemmas.List.{length-map}
 use Rattle.sby_edge.specs.Files.{Store}
-use Rattle.kind_judge.specs.Fates.{IsFate}
-use Rattle.stream_judge.specs.Fate.{Fate}
+use Rattle.cert_judge.specs.Kinds.{IsFate}
+use Rattle.cert_judge.specs.Fate.{Fate}
 use Rattle.design_core.specs.Shape.{DesignOf}
 use Rattle.design_reader.specs.Grammar.{Reads}
 use Rattle.judge.specs.Problem.{AskedOf}

@@ -8,7 +8,7 @@ use Rattle.sby_edge.specs.Cause.{CountsOf}
 use Rattle.sby_edge.specs.Child.{up_to}
 use Rattle.sby_edge.specs.Files.{Store}
 use Rattle.sby_edge.specs.Script.{ScriptOf}
-use Rattle.stream_judge.specs.Fate.{Found as FoundFate, Unknown as UnknownFate, Bad as BadFate}
+use Rattle.cert_judge.specs.Fate.{Found as FoundFate, Unknown as UnknownFate, Bad as BadFate}
 use Rattle.design_core.specs.Shape.{DesignOf}
 use Rattle.design_reader.specs.Grammar.{Reads}
 use Rattle.judge.specs.Finding.{FindingOf}

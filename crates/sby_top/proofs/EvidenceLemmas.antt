@@ -8,15 +8,12 @@ use Rattle.design_reader.specs.Grammar.{Reads}
 use Rattle.job_cnf.specs.Encoding.{CanBeSatisfied}
 use Rattle.sby_edge.specs.Child.{YardOf, up_to}
 use Rattle.sby_edge.specs.Script.{GateOf, ScriptOf}
-use Rattle.stream_judge.specs.Fate.{Fate, Found as FoundFate, Unknown as UnknownFate, Bad as BadFate}
-use Rattle.stream_judge.specs.declared.stream.StreamKind.{StreamKind}
-use Rattle.stream_judge.specs.declared.stream.StreamKind.TheVariants.{Drup, Lrat, Proof, ProofBinary}
-use Rattle.stream_judge.proofs.Fates as drup
-use Rattle.hint_judge.proofs.Fates as hinted
-use Rattle.kind_judge.proofs.Fates.{found_refuted, never_satisfied}
-use Rattle.kind_judge.specs.Fates.{IsFate}
-use Rattle.output_judge.proofs.Fates.{output_refuted, output_satisfied}
-use Rattle.output_judge.specs.Fate.{IsOutputFate}
+use Rattle.cert_judge.specs.Fate.{Fate, Found as FoundFate, Unknown as UnknownFate, Bad as BadFate}
+use Rattle.cert_judge.specs.declared.stream.StreamKind.{StreamKind}
+use Rattle.cert_judge.proofs.KindFates.{found_refuted, found_satisfied}
+use Rattle.cert_judge.specs.Kinds.{IsFate}
+use Rattle.cert_judge.proofs.OutputFates.{output_refuted, output_satisfied}
+use Rattle.cert_judge.specs.OutputFate.{IsOutputFate}
 use Rattle.judge.specs.Finding.{FindingOf, IsTrueFinding}
 use Rattle.judge.specs.Jobs.{Solvable, span_of}
 use Rattle.judge.specs.Problem.{AskedOf, IsJobFile, IsProblem}
@@ -42,10 +39,7 @@ Says f Sat = (x : Assignment) × Satisfies x f.clauses
 Says f Unsat = IsUnsatisfiable f.clauses
 
 pub kind_says : (kind : StreamKind) (file stream : List ℕ) (most : ℕ) (f : FormulaOf) (a : Answer) → IsDimacs file f → IsFate kind file stream most (FoundFate a) → Says f a
-kind_says Drup file stream most f Sat d fate = drup.file_satisfied file stream most f d fate
-kind_says Lrat file stream most f Sat d fate = hinted.file_satisfied file stream most f d fate
-kind_says Proof file stream most f Sat d fate = absurd (never_satisfied file _ stream most fate)
-kind_says ProofBinary file stream most f Sat d fate = absurd (never_satisfied file _ stream most fate)
+kind_says kind file stream most f Sat d fate = found_satisfied kind file stream most f d fate
 kind_says kind file stream most f Unsat d fate = found_refuted kind file stream most f d fate
 
 output_says : (file output : List ℕ) (most : ℕ) (f : FormulaOf) (a : Answer) → IsDimacs file f → IsOutputFate file output most (Some (FoundFate a)) → Says f a

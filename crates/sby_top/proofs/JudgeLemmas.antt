@@ -6,11 +6,11 @@ use Rattle.std.proofs.lemmas.Bool.{cases_lt}
 use Rattle.std.proofs.Math.Seq.{drop-append_seam}
 use Rattle.cnf_form.specs.Cnf.{Assignment}
 use Rattle.cnf_form.specs.Dimacs.{IsDimacs}
-use Rattle.kind_judge.proofs.Fates.{within_most}
-use Rattle.kind_judge.specs.Fates.{IsFate, IsFateSoFar}
+use Rattle.cert_judge.proofs.KindFates.{within_most}
+use Rattle.cert_judge.specs.Kinds.{IsFate, IsFateSoFar}
 use Rattle.sby_edge.specs.Files.{PieceAt, PieceFrom, Store}
-use Rattle.stream_judge.specs.Fate.{Fate, Found as FoundFate, Unknown as UnknownFate, Bad as BadFate}
-use Rattle.stream_judge.specs.declared.stream.StreamKind.{StreamKind}
+use Rattle.cert_judge.specs.Fate.{Fate, Found as FoundFate, Unknown as UnknownFate, Bad as BadFate}
+use Rattle.cert_judge.specs.declared.stream.StreamKind.{StreamKind}
 use Rattle.judge.proofs.Problems.{one_formula}
 use Rattle.judge.specs.Finding.{FindingOf}
 use Rattle.race_core.specs.declared.end.JobEnd.{JobEnd}
@@ -20,7 +20,7 @@ use Rattle.judge.specs.Played.{IsPlayed, IsStreamsRun}
 use Rattle.judge.specs.Problem.{AskedOf, IsJobFile}
 use Rattle.judge.specs.declared.judging.Progress.{Progress}
 use Rattle.judge.specs.declared.judging.Progress.TheVariants.{More, Done, Unknown as UnknownProgress}
-use Rattle.stream_judge.specs.declared.stream.BadCert.{BadCert}
+use Rattle.cert_judge.specs.declared.stream.BadCert.{BadCert}
 use Rattle.design_meaning.specs.Runs.{CycleOf}
 use Rattle.sby_terms.specs.declared.names.Answer.TheVariants.{Sat}
 use Rattle.sby_terms.specs.declared.names.JobName.{JobName}

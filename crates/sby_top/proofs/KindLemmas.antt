@@ -3,8 +3,8 @@ use Rattle.std.proofs.Common.{◌≡◌, List, ◌∷◌, [], ◌++◌, ℕ, ref
 use Rattle.std.specs.Prelude.{codes}
 use Rattle.sby_words.specs.Folders.{EndsIn}
 use Rattle.sby_words.specs.Kinds.{IsKindNamed}
-use Rattle.stream_judge.specs.declared.stream.StreamKind.{StreamKind}
-use Rattle.stream_judge.specs.declared.stream.StreamKind.TheVariants.{Drup, Lrat, Proof, ProofBinary}
+use Rattle.cert_judge.specs.declared.stream.StreamKind.{StreamKind}
+use Rattle.cert_judge.specs.declared.stream.StreamKind.TheVariants.{Drup, Lrat, Proof, ProofBinary}
 
 abbrev last : List ℕ → ℕ
 last [] = 0

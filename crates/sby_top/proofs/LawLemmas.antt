@@ -5,9 +5,9 @@ use Rattle.std.specs.Str.{bytes_eq}
 use Rattle.std.proofs.lemmas.Slice.Eq.{bytes_eq-Decides}
 use Rattle.cnf_form.proofs.Members.{Contains-head, Contains-one}
 use Rattle.sby_edge.specs.Files.{Store, put_at}
-use Rattle.kind_judge.specs.Fates.{IsFate}
-use Rattle.stream_judge.specs.Fate.{Fate, Found}
-use Rattle.stream_judge.specs.declared.stream.StreamKind.{StreamKind}
+use Rattle.cert_judge.specs.Kinds.{IsFate}
+use Rattle.cert_judge.specs.Fate.{Fate, Found}
+use Rattle.cert_judge.specs.declared.stream.StreamKind.{StreamKind}
 use Rattle.judge.specs.Fault.{IsProblemFault}
 use Rattle.judge.specs.Jobs.{jobs_in as jobs_of_mode}
 use Rattle.judge.specs.Problem.{AskedOf, IsJobFile}

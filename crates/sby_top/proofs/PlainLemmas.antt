@@ -6,9 +6,9 @@ use Rattle.std.proofs.lemmas.Option.{get_or_from_slice_get, slice_get-get_or, sl
 use Rattle.cnf_form.proofs.Members.{Contains-cases, Contains-empty, Contains-head, Contains-tail}
 use Rattle.sby_edge.specs.Cause.{Rose}
 use Rattle.sby_edge.specs.Files.{Store}
-use Rattle.kind_judge.specs.Fates.{IsFate}
-use Rattle.stream_judge.specs.Fate.{Fate, Found as FoundFate, Unknown as UnknownFate, Bad as BadFate}
-use Rattle.stream_judge.specs.declared.stream.StreamKind.{StreamKind}
+use Rattle.cert_judge.specs.Kinds.{IsFate}
+use Rattle.cert_judge.specs.Fate.{Fate, Found as FoundFate, Unknown as UnknownFate, Bad as BadFate}
+use Rattle.cert_judge.specs.declared.stream.StreamKind.{StreamKind}
 use Rattle.design_core.specs.Shape.{DesignOf}
 use Rattle.design_reader.specs.Grammar.{Reads}
 use Rattle.judge.specs.Finding.{FindingOf}

@@ -4,9 +4,9 @@ use Rattle.std.specs.List.{concat}
 use Rattle.sby_edge.specs.Cause.{Rose}
 use Rattle.sby_edge.specs.Sink.{AreAll}
 use Rattle.sby_edge.specs.Files.{Store}
-use Rattle.kind_judge.specs.Fates.{IsFate}
-use Rattle.stream_judge.specs.Fate.{Fate, Found, Unknown, Bad}
-use Rattle.stream_judge.specs.declared.stream.StreamKind.{StreamKind}
+use Rattle.cert_judge.specs.Kinds.{IsFate}
+use Rattle.cert_judge.specs.Fate.{Fate, Found, Unknown, Bad}
+use Rattle.cert_judge.specs.declared.stream.StreamKind.{StreamKind}
 use Rattle.judge.specs.Finding.{FindingOf}
 use Rattle.judge.specs.Problem.{AskedOf, IsJobFile}
 use Rattle.judge.specs.declared.problem.ProblemFault.{ProblemFault}

@@ -1,14 +1,14 @@
 -- How the jobs of a task end.
 use Rattle.std.specs.Prelude.{◌≡◌, ℕ, Bool, List, [], ◌∷◌, length, replicate, Option, Some, None, MatchOption}
 use Rattle.sby_edge.specs.Files.{Store}
-use Rattle.kind_judge.specs.Fates.{IsFate}
-use Rattle.stream_judge.specs.Fate.{Found as FoundFate, Unknown as UnknownFate, Bad as BadFate}
+use Rattle.cert_judge.specs.Kinds.{IsFate}
+use Rattle.cert_judge.specs.Fate.{Found as FoundFate, Unknown as UnknownFate, Bad as BadFate}
 use Rattle.judge.specs.Finding.{FindingOf, IsTrueFinding}
-use Rattle.stream_judge.specs.Numbers.{number_of}
+use Rattle.cert_judge.specs.Numbers.{number_of}
 use Rattle.judge.specs.Played.{IsStreamsRun}
 use Rattle.judge.specs.Problem.{AskedOf, IsJobFile}
-use Rattle.stream_judge.specs.declared.stream.CertKind.{CertKind}
-use Rattle.stream_judge.specs.declared.stream.StreamKind.{StreamKind}
+use Rattle.cert_judge.specs.declared.stream.CertKind.{CertKind}
+use Rattle.cert_judge.specs.declared.stream.StreamKind.{StreamKind}
 use Rattle.race_core.specs.Report.{ReportOf, no_events}
 use Rattle.race_core.specs.declared.end.JobEnd.{JobEnd}
 use Rattle.race_core.specs.declared.end.JobEnd.TheVariants.{Found, Unknown, NotServed, Bad, ReadFailed, StartFailed, HoldFailed, Skipped, CalledOff, Stopped, Memory}

@@ -6,12 +6,12 @@ use Rattle.sby_edge.specs.declared.outside.Got.TheVariants.{All as Whole, Long}
 use Rattle.judge.specs.Fault.{IsProblemFault}
 use Rattle.judge.specs.Finding.{FindingOf, IsTrueFinding}
 use Rattle.judge.specs.Judging.{IsSameJudge, JudgeOf, Took}
-use Rattle.stream_judge.specs.Numbers.{number_of}
+use Rattle.cert_judge.specs.Numbers.{number_of}
 use Rattle.judge.specs.Problem.{AskedOf, IsJobFile}
 use Rattle.judge.specs.declared.judging.Progress.{Progress}
 use Rattle.judge.specs.declared.judging.Progress.TheVariants.{More, Done, Unknown as UnknownProgress}
 use Rattle.judge.specs.declared.problem.ProblemFault.TheVariants.{Read as ReadFault, Design as DesignFault, TooMany as TooManyFault}
-use Rattle.stream_judge.specs.declared.stream.BadCert.{BadCert}
+use Rattle.cert_judge.specs.declared.stream.BadCert.{BadCert}
 use Rattle.race_core.specs.declared.end.JobEnd.{JobEnd}
 use Rattle.race_core.specs.declared.end.JobEnd.TheVariants.{Found, Unknown, NotServed, Bad, ReadFailed, StartFailed, HoldFailed, Skipped, CalledOff, Stopped, Memory as MemoryEnd}
 use Rattle.sby_terms.specs.Problem.{ProblemOf}

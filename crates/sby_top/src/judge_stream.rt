@@ -9,15 +9,14 @@ ghost use Rattle.sby_top.specs.Served.{most_stream};
 ghost use Rattle.sby_top.specs.Steps.{end_of, files_at, IsFailedCall, IsTrueEnd, PathEnds, PieceEnds, StreamEnds};
 
 use crate::serve::get_piece;
+use cert_judge::{BadCert, fates_stay};
 use judge::{Finding, Judge, Problem, Progress};
-use kind_judge::fates_stay;
 use race_core::JobEnd;
 use sby_edge::Files;
 use sby_lines::Early;
 use sby_terms::{JobName, MAX_STREAM};
 use sby_words::stream_kind;
 use std::alloc::Global;
-use stream_judge::BadCert;
 
 // How many bytes are got at once.
 const PIECE: usize = 1 << 16;

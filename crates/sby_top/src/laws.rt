@@ -3,11 +3,11 @@
 
 ghost use Rattle.std.specs.Prelude.{◌≡◌, ◌≢◌, ◌⊎◌, ◌+◌, ◌<◌, ◌≤◌, [], ◌∷◌, ◌++◌, ℕ, true, List, None, Option, length, map, slice_get, take, Some};
 ghost use Rattle.cert_stream.specs.Text.{is_blank};
-ghost use Rattle.stream_judge.specs.Cert.{IsCert};
-ghost use Rattle.kind_judge.specs.Fates.{IsFate};
-ghost use Rattle.stream_judge.specs.Fate.{Fate, Found};
-ghost use Rattle.stream_judge.specs.declared.stream.StreamKind.{StreamKind};
-ghost use Rattle.stream_judge.specs.declared.stream.StreamKind.TheVariants.{Drup};
+ghost use Rattle.cert_judge.specs.DrupCert.{IsCert};
+ghost use Rattle.cert_judge.specs.Kinds.{IsFate};
+ghost use Rattle.cert_judge.specs.Fate.{Fate, Found};
+ghost use Rattle.cert_judge.specs.declared.stream.StreamKind.{StreamKind};
+ghost use Rattle.cert_judge.specs.declared.stream.StreamKind.TheVariants.{Drup};
 ghost use Rattle.design_core.specs.Shape.{DesignOf};
 ghost use Rattle.design_reader.specs.Grammar.{Reads};
 ghost use Rattle.judge.specs.Fault.{IsProblemFault};
@@ -43,10 +43,9 @@ ghost use Rattle.sby_top.specs.declared.outcome.Done.{Done};
 ghost use Rattle.sby_top.specs.declared.outcome.TaskEnd.{TaskEnd};
 ghost use Rattle.task_race.specs.Ends.{IsFateOf, script_of};
 
+use cert_judge::{certificate_is_found, certificate_is_found_before_more, one_fate};
 use judge::{files_tell_what_jobs_ask, findings_tell_what_can_be_solved, one_file};
-use kind_judge::one_fate;
 use sby_edge::Clock;
-use stream_judge::{certificate_is_found, certificate_is_found_before_more};
 
 /// A design that is not refused is judged: over a store that tells, where no call failed and memory was not wanting, and where there is a
 /// job for each stream, the task comes to its lanes, and there is a store at which it was judged; of `--judge` in bmc where there is one

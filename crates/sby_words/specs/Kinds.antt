@@ -1,7 +1,7 @@
 -- The kinds of stored streams.
 use Rattle.std.specs.Prelude.{ℕ, List, codes}
-use Rattle.stream_judge.specs.declared.stream.StreamKind.{StreamKind}
-use Rattle.stream_judge.specs.declared.stream.StreamKind.TheVariants.{Drup, Lrat, Proof, ProofBinary}
+use Rattle.cert_judge.specs.declared.stream.StreamKind.{StreamKind}
+use Rattle.cert_judge.specs.declared.stream.StreamKind.TheVariants.{Drup, Lrat, Proof, ProofBinary}
 use Rattle.sby_words.specs.Folders.{EndsIn}
 
 -- A stream's kind by the end of its name; any other name is that of a DRUP stream.

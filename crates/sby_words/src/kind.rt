@@ -2,7 +2,7 @@
 
 ghost use Rattle.sby_words.specs.Kinds.{IsKindNamed};
 
-use stream_judge::StreamKind;
+use cert_judge::StreamKind;
 
 /// The kind of a stored stream by its name: `.lrat`, `.proof` or `.proofb` at its end, and else DRUP.
 pub fn stream_kind(name: &str) -> StreamKind

@@ -5,12 +5,12 @@ use Rattle.sby_edge.specs.Cause.{CountsOf}
 use Rattle.sby_edge.specs.Child.{YardOf, up_to}
 use Rattle.sby_edge.specs.Script.{GateOf, ScriptOf}
 use Rattle.sby_terms.specs.declared.names.JobName.{JobName}
-use Rattle.stream_judge.specs.Fate.{Fate, Found, Unknown, Bad}
-use Rattle.stream_judge.specs.declared.stream.StreamKind.{StreamKind}
-use Rattle.kind_judge.proofs.Fates.{one_whole}
-use Rattle.kind_judge.specs.Fates.{IsFate}
-use Rattle.output_judge.proofs.Fates.{output_fate}
-use Rattle.output_judge.specs.Fate.{IsOutputFate}
+use Rattle.cert_judge.specs.Fate.{Fate, Found, Unknown, Bad}
+use Rattle.cert_judge.specs.declared.stream.StreamKind.{StreamKind}
+use Rattle.cert_judge.proofs.KindFates.{one_whole}
+use Rattle.cert_judge.specs.Kinds.{IsFate}
+use Rattle.cert_judge.proofs.OutputFates.{output_fate}
+use Rattle.cert_judge.specs.OutputFate.{IsOutputFate}
 use Rattle.judge.specs.Finding.{FindingOf}
 use Rattle.judge.specs.Problem.{AskedOf, IsJobFile}
 use Rattle.race_core.specs.declared.end.JobEnd.{JobEnd}

@@ -4,11 +4,11 @@ use Rattle.sby_edge.specs.Cause.{CountsOf}
 use Rattle.sby_edge.specs.Child.{YardOf, up_to}
 use Rattle.sby_edge.specs.Script.{ScriptOf}
 use Rattle.sby_terms.specs.declared.names.JobName.{JobName}
-use Rattle.stream_judge.specs.Fate.{Fate, Found, Unknown, Bad}
-use Rattle.stream_judge.specs.Numbers.{number_of}
-use Rattle.stream_judge.specs.declared.stream.CertKind.{CertKind}
-use Rattle.kind_judge.specs.Fates.{IsFate}
-use Rattle.output_judge.specs.Fate.{IsOutputFate}
+use Rattle.cert_judge.specs.Fate.{Fate, Found, Unknown, Bad}
+use Rattle.cert_judge.specs.Numbers.{number_of}
+use Rattle.cert_judge.specs.declared.stream.CertKind.{CertKind}
+use Rattle.cert_judge.specs.Kinds.{IsFate}
+use Rattle.cert_judge.specs.OutputFate.{IsOutputFate}
 use Rattle.judge.specs.Finding.{FindingOf}
 use Rattle.race_core.specs.Asking.{needless_by, skipped_by}
 use Rattle.race_core.specs.declared.end.JobEnd.{JobEnd}

@@ -4,7 +4,7 @@ ghost use Rattle.std.specs.Prelude.{◌≡◌, ℕ, ◌+◌, ◌<◌, List, Opti
 ghost use Rattle.sby_edge.specs.Cause.{CountsOf};
 ghost use Rattle.sby_edge.specs.Child.{up_to};
 ghost use Rattle.sby_edge.specs.Script.{ScriptOf};
-ghost use Rattle.stream_judge.specs.Fate.{Fate};
+ghost use Rattle.cert_judge.specs.Fate.{Fate};
 ghost use Rattle.judge.specs.Finding.{FindingOf};
 ghost use Rattle.judge.specs.Problem.{IsJobFile};
 ghost use Rattle.race_core.specs.Carrying.{Carries};

@@ -2,12 +2,10 @@
 
 ghost use Rattle.std.specs.Prelude.{◌≤◌, ◌^◌};
 
+use cert_judge::{Judge, Outcome, OutputJudge, StreamKind};
 use cnf_form::{Formula, read_dimacs};
-use kind_judge::KindJudge;
-use output_judge::OutputJudge;
 use std::alloc::{AllocError, Global};
 use std::test::Fail;
-use stream_judge::{Outcome, StreamKind};
 
 // What is judged: whether a DRUP or LRAT stream or an engine's output, the most bytes that are taken, and the formula; and behind each mark
 // what is told, and the stream. A clause that is admitted tells nothing by itself.
@@ -99,7 +97,7 @@ fn told(alloc: Global, outcome: Option<Outcome>, values: &[bool]) -> Result<Stri
     }
 }
 
-fn outcome_of(judge: &mut KindJudge, front: &[u8], back: &[u8]) -> Result<Outcome, AllocError> {
+fn outcome_of(judge: &mut Judge, front: &[u8], back: &[u8]) -> Result<Outcome, AllocError> {
     judge.feed(front)?;
     judge.feed(back)?;
     judge.end()
@@ -116,7 +114,7 @@ pub fn stream_told(
     requires least { 1 ≤ most }
     requires limit { most ≤ 2 ^ 32 }
 {
-    let mut judge = KindJudge::new(alloc, formula, kind, most)?;
+    let mut judge = Judge::new(alloc, formula, kind, most)?;
     let outcome = outcome_of(&mut judge, pieces.0, pieces.1)?;
     told(alloc, Some(outcome), judge.values())
 }
@@ -242,5 +240,41 @@ fn follows_a_chain(rt: HostRuntime) -> Result<(), Fail> {
             "EarlyEnd 7"
         )?
     );
+    Ok(())
+}
+
+// The last variable, by hints at all clauses of a chain.
+fn hinted_line(alloc: Global, id: u64, last: u32) -> Result<String, AllocError> {
+    let mut text = format!(in alloc; "{id} {last} 0")?;
+    for hint in 1..=last {
+        text.push_str(format!(in alloc; " {hint}")?.as_str())?;
+    }
+    text.push_str(" 0\n")?;
+    Ok(text)
+}
+
+// What a hinted stream comes to.
+fn hinted_told(alloc: Global, formula: &Formula, text: &str) -> Result<String, AllocError> {
+    stream_told(
+        alloc,
+        formula,
+        StreamKind::Lrat,
+        1 << 20,
+        (text.as_bytes(), b""),
+    )
+}
+
+#[test]
+fn takes_two_hundred_hints_and_the_greatest_id(rt: HostRuntime) -> Result<(), Fail> {
+    let alloc = rt.alloc();
+    let formula = chain(alloc, 200)?;
+    let mut text = hinted_line(alloc, (1 << 62) + 1, 200)?;
+    text.push_str("9223372036854775807 200 0 4611686018427387905 0\n")?;
+    let end = text.len();
+    let wanted = format!(in alloc; "EarlyEnd {end}")?;
+    assert_eq!(rt; hinted_told(alloc, &formula, text.as_str())?, wanted);
+    text.push_str("9223372036854775808 200 0 1 0\n")?;
+    let wanted = format!(in alloc; "BadLiteral {}", end.saturating_add(18))?;
+    assert_eq!(rt; hinted_told(alloc, &formula, text.as_str())?, wanted);
     Ok(())
 }

@@ -1,10 +1,10 @@
 // A proof as a solver writes it: seven pigeons don't fit into six holes.
 
 use super::judges::{formula_of, stream_told};
+use cert_judge::StreamKind;
 use cnf_form::Formula;
 use std::alloc::{AllocError, Global};
 use std::test::Fail;
-use stream_judge::StreamKind;
 
 // Each pigeon is in a hole, and no two are in the same. Pigeon i is in hole j, both counted from 0, where variable
 // 6 i + 1 + (j - i modulo 6) is true.

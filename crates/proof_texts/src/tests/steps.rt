@@ -2,7 +2,7 @@
 
 ghost use Rattle.std.specs.Prelude.{◌≡◌, false};
 
-use cert_stream::{Fed, Receiver, Steps, Wire};
+use cert_stream::{DrupParser, Fed, Receiver, Steps};
 use cnf_form::Lit;
 use std::alloc::{AllocError, Global};
 use std::marker::Brand;
@@ -50,9 +50,9 @@ fn counted<L: Ledger>(alloc: Global, blank: Blank, text: &[u8]) -> Result<u64, A
 {
     let (book, share) = blank.open::<L>();
     let mut steps = Steps::new(book, share);
-    let mut wire = Wire::new(alloc, 9);
+    let mut parser = DrupParser::new(alloc, 9);
     let mut clauses = Clauses(0);
-    match wire.feed_counted(text, &mut clauses, &mut steps)? {
+    match parser.feed_counted(text, &mut clauses, &mut steps)? {
         Ok(Fed::More) => Ok(clauses.0),
         _ => Ok(u64::MAX),
     }

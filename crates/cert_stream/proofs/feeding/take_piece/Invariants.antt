@@ -4,8 +4,8 @@ use Rattle.cert_stream.proofs.feeding.take_piece.Given as goal
 
 abbrev pub invariant-loop-i : goal.invariant-loop-i
 invariant-loop-i g l = record {
-  left : Left g.R.Receiver.gets g.R.Receiver.stops l.initial.wire l.initial.receiver l.piece l.wire l.receiver l.i;
-  vars : g.R.Receiver.vars l.receiver ≡ l.wire.vars;
+  left : Left g.R.Receiver.gets g.R.Receiver.stops l.initial.parser l.initial.receiver l.piece l.parser l.receiver l.i;
+  vars : g.R.Receiver.vars l.receiver ≡ l.parser.vars;
   steps : g.N.Count.count l.steps ≤ g.N.Count.count l.initial.steps + l.i;
 }
 

@@ -1,4 +1,4 @@
-use Rattle.kind_judge.specs.Fates.{stream_values}
+use Rattle.cert_judge.specs.Kinds.{stream_values}
 use Rattle.judge.proofs.Truth.{base-first, base-shown, base-slice, cover-first, cover-shown, cover-within}
 use Rattle.judge.proofs.laws.played_run_ends_at_first_goal.Goals as goal
 

@@ -1,4 +1,4 @@
-use Rattle.kind_judge.specs.Fates.{stream_values}
+use Rattle.cert_judge.specs.Kinds.{stream_values}
 use Rattle.judge.proofs.Zeros.{input-zero, start-zero}
 use Rattle.judge.proofs.laws.played_run_is_zero_where_nothing_reads.Goals as goal
 

@@ -1,4 +1,4 @@
-use Rattle.std.proofs.Common.{◌≡◌, ◌+◌, ◌<◌, ◌≤◌, ◌∙◌, [], List, ◌++◌, arith, length, refl, subst, sym}
+use Rattle.std.proofs.Common.{◌≡◌, ◌+◌, ◌-◌, ◌<◌, ◌≤◌, ◌∙◌, [], List, ◌++◌, arith, length, refl, subst, sym}
 use Rattle.std.specs.Prelude.{ℕ, Some}
 use Rattle.std.proofs.lemmas.List.{length-append}
 use Rattle.judge.specs.Judging.{Took}
@@ -59,3 +59,19 @@ pieces-preserved g c =
       still = c.in_ok-piece.ensures.still ∙ inv.still;
       blamed = c.in_ok-piece.ensures.blamed ∙ inv.blamed;
     }
+
+pub end_stream-requires : goal.end_stream-requires
+end_stream-requires g c = (c.in_default.ensures c.pieces.invariant.next.0 c.pieces.invariant.next.1).0.2 ∙ c.pieces.invariant.same.2 ∙ c.requires.most
+
+shrinks : (most place len : ℕ) → 1 ≤ len → place + len ≤ most → most - (place + len) < most - place
+shrinks most place len some fits = omega (arith, some, fits)
+
+pub pieces-smaller : goal.pieces-smaller
+pieces-smaller g c =
+    let inv = c.pieces.invariant in
+    let fed = c.in_default.ensures inv.next.0 inv.next.1 in
+    let fits = subst (λ (p : List ℕ). length (c.pieces.invariant.next.0 ++ p) ≤ most_stream) c.deref.ensures.value fed.2 in
+    let count : length (c.pieces.invariant.next.0 ++ c.pieces.piece.items) ≡ c.pieces.place + c.len-in-pieces.result =
+    omega (arith, length-append inv.next.0 c.pieces.piece.items, inv.next.2, c.len-in-pieces.ensures) in
+    let some : 1 ≤ c.len-in-pieces.result = omega (arith, c.len.ensures, c.if-len-lt-PIECE.false, c.len-in-pieces.ensures) in
+    shrinks most_stream c.pieces.place c.len-in-pieces.result some (subst (λ n. n ≤ most_stream) count fits)

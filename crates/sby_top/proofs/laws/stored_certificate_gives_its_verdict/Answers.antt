@@ -1,5 +1,5 @@
 use Rattle.std.proofs.Common.{◌∷◌, ◌++◌}
-use Rattle.stream_judge.specs.declared.stream.StreamKind.TheVariants.{Drup}
+use Rattle.cert_judge.specs.declared.stream.StreamKind.TheVariants.{Drup}
 use Rattle.sby_top.specs.Served.{most_stream}
 use Rattle.sby_top.proofs.LawLemmas.{certificate_gives}
 use Rattle.sby_top.proofs.laws.stored_certificate_gives_its_verdict.Goals as goal

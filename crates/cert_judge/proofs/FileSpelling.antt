@@ -1,0 +1,158 @@
+-- A binary proof and its text come to the same.
+use Rattle.std.proofs.Common.{◌≡◌, ◌⊎◌, ℕ, ◌≤◌, true, false, eqb, List, [], ◌∷◌, ◌++◌, length, Option, Some, None, refl, sym, ap, ◌∙◌, subst, inl, inr, Bool}
+use Rattle.std.proofs.lemmas.Bool.{cases_Bool, eqb-false}
+use Rattle.cnf_form.specs.Cnf.{LitOf, FormulaOf}
+use Rattle.cnf_form.specs.Dimacs.{IsDimacs}
+use Rattle.cnf_form.proofs.Reading.{IsDimacs-one}
+use Rattle.cert_stream.specs.Telling.{Saying}
+use Rattle.sby_terms.specs.declared.names.Answer.TheVariants.{Unsat}
+use Rattle.cert_judge.specs.declared.stream.CertKind.TheVariants.{NotRup, EarlyEnd}
+use Rattle.cert_judge.specs.declared.stream.StreamKind.TheVariants.{Proof, ProofBinary}
+use Rattle.cert_judge.specs.Drup.{ComesTo as DrupComesTo}
+use Rattle.cert_judge.specs.Fate.{Fate, FateBy, Found, Bad}
+use Rattle.cert_judge.specs.Kinds.{FateOf, IsFate}
+use Rattle.cert_judge.specs.Values.{unnamed}
+use Rattle.cert_judge.proofs.Bounding.{some_same}
+use Rattle.cert_judge.proofs.Deletions.{Clauses, Alike, alike_itself, alike_admitted, admitted_alike, alike_more, alike_deleted}
+use Rattle.proof_stream.specs.Binary.{line_said}
+use Rattle.proof_stream.specs.Lines.{FileSays}
+use Rattle.proof_stream.specs.Spelling.{AreSaid, ProofLine, Spelt}
+use Rattle.proof_stream.specs.declared.spot.LineKind.{LineKind}
+use Rattle.proof_stream.specs.declared.spot.LineKind.TheVariants.{Clause, Deletion}
+use Rattle.proof_stream.specs.declared.spot.Form.{Form}
+use Rattle.proof_stream.specs.declared.spot.Form.TheVariants.{Binary, Text}
+use Rattle.proof_stream.proofs.Spelling.{spelt_says}
+use Rattle.cert_judge.specs.ProofFile.{BytesCome, at_end, tried}
+use Rattle.cert_judge.specs.Same.{IsSameFate}
+
+abbrev AreSame : Option Fate → Option Fate → Type 0
+AreSame None y = y ≡ None
+AreSame (Some x) y = (z : Fate) × (y ≡ Some z) × IsSameFate x z
+
+same_as : (x y z w : Option Fate) → x ≡ z → y ≡ w → AreSame z w → AreSame x y
+same_as x y z w e f h = subst (λ a. AreSame a y) (sym e) (subst (AreSame z) (sym f) h)
+
+found_same : (x y : Option Fate) → x ≡ Some (Found Unsat) → y ≡ Some (Found Unsat) → AreSame x y
+found_same x y e f = same_as x y (Some (Found Unsat)) (Some (Found Unsat)) e f (Found Unsat, refl, refl)
+
+refused_same : (p q : ℕ) (x y : Option Fate) → x ≡ Some (Bad NotRup p) → y ≡ Some (Bad NotRup q) → AreSame x y
+refused_same p q x y e f = same_as x y (Some (Bad NotRup p)) (Some (Bad NotRup q)) e f (Bad NotRup q, refl, (q, refl))
+
+abbrev pub empty : ProofLine
+empty = record { kind = Clause; lits = [] }
+
+pub said_tried : (ls : List ProofLine) (ss : List Saying) (n : ℕ) → AreSaid ls ss → AreSaid (ls ++ empty ∷ []) (tried n ss)
+said_tried [] ss n e = (n, [], ap (tried n) e, refl)
+said_tried (l ∷ ls) ss n (p, s, e, a) = (p, tried n s, ap (tried n) e, said_tried ls s n a)
+
+same_some : (x y : Fate) → AreSame (Some x) (Some y) → IsSameFate x y
+same_some x y (z, e, h) = let k : z ≡ y = cc in subst (IsSameFate x) k h
+
+-- lines come to the same, wherever they stand
+module _ (C : Clauses) where
+  abbrev pub ComesTo : Clauses → List Saying → Option Fate → Type 0
+  ComesTo F ss fate = DrupComesTo C F unnamed ss fate
+
+  abbrev Again : List Saying → List Saying → Option Fate → Option Fate → Type 0
+  Again ss ts x y = (H K : Clauses) → Alike H K → ComesTo H ss x → ComesTo K ts y → AreSame x y
+
+  same_line : (kind : LineKind) (c : List LitOf) (p q : ℕ) (F G : Clauses) (ss ts : List Saying) (x y : Option Fate) → Alike F G → Again ss ts x y → ComesTo F (line_said kind p c ∷ ss) x
+      → ComesTo G (line_said kind q c ∷ ts) y → AreSame x y
+  same_line Clause c p q F G ss ts x y w again (inl (a, e, h)) (inl (b, f, k)) = found_same x y h k
+  same_line Clause c p q F G ss ts x y w again (inl (a, e, h)) (inr (inl (b, f, k))) = absurd (f e)
+  same_line Clause c p q F G ss ts x y w again (inl (a, e, h)) (inr (inr (b, k))) = absurd (b (alike_admitted F G c w a))
+  same_line Clause c p q F G ss ts x y w again (inr (inl (a, e, h))) (inl (b, f, k)) = absurd (e f)
+  same_line Clause c p q F G ss ts x y w again (inr (inl (a, e, h))) (inr (inl (b, f, k))) = again (F ++ c ∷ []) (G ++ c ∷ []) (alike_more F G c w) h k
+  same_line Clause c p q F G ss ts x y w again (inr (inl (a, e, h))) (inr (inr (b, k))) = absurd (b (alike_admitted F G c w a))
+  same_line Clause c p q F G ss ts x y w again (inr (inr (a, h))) (inl (b, f, k)) = absurd (a (admitted_alike F G c w b))
+  same_line Clause c p q F G ss ts x y w again (inr (inr (a, h))) (inr (inl (b, f, k))) = absurd (a (admitted_alike F G c w b))
+  same_line Clause c p q F G ss ts x y w again (inr (inr (a, h))) (inr (inr (b, k))) = refused_same p q x y h k
+  same_line Deletion c p q F G ss ts x y w again (H, d, h) (K, e, k) = again H K (alike_deleted F G H K c w d e) h k
+
+  -- the same lines come to the same
+  same_comes : (ls : List ProofLine) (ss ts : List Saying) (x y : Option Fate) → AreSaid ls ss → AreSaid ls ts → Again ss ts x y
+  same_comes [] ss ts x y e f F G w h k =
+      same_as x y None None (subst (λ (z : List Saying). ComesTo F z x) e h) (subst (λ (z : List Saying). ComesTo G z y) f k) refl
+  same_comes (l ∷ ls) ss ts x y (p, s, e, a) (q, t, f, b) F G w h k =
+      same_line l.kind l.lits p q F G s t x y w (same_comes ls s t x y a b) (subst (λ (z : List Saying). ComesTo F z x) e h) (subst (λ (z : List Saying). ComesTo G z y) f k)
+
+  -- a last empty clause behind lines that came to nothing is admitted, or refused there
+  abbrev IsLast : ℕ → Fate → Type 0
+  IsLast n v = (v ≡ Found Unsat) ⊎ (v ≡ Bad NotRup n)
+
+  last_line : (kind : LineKind) (c : List LitOf) (p q n : ℕ) (F G : Clauses) (ss ts : List Saying) (v : Fate) → Alike F G
+      → ((H K : Clauses) → Alike H K → ComesTo H ss None → ComesTo K (tried n ts) (Some v) → IsLast n v) → ComesTo F (line_said kind p c ∷ ss) None → ComesTo G (line_said kind q c ∷ tried n ts) (Some v) → IsLast n v
+  last_line Clause c p q n F G ss ts v w again (inl (a, e, h)) k = absurd (let z = h in cc)
+  last_line Clause c p q n F G ss ts v w again (inr (inr (a, h))) k = absurd (let z = h in cc)
+  last_line Clause c p q n F G ss ts v w again (inr (inl (a, e, h))) (inl (b, f, k)) = absurd (e f)
+  last_line Clause c p q n F G ss ts v w again (inr (inl (a, e, h))) (inr (inl (b, f, k))) = again (F ++ c ∷ []) (G ++ c ∷ []) (alike_more F G c w) h k
+  last_line Clause c p q n F G ss ts v w again (inr (inl (a, e, h))) (inr (inr (b, k))) = absurd (b (alike_admitted F G c w a))
+  last_line Deletion c p q n F G ss ts v w again (H, d, h) (K, e, k) = again H K (alike_deleted F G H K c w d e) h k
+
+  only : (n : ℕ) (G : Clauses) (v : Fate) → ComesTo G (tried n []) (Some v) → IsLast n v
+  only n G v (inl (a, e, h)) = inl (some_same v (Found Unsat) h)
+  only n G v (inr (inl (a, e, h))) = absurd (e refl)
+  only n G v (inr (inr (a, h))) = inr (some_same v (Bad NotRup n) h)
+
+  pub last_comes : (ls : List ProofLine) (ss ts : List Saying) (n : ℕ) (v : Fate) → AreSaid ls ss → AreSaid ls ts → (F G : Clauses) → Alike F G → ComesTo F ss None → ComesTo G (tried n ts) (Some v) → IsLast n v
+  last_comes [] ss ts n v e f F G w h k = only n G v (subst (λ (z : List Saying). ComesTo G (tried n z) (Some v)) f k)
+  last_comes (l ∷ ls) ss ts n v (p, s, e, a) (q, t, f, b) F G w h k =
+      last_line l.kind l.lits p q n F G s t v w (λ H K i x y. last_comes ls s t n v a b H K i x y) (subst (λ (z : List Saying). ComesTo F z None) e h)
+      (subst (λ (z : List Saying). ComesTo G (tried n z) (Some v)) f k)
+
+own : (n : ℕ) → eqb n n ≡ true
+own n = elim (cases_Bool (eqb n n)) [ inl t ↦ t | inr f ↦ absurd (eqb-false n n f refl) ]
+
+refused_at_end : (n : ℕ) → at_end n (Bad NotRup n) ≡ Bad EarlyEnd n
+refused_at_end n = rw (own n) refl
+
+-- the same at the end
+ends_same : (n m : ℕ) (v w : Fate) → ((v ≡ Found Unsat) ⊎ (v ≡ Bad NotRup n)) → ((w ≡ Found Unsat) ⊎ (w ≡ Bad NotRup m)) → IsSameFate v w → IsSameFate (at_end n v) (at_end m w)
+ends_same n m v w (inl e) (inl f) s = subst (λ z. IsSameFate (at_end n z) (at_end m w)) (sym e) (subst (λ z. IsSameFate (Found Unsat) (at_end m z)) (sym f) refl)
+ends_same n m v w (inl e) (inr f) s = absurd (let k : w ≡ Found Unsat = subst (λ z. IsSameFate z w) e s in let q = sym k ∙ f in cc)
+ends_same n m v w (inr e) (inl f) s = absurd (let k : (other : ℕ) × (w ≡ Bad NotRup other) = subst (λ z. IsSameFate z w) e s in let q = sym k.1 ∙ f in cc)
+ends_same n m v w (inr e) (inr f) s =
+    let a : at_end n v ≡ Bad EarlyEnd n = ap (at_end n) e ∙ refused_at_end n in
+    let b : at_end m w ≡ Bad EarlyEnd m = ap (at_end m) f ∙ refused_at_end m in
+    subst (λ z. IsSameFate z (at_end m w)) (sym a) (m, b)
+
+module _ (f : FormulaOf) (ls : List ProofLine) (most : ℕ) where
+  abbrev pub LinesComeTo : List Saying → Option Fate → Type 0
+  LinesComeTo ss x = DrupComesTo f.clauses f.clauses unnamed ss x
+
+  -- what a file comes to whose sayings are these lines
+  abbrev pub Comes : ℕ → Fate → Type 0
+  Comes n x =
+      ((ss : List Saying) × AreSaid ls ss × LinesComeTo ss (Some x))
+      ⊎ ((ss : List Saying) × AreSaid ls ss × LinesComeTo ss None × (ts : List Saying) × (v : Fate) × AreSaid ls ts × LinesComeTo (tried n ts) (Some v) × (x ≡ at_end n v))
+
+  whole : (form : Form) (bytes : List ℕ) (x : Fate) → length bytes ≤ most → FateBy (BytesCome form f) bytes most x → BytesCome form f true bytes (Some x)
+  whole form bytes x l h = elim (h.within l) [ inl k ↦ k | inr (k, e) ↦ absurd k ]
+
+  pub comes_of : (form : Form) (bytes : List ℕ) (x : Fate) → ((ended : Bool) (ss : List Saying) → FileSays form f.vars ended bytes ss → AreSaid ls ss) → length bytes ≤ most → FateBy (BytesCome form f) bytes most x
+      → Comes (length bytes) x
+  comes_of form bytes x s l h = by (whole form bytes x l h)
+    where
+      by : BytesCome form f true bytes (Some x) → Comes (length bytes) x
+      by (inl (ss, w, k)) = inl (ss, s false ss w, k)
+      by (inr ((ss, w, k), (ts, v, t, i, e))) = inr (ss, s false ss w, k, ts, v, s true ts t, i, e)
+
+  same_fates : (n m : ℕ) (x y : Fate) → Comes n x → Comes m y → IsSameFate x y
+  same_fates n m x y (inl (ss, a, h)) (inl (ts, b, k)) = same_some x y (same_comes f.clauses ls ss ts (Some x) (Some y) a b f.clauses f.clauses (alike_itself f.clauses) h k)
+  same_fates n m x y (inl (ss, a, h)) (inr (ts, b, k, us, v, c, i, e)) =
+      absurd (let q = same_comes f.clauses ls ss ts (Some x) None a b f.clauses f.clauses (alike_itself f.clauses) h k in let r = q.1 in cc)
+  same_fates n m x y (inr (ss, a, h, us, v, c, i, e)) (inl (ts, b, k)) =
+      absurd (let q = same_comes f.clauses ls ss ts None (Some y) a b f.clauses f.clauses (alike_itself f.clauses) h k in cc)
+  same_fates n m x y (inr (ss, a, h, us, v, c, i, e)) (inr (ts, b, k, vs, w, d, j, g)) =
+      let q = same_some v w (same_comes f.clauses (ls ++ empty ∷ []) (tried n us) (tried m vs) (Some v) (Some w) (said_tried ls us n c) (said_tried ls vs m d) f.clauses f.clauses (alike_itself f.clauses) i j) in
+      let r = last_comes f.clauses ls ss us n v a c f.clauses f.clauses (alike_itself f.clauses) h i in
+      let z = last_comes f.clauses ls ts vs m w b d f.clauses f.clauses (alike_itself f.clauses) k j in
+      subst (λ z. IsSameFate z y) (sym e) (subst (IsSameFate (at_end n v)) (sym g) (ends_same n m v w r z q))
+
+pub spelt_fates : (job b t : List ℕ) (most : ℕ) (f : FormulaOf) (x y : Fate) → IsDimacs job f → Spelt f.vars b t → length b ≤ most → length t ≤ most → IsFate ProofBinary job b most x
+    → IsFate Proof job t most y → IsSameFate x y
+spelt_fates job b t most f x y d s l m v w =
+    let k = spelt_says f.vars b t s in
+    let h : FateOf ProofBinary f b most x = subst (λ (z : FormulaOf). FateOf ProofBinary z b most x) (IsDimacs-one job v.0 f v.1 d) v.2 in
+    let i : FateOf Proof f t most y = subst (λ (z : FormulaOf). FateOf Proof z t most y) (IsDimacs-one job w.0 f w.1 d) w.2 in
+    same_fates f k.0 most (length b) (length t) x y (comes_of f k.0 most Binary b x k.1 l h) (comes_of f k.0 most Text t y k.2 m i)

@@ -1,0 +1,39 @@
+-- The numbers of kinds of faults.
+use Rattle.std.proofs.Common.{◌≡◌, ◌≢◌, ℕ, false, eqb, None, Some, refl, sym, arith}
+use Rattle.std.proofs.lemmas.Bool.Decides.{nat_tests}
+use Rattle.cert_judge.specs.Numbers.{kind_of, number_of}
+use Rattle.cert_judge.specs.declared.stream.CertKind.{CertKind}
+use Rattle.cert_judge.specs.declared.stream.CertKind.TheVariants.{BadLine, BadLiteral, LineTooLong, NotRup, NotSatisfying, TooLong, EarlyEnd, BadId, BadHint, NotHinted}
+
+-- a number that is none of these is no kind's
+pub no_other_number : (n : ℕ) → n ≢ 41 → n ≢ 42 → n ≢ 43 → n ≢ 44 → n ≢ 45 → n ≢ 47 → n ≢ 48 → n ≢ 58 → n ≢ 59 → n ≢ 60 → (kind : CertKind) → number_of kind ≡ n → ⊥
+no_other_number n a b c d e f g h i j BadLine is = a (sym is)
+no_other_number n a b c d e f g h i j BadLiteral is = b (sym is)
+no_other_number n a b c d e f g h i j LineTooLong is = c (sym is)
+no_other_number n a b c d e f g h i j NotRup is = d (sym is)
+no_other_number n a b c d e f g h i j NotSatisfying is = e (sym is)
+no_other_number n a b c d e f g h i j TooLong is = f (sym is)
+no_other_number n a b c d e f g h i j EarlyEnd is = g (sym is)
+no_other_number n a b c d e f g h i j BadId is = h (sym is)
+no_other_number n a b c d e f g h i j BadHint is = i (sym is)
+no_other_number n a b c d e f g h i j NotHinted is = j (sym is)
+
+unlike : (m n : ℕ) → n ≢ m → eqb m n ≡ false
+unlike m n other = grind (arith, nat_tests, other)
+
+pub none_numbered : (n : ℕ) → n ≢ 41 → n ≢ 42 → n ≢ 43 → n ≢ 44 → n ≢ 45 → n ≢ 47 → n ≢ 48 → n ≢ 58 → n ≢ 59 → n ≢ 60 → kind_of n ≡ None
+none_numbered n a b c d e f g h i j =
+    rw (unlike 41 n a, unlike 42 n b, unlike 43 n c, unlike 44 n d, unlike 45 n e, unlike 47 n f, unlike 48 n g, unlike 58 n h, unlike 59 n i, unlike 60 n j) refl
+
+-- a kind is the one with its number
+pub kind_numbered : (kind : CertKind) → kind_of (number_of kind) ≡ Some kind
+kind_numbered BadLine = refl
+kind_numbered BadLiteral = refl
+kind_numbered LineTooLong = refl
+kind_numbered NotRup = refl
+kind_numbered NotSatisfying = refl
+kind_numbered TooLong = refl
+kind_numbered EarlyEnd = refl
+kind_numbered BadId = refl
+kind_numbered BadHint = refl
+kind_numbered NotHinted = refl

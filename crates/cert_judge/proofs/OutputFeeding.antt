@@ -1,0 +1,106 @@
+-- What bytes hand on, one after the other.
+use Rattle.std.proofs.Common.{◌≡◌, ℕ, zero, suc, ◌+◌, ◌-◌, ◌<◌, ◌≤◌, Bool, List, [], ◌∷◌, ◌++◌, length, take, drop, get_or, refl, ap, sym, ◌∙◌, arith, subst, append_assoc}
+use Rattle.std.proofs.lemmas.List.{append-nil, take_rest}
+use Rattle.cert_stream.specs.Text.{NoFeed}
+use Rattle.cert_judge.specs.Judging.{JudgeOf, Stands as StreamStands, outcome_of}
+use Rattle.cert_judge.specs.OutputJudging.{Gave, Goes, OutputOf}
+use Rattle.cert_judge.specs.Spots.{given, given_by, next_spot, spot_after, values_after, values_behind}
+use Rattle.cert_judge.specs.declared.spot.Spot.{Spot}
+use Rattle.cert_judge.specs.declared.spot.Spot.TheVariants.{Within}
+
+-- bytes behind others
+pub spot_append : (spot : Spot) (a b : List ℕ) → spot_after spot (a ++ b) ≡ spot_after (spot_after spot a) b
+spot_append spot [] b = refl
+spot_append spot (x ∷ a) b = spot_append (next_spot spot x) a b
+
+pub values_append : (spot : Spot) (values : Bool) (a b : List ℕ) → values_after spot values (a ++ b) ≡ values_after (spot_after spot a) (values_after spot values a) b
+values_append spot values [] b = refl
+values_append spot values (x ∷ a) b = values_append (next_spot spot x) (values_behind spot values x) a b
+
+pub given_append : (spot : Spot) (a b : List ℕ) → given spot (a ++ b) ≡ given spot a ++ given (spot_after spot a) b
+given_append spot [] b = refl
+given_append spot (x ∷ a) b = ap (λ z. given_by spot x ++ z) (given_append (next_spot spot x) a b) ∙ sym (append_assoc (given_by spot x) (given (next_spot spot x) a) (given (spot_after (next_spot spot x) a) b))
+
+-- bytes within a line
+within_given : (t : List ℕ) → NoFeed t → given Within t ≡ t
+within_given [] h = refl
+within_given (b ∷ bs) (f, h) = rw f (ap (λ z. b ∷ z) (within_given bs h))
+
+within_spot : (t : List ℕ) → NoFeed t → spot_after Within t ≡ Within
+within_spot [] h = refl
+within_spot (b ∷ bs) (f, h) = rw f (within_spot bs h)
+
+within_values : (t : List ℕ) (values : Bool) → NoFeed t → values_after Within values t ≡ values
+within_values [] values h = refl
+within_values (b ∷ bs) values (f, h) = rw f (within_values bs values h)
+
+abbrev pub output : JudgeOf → Spot → Bool → OutputOf
+output j spot values = record { judge = j; spot = spot; values = values }
+
+pub goes_within : (j k : JudgeOf) (spot : Spot) (values : Bool) (t : List ℕ) → spot ≡ Within → NoFeed t → Gave j t k → Goes (output j spot values) t (output k spot values)
+goes_within j k spot values t e h g = rw e (record {
+  gave = subst (λ z. Gave j z k) (sym (within_given t h)) g;
+  spot = sym (within_spot t h);
+  values = sym (within_values t values h);
+})
+
+-- nothing
+pub gave_nothing : (j : JudgeOf) → Gave j [] j
+gave_nothing j = record {
+  same = record { formula = refl; kind = refl; most = refl };
+  stands = λ text s. subst (StreamStands j) (sym (append-nil text)) s;
+  again = λ o w e. refl;
+  wanting = λ w. w;
+}
+
+pub goes_nothing : (x : OutputOf) → Goes x [] x
+goes_nothing x = record { gave = gave_nothing x.judge; spot = refl; values = refl }
+
+-- one piece and then another
+gave_append : (j k l : JudgeOf) (a b : List ℕ) → Gave j a k → Gave k b l → Gave j (a ++ b) l
+gave_append j k l a b g h = record {
+  same = record { formula = h.same.formula ∙ g.same.formula; kind = h.same.kind ∙ g.same.kind; most = h.same.most ∙ g.same.most };
+  stands = λ text s. subst (StreamStands l) (append_assoc text a b) (h.stands (text ++ a) (g.stands text s));
+  again = λ o w e.
+      let i : k ≡ j = g.again o w e in
+      h.again o (ap (λ (z : JudgeOf). z.wanting) i ∙ w) (ap outcome_of i ∙ e) ∙ i;
+  wanting = λ w. h.wanting (g.wanting w);
+}
+
+pub goes_append : (x y z : OutputOf) (a b : List ℕ) → Goes x a y → Goes y b z → Goes x (a ++ b) z
+goes_append x y z a b g h = record {
+  gave = subst (λ t. Gave x.judge t z.judge) (ap (λ s. given x.spot a ++ given s b) g.spot ∙ sym (given_append x.spot a b)) (gave_append x.judge y.judge z.judge (given x.spot a) (given y.spot b) g.gave h.gave);
+  spot = h.spot ∙ ap (λ s. spot_after s b) g.spot ∙ sym (spot_append x.spot a b);
+  values = h.values ∙ ap (λ s. values_after s y.values b) g.spot ∙ ap (λ v. values_after (spot_after x.spot a) v b) g.values ∙ sym (values_append x.spot x.values a b);
+}
+
+-- so many bytes of a piece more
+take_add : (xs : List ℕ) (i n : ℕ) → take i xs ++ take n (drop i xs) ≡ take (i + n) xs
+take_add xs zero n = let k : n ≡ 0 + n = omega arith in ap (λ m. take m xs) k
+take_add [] (suc i) zero = let k : suc i ≡ suc i + 0 = omega arith in ap (λ m. take m []) k
+take_add [] (suc i) (suc n) = let k : suc (i + suc n) ≡ suc i + suc n = omega arith in ap (λ m. take m []) k
+take_add (x ∷ xs) (suc i) n = let k : suc (i + n) ≡ suc i + n = omega arith in ap (λ z. x ∷ z) (take_add xs i n) ∙ ap (λ m. take m (x ∷ xs)) k
+
+take_next : (xs : List ℕ) (i : ℕ) → i < length xs → take i xs ++ get_or xs i 0 ∷ [] ≡ take (i + 1) xs
+take_next [] i l = absurd (omega (arith, l))
+take_next (x ∷ xs) zero l = refl
+take_next (x ∷ xs) (suc i) l = let k : suc (i + 1) ≡ suc i + 1 = omega arith in ap (λ z. x ∷ z) (take_next xs i (omega (arith, l))) ∙ ap (λ m. take m (x ∷ xs)) k
+
+take_whole : (xs : List ℕ) (i : ℕ) → length xs ≤ i → take i xs ≡ xs
+take_whole [] zero l = refl
+take_whole [] (suc i) l = refl
+take_whole (x ∷ xs) zero l = absurd (omega (arith, l))
+take_whole (x ∷ xs) (suc i) l = ap (λ z. x ∷ z) (take_whole xs i (omega (arith, l)))
+
+module _ (x y z : OutputOf) (piece : List ℕ) (i : ℕ) (g : Goes x (take i piece) y) where
+  goes_more : (n : ℕ) → Goes y (take n (drop i piece)) z → Goes x (take (i + n) piece) z
+  goes_more n h = subst (λ t. Goes x t z) (take_add piece i n) (goes_append x y z (take i piece) (take n (drop i piece)) g h)
+
+  pub goes_rest : (n : ℕ) → Goes y (take n (take (length piece - i) (drop i piece))) z → Goes x (take (i + n) piece) z
+  goes_rest n h = goes_more n (subst (λ t. Goes y (take n t) z) (take_rest piece i) h)
+
+  pub goes_next : i < length piece → Goes y (get_or piece i 0 ∷ []) z → Goes x (take (i + 1) piece) z
+  goes_next l h = subst (λ t. Goes x t z) (take_next piece i l) (goes_append x y z (take i piece) (get_or piece i 0 ∷ []) g h)
+
+pub goes_all : (x y : OutputOf) (piece : List ℕ) (i : ℕ) → Goes x (take i piece) y → length piece ≤ i → Goes x piece y
+goes_all x y piece i g l = subst (λ t. Goes x t y) (take_whole piece i l) g

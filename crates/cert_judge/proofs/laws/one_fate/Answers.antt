@@ -1,0 +1,8 @@
+use Rattle.cert_judge.proofs.KindFates.{one_so_far, one_whole}
+use Rattle.cert_judge.proofs.laws.one_fate.Goals as goal
+
+pub returns-clause-whole : goal.returns-clause-whole
+returns-clause-whole c = one_whole
+
+pub returns-clause-so_far : goal.returns-clause-so_far
+returns-clause-so_far c = one_so_far

@@ -1,0 +1,20 @@
+-- Definitions.
+pub mod Values
+pub mod Fate
+pub mod Drup
+pub mod Lrat
+pub mod ProofFile
+pub mod Kinds
+pub mod Same
+pub mod Outcomes
+pub mod Certificate
+pub mod Reading
+pub mod Leading
+pub mod Lines
+pub mod Judging
+pub mod DrupCert
+pub mod Output
+pub mod Spots
+pub mod OutputFate
+pub mod OutputJudging
+pub mod Numbers

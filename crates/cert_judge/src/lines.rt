@@ -1,0 +1,278 @@
+// A parser and the certificate that hears what it reads, of whatever kind.
+
+ghost use Rattle.std.specs.Prelude.{◌≡◌, ◌≤◌, ◌<◌, ◌+◌, ◌^◌, List, length, ℕ, Option, Some, None, IfOk};
+ghost use Rattle.cert_judge.specs.Leading.{HasEnded, Heard, Leads, drup_ending, file_ending, lrat_ending};
+ghost use Rattle.cert_judge.specs.Lines.{Fits, Starts, Took, TookEnd, lines_bits, lines_or, lines_outcome, lines_taken};
+ghost use Rattle.cert_judge.specs.Reading.{drup_meaning, drup_parsing, file_parsing, lrat_meaning, lrat_parsing};
+ghost use Rattle.cert_judge.specs.declared.stream.Outcome.{Outcome};
+ghost use Rattle.cert_judge.specs.declared.stream.StreamKind.TheVariants.{Drup, Lrat, Proof, ProofBinary};
+ghost use Rattle.proof_stream.specs.File.{taken_of, vars_of};
+
+use crate::certificate::{Certificate, ProofChecker};
+use crate::stream::{CertKind, Outcome, StreamKind};
+use cert_stream::DrupParser;
+use cert_stream::lrat::LratParser;
+use cnf_form::Formula;
+use drup_check::Checker;
+use lrat_check::Hinted;
+use proof_stream::{Form, ProofParser};
+use std::alloc::{AllocError, Global};
+use std::marker::Model;
+
+/// What is kept of a stream: its parser, and the certificate that hears what it reads.
+#[derive(Drop)]
+pub(crate) struct Line<'a, P: Drop, C: ProofChecker> {
+    parser: P,
+    certificate: Certificate<'a, C>,
+}
+
+impl<'a, P: Drop, C: ProofChecker> Model for Line<'a, P, C> {
+    ghost use Rattle.cert_judge.specs.Certificate.{LineOf};
+
+    ghost Value = { LineOf P C };
+
+    ghost view = { λ a. record { parser = a.parser; certificate = a.certificate } };
+
+    ghost invariant = { λ a. Unit {0} };
+}
+
+/// The table of kinds: each has its parser and its checker.
+#[derive(Drop)]
+pub(crate) enum Lines<'a> {
+    Drup(Line<'a, DrupParser, Checker>),
+    Lrat(Line<'a, LratParser, Hinted>),
+    Proof(Line<'a, ProofParser, Checker>),
+    ProofBinary(Line<'a, ProofParser, Checker>),
+}
+
+fn new_drup<'a>(alloc: Global, formula: &'a Formula) -> Result<Lines<'a>, AllocError>
+    ensures { IfOk result (Starts formula.now Drup) }
+{
+    let certificate = Certificate::new(alloc, formula)?;
+    let parser = DrupParser::new(alloc, formula.vars());
+    Ok(Lines::Drup(Line {
+        parser,
+        certificate,
+    }))
+}
+
+fn new_lrat<'a>(alloc: Global, formula: &'a Formula) -> Result<Lines<'a>, AllocError>
+    ensures { IfOk result (Starts formula.now Lrat) }
+{
+    let certificate = Certificate::new(alloc, formula)?;
+    let parser = LratParser::new(alloc, formula.vars());
+    Ok(Lines::Lrat(Line {
+        parser,
+        certificate,
+    }))
+}
+
+fn new_proof<'a>(alloc: Global, formula: &'a Formula) -> Result<Lines<'a>, AllocError>
+    ensures { IfOk result (Starts formula.now Proof) }
+{
+    let certificate = Certificate::new(alloc, formula)?;
+    let parser = ProofParser::new(alloc, formula.vars(), Form::Text);
+    Ok(Lines::Proof(Line {
+        parser,
+        certificate,
+    }))
+}
+
+fn new_binary<'a>(alloc: Global, formula: &'a Formula) -> Result<Lines<'a>, AllocError>
+    ensures { IfOk result (Starts formula.now ProofBinary) }
+{
+    let certificate = Certificate::new(alloc, formula)?;
+    let parser = ProofParser::new(alloc, formula.vars(), Form::Binary);
+    Ok(Lines::ProofBinary(Line {
+        parser,
+        certificate,
+    }))
+}
+
+fn take_drup(line: &mut Line<DrupParser, Checker>, piece: &[u8]) -> Result<(), AllocError>
+    requires vars { line.old.certificate.formula.vars ≡ line.old.parser.vars }
+    requires open { line.old.certificate.outcome ≡ None }
+    requires count { line.old.parser.taken + length piece.now < 2 ^ 64 }
+    ensures heard { IfOk result (λ _. Heard drup_parsing drup_meaning line.old.parser line.old.certificate piece.now line.new.parser line.new.certificate) }
+    ensures vars { IfOk result (λ _. line.new.certificate.formula.vars ≡ line.new.parser.vars) }
+    ensures count { IfOk result (λ _. line.new.parser.taken ≤ line.old.parser.taken + length piece.now) }
+{
+    let fed = line.parser.feed(piece, &mut line.certificate)?;
+    line.certificate.conclude(fed);
+    Ok(())
+}
+
+fn take_lrat(line: &mut Line<LratParser, Hinted>, piece: &[u8]) -> Result<(), AllocError>
+    requires vars { line.old.certificate.formula.vars ≡ line.old.parser.vars }
+    requires open { line.old.certificate.outcome ≡ None }
+    requires count { line.old.parser.taken + length piece.now < 2 ^ 64 }
+    ensures heard { IfOk result (λ _. Heard lrat_parsing lrat_meaning line.old.parser line.old.certificate piece.now line.new.parser line.new.certificate) }
+    ensures vars { IfOk result (λ _. line.new.certificate.formula.vars ≡ line.new.parser.vars) }
+    ensures count { IfOk result (λ _. line.new.parser.taken ≤ line.old.parser.taken + length piece.now) }
+{
+    let fed = line.parser.feed(piece, &mut line.certificate)?;
+    line.certificate.conclude(fed);
+    Ok(())
+}
+
+fn take_file(line: &mut Line<ProofParser, Checker>, piece: &[u8]) -> Result<(), AllocError>
+    requires vars { line.old.certificate.formula.vars ≡ vars_of line.old.parser }
+    requires open { line.old.certificate.outcome ≡ None }
+    requires count { taken_of line.old.parser + length piece.now < 2 ^ 64 }
+    ensures heard { IfOk result (λ _. Heard file_parsing drup_meaning line.old.parser line.old.certificate piece.now line.new.parser line.new.certificate) }
+    ensures vars { IfOk result (λ _. line.new.certificate.formula.vars ≡ vars_of line.new.parser) }
+    ensures count { IfOk result (λ _. taken_of line.new.parser ≤ taken_of line.old.parser + length piece.now) }
+{
+    let fed = line.parser.feed(piece, &mut line.certificate)?;
+    line.certificate.conclude(fed);
+    Ok(())
+}
+
+fn end_drup(line: &mut Line<DrupParser, Checker>) -> Result<(), AllocError>
+    requires vars { line.old.certificate.formula.vars ≡ line.old.parser.vars }
+    requires open { line.old.certificate.outcome ≡ None }
+    ensures leads { IfOk result (λ _. Leads drup_meaning line.old.certificate (drup_ending line.old.parser) line.new.certificate) }
+    ensures vars { IfOk result (λ _. line.new.certificate.formula.vars ≡ line.new.parser.vars) }
+{
+    let fed = line.parser.end(&mut line.certificate)?;
+    line.certificate.conclude(fed);
+    Ok(())
+}
+
+fn end_lrat(line: &mut Line<LratParser, Hinted>) -> Result<(), AllocError>
+    requires vars { line.old.certificate.formula.vars ≡ line.old.parser.vars }
+    requires open { line.old.certificate.outcome ≡ None }
+    ensures leads { IfOk result (λ _. Leads lrat_meaning line.old.certificate (lrat_ending line.old.parser) line.new.certificate) }
+    ensures vars { IfOk result (λ _. line.new.certificate.formula.vars ≡ line.new.parser.vars) }
+{
+    let fed = line.parser.end(&mut line.certificate)?;
+    line.certificate.conclude(fed);
+    Ok(())
+}
+
+// Ends the lines of a file.
+fn end_file_lines(line: &mut Line<ProofParser, Checker>) -> Result<(), AllocError>
+    requires vars { line.old.certificate.formula.vars ≡ vars_of line.old.parser }
+    requires open { line.old.certificate.outcome ≡ None }
+    requires count { taken_of line.old.parser + 1 < 2 ^ 64 }
+    ensures leads { IfOk result (λ _. Leads drup_meaning line.old.certificate (file_ending line.old.parser) line.new.certificate) }
+    ensures vars { IfOk result (λ _. line.new.certificate.formula.vars ≡ vars_of line.new.parser) }
+{
+    let fed = line.parser.end(&mut line.certificate)?;
+    line.certificate.conclude(fed);
+    Ok(())
+}
+
+// A file's end tries a last empty clause.
+fn end_file(line: &mut Line<ProofParser, Checker>) -> Result<(), AllocError>
+    requires vars { line.old.certificate.formula.vars ≡ vars_of line.old.parser }
+    requires open { line.old.certificate.outcome ≡ None }
+    requires count { taken_of line.old.parser + 1 < 2 ^ 64 }
+    ensures ended { IfOk result (λ _. HasEnded line.old.parser line.old.certificate line.new.certificate) }
+    ensures vars { IfOk result (λ _. line.new.certificate.formula.vars ≡ vars_of line.new.parser) }
+{
+    let count = line.parser.taken();
+    end_file_lines(line)?;
+    line.certificate.try_empty(count)?;
+    line.certificate.end_at(count);
+    Ok(())
+}
+
+impl<'a> Lines<'a> {
+    /// Before the first byte.
+    pub(crate) fn new(
+        alloc: Global,
+        formula: &'a Formula,
+        kind: StreamKind,
+    ) -> Result<Self, AllocError>
+        ensures { IfOk result (Starts formula.now kind) }
+    {
+        match kind {
+            StreamKind::Drup => new_drup(alloc, formula),
+            StreamKind::Lrat => new_lrat(alloc, formula),
+            StreamKind::Proof => new_proof(alloc, formula),
+            StreamKind::ProofBinary => new_binary(alloc, formula),
+        }
+    }
+
+    pub(crate) fn outcome(&self) -> Option<Outcome>
+        ensures { result ≡ lines_outcome self.now }
+    {
+        match self {
+            Lines::Drup(line) => line.certificate.outcome(),
+            Lines::Lrat(line) => line.certificate.outcome(),
+            Lines::Proof(line) => line.certificate.outcome(),
+            Lines::ProofBinary(line) => line.certificate.outcome(),
+        }
+    }
+
+    /// How many bytes were taken, where there is no outcome.
+    pub(crate) fn taken(&self) -> u64
+        ensures { result ≡ lines_taken self.now }
+    {
+        match self {
+            Lines::Drup(line) => line.parser.taken(),
+            Lines::Lrat(line) => line.parser.taken(),
+            Lines::Proof(line) => line.parser.taken(),
+            Lines::ProofBinary(line) => line.parser.taken(),
+        }
+    }
+
+    /// A bit for each variable, at its number; place 0 is no variable's.
+    pub(crate) fn values(&self) -> &[bool]
+        ensures { result.now ≡ lines_bits self.now }
+    {
+        match self {
+            Lines::Drup(line) => line.certificate.bits(),
+            Lines::Lrat(line) => line.certificate.bits(),
+            Lines::Proof(line) => line.certificate.bits(),
+            Lines::ProofBinary(line) => line.certificate.bits(),
+        }
+    }
+
+    /// Where there is no outcome yet, it is this fault; answers the outcome.
+    pub(crate) fn outcome_or(&mut self, kind: CertKind, at: u64) -> Outcome
+        ensures outcome { lines_outcome self.new ≡ Some result }
+        ensures new { self.new ≡ lines_or self.old (Outcome.Bad (record { kind = kind; at = at })) }
+    {
+        match self {
+            Lines::Drup(line) => line.certificate.outcome_or(kind, at),
+            Lines::Lrat(line) => line.certificate.outcome_or(kind, at),
+            Lines::Proof(line) => line.certificate.outcome_or(kind, at),
+            Lines::ProofBinary(line) => line.certificate.outcome_or(kind, at),
+        }
+    }
+
+    /// Takes the next bytes of a stream.
+    pub(crate) fn take(&mut self, piece: &[u8]) -> Result<(), AllocError>
+        requires fits { Fits self.old }
+        requires open { lines_outcome self.old ≡ None }
+        requires count { lines_taken self.old + length piece.now < 2 ^ 64 }
+        ensures took { IfOk result (λ _. Took self.old piece.now self.new) }
+        ensures fits { IfOk result (λ _. Fits self.new) }
+        ensures count { IfOk result (λ _. lines_taken self.new ≤ lines_taken self.old + length piece.now) }
+    {
+        match self {
+            Lines::Drup(line) => take_drup(line, piece),
+            Lines::Lrat(line) => take_lrat(line, piece),
+            Lines::Proof(line) => take_file(line, piece),
+            Lines::ProofBinary(line) => take_file(line, piece),
+        }
+    }
+
+    /// Takes the stream's end.
+    pub(crate) fn end(&mut self) -> Result<(), AllocError>
+        requires fits { Fits self.old }
+        requires open { lines_outcome self.old ≡ None }
+        requires count { lines_taken self.old + 1 < 2 ^ 64 }
+        ensures took { IfOk result (λ _. TookEnd self.old self.new) }
+        ensures fits { IfOk result (λ _. Fits self.new) }
+    {
+        match self {
+            Lines::Drup(line) => end_drup(line),
+            Lines::Lrat(line) => end_lrat(line),
+            Lines::Proof(line) => end_file(line),
+            Lines::ProofBinary(line) => end_file(line),
+        }
+    }
+}

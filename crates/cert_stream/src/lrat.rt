@@ -1,0 +1,11 @@
+// Hinted proofs (LRAT without negative hints).
+
+mod feeding;
+mod laws;
+mod mode;
+mod parser;
+
+pub use feeding::LratReceiver;
+pub use laws::{faults_stay, pieces_join, pieces_say_the_same, sayings_go_on, streams_say_lines};
+pub use mode::{Hint, IdList, IdPart, LitList, MAX_HINTS, MAX_ID, Mode};
+pub use parser::LratParser;

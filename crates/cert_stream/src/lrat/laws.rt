@@ -1,0 +1,39 @@
+// Laws of hinted streams in pieces.
+
+ghost use Rattle.std.specs.Prelude.{◌≡◌, ℕ, Bool, true, false, List, ◌++◌};
+ghost use Rattle.cert_stream.specs.declared.mode.ParseFault.{ParseFault};
+ghost use Rattle.cert_stream.specs.LratMachine.{LratOf};
+ghost use Rattle.cert_stream.specs.LratTelling.{LratSaying, StandsFor, after, fresh, said, spoken};
+ghost use Rattle.cert_stream.specs.LratLines.{sayings};
+ghost use Rattle.cert_stream.specs.declared.lrat.mode.Mode.TheVariants.{Bad};
+
+/// What stands for the bytes so far stands, after a piece, for these with the piece behind them.
+#[tactic(auto, using(crate::proofs::LratCutting::stands_append))]
+pub fn pieces_join()
+    ensures { (vars : ℕ) (w : LratOf) (bytes piece : List ℕ) → StandsFor vars w bytes → StandsFor vars (after w piece) (bytes ++ piece) }
+{}
+
+/// Bytes say the same in pieces.
+#[tactic(auto, using(crate::proofs::LratCutting::said_append))]
+pub fn pieces_say_the_same()
+    ensures { (w : LratOf) (front back : List ℕ) → said w (front ++ back) ≡ said w front ++ said (after w front) back }
+{}
+
+/// A fault stays, whatever follows.
+#[tactic(auto, using(crate::proofs::LratFaults::bad_stays))]
+pub fn faults_stay()
+    ensures { (f : ParseFault) (w : LratOf) (bytes : List ℕ) → w.mode ≡ Bad f → (after w bytes).mode ≡ Bad f }
+{}
+
+/// What is said of a stream's bytes, whether it ends with them or may go on, is what its lines say.
+#[tactic(auto, using(crate::proofs::LratStreams::stream_spoken))]
+pub fn streams_say_lines()
+    ensures { (vars : ℕ) (ended : Bool) (bytes : List ℕ) → spoken ended (fresh vars) bytes ≡ sayings vars ended bytes }
+{}
+
+/// What was said stays said, whatever follows, and where the stream ends.
+#[tactic(auto, using(crate::proofs::LratGoingOn::sayings_more, crate::proofs::LratGoingOn::sayings_end))]
+pub fn sayings_go_on()
+    ensures goes_on { (vars : ℕ) (ended : Bool) (bytes rest : List ℕ) → (more : List LratSaying) × (sayings vars ended (bytes ++ rest) ≡ sayings vars false bytes ++ more) }
+    ensures ends { (vars : ℕ) (bytes : List ℕ) → (more : List LratSaying) × (sayings vars true bytes ≡ sayings vars false bytes ++ more) }
+{}

@@ -1,4 +1,0 @@
-pub mod Coming
-pub mod Fates
-pub mod Leading
-pub mod Taking

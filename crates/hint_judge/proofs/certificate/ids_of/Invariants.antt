@@ -1,6 +1,0 @@
-use Rattle.std.proofs.Common.{◌≡◌, ◌++◌, drop}
-use Rattle.hint_judge.specs.Fate.{ids_of}
-use Rattle.hint_judge.proofs.certificate.ids_of.Given as goal
-
-abbrev pub invariant-loop-hint : goal.invariant-loop-hint
-invariant-loop-hint l = ids_of l.hints ≡ l.ids.items ++ ids_of (drop l.hint-index l.hints)

@@ -1,2 +1,0 @@
-pub mod Fates
-mod Judges

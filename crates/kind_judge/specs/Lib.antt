@@ -1,4 +1,0 @@
--- Definitions.
-pub mod Fates
-pub mod Judging
-pub mod Reading

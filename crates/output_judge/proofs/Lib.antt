@@ -1,5 +1,0 @@
-pub mod Feeding
-pub mod Reading
-pub mod Answering
-pub mod Fates
-pub mod Deciding

@@ -1,9 +1,0 @@
-use Rattle.std.proofs.Common.{◌++◌}
-use Rattle.output_judge.proofs.Fates.{output_at_end, output_stays}
-use Rattle.output_judge.proofs.laws.fates_stay.Goals as goal
-
-pub returns-clause-so_far : goal.returns-clause-so_far
-returns-clause-so_far c = output_stays
-
-pub returns-clause-whole : goal.returns-clause-whole
-returns-clause-whole c = λ job bytes rest most x h. output_at_end job (bytes ++ rest) most x (output_stays job bytes rest most x h)

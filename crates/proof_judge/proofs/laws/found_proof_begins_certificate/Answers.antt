@@ -1,5 +1,0 @@
-use Rattle.proof_judge.proofs.Certificates.{file_found_cert}
-use Rattle.proof_judge.proofs.laws.found_proof_begins_certificate.Goals as goal
-
-pub returns : goal.returns
-returns c = file_found_cert

@@ -1,5 +1,0 @@
--- Definitions.
-pub mod Fate
-pub mod Leading
-pub mod Judging
-pub mod Same

@@ -1,5 +1,0 @@
-use Rattle.stream_judge.proofs.Accepting.{cert_fate}
-use Rattle.stream_judge.proofs.laws.certificate_is_found.Goals as goal
-
-pub returns : goal.returns
-returns c = λ job stream most answer w l. (w.0, w.1, cert_fate w.0 stream most answer w.2 l)

@@ -1,8 +1,0 @@
--- Definitions.
-pub mod Values
-pub mod Fate
-pub mod Cert
-pub mod Outcomes
-pub mod Leading
-pub mod Judging
-pub mod Numbers
