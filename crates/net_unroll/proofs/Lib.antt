@@ -1,0 +1,4 @@
+pub mod Settling
+pub mod Stepping
+pub mod Numbering
+pub mod Bounding

@@ -1,0 +1,5 @@
+pub mod Asking
+pub mod Program
+pub mod Making
+pub mod Encoding
+pub mod Finishing
