@@ -79,6 +79,7 @@ fn clock_of(alloc: Global) -> Result<ListClock, AllocError> {
 }
 
 // A store that tells nothing, and of which each call fails. The children of scripts read no file.
+#[derive(Drop)]
 struct NoFiles {
     faults: u64,
 }

@@ -54,8 +54,6 @@ fn events_change_their_part(rt: HostRuntime) {
         keeper: Keeper::Fresh,
         place: Place::Away,
     };
-    state = lane_step(state, LaneEvent::Took);
-    assert!(rt; state.place == Place::Held);
     state = lane_step(state, LaneEvent::Clock(14));
     assert!(rt; matches!(state.keeper, Keeper::Turning));
     state = lane_step(
@@ -68,6 +66,8 @@ fn events_change_their_part(rt: HostRuntime) {
     assert!(rt; matches!(state.reader, Reader::Unknown { by: By::Bytes }));
     state = lane_step(state, LaneEvent::Clock(15));
     assert!(rt; matches!(state.keeper, Keeper::Due(Reason::Limit(15))));
+    state = lane_step(state, LaneEvent::Took);
+    assert!(rt; state.place == Place::Held && matches!(state.keeper, Keeper::Wrong));
 }
 
 // A read that was judged More.
