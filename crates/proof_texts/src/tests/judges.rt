@@ -278,3 +278,28 @@ fn takes_two_hundred_hints_and_the_greatest_id(rt: HostRuntime) -> Result<(), Fa
     assert_eq!(rt; hinted_told(alloc, &formula, text.as_str())?, wanted);
     Ok(())
 }
+
+// A clause that the formula has a literal of as a unit, added so many times, and each copy deleted.
+fn copies(alloc: Global, count: u32) -> Result<String, AllocError> {
+    let mut text = String::new(alloc);
+    for _ in 0..count {
+        text.push_str("5 6 0\n")?;
+    }
+    for _ in 0..count {
+        text.push_str("d 5 6 0\n")?;
+    }
+    Ok(text)
+}
+
+// Endless where a deleted copy is passed again by each later deletion.
+#[test]
+fn a_hundred_thousand_copies_are_deleted(rt: HostRuntime) -> Result<(), Fail> {
+    let alloc = rt.alloc();
+    let formula = formula_of(alloc, "p cnf 6 2\n5 0\n1 2 0\n")?;
+    let text = copies(alloc, 100_000)?;
+    let wanted = format!(in alloc; "EarlyEnd {}", text.len())?;
+    let pieces = (text.as_bytes(), text.as_bytes().split_at(0).0);
+    let told = stream_told(alloc, &formula, StreamKind::Drup, 1 << 24, pieces)?;
+    assert_eq!(rt; told, wanted);
+    Ok(())
+}
