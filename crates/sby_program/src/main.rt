@@ -45,8 +45,8 @@ fn run_program<R: Threads + Wait + Sync, F: Files, S: Sink, Y: Yard, C: Clock>(
 ) -> u8
     ensures { (done : Done)
         × Did (C.may_read clock.now)
-        (record { told = F.told files.old; file_faults = F.faults files.old; blamed = F.blamed files.old; taken = S.taken out.old; sink_faults = S.faults out.old; ended = S.ended out.old; scripts = Y.told yard.old; children = record { starts = Y.start_faults yard.old; reads = Y.read_faults yard.old; holds = Y.hold_faults yard.old } })
-        (record { told = F.told files.new; file_faults = F.faults files.new; blamed = F.blamed files.new; taken = S.taken out.new; sink_faults = S.faults out.new; ended = S.ended out.new; scripts = Y.told yard.new; children = record { starts = Y.start_faults yard.new; reads = Y.read_faults yard.new; holds = Y.hold_faults yard.new } })
+        (record { told = F.told files.old; file_faults = F.faults files.old; blamed = F.blamed files.old; taken = S.taken out.old; sink_faults = S.faults out.old; ended = S.ended out.old; yard = record { scripts = Y.told yard.old; started = Y.started yard.old; counts = record { starts = Y.start_faults yard.old; reads = Y.read_faults yard.old; holds = Y.hold_faults yard.old } } })
+        (record { told = F.told files.new; file_faults = F.faults files.new; blamed = F.blamed files.new; taken = S.taken out.new; sink_faults = S.faults out.new; ended = S.ended out.new; yard = record { scripts = Y.told yard.new; started = Y.started yard.new; counts = record { starts = Y.start_faults yard.new; reads = Y.read_faults yard.new; holds = Y.hold_faults yard.new } } })
         (map string_bytes words.now) done
         × (result ≡ done.rc) }
 {
