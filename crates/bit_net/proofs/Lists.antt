@@ -137,7 +137,7 @@ pub numbers_end : (first count : ℕ) → numbers first (suc count) ≡ numbers 
 numbers_end first zero = ap (λ (n : ℕ). n ∷ []) (let e : first ≡ first + 0 = omega arith in e)
 numbers_end first (suc count) = ap (λ (xs : List ℕ). first ∷ xs) (numbers_end (suc first) count ∙ ap (λ (n : ℕ). numbers (suc first) count ++ n ∷ []) (let e : suc first + count ≡ first + suc count = omega arith in e))
 
--- Rising numbers: each is less than what stands behind it.
+-- Rising numbers: each is less than what stands after it.
 abbrev pub IsRisingFrom : ℕ → List ℕ → Type 0
 IsRisingFrom low [] = Unit {0}
 IsRisingFrom low (x ∷ xs) = (low ≤ x) × IsRisingFrom (suc x) xs

@@ -161,7 +161,7 @@ node_of_gate n k g at =
     ∙ ap (λ (j : ℕ). gate_node (slice_get n.gates j)) (let e : gate_var n k - gate_var n 0 ≡ k = omega arith in e)
     ∙ ap gate_node at
 
--- what has been found of what lies behind
+-- what has been found of what lies beyond
 pub record IsDescent (n : NetOf) (old new : List ℕ) (next : ℕ) : Type 0 where
   pub front : (more : List ℕ) × (new ≡ old ++ more)
   pub inside : next ≤ length new
@@ -267,7 +267,7 @@ takes_other n vs a b v other p = record {
   ]);
 }
 
--- one variable more of those behind a place
+-- one variable more of those after a place
 pub part_more : (xs : List ℕ) (begin i v : ℕ) → begin ≤ i → i < length xs → get_or xs i v ≡ v → drop begin (take (i + 1) xs) ≡ drop begin (take i xs) ++ v ∷ []
 part_more xs begin i v b l at =
     let short : begin ≤ length (take i xs) = let z = length-take i xs in omega arith in

@@ -70,12 +70,12 @@ Follows n x y = (k : ℕ) (s : State) → slice_get n.states k ≡ Some s → y 
 abbrev pub Starts : NetOf → Assignment → Type 0
 Starts n x = (k : ℕ) (s : State) (b : Bool) → slice_get n.states k ≡ Some s → s.start ≡ Some b → x (state_var k) ≡ b
 
--- so many neighbouring cycles from any state
+-- this many neighbouring cycles from any state
 pub record Window (n : NetOf) (count : ℕ) (xs : ℕ → Assignment) : Type 0 where
   pub frames : (t : ℕ) → t < count → Frame n (xs t)
   pub follows : (t : ℕ) → suc t < count → Follows n (xs t) (xs (suc t))
 
--- so many neighbouring cycles from a start
+-- this many neighbouring cycles from a start
 pub record Run (n : NetOf) (count : ℕ) (xs : ℕ → Assignment) : Type 0 where
   pub window : Window n count xs
   pub starts : 0 < count → Starts n (xs 0)

@@ -14,7 +14,7 @@ use Rattle.bit_net.specs.declared.node.Node.TheVariants as node
 abbrev pub is_one_of : List LitOf → ℕ → Bool
 is_one_of lits v = list_any (λ l. eqb l.var v) lits
 
--- so many numbers from the first on
+-- this many numbers from the first on
 abbrev pub numbers : ℕ → ℕ → List ℕ
 numbers first zero = []
 numbers first (suc count) = first ∷ numbers (suc first) count
@@ -43,7 +43,7 @@ next_of (node.State s) = s.next ∷ []
 next_of node.Input = []
 next_of (node.Gate g) = []
 
--- what literals rest on within so many register steps: those of `now`, and one step back those of `before` too
+-- what literals rest on within this many register steps: those of `now`, and one step back those of `before` too
 abbrev pub reached : NetOf → List LitOf → List LitOf → ℕ → ℕ → Bool
 reached n now before zero = spread (entries n) (is_one_of now)
 reached n now before (suc d) = spread (entries n) (λ v. reached n now before d v || (taken 0 n.states (reached n now before d) v || is_one_of before v))
@@ -62,7 +62,7 @@ abbrev pub nearer : NetOf → List LitOf → List LitOf → ℕ → ℕ → Bool
 nearer n now before zero v = false
 nearer n now before (suc d) v = reached n now before d v
 
--- the variable is reached by so many register steps, and by no fewer
+-- the variable is reached by this many register steps, and by no fewer
 abbrev pub is_at : NetOf → List LitOf → List LitOf → ℕ → ℕ → Bool
 is_at n now before d v = reached n now before d v && not (nearer n now before d v)
 

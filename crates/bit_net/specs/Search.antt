@@ -59,7 +59,7 @@ abbrev pub begun : NetOf → List LitOf → List LitOf → ℕ → ℕ → Bool
 begun n now before zero v = is_one_of now v
 begun n now before (suc d) v = reached n now before d v || (taken 0 n.states (reached n now before d) v || is_one_of before v)
 
--- The first `end` variables are those of the first d levels, and behind them stands what level d begins with.
+-- The first `end` variables are those of the first d levels, and after them stands what level d begins with.
 pub record AtLevel (n : NetOf) (now before : List LitOf) (found : List ℕ) (end d : ℕ) : Type 0 where
   pub inside : end ≤ length found
   pub done : take end found ≡ levels n now before d

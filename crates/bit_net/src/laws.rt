@@ -24,7 +24,7 @@ pub fn parts_extend()
         → (ys : ℕ → Assignment) × Extends n count need rest xs ys × Run n count ys }
 {}
 
-/// What is reached by so many register steps: the literals themselves, with a gate what it reads, with a state, one step further, what it
+/// What is reached by this many register steps: the literals themselves, with a gate what it reads, with a state, one step further, what it
 /// takes next, and nothing else.
 pub fn levels_are_reached()
     ensures now { (n : NetOf) (now before : List LitOf) (d : ℕ) (l : LitOf) → Contains now l → reached n now before d l.var ≡ true }

@@ -25,7 +25,7 @@ impl Model for Levels {
 }
 
 impl Levels {
-    // These variables, so many in the first levels.
+    // These variables, this many in the first levels.
     pub fn new(order: Vec<u32>, ends: Vec<usize>) -> Levels
         requires { All (λ e. e ≤ length order.items) ends.items }
         ensures { result ≡ record { order = order.items; ends = ends.items } }

@@ -37,7 +37,7 @@ impl Model for Net {
 }
 
 impl Net {
-    /// A net of these states, so many inputs, and these gates. `asserted` is true where no assertion is broken, if there is an assertion,
+    /// A net of these states, this many inputs, and these gates. `asserted` is true where no assertion is broken, if there is an assertion,
     /// `assumed` where all assumptions hold, and each literal of `covers` where its cover statement is reached.
     pub fn new(
         states: Vec<State>,
@@ -74,14 +74,14 @@ impl Net {
         self.states.as_slice()
     }
 
-    /// How many inputs there are; their variables are those behind the states'.
+    /// How many inputs there are; their variables are those after the states'.
     pub fn inputs(&self) -> u32
         ensures { result ≡ self.now.inputs }
     {
         self.inputs
     }
 
-    /// The gates; their variables are those behind the inputs'.
+    /// The gates; their variables are those after the inputs'.
     pub fn gates(&self) -> &[Gate]
         ensures { result.now ≡ self.now.gates }
     {

@@ -18,7 +18,7 @@ use cnf_form::Lit;
 use gate_graph::Gate;
 use std::alloc::{AllocError, Global};
 
-// Puts a variable behind those that were found, unless it was found or is that which is true.
+// Puts a variable after those that were found, unless it was found or is that which is true.
 fn visit(seen: &mut Vec<bool>, found: &mut Vec<u32>, var: u32) -> Result<(), AllocError>
     requires search { IsSearch seen.old.items found.old.items }
     requires inside { var < length seen.old.items }
@@ -140,7 +140,7 @@ fn sort_from(found: &mut Vec<u32>, begin: usize)
     found[begin..].sort_unstable();
 }
 
-// One level: what stands behind the first `begin` variables, with all that it rests on by gates, and behind it what the next level begins
+// One level: what stands after the first `begin` variables, with all that it rests on by gates, and after it what the next level begins
 // with. How many variables stand up to this level.
 fn one_level(
     net: &Net,
@@ -169,7 +169,7 @@ fn one_level(
     Ok(end)
 }
 
-// No mark for so many variables.
+// No mark for this many variables.
 fn unmarked(alloc: Global, count: usize) -> Result<Vec<bool>, AllocError>
     ensures { IfOk result (λ marks. marks.items ≡ replicate count false) }
 {

@@ -74,7 +74,7 @@ reorders_less (x ∷ xs) ys c (placed y F K L r j) =
     let v = inserts_swap w.1 j in
     (v.0, v.2, placed x (xs ++ ys) w.0 v.0 w.2 v.1)
 
--- the clauses before and behind that of a number
+-- the clauses before and after that of a number
 pub slot_parts : (slots : List (Option (List LitOf))) (k : ℕ) (c : List LitOf) → slot_at slots k ≡ Some c
     → (xs : List (List LitOf)) × (ys : List (List LitOf)) × (clauses_of slots ≡ xs ++ c ∷ ys) × (clauses_of (set slots k None) ≡ xs ++ ys)
 slot_parts [] k c e = absurd (let f : None ≡ Some c = e in cc)
@@ -89,7 +89,7 @@ orders_same F = record { forth = λ H r. r }
 pub orders_both : {F G K : List (List LitOf)} → SameOrders F G → SameOrders G K → SameOrders F K
 orders_both s t = record { forth = λ H r. t.forth H (s.forth H r) }
 
--- a clause of the second part goes behind the first
+-- a clause of the second part goes after the first
 pub orders_thaw : (A : List (List LitOf)) (slots : List (Option (List LitOf))) (k : ℕ) (c : List LitOf) → slot_at slots k ≡ Some c → SameOrders (A ++ clauses_of slots) ((A ++ c ∷ []) ++ clauses_of (set slots k None))
 orders_thaw A slots k c e =
     let w = slot_parts slots k c e in
@@ -103,7 +103,7 @@ orders_thaw A slots k c e =
           subst (λ z. Reorders z H) (sym (ap (λ z. (A ++ c ∷ []) ++ z) w.3 ∙ append_assoc A (c ∷ []) (xs ++ ys))) r2;
     }
 
--- a clause of the first part goes behind the second
+-- a clause of the first part goes after the second
 pub orders_freeze : (B : List (List LitOf)) (slots : List (Option (List LitOf))) (k : ℕ) (c : List LitOf) → slot_at slots k ≡ Some c → SameOrders (clauses_of slots ++ B) (clauses_of (set slots k None) ++ (B ++ c ∷ []))
 orders_freeze B slots k c e =
     let w = slot_parts slots k c e in

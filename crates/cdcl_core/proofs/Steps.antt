@@ -214,7 +214,7 @@ module _ {A : Type 0} (takes : A → Line → A → Type 0) where
     }
 
     module _ (fails : A → Line → A → Type 0) where
-      -- memory ran out behind what was logged
+      -- memory ran out after what was logged
       pub stops_now : (old : Solver) (now : A) → Stops takes fails faults old now now OutOfMemory
       stops_now old now f first budget h w = held_stops takes f budget first now (present_of old) old.conflicts old.deletions (omega (arith, h)) w.held
 
@@ -228,7 +228,7 @@ module _ {A : Type 0} (takes : A → Line → A → Type 0) where
       pub stops_moves : (old mid : Solver) (now next : A) (e : Stop) → Moves old mid → Stops takes fails faults mid now next e → Stops takes fails faults old now next e
       stops_moves old mid now next e m w = stops_later old mid now now next e (leads_moves old mid now m) m.conflicts w
 
-      -- behind a clause that was logged
+      -- after a clause that was logged
       pub stops_added : (old : Solver) (c : List LitOf) (now next : A) → IsAddable old.core old.frozen c → takes now (Addition c) next → Stops takes fails faults old now next OutOfMemory
       stops_added old c now next a t f first budget h k =
           let o = k.of in
@@ -275,7 +275,7 @@ module _ {A : Type 0} (takes : A → Line → A → Type 0) where
             r,
           )
 
-      -- what a step comes to behind what was logged before
+      -- what a step comes to after what was logged before
       pub step_later : (old mid new : Solver) (now then next : A) (s : Step) → Leads takes faults old mid now then → mid.conflicts ≡ old.conflicts → length (clauses_of mid.frozen.slots) ≤ length (clauses_of old.frozen.slots)
           → StepFits takes fails faults mid new then next s → StepFits takes fails faults old new now next s
       step_later old mid new now then next (Answered s) l n few w = (w.0, λ f first budget h k. w.1 f first budget (omega (arith, h, n)) (l.on f first k))

@@ -24,7 +24,7 @@ clause_of (Deletion c) = c
 abbrev pub AreProper : ℕ → List Line → Type 0
 AreProper vars lines = All (λ l. IsProper vars (clause_of l)) lines
 
--- The lines lead from the clauses F to those that are present, after so many additions and deletions: each clause that is added is
+-- The lines lead from the clauses F to those that are present, after this many additions and deletions: each clause that is added is
 -- admitted at its place, new, not empty and no tautology, and at each deletion the deletions are at most half of the additions.
 pub data Logged (F : List (List LitOf)) : List Line → List (List LitOf) → ℕ → ℕ → Type 0 where
   none : Logged F [] F 0 0

@@ -45,7 +45,7 @@ pub record IsOf (f : FormulaOf) (s : Solver) : Type 0 where
   pub given : s.given ≡ length f.clauses
   pub begun : IsBegun f.clauses s.core.slots
 
--- lines were logged that lead to these clauses, in some order: so many additions and deletions
+-- lines were logged that lead to these clauses, in some order: this many additions and deletions
 pub record IsHeld {A : Type 0} (takes : A → Line → A → Type 0) (f : FormulaOf) (first now : A) (present : List (List LitOf)) (count deleted : ℕ) : Type 0 where
   pub order : List (List LitOf)
   pub reorders : Reorders present order

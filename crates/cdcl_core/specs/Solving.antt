@@ -14,7 +14,7 @@ abbrev pub Takes : {A : Type 0} → (A → Line → A → Type 0) → A → List
 Takes takes before [] now = now ≡ before
 Takes takes before (l ∷ ls) now = (next : _) × takes before l next × Takes takes next ls now
 
--- lines were logged: so many clauses, each proper, and those of the formula and they are present but for deletions
+-- lines were logged: this many clauses, each proper, and those of the formula and they are present but for deletions
 pub record IsSearch {A : Type 0} (takes : A → Line → A → Type 0) (f : FormulaOf) (before now : A) (present : List (List LitOf)) (count : ℕ) : Type 0 where
   pub lines : List Line
   pub deletions : ℕ
@@ -31,7 +31,7 @@ pub record IsFound {A : Type 0} (takes : A → Line → A → Type 0) (f : Formu
   pub sized : length values ≡ f.vars + 1
   pub satisfies : Satisfies (valued values) f.clauses
 
--- no values satisfy the formula, and behind what was logged before the budget was spent the log took the empty clause, which is
+-- no values satisfy the formula, and after what was logged before the budget was spent the log took the empty clause, which is
 -- admitted there
 pub record IsRefuted {A : Type 0} (takes : A → Line → A → Type 0) (f : FormulaOf) (budget : ℕ) (before now : A) : Type 0 where
   pub last : A

@@ -94,7 +94,7 @@ fn reopen(core: &Propagator, order: &mut Order, place: usize) -> Result<(), Allo
     Ok(())
 }
 
-// Takes all levels back, where there are some; behind a conflict too.
+// Takes all levels back, where there are some; after a conflict too.
 pub(crate) fn back_to_root(core: &mut Propagator, order: &mut Order) -> Result<(), AllocError>
     requires driven { IsDriven core.old }
     requires levels { 0 < length core.old.limits }

@@ -7,10 +7,10 @@ use decision_order::is_satisfied;
 use std::alloc::{AllocError, Global};
 use unit_propagation::Propagator;
 
-// So many conflicts come before the first reduction.
+// This many conflicts come before the first reduction.
 const FIRST_INTERVAL: u64 = 1000;
 
-// So many conflicts more come before each later one.
+// This many conflicts more come before each later one.
 const INTERVAL_STEP: u64 = 150;
 
 // A clause of this glue or less is kept, ..
@@ -19,14 +19,14 @@ const GOOD_GLUE: u32 = 3;
 // .. and in a long search of this.
 const BEST_GLUE: u32 = 2;
 
-// A clause up to this glue is in the second tier: it is kept through two reductions behind the last conflict that rested on it, others
+// A clause up to this glue is in the second tier: it is kept through two reductions after the last conflict that rested on it, others
 // through one (Chanseok Oh, 2015).
 const MIDDLE_GLUE: u32 = 6;
 
-// From so many conflicts on a search is long: propagation would slow down with all the clauses that are kept.
+// From this many conflicts on a search is long: propagation would slow down with all the clauses that are kept.
 const LONG: u64 = 32_000;
 
-// Whether a search of so many conflicts is long.
+// Whether a search of this many conflicts is long.
 pub(crate) fn is_long(conflicts: u64) -> bool {
     conflicts >= LONG
 }
@@ -76,7 +76,7 @@ impl Learnts {
         }
     }
 
-    // One more clause, of so many literals.
+    // One more clause, of this many literals.
     pub fn push(&mut self, glue: u32, length: usize) -> Result<(), AllocError> {
         self.glues.push(glue)?;
         self.used.push(turns(glue))?;
@@ -84,7 +84,7 @@ impl Learnts {
         Ok(())
     }
 
-    // A frozen clause of so many literals was put back: it is worth keeping for a while.
+    // A frozen clause of this many literals was put back: it is worth keeping for a while.
     pub fn push_thawed(&mut self, length: usize) -> Result<(), AllocError> {
         self.push(GOOD_GLUE, length)
     }
@@ -110,7 +110,7 @@ impl Learnts {
         }
     }
 
-    // Whether clauses are to be deleted or frozen after so many conflicts.
+    // Whether clauses are to be deleted or frozen after this many conflicts.
     pub fn is_due(&mut self, conflicts: u64) -> bool {
         if conflicts < self.due {
             return false;

@@ -8,7 +8,7 @@ use cnf_form::Lit;
 use std::alloc::{AllocError, Global};
 use unit_propagation::Propagator;
 
-// So many literals are gone through at once.
+// This many literals are gone through at once.
 const MAX_DEPTH: usize = 500;
 
 // What was found of a true literal: nothing yet; that it follows from literals that are marked; that it is marked, and does not; or
@@ -49,7 +49,7 @@ impl Minimizer {
         })
     }
 
-    // The literals that follow from marked ones, each behind those that it follows from.
+    // The literals that follow from marked ones, each after those that it follows from.
     pub fn implied(&self) -> &[Lit] {
         self.implied.as_slice()
     }

@@ -6,16 +6,16 @@ use cnf_form::Lit;
 use std::alloc::{AllocError, Global};
 use unit_propagation::Propagator;
 
-// In focused mode, so many conflicts come at least between one restart and the next.
+// In focused mode, this many conflicts come at least between one restart and the next.
 const LEAST: u64 = 50;
 
 // In stable mode, the conflicts between one restart and the next are a multiple of this.
 const STABLE_UNIT: u64 = 1024;
 
-// The first stretches have so many conflicts, and each later pair half as many more.
+// The first stretches have this many conflicts, and each later pair half as many more.
 const FIRST_STRETCH: u64 = 1000;
 
-// The fast and the slow average are over so many of the clauses learnt last.
+// The fast and the slow average are over this many of the clauses learnt last.
 const FAST_WINDOW: u64 = 32;
 
 const SLOW_WINDOW: u64 = 8192;
@@ -80,7 +80,7 @@ fn level_of(core: &Propagator, l: Lit) -> usize {
     low
 }
 
-// What an average over so many values becomes by one more.
+// What an average over this many values becomes by one more.
 fn moved(average: u64, value: u64, count: u64) -> u64 {
     if count == 0 {
         return value;
@@ -164,7 +164,7 @@ impl Restarts {
         self.stable
     }
 
-    // Whether the search is to begin anew.
+    // Whether the search is to restart.
     pub fn is_due(&mut self) -> bool {
         self.change_mode();
         let due = if self.stable {

@@ -46,7 +46,7 @@ pub(crate) enum Step {
     Thawed,
 }
 
-// What a search stands on: the watched clauses with the trail, of which so many, the formula's, come first; the frozen clauses; the
+// What a search stands on: the watched clauses with the trail, of which this many, the formula's, come first; the frozen clauses; the
 // number of a falsified clause; how many clauses were logged, one for each conflict, and how many of them were deleted. The rest
 // chooses, and nothing is promised of it; `fixed` is how many literals level 0 had when frozen clauses were gone through last.
 #[derive(Drop)]

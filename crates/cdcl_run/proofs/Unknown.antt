@@ -51,7 +51,7 @@ module _ (vars : ℕ) (small : vars < 2 ^ 64) (C : List (List LitOf)) where
   abbrev Comes : List (List LitOf) → List Saying → Type 0
   Comes F ss = ComesTo C F unnamed ss (Some Unknown)
 
-  -- what a clause's line says, and a deletion's, each with a line feed behind it
+  -- what a clause's line says, and a deletion's, each with a line feed after it
   module _ (at : ℕ) (t : List ℕ) (broken going more : List Saying) where
     abbrev here : List Word
     here = words_from true at [] t
@@ -92,7 +92,7 @@ module _ (vars : ℕ) (small : vars < 2 ^ 64) (C : List (List LitOf)) where
   unknown_comes : (at : ℕ) (F : List (List LitOf)) → Comes F (lines_say vars true false at (lines_of unknown_line))
   unknown_comes at F = refl
 
-  -- a line, and what comes behind it
+  -- a line, and what comes after it
   first_line : (at : ℕ) (F : List (List LitOf)) (t s : List ℕ) (u : List ℕ) (ts : List (List ℕ)) → NoFeed t → lines_of s ≡ u ∷ ts
       → Comes F (line_says vars true false (bad BadLine (at + length t)) (lines_say vars true true (at + length t + 1) (u ∷ ts)) (lines_say vars true false (at + length t + 1) (u ∷ ts)) (words_from true at [] t))
       → Comes F (lines_say vars true false at (lines_of (t ++ 10 ∷ s)))

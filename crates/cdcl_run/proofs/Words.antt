@@ -144,7 +144,7 @@ module _ (vars : ℕ) (small : vars < 2 ^ 64) where
   lit_word : (l : LitOf) → l.var ≤ vars → IsWord (literal_text l)
   lit_word l h = literal_word l (omega (arith, h, small))
 
-  -- literals with a space behind each, and 0
+  -- literals with a space after each, and 0
   pub bare : List LitOf → List ℕ
   bare [] = codes "0"
   bare (l ∷ c) = literal_text l ++ 32 ∷ bare c

@@ -17,7 +17,7 @@ abbrev pub literals_from : ℕ → List Bool → List LitOf
 literals_from v [] = []
 literals_from v (b ∷ bs) = record { var = v; negated = not b } ∷ literals_from (v + 1) bs
 
--- The lines of a search for values of the formula that a job's file is: so many clauses were added, each admitted at its place, new, not
+-- The lines of a search for values of the formula that a job's file is: this many clauses were added, each admitted at its place, new, not
 -- empty and no tautology, and at each deletion the deletions are at most half of the additions.
 pub record IsSearched (job : List ℕ) (proof : List Line) (count : ℕ) : Type 0 where
   pub formula : FormulaOf
@@ -27,7 +27,7 @@ pub record IsSearched (job : List ℕ) (proof : List Line) (count : ℕ) : Type 
   pub logged : Logged formula.clauses proof present count deletions
   pub proper : AreProper formula.vars proof
 
--- A stream that begins with a certificate for Unsat and a line feed: the lines of a search, the empty clause, which is admitted behind
+-- A stream that begins with a certificate for Unsat and a line feed: the lines of a search, the empty clause, which is admitted after
 -- them, and a last line that says so.
 pub record IsUnsatStream (job : List ℕ) (budget : ℕ) (stream : List ℕ) : Type 0 where
   pub cert : List ℕ

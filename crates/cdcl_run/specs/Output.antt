@@ -2,7 +2,7 @@
 use Rattle.std.specs.Prelude.{◌≡◌, ℕ, ◌<◌, List, ◌++◌, length, take, Option, option_map}
 use Rattle.sby_edge.specs.Cause.{Rose}
 
--- what is told, with these bytes behind it
+-- what is told, with these bytes after it
 abbrev pub grown : Option (List ℕ) → List ℕ → Option (List ℕ)
 grown before bytes = option_map (λ taken. taken ++ bytes) before
 

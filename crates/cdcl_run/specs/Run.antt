@@ -54,7 +54,7 @@ IsServed before after bytes budget exit =
     ⊎ ((length bytes ≤ 2 ^ 32) × ((kind : DimacsFaultKind) × (byte : ℕ) × IsFault bytes kind byte × (exit ≡ 1) × Writes before after (fault_line kind byte)))
     ⊎ ((length bytes ≤ 2 ^ 32) × ((f : FormulaOf) × IsDimacs bytes f × Answers before after bytes budget exit))
 
--- What is done with a file: memory was wanting; or the file can't be got; or its bytes are served.
+-- What is done with a file: memory ran out; or the file can't be got; or its bytes are served.
 abbrev pub IsDone : World → World → Option ℕ → List ℕ → ℕ → Type 0
 IsDone before after conflicts file exit =
     (exit ≡ 32)

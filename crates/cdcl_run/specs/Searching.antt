@@ -9,7 +9,7 @@ use Rattle.cdcl_run.specs.Answer.{literals_from}
 use Rattle.cdcl_run.specs.Output.{OutputOf, Puts, Fails}
 use Rattle.cdcl_run.specs.Text.{proof_text, satisfiable_line, unsatisfiable_line, unknown_line, AreValueLines}
 
--- the lines of a search, so many of which add clauses, that lead to the present clauses
+-- the lines of a search, this many of which add clauses, that lead to the present clauses
 pub record IsProof (f : FormulaOf) (proof : List Line) (present : List (List LitOf)) (count : ℕ) : Type 0 where
   pub deletions : ℕ
   pub logged : Logged f.clauses proof present count deletions

@@ -5,11 +5,11 @@ use Rattle.cnf_form.specs.Dimacs.{literal_text, clause_text}
 use Rattle.cnf_form.specs.declared.reader.DimacsFaultKind.{DimacsFaultKind}
 use Rattle.cnf_form.specs.declared.reader.DimacsFaultKind.TheVariants.{Header, Literal, Count}
 
--- a text and the line feed behind it
+-- a text and the line feed after it
 abbrev pub line : List ℕ → List ℕ
 line text = text ++ 10 ∷ []
 
--- a line of a proof: the literals, each with a space behind it, and 0; a deletion has a d and a space before them
+-- a line of a proof: the literals, each with a space after it, and 0; a deletion has a d and a space before them
 abbrev pub proof_line : Line → List ℕ
 proof_line (Addition c) = clause_text c
 proof_line (Deletion c) = codes "d " ++ clause_text c
@@ -40,7 +40,7 @@ pub record AreValueLines (lits : List LitOf) (text : List ℕ) : Type 0 where
   pub some : lits ≢ [] → 0 < length last
   pub text_is : text ≡ flat_map value_line rows ++ last_value_line last
 
--- what stands before a variable's value: a new line behind each ten
+-- what stands before a variable's value: a new line after each ten
 abbrev pub break_text : ℕ → List ℕ
 break_text v = if nat_lt 1 v && (v % 10 == 1) then 10 ∷ codes "v" else []
 

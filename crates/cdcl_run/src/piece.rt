@@ -41,7 +41,7 @@ impl Piece {
         &self.bytes
     }
 
-    /// Begins anew.
+    /// Begins again.
     pub fn clear(&mut self)
         ensures { self.new ≡ [] }
     {

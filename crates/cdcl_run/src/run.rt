@@ -181,9 +181,9 @@ fn run_asked<F: Files, S: Sink>(
 }
 
 /// Does all that the program `cdcl_program` does: `words` are its arguments, `files` and `sink` the file store and the output
-/// that it uses. It answers the exit status: 10, 20 or 0 behind an answer (satisfiable, unsatisfiable, unknown), 1 where the
+/// that it uses. It answers the exit status: 10, 20 or 0 after an answer (satisfiable, unsatisfiable, unknown), 1 where the
 /// words are refused, the file can't be got, has more than 2^32 bytes or isn't DIMACS, or where the output failed, and 32 at
-/// want of memory.
+/// out of memory.
 ///
 /// Words are a file, or `--conflicts`, a number of conflicts from 1 to 1,000,000,000 and a file; without a number there are
 /// 2^64 - 1 conflicts. Output is written in pieces of 64 KiB, while the solver searches, and what is left at the end.

@@ -26,7 +26,7 @@ fn put_value<S: Sink>(sink: &mut S, piece: &mut Piece, l: Lit) -> Result<(), Fai
     put_literal(sink, piece, l)
 }
 
-// Gathers a new line behind each ten values.
+// Gathers a new line after each ten values.
 fn put_break<S: Sink>(sink: &mut S, piece: &mut Piece, var: u32) -> Result<(), Failed>
     ensures ok { OnOk result (Puts
         (record { taken = S.taken sink.old; faults = S.faults sink.old; gathered = piece.old })

@@ -16,7 +16,7 @@ pub struct Asked<'a> {
     pub file: &'a str,
 }
 
-/// Reads the words behind the program's name: a file, or `--conflicts`, a number from 1 to `MAX_CONFLICTS` and a file.
+/// Reads the words after the program's name: a file, or `--conflicts`, a number from 1 to `MAX_CONFLICTS` and a file.
 pub fn read_words(words: &[String]) -> Option<Asked<'_>>
     ensures some { IfSome result (λ a. Asks (map string_bytes words.now) a.conflicts a.file.now) }
     ensures none { IfNone result ((conflicts : Option ℕ) (file : List ℕ) → Asks (map string_bytes words.now) conflicts file → ⊥) }

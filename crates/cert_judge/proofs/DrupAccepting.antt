@@ -65,7 +65,7 @@ module _ (vars : ℕ) (C : List (List LitOf)) (a : Answer) where
     remark_line amid [] i = refl
     remark_line amid (w ∷ ws) i = rw (eq-eqb (slice_index w.text 0) 99 i) refl
 
-    -- words that a line has behind its first
+    -- words that a line has after its first
     abbrev Behind : List Word → List ℕ → List (List ℕ) → Type 0
     Behind ws first rest = (w : Word) × (vs : List Word) × (ws ≡ w ∷ vs) × (w.text ≡ first) × (texts vs ≡ rest) × AreDone vs
 
@@ -115,7 +115,7 @@ module _ (vars : ℕ) (C : List (List LitOf)) (a : Answer) where
         ap (line_says vars true amid broken going more) b.2 ∙ ap (λ x. visible_says vars true amid broken going more (slice_index x 0) b.0 b.1) b.3
         ∙ alone_one b.0 118 (list_says vars ValuesList true going more b.0.place [] b.1) b.3 ∙ open_words b.0.place [] b.1 c b.5 (subst (λ z. Writes vars z c) (sym b.4) w) (omega (arith, l))
 
-  -- the last line, behind which the stream ends
+  -- the last line, after which the stream ends
   module _ (at : ℕ) (t : List ℕ) where
     abbrev last : List Word
     last = words_from false at [] t
@@ -154,14 +154,14 @@ module _ (vars : ℕ) (C : List (List LitOf)) (a : Answer) where
             ∙ alone_one u 118 (list_says vars ValuesList true [] [] u.place [] us) p ∙ ap (list_says vars ValuesList true [] [] u.place []) k.are
             ∙ words_say vars ValuesList true [] [] u.place k.before k.word c [] (done_front k.before k.word (subst AreDoneBut k.are ds)) read (omega (arith, l)) (k.text, or_true k.word.done)
 
-  -- what is said where a line lacks its 0, and what the lines behind it say
+  -- what is said where a line lacks its 0, and what the lines after it say
   abbrev fault_at : ℕ → List ℕ → List Saying
   fault_at at t = bad BadLine (at + length t)
 
   abbrev rest_says : ℕ → List ℕ → List (List ℕ) → Bool → List Saying
   rest_says at t ls amid = lines_say vars true amid (at + length t + 1) ls
 
-  -- the lines of a proof, and those behind them
+  -- the lines of a proof, and those after them
   module _ (G : List (List LitOf)) (first : List (List ℕ)) (others : List (List (List ℕ)))
       (found : (at : ℕ) (ls : List (List ℕ)) → map words ls ≡ first ∷ others → Finds G unnamed (lines_say vars true false at ls)) where
     proof_found : (at : ℕ) (F : List (List LitOf)) (ls : List (List ℕ)) (proof : List (List (List ℕ))) → map words ls ≡ proof ++ first ∷ others → Leads vars proof F G

@@ -195,7 +195,7 @@ module _ (vars : ℕ) (C : List (List LitOf)) where
     named_back F x [] ss h = h
     named_back F x (l ∷ lits) ss h = named_back F (named x l) lits ss h
 
-    -- a line, and the lines behind it
+    -- a line, and the lines after it
     module _ (counted : Bool) (F : List (List LitOf)) (x : Assignment) (t : List ℕ) (ls : List (List ℕ)) (broken going more : List Saying)
         (amid : (y : Assignment) → Finds F y going → NamesUpto y ls) where
       -- a line of values

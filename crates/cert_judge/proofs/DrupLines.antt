@@ -119,7 +119,7 @@ full f at p (b ∷ bs) =
       | inr h ↦ rw h (full f (at + 1) (p ++ b ∷ []) bs)
     ]
 
--- a front of the text, behind the bytes p of a word, with these words
+-- a front of the text, after the bytes p of a word, with these words
 abbrev pub IsFront : List ℕ → List ℕ → List (List ℕ) → Type 0
 IsFront p t ws = (s : List ℕ) × (x : List ℕ) × (t ≡ s ++ x) × (texts (words_from true 0 p s) ≡ ws)
 

@@ -47,7 +47,7 @@ module _ (f : ParseFault) where
   quiet (InText t) b e = text_quiet t.parser t.starts t.refused b e
   quiet (InBinary w) b e = binary_quiet w b e
 
-  -- nothing is said behind a fault
+  -- nothing is said after a fault
   pub said_quiet : (r : FileOf) (bytes : List ℕ) → fault r ≡ Some f → said r bytes ≡ []
   said_quiet r [] e = refl
   said_quiet r (b ∷ bs) e = ap (λ z. z ++ said (next r b) bs) (quiet r b e) ∙ said_quiet (next r b) bs (next_stays f r b e)

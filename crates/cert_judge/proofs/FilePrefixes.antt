@@ -57,7 +57,7 @@ no_fault [] (s ∷ ss) f e = let k = e in cc
 no_fault (l ∷ ls) [] f (p, rest, e, a) = no_line l.kind p l.lits f [] rest e
 no_fault (l ∷ ls) (s ∷ ss) f (p, rest, e, a) = no_fault ls ss f (subst (AreSaid ls) (sym (tails s (line_said l.kind p l.lits) (ss ++ IsFault f ∷ []) rest e)) a)
 
--- behind a line feed nothing waits for the stream's end
+-- after a line feed nothing waits for the stream's end
 unended_none : (w : DrupOf) (kind : ListKind) → at_end (unended w kind).to.mode ≡ None
 unended_none w Clause = refl
 unended_none w Deletion = refl

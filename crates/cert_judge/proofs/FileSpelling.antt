@@ -76,7 +76,7 @@ module _ (C : Clauses) where
   same_comes (l ∷ ls) ss ts x y (p, s, e, a) (q, t, f, b) F G w h k =
       same_line l.kind l.lits p q F G s t x y w (same_comes ls s t x y a b) (subst (λ (z : List Saying). ComesTo F z x) e h) (subst (λ (z : List Saying). ComesTo G z y) f k)
 
-  -- a last empty clause behind lines that came to nothing is admitted, or refused there
+  -- a last empty clause after lines that came to nothing is admitted, or refused there
   abbrev IsLast : ℕ → Fate → Type 0
   IsLast n v = (v ≡ Found Unsat) ⊎ (v ≡ Bad NotRup n)
 

@@ -54,7 +54,7 @@ module _ {S C : Type 0} (m : Meaning S C) where
     pub from_fields : (s : S) (y : CertificateOf C) → Leads m (certificate f F bits None) (s ∷ []) y → Leads m x (s ∷ []) y
     from_fields s y h = subst (λ (z : CertificateOf C). Leads m z (s ∷ []) y) (ap (certificate f F bits) (sym undecided) ∙ e) h
 
-  -- sayings, and what comes behind them
+  -- sayings, and what comes after them
   pub leads_append : (x y z : CertificateOf C) (ss ts : List S) → Leads m x ss y → y.outcome ≡ None → Leads m y ts z → Leads m x (ss ++ ts) z
   leads_append x y z ss ts h e k =
       record {
@@ -69,7 +69,7 @@ module _ {S C : Type 0} (m : Meaning S C) where
         satisfied = k.satisfied;
       }
 
-  -- behind an outcome all else is nothing
+  -- after an outcome all else is nothing
   module _ (x y : CertificateOf C) (ss more : List S) (o : Outcome) (h : Leads m x ss y) (e : y.outcome ≡ Some o) where
     fate_ever : (a b : List S) (fate : Option Fate) → ComesBy m y y.outcome a fate → ComesBy m y y.outcome b fate
     fate_ever a b fate g = subst (λ k. ComesBy m y k b fate) (sym e) (subst (λ k. ComesBy m y k a fate) e g)
@@ -156,7 +156,7 @@ module _ {S C : Type 0} (m : Meaning S C) where
         let k = subst (λ (z : List S). m.comes c.formula c.checker (values_of c.bits) z fate) (append-nil more) (l.fate [] fate g) in
         h.fate more fate k
 
-    -- what all comes to; nothing is said behind nothing
+    -- what all comes to; nothing is said after nothing
     pub comes_told : ((f : FormulaOf) (e : C) (x : Assignment) → m.comes f e x [] None) → m.begins c.formula (p.said start bytes ++ more) (fate_told d.outcome)
     comes_told nothing = by d.outcome refl
       where

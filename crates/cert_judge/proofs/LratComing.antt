@@ -16,7 +16,7 @@ use Rattle.cert_judge.specs.Lrat.{ByHints, ComesTo, Held, HintsComeTo, added, de
 use Rattle.cert_judge.specs.Fate.{Fate, Found, Bad}
 use Rattle.cert_judge.specs.Values.{named, unnamed}
 
--- what a clause comes to that completes the certificate for Unsat, or behind which it is completed
+-- what a clause comes to that completes the certificate for Unsat, or after which it is completed
 pub by_hints : (o : Option Hint) (rest : Type 0) (fate : Fate) → ((h : Hint) → Some fate ≡ Some (Bad BadHint h.place) → ⊥) → ByHints o rest (Some fate) → rest
 by_hints None rest fate n h = h
 by_hints (Some i) rest fate n h = absurd (n i h)

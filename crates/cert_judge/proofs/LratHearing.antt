@@ -102,7 +102,7 @@ module _ (x : CertificateOf HintedOf) (f : FormulaOf) (F : HintedOf) (bits : Lis
   pub heard_unknown : LeadsTo IsUnknown (certificate f F bits (Some UnknownOutcome))
   heard_unknown = by IsUnknown (certificate f F bits (Some UnknownOutcome)) (settles lrat_meaning f F F bits IsUnknown UnknownOutcome (λ q. cc) (λ rest fate h. h))
 
--- what a checker holds at first, and what it holds behind a deletion and a clause
+-- what a checker holds at first, and what it holds after a deletion and a clause
 pub starts_held : (f : FormulaOf) (h : HintedOf) → Starts f h → held h ≡ held_first f.clauses
 starts_held f h s =
     let e : held h ≡ (let k : Held = record { live = numbered f.clauses; last = h.last_id } in k) = ap (λ z. (let k : Held = record { live = z; last = h.last_id } in k)) s.live in

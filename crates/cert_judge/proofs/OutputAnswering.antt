@@ -42,7 +42,7 @@ module _ (i j : JudgeOf) (same : IsSameJudge i j) (drup : kind_of i ≡ Drup) (t
       (subst (λ (f : FormulaOf). AreValuesTold f (stream_values Drup f.vars ended text j.most) bits x) same.formula
       (subst (λ k. AreValuesTold (formula_of j) (stream_values k (formula_of j).vars ended text j.most) bits x) kind_drup h))
 
--- bytes behind those that the judge took
+-- bytes after those that the judge took
 stands_goes : (x y : OutputOf) (bytes piece : List ℕ) → Goes x piece y → Stands x bytes → Stands y (bytes ++ piece)
 stands_goes x y bytes piece g s = record {
   kind = g.gave.same.kind ∙ s.kind;

@@ -8,7 +8,7 @@ use Rattle.cert_judge.specs.Spots.{given, given_by, next_spot, spot_after, value
 use Rattle.cert_judge.specs.declared.spot.Spot.{Spot}
 use Rattle.cert_judge.specs.declared.spot.Spot.TheVariants.{Within}
 
--- bytes behind others
+-- bytes after others
 pub spot_append : (spot : Spot) (a b : List ℕ) → spot_after spot (a ++ b) ≡ spot_after (spot_after spot a) b
 spot_append spot [] b = refl
 spot_append spot (x ∷ a) b = spot_append (next_spot spot x) a b
@@ -74,7 +74,7 @@ goes_append x y z a b g h = record {
   values = h.values ∙ ap (λ s. values_after s y.values b) g.spot ∙ ap (λ v. values_after (spot_after x.spot a) v b) g.values ∙ sym (values_append x.spot x.values a b);
 }
 
--- so many bytes of a piece more
+-- this many bytes of a piece more
 take_add : (xs : List ℕ) (i n : ℕ) → take i xs ++ take n (drop i xs) ≡ take (i + n) xs
 take_add xs zero n = let k : n ≡ 0 + n = omega arith in ap (λ m. take m xs) k
 take_add [] (suc i) zero = let k : suc i ≡ suc i + 0 = omega arith in ap (λ m. take m []) k

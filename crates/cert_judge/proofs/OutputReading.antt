@@ -102,7 +102,7 @@ pub and_true : (x : Bool) → (x && true) ≡ x
 and_true true = refl
 and_true false = refl
 
--- a byte tells, and the line behind it
+-- a byte tells, and the line after it
 byte_values : (spot : Spot) (b : ℕ) (t : List ℕ) → eqb b 10 ≡ false → (values_behind spot false b || text_values (next_spot spot b) t) ≡ text_values spot (b ∷ t)
 byte_values Start b t f =
     elim (cases_Bool (is_blank b)) [

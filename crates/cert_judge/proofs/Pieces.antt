@@ -24,7 +24,7 @@ pub if_ok : {A E : Type 0} (P Q : A → Type 0) (r : Result A E) → ((a : A) �
 if_ok P Q (Ok a) f h = f a h
 if_ok P Q (Err e) f h = tt
 
--- so many bytes were taken as there are
+-- this many bytes were taken as there are
 pub at_taken : (l : Lines) (bytes : List ℕ) → At l bytes → lines_taken l ≡ length bytes
 at_taken (Drup l) bytes (h, n) = n
 at_taken (Lrat l) bytes (h, n) = n

@@ -56,7 +56,7 @@ Names vars (ws ∷ us ∷ ls) values =
 abbrev pub named_by : List LitOf → Assignment
 named_by values = named_from unnamed values
 
--- Unsat: behind the lines of a proof, a last line with the word 0 alone, where the empty clause is admitted. Sat: behind them,
+-- Unsat: after the lines of a proof, a last line with the word 0 alone, where the empty clause is admitted. Sat: after them,
 -- values that satisfy the formula.
 abbrev pub IsCertOf : FormulaOf → List ℕ → Answer → Type 0
 IsCertOf f stream Unsat =

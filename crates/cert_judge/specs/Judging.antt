@@ -10,7 +10,7 @@ use Rattle.cert_judge.specs.declared.stream.Outcome.{Outcome}
 use Rattle.cert_judge.specs.declared.stream.Outcome.TheVariants.{Refuted}
 use Rattle.cert_judge.specs.declared.stream.StreamKind.{StreamKind}
 
--- what is kept of the bytes so far, the greatest number of bytes, and whether memory was wanting
+-- what is kept of the bytes so far, the greatest number of bytes, and whether memory ran out
 pub record JudgeOf : Type 0 where
   pub lines : Lines
   pub most : ℕ

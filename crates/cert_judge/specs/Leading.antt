@@ -49,7 +49,7 @@ abbrev pub concluded : {C : Type 0} → CertificateOf C → Result Fed ParseFaul
 concluded c (Ok fed) = c
 concluded c (Err f) = with_outcome c (Bad (record { kind = cert_kind f.kind; at = f.byte }))
 
--- The bytes, behind those that the parser w stands for, lead with the fault that they have to the new certificate; and where that has no
+-- The bytes, after those that the parser w stands for, lead with the fault that they have to the new certificate; and where that has no
 -- outcome, the parser stands for all.
 pub record Heard {W S C : Type 0} (p : Parsing W S) (m : Meaning S C) (w : W) (old : CertificateOf C) (bytes : List ℕ) (v : W) (new : CertificateOf C) : Type 0 where
   pub leads : Leads m old (p.said w bytes ++ m.fault_said (p.fault (p.after w bytes))) new
@@ -88,7 +88,7 @@ pub record HasEnded (w : FileOf) (old new : CertificateOf CheckerOf) : Type 0 wh
   pub ended : new ≡ ended_at (taken_of w) tried tried.outcome
 
 -- The bytes came to nothing yet, and no fault is in them: the parser is what it is after them, and whatever more is said comes from the
--- certificate on to what it comes to behind all that they say.
+-- certificate on to what it comes to after all that they say.
 pub record IsAt {W S C : Type 0} (p : Parsing W S) (m : Meaning S C) (start w : W) (c : CertificateOf C) (bytes : List ℕ) : Type 0 where
   pub parser : w ≡ p.after start bytes
   pub whole : p.fault w ≡ None

@@ -104,7 +104,7 @@ pub record Tells (ended : Bool) (lines : Lines) (bytes : List ℕ) : Type 0 wher
   pub comes : BytesCome (lines_kind lines) (lines_formula lines) ended bytes (fate_told (lines_outcome lines))
   pub values : AreValuesTold (lines_formula lines) (values_named (lines_kind lines) (lines_formula lines).vars ended bytes) (lines_bits lines) (lines_outcome lines)
 
--- bytes were taken behind others
+-- bytes were taken after others
 pub record Takes (lines : Lines) (bytes : List ℕ) : Type 0 where
   pub tells : Tells false lines bytes
   pub at : lines_outcome lines ≡ None → At lines bytes

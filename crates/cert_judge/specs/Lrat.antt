@@ -50,7 +50,7 @@ without live (h ∷ hs) = without (put live h.id None) hs
 abbrev pub ids_of : List Hint → List ℕ
 ids_of hints = map (λ (h : Hint). h.id) hints
 
--- a clause is tried with its live hints: the empty one completes the certificate, behind another one what comes then counts
+-- a clause is tried with its live hints: the empty one completes the certificate, after another one what comes then counts
 abbrev pub HintsComeTo : Live → List LitOf → List Hint → ℕ → Type 0 → Option Fate → Type 0
 HintsComeTo live lits hints place rest fate =
     (IsHinted live lits (ids_of hints) × (lits ≡ []) × (fate ≡ Some (Found Unsat)))

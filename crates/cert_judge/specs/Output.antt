@@ -7,7 +7,7 @@ use Rattle.cert_stream.specs.Text.{is_blank, lines_of, words_from}
 abbrev pub is_claim : ℕ → Bool
 is_claim b = eqb b 115 || eqb b 118
 
--- whether a first byte is a word alone, by what stands behind it in its line
+-- whether a first byte is a word alone, by what stands after it in its line
 abbrev pub is_alone : List ℕ → Bool
 is_alone [] = true
 is_alone (b ∷ bs) = is_blank b
@@ -19,8 +19,8 @@ claim_read ended head [] = cond ended (head ∷ []) []
 claim_read ended head (b ∷ bs) = cond (is_blank b) head 99 ∷ b ∷ bs
 
 -- A line as it is read. One of values, and a status line, are read as they are; every other line is read as a comment, whatever it
--- holds: its first visible byte as c. This holds before, between and behind lines of values. So a line of values without its 0 may be
--- followed by any line but a status line, which is at fault there as in a stream; behind the 0 nothing is read.
+-- holds: its first visible byte as c. This holds before, between and after lines of values. So a line of values without its 0 may be
+-- followed by any line but a status line, which is at fault there as in a stream; after the 0 nothing is read.
 abbrev pub line_read : Bool → List ℕ → List ℕ
 line_read ended [] = []
 line_read ended (b ∷ bs) = cond (is_blank b) (b ∷ line_read ended bs) (cond (is_claim b) (claim_read ended b bs) (99 ∷ bs))

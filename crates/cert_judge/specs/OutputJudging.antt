@@ -26,7 +26,7 @@ pub record Stands (o : OutputOf) (bytes : List ℕ) : Type 0 where
   pub spot : o.spot ≡ spot_after Start bytes
   pub values : o.values ≡ values_after Start false bytes
 
--- a judge of a stream took bytes; its outcome, once there is one, and want of memory stay
+-- a judge of a stream took bytes; its outcome, once there is one, and out of memory stay
 pub record Gave (old : JudgeOf) (bytes : List ℕ) (new : JudgeOf) : Type 0 where
   pub same : IsSameJudge old new
   pub stands : (text : List ℕ) → StreamStands old text → StreamStands new (text ++ bytes)

@@ -16,7 +16,7 @@ use std::marker::Model;
 pub struct Judge<'a> {
     most: u64,
     lines: Lines<'a>,
-    // Memory was wanting, and is from then on.
+    // Memory ran out; every later call answers that.
     wanting: bool,
 }
 
@@ -58,7 +58,7 @@ impl<'a> Judge<'a> {
     /// Takes a piece of the stream, and answers the fate of all bytes so far, however they were cut, or nothing where there is none
     /// yet. What follows a complete certificate isn't read.
     ///
-    /// An outcome is answered again by every later call, and want of memory too.
+    /// An outcome is answered again by every later call, and out of memory too.
     pub fn feed(&mut self, piece: &[u8]) -> Result<Option<Outcome>, AllocError>
         ensures same { IfOk result (λ _. IsSameJudge self.old self.new) }
         ensures feeds { (bytes : List ℕ) → Stands self.old bytes → IfOk result (λ o. Feeds self.old self.new (bytes ++ piece.now) o) }
@@ -109,7 +109,7 @@ impl<'a> Judge<'a> {
     }
 }
 
-// Takes a piece, of which there is room for so many bytes.
+// Takes a piece, of which there is room for this many bytes.
 fn take_piece(lines: &mut Lines, piece: &[u8], room: u64) -> Result<(), AllocError>
     requires fits { Fits lines.old }
     requires open { lines_outcome lines.old ≡ None }

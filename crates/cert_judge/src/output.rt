@@ -123,7 +123,7 @@ impl<'a> OutputJudge<'a> {
         })
     }
 
-    // Takes what a line has of these bytes behind its first visible byte, and answers how many.
+    // Takes what a line has of these bytes after its first visible byte, and answers how many.
     fn pass(&mut self, bytes: &[u8]) -> Result<usize, AllocError>
         ensures within { IfOk result (λ count. count ≤ length bytes.now) }
         ensures goes { IfOk result (λ count. Goes self.old (take count bytes.now) self.new) }
@@ -165,7 +165,7 @@ impl<'a> OutputJudge<'a> {
     /// Takes a piece of the output, and answers the fate of all bytes so far, however they were cut, or nothing where there is none
     /// yet. A line that is neither one of values nor a status line is passed over, whatever it holds.
     ///
-    /// An outcome is answered again by every later call, and want of memory too.
+    /// An outcome is answered again by every later call, and out of memory too.
     pub fn feed(&mut self, piece: &[u8]) -> Result<Option<Outcome>, AllocError>
         ensures same { IfOk result (λ _. IsSameJudge self.old.judge self.new.judge) }
         ensures feeds { (bytes : List ℕ) → Stands self.old bytes → IfOk result (λ o. Feeds self.old self.new (bytes ++ piece.now) o) }

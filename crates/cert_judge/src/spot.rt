@@ -10,7 +10,7 @@ ghost use Rattle.cert_judge.specs.Output.{is_claim};
 pub enum Spot {
     /// Before its first visible byte.
     Start,
-    /// Behind that byte, an s or v that may be a word alone.
+    /// After that byte, an s or v that may be a word alone.
     Held(u8),
     /// Further on.
     Within,
@@ -35,7 +35,7 @@ pub(crate) fn head_given(head: u8, b: u8) -> u8
     if ends_word(b) { head } else { b'c' }
 }
 
-/// Behind one byte more.
+/// After one byte more.
 pub(crate) fn next_spot(spot: Spot, b: u8) -> Spot
     ensures { result ≡ next_spot spot b }
 {
@@ -48,7 +48,7 @@ pub(crate) fn next_spot(spot: Spot, b: u8) -> Spot
     }
 }
 
-/// Whether a line of values is among those so far, behind one byte more.
+/// Whether a line of values is among those so far, after one byte more.
 pub(crate) fn values_behind(spot: Spot, values: bool, b: u8) -> bool
     ensures { result ≡ values_behind spot values b }
 {

@@ -23,7 +23,7 @@ pub enum StreamKind {
 /// Why a stream, of whatever kind, is no certificate.
 #[derive(Clone, Copy, Debug, PartialEq, Eq)]
 pub enum CertKind {
-    /// The line's kind, its end, or what stands behind its 0.
+    /// The line's kind, its end, or what stands after its 0.
     BadLine,
     /// A word of the line is no literal.
     BadLiteral,

@@ -55,7 +55,7 @@ kept (b ∷ bs) w n =
       | inr g ↦ inr (g.0, bad_stays g.0 v bs g.1)
     ]
 
--- behind a line feed a line starts
+-- after a line feed a line starts
 abbrev StartsLine : Mode → Type 0
 StartsLine m = ((amid : Bool) × (m ≡ Start amid)) ⊎ ((f : ParseFault) × (m ≡ Bad f)) ⊎ (m ≡ Lost)
 
@@ -100,7 +100,7 @@ module _ (vars : ℕ) where
       ∙ ap (λ z. speak ended (parser vars at w.place z w.lits) text) m
       ∙ start_forgets ended vars at w.place amid w.lits text
 
-  -- what lines say, and behind it what the rest says
+  -- what lines say, and after it what the rest says
   pub lines_apart : (front : List ℕ) → AreLines front → HasNoFault (sayings vars false front)
       → (amid : Bool) × ((ended : Bool) (text : List ℕ) → sayings vars ended (front ++ text) ≡ sayings vars false front ++ lines_say vars ended amid (length front) (lines_of text))
   lines_apart front lines none =

@@ -27,7 +27,7 @@ module _ (vars : ℕ) (ended fed counted : Bool) (broken going more : List Sayin
   abbrev listed : ListKind → ℕ → List Word → List Saying
   listed kind place ws = list_says vars kind counted (unended_says kind broken going) more place [] ws
 
-  -- behind d or v
+  -- after d or v
   head_text : (place : ℕ) (kind : ListKind) (t : List ℕ) (taken : ℕ) → NoFeed t → taken + length t ≡ feed
       → speak ended (parser vars taken place (Head kind) []) (t ++ tail) ≡ after_first (listed kind place) fed taken t
   head_text place kind [] taken h e = let k : taken ≡ feed = omega (arith, e) in ap (λ z. speak ended (parser vars z place (Head kind) []) tail) k ∙ behind.head place kind []

@@ -21,7 +21,7 @@ use Rattle.cert_stream.proofs.Speaking.{speak, bad_ever}
 use Rattle.cert_stream.proofs.Tails.{Tail, word_says}
 
 module _ (vars : ℕ) (ended fed counted : Bool) (broken going more : List Saying) (feed : ℕ) (tail : List ℕ) (behind : Tail vars ended fed counted broken going more feed tail) where
-  -- behind the 0
+  -- after the 0
   closed_text : (place : ℕ) (t : List ℕ) (taken : ℕ) (lits : List LitOf) → NoFeed t → taken + length t ≡ feed
       → speak ended (parser vars taken place Closed lits) (t ++ tail) ≡ behind_says more (words_from fed taken [] t)
   closed_text place [] taken lits h e =

@@ -28,7 +28,7 @@ module _ (vars : ℕ) (ended fed counted : Bool) (broken going more : List LratS
   abbrev listed : ℕ → List Word → List LratSaying
   listed place ws = lits_say vars Values counted broken going more place 0 [] ws
 
-  -- behind v
+  -- after v
   values_text : (place : ℕ) (t : List ℕ) (taken : ℕ) → NoFeed t → taken + length t ≡ feed
       → speak ended (parser vars taken place ValuesHead nothing) (t ++ tail) ≡ after_first (listed place) fed taken t
   values_text place [] taken h e = let k : taken ≡ feed = omega (arith, e) in ap (λ z. speak ended (parser vars z place ValuesHead nothing) tail) k ∙ behind.values_head place nothing

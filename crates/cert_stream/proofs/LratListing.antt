@@ -25,7 +25,7 @@ use Rattle.cert_stream.proofs.LratSpeaking.{speak, bad_ever}
 use Rattle.cert_stream.proofs.LratTails.{Tail, id_word_says}
 
 module _ (vars : ℕ) (ended fed counted : Bool) (broken going more : List LratSaying) (feed : ℕ) (tail : List ℕ) (behind : Tail vars ended fed counted broken going more feed tail) where
-  -- behind the last 0
+  -- after the last 0
   pub closed_text : (place : ℕ) (t : List ℕ) (taken : ℕ) (line : Kept) → NoFeed t → taken + length t ≡ feed
       → speak ended (parser vars taken place Closed line) (t ++ tail) ≡ behind_says more (words_from fed taken [] t)
   closed_text place [] taken line h e =
@@ -65,7 +65,7 @@ module _ (vars : ℕ) (ended fed counted : Bool) (broken going more : List LratS
     misfit_says hints k start at n text w ws t s e a =
         ap (λ z. one_says hints z w ws) (ap (λ z. read hints w.place z) t ∙ ap (λ z. read hints z text) s ∙ e) ∙ ap (λ z. bad k (z + n)) s ∙ ap (bad k) a
 
-    -- behind a part of a word the place of its first byte is known, and a gap is no part of one
+    -- after a part of a word the place of its first byte is known, and a gap is no part of one
     abbrev IsPending : List ℕ → IdPart → Type 0
     IsPending [] part = Unit {0}
     IsPending (c ∷ q) part = IsBegun part

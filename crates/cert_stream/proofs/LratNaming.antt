@@ -35,7 +35,7 @@ module _ (vars : ℕ) (ended fed counted : Bool) (broken going more : List LratS
   abbrev listed : ℕ → List Word → List LratSaying
   listed id ws = lits_say vars Clause counted broken [] more place id [] ws
 
-  -- behind d
+  -- after d
   deletion_text : (id : ℕ) (t : List ℕ) (taken : ℕ) → NoFeed t → taken + length t ≡ feed
       → speak ended (parser vars taken place DeletionHead (kept id [] [])) (t ++ tail) ≡ after_first (deleted id) fed taken t
   deletion_text id [] taken h e = let k : taken ≡ feed = omega (arith, e) in ap (λ z. speak ended (parser vars z place DeletionHead (kept id [] [])) tail) k ∙ behind.deletion_head place (kept id [] [])
@@ -63,7 +63,7 @@ module _ (vars : ℕ) (ended fed counted : Bool) (broken going more : List LratS
       same (Ok part) = refl
       same (Err x) = refl
 
-  -- behind the line's own id and white space
+  -- after the line's own id and white space
   behind_text : (id : ℕ) (t : List ℕ) (taken : ℕ) → NoFeed t → taken + length t ≡ feed
       → speak ended (parser vars taken place BehindId (kept id [] [])) (t ++ tail) ≡ named_says vars counted broken more place id (words_from fed taken [] t)
   behind_text id [] taken h e = let k : taken ≡ feed = omega (arith, e) in ap (λ z. speak ended (parser vars z place BehindId (kept id [] [])) tail) k ∙ behind.behind_id place (kept id [] [])
@@ -91,7 +91,7 @@ module _ (vars : ℕ) (ended fed counted : Bool) (broken going more : List LratS
           other : eqb b 100 ≡ false → named_by vars counted broken more place id b word others ≡ listed id (word ∷ others)
           other nd = rw nd refl
 
-  -- what the first word says, and those behind it
+  -- what the first word says, and those after it
   abbrev pub on_words : List Word → List LratSaying
   on_words [] = []
   on_words (w ∷ ws) = hinted_says vars counted broken more w ws

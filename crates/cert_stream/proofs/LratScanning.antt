@@ -40,7 +40,7 @@ next_begins kind full place (Digits h) b = digit_begins h.negated h.place h.id b
 pub next_begun : (kind : IdList) (full : Bool) (place : ℕ) (part to : IdPart) (b : ℕ) → part_next kind full place part b ≡ Ok to → IsBegun to
 next_begun kind full place part to b e = subst Begins e (next_begins kind full place part b)
 
--- behind a word's first byte its place says no more
+-- after a word's first byte its place says no more
 pub place_begun : (kind : IdList) (full : Bool) (place taken : ℕ) (part : IdPart) (b : ℕ) → IsBegun part → part_next kind full place part b ≡ part_next kind full taken part b
 place_begun kind full place taken Gap b i = absurd i
 place_begun kind full place taken (Minus at) b i = refl

@@ -12,7 +12,7 @@ use Rattle.cert_stream.proofs.LratTails.{fed_tail, no_tail}
 use Rattle.cert_stream.proofs.LratLining.{start_text}
 
 module _ (vars : ℕ) (ended : Bool) where
-  -- what a line says behind which others come
+  -- what a line says after which others come
   pub fed_says : (amid : Bool) (at : ℕ) (t : List ℕ) (ts : List (List ℕ)) (u : List ℕ) (us : List (List ℕ)) → ts ≡ u ∷ us
       → lines_say vars ended amid at (t ∷ ts)
       ≡ line_says vars true amid (bad BadLine (at + length t)) (lines_say vars ended true (at + length t + 1) ts) (lines_say vars ended false (at + length t + 1) ts) (words_from true at [] t)

@@ -1,4 +1,4 @@
--- What comes behind the text of a line: a line feed, or nothing.
+-- What comes after the text of a line: a line feed, or nothing.
 use Rattle.std.proofs.Common.{◌≡◌, ℕ, ◌+◌, ◌-◌, ◌≤◌, Bool, true, false, cond, ◌&&◌, ◌||◌, eqb, List, [], ◌∷◌, ◌++◌, length, refl, ap, ◌∙◌, inl, inr, arith}
 use Rattle.std.proofs.lemmas.Bool.{cases_Bool}
 use Rattle.cnf_form.specs.Cnf.{LitOf}
@@ -20,7 +20,7 @@ use Rattle.cert_stream.specs.declared.lrat.mode.Mode.TheVariants.{Start, Skip, V
 use Rattle.cert_stream.proofs.LratTurning.{Kept, kept, parser}
 use Rattle.cert_stream.proofs.LratSpeaking.{speak, bad_ever, from_line, start_forgets}
 
--- what a word that is read says, and the words behind it
+-- what a word that is read says, and the words after it
 abbrev pub lit_word_says : ℕ → LitList → Bool → List LratSaying → List LratSaying → List LratSaying → ℕ → ℕ → List LitOf → Scanned Part → Word → List Word → List LratSaying
 lit_word_says vars kind counted broken going more place id lits s w ws =
     elim s [

@@ -40,7 +40,7 @@ turn_blank w b f t = rw (f, t) refl
 pub turn_visible : (w : LratOf) (b : ℕ) → eqb b 10 ≡ false → is_blank b ≡ false → turn w b ≡ counted w.taken (visible w w.mode b)
 turn_visible w b f t = rw (f, t) refl
 
--- how a list of literals goes on behind a part of a word
+-- how a list of literals goes on after a part of a word
 abbrev pub by_lit : LratOf → LitList → Result Part ParseFaultKind → Turn
 by_lit w kind (Ok part) = quiet w (InLits kind part)
 by_lit w kind (Err k) = fails w k

@@ -8,7 +8,7 @@ use Rattle.cert_stream.proofs.Wording.{has_word}
 use Rattle.cert_stream.specs.LratTelling.{LratSaying}
 use Rattle.cert_stream.specs.LratLines.{alone, bad}
 
--- what is said behind a word of one byte, and of a longer word with that first byte: byte number `at` follows it
+-- what is said after a word of one byte, and of a longer word with that first byte: byte number `at` follows it
 abbrev pub after_first : (List Word → List LratSaying) → Bool → ℕ → List ℕ → List LratSaying
 after_first f fed at [] = f []
 after_first f fed at (c ∷ cs) = cond (is_blank c) (f (words_from fed (at + 1) [] cs)) (bad BadLine at)

@@ -28,7 +28,7 @@ module _ {A : Type 0} (gets : A → Saying → A → Type 0) (stops : A → Bool
     count_now : v.taken ≡ start.taken + (i + 1)
     count_now = let e : v.taken ≡ w.taken + 1 = ap (λ (t : Turn). t.to.taken) r in omega (arith, e, h.count)
 
-    -- want of memory at this byte, or behind it
+    -- out of memory at this byte, or after it
     pub memory_here : (is_in_literal w.mode ≡ true) ⊎ ((e : Event) × ((turn w (get_or piece i 0)).event ≡ Some e)) ⊎ TakesMemory (turn w (get_or piece i 0)).to (drop (i + 1) piece) → TakesMemory start piece
     memory_here k = h.memory (subst (TakesMemory w) (sym (drop_more piece i 0 l)) k)
 

@@ -11,7 +11,7 @@ use Rattle.cert_stream.specs.declared.mode.Mode.TheVariants.{Start, Skip, Head, 
 use Rattle.cert_stream.proofs.Turning.{parser}
 use Rattle.cert_stream.proofs.GoingOn.{blank_no_feed}
 
--- in a comment or a status line, or behind its fault
+-- in a comment or a status line, or after its fault
 abbrev Still : Mode → Type 0
 Still (Start amid) = ⊥
 Still (Skip amid) = Unit {0}

@@ -131,7 +131,7 @@ literal_first vars b more l h =
     zero_first : (more : List ℕ) → is_number (48 ∷ more) ≡ true → ⊥
     zero_first more z = let w = both_true (list_all is_digit (48 ∷ more)) (not (eqb 48 48)) z in let k : false ≡ true = w.1 in cc
 
--- behind a byte that isn't read no word of a list goes on
+-- after a byte that isn't read no word of a list goes on
 stop : (vars : ℕ) (full : Bool) (text : List ℕ) (part : Part) (b : ℕ) (k : ParseFaultKind) → IsPart vars full text part → part_next vars full part b ≡ Err k → BeginsWord vars full (text ++ b ∷ []) → ⊥
 stop vars full text Gap b k h e (more, w) = one (first_next vars full b) (first_is vars full b) e (subst (λ t. IsListWord vars full ((t ++ b ∷ []) ++ more)) h w)
   where

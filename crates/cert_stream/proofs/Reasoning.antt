@@ -88,7 +88,7 @@ module _ (vars : ℕ) (amid fed : Bool) (feed : ℕ) (words : List Word) (f : Pa
   Why = Reason vars amid fed feed words f
 
   module _ (kind : ListKind) (counted : Bool) (unended more : List Saying) (place : ℕ) where
-    -- a reason in the list, none for its words, or a fault behind it
+    -- a reason in the list, none for its words, or a fault after it
     abbrev Outcome : Type 0
     Outcome = Why ⊎ ((ws : List Word) × (lits : List LitOf) × Write vars ws lits × IsListOf kind words ws × HasFault unended f) ⊎ HasFault more f
 
@@ -149,7 +149,7 @@ no_start : (amid : Bool) (b : ℕ) → amid ≡ false → eqb b 99 ≡ false →
 no_start amid b a c v s d o = rw (a, c, v, s, d, o) refl
 
 module _ (vars : ℕ) (amid fed : Bool) (feed : ℕ) (words : List Word) (f : ParseFault) (counted : Bool) (broken going more : List Saying) (is_broken : broken ≡ cond fed (bad BadLine feed) []) where
-  -- a reason in the line, or a fault behind it
+  -- a reason in the line, or a fault after it
   abbrev Found : Type 0
   Found = Reason vars amid fed feed words f ⊎ HasFault going f ⊎ HasFault more f
 

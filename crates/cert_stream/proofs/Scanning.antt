@@ -39,7 +39,7 @@ module _ {A : Type 0} where
     pub scan_more : (from part to : A) (p : List ℕ) (b : ℕ) → scan_by next from p ≡ Reads part → next part b ≡ Ok to → scan_by next from (p ++ b ∷ []) ≡ Reads to
     scan_more from part to p b e x = scan_append from part p (b ∷ []) e ∙ ap (λ r. shift (length p) (on r [])) x
 
-    -- no word goes on behind a byte that doesn't fit
+    -- no word goes on after a byte that doesn't fit
     pub scan_bad : (from part : A) (p : List ℕ) (b : ℕ) (u : List ℕ) (k : ParseFaultKind) → scan_by next from p ≡ Reads part → next part b ≡ Err k
         → scan_by next from (p ++ b ∷ u) ≡ Misfit k (length p)
     scan_bad from part p b u k e x = scan_append from part p (b ∷ u) e ∙ ap (λ r. shift (length p) (on r u)) x ∙ ap (Misfit k) (omega arith)

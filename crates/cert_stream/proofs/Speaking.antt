@@ -83,7 +83,7 @@ speak_is ended w (b ∷ bs) =
     ap (λ x. told_by z (turn w b).event ++ x) (speak_is ended z bs)
     ∙ sym (append_assoc (told_by z (turn w b).event) (said z bs) (cond ended (told_by (after z bs) (at_end (after z bs).mode)) [] ++ fault_said (fault_of (after z bs).mode)))
 
--- behind a fault nothing is said
+-- after a fault nothing is said
 pub bad_ever : (ended : Bool) (f : ParseFault) (vars taken place : ℕ) (lits : List LitOf) (bs : List ℕ) → speak ended (parser vars taken place (Bad f) lits) bs ≡ IsFault f ∷ []
 bad_ever ended f vars taken place lits [] = refl
 bad_ever ended f vars taken place lits (b ∷ bs) =

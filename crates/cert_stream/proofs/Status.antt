@@ -22,7 +22,7 @@ abbrev Off : List ℕ → Type 0
 Off p = (x : List ℕ) → bytes_eq (p ++ x) unknown ≡ false
 
 module _ (vars : ℕ) (ended fed counted : Bool) (broken going more : List Saying) (feed : ℕ) (tail : List ℕ) (behind : Tail vars ended fed counted broken going more feed tail) where
-  -- behind a comment's first byte
+  -- after a comment's first byte
   pub skip_text : (place : ℕ) (amid : Bool) (t : List ℕ) (taken : ℕ) (lits : List LitOf) → NoFeed t → taken + length t ≡ feed
       → speak ended (parser vars taken place (Skip amid) lits) (t ++ tail) ≡ cond amid going more
   skip_text place amid [] taken lits h e =
@@ -45,7 +45,7 @@ module _ (vars : ℕ) (ended fed counted : Bool) (broken going more : List Sayin
   two_words : (u : Word) (ws : List Word) (w : Word) (others : List Word) → ws ≡ w ∷ others → status_says counted more (u ∷ ws) ≡ more
   two_words u ws w others e = ap (λ z. status_says counted more (u ∷ z)) e
 
-  -- behind UNKNOWN and white space
+  -- after UNKNOWN and white space
   whole_text : (place : ℕ) (u : Word) → bytes_eq u.text unknown ≡ true → (t : List ℕ) (taken : ℕ) (lits : List LitOf) → NoFeed t → taken + length t ≡ feed
       → speak ended (parser vars taken place Whole lits) (t ++ tail) ≡ status_says counted more (u ∷ words_from fed taken [] t)
   whole_text place u x [] taken lits h e =
@@ -59,7 +59,7 @@ module _ (vars : ℕ) (ended fed counted : Bool) (broken going more : List Sayin
             rw (h, g) (skip_text place false bs (taken + 1) lits hs (omega (arith, e)) ∙ sym (two_words u (words_from fed (taken + 1) (b ∷ []) bs) w.word w.others w.are))
       ]
 
-  -- behind the first bytes of a word, which are so many of UNKNOWN
+  -- after the first bytes of a word, which are this many of UNKNOWN
   abbrev Spells : ℕ → List ℕ → Type 0
   Spells n p = (place : ℕ) (t : List ℕ) (taken : ℕ) (lits : List LitOf) → NoFeed t → taken + length t ≡ feed
       → speak ended (parser vars taken place (Spelled n) lits) (t ++ tail) ≡ status_says counted more (words_from fed taken p t)
@@ -121,7 +121,7 @@ module _ (vars : ℕ) (ended fed counted : Bool) (broken going more : List Sayin
   one : Spells 1 (codes "U")
   one = spells 1 2 78 85 [] (λ w b. refl) refl refl (λ b f x. rw f refl) two
 
-  -- behind s and white space
+  -- after s and white space
   gap_text : (place : ℕ) (t : List ℕ) (taken : ℕ) (lits : List LitOf) → NoFeed t → taken + length t ≡ feed
       → speak ended (parser vars taken place StatusGap lits) (t ++ tail) ≡ status_says counted more (words_from fed taken [] t)
   gap_text place [] taken lits h e = let k : taken ≡ feed = omega (arith, e) in ap (λ z. speak ended (parser vars z place StatusGap lits) tail) k ∙ behind.status_gap place lits
@@ -137,7 +137,7 @@ module _ (vars : ℕ) (ended fed counted : Bool) (broken going more : List Sayin
         ]
       ]
 
-  -- behind s
+  -- after s
   pub status_text : (place : ℕ) (t : List ℕ) (taken : ℕ) (lits : List LitOf) → NoFeed t → taken + length t ≡ feed
       → speak ended (parser vars taken place StatusHead lits) (t ++ tail) ≡ after_first (status_says counted more) fed taken t
   status_text place [] taken lits h e = let k : taken ≡ feed = omega (arith, e) in ap (λ z. speak ended (parser vars z place StatusHead lits) tail) k ∙ behind.status_head place lits

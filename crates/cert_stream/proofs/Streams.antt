@@ -10,7 +10,7 @@ use Rattle.cert_stream.proofs.Speaking.{speak_is, from_line}
 use Rattle.cert_stream.proofs.Tails.{fed_tail, no_tail}
 use Rattle.cert_stream.proofs.Lining.{start_text}
 
--- bytes up to their first line feed, and what stands behind it
+-- bytes up to their first line feed, and what stands after it
 pub record HasFeed (bytes : List ℕ) : Type 0 where
   pub text : List ℕ
   pub rest : List ℕ
@@ -37,7 +37,7 @@ pub some_line : (bytes : List ℕ) → (t : List ℕ) × (ts : List (List ℕ)) 
 some_line bytes = elim (cut bytes) [ inl h ↦ (h.text, lines_of h.rest, h.lines) | inr h ↦ (bytes, [], h.lines) ]
 
 module _ (vars : ℕ) (ended : Bool) where
-  -- what a line says behind which others come
+  -- what a line says after which others come
   pub fed_says : (amid : Bool) (at : ℕ) (t : List ℕ) (ts : List (List ℕ)) (u : List ℕ) (us : List (List ℕ)) → ts ≡ u ∷ us
       → lines_say vars ended amid at (t ∷ ts)
       ≡ line_says vars true amid (bad BadLine (at + length t)) (lines_say vars ended true (at + length t + 1) ts) (lines_say vars ended false (at + length t + 1) ts) (words_from true at [] t)

@@ -1,4 +1,4 @@
--- What comes behind the text of a line: a line feed, or nothing.
+-- What comes after the text of a line: a line feed, or nothing.
 use Rattle.std.proofs.Common.{◌≡◌, ℕ, ◌+◌, ◌-◌, ◌≤◌, Bool, true, false, cond, ◌&&◌, ◌||◌, eqb, List, [], ◌∷◌, ◌++◌, length, refl, ap, ◌∙◌, inl, inr, arith}
 use Rattle.std.proofs.lemmas.Bool.{cases_Bool}
 use Rattle.cnf_form.specs.Cnf.{LitOf}
@@ -15,7 +15,7 @@ use Rattle.cert_stream.specs.declared.mode.Mode.TheVariants.{Start, Skip, Head, 
 use Rattle.cert_stream.proofs.Turning.{parser}
 use Rattle.cert_stream.proofs.Speaking.{speak, bad_ever, from_line, start_forgets}
 
--- what a word that is read says, and the words behind it
+-- what a word that is read says, and the words after it
 abbrev pub word_says : ℕ → ListKind → Bool → List Saying → List Saying → ℕ → List LitOf → Scanned Part → Word → List Word → List Saying
 word_says vars kind counted unended more place lits s w ws =
     elim s [

@@ -25,7 +25,7 @@ turn_blank w b f t = rw (f, t) refl
 pub turn_visible : (w : DrupOf) (b : ℕ) → eqb b 10 ≡ false → is_blank b ≡ false → turn w b ≡ counted w.taken (visible w w.mode b)
 turn_visible w b f t = rw (f, t) refl
 
--- how a list goes on behind a part of a word
+-- how a list goes on after a part of a word
 abbrev pub by_next : DrupOf → ListKind → Result Part ParseFaultKind → Turn
 by_next w kind (Ok part) = quiet w (InList kind part)
 by_next w kind (Err k) = fails w k

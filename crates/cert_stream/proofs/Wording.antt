@@ -35,7 +35,7 @@ words_blank fed at p b bs t = rw t refl
 pub words_visible : (fed : Bool) (at : ℕ) (p : List ℕ) (b : ℕ) (bs : List ℕ) → is_blank b ≡ false → words_from fed at p (b ∷ bs) ≡ words_from fed (at + 1) (p ++ b ∷ []) bs
 words_visible fed at p b bs t = rw t refl
 
--- what is said behind a word of one byte, and of a longer word with that first byte: byte number `at` follows it
+-- what is said after a word of one byte, and of a longer word with that first byte: byte number `at` follows it
 abbrev pub after_first : (List Word → List Saying) → Bool → ℕ → List ℕ → List Saying
 after_first f fed at [] = f []
 after_first f fed at (c ∷ cs) = cond (is_blank c) (f (words_from fed (at + 1) [] cs)) (bad BadLine at)

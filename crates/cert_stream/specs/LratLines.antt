@@ -21,7 +21,7 @@ use Rattle.cert_stream.specs.declared.lrat.mode.IdPart.TheVariants.{Gap as IdGap
 abbrev pub bad : ParseFaultKind → ℕ → List LratSaying
 bad kind byte = IsFault (record { kind = kind; byte = byte }) ∷ []
 
--- behind a line's last 0 only white space may stand
+-- after a line's last 0 only white space may stand
 abbrev pub behind_says : List LratSaying → List Word → List LratSaying
 behind_says more [] = more
 behind_says more (w ∷ ws) = bad BadLine w.place
@@ -32,7 +32,7 @@ ids_ended Hints place id lits hints = IsClause id lits hints place
 ids_ended Deletion place id lits hints = IsDelete hints
 
 -- The words of a list of ids, at most 2 ^ 27 of them, then 0. An id counts once white space or a line feed follows it, a 0 also where the
--- stream ends, which `counted` tells. `broken` is said where the words end without a 0, `more` behind a line that has it.
+-- stream ends, which `counted` tells. `broken` is said where the words end without a 0, `more` after a line that has it.
 abbrev pub ids_say : IdList → Bool → List LratSaying → List LratSaying → ℕ → ℕ → List LitOf → List Hint → List Word → List LratSaying
 ids_say kind counted broken more place id lits hints [] = broken
 ids_say kind counted broken more place id lits hints (w ∷ ws) =
@@ -56,7 +56,7 @@ abbrev pub unended_says : LitList → List LratSaying → List LratSaying → Li
 unended_says Clause broken going = broken
 unended_says Values broken going = going
 
--- behind the 0 of a clause's literals its hints come
+-- after the 0 of a clause's literals its hints come
 abbrev pub lits_ended : LitList → Bool → Bool → List LratSaying → List LratSaying → ℕ → ℕ → List LitOf → List Word → List LratSaying
 lits_ended Clause done counted broken more place id lits ws = cond done (ids_say Hints counted broken more place id lits [] ws) []
 lits_ended Values done counted broken more place id lits ws = cond (done || counted) (IsValuesEnd ∷ behind_says more ws) []
@@ -83,7 +83,7 @@ status_says counted more ws = cond (is_unknown ws && counted) (IsUnknown ∷ mor
 abbrev pub alone : Word → List LratSaying → List LratSaying
 alone w said = cond (eqb (length w.text) 1) said (bad BadLine (w.place + 1))
 
--- behind a line's own id: d tells a deletion, all else a clause
+-- after a line's own id: d tells a deletion, all else a clause
 abbrev pub named_by : ℕ → Bool → List LratSaying → List LratSaying → ℕ → ℕ → ℕ → Word → List Word → List LratSaying
 named_by vars counted broken more place id b w ws =
     cond (eqb b 100) (alone w (ids_say Deletion counted broken more place id [] [] ws)) (lits_say vars Clause counted broken [] more place id [] (w ∷ ws))
@@ -112,12 +112,12 @@ visible_says vars counted amid broken going more b w ws =
     (cond (eqb b 118) (alone w (lits_say vars Values counted broken going more w.place 0 [] ws))
     (cond amid (bad BadLine w.place) (plain_says vars counted broken more b w ws)))
 
--- What the words of a line say, and what is said behind it: `going` amid values, else `more`; `broken` where a hinted line isn't whole.
+-- What the words of a line say, and what is said after it: `going` amid values, else `more`; `broken` where a hinted line isn't whole.
 abbrev pub line_says : ℕ → Bool → Bool → List LratSaying → List LratSaying → List LratSaying → List Word → List LratSaying
 line_says vars counted amid broken going more [] = cond amid going more
 line_says vars counted amid broken going more (w ∷ ws) = visible_says vars counted amid broken going more (slice_index w.text 0) w ws
 
--- What lines say, the first of which begins with byte number `at`, up to the first fault; line feeds stand between them, and behind
+-- What lines say, the first of which begins with byte number `at`, up to the first fault; line feeds stand between them, and after
 -- the last one more bytes or the stream's end.
 abbrev pub lines_say : ℕ → Bool → Bool → ℕ → List (List ℕ) → List LratSaying
 lines_say vars ended amid at [] = []

@@ -68,7 +68,7 @@ abbrev pub ended : IdList → Event
 ended Hints = Clause
 ended Deletion = Delete
 
--- white space or a line feed behind a part of a word of a list
+-- white space or a line feed after a part of a word of a list
 abbrev pub end_part : LratOf → LitList → Part → Turn
 end_part w kind Gap = quiet w (InLits kind Gap)
 end_part w kind Minus = fails w BadLiteral
@@ -81,7 +81,7 @@ end_id_part w kind (IdMinus place) = fails w BadLiteral
 end_id_part w kind IdZero = telling w Closed (ended kind)
 end_id_part w kind (IdDigits h) = record { to = record w { mode = InIds kind IdGap; hints = w.hints ++ h ∷ [] }; event = None }
 
--- white space or a line feed behind whatever was read
+-- white space or a line feed after whatever was read
 abbrev pub end_word : LratOf → Mode → Turn
 end_word w (Start amid) = quiet w (Start amid)
 end_word w (Skip amid) = quiet w (Skip amid)
@@ -98,7 +98,7 @@ end_word w (InIds kind part) = end_id_part w kind part
 end_word w Closed = quiet w Closed
 end_word w (Bad f) = quiet w (Bad f)
 
--- a line feed, behind white space: only values may go on in another line
+-- a line feed, after white space: only values may go on in another line
 abbrev pub unended : LratOf → LitList → Turn
 unended w ClauseList = fails w BadLine
 unended w Values = quiet w (Start true)
@@ -122,7 +122,7 @@ end_line w (Bad f) = quiet w (Bad f)
 abbrev pub feed_behind : Turn → Turn
 feed_behind t = record { to = (end_line t.to t.to.mode).to; event = first_of_both t.event (end_line t.to t.to.mode).event }
 
--- digits behind a number, with its sign
+-- digits after a number, with its sign
 abbrev pub visible_digit : LratOf → LitList → Bool → ℕ → ℕ → Turn
 visible_digit w kind negated n b = cond (goes_on w.vars n b) (quiet w (InLits kind (Digits (literal (with_digit n b) negated)))) (fails w BadLiteral)
 
@@ -176,7 +176,7 @@ id_part w kind (IdDigits h) b = id_digit w kind h.negated h.place h.id b
 abbrev pub own_digit : LratOf → ℕ → ℕ → Turn
 own_digit w n b = cond (id_goes_on n b) (quiet w (InId (with_digit n b))) (fails w BadLiteral)
 
--- behind it, d tells a deletion
+-- after it, d tells a deletion
 abbrev pub visible_behind : LratOf → ℕ → Turn
 visible_behind w b = cond (eqb b 100) (quiet w DeletionHead) (visible_first w ClauseList b)
 

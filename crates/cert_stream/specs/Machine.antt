@@ -49,14 +49,14 @@ heard ClauseList l = None
 heard Deletion l = None
 heard Values l = Some (Value l)
 
--- white space or a line feed behind a part of a word of a list
+-- white space or a line feed after a part of a word of a list
 abbrev pub end_part : DrupOf → ListKind → Part → Turn
 end_part w kind Gap = quiet w (InList kind Gap)
 end_part w kind Minus = fails w BadLiteral
 end_part w kind Zero = telling w Closed (ended kind)
 end_part w kind (Digits l) = record { to = record w { mode = InList kind Gap; lits = w.lits ++ l ∷ [] }; event = heard kind l }
 
--- white space or a line feed behind whatever was read
+-- white space or a line feed after whatever was read
 abbrev pub end_word : DrupOf → Mode → Turn
 end_word w (Start amid) = quiet w (Start amid)
 end_word w (Skip amid) = quiet w (Skip amid)
@@ -70,7 +70,7 @@ end_word w Closed = quiet w Closed
 end_word w (Bad f) = quiet w (Bad f)
 end_word w Lost = quiet w Lost
 
--- a line feed, behind white space: only values may go on in another line
+-- a line feed, after white space: only values may go on in another line
 abbrev pub unended : DrupOf → ListKind → Turn
 unended w ClauseList = fails w BadLine
 unended w Deletion = fails w BadLine
@@ -109,7 +109,7 @@ literal n negated = record { var = n; negated = negated }
 abbrev pub begins_literal : ℕ → ℕ → Bool
 begins_literal vars b = (eqb b 45 && leb 1 vars) || goes_on vars 0 b
 
--- digits behind a number, with its sign
+-- digits after a number, with its sign
 abbrev pub visible_digit : DrupOf → ListKind → Bool → ℕ → ℕ → Turn
 visible_digit w kind negated n b = cond (goes_on w.vars n b) (quiet w (InList kind (Digits (literal (with_digit n b) negated)))) (fails w BadLiteral)
 

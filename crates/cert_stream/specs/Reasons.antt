@@ -29,8 +29,8 @@ IsListOf Deletion words ws = (first : Word) × (words ≡ first ∷ ws) × (firs
 IsListOf Values words ws = (first : Word) × (words ≡ first ∷ ws) × (first.text ≡ codes "v")
 
 -- The fault of a line with these words, whose line feed, if it has one, is byte number `feed`. BadLine: at the first byte of a line that
--- is of no kind; at the second byte of s, d or v; at a word behind a list's 0; at the line feed of a clause or deletion without its 0.
--- BadLiteral: where no word of a list begins any more, or behind a minus alone; a literal too many begins there where the line is full.
+-- is of no kind; at the second byte of s, d or v; at a word after a list's 0; at the line feed of a clause or deletion without its 0.
+-- BadLiteral: where no word of a list begins any more, or after a minus alone; a literal too many begins there where the line is full.
 pub data Reason (vars : ℕ) (amid fed : Bool) (feed : ℕ) (words : List Word) (f : ParseFault) : Type 0 where
   OtherLine : (first : Word) (others : List Word) → words ≡ first ∷ others → starts_line amid (slice_index first.text 0) ≡ false → IsAt f BadLine first.place → Reason vars amid fed feed words f
   NotAlone : (first : Word) (others : List Word) → words ≡ first ∷ others → is_alone amid (slice_index first.text 0) ≡ true → 2 ≤ length first.text → IsAt f BadLine (first.place + 1) → Reason vars amid fed feed words f
@@ -43,7 +43,7 @@ pub data Reason (vars : ℕ) (amid fed : Bool) (feed : ℕ) (words : List Word) 
   MinusAlone : (kind : ListKind) (ws : List Word) (lits : List LitOf) (w : Word) (more : List Word) → IsListOf kind words (ws ++ w ∷ more) → Write vars ws lits
       → w.text ≡ codes "-" → w.done ≡ true → IsAt f BadLiteral (w.place + length w.text) → Reason vars amid fed feed words f
 
--- behind whole lines without a fault, which leave the stream amid values or not, a line has a reason to be at fault
+-- after whole lines without a fault, which leave the stream amid values or not, a line has a reason to be at fault
 pub record HasReason (vars : ℕ) (ended : Bool) (bytes : List ℕ) (f : ParseFault) : Type 0 where
   pub front : List ℕ
   pub line : List ℕ

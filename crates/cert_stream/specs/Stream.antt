@@ -32,14 +32,14 @@ unended_says ClauseList broken going = broken
 unended_says Deletion broken going = broken
 unended_says Values broken going = going
 
--- behind the 0 only white space may stand in its line
+-- after the 0 only white space may stand in its line
 abbrev pub behind_says : List Saying → List Word → List Saying
 behind_says more [] = more
 behind_says more (w ∷ ws) = bad BadLine w.place
 
 -- The words of a list whose line has its first visible byte at `place`: at most `vars` literals, of which it has `lits` so far,
 -- then 0. A literal counts once white space or a line feed follows it, a 0 also where the stream ends, which `counted` tells.
--- `unended` is said where the words end without a 0, `more` behind a line that has it.
+-- `unended` is said where the words end without a 0, `more` after a line that has it.
 abbrev pub list_says : ℕ → ListKind → Bool → List Saying → List Saying → ℕ → List LitOf → List Word → List Saying
 list_says vars kind counted unended more place lits [] = unended
 list_says vars kind counted unended more place lits (w ∷ ws) =
@@ -81,12 +81,12 @@ visible_says vars counted amid broken going more b w ws =
     (cond (eqb b 118) (alone w (list_says vars Values counted going more w.place [] ws))
     (cond amid (bad BadLine w.place) (plain_says vars counted broken more b w ws)))
 
--- What the words of a line say, and what is said behind it: `going` amid values, else `more`; `broken` where a clause or deletion lacks its 0.
+-- What the words of a line say, and what is said after it: `going` amid values, else `more`; `broken` where a clause or deletion lacks its 0.
 abbrev pub line_says : ℕ → Bool → Bool → List Saying → List Saying → List Saying → List Word → List Saying
 line_says vars counted amid broken going more [] = cond amid going more
 line_says vars counted amid broken going more (w ∷ ws) = visible_says vars counted amid broken going more (slice_index w.text 0) w ws
 
--- What lines say, the first of which begins with byte number `at`, up to the first fault; line feeds stand between them, and behind
+-- What lines say, the first of which begins with byte number `at`, up to the first fault; line feeds stand between them, and after
 -- the last one more bytes or the stream's end.
 abbrev pub lines_say : ℕ → Bool → Bool → ℕ → List (List ℕ) → List Saying
 lines_say vars ended amid at [] = []

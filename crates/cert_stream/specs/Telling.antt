@@ -72,7 +72,7 @@ fault_said (Some f) = IsFault f ∷ []
 abbrev pub spoken : Bool → DrupOf → List ℕ → List Saying
 spoken ended w bytes = said w bytes ++ (cond ended (told_by (after w bytes) (at_end (after w bytes).mode)) [] ++ fault_said (fault_of (after w bytes).mode))
 
--- some byte may take memory: it comes behind a literal's digits, or something is said with it
+-- some byte may take memory: it comes after a literal's digits, or something is said with it
 abbrev pub TakesMemory : DrupOf → List ℕ → Type 0
 TakesMemory w [] = ⊥
 TakesMemory w (b ∷ bs) = (is_in_literal w.mode ≡ true) ⊎ ((e : Event) × ((turn w b).event ≡ Some e)) ⊎ TakesMemory (turn w b).to bs

@@ -21,7 +21,7 @@ abbrev pub AreBlank : List ℕ → Type 0
 AreBlank [] = Unit {0}
 AreBlank (b ∷ bs) = (is_blank b ≡ true) × AreBlank bs
 
--- the texts between line feeds; behind the last one no line feed stands
+-- the texts between line feeds; after the last one no line feed stands
 abbrev pub put_first : ℕ → List (List ℕ) → List (List ℕ)
 put_first b [] = (b ∷ []) ∷ []
 put_first b (t ∷ ts) = (b ∷ t) ∷ ts
@@ -41,7 +41,7 @@ abbrev pub flush : Bool → ℕ → List ℕ → List Word
 flush done at [] = []
 flush done at (c ∷ q) = record { place = at - length (c ∷ q); text = c ∷ q; done = done } ∷ []
 
--- the words of a text whose first byte is byte number `at`, behind the bytes so far of a word; `fed` tells whether a line feed follows it
+-- the words of a text whose first byte is byte number `at`, after the bytes so far of a word; `fed` tells whether a line feed follows it
 abbrev pub words_from : Bool → ℕ → List ℕ → List ℕ → List Word
 words_from fed at p [] = flush fed at p ++ []
 words_from fed at p (b ∷ bs) = cond (is_blank b) (flush true at p ++ words_from fed (at + 1) [] bs) (words_from fed (at + 1) (p ++ b ∷ []) bs)

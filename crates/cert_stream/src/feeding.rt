@@ -13,7 +13,7 @@ use cnf_form::Lit;
 use std::alloc::AllocError;
 use std::sync::ledger::Ledger;
 
-/// Gets what a stream says. Each call answers whether no more is wanted, or want of memory.
+/// Gets what a stream says. Each call answers whether no more is wanted, or that memory ran out.
 pub trait Receiver {
     /// It takes literals of the variables from 1 to this one.
     ghost vars: { Self → ℕ };

@@ -16,7 +16,7 @@ ghost use Rattle.cert_stream.specs.Telling.{IsUnknown, Saying, StandsFor, TakesM
 ghost use Rattle.cert_stream.specs.declared.mode.ParseFault.{ParseFault};
 ghost use Rattle.cert_stream.specs.declared.mode.Mode.TheVariants.{Bad, Start};
 
-/// What stands for the bytes so far stands, after a piece, for these with the piece behind them.
+/// What stands for the bytes so far stands, after a piece, for these with the piece after them.
 #[tactic(auto, using(crate::proofs::Cutting::stands_append))]
 pub fn pieces_join()
     ensures { (vars : ℕ) (w : DrupOf) (bytes piece : List ℕ) → StandsFor vars w bytes → StandsFor vars (after w piece) (bytes ++ piece) }
@@ -71,7 +71,7 @@ pub fn sayings_go_on()
 {}
 
 /// What a stream says that ends, its last line too, is said as well where a line feed follows, or white space, whatever comes
-/// then. Only UNKNOWN at the end needn't be: behind white space its line may go on.
+/// then. Only UNKNOWN at the end needn't be: after white space its line may go on.
 #[tactic(auto, using(crate::proofs::GoingOn::sayings_fed, crate::proofs::GoingOn::sayings_parted))]
 pub fn sayings_stay_before_more()
     ensures fed { (vars : ℕ) (bytes rest : List ℕ) → (more : List Saying) × (sayings vars false (bytes ++ 10 ∷ rest) ≡ sayings vars true bytes ++ more) }
@@ -80,7 +80,7 @@ pub fn sayings_stay_before_more()
         × ((sayings vars true bytes ≡ said) ⊎ (sayings vars true bytes ≡ said ++ IsUnknown ∷ [])) }
 {}
 
-/// Behind whole lines without a fault the rest of a stream says what its own lines say; whether they come amid values is a matter
+/// After whole lines without a fault the rest of a stream says what its own lines say; whether they come amid values is a matter
 /// of the lines before them.
 #[tactic(auto, using(crate::proofs::Apart::lines_apart))]
 pub fn lines_come_apart()
@@ -88,7 +88,7 @@ pub fn lines_come_apart()
         → (amid : Bool) × ((ended : Bool) (text : List ℕ) → sayings vars ended (front ++ text) ≡ sayings vars false front ++ lines_say vars ended amid (length front) (lines_of text)) }
 {}
 
-/// A whole line before a fault that is a list of literals with its 0 is said, behind what the lines before it say.
+/// A whole line before a fault that is a list of literals with its 0 is said, after what the lines before it say.
 #[tactic(auto, using(crate::proofs::Apart::line_said))]
 pub fn whole_lines_are_said()
     ensures { (vars : ℕ) (front line : List ℕ) → AreLines front → NoFeed line → HasNoFault (sayings vars false (front ++ (line ++ 10 ∷ [])))

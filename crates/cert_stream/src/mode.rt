@@ -13,7 +13,7 @@ pub enum ListKind {
 /// What is wrong where no stream goes on.
 #[derive(Clone, Copy, Debug, PartialEq, Eq)]
 pub enum ParseFaultKind {
-    /// The line's kind, its end, or what stands behind its 0.
+    /// The line's kind, its end, or what stands after its 0.
     BadLine,
     /// A word of a list is neither 0 nor a literal.
     BadLiteral,
@@ -51,15 +51,15 @@ pub enum Mode {
     StatusHead,
     /// s and white space.
     StatusGap,
-    /// s and so many bytes of UNKNOWN.
+    /// s and this many bytes of UNKNOWN.
     Spelled(u8),
     /// s, UNKNOWN and white space.
     Whole,
     InList(ListKind, Part),
-    /// White space behind its 0.
+    /// White space after its 0.
     Closed,
     Bad(ParseFault),
-    /// Memory was wanting.
+    /// Memory ran out.
     Lost,
 }
 

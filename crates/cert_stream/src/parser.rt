@@ -359,7 +359,7 @@ impl DrupParser {
         matches!(self.mode, Mode::Lost)
     }
 
-    // Memory was wanting: nothing is known any more.
+    // Memory ran out: nothing is known any more.
     pub(crate) fn lose(&mut self)
         ensures mode { self.new.mode ≡ Lost }
         ensures taken { self.new.taken ≡ 0 }

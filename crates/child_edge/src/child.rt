@@ -69,7 +69,7 @@ impl Errors {
     }
 }
 
-// Whether each of two descriptors has something to be read, or has ended, within so many milliseconds. A negative one never has.
+// Whether each of two descriptors has something to be read, or has ended, within this many milliseconds. A negative one never has.
 fn ready(first: RawFd, second: RawFd, wait: i32) -> (bool, bool) {
     let events = POLLIN;
     let mut fds = [

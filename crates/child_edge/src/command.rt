@@ -129,7 +129,7 @@ pub fn find_program<R: SystemFiles + Env + Alloc<A = Global>>(
     Ok(None)
 }
 
-// Adds words behind those of a command.
+// Adds words after those of a command.
 fn add_words(command: &mut Command, words: &[String]) -> Result<(), AllocError>
     ensures { IfOk result (λ _. command_args command.new ≡ command_args command.old ++ map string_bytes words.now) }
 {

@@ -12,7 +12,7 @@ use std::io::{ErrorKind, Read, Seek, SeekFrom, Write};
 use std::rt::Files as SystemFiles;
 use std::time::Clock as SystemClock;
 
-// What the name of a file has behind it while the file is written.
+// What the name of a file has after it while the file is written.
 const PART: &str = ".part";
 
 // A file that is read piece by piece.

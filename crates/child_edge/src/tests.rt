@@ -150,7 +150,7 @@ fn shell(alloc: Global, line: &str) -> Result<Vec<String>, AllocError> {
 }
 
 // All that a child writes up to its end, how it ended, and whether it lived when its output ended. It is killed where that is asked
-// for, once its output has ended or so many bytes were read.
+// for, once its output has ended or this many bytes were read.
 fn watched<L: Launch>(
     bay: &mut L,
     alloc: Global,
@@ -225,7 +225,7 @@ fn children_are_read_killed_and_reaped(rt: HostRuntime) -> Result<(), Failure> {
     Ok(())
 }
 
-// Whether a child of a shell's line ends within two seconds of its kill, which comes once its output has so many bytes, or has ended.
+// Whether a child of a shell's line ends within two seconds of its kill, which comes once its output has this many bytes, or has ended.
 fn dies<Y: Yard, C: Clock>(
     yard: &mut Y,
     clock: &C,

@@ -114,7 +114,7 @@ where
     Ok((pipe, hold))
 }
 
-// The count after a part with so many faults is spent.
+// The count after a part with this many faults is spent.
 fn risen(count: u64, part: u64) -> u64
     ensures { RisesBy part count result }
 {

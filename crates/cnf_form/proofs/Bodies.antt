@@ -176,7 +176,7 @@ no_space front = ([], refl, All-nil IsSpace)
 finds_next : {bytes word rest : List ℕ} → Finds false bytes word rest → NextWord bytes word rest
 finds_next f = next_after (gap_spaces refl refl f.gap) f.begins
 
--- the clause that is begun, and the clauses behind it
+-- the clause that is begun, and the clauses after it
 abbrev Behind : List ℕ → List (List LitOf) → Type 0
 Behind bytes F = (c : List LitOf) × (G : List (List LitOf)) × (rest : List ℕ) × (F ≡ c ∷ G) × IsClause bytes c rest × IsBody false rest G
 

@@ -37,7 +37,7 @@ module _ (comments : Bool) (bytes : List ℕ) (at : ℕ) (room : at < length byt
 pub gap_over : (comments fresh : Bool) (bytes : List ℕ) (at : ℕ) → length bytes ≤ at → Gap comments fresh (drop at bytes) (drop at bytes)
 gap_over comments fresh bytes at h = subst (λ z. Gap comments fresh z z) (sym (drop_all at bytes h)) (over fresh)
 
--- behind a gap a word begins, or the text ends
+-- after a gap a word begins, or the text ends
 abbrev pub Begins : List ℕ → Type 0
 Begins [] = Unit {0}
 Begins (b ∷ bs) = IsWordByte b

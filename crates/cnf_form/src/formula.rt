@@ -8,14 +8,14 @@ use crate::literal::{Lit, MAX_VARS};
 use std::alloc::{AllocError, Global};
 use std::marker::Model;
 
-// Where the literals of a clause lie. More literals than a place can count are answered as want of memory.
+// Where the literals of a clause lie. More literals than a place can count are answered as out of memory.
 #[derive(Clone, Copy)]
 struct Span {
     start: u32,
     end: u32,
 }
 
-// The place of a clause that is put behind the others, if its end can be counted.
+// The place of a clause that is added after the others, if its end can be counted.
 fn span_after(lits: &[Lit], clause: &[Lit]) -> Option<Span>
     ensures { IfSome result (λ s. (s.start ≡ length lits.now) × (s.end ≡ length lits.now + length clause.now)) }
 {

@@ -76,7 +76,7 @@ enum BodyEnd<'a> {
     Bad(&'a [u8]),
 }
 
-// Reads the clauses behind the header into a formula that has none yet.
+// Reads the clauses after the header into a formula that has none yet.
 fn read_body<'a>(
     alloc: Global,
     formula: &mut Formula,

@@ -8,7 +8,7 @@ ghost use Rattle.model_cone.specs.Slice.{kept_by};
 use model_core::model::WordModel;
 use std::alloc::{AllocError, Global};
 
-// Puts behind the others whether the place is kept, where it has no start digit.
+// Puts after the others whether the place is kept, where it has no start digit.
 fn push_start(
     kept: &mut Vec<bool>,
     marks: &[bool],

@@ -6,7 +6,7 @@ ghost use Rattle.cone_cnf.specs.Spreading.{spread_bits, spread_choices};
 use model_play::choices::Choices;
 use std::alloc::{AllocError, Global};
 
-// Puts a bit for each place behind the others: the next of the row's where the place is kept, else 0.
+// Puts a bit for each place after the others: the next of the row's where the place is kept, else 0.
 fn spread_row(bits: &mut Vec<bool>, kept: &[bool], row: &[bool]) -> Result<(), AllocError>
     ensures { OnOk result (bits.new.items ≡ bits.old.items ++ spread_bits kept.now row.now) }
 {

@@ -7,7 +7,7 @@ use cnf_form::Lit;
 use std::alloc::{AllocError, Global};
 use unit_propagation::Propagator;
 
-// The value at a place of a list, or 0 behind its end.
+// The value at a place of a list, or 0 after its end.
 pub(crate) fn at(list: &[u32], place: usize) -> u32 {
     match list.get(place) {
         Some(value) => *value,
@@ -39,7 +39,7 @@ fn start_of(ends: &[u32], number: usize) -> usize {
     }
 }
 
-// The clauses that level 0 leaves open, without their false literals, one behind the other, and where each ends. The numbers of the
+// The clauses that level 0 leaves open, without their false literals, one after the other, and where each ends. The numbers of the
 // clauses of each literal, in the order of the literals' places, and where those of each end.
 #[derive(Drop)]
 pub(crate) struct Cover {

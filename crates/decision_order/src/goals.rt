@@ -10,7 +10,7 @@ use crate::open::is_open;
 use cnf_form::Lit;
 use unit_propagation::Propagator;
 
-// After so many conflicts for one goal all goals are searched for at once.
+// After this many conflicts for one goal all goals are searched for at once.
 const GOAL_CONFLICTS: u64 = 2_000;
 
 #[derive(Drop)]

@@ -9,7 +9,7 @@ use crate::open::{is_open, open_of};
 use cnf_form::{Formula, Lit};
 use unit_propagation::Propagator;
 
-// So many guesses are made, ..
+// This many guesses are made, ..
 const GUESSES: u32 = 4;
 
 // .. the first of which go through the variables alone.
@@ -25,7 +25,7 @@ pub struct Lucky {
 }
 
 impl Lucky {
-    /// Before the first guess, or where there is no goal behind the last.
+    /// Before the first guess, or where there is no goal after the last.
     pub fn new(has_goal: bool) -> Self {
         Lucky {
             guess: if has_goal { 0 } else { GUESSES + 1 },

@@ -12,7 +12,7 @@ use std::alloc::{AllocError, Global};
 // Where an activity is halved with all others.
 const MAX_ACTIVITY: u64 = 1 << 60;
 
-// One in so many stretches in stable mode begins with all variables true.
+// One in this many stretches in stable mode begins with all variables true.
 const TURNED: u32 = 8;
 
 // The place of a variable that isn't in the heap.

@@ -14,21 +14,21 @@ use unit_propagation::Propagator;
 // Where there are more literals and variables, there is no walk.
 const MOST_LITERALS: usize = 1 << 16;
 
-// At first a walk looks at so many clauses, or as often at each literal of a smaller formula.
+// At first a walk looks at this many clauses, or as often at each literal of a smaller formula.
 const MOST_LOOKS: u64 = 3_000_000;
 
 const LOOKS_A_LITERAL: u64 = 500;
 
-// Each change counts as so many looks more.
+// Each change counts as this many looks more.
 const CHANGE: u64 = 10;
 
 // The weight of a variable that no clause rests on.
 const WHOLE: u64 = 1 << 40;
 
-// Weights are told apart for fewer clauses than so many.
+// Weights are told apart for fewer clauses than this many.
 const WEIGHTS: usize = 24;
 
-// By how much a weight falls with each clause that rests on the variable, in hundredths, where clauses have so many hundredths of a
+// By how much a weight falls with each clause that rests on the variable, in hundredths, where clauses have this many hundredths of a
 // literal on average: steeper where they are longer.
 fn fall(length: u64) -> u64
     ensures { 0 < result }
@@ -328,7 +328,7 @@ pub(crate) struct Paused {
     walk: Walk,
 }
 
-// A walk over the first clauses, so many, which is to begin.
+// A walk over the first clauses, this many, which is to begin.
 fn start(
     alloc: Global,
     core: &Propagator,

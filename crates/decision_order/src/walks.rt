@@ -4,13 +4,13 @@
 
 use crate::walk::Paused;
 
-// It came near where it left at most one false clause in so many.
+// It came near where it left at most one false clause in this many.
 const NEAR: usize = 250;
 
-// Before it goes on first the search makes so many literals open again, and half as many more before each later time.
+// Before it goes on first the search makes this many literals open again, and half as many more before each later time.
 const FIRST_WAIT: u64 = 1 << 19;
 
-// For each of those it looks at so many clauses.
+// For each of those it looks at this many clauses.
 const LOOKS: u64 = 30;
 
 // How often it began or went on, and how many clauses it left false at best. How many literals became open again since then, and how
@@ -67,7 +67,7 @@ impl Walks {
         self.paused.take()
     }
 
-    // It left so many of the clauses false. It goes on no more where it didn't come near, or where it came no nearer when it went on
+    // It left this many of the clauses false. It goes on no more where it didn't come near, or where it came no nearer when it went on
     // first, which takes longer than what it began with.
     pub fn pause(&mut self, paused: Paused, least: usize, clauses: usize) {
         self.count = self.count.saturating_add(1);

@@ -11,10 +11,10 @@ use unit_propagation::Propagator;
 // Twice the weight of a clause of one literal.
 const MOST_WEIGHT: u32 = 1 << 10;
 
-// From so many literals on clauses count alike.
+// From this many literals on clauses count alike.
 const MOST_HALVES: usize = 10;
 
-// The weight of a clause of so many literals.
+// The weight of a clause of this many literals.
 fn weight_of(length: usize) -> u32 {
     let mut weight = MOST_WEIGHT;
     for _ in 0..length.min(MOST_HALVES) {
@@ -23,7 +23,7 @@ fn weight_of(length: usize) -> u32 {
     weight
 }
 
-// The weights of the literals, by their places, over the first clauses that level 0 leaves open, so many.
+// The weights of the literals, by their places, over the first clauses that level 0 leaves open, this many.
 fn weigh(alloc: Global, core: &Propagator, given: usize) -> Result<Vec<u32>, AllocError> {
     let mut weights = vec![in alloc; 0; 2 * core.vars() as usize + 2]?;
     for k in 0..core.len() {

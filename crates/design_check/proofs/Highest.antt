@@ -45,7 +45,7 @@ highest-chunk b zero h = absurd (omega arith)
 highest-chunk b (suc n) h = chunk-from b 0 n
 
 module _ (cs : List Chunk) (k : ℕ) (d : Chunk) (lt : k < length cs) (some : 0 < (get_or cs k d).width) where
-  -- the wires from a place on, by its chunk and those behind it
+  -- the wires from a place on, by its chunk and those after it
   pub highest-next : highest_wire (bits_of (drop k cs)) ≡ first_some (highest_wire (bits_of (drop (k + 1) cs))) (wire_of (get_or cs k d).first)
   highest-next =
       ap (λ (l : List Chunk). highest_wire (bits_of l)) (drop_more cs k d lt)

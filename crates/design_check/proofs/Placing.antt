@@ -24,7 +24,7 @@ cell-connect : (i k : ℕ) → Cell i ≡ Connect k → ⊥
 cell-connect i k e = cc
 
 module _ (d : DesignOf) (P : ℕ → CellOf → Type 0) where
-  -- a cell's fault comes behind those of the cells before
+  -- a cell's fault comes after those of the cells before
   cell-first : (r : ℕ) → ((i : ℕ) (c : CellOf) → i < r → IsCell d i c → P i c → ⊥) → (q : Place) → Before d q (Whole (Cell r)) → IsCellWith d q P → ⊥
   cell-first r none q b h = none h.0 h.1 (subst (λ (p : Place). Before d p (Whole (Cell r))) h.2 b) h.3 h.4
 

@@ -315,7 +315,7 @@ fn examine(alloc: Global, design: &Design) -> Result<Result<Found, DesignFault>,
 }
 
 /// The flat design, or its fault: of the first kind that has an instance, at the first instance in file order. A design
-/// that is refused is dropped. The outer error is want of memory alone.
+/// that is refused is dropped. The outer error is out of memory alone.
 pub fn check(alloc: Global, design: Design) -> Result<Result<Flat, DesignFault>, AllocError>
     ensures { IfOk result (λ r. MatchResult r (λ f. (f ≡ design) × IsFlat design) (λ e. IsFault design e.kind e.name)) }
 {

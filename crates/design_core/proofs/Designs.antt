@@ -49,11 +49,11 @@ module _ (ws us : List WireOf) (free more : ℕ) (bits : (b : SigBit) → IsDecl
   pub IsConnectOf-more : (j : ConnectOf) → IsConnectOf ws free j → IsConnectOf us more j
   IsConnectOf-more j h = (All-weaker (IsDeclared ws free) (IsDeclared us more) bits j.left h.0, All-weaker (IsDeclared ws free) (IsDeclared us more) bits j.right h.1)
 
--- one more cell behind the connects
+-- one more cell after the connects
 pub order-cell : (cells : ℕ) (more : ℕ) (js : List ConnectOf) → cells ≤ more → IsFileOrder cells js → IsFileOrder more js
 order-cell cells more js le h = (λ k d lt. let old : (get_or js k d).cells_before ≤ cells = h.0 k d lt in omega arith, h.1)
 
--- the one behind the others
+-- the one after the others
 at-push : {A : Type 0} (xs : List A) (y : A) (i : ℕ) (x : A) → slice_get (xs ++ y ∷ []) i ≡ Some x → i ≡ length xs → x ≡ y
 at-push [] y zero x h e = cc
 at-push [] y (suc i) x h e = cc
@@ -70,7 +70,7 @@ within cells [] k j h e = cc
 within cells (x ∷ js) zero j h e = let same : x ≡ j = cc in let P : ConnectOf → Type 0 = λ y. y.cells_before ≤ cells in subst P same (h 0 x (omega arith))
 within cells (x ∷ js) (suc k) j h e = within cells js k j (λ i d lt. h (suc i) d (omega (arith, lt))) e
 
--- a connect behind the others, after all cells
+-- a connect after the others, after all cells
 pub order-connect : (cells : ℕ) (js : List ConnectOf) (j : ConnectOf) → j.cells_before ≡ cells → IsFileOrder cells js → IsFileOrder cells (js ++ j ∷ [])
 order-connect cells js j e h =
     let all : All (λ (x : ConnectOf). x.cells_before ≤ cells) (js ++ j ∷ []) = All-push (λ (x : ConnectOf). x.cells_before ≤ cells) js j h.0 (omega (arith, e)) in (

@@ -32,7 +32,7 @@ digits_number (x ∷ xs) = digit_number x + 2 * digits_number xs
 abbrev pub is_number : List Digit → Bool
 is_number digits = list_all is_binary digits
 
--- a number as so many digits
+-- a number as this many digits
 abbrev pub number_digits : ℕ → ℕ → List Digit
 number_digits width n = map (λ b. Const b) (low_bits width n)
 

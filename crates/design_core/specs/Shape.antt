@@ -26,7 +26,7 @@ pub record CellOf : Type 0 where
   pub ports : List Port
   pub foreign : List (List ℕ)
 
--- `connect left right` drives left from right; so many cells stand before it in the file
+-- `connect left right` drives left from right; this many cells stand before it in the file
 pub record ConnectOf : Type 0 where
   pub left : List SigBit
   pub right : List SigBit

@@ -119,7 +119,7 @@ impl Cell {
         }
     }
 
-    /// Adds a parameter behind the others. An error leaves the cell as it was.
+    /// Adds a parameter after the others. An error leaves the cell as it was.
     pub fn push_parameter(
         &mut self,
         name: ParameterName,
@@ -160,7 +160,7 @@ impl Cell {
         }
     }
 
-    /// Adds a port behind the others. An error leaves the cell as it was.
+    /// Adds a port after the others. An error leaves the cell as it was.
     pub fn push_port(&mut self, name: PortName, signal: StoredSignal) -> Result<(), AllocError>
         requires { list_any (λ p. is_port p.name name) self.old.ports ≡ false }
         ensures ok { OnOk result (self.new ≡ record self.old { ports = self.old.ports ++ record { name = name; signal = signal } ∷ [] }) }

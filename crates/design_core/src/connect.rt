@@ -24,7 +24,7 @@ impl Model for Connect {
 }
 
 impl Connect {
-    /// A connect that drives `left` from `right`; so many cells stand before it in the file.
+    /// A connect that drives `left` from `right`; this many cells stand before it in the file.
     pub fn new(left: StoredSignal, right: StoredSignal, cells_before: u32) -> Connect
         ensures { result ≡ record { left = left; right = right; cells_before = cells_before } }
     {

@@ -226,7 +226,7 @@ impl Design {
         true
     }
 
-    /// Adds a wire behind the others. An error leaves the design as it was.
+    /// Adds a wire after the others. An error leaves the design as it was.
     pub fn push_wire(&mut self, wire: Wire) -> Result<(), AllocError>
         requires wire { IsWire wire }
         requires room { wire_bits self.old + self.old.free + wire.width ≤ 2 ^ 21 }
@@ -243,7 +243,7 @@ impl Design {
         Ok(())
     }
 
-    /// Adds a cell behind the others. An error leaves the design as it was.
+    /// Adds a cell after the others. An error leaves the design as it was.
     pub fn push_cell(&mut self, cell: Cell) -> Result<(), AllocError>
         requires cell { IsCellOf self.old.wires self.old.free cell }
         requires few { length self.old.cells < 2 ^ 27 }
@@ -254,7 +254,7 @@ impl Design {
         Ok(())
     }
 
-    /// Adds a connect of these two sides behind the others, after the cells that are there. An error leaves the design as it was.
+    /// Adds a connect of these two sides after the others, after the cells that are there. An error leaves the design as it was.
     pub fn push_connect(
         &mut self,
         left: StoredSignal,
@@ -272,7 +272,7 @@ impl Design {
         Ok(())
     }
 
-    /// Numbers so many more free bits, and gives the first one's number.
+    /// Numbers this many more free bits, and gives the first one's number.
     pub fn number_free(&mut self, count: u32) -> u32
         requires { wire_bits self.old + self.old.free + count ≤ 2 ^ 21 }
         ensures number { result ≡ self.old.free }

@@ -15,7 +15,7 @@ pub enum Digit {
     Marker,
 }
 
-/// What stands above the digits that are kept one by one: so many zeros, or digits without a value.
+/// What stands above the digits that are kept one by one: this many zeros, or digits without a value.
 #[derive(Clone, Copy, Debug, PartialEq, Eq)]
 pub enum Extension {
     Zeros(u32),
@@ -55,7 +55,7 @@ impl Model for Constant {
 }
 
 impl Constant {
-    /// A number of so many digits.
+    /// A number of this many digits.
     pub fn number_of(value: u64, width: u32) -> Constant
         requires short { width ≤ 64 }
         requires fits { value < 2 ^ width }

@@ -74,7 +74,7 @@ pub next-there : (d : DesignOf) (cells connects : ℕ) (e : Item) → IsNext d c
 next-there d cells connects (Cell i) n = get-at d.cells i (omega (arith, n.0, n.1.cells_there))
 next-there d cells connects (Connect k) n = get-at d.connects k (omega (arith, n.0, n.1.connects_there))
 
--- the cut, and what has passed, behind the next item
+-- the cut, and what has passed, after the next item
 module _ (d : DesignOf) (cells connects i : ℕ) where
   pub cell-cut : IsNext d cells connects (Cell i) → IsCut d (i + 1) connects
   cell-cut n = subst (λ (k : ℕ). IsCut d (k + 1) connects) (sym n.0) n.1

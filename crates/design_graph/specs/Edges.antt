@@ -51,7 +51,7 @@ IsResetPlace d c p = (a : SigBit) × IsResetBit c a × (p ≡ place_of d a)
 abbrev pub IsCellEdge : DesignOf → CellOf → ℕ → ℕ → ℕ → Type 0
 IsCellEdge d c node p q = (IsPlaceIn d (output_of c) p × (q ≡ node)) ⊎ ((p ≡ node) × IsReadPlace d c q)
 
--- the cells' nodes stand behind the places of bits
+-- the cells' nodes stand after the places of bits
 abbrev pub IsCellsEdge : DesignOf → List CellOf → ℕ → ℕ → Type 0
 IsCellsEdge d cells p q = (i : ℕ) × (c : CellOf) × (slice_get cells i ≡ Some c) × IsCellEdge d c (places d + i) p q
 

@@ -60,7 +60,7 @@ pub record IsFirstWrong (d : DesignOf) (e : Item) (a : SigBit) : Type 0 where
   pub wrong : IsDrivenWrongly d e place
   pub first : (f : Item) (l : ℕ) → PrecedesBit d f l e place → IsDrivenWrongly d f l → ⊥
 
--- the first cells and connects are the first of the file: each connect behind them stands behind those cells, each of them before the others
+-- the first cells and connects are the first of the file: each connect after them stands after those cells, each of them before the others
 pub record IsCut (d : DesignOf) (cells connects : ℕ) : Type 0 where
   pub cells_there : cells ≤ length d.cells
   pub connects_there : connects ≤ length d.connects

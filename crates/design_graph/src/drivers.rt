@@ -23,7 +23,7 @@ pub fn no_marks(alloc: Global, count: usize) -> Result<Vec<bool>, AllocError>
     Ok(vec![in alloc; false; count]?)
 }
 
-/// The item that comes next in the file after so many cells and connects.
+/// The item that comes next in the file after this many cells and connects.
 pub fn next_item(design: &Design, cells: usize, connects: usize) -> Option<Item>
     requires { IsCut design.now cells connects }
     ensures some { IfSome result (λ e. IsNext design.now cells connects e) }

@@ -196,7 +196,7 @@ fn add_cell(
     Ok(())
 }
 
-// Adds the edges of all cells, whose nodes stand behind the places of bits.
+// Adds the edges of all cells, whose nodes stand after the places of bits.
 fn add_cells(design: &Design, graph: &mut [Vec<usize>]) -> Result<(), AllocError>
     requires { length graph.old ≡ places design.now + length design.now.cells }
     ensures { OnOk result (Extends graph.old (IsCellsEdge design.now design.now.cells) graph.new) }

@@ -55,7 +55,7 @@ bits [] = []
 bits (r ∷ rs) = output_of r ++ bits rs
 
 module _ (d : DesignOf) where
-  -- these registers are cells of d, one behind the other, none before place o
+  -- these registers are cells of d, one after the other, none before place o
   abbrev pub IsPlaced : List CellOf → ℕ → Type 0
   IsPlaced [] o = Unit {0}
   IsPlaced (r ∷ rs) o = (j : ℕ) × (o ≤ j) × IsCell d j r × FitsReset r × IsPlaced rs (j + 1)

@@ -33,7 +33,7 @@ module _ (d : DesignOf) (n : ℕ) (few : n ≤ 2 ^ 64) (named : (k : ℕ) → k 
       let same : kept_name j ≡ kept_name k = cc in
       same-number j k (omega (arith, hj, few)) (omega (arith, hk, few)) same
 
-  -- so many numbers, with each of which there is a name, are no more than wires and cells
+  -- this many numbers, with each of which there is a name, are no more than wires and cells
   pub numbers-named : n ≤ length d.wires + length d.cells
   numbers-named =
       let wires = length-map d.wires (λ (w : WireOf). w.name) in

@@ -93,7 +93,7 @@ passing-end d low ch number p connects e is =
 pub passing-waiting : (d low : DesignOf) (ch : List CellOf) (number : ℕ) → IsPassing d (length d.cells) low ch number → All (IsCellOf low.wires low.free) ch
 passing-waiting d low ch number p = subst (λ (f : ℕ). All (IsCellOf low.wires f) ch) (sym (ap (λ (x : DesignOf). x.free) p.same)) p.waiting
 
--- a connect more, behind the cells that are through
+-- a connect more, after the cells that are through
 module _ (d : DesignOf) (shape : IsDesign d) (i : ℕ) (low : DesignOf) (ch : List CellOf) (number : ℕ) (p : IsPassing d i low ch number) where
   pub passing-connect : (js : List ConnectOf) (next : DesignOf) → next ≡ record low { connects = js } → IsPassing d i next ch number
   passing-connect js next e =
@@ -111,7 +111,7 @@ module _ (d : DesignOf) (shape : IsDesign d) (i : ℕ) (low : DesignOf) (ch : Li
     pub right-passing : All (IsDeclared low.wires low.free) j.right
     right-passing = bits-passing j.right (connect-declared d shape k j at).1
 
-    -- so many cells are through as stood before it
+    -- this many cells are through as stood before it
     pub order-passing : IsCut d i k → IsCut d i (k + 1) → j.cells_before ≡ length low.cells
     order-passing cut next =
         let least : i ≤ j.cells_before = cut.behind k j (omega arith) at in

@@ -72,7 +72,7 @@ registers-unset (x ∷ cells) rest (suc i) c r at fits unfit h = elim h as (λ _
       (x ∷ k.0, inr (fit.0, (k.0, refl, k.1)), subst (λ (l : List CellOf). IsOneMore c (x ∷ k.0) l) (sym fit.1.1) (pass-more c x k.0 fit.1.0 k.2))
 ]
 
--- a cell behind the others that doesn't fit
+-- a cell after the others that doesn't fit
 pub registers-push : (cells registers : List CellOf) (x : CellOf) → (FitsReset x → ⊥) → AreRegisters cells registers → AreRegisters (cells ++ x ∷ []) registers
 registers-push [] registers x unfit h = inl (unfit, h)
 registers-push (y ∷ cells) registers x unfit (inl out) = inl (out.0, registers-push cells registers x unfit out.1)

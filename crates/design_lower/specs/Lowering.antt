@@ -117,7 +117,7 @@ pub record IsKeptWire (d : DesignOf) (i : ℕ) (c : CellOf) (w : WireOf) : Type 
   pub input : w.input ≡ false
   pub digits : (k : ℕ) (x : Bool) → HasDigit w k x ↔ IsStart d i k x
 
--- d with the cell at place i lowered onto the new wire w: the register in its place, the `$mux` behind all cells
+-- d with the cell at place i lowered onto the new wire w: the register in its place, the `$mux` after all cells
 abbrev pub with_lowered : DesignOf → ℕ → CellOf → WireOf → DesignOf
 with_lowered d i c w = record d {
   wires = d.wires ++ w ∷ [];

@@ -229,7 +229,7 @@ fn pass_items(
     Ok(())
 }
 
-// Adds these cells behind the others.
+// Adds these cells after the others.
 fn add_cells(low: &mut Design, cells: Vec<Cell>) -> Result<(), AllocError>
     requires cells { All (IsCellOf low.old.wires low.old.free) cells.items }
     requires few { length low.old.cells + length cells.items ≤ 2 ^ 27 }
@@ -261,7 +261,7 @@ fn lower_all(alloc: Global, design: &Design) -> Result<Design, AllocError>
 /// stay. A lowered design has no more to say than the design: its runs are the design's, and so are its claims.
 ///
 /// None exactly where the lowered design, with as many bits more as these registers have and as many cells more as they are, would be
-/// past the limits of a design: 2^21 bits and 2^27 cells. An error where memory is wanting.
+/// past the limits of a design: 2^21 bits and 2^27 cells. An error where memory runs out.
 pub fn lower(alloc: Global, design: &Design) -> Result<Option<Design>, AllocError>
     ensures some { IfOk result (λ low. IfSome low (λ e. HasRoom design.now × IsLowered design.now e)) }
     ensures none { IfOk result (λ low. IfNone low (HasRoom design.now → ⊥)) }

@@ -5,7 +5,7 @@ use Rattle.design_core.specs.Cells.{Parameters, Ports}
 use Rattle.design_core.specs.declared.names.PortName.TheVariants.{A, B, S, En, Y, Clk, D, Q, Srst, Arst}
 use Rattle.design_core.specs.declared.names.ParameterName.TheVariants.{ASigned, AWidth, BSigned, BWidth, YWidth, Width, SWidth, Offset, ClkPolarity, EnPolarity, SrstPolarity, SrstValue, ArstPolarity, ArstValue}
 
--- a number as a row of so many bits; a number below zero, by its size
+-- a number as a row of this many bits; a number below zero, by its size
 abbrev pub word : ℕ → ℕ → Row
 word width n = fit width (pos n)
 

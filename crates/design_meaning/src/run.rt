@@ -121,7 +121,7 @@ impl Run {
         self.cycles.as_slice()
     }
 
-    /// Adds a cycle behind the others. An error leaves the run as it was.
+    /// Adds a cycle after the others. An error leaves the run as it was.
     pub fn push(&mut self, cycle: Cycle) -> Result<(), AllocError>
         ensures ok { OnOk result (self.new ≡ self.old ++ cycle ∷ []) }
         ensures err { OnErr result (self.new ≡ self.old) }

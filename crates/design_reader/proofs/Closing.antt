@@ -198,7 +198,7 @@ cell_begins : (d : DraftOf) (a : AttributesOf) → ClosesAfter (line d a (codes 
 unfolding line
 cell_begins d a = then_closes d CellType (cell_type_closes d)
 
--- an item comes behind the attributes
+-- an item comes after the attributes
 line_closes : (d : DraftOf) (a : AttributesOf) → Closes d (Line a)
 unfolding word_step
 line_closes d a = closes_by d (Line a) (codes "cell") cell_lone (cell_begins d a)

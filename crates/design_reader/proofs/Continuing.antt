@@ -1,4 +1,4 @@
--- Other bytes behind the first tokens of a text.
+-- Other bytes after the first tokens of a text.
 use Rattle.std.proofs.Common.{◌≡◌, ℕ, ◌+◌, ◌-◌, ◌≤◌, ◌^◌, Bool, true, List, [], ◌∷◌, ◌++◌, length, take, drop, None, Ok, Err, refl, sym, ap, ◌∙◌, subst, append_assoc, arith}
 use Rattle.std.specs.Prelude.{IsTrue, IsFalse}
 use Rattle.std.specs.List.{AllByRecursion}
@@ -38,7 +38,7 @@ like_under : (front old new : List ℕ) → EndsLike old new → EndsLike (front
 like_under [] old new like = like
 like_under (b ∷ front) old new like = λ ends ten h. h
 
--- the bytes behind a token
+-- the bytes after a token
 like_token : (text old new : List ℕ) → IsToken text old → EndsLike (text ++ old) (text ++ new)
 like_token text old new (name b run rest h r) = λ ends ten k. k
 like_token text old new (string b more rest q h s) = λ ends ten k. k
@@ -95,7 +95,7 @@ record FirstOf (n : ℕ) (left mid : List ℕ) (t : TokenOf) : Type 0 where
 one_front_token : (n : ℕ) (left mid : List ℕ) (t : TokenOf) → Front n left mid (t ∷ []) → FirstOf n left mid t
 one_front_token n left mid t (token u others all rest g p e none_yet) = record { gap = g; token = p; place = e }
 
--- the first tokens and the gap behind them, before other bytes at the same place
+-- the first tokens and the gap after them, before other bytes at the same place
 record Swapped (text rest new : List ℕ) (ts : List TokenOf) (place : ℕ) : Type 0 where
   left : List ℕ
   front : Front (length (take place text ++ new)) left (take place text ++ new) ts
@@ -127,7 +127,7 @@ swapped text left rest new ts place f g at like =
       behind = front_drop (r.0 ++ gap.0) rest text place parts here;
     }
 
--- ---- words behind it
+-- ---- words after it
 
 gap_then : (b c a : List ℕ) → Gap b a → Gap c b → Gap c a
 gap_then b c a no_more h = h
@@ -164,7 +164,7 @@ closed : (ts us : List TokenOf) (d : DraftOf) (s : Spot) (c : Closes d s) → re
 closed ts us d s c e h =
     reading_then ts us ∙ ap (λ (r : Outcome). r ⊳ λ x. steps x.0 x.1 (words_of us)) e ∙ ap (λ (x : List Word). steps d s x) h ∙ c.closes
 
--- the bytes up to what stands behind a gap after the first tokens
+-- the bytes up to what stands after a gap after the first tokens
 begins_text : (text left rest : List ℕ) (ts : List TokenOf) (d : DraftOf) (s : Spot) (place : ℕ) → Front (length text) left text ts → Gap rest left → reading ts ≡ Ok (d, s) → place + length rest ≡ length text → BeginsText (take place text)
 begins_text text left rest ts d s place f g e at =
     let c = spot_closes d s (reading_kept ts d s e) in

@@ -168,7 +168,7 @@ bits_are n behind count c digits written d b =
       | false ↦ λ e f. ap (λ (k : ℕ). replicate count (plain_bit c) ++ numbered_bits k written) f ∙ sym (bits_plain n count c written e) ∙ ap (λ (l : List ℕ). numbered_bits n l) (sym d)
     ] refl b
 
--- the numbers of free bits in the run and behind it
+-- the numbers of free bits in the run and after it
 pub open_run : (n c first most : ℕ) (digits written : List ℕ) → digits ≡ replicate n c ++ written → first + open_digits digits < most → is_open c ≡ true → first + n < most
 open_run n c first most digits written d h e = omega (arith, h, ap (λ (l : List ℕ). open_digits l) d, open_below n c written e)
 

@@ -1,4 +1,4 @@
--- Names behind references, and their places.
+-- Names that references stand for, and their places.
 use Rattle.std.proofs.Common.{◌≡◌, ℕ, suc, Bool, false, not, List, [], ◌∷◌, ◌++◌, map, length, bytes_eq, Decides, sym, ap, refl, ◌∙◌}
 use Rattle.std.specs.Prelude.{position}
 use Rattle.std.specs.Borrow.{Bor}

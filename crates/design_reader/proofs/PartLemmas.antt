@@ -1,4 +1,4 @@
--- What stands behind a signal.
+-- What stands after a signal.
 use Rattle.std.proofs.Common.{◌≡◌, ℕ, ◌<◌, ◌≤◌, true, false, List, [], ◌∷◌, ◌++◌, length, Option, Some, None, Result, Ok, Err, refl, sym, ap, subst, codes, bytes_eq, arith}
 use Rattle.design_signals.specs.declared.sig_bit.SigBit.{SigBit}
 use Rattle.rtlil_constant.specs.Constants.{Word, slice_of}

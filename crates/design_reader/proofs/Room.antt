@@ -1,4 +1,4 @@
--- What the words keep: room for the bits, and a signal before what stands behind one.
+-- What the words keep: room for the bits, and a signal before what stands after one.
 use Rattle.std.proofs.Common.{◌≡◌, ℕ, ◌+◌, ◌<◌, ◌≤◌, Bool, true, false, cond, List, [], ◌∷◌, ◌++◌, length, Option, Some, None, Result, Ok, Err, refl, subst, arith}
 use Rattle.std.specs.Prelude.{nat_lt, nat_le, ◌==◌, ◌||◌, bytes_eq, codes, map, reverse, slice_get}
 use Rattle.std.specs.List.{list_any, sum_by}

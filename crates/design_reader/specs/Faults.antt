@@ -8,7 +8,7 @@ use Rattle.design_reader.specs.declared.fault.ReadFaultKind.TheVariants.{Limit, 
 use Rattle.design_reader.specs.declared.spot.Spot.{Spot}
 use Rattle.design_reader.specs.declared.spot.Spot.TheVariants.{File, AutoIdx, FileAttribute, FileValue, Module, Line, Attribute, Value, ModuleParameter, ModuleParameterName, ModuleParameterValue, WireOption, WireNumber, CellType, CellName, CellLine, CellParameter, CellParameterName, CellParameterValue, Port, Signal, Part}
 
--- why a text that ends at this spot is refused, unless a line of the file may come there behind the module
+-- why a text that ends at this spot is refused, unless a line of the file may come there after the module
 abbrev pub at_end : Spot → Option ReadFaultKind
 at_end (File false) = Some NoModule
 at_end (File true) = None

@@ -86,7 +86,7 @@ wire_names wires = map (λ w. w.name) wires
 abbrev pub name_place : List Word → Word → Option ℕ
 name_place names name = position (λ n. bytes_eq n name) names
 
--- why no bits n down to m are in so many bits
+-- why no bits n down to m are in this many bits
 abbrev pub slice_fault : ℕ → ℕ → ℕ → Option ReadFaultKind
 slice_fault width n m = cond (nat_lt n width && nat_lt m width) (cond (nat_le m n) None (Some Syntax)) (Some Index)
 
@@ -277,7 +277,7 @@ signal_word d t rows w =
     cond (bytes_eq w (codes "{")) (goes_on d (Signal t ([] ∷ rows)))
     (needs Syntax (constant_of 1 w) ⊳ constant_part d t rows)
 
--- what stands behind a signal that is in no concatenation
+-- what stands after a signal that is in no concatenation
 abbrev pub behind_signal : DraftOf → Target → List SigBit → Word → Outcome
 behind_signal d (ToPort c name) row w = cell_line d (with_port c name row) w
 behind_signal d Left row w = signal_word d (Right (reverse row)) [] w
@@ -289,7 +289,7 @@ begins_slice w = slice_index w 0 == 91
 abbrev pub slice_part : DraftOf → Target → List SigBit → List (List SigBit) → Word → Outcome
 slice_part d t row rows w = slice_word row w ⊳ λ part. goes_on d (Part t (part ∷ rows))
 
--- behind a signal: a slice of it; in a concatenation also its end or the next part, which goes below the parts before it
+-- after a signal: a slice of it; in a concatenation also its end or the next part, which goes below the parts before it
 unfoldable pub part_word : DraftOf → Target → List (List SigBit) → Word → Outcome
 part_word d t [] w = Err Syntax
 part_word d t (row ∷ []) w = cond (begins_slice w) (slice_part d t row [] w) (behind_signal d t row w)
@@ -351,7 +351,7 @@ unfoldable pub signal_name : DraftOf → Target → List (List SigBit) → Word 
 signal_name d t rows name =
     needs UnknownWire (name_place (wire_names d.design.wires) name) ⊳ λ i. goes_on d (Part t (row_at i (slice_get d.design.wires i) ∷ rows))
 
--- a line begins with no name: behind a signal that is in no concatenation only the right side of a `connect` does
+-- a line begins with no name: after a signal that is in no concatenation only the right side of a `connect` does
 abbrev pub name_behind : DraftOf → Target → List SigBit → Word → Outcome
 name_behind d (ToPort c port) row name = Err Syntax
 name_behind d Left row name = signal_name d (Right (reverse row)) [] name

@@ -10,7 +10,7 @@ use Rattle.design_core.specs.declared.names.ParameterName.{ParameterName}
 use Rattle.design_core.specs.declared.names.ParameterName.TheVariants.{ASigned, AWidth, BSigned, BWidth, YWidth, Width, SWidth, Offset, ClkPolarity, EnPolarity, SrstPolarity, SrstValue, ArstPolarity, ArstValue}
 use Rattle.std.specs.Prelude.{cond}
 
--- A port's or parameter's name in the design: without the first `\`, unless `\` or `$` stands behind it, so that different
+-- A port's or parameter's name in the design: without the first `\`, unless `\` or `$` stands after it, so that different
 -- identifiers stay different.
 abbrev pub bare : Word → Word
 bare [] = []

@@ -1,4 +1,4 @@
--- One digit, so many times.
+-- One digit, this many times.
 use Rattle.std.specs.Prelude.{ℕ, zero, suc, ◌+◌, cond, List, [], ◌∷◌, ◌++◌, replicate}
 use Rattle.design_core.specs.declared.digit.Digit.{Digit}
 use Rattle.design_core.specs.declared.digit.Digit.TheVariants.{Free as FreeDigit}
@@ -12,7 +12,7 @@ abbrev pub free_digits : ℕ → ℕ → List Digit
 free_digits n zero = []
 free_digits n (suc count) = FreeDigit n ∷ free_digits (n + 1) count
 
--- one digit, so many times, as bits of a signal, highest first
+-- one digit, this many times, as bits of a signal, highest first
 abbrev pub bits_run : ℕ → ℕ → ℕ → List SigBit
 bits_run n c count = cond (is_open c) (free_row n count) (replicate count (plain_bit c))
 

@@ -9,7 +9,7 @@ use crate::fault::ReadFaultKind;
 use crate::stop::Stop;
 use rtlil_constant::constant::{Constant, ConstantFault, parse};
 
-/// A constant with at least `least` digits behind its width; one whose digits no memory holds is want of memory.
+/// A constant with at least `least` digits after its width; one whose digits no memory holds is out of memory.
 pub fn constant(least: usize, word: &[u8]) -> Result<Constant<'_>, Stop>
     ensures { Gives (λ digits. digits) result (needs Syntax (constant_of least word.now)) }
 {

@@ -4,7 +4,7 @@ ghost use Rattle.std.specs.Prelude.{◌≡◌, ◌++◌, replicate, OnOk};
 
 use std::alloc::AllocError;
 
-/// Adds an item so many times.
+/// Adds an item this many times.
 pub fn push_copies<T: Copy>(items: &mut Vec<T>, item: T, count: usize) -> Result<(), AllocError>
     ensures { OnOk result (items.new.items ≡ items.old.items ++ replicate count item) }
 {

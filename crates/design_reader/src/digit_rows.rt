@@ -12,7 +12,7 @@ use design_signals::sig_bit::SigBit;
 use rtlil_constant::digits::{Digits, is_open};
 use std::alloc::AllocError;
 
-/// The number of the next free bit behind one digit, so many times.
+/// The number of the next free bit after one digit, this many times.
 pub fn number_behind(first: u32, digit: u8, count: u32) -> u32
     requires { is_open digit ≡ true → first + count < 2 ^ 32 }
     ensures { result ≡ cond (is_open digit) (first + count) first }
@@ -32,7 +32,7 @@ fn numbered_bit(number: u32, digit: u8) -> SigBit
     }
 }
 
-/// A row of one digit, so many times, without free bits.
+/// A row of one digit, this many times, without free bits.
 fn push_plain_run(segments: &mut Segments, digit: u8, count: u32) -> Result<(), AllocError>
     ensures { OnOk result (segments.new ≡ plain_run digit count ∷ segments.old) }
 {
@@ -43,7 +43,7 @@ fn push_plain_run(segments: &mut Segments, digit: u8, count: u32) -> Result<(), 
     }
 }
 
-/// A row of one digit, so many times; an x, z or - is a free bit each time, numbered from `first` on.
+/// A row of one digit, this many times; an x, z or - is a free bit each time, numbered from `first` on.
 fn push_run(segments: &mut Segments, first: u32, digit: u8, count: u32) -> Result<(), AllocError>
     requires { is_open digit ≡ true → first + count ≤ 2 ^ 32 }
     ensures { OnOk result (segments.new ≡ bits_run first digit count ∷ segments.old) }

@@ -49,7 +49,7 @@ pub fn new_draft<'a>(alloc: Global, name: String) -> Draft<'a>
     }
 }
 
-/// Whether so many bits more are within the limit.
+/// Whether this many bits more are within the limit.
 pub fn has_room(design: &Design, more: usize) -> bool
     ensures { result ≡ nat_le (wire_bits design.now + design.now.free + more) most_bits }
 {

@@ -236,7 +236,7 @@ fn stored(alloc: Global, segments: Segments) -> Result<StoredSignal, AllocError>
     StoredSignal::new(alloc, segments.into_signal(alloc)?)
 }
 
-/// What stands behind a signal that is in no concatenation.
+/// What stands after a signal that is in no concatenation.
 fn behind_signal<'a>(
     alloc: Global,
     draft: &mut Draft<'a>,
@@ -297,7 +297,7 @@ fn slice_part<'a>(
     }
 }
 
-/// Behind a signal: a slice of it, the end of its concatenation, the next part, or what stands behind it.
+/// After a signal: a slice of it, the end of its concatenation, the next part, or what stands after it.
 #[tactic(auto, unfolding(crate::specs::Grammar::part_word))]
 pub fn part_word<'a>(
     alloc: Global,
@@ -327,7 +327,7 @@ pub fn part_word<'a>(
     signal_word(alloc, draft, target, segments, word)
 }
 
-/// A name behind a signal: the next part of its concatenation, or the right side of a `connect`.
+/// A name after a signal: the next part of its concatenation, or the right side of a `connect`.
 #[tactic(auto, unfolding(crate::specs::Grammar::part_name))]
 pub fn part_name<'a>(
     alloc: Global,

@@ -44,7 +44,7 @@ impl<'a> Names<'a> {
         self.names.contains(name)
     }
 
-    /// Adds a new name behind the others.
+    /// Adds a new name after the others.
     pub fn push(&mut self, name: &'a str) -> Result<(), AllocError>
         requires { list_any (λ n. bytes_eq n name.now) self.old ≡ false }
         ensures { OnOk result (self.new ≡ self.old ++ name.now ∷ []) }

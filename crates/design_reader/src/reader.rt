@@ -67,7 +67,7 @@ impl<'a> Reader<'a> {
         }
     }
 
-    /// Behind one more word.
+    /// After one more word.
     pub fn word(self, alloc: Global, word: &'a [u8]) -> Result<Reader<'a>, Stop>
         ensures { Gives (λ r. r) result (step self.entry.0 self.entry.1 word.now) }
     {

@@ -48,7 +48,7 @@ fn design(alloc: Global, bytes: &[u8]) -> Result<Result<Design, ReadFault>, Allo
 /// by `Limit` at byte 2^26. Any other refusal has the first byte of the first token after which no text of the grammar can go
 /// on, or the text's length.
 ///
-/// The outer error is want of memory alone. A constant of 2^32 digits or more, where its digits count, wants more memory than
+/// The outer error is out of memory alone. A constant of 2^32 digits or more, where its digits count, wants more memory than
 /// there is.
 pub fn read(alloc: Global, bytes: &[u8]) -> Result<Result<Design, ReadFault>, AllocError>
     ensures design { IfOk result (λ answer. IfOk answer (λ d. Reads bytes.now d)) }

@@ -159,7 +159,7 @@ pub fn begins_slice(word: &[u8]) -> bool
     matches!(word, [b'[', ..])
 }
 
-/// Why bits `high` down to `low` aren't in a row of so many bits.
+/// Why bits `high` down to `low` aren't in a row of this many bits.
 fn slice_fault(width: usize, high: u64, low: u64) -> Option<ReadFaultKind>
     ensures fault { (n m : ℕ) → high ≡ min n 18446744073709551615 → low ≡ min m 18446744073709551615 → result ≡ slice_fault width n m }
     ensures within { result ≡ None → (low ≤ high) × (high < width) × (high < 18446744073709551615) }

@@ -82,7 +82,7 @@ pub enum NumberedOption {
     Output,
 }
 
-/// What a signal is for: a port of a cell, which some line of the table names or none, or a side of a `connect`, the right one behind the left one.
+/// What a signal is for: a port of a cell, which some line of the table names or none, or a side of a `connect`, the right one after the left one.
 #[derive(Drop)]
 pub enum Target<'a> {
     Port(CellDraft<'a>, Option<PortName>),
@@ -95,7 +95,7 @@ impl<'a> Target<'a> {
     pub fn discard(self) {}
 }
 
-/// What comes next. A `bool` in a variant says whether the module is behind.
+/// What comes next. A `bool` in a variant says whether the module is over.
 #[derive(Drop)]
 pub enum Spot<'a> {
     /// A line of the file.
@@ -108,7 +108,7 @@ pub enum Spot<'a> {
     FileValue(bool),
     /// The module's name.
     Module,
-    /// A line of the module, behind these attributes.
+    /// A line of the module, after these attributes.
     Line(Attributes<'a>),
     /// The name of one more attribute.
     Attribute(Attributes<'a>),
@@ -140,7 +140,7 @@ pub enum Spot<'a> {
     Port(CellDraft<'a>),
     /// A signal; the segments are what is read of the concatenations that are open, the innermost first.
     Signal(Target<'a>, Segments),
-    /// A slice of the signal that is the first segment, or what stands behind it.
+    /// A slice of the signal that is the first segment, or what stands after it.
     Part(Target<'a>, Segments),
 }
 

@@ -6,7 +6,7 @@ ghost use Rattle.design_reader.specs.declared.stop.Stop.TheVariants.{Memory, Fau
 use crate::fault::ReadFaultKind;
 use std::alloc::{AllocError, AllocFailed};
 
-/// Want of memory, or a word that is refused.
+/// Out of memory, or a word that is refused.
 #[derive(Clone, Copy, Debug, PartialEq, Eq)]
 pub enum Stop {
     Memory,

@@ -194,7 +194,7 @@ next_bit c cs i h =
     ∙ ap (λ (k : ℕ). drop (i + 1) (chunk_bits c) ++ drop k (bits_of cs)) (sym after)
     ∙ sym (drop_both (chunk_bits c) (bits_of cs) (i + 1)))
 
--- behind the last bit of the first chunk stand the others' bits
+-- after the last bit of the first chunk stand the others' bits
 pub next_chunk : (c : Chunk) (cs : Chunks) (i : ℕ) → i + 1 ≡ c.width → drop (i + 1) (bits_of (c ∷ cs)) ≡ bits_of cs
 next_chunk c cs i h =
     let long : i + 1 - length (chunk_bits c) ≡ 0 = omega (arith, h, bits_long c.first 0 c.width) in

@@ -19,7 +19,7 @@ Chunks = List Chunk
 reversed_push : (starts : List ℕ) (s : ℕ) → reverse (starts ++ s ∷ []) ≡ s ∷ reverse starts
 reversed_push starts s = reverse-append starts (s ∷ [])
 
--- a row behind the others
+-- a row after the others
 rows_push : (cs row : Chunks) (starts : List ℕ) (s : ℕ) → s ≡ length cs → rows_of (cs ++ row) (reverse (starts ++ s ∷ [])) ≡ row ∷ rows_of cs (reverse starts)
 rows_push cs row starts s e =
     let behind : drop s (cs ++ row) ≡ row = rw e (drop-append_seam cs row) in

@@ -23,7 +23,7 @@ chunk_bits c = bits_from c.first 0 c.width
 abbrev pub bits_of : List Chunk → List SigBit
 bits_of cs = flat_map chunk_bits cs
 
--- there is room for so many bits from this one on
+-- there is room for this many bits from this one on
 abbrev pub HasRoom : SigBit → ℕ → Type 0
 HasRoom (Wire w b) n = b + n ≤ 2 ^ 32
 HasRoom (Const b) n = Unit {0}

@@ -13,7 +13,7 @@ falling c = reverse (chunk_bits c)
 abbrev pub row_of : List Chunk → List SigBit
 row_of cs = flat_map falling cs
 
--- lists that stand one behind the other, by where each starts; the last comes first
+-- lists that stand one after the other, by where each starts; the last comes first
 abbrev pub rows_of : {X : Type 0} → List X → List ℕ → List (List X)
 rows_of items [] = []
 rows_of items (start ∷ starts) = drop start items ∷ rows_of (take start items) starts
@@ -28,7 +28,7 @@ abbrev pub wire_row : ℕ → ℕ → List SigBit
 wire_row w zero = []
 wire_row w (suc n) = Wire w n ∷ wire_row w n
 
--- so many free bits, numbered from n on
+-- this many free bits, numbered from n on
 abbrev pub free_row : ℕ → ℕ → List SigBit
 free_row n zero = []
 free_row n (suc count) = Free n ∷ free_row (n + 1) count

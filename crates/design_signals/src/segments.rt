@@ -96,7 +96,7 @@ impl Segments {
         })
     }
 
-    /// Adds one constant bit, so many times, as a row.
+    /// Adds one constant bit, this many times, as a row.
     pub fn push_const(&mut self, bit: bool, count: u32) -> Result<(), AllocError>
         requires { 0 < count }
         ensures { OnOk result (self.new ≡ replicate count (Const bit) ∷ self.old) }

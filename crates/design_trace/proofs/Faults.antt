@@ -35,7 +35,7 @@ fails_is_longest d j bytes n m fails lt le begins = go (cases_lt (length begins.
         fails_no_more (cycles_pattern d 0 (suc j)) (cycles_pattern d (suc j) (i - suc j)) bytes begins.0 n m fails lt le
         (subst (λ p. Matches p (take m bytes ++ begins.0)) parts matched)
 
--- bytes that fail the pattern of j + 1 cycles, behind j cycles, are no trace: they fail at once, or go on behind these
+-- bytes that fail the pattern of j + 1 cycles, after j cycles, are no trace: they fail at once, or go on after these
 fails_is_no_trace : (d : DesignOf) (j at : ℕ) (bytes : List ℕ) (n : ℕ) → FailsAt (cycles_pattern d 0 (suc j)) bytes n → at ≡ length (cycles_pattern d 0 j)
     → (j ≡ 0) ⊎ (at < length bytes) → (rows : List Row) → IsTrace d rows bytes → ⊥
 fails_is_no_trace d j at bytes n fails place more rows is = go (cases_lt (length rows) (suc j))

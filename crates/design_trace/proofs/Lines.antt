@@ -149,7 +149,7 @@ lines_cons w ws r rest long =
     (sym (take-append_seam r rest) ∙ ap (λ n. take n (r ++ rest)) long)
     (sym (drop-append_seam r rest) ∙ ap (λ n. drop n (r ++ rest)) long)
 
--- the lines of one wire more, behind the others
+-- the lines of one wire more, after the others
 pub lines_push : (ws : List WireOf) (w : WireOf) (r s : Row) → length r ≡ sum_by width_of ws → length s ≡ w.width
     → wire_lines (ws ++ w ∷ []) (r ++ s) ≡ wire_lines ws r ++ wire_line w s
 lines_push [] w [] s lr ls = ap (wire_lines (w ∷ [])) (sym (append-nil s)) ∙ sym (lines_cons w [] s [] ls) ∙ append-nil (wire_line w s)

@@ -8,7 +8,7 @@ use Rattle.design_core.specs.Shape.{DesignOf}
 use Rattle.design_trace.specs.Trace.{cycle_text, cycles_from}
 use Rattle.design_trace.specs.Changes.{time_line, vcd, vcd_cycle, vcd_cycles_from, vcd_head}
 
--- what the last call put comes behind what was put before it
+-- what the last call put comes after what was put before it
 pub more_after : {T E : Type 0} (r : Result T E) (old mid new a b : List ℕ) → mid ≡ old ++ a → IfOk r (λ _. new ≡ mid ++ b) → IfOk r (λ _. new ≡ old ++ (a ++ b))
 more_after (Ok x) old mid new a b p q = q ∙ ap (λ t. t ++ b) p ∙ append_assoc old a b
 more_after (Err e) old mid new a b p q = tt

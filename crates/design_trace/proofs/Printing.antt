@@ -40,7 +40,7 @@ change_whole : (n : ℕ) (ws : List WireOf) (row : Row) → change_lines n ws ro
 change_whole n [] row = refl
 change_whole n (w ∷ ws) row = ap (λ t. change_line n w (take w.width row) ++ t) (change_whole (n + 1) ws (drop w.width row))
 
--- the wires from wire n on, of which the row has the bits behind `at`, have the bits that the whole row has
+-- the wires from wire n on, of which the row has the bits after `at`, have the bits that the whole row has
 record Cut (whole row : Row) (at : ℕ) : Type 0 where
   long : length whole ≡ at + length row
   same : (i : ℕ) (d : Bool) → slice_index_or row i d ≡ slice_index_or whole (at + i) d

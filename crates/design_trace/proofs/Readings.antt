@@ -204,7 +204,7 @@ line_stops bytes at place byte wires i w lt is r long before stops =
 
 -- ---- cycles
 
--- the wires' lines were read behind the cycle's line
+-- the wires' lines were read after the cycle's line
 pub cycle_goes_on : (bytes : List ℕ) (at mid : ℕ) (d : DesignOf) (k : ℕ) (ws : List WireOf) (old new : Row) (r : Result ℕ Stop) → ws ≡ d.wires → old ≡ []
     → Reads bytes at (cycle_line k) mid
     → MatchResult r (λ next. (bits : Row) × (new ≡ old ++ bits) × (length bits ≡ sum_by width_of ws) × Reads bytes mid (wire_lines ws bits) next)

@@ -5,7 +5,7 @@ use Rattle.sby_bits.specs.Rows.{Row}
 use Rattle.design_core.specs.Shape.{DesignOf, WireOf}
 use Rattle.design_trace.specs.Trace.{cycle_line}
 
--- a piece of the text stands at a place, and the next place is behind it
+-- a piece of the text stands at a place, and the next place is after it
 pub record Reads (bytes : List ℕ) (at : ℕ) (piece : List ℕ) (next : ℕ) : Type 0 where
   pub place : next ≡ at + length piece
   pub within : next ≤ length bytes
@@ -44,7 +44,7 @@ pub record Stops (bytes : List ℕ) (at : ℕ) (pattern : Pattern) (byte : ℕ) 
   pub place : byte ≡ at + count
   pub fails : FailsAt pattern (drop at bytes) count
 
--- so many digits 0 and 1, and the bits that they write, highest first
+-- this many digits 0 and 1, and the bits that they write, highest first
 abbrev pub IsDigits : ℕ → List ℕ → Type 0
 IsDigits width xs = (length xs ≡ width) × All (Allows None) xs
 

@@ -1,4 +1,4 @@
--- Where reading stopped for the bytes, and not for want of memory.
+-- Where reading stopped for the bytes, and not because memory ran out.
 use Rattle.std.specs.Prelude.{ℕ}
 use Rattle.design_trace.specs.declared.reading.Stop.{Stop}
 use Rattle.design_trace.specs.declared.reading.Stop.TheVariants.{Fault, Memory}

@@ -176,7 +176,7 @@ pub fn vcd_cycle(
     Ok(text)
 }
 
-/// The last line of a trace file: the time behind the last cycle, which is the number of cycles.
+/// The last line of a trace file: the time after the last cycle, which is the number of cycles.
 pub fn vcd_end(alloc: Global, number: u64) -> Result<Vec<u8>, AllocError>
     ensures { IfOk result (λ text. text.items ≡ time_line number) }
 {

@@ -25,7 +25,7 @@ pub fn text_shows_the_run()
 {}
 
 /// The text of a run is the texts of its cycles, one after the other, from cycle 0 on; with one cycle more, that cycle's text comes
-/// behind.
+/// after.
 pub fn text_is_its_cycles()
     ensures whole { (d : DesignOf) (rows : List Row) → trace d rows ≡ flat_map (λ p. cycle_text d p.0 p.1) (enumerate_from 0 rows) }
     ensures more { (d : DesignOf) (rows : List Row) (row : Row) → trace d (rows ++ row ∷ []) ≡ trace d rows ++ cycle_text d (length rows) row }

@@ -98,7 +98,7 @@ fn push_bits(row: &mut Vec<bool>, digits: &[u8]) -> Result<(), AllocError>
     Ok(())
 }
 
-// Reads a wire's name and the space behind it.
+// Reads a wire's name and the space after it.
 fn wire_head(bytes: &[u8], at: usize, name: &str) -> Result<usize, Stop>
     requires { at ≤ length bytes.now }
     ensures { MatchResult result (Reads bytes.now at (name.now ++ 32 ∷ [])) (λ stop. IsStop stop (Stops bytes.now at (map Some name.now ++ Some 32 ∷ []))) }
@@ -107,7 +107,7 @@ fn wire_head(bytes: &[u8], at: usize, name: &str) -> Result<usize, Stop>
     literal(bytes, at, b" ")
 }
 
-// Reads a wire's bits, highest first, and the line feed behind them. The row gets them lowest first.
+// Reads a wire's bits, highest first, and the line feed after them. The row gets them lowest first.
 fn value(bytes: &[u8], at: usize, width: usize, row: &mut Vec<bool>) -> Result<usize, Stop>
     requires { at ≤ length bytes.now }
     ensures { MatchResult result (ReadsBits row.old.items row.new.items width bytes.now at (λ r. value_text r ++ 10 ∷ []))

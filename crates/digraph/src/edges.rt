@@ -5,7 +5,7 @@ ghost use Rattle.digraph.specs.Graph.{Extends, HasEdge};
 
 use std::alloc::{AllocError, Global};
 
-/// A graph of so many nodes, as the row of each node's successors, with no edge.
+/// A graph of this many nodes, as the row of each node's successors, with no edge.
 pub fn without_edges(alloc: Global, nodes: usize) -> Result<Vec<Vec<usize>>, AllocError>
     ensures nodes { IfOk result (λ g. length g.items ≡ nodes) }
     ensures edges { IfOk result (λ g. (a b : ℕ) → HasEdge g.items a b → ⊥) }

@@ -10,7 +10,7 @@ use std::alloc::{AllocError, Global};
 /// The nodes of a graph in an order, and which of them are on a cycle.
 #[derive(Drop)]
 pub struct Sorted {
-    /// Each node once, behind those that it leads to where it is on no cycle.
+    /// Each node once, after those that it leads to where it is on no cycle.
     pub order: Vec<usize>,
     /// For each node, whether it is on a cycle.
     pub cyclic: Vec<bool>,
@@ -257,7 +257,7 @@ fn start(alloc: Global, count: usize) -> Result<Search, AllocError>
     })
 }
 
-/// The nodes of a graph, given as the row of each node's successors: each node once, behind those that it leads to where it is on no
+/// The nodes of a graph, given as the row of each node's successors: each node once, after those that it leads to where it is on no
 /// cycle; which of them are on a cycle; and which reach each other. In time and memory linear in the nodes and the entries of the rows.
 pub fn sort(alloc: Global, graph: &[Vec<usize>]) -> Result<Sorted, AllocError>
     requires { IsGraph graph.now }

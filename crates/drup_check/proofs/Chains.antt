@@ -99,7 +99,7 @@ chains_cleared firsts nexts k n some past all falls = record {
   ];
 }
 
--- the clause k is taken off behind the clause b, whose link leads to it
+-- the clause k is taken off after the clause b, whose link leads to it
 module _ (nexts : List ℕ) (falls : (i : ℕ) → get_or nexts i 0 ≤ i) (b k : ℕ) (place : b < length nexts) (there : get_or nexts b 0 ≡ k + 1) where
   abbrev without : List ℕ
   without = set nexts b (get_or nexts k 0)

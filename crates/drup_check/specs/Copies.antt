@@ -22,7 +22,7 @@ abbrev pub link_at : CopiesOf → ℕ → Option ℕ → ℕ
 link_at t h (Some k) = slice_index_or t.nexts k 0
 link_at t h None = beginning t.firsts h
 
--- the link that is so many steps after a link
+-- the link that is this many steps after a link
 abbrev pub after : List ℕ → ℕ → ℕ → ℕ
 after nexts at zero = at
 after nexts at (suc n) = after nexts (slice_index_or nexts (at - 1) 0) n

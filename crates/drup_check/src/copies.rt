@@ -31,7 +31,7 @@ impl Model for Copies {
 }
 
 impl Copies {
-    // Without entries: so many chains, and places for so many clauses.
+    // Without entries: this many chains, and places for this many clauses.
     pub fn new(alloc: Global, chains: usize, clauses: usize) -> Result<Self, AllocError>
         requires { 0 < chains }
         ensures count { IfOk result (λ t. t.count ≡ 0) }
@@ -87,7 +87,7 @@ impl Copies {
         Ok(())
     }
 
-    // Takes all clauses off their chains, and leaves places for so many.
+    // Takes all clauses off their chains, and leaves places for this many.
     pub fn clear(&mut self, clauses: usize)
         requires { clauses ≤ length self.old.nexts }
         ensures count { self.new.count ≡ 0 }

@@ -120,7 +120,7 @@ pub(crate) fn file_present(core: &Propagator, copies: &mut Copies, marks: &mut [
     }
 }
 
-// The clauses that are present in so many chains.
+// The clauses that are present in this many chains.
 pub(crate) fn file_all(
     alloc: Global,
     core: &Propagator,

@@ -63,7 +63,7 @@ cycles_more : (first : First) (m : ModelOf) (n k : ℕ) (cs es : ℕ → Cycle) 
 cycles_more Start m n k cs es a w e = record { window = w; starts = subst (Starts m) (sym e) a.starts }
 cycles_more Any m n k cs es a w e = w
 
--- a frame behind gates
+-- a frame after gates
 module _ (m : ModelOf) (is : IsModel m) (g h : GatesOf) (row before table : List LitOf) (frame : IsFrame m g h row before table)
     (low : (x : Assignment) → Satisfies x h.formula.clauses → lit_in x (lit_at before m.zero) ≡ false)
     (high : (x : Assignment) → Satisfies x h.formula.clauses → lit_in x (lit_at before (suc m.zero)) ≡ true) where
@@ -273,7 +273,7 @@ more_frames m is first f g h before row old new gf gg k next frame frames =
     subst (λ (ts : List (List LitOf)). AreFrames m first ts h) (append_assoc before (old ∷ []) (new ∷ []))
     (next_frames m is first f g h (before ++ old ∷ []) (length before) row old new gf gg frames (length-push before old) (last_at before old) k next frame)
 
--- frames stay as gates are put behind
+-- frames stay as gates are added
 pub frames_later : (m : ModelOf) (first : First) (tabs : List (List LitOf)) (g h : GatesOf) → IsGates g → IsGates h → Continues g h → AreFrames m first tabs g → AreFrames m first tabs h
 frames_later m first tabs g h gg gh k a = record {
   are_tables = λ j d l. table_later m g h (get_or tabs j d) k (a.are_tables j d l);

@@ -93,7 +93,7 @@ flat_more f [] i x h = absurd (let z : None ≡ Some x = h in cc)
 flat_more f (z ∷ xs) zero x h = let same : z ≡ x = cc in append-nil (f z) ∙ ap f same
 flat_more {A} {B} f (z ∷ xs) (suc i) x h = ap (λ (ys : List B). f z ++ ys) (flat_more f xs i x h) ∙ sym (append_assoc (f z) (flat_map f (take i xs)) (f x))
 
--- the lists of the elements before place i, of that at i, and of those behind
+-- the lists of the elements before place i, of that at i, and of those after it
 pub flat_split : {A B : Type 0} (f : A → List B) (xs : List A) (i : ℕ) (x : A) → slice_get xs i ≡ Some x → (rest : List B) × (flat_map f xs ≡ flat_map f (take i xs) ++ (f x ++ rest))
 flat_split f [] i x h = absurd (let z : None ≡ Some x = h in cc)
 flat_split {A} {B} f (z ∷ xs) zero x h = let same : z ≡ x = cc in (flat_map f xs, ap (λ (y : A). f y ++ flat_map f xs) same)

@@ -51,7 +51,7 @@ MakesInputs-same f g h xs e p = record { vars = e ∙ p.vars; plain = p.plain; d
 pub MakesInputs-as : (f g : GatesOf) (xs ys : List LitOf) → xs ≡ ys → MakesInputs f g xs → MakesInputs f g ys
 MakesInputs-as f g xs ys e p = subst (MakesInputs f g) e p
 
--- what is put behind
+-- what is added
 pub Adds-none : (g : GatesOf) → Adds g g 0
 Adds-none g = record { continues = Continues-refl g; most = omega arith }
 

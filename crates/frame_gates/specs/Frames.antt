@@ -34,7 +34,7 @@ abbrev pub AreCycles : First → ModelOf → ℕ → (ℕ → Cycle) → Type 0
 AreCycles Start m n cs = Run m n cs
 AreCycles Any m n cs = Window m n cs
 
--- Each assignment that satisfies the clauses gives neighbouring cycles, one for each table, and any that are at most so many are given
+-- Each assignment that satisfies the clauses gives neighbouring cycles, one for each table, and any that are at most this many are given
 -- by one.
 pub record AreFrames (m : ModelOf) (first : First) (tables : List (List LitOf)) (g : GatesOf) : Type 0 where
   pub are_tables : All (IsTable m g) tables
@@ -53,7 +53,7 @@ pub record Opens (old new : GatesOf) (table : List LitOf) (places : List ℕ) : 
   pub plain : All (λ l. l.negated ≡ false) (lits_at table places)
   pub distinct : IsDistinct old.inputs → IsDistinct new.inputs
 
--- more is put behind, at most n variables
+-- more is added, at most n variables
 pub record Adds (old new : GatesOf) (n : ℕ) : Type 0 where
   pub continues : Continues old new
   pub most : new.formula.vars ≤ old.formula.vars + n

@@ -35,7 +35,7 @@ pub record MakesInputs (old new : GatesOf) (lits : List LitOf) : Type 0 where
   pub plain : All (λ l. l.negated ≡ false) lits
   pub distinct : IsDistinct old.inputs → IsDistinct new.inputs
 
--- so many literals that may have any bits with these digits, and no others
+-- this many literals that may have any bits with these digits, and no others
 pub record IsOpen (old new : GatesOf) (digits : List (Option Bool)) (n : ℕ) (lits : List LitOf) : Type 0 where
   pub continues : Continues old new
   pub as_many : length lits ≡ n
@@ -52,7 +52,7 @@ pub record IsOpenBit (old new : GatesOf) (digit : Option Bool) (l : LitOf) : Typ
   pub extends : (x : Assignment) (b : Bool) → Satisfies x old.formula.clauses → IsDigit digit b →
       (y : Assignment) × Satisfies y new.formula.clauses × AgreeTo old.formula.vars x y × (lit_in y l ≡ b)
 
--- A frame behind gates: its state bits have the literals of a row, its inputs may have any bits, and its nodes hold.
+-- A frame after gates: its state bits have the literals of a row, its inputs may have any bits, and its nodes hold.
 pub record IsFrame (m : ModelOf) (old new : GatesOf) (row before table : List LitOf) : Type 0 where
   pub continues : Continues old new
   pub is_table : IsTable m new table

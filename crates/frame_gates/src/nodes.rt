@@ -20,7 +20,7 @@ use model_core::model::WordModel;
 use model_core::op::Op;
 use std::alloc::{AllocError, Global};
 
-// The row that a node gives, of so many literals.
+// The row that a node gives, of this many literals.
 fn node_row(
     alloc: Global,
     gates: &mut Gates,

@@ -37,7 +37,7 @@ fn open_bit(gates: &mut Gates, digit: Option<bool>) -> Result<Lit, GateFault>
     Ok(lit)
 }
 
-// So many literals: the constants that these digits say, and inputs where there is no digit or past their end.
+// This many literals: the constants that these digits say, and inputs where there is no digit or past their end.
 pub fn open_row(
     alloc: Global,
     gates: &mut Gates,

@@ -26,7 +26,7 @@ impl Words {
     }
 }
 
-// Puts a literal behind the others.
+// Puts a literal after the others.
 pub fn push(row: &mut Vec<Lit>, lit: Lit) -> Result<(), AllocError>
     ensures { OnOk result (row.new.items ≡ row.old.items ++ lit ∷ []) }
 {

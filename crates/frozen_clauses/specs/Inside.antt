@@ -26,11 +26,11 @@ rows_of lists = map (λ (v : Vec Entry Global). v.items) lists
 abbrev pub row : List (List Entry) → LitOf → List Entry
 row rows l = slice_index_or rows (index_of l % LISTS) []
 
--- the literal has a place among so many marks
+-- the literal has a place among this many marks
 abbrev pub HasPlace : ℕ → LitOf → Type 0
 HasPlace size l = index_of l < size
 
--- an entry names one of so many clauses, and two literals that have places among so many marks
+-- an entry names one of this many clauses, and two literals that have places among this many marks
 pub record EntryFits (count size : ℕ) (e : Entry) : Type 0 where
   pub clause : e.clause < count
   pub second : HasPlace size e.second

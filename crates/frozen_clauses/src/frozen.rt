@@ -108,7 +108,7 @@ impl Frozen {
         }
         let place = self.lightest(clause);
         let number = self.clauses.len();
-        // The two literals behind it, of which the one behind the last is the first.
+        // The two literals after it, of which the one after the last is the first.
         let entry = Entry {
             clause: number as u32,
             second: clause[(place + 1) % clause.len()],

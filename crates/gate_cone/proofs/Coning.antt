@@ -109,7 +109,7 @@ module _ (g : GatesOf) (is : IsGates g) (kept : AreKept g) (rising : IsRising g.
             );
       }
 
--- of the table, the marks and what has been made anew
+-- of the table, the marks and what has been remade
 pub whole : (g : GatesOf) → IsGates g → AreKept g → IsRising g.formula.vars g.inputs g.kept → Means g (constant true) (λ _. true) → (table : List (Option Gate)) → IsTable g.kept table →
     length table ≡ g.formula.vars + 1 → (roots : List LitOf) (marks : List Bool) → length marks ≡ length table → IsSpreadFrom table roots marks → (new : GatesOf) (lits : List LitOf) →
     length lits ≡ length table → AreCopied table marks new lits (length table) → IsConeOf g roots new marks lits

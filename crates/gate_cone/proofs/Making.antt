@@ -1,4 +1,4 @@
--- One variable more made anew.
+-- One variable more remade.
 use Rattle.std.proofs.Common.{◌≡◌, ℕ, ◌+◌, ◌-◌, ◌<◌, ◌≤◌, Bool, true, false, List, [], Option, Some, None, sym, ap, ◌∙◌, subst, inl, inr, arith, length, set, replicate}
 use Rattle.std.specs.Prelude.{Contains, All}
 use Rattle.std.proofs.lemmas.List.Elements.{All-replicate, All-set, All-weaker, Contains-push_cases}

@@ -1,4 +1,4 @@
--- The cone of literals: the gates on which they rest, numbered anew.
+-- The cone of literals: the gates on which they rest, renumbered.
 use Rattle.std.specs.Prelude.{◌≡◌, ℕ, ◌+◌, ◌<◌, ◌≤◌, Bool, true, false, List, length, All, Contains, count_by, slice_index_or}
 use Rattle.cnf_form.specs.Cnf.{LitOf, Assignment, Satisfies, LitWithin, lit_in}
 use Rattle.gate_graph.specs.declared.gate.Gate.{Gate}

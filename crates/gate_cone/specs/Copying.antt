@@ -1,4 +1,4 @@
--- Gates by their variables, marks, and what has been made anew so far.
+-- Gates by their variables, marks, and what has been remade so far.
 use Rattle.std.specs.Prelude.{◌≡◌, ◌⊎◌, ℕ, ◌+◌, ◌-◌, ◌<◌, ◌≤◌, Bool, true, false, List, length, replicate, take, All, Contains, count_by, Option, Some, None, slice_index_or}
 use Rattle.cnf_form.specs.Cnf.{LitOf, Assignment, Satisfies, LitWithin, lit_in}
 use Rattle.gate_graph.specs.declared.gate.Gate.{Gate}
@@ -71,7 +71,7 @@ pub record IsOpen (table : List (Option Gate)) (marks : List Bool) (t v : ℕ) :
 abbrev pub AreAlikeTo : List Bool → List LitOf → ℕ → Assignment → Assignment → Type 0
 AreAlikeTo marks lits t x y = (v : ℕ) → 0 < v → v < t → marked marks v ≡ true → lit_in y (lit_at lits v) ≡ x v
 
--- the marked variables below t have been made anew
+-- the marked variables below t have been remade
 pub record AreCopied (table : List (Option Gate)) (marks : List Bool) (new : GatesOf) (lits : List LitOf) (t : ℕ) : Type 0 where
   pub within : All (LitWithin new.formula.vars) lits
   pub few : new.formula.vars < t

@@ -11,7 +11,7 @@ use cnf_form::Lit;
 use gate_graph::{Circuit, Gates};
 use std::alloc::{AllocError, Global};
 
-/// Of some gates those on which some literals rest, numbered anew in the same order: which of the old variables are kept, and the literal
+/// Of some gates those on which some literals rest, renumbered in the same order: which of the old variables are kept, and the literal
 /// of each of them.
 #[derive(Drop)]
 pub struct Cone {

@@ -1,4 +1,4 @@
-// Marked gates, made anew.
+// Marked gates, remade.
 
 ghost use Rattle.std.specs.Prelude.{◌≡◌, ◌+◌, ◌-◌, ◌^◌, ◌<◌, ◌≤◌, All, IfOk, OnOk, Some, length, replicate};
 ghost use Rattle.cnf_form.specs.Cnf.{LitWithin};
@@ -59,7 +59,7 @@ fn copy(circuit: &mut Circuit, lits: &[Lit], gate: Option<Gate>) -> Result<Lit, 
     Ok(lit)
 }
 
-// One literal so many times.
+// One literal this many times.
 fn copies_of(alloc: Global, lit: Lit, count: usize) -> Result<Vec<Lit>, AllocError>
     ensures { IfOk result (λ lits. lits.items ≡ replicate count lit) }
 {
@@ -68,7 +68,7 @@ fn copies_of(alloc: Global, lit: Lit, count: usize) -> Result<Vec<Lit>, AllocErr
     Ok(lits)
 }
 
-// Makes each marked variable anew, in their order.
+// Remakes each marked variable, in their order.
 pub fn copy_marked(
     alloc: Global,
     table: &[Option<Gate>],

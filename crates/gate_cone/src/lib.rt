@@ -1,4 +1,4 @@
-//! The gates on which some literals rest, made anew without the others.
+//! The gates on which some literals rest, remade without the others.
 #![tactic(auto)]
 
 mod cone;

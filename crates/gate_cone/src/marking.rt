@@ -47,7 +47,7 @@ fn spread(marks: &mut Vec<bool>, table: &[Option<Gate>])
     }
 }
 
-// No mark for so many variables.
+// No mark for this many variables.
 fn unmarked(alloc: Global, count: usize) -> Result<Vec<bool>, AllocError>
     ensures { IfOk result (λ marks. marks.items ≡ replicate count false) }
 {

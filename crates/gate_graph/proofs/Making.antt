@@ -46,7 +46,7 @@ module _ (n : ℕ) (F : List (List LitOf)) (k : Gate) (w : OthersWithin n (opera
     means = means;
   }
 
--- the clauses of one gate more stand behind the others
+-- the clauses of one gate more stand after the others
 pub clauses_from-push : (es : List (Gate × LitOf)) (k : Gate) (l : LitOf) → clauses_from (es ++ (k, l) ∷ []) ≡ clauses_from es ++ clauses_of l k
 clauses_from-push es k l = ap (λ (F : List (List LitOf)). (lit_of 1 true ∷ []) ∷ F) (flat_map-append f es ((k, l) ∷ []) ∙ ap (λ (F : List (List LitOf)). flat_map f es ++ F) (flat_map-cons f (k, l) [] ∙ append-nil (clauses_of l k)))
   where

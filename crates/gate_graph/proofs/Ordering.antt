@@ -95,7 +95,7 @@ module _ (n : ℕ) where
   pub simple_there : (a b : LitOf) → LitWithin n a → LitWithin n b → AreSimple a b → IsThere (fold_and a b) × IsThere (fold_xor a b)
   simple_there a b p q s = (by_order ordered_and and_there a b p q s, by_order ordered_xor xor_there a b p q s)
 
--- what stands first, or what stands behind where the test fails
+-- what stands first, or what comes after it where the test fails
 there_or : (p : Bool) (l : LitOf) (k : Asked) → (p ≡ false → IsThere k) → IsThere (cond p (Is l) k)
 there_or true l k f = (l, refl)
 there_or false l k f = f refl

@@ -48,7 +48,7 @@ pub record IsGates (g : GatesOf) : Type 0 where
 abbrev pub Means : GatesOf → LitOf → (Assignment → Bool) → Type 0
 Means g l value = (x : Assignment) → Satisfies x g.formula.clauses → lit_in x l ≡ value x
 
--- the new gates are the old ones with more behind
+-- the new gates are the old ones with more after them
 pub record Continues (old new : GatesOf) : Type 0 where
   pub vars : old.formula.vars ≤ new.formula.vars
   pub clauses : (more : List (List LitOf)) × (new.formula.clauses ≡ old.formula.clauses ++ more)

@@ -56,7 +56,7 @@ pub record HasRoom (g : GatesOf) : Type 0 where
   pub below : g.formula.vars ≤ g.most
   pub limit : g.most ≤ MAX_VARS
 
--- the clause of variable 1, which is true, and behind it the clauses of the gates, each with its literal
+-- the clause of variable 1, which is true, and after it the clauses of the gates, each with its literal
 abbrev pub clauses_from : List (Gate × LitOf) → List (List LitOf)
 clauses_from kept = (lit_of 1 true ∷ []) ∷ flat_map (λ (e : Gate × LitOf). clauses_of e.1 e.0) kept
 

@@ -15,7 +15,7 @@ number_of (Xor a b) = mixed (mixed 2 a) b
 number_of (Mux s a b) = mixed (mixed (mixed 3 s) a) b
 number_of (Maj a b c) = mixed (mixed (mixed 4 a) b) c
 
--- the place of a gate among so many
+-- the place of a gate among this many
 abbrev pub place_of : ℕ → Gate → ℕ
 place_of places k = number_of k / 2 ^ 32 % places
 

@@ -115,7 +115,7 @@ impl Circuit {
         Ok(l)
     }
 
-    /// The formula of what has been built. A clause that is pushed behind says what is to hold of the gates.
+    /// The formula of what has been built. A clause that is pushed after says what is to hold of the gates.
     pub fn finish(self) -> Formula
         ensures { result ≡ self.formula }
     {

@@ -9,7 +9,7 @@ use crate::gate::Gate;
 use cnf_form::{Formula, Lit};
 use std::alloc::AllocError;
 
-// Puts the clauses that say of `y` what the gate is behind the others. If memory runs out, the formula is as it was.
+// Puts the clauses that say of `y` what the gate is after the others. If memory runs out, the formula is as it was.
 pub(crate) fn push_clauses(formula: &mut Formula, gate: &Gate, y: Lit) -> Result<(), AllocError>
     requires operands { OthersWithin formula.old.vars (operands gate.now) }
     requires literal { LitWithin formula.old.vars y }

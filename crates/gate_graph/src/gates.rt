@@ -257,7 +257,7 @@ impl Gates {
         }
     }
 
-    /// The formula of what has been built so far, made anew. A clause that is pushed behind says what is to hold of the gates.
+    /// The formula of what has been built so far, remade. A clause that is pushed after says what is to hold of the gates.
     pub fn formula(&self, alloc: Global) -> Result<Formula, AllocError>
         ensures { IfOk result (λ f. f ≡ self.now.formula) }
     {

@@ -58,7 +58,7 @@ fn number_of(gate: &Gate) -> u64
     }
 }
 
-// The place of a gate among so many.
+// The place of a gate among this many.
 fn place_of(places: usize, gate: &Gate) -> usize
     requires { 1 ≤ places }
     ensures place { result ≡ place_of places gate.now }
@@ -75,7 +75,7 @@ fn zeros(alloc: Global, count: usize) -> Result<Vec<u32>, AllocError>
     Ok(zeros)
 }
 
-// Links the entry behind the first `count`, which has this gate.
+// Links the entry after the first `count`, which has this gate.
 fn link(heads: &mut [u32], links: &mut [u32], count: usize, gate: &Gate)
     requires places { HasPlaces heads.old links.old (count + 1) }
     ensures places { HasPlaces heads.new links.new (count + 1) }
@@ -131,7 +131,7 @@ impl Kept {
         None
     }
 
-    // Twice the places, if there may be so many.
+    // Twice the places, if there may be this many.
     fn grow(&mut self) -> Result<(), AllocError>
         ensures same { self.new ≡ self.old }
     {

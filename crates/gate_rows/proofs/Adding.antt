@@ -40,7 +40,7 @@ pub map_push : {X Y : Type 0} (f : X → Y) (xs : List X) (y : X) → map f (xs 
 map_push f [] y = refl
 map_push f (x ∷ xs) y = ap (λ (r : List _). f x ∷ r) (map_push f xs y)
 
--- one bit more behind
+-- one bit more at the end
 pub num-push : (r : Row) (b : Bool) → num (r ++ b ∷ []) ≡ num r + at (length r) b
 num-push r b = num-append r (b ∷ []) ∙ ap (λ (n : ℕ). num r + n) (one_bit (length r) b)
 

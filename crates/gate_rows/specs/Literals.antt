@@ -19,7 +19,7 @@ pub record MeansBit (g : GatesOf) (bit : Assignment → Bool) (lit : LitOf) : Ty
   pub within : LitWithin g.formula.vars lit
   pub means : Means g lit bit
 
--- gates are put behind, at most n, and no input
+-- gates are added, at most n, and no input
 pub record Builds (old new : GatesOf) (n : ℕ) : Type 0 where
   pub continues : Continues old new
   pub inputs : new.inputs ≡ old.inputs

@@ -103,7 +103,7 @@ pub fn chain(gates: &mut Gates, op: &BitOp, start: Lit, a: &[Lit]) -> Result<Lit
     Ok(lit)
 }
 
-/// Puts a literal behind the others.
+/// Puts a literal after the others.
 pub fn push(word: &mut Vec<Lit>, lit: Lit) -> Result<(), AllocError>
     ensures { OnOk result (word.new.items ≡ word.old.items ++ lit ∷ []) }
 {

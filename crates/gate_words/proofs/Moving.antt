@@ -237,7 +237,7 @@ signed_means e f g h a b turned once up down word fill sign j k l ef es et eo eu
 pub any_row : (y n : ℕ) (z by : ℤ) → y ≤ n → fit y (pos (num (fit n (pos (moved_number (num (fit n z)) by))))) ≡ any_shift_fn y n z by
 any_row y n z by h = cut_again y n (pos (moved_number (num (fit n z)) by)) h
 
--- so many gates
+-- this many gates
 pub total_few : (l b m w d : ℕ) → m ≤ b → w ≡ l → d ≡ b - m → l * m + d + w ≤ l * b + b + l
 total_few l b m w d h e f = let p : l * m ≤ l * b = mul-le l m l b (omega arith) h in omega arith
 

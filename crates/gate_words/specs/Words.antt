@@ -62,7 +62,7 @@ made Mul y a b = fit y (pos (num a * num b))
 abbrev pub IsTurned : List LitOf → List LitOf → Type 0
 IsTurned a b = ((a ≡ []) × (b ≡ [])) ⊎ ((front : List LitOf) × (last : LitOf) × (a ≡ front ++ last ∷ []) × (b ≡ front ++ negate last ∷ []))
 
--- the word is what `$pmux` makes of the selects from place k on and their slices, after so many steps
+-- the word is what `$pmux` makes of the selects from place k on and their slices, after this many steps
 pub record IsChosen (old new : GatesOf) (a b s : List LitOf) (step k : ℕ) (word : List LitOf) : Type 0 where
   pub builds : Builds old new (length a * step)
   pub as_many : length word ≡ length a

@@ -124,7 +124,7 @@ fn put_design(text: &mut String, n: u32) -> Result<(), AllocError>
 ///
 /// # Errors
 ///
-/// Only where memory is wanting.
+/// Only where memory runs out.
 pub fn design(alloc: Global, n: u32) -> Result<Vec<u8>, AllocError>
     requires { 2 ≤ n }
     ensures { IfOk result (λ text. text.items ≡ text_of (design_lines n)) }
@@ -139,7 +139,7 @@ pub fn design(alloc: Global, n: u32) -> Result<Vec<u8>, AllocError>
 ///
 /// # Errors
 ///
-/// Only where memory is wanting.
+/// Only where memory runs out.
 pub fn task_file(alloc: Global, n: u32) -> Result<Vec<u8>, AllocError>
     requires { 2 ≤ n }
     ensures { IfOk result (λ text. text.items ≡ text_of (task_lines n)) }

@@ -1,4 +1,4 @@
--- Tables, and one more behind them.
+-- Tables, and one more after them.
 use Rattle.std.proofs.Common.{◌≡◌, ℕ, zero, suc, ◌<◌, List, [], ◌∷◌, ◌++◌, refl, sym, ap, subst, inl, inr, arith, length}
 use Rattle.cnf_form.specs.Cnf.{LitOf, Assignment}
 use Rattle.model_core.specs.Meaning.{Cycle}

@@ -33,7 +33,7 @@ empty_job = record { vars = 1; clauses = [] ∷ [] }
 abbrev pub frame_cost : ModelOf → ℕ
 frame_cost m = next_gates m + frame_vars m + 2 * length m.assumes + 2 * length m.asserts + 8
 
--- the variables of so many frames can pass 2 ^ 27
+-- the variables of this many frames can pass 2 ^ 27
 abbrev pub CanPass : ModelOf → ℕ → Type 0
 CanPass m n = 2 ^ 27 < 1 + length (states m) + n * frame_cost m
 

@@ -103,7 +103,7 @@ fn lit_value(values: &[bool], lit: Lit) -> bool
     if lit.is_negated() { !bit } else { bit }
 }
 
-// Puts a bit behind the others.
+// Puts a bit after the others.
 fn push_bit(bits: &mut Vec<bool>, bit: bool) -> Result<(), AllocError>
     ensures { OnOk result (bits.new.items ≡ bits.old.items ++ bit ∷ []) }
 {
@@ -111,7 +111,7 @@ fn push_bit(bits: &mut Vec<bool>, bit: bool) -> Result<(), AllocError>
     Ok(())
 }
 
-// Puts the bit of each variable behind the others.
+// Puts the bit of each variable after the others.
 fn push_bits(bits: &mut Vec<bool>, values: &[bool], vars: &[Option<u32>]) -> Result<(), AllocError>
     ensures { OnOk result (bits.new.items ≡ bits.old.items ++ map (bit_of (values_of values.now)) vars.now) }
 {

@@ -95,7 +95,7 @@ fn goals_of(alloc: Global, frames: &[FrameLits]) -> Result<Vec<Lit>, AllocError>
     Ok(goals)
 }
 
-// Puts a literal behind the others.
+// Puts a literal after the others.
 fn push_lit(lits: &mut Vec<Lit>, lit: Lit) -> Result<(), AllocError>
     ensures { OnOk result (lits.new.items ≡ lits.old.items ++ lit ∷ []) }
 {
@@ -119,7 +119,7 @@ fn renamed_var(cone: &Cone, var: Option<u32>) -> Option<u32>
     }
 }
 
-// Puts a variable behind the others, where there is one.
+// Puts a variable after the others, where there is one.
 fn push_some(vars: &mut Vec<u32>, var: Option<u32>) -> Result<(), AllocError>
     ensures { OnOk result (vars.new.items ≡ vars.old.items ++ cons_option var []) }
 {
@@ -186,7 +186,7 @@ fn renamed_frames(
     Ok(new)
 }
 
-// The clauses of the gates on which the frames' goals rest, and behind them the clause that some frame's goal is true.
+// The clauses of the gates on which the frames' goals rest, and after them the clause that some frame's goal is true.
 fn finish(alloc: Global, unrolled: Unrolled, width: usize) -> Result<Encoded, AllocError>
     requires inputs { All (λ f. length f.inputs ≡ width) unrolled.frames.items }
     requires goals { All (LitWithin unrolled.gates.formula.vars) (goals_of unrolled.frames.items) }

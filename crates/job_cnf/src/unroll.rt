@@ -209,7 +209,7 @@ fn open_places(alloc: Global, model: &WordModel) -> Result<Vec<u32>, AllocError>
     Ok(open)
 }
 
-// Puts a place behind the others where it has no digit.
+// Puts a place after the others where it has no digit.
 fn push_open(places: &mut Vec<u32>, place: u32, digit: Option<bool>) -> Result<(), AllocError>
     ensures { OnOk result (places.new.items ≡ places.old.items ++ without_digit (place ∷ []) (digit ∷ [])) }
 {
@@ -219,7 +219,7 @@ fn push_open(places: &mut Vec<u32>, place: u32, digit: Option<bool>) -> Result<(
     Ok(())
 }
 
-// Puts a variable behind the others.
+// Puts a variable after the others.
 pub fn push(vars: &mut Vec<Option<u32>>, var: Option<u32>) -> Result<(), AllocError>
     ensures { OnOk result (vars.new.items ≡ vars.old.items ++ var ∷ []) }
 {
@@ -227,7 +227,7 @@ pub fn push(vars: &mut Vec<Option<u32>>, var: Option<u32>) -> Result<(), AllocEr
     Ok(())
 }
 
-// Puts a frame behind the others.
+// Puts a frame after the others.
 pub fn push_frame(frames: &mut Vec<FrameLits>, frame: FrameLits) -> Result<(), AllocError>
     ensures { OnOk result (frames.new.items ≡ frames.old.items ++ frame ∷ []) }
 {

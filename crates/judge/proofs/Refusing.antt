@@ -26,7 +26,7 @@ use Rattle.judge.proofs.Problems.{numbered, numbered-at}
 use Rattle.judge.specs.Fault.{IsTooMany}
 use Rattle.judge.specs.Jobs.{IsEarlier, jobs_in}
 
--- so many frames that the variables of a model can pass the bound pass it by a cost that each frame is within
+-- this many frames that the variables of a model can pass the bound pass it by a cost that each frame is within
 past_each : (m : ModelOf) (most n : ℕ) → 1 + length (states m) + frame_cost m ≤ most → 0 < n → CanPass m n → 2 ^ 27 < n * most
 past_each m most zero within lt past = absurd (omega arith)
 past_each m most (suc n) within lt past =

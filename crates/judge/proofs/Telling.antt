@@ -135,7 +135,7 @@ pub heard_so_far : (j : JudgeOf) → IsJudge j → (j.state ≡ Reading) ⊎ (j.
 heard_so_far j is (inl reading) = let r = is.reading reading in (r.0, (r.1.0, inl r.1.1))
 heard_so_far j is (inr over) = is.over over
 
--- what a judge's answer rests on, and how it stands behind it
+-- what a judge's answer rests on, and how it stands after it
 module _ (j : JudgeOf) (is : IsForJob j) (stream : StreamOf) (same : IsSameStream j.stream stream) where
   outcome_of_job : (g : FormulaOf) (bits : List Bool) (o : Option Outcome) → IsFormulaOf j.asked j.job g → bits ≡ bits_of stream → IsTrueOutcome g (bits_of stream) o
       → (e : EncodedOf) × IsEncodedOf j.asked j.job e × IsTrueOutcome e.formula bits o

@@ -67,14 +67,14 @@ fate_told (Ok (Done f)) = Some (Found f.answer)
 fate_told (Ok IsUnknown) = Some Unknown
 fate_told (Err b) = Some (Bad b.kind b.at)
 
--- how a judge stands behind an answer
+-- how a judge stands after an answer
 abbrev pub state_behind : Result Progress BadCert → State
 state_behind (Ok More) = Reading
 state_behind (Ok (Done f)) = Over
 state_behind (Ok IsUnknown) = Over
 state_behind (Err b) = Refused b
 
--- and where memory was wanting
+-- and where memory ran out
 abbrev pub state_told : Result (Result Progress BadCert) AllocError → State
 state_told (Ok r) = state_behind r
 state_told (Err e) = Wanting

@@ -84,7 +84,7 @@ pub(crate) fn model_of(alloc: Global, flat: &Flat) -> Result<WordModel, AllocErr
     Ok(model)
 }
 
-// The jobs of a mode over a span, in order, where there are so many cover statements.
+// The jobs of a mode over a span, in order, where there are this many cover statements.
 fn names_of(alloc: Global, mode: Mode, span: Span, covers: u32) -> Result<Vec<JobName>, AllocError>
     requires { IsSpan span }
     ensures { (d : DesignOf) → length (covers_in d) ≡ covers → IfOk result (λ names. names.items ≡ jobs_in mode span d) }

@@ -35,7 +35,7 @@ pub enum State {
     Refused(BadCert),
     /// It answered Done or Unknown, and takes no more bytes.
     Over,
-    /// Memory was wanting, and is from then on.
+    /// Memory ran out; every later call answers that.
     Wanting,
 }
 
@@ -97,7 +97,7 @@ impl<'a> Judge<'a> {
     /// Takes a piece of the stream, and answers the fate of all bytes so far, or More where there is none yet. What follows a
     /// complete certificate isn't read.
     ///
-    /// After a BadCert every call answers it again, and after want of memory every call answers that. After Done or Unknown no
+    /// After a BadCert every call answers it again, and after an answer out of memory every call answers that. After Done or Unknown no
     /// more bytes may come.
     pub fn feed(&mut self, piece: &[u8]) -> Result<Result<Progress, BadCert>, AllocError>
         requires { self.old.state ≢ State.Over }
@@ -176,7 +176,7 @@ pub(crate) fn answer(
     }
 }
 
-// How a judge stands behind what it told.
+// How a judge stands after what it told.
 fn state_told(told: &Result<Result<Progress, BadCert>, AllocError>) -> State
     ensures { result ≡ state_told told.now }
 {

@@ -32,7 +32,7 @@ impl Model for PlayedRun {
     ghost invariant = { λ a. AreRowsOf a.wires a.free a.kept (arc_value a.rows) × (a.wires + a.free + 2 + a.kept < 2 ^ 32) };
 }
 
-// So many bits of a row, from one on.
+// This many bits of a row, from one on.
 fn part(
     alloc: Global,
     rows: &Kept,
@@ -53,7 +53,7 @@ fn part(
 }
 
 impl PlayedRun {
-    // The run whose rows have so many bits of the wires, of the free numbers, of the two constants, and of the kept rows.
+    // The run whose rows have this many bits of the wires, of the free numbers, of the two constants, and of the kept rows.
     pub(crate) fn new(
         alloc: Global,
         rows: Kept,

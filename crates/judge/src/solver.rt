@@ -70,7 +70,7 @@ impl<'a> SolverJudge<'a> {
     }
 
     /// Takes a piece of the output, and answers the fate of all bytes so far, or More where there is none yet. Lines that are neither
-    /// values nor status lines are passed over. After another answer than More, and after want of memory, nothing more may come.
+    /// values nor status lines are passed over. After another answer than More, and after an answer out of memory, nothing more may come.
     pub fn feed(&mut self, piece: &[u8]) -> Result<Result<Progress, BadCert>, AllocError>
         requires { self.old.reading ≡ true }
         ensures feeds { (bytes : List ℕ) → Took self.old bytes → IfOk result (λ r. Feeds self.old self.new (bytes ++ piece.now) r) }

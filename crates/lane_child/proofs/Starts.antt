@@ -1,4 +1,4 @@
--- What a start, and the life behind it, leave to the bay.
+-- What a start, and the life after it, leave to the bay.
 use Rattle.std.proofs.Common.{◌≡◌, ◌⊎◌, inl, inr, ℕ, ◌+◌, ◌≤◌, ◌^◌, List, [], ◌∷◌, ◌++◌, length, Option, None, Some, IsSomeAnd, Result, Ok, Err, option_map, refl, sym, ap, subst, ◌∙◌, arith}
 use Rattle.std.proofs.lemmas.List.{append-nil}
 use Rattle.sby_edge.specs.declared.outside.Fail.{Fail}
@@ -160,7 +160,7 @@ module _ {T : Type 0} (st en pr : List ℕ → Judged T → Type 0) (job : JobNa
       at (inl is) = inl (subst (λ (b : Option BayOf). IsProof b job most proof) told is)
       at (inr none) = inr none
 
-  -- what is told of a start, and of the life behind it
+  -- what is told of a start, and of the life after it
   pub life : {X : Type 0} (bay between bay' : Option BayOf) (pipe : Option PipeOf) (x : X) → between ≡ option_map (started (Ok x) job words file) bay
       → pipe ≡ option_map (λ (b : BayOf). pipe_of (b.scripts job) (length b.starts)) bay
       → RanFrom st en pr job most most_output between bay' pipe events kept → Life st en pr job words file most most_output bay bay' events kept

@@ -3,7 +3,7 @@ use Rattle.std.specs.Prelude.{ℕ, List}
 use Rattle.race_core.specs.declared.event.Judged.{Judged}
 use Rattle.race_core.specs.declared.event.Judged.TheVariants.{More, Found, Unknown, Bad, Failed, Unjudged}
 
--- what is said of bytes; want of memory says nothing, and that a read failed isn't said
+-- what is said of bytes; out of memory says nothing, and that a read failed isn't said
 abbrev pub Says : {T : Type 0} → (List ℕ → Judged T → Type 0) → List ℕ → Judged T → Type 0
 Says stands bytes More = stands bytes More
 Says stands bytes (Found f) = stands bytes (Found f)

@@ -115,14 +115,14 @@ abbrev pub NoneLeft : Option PipeOf → Type 0
 NoneLeft None = Unit {0}
 NoneLeft (Some pipe) = pipe.bytes ≡ []
 
--- What an output, with the proof file behind it where that was asked, comes to: by its bytes so far; by its close, at its end alone;
+-- What an output, with the proof file after it where that was asked, comes to: by its bytes so far; by its close, at its end alone;
 -- or by the proof file, where its end leaves it to that.
 abbrev pub ComesBy : {T : Type 0} → (stands ends proves : List ℕ → Judged T → Type 0) → Type 0 → List ℕ → List ℕ → By → Judged T → Type 0
 ComesBy stands ends proves ended output proof by.Bytes p = stands output p
 ComesBy stands ends proves ended output proof by.Close p = ended × ends output p
 ComesBy stands ends proves ended output proof by.File p = ended × ends output judged.More × proves proof p
 
--- What a reader came to is what its output comes to. That it has read on, that a read failed, or that memory was wanting, is no word
+-- What a reader came to is what its output comes to. That it has read on, that a read failed, or that memory ran out, is no word
 -- on the output.
 abbrev pub Comes : {T : Type 0} → (stands ends proves : List ℕ → Judged T → Type 0) → Type 0 → List ℕ → List ℕ → Reader T → Type 0
 Comes stands ends proves ended output proof (reader.Holding f b) = ComesBy stands ends proves ended output proof b (judged.Found f)
@@ -166,7 +166,7 @@ HasRead reader.Unjudged = ⊥
 HasRead (reader.Found f b won) = ⊥
 HasRead reader.Wrong = ⊥
 
--- what a read of so many bytes, judged so, is entered as: so, or as want of memory
+-- what a read of this many bytes, judged so, is entered as: so, or as out of memory
 abbrev pub EnteredAs : {T : Type 0} → By → Judged T → Reader T → Type 0
 EnteredAs b p part = (part ≡ judged_as b p) ⊎ (part ≡ reader.Short)
 
@@ -192,7 +192,7 @@ Proves proves proof reader.Asking = ⊥
 Proves proves proof reader.Unjudged = ⊥
 Proves proves proof reader.Wrong = ⊥
 
--- a reader settled what it held, or dropped it for want of memory
+-- a reader settled what it held, or dropped it because memory ran out
 abbrev pub Settles : {T : Type 0} → Reader T → Reader T → Type 0
 Settles (reader.Holding f b) part = (part ≡ reader.Found f b true) ⊎ ((part ≡ reader.Found f b false) ⊎ (part ≡ reader.Short))
 Settles (reader.Found f b won) part = part ≡ reader.Found f b won
@@ -314,7 +314,7 @@ IfWon reader.Reading P = Unit {0}
 IfWon reader.Unjudged P = Unit {0}
 IfWon reader.Wrong P = Unit {0}
 
--- what a proof file, judged so, is entered as: so, or as want of memory
+-- what a proof file, judged so, is entered as: so, or as out of memory
 abbrev pub FiledAs : {T : Type 0} → Judged T → Reader T → Type 0
 FiledAs p part = ((p ≢ judged.Unjudged) × (part ≡ judged_as by.File p)) ⊎ (part ≡ reader.Short)
 

@@ -40,7 +40,7 @@ NoStart end.HoldFailed = ⊥
 NoStart (end.CalledOff f) = ⊥
 NoStart (end.Stopped r) = ⊥
 
--- an output and what is left behind it: the script's bytes up to its stall, or its gate's other ones
+-- an output and what is left after it: the script's bytes up to its stall, or its gate's other ones
 abbrev pub IsFront : ScriptOf → List ℕ → List ℕ → Type 0
 IsFront script output rest =
     (output ++ rest ≡ up_to script.stalls script.bytes) ⊎ IsSomeAnd script.gate (λ gate. output ++ rest ≡ up_to script.stalls gate.instead)
@@ -69,12 +69,12 @@ pub record ReadsScript {T : Type 0} (stands ends proves : List ℕ → Judged T 
 abbrev pub with_starts : List StartOf → BayOf → BayOf
 with_starts starts bay = record bay { starts = bay.starts ++ starts }
 
--- A start of the job with these words and these bytes of the job. If it was finished: so many bytes its pipe gave, and so many it had given
+-- A start of the job with these words and these bytes of the job. If it was finished: this many bytes its pipe gave, and this many it had given
 -- when its child was killed.
 abbrev pub start_of : JobName → List (List ℕ) → List ℕ → Option ℕ → Option ℕ → StartOf
 start_of job words file given killed = record { job = job; words = words; bytes = file; given = given; killed = killed }
 
--- The child of a pipe that gave so many bytes was killed when it had given them all, its reader being done; or its keeper's list has a kill.
+-- The child of a pipe that gave this many bytes was killed when it had given them all, its reader being done; or its keeper's list has a kill.
 abbrev pub IsKilledFor : {T : Type 0} → ℕ → List (LaneEvent T) → Option ℕ → Type 0
 IsKilledFor given kept killed = (killed ≡ Some given) ⊎ HasKill kept
 

@@ -63,7 +63,7 @@ pub(crate) fn twice<T: Settled + Drop>(value: &T) -> Result<(T, T), AllocError>
     Ok((one, value.copy()?))
 }
 
-// A look that makes the job needless, or for whose copies memory is wanting.
+// A look that makes the job needless, or for whose copies memory runs out.
 fn enter_needless<J: Asks<T>, T: Settled + Drop, C: Clock>(
     watch: &Watch<'_, J, T, C>,
     place: u32,

@@ -130,7 +130,7 @@ pub(crate) struct Lived<S, T> {
     pub(crate) is_failed: bool,
 }
 
-// Kills a child that its keeper didn't kill, behind its reader. Answers whether that failed.
+// Kills a child that its keeper didn't kill, after its reader. Answers whether that failed.
 fn kill_last<L: Launch, T>(
     bay: &L,
     pipe: &L::Pipe,

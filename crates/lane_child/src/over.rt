@@ -31,7 +31,7 @@ pub struct Asked<'a> {
     pub most: u64,
 }
 
-// Want of memory ends the reader.
+// Out of memory ends the reader.
 fn enter_memory<T: Drop>(events: &mut EventList<T>) -> Reader<T>
     requires room { 1 ≤ events.old.room }
     requires part { (reader_from reader.Fresh events.old.events ≡ reader.Asking) ⊎ IsHolding (reader_from reader.Fresh events.old.events) }
@@ -45,7 +45,7 @@ fn enter_memory<T: Drop>(events: &mut EventList<T>) -> Reader<T>
     Reader::Short
 }
 
-// Settles what the reader holds. A copy stays for the job's end; where memory is wanting for that or for the settle, the finding is
+// Settles what the reader holds. A copy stays for the job's end; where memory runs out for that or for the settle, the finding is
 // dropped.
 #[tactic(auto, using(crate::proofs::Keepers::learns_remember, crate::proofs::Keepers::learns_known))]
 pub(crate) fn settle<T: Settled + Drop>(
@@ -126,7 +126,7 @@ fn enter_file<T: Settled + Drop>(
     part
 }
 
-// A proof file that wasn't judged for want of memory.
+// A proof file that wasn't judged because memory ran out.
 fn enter_unjudged<T: Drop>(events: &mut EventList<T>, bytes: u64) -> Reader<T>
     requires room { 2 ≤ events.old.room }
     requires part { reader_from reader.Fresh events.old.events ≡ reader.Asking }

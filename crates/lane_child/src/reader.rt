@@ -20,7 +20,7 @@ use std::sync::Wait;
 // How many bytes a read asks for.
 const PIECE: usize = 65536;
 
-// How many entries a read may make: its own, a settle, and want of memory.
+// How many entries a read may make: its own, a settle, and out of memory.
 const ROOM: usize = 3;
 
 fn by_bytes(bytes: u64) -> By
@@ -59,7 +59,7 @@ fn enter_found<T: Settled + Drop>(events: &mut EventList<T>, bytes: u64, value: 
     }
 }
 
-// A read that wasn't judged for want of memory.
+// A read that wasn't judged because memory ran out.
 #[tactic(auto, using(crate::proofs::Readers::read_on))]
 fn enter_unjudged<T: Drop>(events: &mut EventList<T>, bytes: u64) -> Reader<T>
     requires room { 3 ≤ events.old.room }
@@ -160,7 +160,7 @@ fn read_once<P: Pipe, S: Subject<T>, T: Settled + Drop>(
     enter_read(events, count as u64, progress)
 }
 
-// A buffer of so many bytes.
+// A buffer of this many bytes.
 fn buffer_of(alloc: Global, size: usize) -> Result<Vec<u8>, AllocError>
     ensures { IfOk result (λ buffer. vec_len buffer ≡ size) }
 {
@@ -202,7 +202,7 @@ fn read_within<P: Pipe, S: Subject<T>, T: Settled + Drop>(
     read_once(alloc, pipe, subject, buffer, events)
 }
 
-// Reads until the output comes to something, ends or can't be read, or memory is wanting.
+// Reads until the output comes to something, ends or can't be read, or memory runs out.
 pub(crate) fn read_out<R: Wait, P: Pipe, S: Subject<T>, T: Settled + Drop>(
     rt: &R,
     alloc: Global,

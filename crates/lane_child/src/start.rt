@@ -51,7 +51,7 @@ fn skipping_at<J: Asks<T>, T: Settled + Drop, C: Clock>(
     Some(twice(value))
 }
 
-// The end of a job that what the cell at a place has skips, or for whose copies memory is wanting.
+// The end of a job that what the cell at a place has skips, or for whose copies memory runs out.
 fn skip<J: Asks<T>, T: Settled + Drop, C: Clock>(
     watch: &Watch<'_, J, T, C>,
     place: u32,
@@ -177,7 +177,7 @@ pub fn look_first<J: Asks<T>, T: Settled + Drop, C: Clock>(
     }
 }
 
-/// Enters that memory was wanting before a job's start, and answers the job's end.
+/// Enters that memory ran out before a job's start, and answers the job's end.
 pub fn want<J: Asks<T>, T: Settled + Drop, C: Clock>(
     watch: &Watch<'_, J, T, C>,
     notes: &Notes<T>,

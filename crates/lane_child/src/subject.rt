@@ -11,7 +11,7 @@ use race_core::Judged;
 use sby_terms::{JobName, Settled};
 use std::alloc::Global;
 
-/// Who judges the output of one child, piece by piece, and the proof file behind it where the output leaves it to that.
+/// Who judges the output of one child, piece by piece, and the proof file after it where the output leaves it to that.
 pub trait Subject<T: Settled> {
     /// The problem and the job that are asked about.
     ghost problem: { Self → ProblemOf };

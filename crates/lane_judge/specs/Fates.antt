@@ -1,4 +1,4 @@
--- What a child's output, and the proof file behind it, come to, as a certificate for a job.
+-- What a child's output, and the proof file after it, come to, as a certificate for a job.
 use Rattle.std.specs.Prelude.{◌≡◌, ◌≢◌, ◌⊎◌, ◌+◌, ◌^◌, ℕ, Bool, true, List, ◌++◌, Option, None, Some, MatchOption, Result, Ok, Err, refl}
 use Rattle.std.proofs.Common.{inl, inr, subst}
 use Rattle.sby_terms.specs.Problem.{ProblemOf}

@@ -29,7 +29,7 @@ abbrev pub Awaits : AskedOf → JobName → Evidence → Type 0
 Awaits p job (Output kind) = ⊥
 Awaits p job (ProofFile kind) = IsJob p job
 
--- an answer as a lane's list has it; want of memory isn't judged
+-- an answer as a lane's list has it; out of memory isn't judged
 abbrev pub told_as : Result (Result Progress BadCert) AllocError → Judged FindingOf
 told_as (Ok answer) = judged_as answer
 told_as (Err e) = judged.Unjudged

@@ -23,7 +23,7 @@ proof_mark = codes "{proof}"
 abbrev pub begins : List ℕ → List ℕ → Bool
 begins mark word = bytes_eq mark (take (length mark) word)
 
--- what stands before a mark in a word and behind it, at its first place; nothing where it doesn't stand there
+-- what stands before a mark in a word and after it, at its first place; nothing where it doesn't stand there
 abbrev pub parted : List ℕ → List ℕ → Option (List ℕ × List ℕ)
 parted mark [] = None
 parted mark (b ∷ bs) = cond (begins mark (b ∷ bs)) (Some ([], drop (length mark) (b ∷ bs))) (option_map (λ (p : List ℕ × List ℕ). (b ∷ p.0, p.1)) (parted mark bs))
@@ -65,6 +65,6 @@ file_text lane job = codes "engine_" ++ decimal lane ++ codes "_" ++ job
 unfoldable pub proof_text : List ℕ → List ℕ → List ℕ
 proof_text folder file = folder ++ codes "/model/" ++ file ++ codes ".proof"
 
--- the path of the proof file that a lane's child leaves for a job of a task with so many slices
+-- the path of the proof file that a lane's child leaves for a job of a task with this many slices
 abbrev pub proof_path : List ℕ → ℕ → ℕ → JobName → List ℕ
 proof_path folder lane slices job = proof_text folder (file_text lane (job_text slices job))

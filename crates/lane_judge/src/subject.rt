@@ -26,7 +26,7 @@ pub(crate) enum Watch<'a> {
     Solver(SolverJudge<'a>),
 }
 
-/// The judge of a child's output, and of the proof file behind it, as a certificate for a job of a problem. It keeps none of the output's
+/// The judge of a child's output, and of the proof file after it, as a certificate for a job of a problem. It keeps none of the output's
 /// bytes.
 #[derive(Drop)]
 pub struct JobJudge<'a> {
@@ -71,7 +71,7 @@ fn judged_as(answer: Result<Progress, BadCert>) -> Judged<Finding>
     }
 }
 
-// Want of memory isn't judged.
+// Out of memory isn't judged.
 fn judged(answer: Result<Result<Progress, BadCert>, AllocError>) -> Judged<Finding>
     ensures { result ≡ told_as answer }
 {

@@ -78,7 +78,7 @@ fn proof_mark() -> &'static str
     "{proof}"
 }
 
-// What stands before a mark in a word and behind it, at its first place.
+// What stands before a mark in a word and after it, at its first place.
 fn parted<'t>(word: &'t str, mark: &str) -> Option<(&'t str, &'t str)>
     requires { 0 < length mark.now }
     ensures { MatchOption result (parted mark.now word.now ≡ None) (λ p. parted mark.now word.now ≡ Some (p.0.now, p.1.now)) }
@@ -165,7 +165,7 @@ fn file_text(alloc: Global, lane: u32, job: &str) -> Result<String, AllocError>
     format!(in alloc; "engine_{lane}_{job}")
 }
 
-// The path of the proof file that a lane's child leaves for a job of a task with so many slices.
+// The path of the proof file that a lane's child leaves for a job of a task with this many slices.
 pub(crate) fn proof_path(
     alloc: Global,
     folder: &str,

@@ -26,7 +26,7 @@ none_failed {T} now e none = record {
   hold = λ is. absurd (subst (λ (x : JobEnd T). NoStart x) is none);
 }
 
--- nor does one behind an end that ended the lane's work
+-- nor does one after an end that ended the lane's work
 pub late_failed : {T : Type 0} (now : CountsOf) (e : JobEnd T) → IsLast e → JobFaults now now e
 late_failed {T} now e last = record {
   later = (omega arith, omega arith, omega arith);

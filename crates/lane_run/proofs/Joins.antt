@@ -47,7 +47,7 @@ join_right {T} ns ms now is cells same agree = record {
 pub remember_both : {T : Type 0} (a b c : List (NoteOf T)) → Remember a b → Remember b c → Remember a c
 remember_both a b c h k = record { cells = k.cells ∙ h.cells; knows = λ place f x. k.knows place f (h.knows place f x) }
 
--- one more, behind those of which something weaker holds
+-- one more, after those of which something weaker holds
 pub all_more : {X : Type 0} (P Q : X → Type 0) (xs : List X) (x : X) → ((y : X) → P y → Q y) → All P xs → Q x → All Q (xs ++ x ∷ [])
 all_more P Q [] x f h q zero d lt = q
 all_more P Q [] x f h q (suc k) d lt = absurd (omega (lt, arith))

@@ -338,7 +338,7 @@ module _ {T : Type 0} (For : ℕ → T → Type 0) (serves : ℕ → Type 0) (te
           let ln : l < n = omega (lj, lt, arith) in
           inr (l, lj, subst (λ (x : JobEnd T). IsLast x) (sym (ended l ln)) last, ended j lt ∙ (same ∙ sym (ended l ln)), other j ne ∙ without)
 
-  -- one more job comes behind one that ended the lane's work
+  -- one more job comes after one that ended the lane's work
   pub one_late : (l : ℕ) (e : JobEnd T) → l < n → IsLast (end_at r l) → e ≡ end_at r l
       → LaneSoFar For serves terms may_read (n + 1) notes (record r { ends = r.ends ++ e ∷ [] })
   one_late l e ln last is = record {

@@ -29,7 +29,7 @@ use Rattle.lane_run.specs.Started.{LaneStarts}
 use Rattle.lane_run.specs.declared.task.Limit.{Limit}
 use Rattle.lane_run.proofs.Reasons.{called_by_look, skipped_by_look}
 
--- without a gate a front and what is left behind it are the script's bytes
+-- without a gate a front and what is left after it are the script's bytes
 whole_front : (script : ScriptOf) (output rest : List ℕ) → script.gate ≡ None → IsFront script output rest → output ++ rest ≡ up_to script.stalls script.bytes
 whole_front script output rest none (inl h) = h
 whole_front script output rest none (inr h) = absurd (subst (λ g. IsSomeAnd g (λ gate. output ++ rest ≡ up_to script.stalls gate.instead)) none h)

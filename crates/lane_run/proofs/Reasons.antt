@@ -144,7 +144,7 @@ step a k event.Start w h = absurd h
 step a k event.Finish w h = absurd h
 step a k event.Gave w h = absurd h
 
--- what came before the event that gives the reason, and what came behind it, where no reading stands
+-- what came before the event that gives the reason, and what came after it, where no reading stands
 pub record Caused {T : Type 0} (a : Terms T) (w : Reason T) (events : List (LaneEvent T)) : Type 0 where
   pub front : List (LaneEvent T)
   pub cause : LaneEvent T

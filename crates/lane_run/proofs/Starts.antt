@@ -96,7 +96,7 @@ upto_next n f = ap (λ (k : ℕ). starts_upto k f) (next n)
 last_or_below : (j n : ℕ) → j < n + 1 → (j < n) ⊎ (j ≡ n)
 last_or_below j n h = grind (arith, h)
 
--- a job behind an earlier end stays so
+-- a job after an earlier end stays so
 late_stands : {T : Type 0} (n : ℕ) (r r' : ReportOf T) (j : ℕ) → Stand n r r' → j < n → CameLate r j → CameLate r' j
 late_stands {T} n r r' j stand lt (l, lj, last, same, without) =
     let ln : l < n = omega (lj, lt, arith) in
@@ -170,7 +170,7 @@ module _ {T : Type 0} (n : ℕ) (r r' : ReportOf T) (e : JobEnd T) (es : EventsO
   pub one_events : n < length r.events → events_at r' n ≡ es
   one_events few = ap (λ (x : ReportOf T). events_at x n) is ∙ get_or-set_same r.events n es no_events few
 
--- the same behind an end that ended the lane's work
+-- the same after an end that ended the lane's work
 module _ {T : Type 0} (n : ℕ) (r r' : ReportOf T) (e : JobEnd T) (ends : length r.ends ≡ n) (is : r' ≡ record r { ends = r.ends ++ e ∷ [] }) where
   pub late_stand : Stand n r r'
   late_stand j lt = (

@@ -27,7 +27,7 @@ both_hold : (a b : Bool) → (a && b) ≡ true → (a ≡ true) × (b ≡ true)
 both_hold true b h = (refl, h)
 both_hold false b h = absurd cc
 
--- a reading that shows the limit comes the limit or more behind the start
+-- a reading that shows the limit comes the limit or more after the start
 limit_shown : (start : ℕ) (limit : Option ℕ) (t : ℕ) → shows_limit start limit t ≡ true → IsSomeAnd limit (λ millis. (start ≤ t) × (millis ≤ t - start))
 limit_shown start None t h = absurd cc
 limit_shown start (Some millis) t h =

@@ -36,7 +36,7 @@ lane_fresh {T} For serves terms may_read notes r ends events = record {
   each = λ j lt. absurd (omega (lt, arith));
 }
 
--- memory was wanting before anything was asked
+-- memory ran out before anything was asked
 pub want_done : {T : Type 0} (For : ℕ → T → Type 0) (serves : Type 0) (a : Terms T) (known : T → Type 0) (may_read : ℕ → Type 0) (place : ℕ) (notes : List (NoteOf T))
     → serves ⊎ (serves → ⊥)
     → JobDone For serves a known may_read place notes (record { reader = []; keeper = event.KeeperMemory ∷ [] }) end.Memory

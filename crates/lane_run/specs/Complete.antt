@@ -40,7 +40,7 @@ IsPlain serves ends proves most bay job e =
     ⊎ ((serves → ⊥) × (e ≡ end.NotServed))
 
 -- The scripts have no gate, no count of failed calls rose, no two readings that the clock may give are the limit apart, and no job ends
--- for want of memory.
+-- because memory ran out.
 pub record IsUndisturbed {T : Type 0} (may_read : ℕ → Type 0) (limit : Limit) (mode : Mode) (bay : BayOf) (before now : CountsOf) (n : ℕ) (r : ReportOf T) : Type 0 where
   pub ungated : (j : ℕ) → j < n → (bay.scripts (name_at mode j)).gate ≡ None
   pub starts : Rose before.starts now.starts → ⊥

@@ -35,7 +35,7 @@ pub record JobDone {T : Type 0} (For : ℕ → T → Type 0) (serves : Type 0) (
   pub looks : (c : ℕ) (f : T) → Looked c f es.keeper → For c f × (known_at notes c ≡ Some f)
   pub readings : (r : ℕ) → HasReading r es.keeper → may_read r
 
--- A job behind one that ended the lane's work has that one's end, and no events.
+-- A job after one that ended the lane's work has that one's end, and no events.
 abbrev pub CameLate : {T : Type 0} → ReportOf T → ℕ → Type 0
 CameLate r j = (l : ℕ) × (l < j) × IsLast (end_at r l) × (end_at r j ≡ end_at r l) × (events_at r j ≡ no_events)
 
@@ -66,7 +66,7 @@ abbrev pub Stand : {T : Type 0} → ℕ → ReportOf T → ReportOf T → Type 0
 Stand n r r' = (j : ℕ) → j < n → (end_at r' j ≡ end_at r j) × (events_at r' j ≡ events_at r j)
 
 -- A job is stopped by the last reading of its lane's keeper, its own or that of an earlier job. The clock may give that reading, and the
--- lane's start; it is the limit or more behind the start.
+-- lane's start; it is the limit or more after the start.
 pub record IsStopped {T : Type 0} (may_read : ℕ → Type 0) (limit : Limit) (j t : ℕ) (r : ReportOf T) : Type 0 where
   pub job : ℕ
   pub within : job ≤ j

@@ -18,12 +18,12 @@ abbrev pub JobStarts : {T : Type 0} → (JobName → List (List ℕ)) → (JobNa
 JobStarts words file stands ends proves most most_output job bay es e starts =
     Starts job (words job) (file job) (ReadsScript (stands job) (ends job) (proves job) bay job most most_output es.reader) es.reader es.keeper e starts
 
--- the starts of the first jobs, one job's behind the other's
+-- the starts of the first jobs, one job's after the other's
 abbrev pub starts_upto : ℕ → (ℕ → List StartOf) → List StartOf
 starts_upto zero starts = []
 starts_upto (suc n) starts = starts_upto n starts ++ starts n
 
--- The starts that a lane's first jobs added to its bay's, job by job; a job behind one that ended the lane's work has none.
+-- The starts that a lane's first jobs added to its bay's, job by job; a job after one that ended the lane's work has none.
 pub record LaneStarts {T : Type 0} (words : JobName → List (List ℕ)) (file : JobName → List ℕ) (stands ends proves : JobName → List ℕ → Judged T → Type 0) (most most_output : ℕ) (mode : Mode)
     (before now : Option BayOf) (n : ℕ) (r : ReportOf T) : Type 0 where
   pub starts : ℕ → List StartOf

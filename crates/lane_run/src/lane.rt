@@ -103,7 +103,7 @@ fn lasting_end<T: Drop>(ends: &[JobEnd<T>]) -> Option<JobEnd<T>>
     }
 }
 
-// A job for whose lists memory is wanting.
+// A job for whose lists memory runs out.
 fn want_lists<M: Makes<T>, T: Settled + Drop, C: Clock>(
     task: &Task<'_, M, T, C>,
     place: u32,
@@ -171,7 +171,7 @@ fn run_job<
     report.push_end(end);
 }
 
-// The next job: done, or behind an end that ended the lane's work.
+// The next job: done, or after an end that ended the lane's work.
 fn run_next<
     R: Threads + Wait + Sync,
     L: Launch,
@@ -208,7 +208,7 @@ fn run_next<
 }
 
 /// Runs the jobs of a lane in their order. Each is skipped where a finding makes it needless, passed over where the lane's engine
-/// doesn't serve it, or started and run to its end; behind a reading that shows the limit, or want of memory, the later
+/// doesn't serve it, or started and run to its end; after a reading that shows the limit, or out of memory, the later
 /// jobs end the same. The notes then know what the events say; an end that tells of a failed call comes only where the bay's count of
 /// such calls rose. A job's child is started at most once, and what it gave is of the script that the bay tells for it. Where there is a
 /// limit, its start is a reading that the clock may give. Waits for the children.

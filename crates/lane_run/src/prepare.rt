@@ -47,7 +47,7 @@ fn fresh_seat<T: Settled + Drop>(
     Ok(Seat { report, notes })
 }
 
-// The seats of so many lanes that have done nothing yet.
+// The seats of this many lanes that have done nothing yet.
 fn fresh_seats<T: Settled + Drop>(
     alloc: Global,
     cells: &Cells<T>,
@@ -66,7 +66,7 @@ fn fresh_seats<T: Settled + Drop>(
     Ok(seats)
 }
 
-// Room for so many lanes, and for their bays behind them.
+// Room for this many lanes, and for their bays after them.
 fn fresh_rows<L, T>(alloc: Global, count: usize) -> Result<(Vec<Lane<L, T>>, Vec<L>), AllocError>
     ensures lanes { IfOk result (λ r. (r.0.items ≡ []) × (count ≤ vec_capacity r.0)) }
     ensures bays { IfOk result (λ r. (r.1.items ≡ []) × (count ≤ vec_capacity r.1)) }
@@ -81,7 +81,7 @@ fn fresh_rows<L, T>(alloc: Global, count: usize) -> Result<(Vec<Lane<L, T>>, Vec
     }
 }
 
-// All memory that so many lanes need to be raced.
+// All memory that this many lanes need to be raced.
 fn fresh_room<L, T: Settled + Drop>(
     alloc: Global,
     cells: &Cells<T>,
@@ -132,7 +132,7 @@ fn take_seats<L, T: Drop>(seats: Vec<Seat<T>>, bays: Vec<L>, lanes: &mut Vec<Lan
     left.destroy_empty();
 }
 
-// A lane that has done nothing yet for each bay. Where memory is wanting, the bays come back.
+// A lane that has done nothing yet for each bay. Where memory runs out, the bays come back.
 pub(crate) fn fresh_lanes<L, T: Settled + Drop>(
     alloc: Global,
     cells: &Cells<T>,

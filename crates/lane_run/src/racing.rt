@@ -95,7 +95,7 @@ pub fn run_lanes<
     thread::for_each_mut(rt, lanes, count, &run);
 }
 
-/// Races the lanes of a task, one for each bay, beside each other. Where memory is wanting, it gives back the bays as they were, and no
+/// Races the lanes of a task, one for each bay, beside each other. Where memory runs out, it gives back the bays as they were, and no
 /// child was started. Lanes are counted from 0, in the order of the bays; a lane's ends tell of failed calls only where the counts of
 /// the bay at its place rose, and its starts are those that this bay tells. Where there is a limit, its start is a reading that the
 /// clock may give.

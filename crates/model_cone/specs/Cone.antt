@@ -20,7 +20,7 @@ IsHeldBy m p q = (i : ℕ) × (r : RegisterOf) × (slice_get m.registers i ≡ S
 abbrev pub RestsOn : ModelOf → ℕ → ℕ → Type 0
 RestsOn m p q = IsGivenBy m p q ⊎ IsHeldBy m p q
 
--- p rests on q by a chain of so many steps
+-- p rests on q by a chain of this many steps
 abbrev pub RestsIn : ModelOf → ℕ → ℕ → ℕ → Type 0
 RestsIn m zero p q = p ≡ q
 RestsIn m (suc n) p q = (r : ℕ) × RestsIn m n p r × RestsOn m r q

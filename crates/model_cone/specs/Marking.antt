@@ -17,7 +17,7 @@ pub record AreGivers (m : ModelOf) (givers : List Giver) : Type 0 where
   pub from_node : (i p : ℕ) → slice_get givers p ≡ Some (Node i) → (n : NodeOf) × (slice_get m.nodes i ≡ Some n) × Contains n.y p
   pub from_register : (i p : ℕ) → slice_get givers p ≡ Some (Register i) → (r : RegisterOf) × (slice_get m.registers i ≡ Some r) × Contains r.q p
 
--- the givers of the places of so many nodes and registers
+-- the givers of the places of this many nodes and registers
 pub record AreGiversTo (m : ModelOf) (nodes registers : ℕ) (givers : List Giver) : Type 0 where
   pub size : length givers ≡ m.size
   pub node : (i : ℕ) (n : NodeOf) (p : ℕ) → i < nodes → slice_get m.nodes i ≡ Some n → Contains n.y p → slice_get givers p ≡ Some (Node i)

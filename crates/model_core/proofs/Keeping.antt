@@ -22,7 +22,7 @@ part_at : (before it after xs : List ℕ) (first count : ℕ) → xs ≡ before 
 part_at before it after xs first count e f g =
     rw (e, f, g) (ap (take (length it)) (drop-append_seam before (it ++ after)) ∙ take-append_seam it after)
 
--- a node that is added behind the others
+-- a node that is added after the others
 pub node_new : (op : Op) (old a b s y places : List ℕ) → places ≡ (((old ++ a) ++ b) ++ s) ++ y
     → node_of places (record { op = op; first = length old; a = length a; b = length b; s = length s; y = length y }) ≡ record { op = op; a = a; b = b; s = s; y = y }
 node_new op old a b s y places e =
@@ -50,7 +50,7 @@ nodes_more places more (n ∷ nodes) h =
     let tail = nodes_more places more nodes (All-tail (IsNodeInside places) n nodes h) in
     cc
 
--- a register that is added behind the others
+-- a register that is added after the others
 pub register_new : (enable reset : Control) (first : Bool) (old bits q d value places states : List ℕ) → length d ≡ length q → length value ≡ length q → places ≡ (old ++ d) ++ value → states ≡ bits ++ q
     → register_of places states (record { first = length old; state = length bits; width = length q; enable = enable; reset = reset; reset_first = first })
     ≡ record { q = q; d = d; value = value; enable = enable; reset = reset; reset_first = first }

@@ -1,4 +1,4 @@
--- Lists by places, and lists put one behind the other.
+-- Lists by places, and lists put one after the other.
 use Rattle.std.proofs.Common.{◌≡◌, ◌⊎◌, ℕ, zero, suc, ◌+◌, ◌<◌, List, [], ◌∷◌, ◌++◌, Some, None, refl, sym, ap, ◌∙◌, subst, inl, inr, arith, length, take, drop, append_assoc, get_or}
 use Rattle.std.specs.Prelude.{slice_get, Contains, All}
 use Rattle.std.specs.List.{flat_map}
@@ -98,7 +98,7 @@ contains_either xs ys x h =
       | inr a ↦ inr (contained_at ys x a.0 a.2)
     ]
 
--- two lists of one length, each behind or before the others
+-- two lists of one length, each after or before the others
 pub same_parts : {A : Type 0} (xs ys us vs : List A) → length xs ≡ length us → xs ++ ys ≡ us ++ vs → (xs ≡ us) × (ys ≡ vs)
 same_parts [] ys [] vs l e = (refl, e)
 same_parts [] ys (u ∷ us) vs l e = absurd (omega arith)

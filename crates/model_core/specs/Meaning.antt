@@ -21,7 +21,7 @@ row_at c places = map c places
 abbrev pub is_set : Row → Bool
 is_set r = not (eqb (num r) 0)
 
--- the row at Y, of so many bits, by the rows at A, B and S: one line for each line of the table of combinational cells
+-- the row at Y, of this many bits, by the rows at A, B and S: one line for each line of the table of combinational cells
 abbrev pub node_fn : Op → ℕ → Row → Row → Row → Row
 node_fn op.Copy y a b s = a
 node_fn (op.Unary k signed) y a b s = unary_fn k y (value signed a)

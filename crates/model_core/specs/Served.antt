@@ -41,7 +41,7 @@ compare_limit Le = 128
 compare_limit Gt = 128
 compare_limit Ge = 128
 
--- each row in use has at least one bit, and at most so many
+-- each row in use has at least one bit, and at most this many
 abbrev pub IsWithin : ℕ → ℕ → Type 0
 IsWithin most n = (1 ≤ n) × (n ≤ most)
 

@@ -23,7 +23,7 @@ pub record RegisterOf : Type 0 where
   pub reset : Control
   pub reset_first : Bool
 
--- A model: how many places it has, the place of the constant 0, behind which that of 1 stands, nodes in an order in which each can be
+-- A model: how many places it has, the place of the constant 0, after which that of 1 stands, nodes in an order in which each can be
 -- computed, registers with the digits of their first cycle, bit by bit, the places of inputs, and the statements.
 pub record ModelOf : Type 0 where
   pub size : ℕ

@@ -5,7 +5,7 @@ use Rattle.model_core.specs.Shape.{NodeOf, RegisterOf}
 use Rattle.model_core.specs.declared.stored.StoredNode.{StoredNode}
 use Rattle.model_core.specs.declared.stored.StoredRegister.{StoredRegister}
 
--- so many places from the first on
+-- this many places from the first on
 abbrev pub part : List ℕ → ℕ → ℕ → List ℕ
 part places first count = take count (drop first places)
 

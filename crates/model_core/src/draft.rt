@@ -49,7 +49,7 @@ impl Model for Draft {
 }
 
 impl Draft {
-    /// A model of so many places, the constant 0 at the place `zero`, and 1 at the next, without any other part.
+    /// A model of this many places, the constant 0 at the place `zero`, and 1 at the next, without any other part.
     pub fn new(alloc: Global, size: u32, zero: u32) -> Draft
         ensures { result ≡ record { size = size; zero = zero; nodes = []; registers = []; starts = []; inputs = []; asserts = []; assumes = []; covers = [] } }
     {
@@ -68,7 +68,7 @@ impl Draft {
         }
     }
 
-    /// Adds a node behind the others: what it does, and the places of the rows at A, B, S and Y.
+    /// Adds a node after the others: what it does, and the places of the rows at A, B, S and Y.
     pub fn push_node(
         &mut self,
         op: Op,
@@ -99,7 +99,7 @@ impl Draft {
         Ok(())
     }
 
-    /// Adds a register behind the others: the places of the row that it keeps, of the row that it takes, and of its reset value, its
+    /// Adds a register after the others: the places of the row that it keeps, of the row that it takes, and of its reset value, its
     /// control bits, whether the reset decides first, and for each of its bits the digit that it starts with.
     pub fn push_register(
         &mut self,
@@ -138,7 +138,7 @@ impl Draft {
         Ok(())
     }
 
-    /// Adds the place of an input behind the others.
+    /// Adds the place of an input after the others.
     pub fn push_input(&mut self, place: u32) -> Result<(), AllocError>
         ensures { OnOk result (self.new ≡ record self.old { inputs = self.old.inputs ++ place ∷ [] }) }
     {
@@ -146,7 +146,7 @@ impl Draft {
         Ok(())
     }
 
-    /// Adds an assertion behind the others.
+    /// Adds an assertion after the others.
     pub fn push_assert(&mut self, statement: Statement) -> Result<(), AllocError>
         ensures { OnOk result (self.new ≡ record self.old { asserts = self.old.asserts ++ statement ∷ [] }) }
     {
@@ -154,7 +154,7 @@ impl Draft {
         Ok(())
     }
 
-    /// Adds an assumption behind the others.
+    /// Adds an assumption after the others.
     pub fn push_assume(&mut self, statement: Statement) -> Result<(), AllocError>
         ensures { OnOk result (self.new ≡ record self.old { assumes = self.old.assumes ++ statement ∷ [] }) }
     {
@@ -162,7 +162,7 @@ impl Draft {
         Ok(())
     }
 
-    /// Adds a cover statement behind the others.
+    /// Adds a cover statement after the others.
     pub fn push_cover(&mut self, statement: Statement) -> Result<(), AllocError>
         ensures { OnOk result (self.new ≡ record self.old { covers = self.old.covers ++ statement ∷ [] }) }
     {

@@ -27,7 +27,7 @@ cons-cases y ys x h = by h.0 h.1 h.2
     by zero lt e = inl e
     by (suc k) lt e = inr (k, omega (arith, lt), e)
 
--- the place at k of a row that has so many
+-- the place at k of a row that has this many
 row-at : (xs : List ℕ) (k p : ℕ) → k < length xs → slice_index xs k ≡ p → slice_get xs k ≡ Some p
 row-at xs k p lt e = subst (λ (z : ℕ). slice_get xs k ≡ Some z) e (slice_get-get_or xs k 0 lt)
 

@@ -87,7 +87,7 @@ pub sum-twice : {X : Type 0} (f : X → ℕ) (xs : List X) → sum_by (λ x. 2 *
 sum-twice f [] = omega arith
 sum-twice f (x ∷ xs) = omega (arith, sum-twice f xs, sum_by-cons f x xs, sum_by-cons (λ y. 2 * f y) x xs)
 
--- the length of lists put one behind the other
+-- the length of lists put one after the other
 pub flat-long : {X Y : Type 0} (f : X → List Y) (xs : List X) → length (flat_map f xs) ≡ sum_by (λ x. length (f x)) xs
 flat-long f [] = refl
 flat-long f (x ∷ xs) = omega (arith, length-append (f x) (flat_map f xs), flat-long f xs, sum_by-cons (λ y. length (f y)) x xs)

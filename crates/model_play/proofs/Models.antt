@@ -230,7 +230,7 @@ row_is c new n o a b s y w ra rb rs row eo ea eb es ey ew ga gb gs gr h =
 pub one_place : (c : Cycle) (n : NodeOf) (x : Bool) → IsNode n → row_of_node c n ≡ x ∷ [] → length n.y ≡ 1
 one_place c n x h e = sym (node_rows_fit c n h) ∙ ap (λ (row : Row). length row) e
 
--- the rows of one more register stand behind the others
+-- the rows of one more register stand after the others
 pub rows_step : (regs : List RegisterOf) (i : ℕ) (r : RegisterOf) (c : Cycle) (end n k : ℕ) (held row : Row) → slice_get regs i ≡ Some r → end ≡ length (flat_map (λ q. q.q) (take i regs))
     → take end held ≡ flat_map (next_row c) (take i regs) → end ≤ length held → row ≡ next_row c r → length row ≡ length r.q → n ≡ end + length r.q
     → (n ≡ length (flat_map (λ q. q.q) (take (i + 1) regs))) × (take n (put_mid end k held row) ≡ flat_map (next_row c) (take (i + 1) regs))

@@ -3,7 +3,7 @@ use Rattle.std.specs.Prelude.{ℕ, zero, suc, ◌+◌, ◌*◌, ◌/◌, ◌%◌
 use Rattle.std.specs.List.{range_with_len}
 use Rattle.sby_bits.specs.Rows.{Row}
 
--- so many rows of a width, which stand one after the other
+-- this many rows of a width, which stand one after the other
 abbrev pub rows_of : ℕ → ℕ → Row → List Row
 rows_of width zero bits = []
 rows_of width (suc n) bits = take width bits ∷ rows_of width n (drop width bits)

@@ -30,7 +30,7 @@ impl Model for Choices {
 }
 
 impl Choices {
-    /// The choices of these start bits and of so many cycles, whose rows of inputs, of `width` bits each, stand one after the other.
+    /// The choices of these start bits and of this many cycles, whose rows of inputs, of `width` bits each, stand one after the other.
     pub fn new(starts: Vec<bool>, inputs: Vec<bool>, width: usize, cycles: usize) -> Choices
         requires { length inputs.items ≡ cycles * width }
         ensures { result ≡ record { starts = starts.items; inputs = rows_of width cycles inputs.items } }

@@ -80,7 +80,7 @@ fn pack(bits: &[bool]) -> u64
     word
 }
 
-// Packs a row behind the others.
+// Packs a row after the others.
 pub(crate) fn add_row(words: &mut Vec<u64>, row: &[bool]) -> Result<(), AllocError>
     ensures size { OnOk result (length words.new.items ≡ length words.old.items + words_of (length row.now)) }
     ensures row { OnOk result ((p : ℕ) → p < length row.now → packed_bit words.new.items (length words.old.items) p ≡ slice_index_or row.now p false) }

@@ -1,4 +1,4 @@
--- The encoding of what is asked: of the gates that its steps make those on which its goals rest, numbered anew in the same order.
+-- The encoding of what is asked: of the gates that its steps make those on which its goals rest, renumbered in the same order.
 use Rattle.std.specs.Prelude.{ℕ, zero, suc, ◌+◌, Bool, true, false, ◌||◌, cond, eqb, List, [], ◌∷◌, ◌++◌, map, Option, Some, None}
 use Rattle.std.specs.List.{filter}
 use Rattle.cnf_form.specs.Cnf.{LitOf, FormulaOf}

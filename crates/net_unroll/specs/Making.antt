@@ -127,7 +127,7 @@ core_of g = record { vars = g.formula.vars; kept = g.kept }
 abbrev pub made_of : Making → MadeOf
 made_of m = record { core = core_of m.gates; free = m.free.items; table = m.table.items; assumed = m.assumed; ok = m.ok; goals = m.goals.items }
 
--- each literal is of a variable that is there, and the table has so many
+-- each literal is of a variable that is there, and the table has this many
 pub record IsMaking (long : ℕ) (m : Making) : Type 0 where
   pub most : m.gates.most ≡ MAX_VARS
   pub size : length m.table.items ≡ long

@@ -98,7 +98,7 @@ fn moves_of(alloc: Global, net: &Net, places: &[u32]) -> Result<Vec<(u32, Lit)>,
     Ok(moves)
 }
 
-// Puts a state's variable with what it takes behind the others.
+// Puts a state's variable with what it takes after the others.
 fn push_move(moves: &mut Vec<(u32, Lit)>, var: u32, node: Node) -> Result<(), AllocError>
     ensures { OnOk result (moves.new.items ≡ moves.old.items ++ move_of var node) }
 {
@@ -237,7 +237,7 @@ fn nexts_of(alloc: Global, net: &Net, places: &[u32]) -> Result<Vec<Lit>, AllocE
     Ok(lits)
 }
 
-// Puts what a state takes next behind the others.
+// Puts what a state takes next after the others.
 fn push_next(lits: &mut Vec<Lit>, node: Node) -> Result<(), AllocError>
     ensures { OnOk result (lits.new.items ≡ lits.old.items ++ next_of node) }
 {

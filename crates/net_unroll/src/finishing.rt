@@ -1,4 +1,4 @@
-// The gates on which the goals rest, numbered anew.
+// The gates on which the goals rest, renumbered.
 
 ghost use Rattle.std.specs.Prelude.{◌≡◌, ◌+◌, ◌<◌, ◌≤◌, ◌^◌, ◌||◌, ◌&&◌, ◌-◌, ◌++◌, ◌∷◌, [], OnOk, cond, suc, All, IfOk, IfNone, IfSome, Bool, false, length, map, replicate, slice_index, slice_index_or, ℕ, true};
 ghost use Rattle.std.specs.List.{filter};
@@ -43,7 +43,7 @@ fn mark_operands(marks: &mut Vec<bool>, gate: &Gate)
     }
 }
 
-// No mark for so many variables.
+// No mark for this many variables.
 fn unmarked(alloc: Global, count: usize) -> Result<Vec<bool>, AllocError>
     ensures { IfOk result (λ marks. marks.items ≡ replicate count false) }
 {
@@ -161,7 +161,7 @@ fn renumbered_gates(
     Ok(gates)
 }
 
-// Puts a gate behind the others, if it has a mark.
+// Puts a gate after the others, if it has a mark.
 fn push_gate(
     gates: &mut Vec<(Gate, Lit)>,
     entry: &(Gate, Lit),
@@ -199,7 +199,7 @@ fn renumbered_frees(
     Ok(new)
 }
 
-// Puts a free variable behind the others, if it has a mark.
+// Puts a free variable after the others, if it has a mark.
 fn push_free(
     frees: &mut Vec<Free>,
     one: Free,
@@ -234,7 +234,7 @@ fn renumbered_lits(alloc: Global, lits: &[Lit], numbers: &[u32]) -> Result<Vec<L
     Ok(new)
 }
 
-// Puts a literal by its variable's number behind the others.
+// Puts a literal by its variable's number after the others.
 fn push_renumbered(lits: &mut Vec<Lit>, lit: Lit, numbers: &[u32]) -> Result<(), AllocError>
     requires inside { LitWithin (length numbers.now - 1) lit }
     requires numbers { AreNumbers numbers.now }
@@ -254,7 +254,7 @@ pub struct Finished {
     pub goals: Vec<Lit>,
 }
 
-// The gates on which the goals rest, numbered anew in the same order.
+// The gates on which the goals rest, renumbered in the same order.
 pub fn finish(alloc: Global, made: Making) -> Result<Finished, AllocError>
     requires making { IsMaking (length made.table.items) made }
     ensures vars { IfOk result (λ f. f.vars ≡ (finished (made_of made)).vars) }

@@ -95,7 +95,7 @@ fn open(gates: &mut Gates) -> Result<Lit, GateFault>
     }
 }
 
-// Puts a free variable behind the others.
+// Puts a free variable after the others.
 fn push_free(free: &mut Vec<Free>, new: Free) -> Result<(), AllocError>
     ensures { OnOk result (free.new.items ≡ free.old.items ++ new ∷ []) }
 {
@@ -103,7 +103,7 @@ fn push_free(free: &mut Vec<Free>, new: Free) -> Result<(), AllocError>
     Ok(())
 }
 
-// Puts a literal behind the others.
+// Puts a literal after the others.
 fn push_lit(lits: &mut Vec<Lit>, lit: Lit) -> Result<(), AllocError>
     ensures { OnOk result (lits.new.items ≡ lits.old.items ++ lit ∷ []) }
 {
@@ -250,7 +250,7 @@ pub fn end(made: &mut Making, lit: Lit) -> Result<(), GateFault>
     Ok(())
 }
 
-// So many literals that are true.
+// This many literals that are true.
 fn truths(alloc: Global, count: usize) -> Result<Vec<Lit>, AllocError>
     ensures { IfOk result (λ lits. lits.items ≡ replicate count (constant true)) }
 {

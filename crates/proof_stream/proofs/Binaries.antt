@@ -18,7 +18,7 @@ use Rattle.proof_stream.specs.declared.spot.Spot.{Spot}
 use Rattle.proof_stream.specs.declared.spot.Spot.TheVariants.{Between, Gap, InNumber, Bad}
 use Rattle.proof_stream.proofs.Spoken.{spoken_step}
 
--- groups that go on, and those behind them
+-- groups that go on, and those after them
 read_append : (vars : ℕ) (full : Bool) (x y v w : ℕ) (p q : List ℕ) → groups_read vars full x y p ≡ Goes v w → groups_read vars full x y (p ++ q) ≡ groups_read vars full v w q
 read_append vars full x y v w [] q h = let a : x ≡ v = cc in let b : y ≡ w = cc in ap (λ z. groups_read vars full z y q) a ∙ ap (λ z. groups_read vars full v z q) b
 read_append vars full x y v w (b ∷ p) q h = by (λ a c k. read_append vars full a c v w p q k) (group_next vars full x y b) h
@@ -63,7 +63,7 @@ first_number place p (b ∷ bs) c =
       | inr f ↦ (b ∷ [], true, numbers_from (place + length (c ∷ p) + 1) [] bs, rw f refl)
     ]
 
--- behind the byte b, with the groups p before it
+-- after the byte b, with the groups p before it
 next_number : (place : ℕ) (p : List ℕ) (b : ℕ) (bs : List ℕ) (c : ℕ) (q : List ℕ) → p ++ b ∷ [] ≡ c ∷ q
     → (more : List ℕ) × (d : Bool) × (ns : List NumberOf) × (numbers_from place p (b ∷ bs) ≡ number place (c ∷ q ++ more) d ∷ ns)
 next_number place p b bs c q e =

@@ -34,7 +34,7 @@ module _ (f : ParseFault) where
   spot_bad (InNumber a b) e = absurd (let k = e in cc)
   spot_bad (BadSpot g) e = let k : g ≡ f = cc in ap BadSpot k
 
-  -- a fault of the stream, with whatever was refused behind it
+  -- a fault of the stream, with whatever was refused after it
   parser_first : (m : Mode) (o : Option ParseFault) → m ≡ Bad f → fault_or (fault_of m) o ≡ Some f
   parser_first m o e = rw e refl
 

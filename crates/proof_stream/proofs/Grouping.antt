@@ -24,7 +24,7 @@ groups_snoc [] b h t = t
 groups_snoc (c ∷ []) b (k, h) t = (k, t)
 groups_snoc (c ∷ d ∷ p) b (k, h) t = (k, groups_snoc (d ∷ p) b h t)
 
--- the groups behind such bytes
+-- the groups after such bytes
 groups_behind : (p : List ℕ) (b : ℕ) (q : List ℕ) → AreMore p → AreGroups (p ++ b ∷ q) → AreGroups (b ∷ q)
 groups_behind [] b q h g = g
 groups_behind (c ∷ []) b q h (k, g) = g
@@ -34,7 +34,7 @@ last_alone : (b : ℕ) (q : List ℕ) → leb 128 b ≡ false → AreGroups (b �
 last_alone b [] f g = refl
 last_alone b (c ∷ q) f (t, g) = absurd (let k : true ≡ false = sym t ∙ f in cc)
 
--- the weight behind them
+-- the weight after them
 abbrev scale : ℕ → List ℕ → ℕ
 scale w [] = w
 scale w (b ∷ bs) = scale (128 * w) bs
@@ -75,7 +75,7 @@ module _ (vars : ℕ) where
   bounds_literal : (n : ℕ) → 2 ≤ n → n ≤ 2 * vars + 1 → is_literal vars n ≡ true
   bounds_literal n l h = let e = le-leb 2 n l in let f = le-leb n (2 * vars + 1) h in rw (e, f) refl
 
-  -- bytes behind which a literal goes on begin one
+  -- bytes after which a literal goes on begin one
   module _ (p : List ℕ) (h : AreMore p) where
     ended_by : (b : ℕ) → leb 128 b ≡ false → scale 1 p ≤ 268435456 → is_literal vars (groups_value 1 p + seven b * scale 1 p) ≡ true → IsLiteral vars (p ++ b ∷ []) (groups_value 1 p + seven b * scale 1 p)
     ended_by b f l t =
@@ -99,7 +99,7 @@ module _ (vars : ℕ) where
         ]
 
   module _ (full : Bool) where
-    -- how reading stands behind the groups p
+    -- how reading stands after the groups p
     record Stands (p : List ℕ) (v w : ℕ) : Type 0 where
       pub more : AreMore p
       pub value : v ≡ groups_value 1 p

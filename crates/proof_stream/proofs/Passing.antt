@@ -36,7 +36,7 @@ after_passing w s [] rest h = refl
 after_passing w s (b ∷ a) rest (n, h) =
     ap (λ c. after (InText (cond c (text_refused (text w s None)) (text_read (text w s None) b))) (a ++ rest)) n ∙ after_passing (turn w b).to (starts_behind s b) a rest h
 
--- nothing more is read behind a refused line
+-- nothing more is read after a refused line
 pub said_refused : (w : DrupOf) (s : Bool) (f : ParseFault) (bytes : List ℕ) → said (InText (text w s (Some f))) bytes ≡ []
 said_refused w s f [] = refl
 said_refused w s f (b ∷ bs) = said_refused w s f bs
@@ -57,7 +57,7 @@ pub after_claim : (w : DrupOf) (s : Bool) (b : ℕ) (rest : List ℕ) → (s && 
 after_claim w s b rest t =
     ap (λ c. after (InText (cond c (text_refused (text w s None)) (text_read (text w s None) b))) rest) t ∙ after_refused w s (record { kind = BadLine; byte = w.taken }) rest
 
--- a piece, of which so many bytes are passed over
+-- a piece, of which this many bytes are passed over
 module _ (w : DrupOf) (s : Bool) (piece : List ℕ) (n : ℕ) (h : Passes s (take n piece)) where
   abbrev there : FileOf
   there = InText (text (parser_after w (take n piece)) (starts_after s (take n piece)) None)

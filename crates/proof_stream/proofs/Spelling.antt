@@ -36,7 +36,7 @@ numbers_groups place p (b ∷ c ∷ bs) rest (g, h) =
     let k = numbers_groups place (p ++ b ∷ []) (c ∷ bs) rest h in
     (k.0, rw g (k.1 ∙ ap (λ z. number place z true ∷ numbers_from k.0 [] rest) (append_assoc p (b ∷ []) (c ∷ bs))))
 
--- the weights of the groups behind the first
+-- the weights of the groups after the first
 abbrev pub Weighed : ℕ → List ℕ → Type 0
 Weighed w [] = Unit {0}
 Weighed w (b ∷ []) = Unit {0}

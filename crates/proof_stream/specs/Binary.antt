@@ -87,7 +87,7 @@ spot_fault (Gap kind) = None
 spot_fault (InNumber kind g) = None
 spot_fault (Bad f) = Some f
 
--- where the file ends within a line, its fault is behind the last byte
+-- where the file ends within a line, its fault is after the last byte
 abbrev pub spot_end : ℕ → Spot → Option ParseFault
 spot_end taken Between = None
 spot_end taken (Gap kind) = Some (record { kind = BadLine; byte = taken })

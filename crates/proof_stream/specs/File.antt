@@ -50,7 +50,7 @@ abbrev pub fault : FileOf → Option ParseFault
 fault (InText t) = text_fault t
 fault (InBinary w) = spot_fault w.spot
 
--- What the file's end says, and the fault there. In text the end ends the last line as a line feed does; an unfinished line is a fault behind
+-- What the file's end says, and the fault there. In text the end ends the last line as a line feed does; an unfinished line is a fault after
 -- the last byte.
 abbrev pub end_says : FileOf → List Saying
 end_says (InText t) = said (InText t) (10 ∷ [])

@@ -23,7 +23,7 @@ IsLineHead front = (lines : List ℕ) × (blanks : List ℕ) × (front ≡ lines
 abbrev pub HasClaim : List ℕ → Type 0
 HasClaim bytes = (front : List ℕ) × (b : ℕ) × (rest : List ℕ) × (bytes ≡ front ++ b ∷ rest) × IsLineHead front × (is_claim b ≡ true)
 
--- no more is said behind a fault
+-- no more is said after a fault
 abbrev pub up_to_fault : List Saying → List Saying
 up_to_fault [] = []
 up_to_fault (IsClause lits place ∷ ss) = IsClause lits place ∷ up_to_fault ss
@@ -48,7 +48,7 @@ pub record LineOf : Type 0 where
 abbrev pub opened : LineKind → ℕ → Option LineOf
 opened kind place = Some (record { kind = kind; place = place; lits = [] })
 
--- What the numbers of a binary proof say, behind those of the line that stands open: a or d begins a line, then come its literals, at most
+-- What the numbers of a binary proof say, after those of the line that stands open: a or d begins a line, then come its literals, at most
 -- `vars` of them, and 0 ends it. `unended` is said where the numbers end within a line.
 abbrev pub numbers_say : ℕ → List Saying → Option LineOf → List NumberOf → List Saying
 numbers_say vars unended None [] = []

@@ -17,7 +17,7 @@ abbrev pub cut_number : ℕ → List ℕ → List NumberOf
 cut_number place [] = []
 cut_number place (b ∷ p) = number place (b ∷ p) false ∷ []
 
--- The numbers of bytes, behind the groups so far of one that begins at `place`.
+-- The numbers of bytes, after the groups so far of one that begins at `place`.
 abbrev pub numbers_from : ℕ → List ℕ → List ℕ → List NumberOf
 numbers_from place p [] = cut_number place p
 numbers_from place p (b ∷ bs) = cond (leb 128 b) (numbers_from place (p ++ b ∷ []) bs) (number place (p ++ b ∷ []) true ∷ numbers_from (place + length p + 1) [] bs)

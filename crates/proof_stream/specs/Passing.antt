@@ -7,7 +7,7 @@ abbrev pub Passes : Bool → List ℕ → Type 0
 Passes starts [] = Unit {0}
 Passes starts (b ∷ bs) = ((starts && is_claim b) ≡ false) × Passes (starts_behind starts b) bs
 
--- whether one may begin behind them
+-- whether one may begin after them
 abbrev pub starts_after : Bool → List ℕ → Bool
 starts_after starts [] = starts
 starts_after starts (b ∷ bs) = starts_after (starts_behind starts b) bs

@@ -16,7 +16,7 @@ pub record TextOf : Type 0 where
 abbrev pub is_claim : ℕ → Bool
 is_claim b = eqb b 115 || eqb b 118
 
--- whether the line has no visible byte behind this one
+-- whether the line has no visible byte after this one
 abbrev pub starts_behind : Bool → ℕ → Bool
 starts_behind starts b = eqb b 10 || (starts && is_blank b)
 

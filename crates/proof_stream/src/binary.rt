@@ -72,7 +72,7 @@ fn literal(vars: u32, n: u64) -> Lit
     Lit::new((n / 2) as u32, n % 2 == 1)
 }
 
-// Whether a group with this value behind it may be the last one of a literal, or one that another follows.
+// Whether a group with this value after it may be the last one of a literal, or one that another follows.
 fn fits(vars: u32, n: u64, weight: u64, goes_on: bool) -> bool
     requires vars { vars ≤ MAX_VARS }
     requires small { n + weight < 2 ^ 63 }

@@ -94,7 +94,7 @@ impl ProofParser {
     }
 
     /// Ends the file, and hands to the receiver what counts by that. The answer is Stopped, or the fault, or More. A last line that is
-    /// unfinished, in text one before its 0, is a fault at the byte behind the last. Nothing may be read then.
+    /// unfinished, in text one before its 0, is a fault at the byte after the last. Nothing may be read then.
     pub fn end<R: Receiver>(
         &mut self,
         receiver: &mut R,

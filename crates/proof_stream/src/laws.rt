@@ -11,7 +11,7 @@ ghost use Rattle.proof_stream.specs.Spelling.{AreSaid, ProofLine, Spelt};
 ghost use Rattle.proof_stream.specs.declared.spot.Form.{Form};
 ghost use Rattle.proof_stream.specs.declared.spot.Form.TheVariants.{Text, Binary};
 
-/// What stands for the bytes so far stands, after a piece, for these with the piece behind them.
+/// What stands for the bytes so far stands, after a piece, for these with the piece after them.
 #[tactic(auto, using(crate::proofs::Cutting::stands_append))]
 pub fn pieces_join()
     ensures { (form : Form) (vars : ℕ) (r : FileOf) (bytes piece : List ℕ) → StandsFor form vars r bytes → StandsFor form vars (after r piece) (bytes ++ piece) }

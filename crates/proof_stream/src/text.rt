@@ -126,7 +126,7 @@ impl TextParser {
         Ok(false)
     }
 
-    // Takes a piece, of which nothing is read behind a refused line.
+    // Takes a piece, of which nothing is read after a refused line.
     #[tactic(auto, using(crate::proofs::Passing::refused_told, crate::proofs::Passing::refused_kept))]
     fn take<R: Receiver>(&mut self, piece: &[u8], receiver: &mut R) -> Result<bool, AllocError>
         requires vars { R.vars receiver.old ≡ self.old.parser.vars }

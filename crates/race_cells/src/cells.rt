@@ -36,7 +36,7 @@ impl<T> Model for Cells<T> {
 }
 
 impl<T: Settled + Drop> Cells<T> {
-    /// An empty cell for each of so many jobs.
+    /// An empty cell for each of this many jobs.
     pub fn new(alloc: Global, jobs: u32) -> Result<Self, AllocError>
         ensures { IfOk result (λ cells. length cells ≡ jobs) }
     {
@@ -56,7 +56,7 @@ impl<T: Settled + Drop> Cells<T> {
     }
 
     /// Sets the job's cell to the value, where it is empty. Either way the note knows the cell's value afterwards, and that stays for
-    /// good. After want of memory the value is gone, and the notes are as before.
+    /// good. After an answer out of memory the value is gone, and the notes are as before.
     pub fn settle(
         &self,
         alloc: Global,

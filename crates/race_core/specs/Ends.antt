@@ -94,12 +94,12 @@ IsShort (reader.Bad number at b) = ⊥
 IsShort reader.Failed = ⊥
 IsShort reader.Wrong = ⊥
 
--- the reader is over, and leaves the end to what comes behind it
+-- the reader is over, and leaves the end to what comes after it
 abbrev pub Leaves : {T : Type 0} → Reader T → Keeper T → Type 0
 Leaves r k = IsShort r ⊎ (Yields r × IsKilled k) ⊎ (IsUnread r × (IsKilled k → ⊥))
 
 -- The end of a job that is served, in the order of these cases: the reader's own, unless it yields to the kill; then the keeper's
--- reason; then the failed kill, reap or start, which are no events; then want of memory. `known` are the findings that the lane
+-- reason; then the failed kill, reap or start, which are no events; then out of memory. `known` are the findings that the lane
 -- knew when the job began.
 abbrev pub EndIs : {T : Type 0} → Terms T → (T → Type 0) → Reader T → Keeper T → JobEnd T → Type 0
 EndIs a known r k (end.Found f) = HasEnd r (end.Found f)

@@ -60,7 +60,7 @@ abbrev pub after_settle : {T : Type 0} → Bool → Reader T → Reader T
 after_settle won (reader.Holding f b) = reader.Found f b won
 after_settle won r = reader.Wrong
 
--- want of memory drops what the reader holds
+-- out of memory drops what the reader holds
 abbrev pub after_want : {T : Type 0} → Reader T → Reader T
 after_want reader.Fresh = reader.Short
 after_want reader.Reading = reader.Short
@@ -100,7 +100,7 @@ turns keeper.Looked = keeper.Turning
 turns keeper.Turning = keeper.Turning
 turns k = keeper.Wrong
 
--- A look. The first at the job's own cell, with those at other cells behind it, comes before the start; a later one is a turn's.
+-- A look. The first at the job's own cell, with those at other cells after it, comes before the start; a later one is a turn's.
 abbrev pub after_look : {T : Type 0} → Bool → Option T → Bool → Keeper T → Keeper T
 after_look own (Some f) true keeper.Fresh = keeper.Due (reason.Skip f)
 after_look own known tells keeper.Fresh = keeper.Looked

@@ -13,7 +13,7 @@ pub enum Judged<T> {
     Bad { no: u8, at: u64 },
     /// The read failed.
     Failed,
-    /// Memory was wanting for the judging, or for a copy of what was found. The want follows as an entry of its own.
+    /// Memory ran out for the judging, or for a copy of what was found. That follows as an entry of its own.
     Unjudged,
 }
 
@@ -36,9 +36,9 @@ pub enum LaneEvent<T> {
     File { bytes: u64, progress: Judged<T> },
     /// A set-once exchange of the reader's finding on the job's cell, and whether it was won.
     Settle { won: bool },
-    /// Memory was wanting to the reader.
+    /// The reader ran out of memory.
     ReaderMemory,
-    /// So many turns of the keeper that found the child running, and nothing new. Neighbours share one entry.
+    /// This many turns of the keeper that found the child running, and nothing new. Neighbours share one entry.
     Turns(u64),
     /// A poll that found something else.
     Poll(Polled),
@@ -48,7 +48,7 @@ pub enum LaneEvent<T> {
     Look { cell: u32, known: Option<T> },
     /// The keeper's kill of the child.
     Kill,
-    /// Memory was wanting to the keeper.
+    /// The keeper ran out of memory.
     KeeperMemory,
     /// A place under the allowance was taken.
     Took,

@@ -9,8 +9,8 @@ use crate::event::{Judged, LaneEvent};
 use std::alloc::{AllocError, Global};
 use std::marker::Model;
 
-/// A list of events, with room for so many more. Room is taken before the step that an event records; so no step is made whose
-/// event has no room, and want of memory can always be told.
+/// A list of events, with room for this many more. Room is taken before the step that an event records; so no step is made whose
+/// event has no room, and out of memory can always be told.
 #[derive(Drop)]
 pub struct EventList<T> {
     events: Vec<LaneEvent<T>>,
@@ -86,7 +86,7 @@ fn shared_entries<T: Drop>(last: LaneEvent<T>, event: LaneEvent<T>) -> Entries<T
 }
 
 impl<T: Drop> EventList<T> {
-    /// An empty list with room for so many events.
+    /// An empty list with room for this many events.
     pub fn new(alloc: Global, room: usize) -> Result<Self, AllocError>
         ensures { IfOk result (λ list. list ≡ record { events = []; room = room }) }
     {
@@ -96,7 +96,7 @@ impl<T: Drop> EventList<T> {
         })
     }
 
-    /// Takes room for so many more events, where there isn't as much.
+    /// Takes room for this many more events, where there isn't as much.
     pub fn take_room(&mut self, room: usize) -> Result<(), AllocError>
         ensures events { self.new.events ≡ self.old.events }
         ensures more { self.old.room ≤ self.new.room }

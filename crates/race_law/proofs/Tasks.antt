@@ -132,7 +132,7 @@ module _ {T : Type 0} (problem : T → ProblemOf) (job : T → JobName) (answer_
     before = subst (λ (n : JobName). IsBefore n (name_at task.mode j)) (b.of_job ∙ sym a.of_job) d.before;
   }
 
-  -- a finding that ends a job, before its start or behind it
+  -- a finding that ends a job, before its start or after it
   ends-cases : (j : ℕ) (f : T) → ends_job ((race_of job answer_of task script).terms j) f ≡ true → (job f ≡ name_at task.mode j) ⊎ ((answer_of f ≡ answer.Sat) × IsBefore (job f) (name_at task.mode j))
   ends-cases j f n = elim (either (not task.wait && skipped_by (job f) (answer_of f) (name_at task.mode j)) (not task.wait && needless_by (job f) (answer_of f) (name_at task.mode j)) n) [
     | inl s ↦ skipped-cases (job f) (answer_of f) (name_at task.mode j) (both (not task.wait) _ s)

@@ -83,7 +83,7 @@ pub record Ran {T : Type 0} (problem : T → ProblemOf) (job : T → JobName) (a
   pub run : WorldRun (race_of job answer_of task script) w ss v
   pub ended : AllEnded (race_of job answer_of task script) v ends
 
--- without a failed call, a reading that shows the limit or want of memory
+-- without a failed call, a reading that shows the limit or out of memory
 pub record Undisturbed {T : Type 0} (job : T → JobName) (answer_of : T → Answer) (task : TaskOf) (script : ℕ → ℕ → Option (Script T)) (ss : List (Step T)) (ends : ℕ → ℕ → JobEnd T) : Type 0 where
   pub steps : QuietRun (race_of job answer_of task script) ss
   pub ends_calm : (i j : ℕ) → i < task.lanes → j < task.jobs → IsCalm (ends i j)

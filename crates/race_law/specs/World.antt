@@ -55,7 +55,7 @@ read_bytes (event.Start ∷ es) = read_bytes es
 read_bytes (event.Finish ∷ es) = read_bytes es
 read_bytes (event.Gave ∷ es) = read_bytes es
 
--- a read of so many bytes gives this progress, where the script has it, where it failed, or where memory was wanting
+-- a read of this many bytes gives this progress, where the script has it, where it failed, or where memory ran out
 abbrev pub ReadGives : {T : Type 0} → Script T → ℕ → Keeper T → ℕ → Judged T → Type 0
 ReadGives s taken k n progress.Failed = Unit
 ReadGives s taken k n progress.Unjudged = Unit
@@ -152,7 +152,7 @@ pub record IsNew {T : Type 0} (w : World T) : Type 0 where
   pub events : (i j : ℕ) → w.events i j ≡ no_events
   pub cells : (c : ℕ) → w.cells c ≡ None
 
--- no failed poll, no reading that shows the limit, no want of memory
+-- no failed poll, no reading that shows the limit, and memory did not run out
 abbrev pub IsQuiet : {T : Type 0} → Terms T → LaneEvent T → Type 0
 IsQuiet a (event.Poll p) = p ≡ polled.Failed → ⊥
 IsQuiet a (event.Clock r) = shows_limit a.start a.limit r ≡ false
@@ -190,7 +190,7 @@ pub record IsScript {T : Type 0} (IsFor : T → Type 0) (s : Script T) : Type 0 
   pub ended_for : (n : ℕ) (f : T) → s.ended n ≡ progress.Found f → IsFor f
   pub file_for : (f : T) → s.file ≡ progress.Found f → IsFor f
 
--- a finding ends a job, before its start or behind it
+-- a finding ends a job, before its start or after it
 abbrev pub ends_job : {T : Type 0} → Terms T → T → Bool
 ends_job a f = a.skipped f || a.needless f
 

@@ -17,7 +17,7 @@ use sby_terms::Settled;
 
 /// A law: for every list of steps, the reports are consistent (their events replay to their ends, and what lanes know of one cell is
 /// equal), every finding that an end carries was found by some lane and is for a job of the task, what is collected has the race's
-/// status, and, without a failed call, a reading that shows the limit or want of memory, that is the status of the scripts themselves.
+/// status, and, without a failed call, a reading that shows the limit or out of memory, that is the status of the scripts themselves.
 pub fn any_order<T: Settled>()
     ensures consistent { (task : TaskOf) (script : ℕ → ℕ → Option (Script T)) (w v : World T) (ss : List (Step T)) (ends : ℕ → ℕ → JobEnd T)
         → Ran T.problem T.job T.answer T.is_true task script w ss v ends

@@ -1,4 +1,4 @@
--- One digit, so many times, and digits below it.
+-- One digit, this many times, and digits below it.
 use Rattle.std.proofs.Common.{◌≡◌, ℕ, zero, suc, ◌+◌, ◌<◌, Bool, true, false, ◌||◌, List, ◌++◌, replicate, refl, arith}
 use Rattle.std.specs.List.{list_any}
 use Rattle.rtlil_constant.specs.Constants.{is_open, open_digits}

@@ -7,7 +7,7 @@ use Rattle.rtlil_lex.specs.Tokens.{is_quote, is_backslash}
 abbrev pub Word : Type 0
 Word = List ℕ
 
--- the number that decimal digits write behind those of n
+-- the number that decimal digits write after those of n
 abbrev pub number_from : ℕ → List ℕ → Option ℕ
 number_from n [] = Some n
 number_from n (c ∷ cs) = cond (is_ascii_digit c) (number_from (n * 10 + (c - 48)) cs) None
@@ -67,11 +67,11 @@ is_octal_escape (a ∷ b ∷ c ∷ bytes) = is_octal a && (is_octal b && is_octa
 abbrev pub octal_number : List ℕ → ℕ
 octal_number bytes = (slice_index bytes 0 - 48) * 64 + (slice_index bytes 1 - 48) * 8 + (slice_index bytes 2 - 48)
 
--- what a character behind a backslash stands for: n a line feed, t a tab, any other itself
+-- what a character after a backslash stands for: n a line feed, t a tab, any other itself
 abbrev pub character : ℕ → ℕ
 character c = cond (c == 110) 10 (cond (c == 116) 9 c)
 
--- What these bytes behind a backslash stand for, and how many of them do. A backslash with nothing behind it stands for itself.
+-- What these bytes after a backslash stand for, and how many of them do. A backslash with nothing after it stands for itself.
 abbrev pub escaped : List ℕ → ℕ
 escaped [] = 92
 escaped (c ∷ bytes) = cond (is_octal_escape (c ∷ bytes)) (octal_number (c ∷ bytes)) (character c)

@@ -101,7 +101,7 @@ fn decimal_form<'a>(word: &[u8]) -> Option<Form<'a>>
     }
 }
 
-/// A decimal below 0, from the digits behind its minus.
+/// A decimal below 0, from the digits after its minus.
 fn negative_form<'a>(digits: &[u8]) -> Option<Form<'a>>
     ensures { MatchOption result (negative_digits (number_of digits.now) ≡ None)
         (λ f. (ds : List ℕ) × (negative_digits (number_of digits.now) ≡ Some ds) × IsForm f ds) }
@@ -116,7 +116,7 @@ fn negative_form<'a>(digits: &[u8]) -> Option<Form<'a>>
     }
 }
 
-/// A constant with at least `least` digits behind its width.
+/// A constant with at least `least` digits after its width.
 fn form_of(least: usize, word: &[u8]) -> Option<Form<'_>>
     ensures { MatchOption result (constant_of least word.now ≡ None)
         (λ f. (ds : List ℕ) × (constant_of least word.now ≡ Some ds) × IsForm f ds) }
@@ -139,7 +139,7 @@ pub fn is_constant(least: usize, word: &[u8]) -> bool
     form_of(least, word).is_some()
 }
 
-/// The constant of a word, with at least `least` digits behind its width.
+/// The constant of a word, with at least `least` digits after its width.
 ///
 /// A decimal has 32 digits, in two's complement, a string eight for each byte; fewer digits than the width are extended on the
 /// left, by 0 or by the leftmost where that is x, z or -.

@@ -60,7 +60,7 @@ pub enum Written<'a> {
     Made(Vec<u8>),
 }
 
-/// The digits of a constant, highest first, each one of `01xzm-`: one digit, so many times, and those that stand below it.
+/// The digits of a constant, highest first, each one of `01xzm-`: one digit, this many times, and those that stand below it.
 #[derive(Drop)]
 pub struct Digits<'a> {
     fill: u8,
@@ -81,7 +81,7 @@ impl<'a> Model for Digits<'a> {
 }
 
 impl<'a> Digits<'a> {
-    /// A digit, so many times, and digits below it.
+    /// A digit, this many times, and digits below it.
     pub fn new(fill: u8, fills: u32, written: Written<'a>) -> Digits<'a>
         requires { is_fill fill ≡ true }
         ensures { result ≡ replicate fills fill ++ written_digits written.entry }

@@ -37,7 +37,7 @@ fn is_octal_escape(bytes: &[u8]) -> bool
     }
 }
 
-/// What a character behind a backslash stands for.
+/// What a character after a backslash stands for.
 fn character(c: u8) -> u8
     ensures { result ≡ character c }
 {
@@ -59,7 +59,7 @@ fn octal_number(bytes: &[u8]) -> u64
     }
 }
 
-/// What the bytes behind a backslash stand for, and how many of them do.
+/// What the bytes after a backslash stand for, and how many of them do.
 fn escape(bytes: &[u8]) -> (u64, usize)
     ensures byte { result.0 ≡ escaped bytes.now }
     ensures len { result.1 ≡ escape_length bytes.now }

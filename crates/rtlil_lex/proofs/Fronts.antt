@@ -7,7 +7,7 @@ use Rattle.rtlil_lex.specs.Tokens.Front.{none_yet, token}
 use Rattle.rtlil_lex.proofs.Runs.{token_again}
 use Rattle.rtlil_lex.proofs.Lexing.{one_gap, one_token, token_same, first_is}
 
--- one more token behind the first ones
+-- one more token after the first ones
 pub front_push : (n : ℕ) (mid rest bytes : List ℕ) (ts : List TokenOf) (t : TokenOf) → Front n mid bytes ts → Gap (t.text ++ rest) mid → IsToken t.text rest → t.start + length (t.text ++ rest) ≡ n
     → Front n rest bytes (ts ++ t ∷ [])
 front_push n mid rest bytes ts t none_yet g p e = token t [] mid rest g p e none_yet
@@ -20,7 +20,7 @@ front_next old new t bytes ts n f =
     let whole : t.start + length (t.text ++ left new) ≡ length old.bytes = omega (arith, length-append t.text (left new), length-drop new.place new.bytes, n.span, n.within) in
     front_push (length old.bytes) (left old) (left new) bytes ts t f n.gap n.token whole
 
--- tokens behind the first ones
+-- tokens after the first ones
 pub front_then : (n : ℕ) (mid bytes : List ℕ) (ts us : List TokenOf) → Front n mid bytes ts → Lexes n mid us → Lexes n bytes (ts ++ us)
 front_then n mid bytes ts us none_yet l = l
 front_then n mid bytes ts us (token t others all rest g p e f) l = lexes_token t (others ++ us) all rest g p e (front_then n mid rest others us f l)
@@ -68,7 +68,7 @@ break_ends n more left rest c g h none_yet = (refl, refl)
 break_ends n more left rest c g h (token t others all after q p e f) =
     absurd (h t.text after (one_gap (34 ∷ more) (t.text ++ after) left refl (token_again t.text after p).1 g q) p)
 
--- the place behind a gap
+-- the place after a gap
 pub break_place : (n : ℕ) (a b : List ℕ) (left : List ℕ) (x y : ℕ) → Gap (34 ∷ a) left → Gap (34 ∷ b) left → x + length (34 ∷ a) ≡ n → y + length (34 ∷ b) ≡ n → x ≡ y
 break_place n a b left x y g h e f =
     let same = one_gap (34 ∷ a) (34 ∷ b) left refl refl g h in

@@ -57,13 +57,13 @@ token_at start text = record { start = start; text = text }
 pub token_same : (s t : TokenOf) → s.start ≡ t.start → s.text ≡ t.text → s ≡ t
 token_same s t e f = let same : token_at s.start s.text ≡ token_at t.start t.text = rw (e, f) refl in same
 
--- what stands behind the first token
+-- what stands after the first token
 pub record IsRest (n : ℕ) (t : TokenOf) (rest : List ℕ) (ts : List TokenOf) : Type 0 where
   pub others : List TokenOf
   pub first : ts ≡ t ∷ others
   pub left : Lexes n rest others
 
--- a token in front, and the tokens behind it
+-- a token in front, and the tokens after it
 pub first_is : (n : ℕ) (bytes rest : List ℕ) (t : TokenOf) (ts : List TokenOf) → Gap (t.text ++ rest) bytes → IsToken t.text rest → t.start + length (t.text ++ rest) ≡ n
     → Lexes n bytes ts → IsRest n t rest ts
 first_is n bytes rest t ts g p e (last_gap all h) =
@@ -83,7 +83,7 @@ none_left n bytes ts g (token u us all more h q d l) =
 pub gap_left : (n : ℕ) (bytes : List ℕ) → Lexes n bytes [] → Gap [] bytes
 gap_left n bytes (last_gap all g) = g
 
--- bytes that begin no token behind the gap have no tokens
+-- bytes that begin no token after the gap have no tokens
 pub no_tokens : (n : ℕ) (b : ℕ) (more bytes : List ℕ) (ts : List TokenOf) → Gap (b ∷ more) bytes → Stops (b ∷ more) → ((text rest : List ℕ) → b ∷ more ≡ text ++ rest → IsToken text rest → ⊥) → Lexes n bytes ts → ⊥
 no_tokens n b more bytes ts g s h (last_gap all f) = let e = one_gap [] (b ∷ more) bytes tt s f g in cc
 no_tokens n b more bytes ts g s h (token u us all rest f q d l) = h u.text rest (one_gap (b ∷ more) (u.text ++ rest) bytes s (token_again u.text rest q).1 g f) q

@@ -29,7 +29,7 @@ run_stops : (ends : ℕ → Bool) (rest : List ℕ) → IsTrue (ends_at ends res
 run_stops ends [] h = refl
 run_stops ends (b ∷ rest) h = rw h refl
 
--- what is left behind a run is what follows it
+-- what is left after a run is what follows it
 pub run_again : (ends : ℕ → Bool) (run rest : List ℕ) → IsRun ends run rest → after_run_of ends (run ++ rest) ≡ rest
 run_again ends [] rest h = run_stops ends rest h.after
 run_again ends (b ∷ run) rest h = rw h.inside.0 (run_again ends run rest (record { inside = h.inside.1; after = h.after }))

@@ -13,7 +13,7 @@ abbrev pub after_run_of : (ℕ → Bool) → List ℕ → List ℕ
 after_run_of ends [] = []
 after_run_of ends (b ∷ bytes) = cond (ends b) (b ∷ bytes) (after_run_of ends bytes)
 
--- behind the closing quote; escaped: the byte before was a backslash that takes this one with it
+-- after the closing quote; escaped: the byte before was a backslash that takes this one with it
 abbrev pub after_quote_from : Bool → List ℕ → Option (List ℕ)
 after_quote_from escaped [] = None
 after_quote_from true (b ∷ bytes) = after_quote_from false bytes
@@ -27,7 +27,7 @@ abbrev pub ended : Option (List ℕ) → Option (List ℕ)
 ended None = None
 ended (Some rest) = cond (ends_at is_break rest) (Some rest) None
 
--- behind the token that the bytes begin with
+-- after the token that the bytes begin with
 abbrev pub after_token_of : List ℕ → Option (List ℕ)
 after_token_of [] = None
 after_token_of (b ∷ bytes) = cond (begins_name b) (Some (after_run_of is_space bytes)) (cond (is_quote b) (ended (after_quote_of bytes)) (Some (after_run_of is_break bytes)))

@@ -45,7 +45,7 @@ pub data Gap (rest : List ℕ) : List ℕ → Type 0 where
   space : (b : ℕ) (bytes : List ℕ) → IsTrue (is_space b) → Gap rest bytes → Gap rest (b ∷ bytes)
   comment : (b : ℕ) (bytes text after : List ℕ) → IsTrue (is_hash b) → bytes ≡ text ++ after → IsRun is_feed text after → Gap rest after → Gap rest (b ∷ bytes)
 
--- what stands behind an opening quote, up to and with the closing one; a backslash takes the next byte with it
+-- what stands after an opening quote, up to and with the closing one; a backslash takes the next byte with it
 pub data IsQuoted : List ℕ → Type 0 where
   closing : (b : ℕ) → IsTrue (is_quote b) → IsQuoted (b ∷ [])
   escape : (b c : ℕ) (text : List ℕ) → IsTrue (is_backslash b) → IsQuoted text → IsQuoted (b ∷ c ∷ text)
@@ -63,7 +63,7 @@ pub record TokenOf : Type 0 where
   pub start : ℕ
   pub text : List ℕ
 
--- The bytes, which are the end of a text of n bytes, are these tokens, with a gap before each and one behind the last.
+-- The bytes, which are the end of a text of n bytes, are these tokens, with a gap before each and one after the last.
 pub data Lexes (n : ℕ) : List ℕ → List TokenOf → Type 0 where
   last_gap : (bytes : List ℕ) → Gap [] bytes → Lexes n bytes []
   token : (t : TokenOf) (ts : List TokenOf) (bytes rest : List ℕ) → Gap (t.text ++ rest) bytes → IsToken t.text rest
@@ -73,7 +73,7 @@ pub data Lexes (n : ℕ) : List ℕ → List TokenOf → Type 0 where
 abbrev pub IsTokens : List ℕ → List TokenOf → Type 0
 IsTokens bytes ts = Lexes (length bytes) bytes ts
 
--- The bytes, which are the end of a text of n bytes, begin with these tokens, and `left` is what stands behind the last.
+-- The bytes, which are the end of a text of n bytes, begin with these tokens, and `left` is what stands after the last.
 pub data Front (n : ℕ) (left : List ℕ) : List ℕ → List TokenOf → Type 0 where
   none_yet : Front n left left []
   token : (t : TokenOf) (ts : List TokenOf) (bytes rest : List ℕ) → Gap (t.text ++ rest) bytes → IsToken t.text rest
@@ -111,7 +111,7 @@ left l = drop l.place l.bytes
 abbrev pub Left : LexerOf → List TokenOf → Type 0
 Left l ts = Lexes (length l.bytes) (left l) ts
 
--- from old the lexer took this token, whose text is the slice of its span, and goes on behind it
+-- from old the lexer took this token, whose text is the slice of its span, and goes on after it
 pub record IsNext (old new : LexerOf) (t : TokenOf) : Type 0 where
   pub bytes : new.bytes ≡ old.bytes
   pub gap : Gap (t.text ++ left new) (left old)
@@ -121,7 +121,7 @@ pub record IsNext (old new : LexerOf) (t : TokenOf) : Type 0 where
   pub within : new.place ≤ length old.bytes
   pub slice : t.text ≡ slice_range old.bytes t.start new.place
 
--- at this byte, behind the gap, stands the opening quote of what is no string token
+-- at this byte, after the gap, stands the opening quote of what is no string token
 pub record IsFault (l : LexerOf) (byte : ℕ) : Type 0 where
   pub more : List ℕ
   pub quote : drop byte l.bytes ≡ 34 ∷ more

@@ -52,7 +52,7 @@ fn after_comment(bytes: &[u8]) -> &[u8]
     }
 }
 
-/// Behind white space and comments.
+/// After white space and comments.
 pub fn after_gap(bytes: &[u8]) -> &[u8]
     ensures gap { Gap result.now bytes.now }
     ensures stops { Stops result.now }
@@ -70,7 +70,7 @@ pub fn after_gap(bytes: &[u8]) -> &[u8]
     rest
 }
 
-/// Behind the quote that closes a string, if there is one.
+/// After the quote that closes a string, if there is one.
 pub fn after_quote(bytes: &[u8]) -> Option<&[u8]>
     ensures { option_map (λ x. x.now) result ≡ after_quote_of bytes.now }
 {
@@ -96,7 +96,7 @@ fn ends_string(rest: &[u8]) -> bool
     }
 }
 
-/// Behind the token that the bytes begin with, if they begin with one.
+/// After the token that the bytes begin with, if they begin with one.
 pub fn after_token(bytes: &[u8]) -> Option<&[u8]>
     ensures { option_map (λ x. x.now) result ≡ after_token_of bytes.now }
 {

@@ -5,7 +5,7 @@ use sby_edge::{Call, CallFault, Exit, Gate, Script, Scripted};
 use sby_terms::JobName;
 use std::alloc::{AllocError, Global};
 
-/// What the child of a task's lane does for a job: the sources of what it writes and of the proof file that it leaves; behind how many bytes it
+/// What the child of a task's lane does for a job: the sources of what it writes and of the proof file that it leaves; after how many bytes it
 /// stalls; the lane whose child must be live beside it, or it doesn't know; and the kind of call of which the first fails.
 #[derive(Clone, Copy)]
 pub struct Child<'a> {

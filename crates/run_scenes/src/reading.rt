@@ -12,7 +12,7 @@ use std::alloc::{AllocError, Global};
 /// - `clock N`: the clock reads 0, then 400, then N from then on; `child PART=VALUE;..`: a child;
 /// - `rc N`: the exit status; `> TEXT`: a line that is printed; `lines TEXT`: whole lines that are printed;
 /// - `first N`: only the first N lines so far are printed;
-/// - `left PATH TEXT`, `missing PATH`: what stands there behind the run.
+/// - `left PATH TEXT`, `missing PATH`: what stands there after the run.
 pub fn read_scene(
     alloc: Global,
     names: &[Named],

@@ -13,7 +13,7 @@ use std::sync::Wait;
 use std::thread::Threads;
 use std::time::Clock as SystemClock;
 
-/// What a run printed, the files behind it, and its exit status.
+/// What a run printed, the files after it, and its exit status.
 #[derive(Drop)]
 pub struct Ran {
     pub rc: u8,

@@ -26,9 +26,9 @@ pub struct Scene {
     pub last: Option<u64>,
     pub rc: u8,
     pub printed: Vec<u8>,
-    /// Files behind the run.
+    /// Files after the run.
     pub left: Vec<Placed>,
-    /// Paths where no file stands behind the run.
+    /// Paths where no file stands after the run.
     pub missing: Vec<String>,
 }
 

@@ -14,7 +14,7 @@ fn named(names: &[Named], piece: &str) -> Option<&'static str> {
     None
 }
 
-/// Adds the text of a source, whose bars stand for line feeds. A name between bars stands for its text, without a line feed behind it.
+/// Adds the text of a source, whose bars stand for line feeds. A name between bars stands for its text, without a line feed after it.
 pub fn push_text(bytes: &mut Vec<u8>, names: &[Named], source: &str) -> Result<(), AllocError> {
     let mut is_open = false;
     for piece in source.split('|') {
@@ -35,7 +35,7 @@ pub fn text_of(alloc: Global, names: &[Named], source: &str) -> Result<Vec<u8>, 
     Ok(bytes)
 }
 
-/// The parts of a text behind each other.
+/// The parts of a text after each other.
 pub fn joined(alloc: Global, parts: &[&str]) -> Result<Vec<u8>, AllocError> {
     let mut bytes = Vec::new(alloc);
     for part in parts {

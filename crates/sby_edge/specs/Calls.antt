@@ -26,7 +26,7 @@ failed calls = record calls { made = counted calls.made; faults = counted calls.
 abbrev pub NextFails : CallsOf → Type 0
 NextFails calls = Contains calls.failing (counted calls.made)
 
--- one call was made, with this answer; want of memory makes none
+-- one call was made, with this answer; out of memory makes none
 pub record Called {T : Type 0} (before now : CallsOf) (result : Result T Fail) : Type 0 where
   pub ok : IsOk result → now ≡ served before
   pub failed_call : IsErrOf result FailFailed → now ≡ failed before

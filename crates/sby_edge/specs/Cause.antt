@@ -15,7 +15,7 @@ counted n = min (n + 1) greatest
 abbrev pub Rose : ℕ → ℕ → Type 0
 Rose before now = counted before ≤ now
 
--- the count rises where the call failed; an answer leaves it as it was, and so does want of memory
+-- the count rises where the call failed; an answer leaves it as it was, and so does out of memory
 pub record HasCause {T : Type 0} (before now : ℕ) (result : Result T Fail) : Type 0 where
   pub later : before ≤ now
   pub stays : before ≡ greatest → now ≡ before

@@ -45,7 +45,7 @@ abbrev pub left_by : Option BayOf → CountsOf → List LaneOf
 left_by None counts = []
 left_by (Some bay) counts = record { task = bay.task; lane = bay.lane; starts = bay.starts; counts = counts } ∷ []
 
--- what a yard tells of the bays that came back, when these lanes more did: they stand behind the earlier ones; or, since memory was
+-- what a yard tells of the bays that came back, when these lanes more did: they stand after the earlier ones; or, since memory was
 -- wanting to keep them, it tells no more
 abbrev pub IsLogged : List LaneOf → Option (List LaneOf) → Option (List LaneOf) → Type 0
 IsLogged lanes before now = (now ≡ option_map (λ earlier. earlier ++ lanes) before) ⊎ (now ≡ None)
@@ -89,13 +89,13 @@ Reads None now buffer (Ok count) = now ≡ None
 Reads (Some before) None buffer (Ok count) = ⊥
 Reads (Some before) (Some now) buffer (Ok count) = GivesSome before (take count buffer) now
 
--- the bay after a start was asked for; want of memory leaves it
+-- the bay after a start was asked for; out of memory leaves it
 abbrev pub started : {T : Type 0} → Result T Fail → JobName → List (List ℕ) → List ℕ → BayOf → BayOf
 started (Ok _) job words bytes bay = record bay { starts = bay.starts ++ record { job = job; words = words; bytes = bytes; given = None; killed = None } ∷ [] }
 started (Err FailFailed) job words bytes bay = record bay { starts = bay.starts ++ record { job = job; words = words; bytes = bytes; given = None; killed = None } ∷ [] }
 started (Err FailMemory) job words bytes bay = bay
 
--- a start whose pipe gave so many bytes, and whose child was killed when it had given so many, if it was
+-- a start whose pipe gave this many bytes, and whose child was killed when it had given this many, if it was
 abbrev pub gave : ℕ → Option ℕ → StartOf → StartOf
 gave given killed start = record start { given = Some given; killed = killed }
 
@@ -110,7 +110,7 @@ abbrev pub ProofFrom : Option BayOf → JobName → ℕ → Got → Type 0
 ProofFrom None job most got = Unit {0}
 ProofFrom (Some bay) job most got = GotOf (bay.scripts job).proof most got
 
--- the bay after the child of this pipe is finished, which was killed when its pipe had given so many bytes, if it was
+-- the bay after the child of this pipe is finished, which was killed when its pipe had given this many bytes, if it was
 abbrev pub finished : Option PipeOf → Option ℕ → BayOf → BayOf
 finished None killed bay = bay
 finished (Some pipe) killed bay = record bay { starts = with_given pipe.place pipe.given killed bay.starts }

@@ -34,7 +34,7 @@ abbrev pub GotFits : ℕ → Got → Type 0
 GotFits most (All got) = length got.items ≤ most
 GotFits most (Long got) = length got.items ≡ most + 1
 
--- a piece of a content: its bytes from a place on, at most so many
+-- a piece of a content: its bytes from a place on, at most this many
 abbrev pub PieceOf : List ℕ → ℕ → ℕ → List ℕ → Type 0
 PieceOf bytes from most piece = piece ≡ take most (drop from bytes)
 

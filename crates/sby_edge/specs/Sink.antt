@@ -6,7 +6,7 @@ abbrev pub Takes : {E : Type 0} → Option (List ℕ) → Option (List ℕ) → 
 Takes before now piece (Ok count) = now ≡ option_map (λ taken. taken ++ take count piece) before
 Takes before now piece (Err _) = now ≡ before
 
--- so many bytes are all that were taken, where both are told
+-- this many bytes are all that were taken, where both are told
 abbrev pub AreAll : Option ℕ → Option (List ℕ) → Type 0
 AreAll count taken = IfSome count (λ n. IfSome taken (λ bytes. n ≡ length bytes))
 

@@ -54,7 +54,7 @@ impl MemFiles {
         self.contents.get(path)
     }
 
-    /// The path at which a call last failed; None where none did, or where memory was wanting for the path.
+    /// The path at which a call last failed; None where none did, or where memory ran out for the path.
     pub fn blamed(&self) -> Option<&str>
         ensures { option_copied result ≡ self.now.blamed }
     {
@@ -180,7 +180,7 @@ impl Files for MemFiles {
     }
 }
 
-/// Output in memory, with room for so many bytes, which its maker reserves: `write` takes no memory. The calls that its maker lists
+/// Output in memory, with room for this many bytes, which its maker reserves: `write` takes no memory. The calls that its maker lists
 /// fail, and so does one that finds no room. Contracts see the bytes taken, the room left and its calls.
 #[derive(Drop)]
 pub struct MemSink {

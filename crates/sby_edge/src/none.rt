@@ -163,7 +163,7 @@ impl Launch for NoBay {
     }
 }
 
-// The count after a part with so many faults is spent.
+// The count after a part with this many faults is spent.
 pub(crate) fn risen(count: u64, part: u64) -> u64
     ensures { RisesBy part count result }
 {

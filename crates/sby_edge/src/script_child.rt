@@ -76,7 +76,7 @@ impl<'a, R: Wait + SystemClock> ScriptPipe<'a, R> {
         }
     }
 
-    // How many of the bytes that are left a read gives that has room for so many.
+    // How many of the bytes that are left a read gives that has room for this many.
     fn portion(&self, room: usize) -> usize
         ensures left { self.now.given + result ≤ length self.now.stream.now }
         ensures room { result ≤ room }
@@ -164,7 +164,7 @@ impl<'a, R: Wait> ScriptHold<'a, R> {
         }
     }
 
-    // Asks the child to end, whose pipe has given so many bytes.
+    // Asks the child to end, whose pipe has given this many bytes.
     pub(crate) fn kill_at(&mut self, given: usize) -> Result<(), Failed>
         ensures killed { self.new.killed ≡ Some (unwrap_or self.old.killed given) }
         ensures reaped { self.new.is_reaped ≡ self.old.is_reaped }

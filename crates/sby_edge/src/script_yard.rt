@@ -278,7 +278,7 @@ impl<'a, R: Wait + SystemClock> ScriptYard<'a, R> {
 }
 
 impl<'a, R: Wait + SystemClock> ScriptYard<'a, R> {
-    /// What the bays that came back have left, the first one first; none where memory was wanting to keep it.
+    /// What the bays that came back have left, the first one first; none where memory ran out to keep it.
     pub fn lanes(&self) -> Option<&[LaneStarts]>
         ensures { option_map (λ lanes. lanes.now) result ≡ option_map (λ v. v.items) self.now.lanes }
     {

@@ -35,7 +35,7 @@ pub struct Standing {
 #[derive(Clone, Copy, Debug, PartialEq, Eq)]
 pub enum Turn {
     Killed,
-    // Its pipe gave so many bytes in all.
+    // Its pipe gave this many bytes in all.
     Gave(usize),
     Ended,
     Reaped,

@@ -5,7 +5,7 @@ use Rattle.std.proofs.lemmas.Bool.Decides.{nat_tests}
 use Rattle.sby_file.specs.Text.{is_blank, comment_place, uncommented}
 use Rattle.sby_file.specs.Comments.{MayComment, HasComment}
 
--- a comment may begin behind these bytes, of which the first stand behind white space or not
+-- a comment may begin after these bytes, of which the first stand after white space or not
 abbrev Place : Bool → List ℕ → Type 0
 Place after [] = after ≡ true
 Place after (b ∷ front) = Place (is_blank b) front

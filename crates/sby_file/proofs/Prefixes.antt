@@ -6,7 +6,7 @@ use Rattle.sby_file.specs.declared.fault.SbyKind.TheVariants.{UnknownTask}
 use Rattle.std.proofs.lemmas.Bool.{cases_Bool}
 use Rattle.std.proofs.lemmas.Bool.Decides.{nat_tests}
 
--- so many words further on, but for 0
+-- this many words further on, but for 0
 abbrev pub moved : ℕ → ℕ → ℕ
 moved i zero = 0
 moved i (suc n) = i + suc n

@@ -52,7 +52,7 @@ word_split_at b (c ∷ bs) v =
       | inr f ↦ rw (v, f) (ap (put_first b) (rw f at (word_split_at c bs f)))
     ]
 
--- the first word of a text, and what is behind it
+-- the first word of a text, and what is after it
 pub word_split : (text word behind : List ℕ) (n : ℕ) → IsCut text → eqb (length text) 0 ≡ false → n ≡ visible_before text → word ≡ take n text → behind ≡ drop n text
     → words_of text ≡ word ∷ words_of (drop (blanks_before behind) behind)
 word_split [] word behind n h l e w k = cc
@@ -81,7 +81,7 @@ word_more old new all text word behind rest n h u l e w k r m =
     let s : words_of text ≡ word ∷ words_of rest = word_split text word behind n u l e w k ∙ ap (λ t. word ∷ words_of t) (sym r) in
     rw (m, append_assoc) (rw s at h)
 
--- less is left behind a word
+-- less is left after a word
 pub word_less : (text behind rest : List ℕ) (n : ℕ) → IsCut text → eqb (length text) 0 ≡ false → n ≡ visible_before text → n ≤ length text → length behind + n ≡ length text
     → rest ≡ front_trimmed behind → length rest < length text
 word_less text behind rest n h l e w k r =

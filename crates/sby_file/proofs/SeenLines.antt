@@ -17,7 +17,7 @@ use Rattle.sby_file.specs.declared.line.Line.{Line}
 use Rattle.sby_file.specs.declared.line.Line.TheVariants.{NotText, Header, Content, Raw}
 use Rattle.sby_file.specs.declared.walk.Placed.{Placed}
 
--- what is seen behind all of these lines
+-- what is seen after all of these lines
 abbrev pub seen_all : Seen → List Placed → Seen
 seen_all seen [] = seen
 seen_all seen (p ∷ ps) = seen_all (seen_after seen p.section p.line) ps

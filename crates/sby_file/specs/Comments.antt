@@ -2,7 +2,7 @@
 use Rattle.std.specs.Prelude.{◌≡◌, ◌⊎◌, ℕ, true, List, [], ◌∷◌, ◌++◌}
 use Rattle.sby_file.specs.Text.{is_blank}
 
--- a comment may begin behind these bytes: there are none, or the last is white space
+-- a comment may begin after these bytes: there are none, or the last is white space
 abbrev pub MayComment : List ℕ → Type 0
 MayComment front = (front ≡ []) ⊎ ((before : List ℕ) × (b : ℕ) × (front ≡ before ++ b ∷ []) × (is_blank b ≡ true))
 

@@ -50,7 +50,7 @@ abbrev pub content_of : List Placed → List ℕ
 content_of [] = []
 content_of (p ∷ ps) = content_line p.line (content_of ps)
 
--- a header `[file NAME]` adds the file of the lines behind it
+-- a header `[file NAME]` adds the file of the lines after it
 abbrev pub with_file : ConfigOf → List (List ℕ) → List Placed → ConfigOf
 with_file c words later =
     cond (is_file (section_named words)) (record c { files = c.files ++ record { name = name_of words; bytes = content_of later } ∷ [] }) c

@@ -1,4 +1,4 @@
--- What is wrong with a line of a task file, kind by kind, by the lines before it and behind it.
+-- What is wrong with a line of a task file, kind by kind, by the lines before it and after it.
 use Rattle.std.specs.Prelude.{◌≡◌, ◌⊎◌, ℕ, ◌<◌, ◌≤◌, true, false, List, [], ◌∷◌, ◌++◌, length, take, Contains}
 use Rattle.sby_file.specs.Section.{name_of}
 use Rattle.sby_file.specs.Prefix.{is_name, is_block_end, opens_block, prefix_length, mark_name}

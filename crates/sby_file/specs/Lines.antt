@@ -31,11 +31,11 @@ NoneEnds ps = (p : Placed) → Contains ps p → EndsBlock p → ⊥
 abbrev pub OpensBlock : Placed → Type 0
 OpensBlock p = (words : List (List ℕ)) × IsScopedLine words p × (is_block_end words ≡ false) × (opens_block words ≡ true)
 
--- a block is open behind these lines: one of them opens it, and none behind that one ends it
+-- a block is open after these lines: one of them opens it, and none after that one ends it
 abbrev pub LeaveBlockOpen : List Placed → Type 0
 LeaveBlockOpen ps = (before : List Placed) × (p : Placed) × (after : List Placed) × (ps ≡ before ++ p ∷ after) × OpensBlock p × NoneEnds after
 
--- a line `--`, and a header, among lines behind a block's beginning
+-- a line `--`, and a header, among lines after a block's beginning
 abbrev pub IsEndLine : Placed → Type 0
 IsEndLine p = (words : List (List ℕ)) × (p.line ≡ Content words) × (is_block_end words ≡ true)
 

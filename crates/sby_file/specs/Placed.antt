@@ -9,14 +9,14 @@ use Rattle.sby_file.specs.declared.line.Line.{Line}
 use Rattle.sby_file.specs.declared.line.Line.TheVariants.{NotText, Header, Content, Raw}
 use Rattle.sby_file.specs.declared.walk.Placed.{Placed}
 
--- the section behind a line: a header starts one
+-- the section after a line: a header starts one
 abbrev pub section_after : Section → Line → Section
 section_after section (Header name) = section_named name
 section_after section NotText = section
 section_after section (Content words) = section
 section_after section (Raw bytes) = section
 
--- lines behind a line of this number, from this section on: each has its number and the section in which it stands
+-- lines after a line of this number, from this section on: each has its number and the section in which it stands
 abbrev pub placed_from : Section → ℕ → List (List ℕ) → List Placed
 placed_from section number [] = []
 placed_from section number (text ∷ texts) =

@@ -10,7 +10,7 @@ is_name_byte b = (leb 97 b && leb b 122) || (leb 65 b && leb b 90) || (leb 48 b 
 abbrev pub is_name : List ℕ → Bool
 is_name word = not (eqb (length word) 0) && list_all is_name_byte word
 
--- `~` stands in front; a colon stands behind
+-- `~` stands in front; a colon stands after it
 abbrev pub is_negated : List ℕ → Bool
 is_negated word = not (eqb (length word) 0) && eqb (slice_index word 0) 126
 

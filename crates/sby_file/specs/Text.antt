@@ -32,7 +32,7 @@ abbrev pub visible_before : List ℕ → ℕ
 visible_before [] = 0
 visible_before (b ∷ bs) = cond (is_blank b) 0 (suc (visible_before bs))
 
--- how many bytes stand before a comment: a `#` begins one at the line's start and behind white space
+-- how many bytes stand before a comment: a `#` begins one at the line's start and after white space
 abbrev pub comment_place : Bool → List ℕ → ℕ
 comment_place after_blank [] = 0
 comment_place after_blank (b ∷ bs) = cond (after_blank && eqb b 35) 0 (suc (comment_place (is_blank b) bs))

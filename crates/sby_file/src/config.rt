@@ -80,7 +80,7 @@ impl Model for Config {
     ghost view = { λ c. record { tasks = map string_bytes c.tasks.items; tags = c.tags.items; rows = c.rows.items; files = c.files.items } };
 }
 
-// Equal words, or want of memory.
+// Equal words, or out of memory.
 pub fn copied_words(alloc: Global, words: &[String]) -> Result<Words, AllocError>
     ensures { IfOk result (λ copied. copied ≡ map string_bytes words.now) }
 {

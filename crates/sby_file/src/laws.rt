@@ -16,7 +16,7 @@ pub fn comments_end_lines()
     ensures cut { (front back : List ℕ) → MayComment front → (HasComment front → ⊥) → uncommented (front ++ 35 ∷ back) ≡ front }
 {}
 
-/// The faults of a text of at most 2^24 bytes are those of its lines: each kind, line by line, by what stands before it and behind it.
+/// The faults of a text of at most 2^24 bytes are those of its lines: each kind, line by line, by what stands before it and after it.
 /// A longer text has the one fault Limit, at line 0.
 pub fn faults_are_of_lines()
     ensures lines { (bytes : List ℕ) (line : ℕ) (kind : SbyKind) → length bytes ≤ 2 ^ 24

@@ -43,7 +43,7 @@ impl Bytes {
         self.bytes
     }
 
-    /// Equal bytes, or want of memory.
+    /// Equal bytes, or out of memory.
     pub fn copy(&self) -> Result<Self, AllocError>
         ensures { IfOk result (λ copied. copied ≡ self.now) }
     {

@@ -1,4 +1,4 @@
-// Prefixes of lines: words with `~` in front, perhaps, and a colon behind the last.
+// Prefixes of lines: words with `~` in front, perhaps, and a colon after the last.
 
 ghost use Rattle.std.specs.Prelude.{◌≡◌, ◌≤◌, Bool, List, length, map, string_bytes};
 ghost use Rattle.std.specs.List.{list_all, list_any};

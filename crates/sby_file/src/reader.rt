@@ -45,7 +45,7 @@ fn read_lines(alloc: Global, bytes: &[u8]) -> Result<Result<Config, SbyFault>, A
 }
 
 /// Reads a task file. The answer is what its lines say, or the first fault: at line 0, that the text has more than 2^24 bytes,
-/// whatever they are; else of the first line at fault, the first in the order of `SbyKind`. The outer `Err` is want of memory
+/// whatever they are; else of the first line at fault, the first in the order of `SbyKind`. The outer `Err` is out of memory
 /// alone.
 pub fn read(alloc: Global, bytes: &[u8]) -> Result<Result<Config, SbyFault>, AllocError>
     ensures text { IfOk result (λ answer. IfOk answer (SbyText bytes.now)) }

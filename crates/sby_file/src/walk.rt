@@ -29,7 +29,7 @@ fn section_after(section: Section, line: &Line) -> Section
     }
 }
 
-// The first line of a text, and what is behind it.
+// The first line of a text, and what is after it.
 fn first_line(bytes: &[u8]) -> (&[u8], &[u8])
     requires { 0 < length bytes.now }
     ensures lines { lines_of bytes.now ≡ result.0.now ∷ lines_of result.1.now }

@@ -33,7 +33,7 @@ tail_none b text none c = none (suc c.0, omega (arith, c.1), c.2)
 no_feed : (text : List ℕ) → (Contains (10 ∷ text) 10 → ⊥) → ⊥
 no_feed text none = none (0, omega arith, refl)
 
--- texts without a line feed, each with one behind it
+-- texts without a line feed, each with one after it
 one_text : (a b r s : List ℕ) → (Contains a 10 → ⊥) → (Contains b 10 → ⊥) → a ++ 10 ∷ r ≡ b ++ 10 ∷ s → (a ≡ b) × (r ≡ s)
 one_text [] [] r s na nb e = (refl, cc)
 one_text [] (y ∷ b) r s na nb e = let is : y ≡ 10 = cc in absurd (no_feed b (subst (λ z. Contains (z ∷ b) 10 → ⊥) is nb))

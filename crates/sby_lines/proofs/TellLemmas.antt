@@ -60,7 +60,7 @@ tells_then {T} {U} b m n f g h first more x r p q = record {
   );
 }
 
--- memory was wanting before any line
+-- memory ran out before any line
 pub tells_nothing : {T : Type 0} {d : Option ℕ} (b : Option (List ℕ)) (f : ℕ) (lines : List (List ℕ)) → 0 < length lines → Tells {T = T} b b f f d lines (Err Memory)
 tells_nothing {T} b f lines some = record {
   later = omega arith;

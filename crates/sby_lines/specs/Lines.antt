@@ -41,7 +41,7 @@ abbrev pub line_if : List ℕ → Option (List ℕ) → List (List ℕ)
 line_if name (Some text) = line_of name text ∷ []
 line_if name None = []
 
--- what is printed of a fault before the lanes of a task with so many slices; want of memory has no line
+-- what is printed of a fault before the lanes of a task with this many slices; out of memory has no line
 abbrev pub early_text : ℕ → Early → Option (List ℕ)
 early_text slices (File path) = Some (file_text (string_bytes path))
 early_text slices (Sby fault) = Some (sby_text fault.line (sby_kind_text fault.kind))
@@ -91,7 +91,7 @@ upto_sat (None ∷ answers) = None ∷ upto_sat answers
 upto_sat (Some Unsat ∷ answers) = Some Unsat ∷ upto_sat answers
 upto_sat (Some Sat ∷ answers) = Some Sat ∷ []
 
--- the answers that have a line: in bmc and prove none behind the first that is Sat
+-- the answers that have a line: in bmc and prove none after the first that is Sat
 abbrev pub told_answers : Mode → List (Option Answer) → List (Option Answer)
 told_answers Bmc answers = upto_sat answers
 told_answers Prove answers = upto_sat answers

@@ -83,7 +83,7 @@ pub fn first_sat(answers: &[Option<Answer>]) -> Option<usize>
     None
 }
 
-/// The answers that have a line: in bmc and prove none behind the first that is Sat.
+/// The answers that have a line: in bmc and prove none after the first that is Sat.
 pub fn told_answers(mode: Mode, answers: &[Option<Answer>]) -> &[Option<Answer>]
     ensures { result.now ≡ told_answers mode answers.now }
 {

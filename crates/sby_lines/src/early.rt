@@ -23,6 +23,6 @@ pub enum Early {
     TooMany(JobName),
     /// There are more streams than jobs.
     Streams,
-    /// Memory was wanting.
+    /// Memory ran out.
     Memory,
 }

@@ -34,7 +34,7 @@ fn fault_text(alloc: Global, slices: u32, early: &Early) -> Result<String, Alloc
     }
 }
 
-/// What is printed of a fault before the lanes of a task with so many slices. Want of memory has no text.
+/// What is printed of a fault before the lanes of a task with this many slices. Out of memory has no text.
 pub fn early_text(alloc: Global, slices: u32, early: &Early) -> Result<Option<String>, AllocError>
     ensures ok { IfOk result (λ t. option_map string_bytes t ≡ early_text slices early.now) }
     ensures err { OnErr result (early_text slices early.now ≢ None) }

@@ -17,7 +17,7 @@ use sby_edge::Sink;
 use sby_terms::{Answer, JobName, job_text};
 use std::alloc::{AllocError, Global};
 
-// A job of a task with so many slices, in a lane.
+// A job of a task with this many slices, in a lane.
 #[derive(Clone, Copy)]
 struct LaneJob {
     lane: u32,

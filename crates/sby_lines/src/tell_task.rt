@@ -61,7 +61,7 @@ fn tell_fault<S: Sink>(
     }
 }
 
-/// Offers the lines of a task of so many slices with a fault before its lanes.
+/// Offers the lines of a task of this many slices with a fault before its lanes.
 pub fn tell_early<S: Sink>(
     alloc: Global,
     out: &mut S,

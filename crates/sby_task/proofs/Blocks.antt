@@ -9,7 +9,7 @@ use Rattle.sby_task.specs.Blocks.{IsBlockLine, HaveNone, LeaveOpen, IsKept}
 use Rattle.sby_file.specs.declared.config.Row.{Row}
 
 module _ (is_here : List ℕ → Bool) where
-  -- whether the lines behind a line stand where lines are kept
+  -- whether the lines after a line stand where lines are kept
   abbrev behind : Bool → Row → Bool
   behind b row = cond (is_block_end row.words) true (cond (opens_block row.words) (holds is_here row.words) b)
 

@@ -381,7 +381,7 @@ engine_refused words kind.Script f = absurd f
 engine_refused words kind.MissingFile f = absurd f
 engine_refused words kind.Slices f = absurd f
 
--- ---- a line behind others
+-- ---- a line after others
 module _ (files : List StoredFile) (all before : List Row) (d : Draft) (said : drafted files all (Ok blank) before ≡ Ok d) where
   abbrev Told : List ℕ → Bool → Type 0
   Told word set = (IsUnset word before × (set ≡ false)) ⊎ (HasOption word before × (set ≡ true))

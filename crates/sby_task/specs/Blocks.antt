@@ -18,7 +18,7 @@ LeaveOpen is_here rows =
     ⊎ ((before : List Row) × (row : Row) × (after : List Row) × (rows ≡ before ++ row ∷ after) × HaveNone after
     × ((is_block_end row.words ≡ true) ⊎ ((opens_block row.words ≡ true) × (holds is_here row.words ≡ true))))
 
--- a line behind these is kept: it is no block line, its prefix holds, and so does its block
+-- a line after these is kept: it is no block line, its prefix holds, and so does its block
 pub record IsKept (is_here : List ℕ → Bool) (before : List Row) (row : Row) : Type 0 where
   pub plain : IsBlockLine row → ⊥
   pub prefix : holds is_here row.words ≡ true

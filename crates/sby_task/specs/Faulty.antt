@@ -50,7 +50,7 @@ program_engines = codes "drup" ∷ codes "btor" ∷ codes "lrat" ∷ codes "proo
 abbrev pub left_out_engines : List (List ℕ)
 left_out_engines = codes "smtbmc" ∷ codes "abc" ∷ codes "aiger" ∷ codes "itp" ∷ codes "none" ∷ []
 
--- what may stand behind `sat`
+-- what may stand after `sat`
 abbrev pub IsSatValue : List (List ℕ) → Type 0
 IsSatValue value = (value ≡ []) ⊎ ((words : List (List ℕ)) × (n : ℕ) × (value ≡ codes "--conflicts" ∷ words) × (number_of 1000000000 words ≡ Some n))
 
@@ -66,7 +66,7 @@ ReadsDesign name row = (row.section ≡ section.Script) × (row.words ≡ codes 
 abbrev pub NoneGives : List Row → List ℕ → Type 0
 NoneGives rows name = (row : Row) (path : List ℕ) → Contains rows row → GivesPath name path row → ⊥
 
--- an option has another value; `sat` has other words behind it; an engine that is a program has none; a line of `[files]` has more
+-- an option has another value; `sat` has other words after it; an engine that is a program has none; a line of `[files]` has more
 -- than two words
 abbrev pub HasBadValue : Row → Type 0
 HasBadValue row =

@@ -5,7 +5,7 @@ use Rattle.sby_file.specs.declared.section.Section.TheVariants.{Nowhere, Tasks, 
 use Rattle.sby_file.specs.declared.config.Row.{Row}
 use Rattle.sby_file.specs.declared.config.StoredFile.{StoredFile}
 
--- a path's part behind its last `/`: each `/` begins it anew
+-- a path's part after its last `/`: each `/` begins it again
 abbrev pub part_from : List ℕ → List ℕ → List ℕ
 part_from part [] = part
 part_from part (b ∷ bs) = cond (eqb b 47) (part_from [] bs) (part_from (part ++ b ∷ []) bs)

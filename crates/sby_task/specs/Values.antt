@@ -85,7 +85,7 @@ abbrev pub statuses_from : List (List ℕ) → Option (List Status)
 statuses_from [] = Some []
 statuses_from (piece ∷ pieces) = with_status (piece_status piece) (statuses_from pieces)
 
--- words with a space behind each
+-- words with a space after each
 abbrev pub words_text : List (List ℕ) → List ℕ
 words_text words = flat_map (λ word. word ++ 32 ∷ []) words
 

@@ -227,7 +227,7 @@ fn expand_asked(
 
 /// Expands a task of a file, or its nameless task where it has none. The answer is the task, or the first fault: that the task
 /// isn't there, at line 0; of the first line at fault, the first in the order of `TaskKind`; and where no line is at fault, at
-/// line 0, what is missing. The outer `Err` is want of memory alone.
+/// line 0, what is missing. The outer `Err` is out of memory alone.
 pub fn expand(
     alloc: Global,
     config: &Config,

@@ -7,7 +7,7 @@ ghost use Rattle.sby_task.specs.Files.{part_of, is_path_named, path_after, path_
 use sby_file::{Bytes, Name, Row, Section, StoredFile};
 use std::alloc::{AllocError, Global};
 
-// A path's part behind its last `/`.
+// A path's part after its last `/`.
 fn part_of(alloc: Global, path: &[u8]) -> Result<Vec<u8>, AllocError>
     ensures { IfOk result (λ part. part.items ≡ part_of path.now) }
 {

@@ -21,7 +21,7 @@ ghost use Rattle.sby_file.specs.declared.section.Section.{Section};
 ghost use Rattle.sby_task.specs.declared.task_fault.TaskFault.{TaskFault};
 ghost use Rattle.sby_task.specs.declared.task_fault.TaskKind.{TaskKind};
 
-/// A path's name is its part behind the last `/`.
+/// A path's name is its part after the last `/`.
 pub fn paths_end_in_names()
     ensures { (path part : List ℕ) → (part_of path ≡ part) ↔ IsLastPart path part }
 {}

@@ -106,7 +106,7 @@ fn piece_status(alloc: Global, piece: &str) -> Result<Option<Status>, AllocError
     }
 }
 
-// The piece before the first comma, and what is behind it.
+// The piece before the first comma, and what is after it.
 fn first_piece(text: &str) -> (&str, Option<&str>)
     ensures pieces { pieces_of text.now ≡ result.0.now ∷ later_pieces result.1 }
     ensures less { pieces_left result.1 < 1 + length text.now }
@@ -117,7 +117,7 @@ fn first_piece(text: &str) -> (&str, Option<&str>)
     }
 }
 
-// The words with a space behind each.
+// The words with a space after each.
 fn words_text(alloc: Global, words: &[String]) -> Result<String, AllocError>
     ensures { IfOk result (λ text. string_bytes text ≡ words_text (map string_bytes words.now)) }
 {

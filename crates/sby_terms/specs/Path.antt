@@ -4,7 +4,7 @@ use Rattle.std.specs.Fmt.{decimal}
 use Rattle.sby_terms.specs.declared.names.JobName.{JobName}
 use Rattle.sby_terms.specs.declared.names.JobName.TheVariants.{Base, Step, Cover}
 
--- a job's name among the jobs of a task with so many slices: slices are numbered where there are several
+-- a job's name among the jobs of a task with this many slices: slices are numbered where there are several
 unfoldable pub job_text : ℕ → JobName → List ℕ
 job_text slices (Base j) = if slices == 1 then codes "base" else (codes "base" ++ decimal j)
 job_text slices Step = codes "step"

@@ -6,7 +6,7 @@ use Rattle.sby_terms.specs.declared.span.Span.{Span}
 abbrev pub whole : ℕ → Span
 whole depth = record { skip = 0; depth = depth; stride = None }
 
--- slice i begins behind this many cycles
+-- slice i begins after this many cycles
 abbrev pub first_from : ℕ → Option ℕ → ℕ → ℕ
 first_from skip None i = skip
 first_from skip (Some stride) i = skip + i * stride
@@ -14,7 +14,7 @@ first_from skip (Some stride) i = skip + i * stride
 abbrev pub first_of : Span → ℕ → ℕ
 first_of span i = first_from span.skip span.stride i
 
--- and ends behind this many
+-- and ends after this many
 abbrev pub last_from : ℕ → ℕ → Option ℕ → ℕ → ℕ
 last_from skip depth None i = depth
 last_from skip depth (Some stride) i = min depth (first_from skip (Some stride) i + stride)

@@ -39,7 +39,7 @@ impl Words {
         &self.words
     }
 
-    /// Equal words, or want of memory.
+    /// Equal words, or out of memory.
     pub fn copy(&self) -> Result<Self, AllocError>
         ensures { IfOk result (λ copied. copied ≡ self.now) }
     {
@@ -66,7 +66,7 @@ pub enum Engine {
 }
 
 impl Engine {
-    /// An equal engine line, or want of memory.
+    /// An equal engine line, or out of memory.
     pub fn copy(&self) -> Result<Self, AllocError>
         ensures { IfOk result (λ copied. copied ≡ self.now) }
     {

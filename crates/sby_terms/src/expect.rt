@@ -41,7 +41,7 @@ impl Expect {
         &self.statuses
     }
 
-    /// An equal list, or want of memory.
+    /// An equal list, or out of memory.
     pub fn copy(&self) -> Result<Self, AllocError>
         ensures { IfOk result (λ copied. copied ≡ self.now) }
     {

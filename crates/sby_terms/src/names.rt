@@ -54,6 +54,6 @@ pub enum Event {
     Fault,
     /// The lane's own reading of the clock showed the limit.
     Stopped,
-    /// Want of memory.
+    /// Out of memory.
     Memory,
 }

@@ -6,7 +6,7 @@ ghost use Rattle.sby_terms.specs.Path.{job_path, job_text, path_text};
 use crate::JobName;
 use std::alloc::{AllocError, Global};
 
-/// A job's name among the jobs of a task with so many slices: `base`, or `base0`, `base1`, .. where there are several; `step`;
+/// A job's name among the jobs of a task with this many slices: `base`, or `base0`, `base1`, .. where there are several; `step`;
 /// `cover0`, `cover1`, ..
 #[tactic(auto, unfolding(crate::specs::Path::job_text))]
 pub fn job_text(alloc: Global, slices: u32, job: JobName) -> Result<String, AllocError>
@@ -27,7 +27,7 @@ fn path_text(alloc: Global, folder: &str, job: &str) -> Result<String, AllocErro
     format!(in alloc; "{folder}/model/{job}.cnf")
 }
 
-/// The path of a job's file in the work folder of a task with so many slices: `FOLDER/model/JOB.cnf`.
+/// The path of a job's file in the work folder of a task with this many slices: `FOLDER/model/JOB.cnf`.
 pub fn job_path(
     alloc: Global,
     folder: &str,

@@ -28,7 +28,7 @@ pub trait Settled {
         ensures answer { result ≡ answer self.now }
         ensures is_true { is_true self.now };
 
-    /// An equal value, or want of memory.
+    /// An equal value, or out of memory.
     fn copy(&self) -> Result<Self, AllocError>
         ensures equal { IfOk result (λ copied. copied ≡ self.now) }
         ensures is_true { is_true self.now };

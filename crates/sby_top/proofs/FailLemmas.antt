@@ -92,7 +92,7 @@ same_break request c answers others lines more reported are other a b =
     let cell : b.cell ≡ a.cell = one_cell c.design a.run b.cell a.cell (subst (λ r. IsBrokenCell c.design r b.cell) run b.broken) a.broken in
     subst (λ x. IsTraced c.design (broken_line request.name x a.run) a.run more) cell (subst (λ r. IsTraced c.design (broken_line request.name b.cell r) r more) run b.traced)
 
--- with lines behind them
+-- with lines after them
 pub traced_more : (d : DesignOf) (name : List ℕ) (cell : CellOf) (run : List CycleOf) (lines body unput all : List (List ℕ)) (last : List ℕ) → body ≡ lines ++ unput → all ≡ body ++ last ∷ [] → IsTraced d (broken_line name cell run) run lines
     → ArePrintedOf d name cell run all
 traced_more d name cell run lines body unput all last is all_is traced =

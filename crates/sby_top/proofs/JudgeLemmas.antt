@@ -135,7 +135,7 @@ never_both false is holds = cc
 
 -- ---- the pieces of a content
 
--- a piece of at most so many bytes stands in a content behind these bytes, and only the last one is shorter
+-- a piece of at most this many bytes stands in a content after these bytes, and only the last one is shorter
 pub record IsPieceBehind (content before piece : List ℕ) (most : ℕ) : Type 0 where
   pub rest : List ℕ
   pub parts : content ≡ before ++ piece ++ rest
@@ -177,7 +177,7 @@ first_next (Some store) path piece most got =
     let at = content_of (store path) 0 most piece got in
     (at.0, at.1, behind at.0 [] at.0 piece most refl (piece_at (store path) at.0 0 most piece got at.1))
 
--- the piece behind it
+-- the piece after it
 pub next_behind : (told : Option Store) (path before piece next : List ℕ) (place most : ℕ) → IsNext told path before piece most → place ≡ length (before ++ piece) → PieceFrom told path place most next
     → IsNext told path (before ++ piece) next most
 next_behind None path before piece next place most is at got = tt
@@ -221,7 +221,7 @@ same_judge told path j mid end same ends = record {
   run = rw (← same.0, ← same.1, ← same.3) ends.run;
 }
 
--- memory was wanting for the judge of a stream of which a piece was got
+-- memory ran out for the judge of a stream of which a piece was got
 pub wanting_at : (p : AskedOf) (told : Option Store) (job : JobName) (path piece : List ℕ) (most : ℕ) (kind : StreamKind) → IsKindNamed path kind → PieceFrom told path 0 most piece → IsJudged p told job path Memory
 wanting_at p told job path piece most kind named got =
     let is = first_next told path piece most got in

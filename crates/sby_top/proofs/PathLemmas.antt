@@ -8,7 +8,7 @@ use Rattle.sby_terms.specs.Path.{job_path, job_text, path_text}
 use Rattle.sby_terms.specs.declared.names.JobName.{JobName}
 use Rattle.sby_terms.specs.declared.names.JobName.TheVariants.{Base, Step, Cover}
 
--- a job as a task of so many slices has it
+-- a job as a task of this many slices has it
 unfoldable pub IsNumbered : ℕ → JobName → Type 0
 IsNumbered slices (Base i) = (slices ≡ 1 → i ≡ 0) × (i < 2 ^ 64)
 IsNumbered slices Step = Unit {0}

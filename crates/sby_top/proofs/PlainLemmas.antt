@@ -79,7 +79,7 @@ end_answer (CalledOff f) = None
 end_answer (Stopped reading) = None
 end_answer MemoryEnd = None
 
--- they answer as the ends do, and where memory wasn't wanting they say what these say
+-- they answer as the ends do, and where memory did not run out they say what these say
 record HasFates (p : AskedOf) (now : Store) (jobs : List JobName) (paths : List (List ℕ)) (ends : List (JobEnd FindingOf)) : Type 0 where
   fates : List (Option Fate)
   are : AreFates p now jobs paths fates

@@ -45,7 +45,7 @@ path_among v xs i r path h is = Contains-from_place (map v xs) i path (sym (path
 pub same_files : (t u : Option Store) (f g : ℕ) (b c : Option (List ℕ)) → u ≡ t → g ≡ f → c ≡ b → files_at u g c ≡ files_at t f b
 same_files t u f g b c told faults blamed = rw (told, faults, blamed) refl
 
--- a call that failed is one since an earlier moment, with the files as they are told behind it
+-- a call that failed is one since an earlier moment, with the files as they are told after it
 pub failed_since : (b m a : FilesOf) (path : List ℕ) (early : Early) → b.faults ≤ m.faults → IsFailedCall m a path early → IsFailedCall (record b { told = a.told }) a path early
 failed_since b m a path (File p) le h = (h.0, record { rose = omega (arith, le, h.1.rose); blamed = h.1.blamed; same = refl })
 failed_since b m a path Memory le h = (omega (arith, le, h.0), refl)
@@ -62,7 +62,7 @@ named_at b a name path is h = subst (λ x. IsFailedAt b a x) (sym is) h
 
 -- ---- reasons
 
--- memory was wanting when all files were put
+-- memory ran out when all files were put
 pub all_halted : (task : TaskOf) (before after : Option Store) (p : AskedOf) → IsServed before task p → ArePut p task.request.name (jobs_in p) before after → IsHalted task before after
 all_halted task before after p served put =
     inr (p, length (jobs_in p), served, subst (λ js. ArePut p task.request.name js before after) (sym (take_all (length (jobs_in p)) (jobs_in p) (omega arith))) put)

@@ -21,7 +21,7 @@ verdict_status verdict events others Error h = absurd h
 verdict_status verdict events others Timeout h = absurd h
 verdict_status verdict events others Memory h = absurd h
 
--- without a verdict, want of memory is MEMORY
+-- without a verdict, out of memory is MEMORY
 pub no_memory : (events : List Event) (status : Status) → HasStatus None events status → status ≢ Memory → Contains events MemoryEvent → ⊥
 no_memory events Memory h apart among = apart refl
 no_memory events Timeout h apart among = h.0 among

@@ -99,7 +99,7 @@ gen_done may_read before after done t size stem text directory is stem_is text_i
     subst (λ q. TurnsDone may_read before after done (AskGen q)) is
     (turns_done may_read before before after done (AskGen (record { directory = directory; size = size })) ran.0 refl (refl, own) ran.2)
 
--- memory was wanting for it
+-- memory ran out for it
 pub gen_none : (may_read : ℕ → Type 0) (before : World) (done : Done) (t : GenRequest) → done.rc ≡ 32 → done.ends.items ≡ [] → TurnsDone may_read before before done (AskGen t)
 gen_none may_read before done t rc ends =
     turns_done may_read before before before done (AskGen t) (Refused (task_folder (gen_stem t.size) t.directory []) Memory ∷ []) refl (refl, inr (inl refl))

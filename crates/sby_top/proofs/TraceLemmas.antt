@@ -43,7 +43,7 @@ statement_next : (request : Request) (c : CameTo) (place : ℕ) (answer : Option
 statement_next request c place (Some a) answers own rest is has = (is.0, own, rest, is.1, is.2, has, refl)
 statement_next request c place None answers own rest is has = subst (HasCoverTraces request c (place + 1) answers) (ap (λ ts. ts ++ rest) (sym is)) has
 
--- the traces of the statements before a place, with those behind it
+-- the traces of the statements before a place, with those after it
 pub cover_next : (request : Request) (c : CameTo) (answers : List (Option Answer)) (place : ℕ) (answer : Option Answer) (old new own rest : List TraceOf) → slice_get answers place ≡ Some answer
     → IsStatementTrace request.mode c.reports place answer own → new ≡ old ++ own
     → ((more : List TraceOf) → HasCoverTraces request c place (drop place answers) more → HasCoverTraces request c 0 answers (old ++ more))

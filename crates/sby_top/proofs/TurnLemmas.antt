@@ -28,7 +28,7 @@ use Rattle.sby_top.specs.declared.outcome.TaskEnd.{TaskEnd}
 use Rattle.sby_top.proofs.ReportLemmas.{first_or_later, nothing_in}
 use Rattle.cnf_form.proofs.Members.{Contains-head, Contains-tail}
 
--- memory was wanting even for an end
+-- memory ran out even for an end
 pub no_ends : (may_read : ℕ → Type 0) (before : World) (turn : Turn) (turns : List Turn) (done : Done) → done.rc ≡ 32 → done.ends.items ≡ [] → RanTo may_read before (turn ∷ turns) before done
 no_ends may_read before turn turns done rc ends = (Code (bit_or 0 32), rw ends (refl, refl), rc)
 
@@ -148,7 +148,7 @@ had_all may_read start now stem directory c asked done had = (
   ),
 )
 
--- memory was wanting before any of some tasks
+-- memory ran out before any of some tasks
 pub none_asked : (may_read : ℕ → Type 0) (start : World) (stem : List ℕ) (directory : Option (List ℕ)) (c : ConfigOf) (asked : List (Option (List ℕ))) (done : Done) → 0 < length asked → done.rc ≡ 32 → done.ends.items ≡ []
     → RanAsked may_read start start stem directory c asked done
 none_asked may_read start stem directory c [] done some rc ends = absurd (omega (arith, some))

@@ -24,7 +24,7 @@ IsFailedPath task before after path =
     × (path ≡ job_path task.request.name (slices_in p) job) × ArePut p task.request.name (take i (jobs_in p)) before after)
     ⊎ ((p : AskedOf) × IsServed before task p × Contains (streams_in task.service) path × ArePut p task.request.name (jobs_in p) before after)
 
--- what was put when memory was wanting: nothing; or the files of the first jobs of the accepted design, in their order
+-- what was put when memory ran out: nothing; or the files of the first jobs of the accepted design, in their order
 abbrev pub IsHalted : TaskOf → Option Store → Option Store → Type 0
 IsHalted task before after =
     (after ≡ before) ⊎ ((p : AskedOf) × (i : ℕ) × IsServed before task p × ArePut p task.request.name (take i (jobs_in p)) before after)
@@ -54,7 +54,7 @@ pub record IsDone (may_read : ℕ → Type 0) (task : TaskOf) (before after : Fi
   pub faults : after.faults ≡ before.faults
   pub blamed : after.blamed ≡ before.blamed
 
--- The trace files of the first runs shown were put behind all this, of all of them where nothing stopped that.
+-- The trace files of the first runs shown were put after all this, of all of them where nothing stopped that.
 pub record AreTracesPut (task : TaskOf) (before after : FilesOf) (problem : AskedOf) (reports : List (ReportOf FindingOf)) (unput : List ℕ) (stopped : Type 0) : Type 0 where
   pub traces : List TraceOf
   pub count : ℕ
@@ -62,12 +62,12 @@ pub record AreTracesPut (task : TaskOf) (before after : FilesOf) (problem : Aske
   pub put : ArePutTraces task.request problem.design (take count traces) before after unput
   pub whole : stopped ⊎ (AreTraces task.request (record { design = problem.design; reports = reports; start = None }) traces × (take count traces ≡ traces))
 
--- no child was started; or memory was wanting, perhaps behind the lanes
+-- no child was started; or memory ran out, perhaps after the lanes
 abbrev pub AreSpared : RaceOf → Early → Type 0
 AreSpared race early = (race.start ≡ None) × ((race.after ≡ race.before) ⊎ (early ≡ Memory))
 
 -- A task ended before its lanes, for a reason; or it was done, and its trace files were put, all of them unless this was stopped: by
--- want of memory, or by a failed call of the sink.
+-- out of memory, or by a failed call of the sink.
 abbrev pub IsOutcome : (ℕ → Type 0) → TaskOf → FilesOf → FilesOf → RaceOf → Option Early → List ℕ → List (ReportOf FindingOf) → List ℕ → Type 0 → Type 0
 IsOutcome may_read task before after race (Some early) text reports unput stopped =
     (text ≡ []) × (reports ≡ []) × (unput ≡ []) × HasReason task before after early × AreSpared race early

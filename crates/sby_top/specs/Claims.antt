@@ -79,7 +79,7 @@ abbrev pub AreStored : TaskOf → DesignOf → List TraceOf → Option Store →
 AreStored task d [] before after = after ≡ before
 AreStored task d (t ∷ traces) before after = AreStored task d traces (with_trace task.request d t before) after
 
--- files were put: of the first jobs of the problem, before anything else of the task; then trace files, behind them
+-- files were put: of the first jobs of the problem, before anything else of the task; then trace files, after them
 pub record AreFilesPut (task : TaskOf) (before after : Option Store) : Type 0 where
   pub problem : AskedOf
   pub jobs : ℕ
@@ -93,7 +93,7 @@ pub record AreFilesPut (task : TaskOf) (before after : Option Store) : Type 0 wh
 abbrev pub IsStored : TaskOf → Option Store → Option Store → Type 0
 IsStored task before after = (after ≡ before) ⊎ AreFilesPut task before after
 
--- The task was judged when the store was this one: the jobs' files were put, and trace files are put behind them.
+-- The task was judged when the store was this one: the jobs' files were put, and trace files are put after them.
 pub record IsJudgedAt (may_read : ℕ → Type 0) (number : ℕ) (start finish : World) (task : TaskOf) (end : TaskEnd) (now : Store) : Type 0 where
   pub early : end.early ≡ None
   pub middle : FilesOf
@@ -187,7 +187,7 @@ pub record AreShownReaches (start finish : World) (task : TaskOf) (end : TaskEnd
   pub each : (k : ℕ) → k < length (covers design) → IsReachIn task end design lines k
   pub printed : HasPrinted start finish lines
 
--- the design and a cover statement that no run of at most so many cycles reaches, and that it was named
+-- the design and a cover statement that no run of at most this many cycles reaches, and that it was named
 pub record IsNamedUnreached (start finish : World) (task : TaskOf) (end : TaskEnd) : Type 0 where
   pub design : DesignOf
   pub is_design : IsDesignOf start task end design
@@ -280,7 +280,7 @@ pub record IsOpenEnd (may_read : ℕ → Type 0) (number : ℕ) (start finish : 
 
 -- The event that a status other than PASS and FAIL names: UNKNOWN that each end of an unsettled job is Unknown or NotServed, with the cause
 -- of each; TIMEOUT a reading that shows the limit; ERROR a fault before the lanes, or the faulty end of an unsettled job, with its cause. Of
--- want of memory nothing is said.
+-- out of memory nothing is said.
 abbrev pub IsEvent : (ℕ → Type 0) → ℕ → World → World → TaskOf → TaskEnd → Status → Type 0
 IsEvent may_read number start finish task end Pass = Unit {0}
 IsEvent may_read number start finish task end Fail = Unit {0}
@@ -304,7 +304,7 @@ abbrev pub HasOwnFailedCall : (number lane : ℕ) → YardAt → YardAt → Type
 HasOwnFailedCall number lane before now = (counts : CountsOf) × AreCountsOf number lane before now counts × ((0 < counts.starts) ⊎ (0 < counts.reads) ⊎ (0 < counts.holds))
 
 -- A lane's job, whose child's certificate is valid for this answer, is settled with it: a report carries a finding for it with this answer.
--- Or a call for a child of the lane itself failed; a reading shows the limit; the lane ended the job for want of memory; or it was skipped or
+-- Or a call for a child of the lane itself failed; a reading shows the limit; the lane ended the job because memory ran out; or it was skipped or
 -- called off by a finding of the task that decides it.
 abbrev pub IsJobInTime : (ℕ → Type 0) → (number lane place : ℕ) → World → World → TaskOf → AskedOf → List Engine → TaskEnd → Answer → Type 0
 IsJobInTime may_read number lane place start finish task p engines end answer =
@@ -315,7 +315,7 @@ IsJobInTime may_read number lane place start finish task p engines end answer =
     ⊎ ((r : ReportOf FindingOf) × (f : FindingOf) × Contains end.reports.items r × Carries (end_at r place) f
     × (IsSkippedBy (racing_of task p number engines) (name_at task.request.mode place) f ⊎ IsCalledOffBy (racing_of task p number engines) (name_at task.request.mode place) f))
 
--- The status is this one; or memory was wanting; or it is TIMEOUT, and a reading shows the limit; or ERROR, and a call for a child of the
+-- The status is this one; or memory ran out; or it is TIMEOUT, and a reading shows the limit; or ERROR, and a call for a child of the
 -- lane itself failed.
 abbrev pub IsInTime : (ℕ → Type 0) → (number lane : ℕ) → World → World → TaskOf → TaskEnd → Status → Type 0
 IsInTime may_read number lane start finish task end status =

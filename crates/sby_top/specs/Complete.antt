@@ -61,7 +61,7 @@ abbrev pub IsVerdictStatus : Status → Type 0
 IsVerdictStatus status = (status ≡ Pass) ⊎ (status ≡ Fail)
 
 -- The yard tells its scripts, and none of the task's has a gate; no call for a child failed; there is no timeout, or no two readings that
--- the clock may give are the limit apart; and memory was not wanting.
+-- the clock may give are the limit apart; and memory did not run out.
 pub record IsUndisturbed (may_read : ℕ → Type 0) (number : ℕ) (start finish : World) (task : TaskOf) (end : TaskEnd) : Type 0 where
   pub told : IsSome start.yard.scripts
   pub ungated : (lane : ℕ) (job : JobName) (script : ScriptOf) → script_of start.yard.scripts number lane job ≡ Some script → script.gate ≡ None

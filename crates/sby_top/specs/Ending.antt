@@ -20,7 +20,7 @@ abbrev pub IsAskedTurn : List ℕ → Option (List ℕ) → ConfigOf → Option 
 IsAskedTurn stem directory c asked turn = (name : List ℕ) × IsNameOf stem directory c asked name × IsTurnOf name (expansion c asked) turn
 
 -- one turn more was had, numbered by how many were had before, with its number in the exit status, and others may follow; or none may: the
--- sink failed, or memory was wanting for the turn's name
+-- sink failed, or memory ran out for the turn's name
 abbrev pub IsAsk : (ℕ → Type 0) → World → World → List ℕ → Option (List ℕ) → ConfigOf → Option (List ℕ) → Done → Done → Bool → Type 0
 IsAsk may_read before after stem directory c asked old new true =
     (turn : Turn) × (end : TaskEnd) × (rc : ℕ) × IsAskedTurn stem directory c asked turn × TurnRan may_read (length old.ends.items) before after turn end (Code rc)
@@ -29,7 +29,7 @@ IsAsk may_read before after stem directory c asked old new false =
     ((turn : Turn) × (end : TaskEnd) × IsAskedTurn stem directory c asked turn × TurnRan may_read (length old.ends.items) before after turn end Cut × (new.rc ≡ 16) × (new.ends.items ≡ old.ends.items ++ end ∷ []))
     ⊎ ((after ≡ before) × (new.rc ≡ bit_or old.rc 32) × (new.ends.items ≡ old.ends.items))
 
--- The turns of these tasks were had so far, with these ends and this exit status; and whatever turns are had behind them, they were had all
+-- The turns of these tasks were had so far, with these ends and this exit status; and whatever turns are had after them, they were had all
 -- together.
 pub record AreHad (may_read : ℕ → Type 0) (start now : World) (stem : List ℕ) (directory : Option (List ℕ)) (c : ConfigOf) (asked : List (Option (List ℕ))) (done : Done) : Type 0 where
   pub turns : List Turn

@@ -128,7 +128,7 @@ HasOwnStatus task end =
     (d : DesignOf) × (end.early ≡ None → Reads end.text d)
     × IsStatus task.request end.early (record { design = d; reports = end.reports.items; start = end.start }) end.status
 
--- memory was wanting, or a call of the sink failed
+-- memory ran out, or a call of the sink failed
 abbrev pub WasStopped : World → World → TaskEnd → Type 0
 WasStopped before after end = (end.status ≡ Memory) ⊎ Rose before.sink_faults after.sink_faults
 
@@ -148,7 +148,7 @@ abbrev pub EndIn : List ℕ → List (List ℕ) → Type 0
 EndIn line lines = (body : List (List ℕ)) × (lines ≡ body ++ line ∷ [])
 
 -- The lines of a task of this name were printed, where no call of the sink failed: whole, the last one with the status and its number; or up
--- to a line for which, or for a trace file, memory was wanting. They were cut short where one did, and it took nothing behind that call.
+-- to a line for which, or for a trace file, memory ran out. They were cut short where one did, and it took nothing after that call.
 abbrev pub IsPrinted : List ℕ → Option (List ℕ) → Option (List ℕ) → ℕ → ℕ → Option ℕ → (List (List ℕ) → Type 0) → List Status → Type 0 → Status → Exit → Type 0
 IsPrinted name before now faults_before faults ended are_lines expect own status (Code rc) =
     (faults ≡ faults_before) × HasCode expect status rc
@@ -223,13 +223,13 @@ IsPlainStatus before task early status =
     ⊎ ((p : AskedOf) × IsAccepted (Some before) task p × (length (jobs_in p) < length (streams_in task.service)) × (early ≡ Some Streams) × (status ≡ Error))
     ⊎ IsServedStatus task.service before task early status
 
--- no call failed, and memory was not wanting
+-- no call failed, and memory did not run out
 pub record IsSmooth (before after : World) (status : Status) : Type 0 where
   pub files : Rose before.file_faults after.file_faults → ⊥
   pub sink : Rose before.sink_faults after.sink_faults → ⊥
   pub memory : status ≢ Memory
 
--- completeness: over a store that tells, where no call failed and memory was not wanting, the status is the plain one
+-- completeness: over a store that tells, where no call failed and memory did not run out, the status is the plain one
 abbrev pub IsComplete : World → World → TaskOf → TaskEnd → Type 0
 IsComplete before after task end =
     (store : Store) → before.told ≡ Some store → IsSmooth before after end.status → IsPlainStatus store task end.early end.status

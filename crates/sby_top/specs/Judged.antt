@@ -28,7 +28,7 @@ abbrev pub Has : Option Store → List ℕ → (List ℕ → Type 0) → Type 0
 Has None path P = (bytes : List ℕ) × P bytes
 Has (Some store) path P = MatchOption (store path) ⊥ P
 
--- the end of a job is the fate of its stream, which is of this kind, as a certificate for the job's file; or memory was wanting
+-- the end of a job is the fate of its stream, which is of this kind, as a certificate for the job's file; or memory ran out
 abbrev pub IsFateEnd : StreamKind → List ℕ → List ℕ → JobEnd FindingOf → Type 0
 IsFateEnd kind file stream (Found f) = IsFate kind file stream most_stream (FoundFate f.answer)
 IsFateEnd kind file stream Unknown = IsFate kind file stream most_stream UnknownFate

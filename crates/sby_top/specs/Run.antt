@@ -27,11 +27,11 @@ use Rattle.sby_top.specs.declared.outcome.TaskEnd.{TaskEnd}
 abbrev pub refused_request : List ℕ → Request
 refused_request name = record { name = name; mode = Bmc; span = whole 1; expect = []; limit = None }
 
--- the status of a fault: MEMORY for want of memory, else ERROR
+-- the status of a fault: MEMORY where memory ran out, else ERROR
 abbrev pub IsRefusedStatus : List ℕ → Early → Status → Type 0
 IsRefusedStatus name early status = (c : CameTo) × IsStatus (refused_request name) (Some early) c status
 
--- Only a fault was told: the status is ERROR with number 16, whatever the task's file expects, or MEMORY with 32 for want of memory; no
+-- Only a fault was told: the status is ERROR with number 16, whatever the task's file expects, or MEMORY with 32 where memory ran out; no
 -- file changed.
 pub record WasRefused (before after : World) (name : List ℕ) (early : Early) (end : TaskEnd) (exit : Exit) : Type 0 where
   pub name_is : string_bytes end.name ≡ name
@@ -54,7 +54,7 @@ TurnRan may_read number before after (Refused name early) end exit = WasRefused 
 TurnRan may_read number before after (Run task) end exit = TaskRan may_read number before after task end exit
 
 -- The turns, numbered from this one on, were had in order, each from the moment at which the one before it was done; the exit status of
--- each is or-ed to those before it. A failed call of the sink ends the run; where memory is wanting even for an end, the list of ends stops
+-- each is or-ed to those before it. A failed call of the sink ends the run; where memory runs out even for an end, the list of ends stops
 -- short.
 abbrev pub Ran : (ℕ → Type 0) → ℕ → ℕ → World → List Turn → List TaskEnd → World → Exit → Type 0
 Ran may_read number so_far before [] [] after exit = (after ≡ before) × (exit ≡ Code so_far)
@@ -123,12 +123,12 @@ IsDoneAs may_read before after done (Some (AskJudge j)) = TurnsDone may_read bef
 IsDoneAs may_read before after done (Some (AskTasks t)) = TurnsDone may_read before after done (AskTasks t)
 IsDoneAs may_read before after done (Some (AskGen g)) = TurnsDone may_read before after done (AskGen g)
 
--- memory was wanting for the words, and nothing was done
+-- memory ran out for the words, and nothing was done
 pub record IsNothing (before after : World) (done : Done) : Type 0 where
   pub rc : done.rc ≡ 32
   pub ends : done.ends.items ≡ []
   pub same : after ≡ before
 
--- what a call did, under a clock that may give these readings: what its words ask for; or nothing, since memory was wanting
+-- what a call did, under a clock that may give these readings: what its words ask for; or nothing, since memory ran out
 abbrev pub Did : (ℕ → Type 0) → World → World → List (List ℕ) → Done → Type 0
 Did may_read before after words done = ((asked : Option Asked) × IsAsked words asked × IsDoneAs may_read before after done asked) ⊎ IsNothing before after done

@@ -17,7 +17,7 @@ most_design = 67108864
 abbrev pub most_stream : ℕ
 most_stream = 4294967296
 
--- what `get` gives of a path, where the store tells: its content, cut behind `most + 1` bytes; where it doesn't, no more than so many
+-- what `get` gives of a path, where the store tells: its content, cut after `most + 1` bytes; where it doesn't, no more than this many
 abbrev pub IsGot : Option Store → List ℕ → ℕ → List ℕ → Type 0
 IsGot None path most bytes = length bytes ≤ most + 1
 IsGot (Some store) path most bytes = (content : List ℕ) × (store path ≡ Some content) × (bytes ≡ take (most + 1) content)

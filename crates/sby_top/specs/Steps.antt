@@ -33,7 +33,7 @@ abbrev pub got_items : Got → List ℕ
 got_items (Whole v) = v.items
 got_items (Long v) = v.items
 
--- a call failed at this path; or memory was wanting, and the files are as they were
+-- a call failed at this path; or memory ran out, and the files are as they were
 abbrev pub IsFailedCall : FilesOf → FilesOf → List ℕ → Early → Type 0
 IsFailedCall before after path (File p) = (string_bytes p ≡ path) × IsFailedAt before after path
 IsFailedCall before after path Memory = (before.faults ≤ after.faults) × (after.told ≡ before.told)
@@ -44,11 +44,11 @@ IsFailedCall before after path (Design f) = ⊥
 IsFailedCall before after path (TooMany job) = ⊥
 IsFailedCall before after path Streams = ⊥
 
--- a call for a design's text failed, at its path; or memory was wanting, and the files are as they were
+-- a call for a design's text failed, at its path; or memory ran out, and the files are as they were
 abbrev pub IsTextFailed : DesignAt → FilesOf → FilesOf → Early → Type 0
 IsTextFailed design before after early = ((path : List ℕ) × (design ≡ Stored path) × IsFailedCall before after path early) ⊎ ((early ≡ Memory) × (after.told ≡ before.told))
 
--- a problem is refused so; or memory was wanting
+-- a problem is refused so; or memory ran out
 abbrev pub IsRefusal : ProblemOf → Early → Type 0
 IsRefusal p (Read f) = IsProblemFault p (ReadFault f)
 IsRefusal p (Design f) = IsProblemFault p (DesignFault f)
@@ -65,7 +65,7 @@ IsPathJudged p told job None end = end ≡ NotServed
 IsPathJudged p told job (Some path) end = IsJudged p told job path end
 
 -- The call for the file of the job at a place failed, when the files of the jobs before it were put, and with them the files were such;
--- or memory was wanting.
+-- or memory ran out.
 pub record IsPutFailed (p : AskedOf) (folder : List ℕ) (before after : FilesOf) (early : Early) : Type 0 where
   pub place : ℕ
   pub job : JobName
@@ -73,8 +73,8 @@ pub record IsPutFailed (p : AskedOf) (folder : List ℕ) (before after : FilesOf
   pub put : ArePut p folder (take place (jobs_in p)) before.told after.told
   pub failed : IsFailedCall (record before { told = after.told }) after (job_path folder (slices_in p) job) early
 
--- The jobs of an accepted design were cut short: memory was wanting before their files were put; the file of one couldn't be put; or all
--- were, and a stream couldn't be got, or memory was wanting to race their lanes.
+-- The jobs of an accepted design were cut short: memory ran out before their files were put; the file of one couldn't be put; or all
+-- were, and a stream couldn't be got, or memory ran out for racing their lanes.
 abbrev pub IsCutShort : AskedOf → List ℕ → List (List ℕ) → FilesOf → FilesOf → Early → Type 0
 IsCutShort p folder paths before after early =
     ((early ≡ Memory) × (after ≡ before))

@@ -59,7 +59,7 @@ file_task folder t = record {
   service = Lanes t.engines;
 }
 
--- the turn of a task by what its lines say; want of memory is told as such
+-- the turn of a task by what its lines say; out of memory is told as such
 abbrev pub IsTurnOf : List ℕ → Result FileTask TaskFault → Turn → Type 0
 IsTurnOf name (Ok t) turn = (turn ≡ Run (file_task name t)) ⊎ (turn ≡ Refused name Memory)
 IsTurnOf name (Err fault) turn = (turn ≡ Refused name (Task fault)) ⊎ (turn ≡ Refused name Memory)
@@ -70,7 +70,7 @@ IsNameOf stem directory c None name = name ≡ task_folder stem directory []
 IsNameOf stem directory c (Some task) name =
     (Contains c.tasks task × (name ≡ task_folder stem directory task)) ⊎ ((Contains c.tasks task → ⊥) × (name ≡ task_folder stem directory []))
 
--- the turns of these tasks, in their order; where memory is wanting for a name, the list stops short
+-- the turns of these tasks, in their order; where memory runs out for a name, the list stops short
 abbrev pub AreTurnsOf : List ℕ → Option (List ℕ) → ConfigOf → List (Option (List ℕ)) → List Turn → Type 0
 AreTurnsOf stem directory c [] turns = turns ≡ []
 AreTurnsOf stem directory c (asked ∷ more) [] = ⊥
@@ -86,7 +86,7 @@ abbrev pub asked_tasks : List (List ℕ) → ConfigOf → List (Option (List ℕ
 asked_tasks [] c = all_tasks c.tasks
 asked_tasks (name ∷ names) c = map Some (name ∷ names)
 
--- the turns that a task file's text gives: one fault where it isn't a task file, or memory is wanting to read it; else its tasks'
+-- the turns that a task file's text gives: one fault where it isn't a task file, or memory runs out to read it; else its tasks'
 abbrev pub AreTextTurns : List ℕ → Option (List ℕ) → List (List ℕ) → List ℕ → List Turn → Type 0
 AreTextTurns stem directory names text turns =
     ((fault : SbyFault) × (first (faults_of text) ≡ Some fault) × (turns ≡ Refused (task_folder stem directory []) (Sby fault) ∷ []))
@@ -97,7 +97,7 @@ AreTextTurns stem directory names text turns =
 abbrev pub most_task_file : ℕ
 most_task_file = 16777216
 
--- The task file at this path was got, with this text; or the call failed, or memory was wanting for it.
+-- The task file at this path was got, with this text; or the call failed, or memory ran out for it.
 abbrev pub IsTextGot : FilesOf → FilesOf → List ℕ → Result (List ℕ) Early → Type 0
 IsTextGot before now path (Ok text) = IsGot before.told path most_task_file text × (now ≡ before)
 IsTextGot before now path (Err (File p)) = (string_bytes p ≡ path) × IsFailedAt before now path
@@ -119,7 +119,7 @@ abbrev pub gen_stem : ℕ → List ℕ
 gen_stem n = codes "gen_" ++ decimal n
 
 -- The fault that `--dumptasks` tells of a file, by the moment at which it is told: it couldn't be got; it was, and its text's first fault
--- is this one; or memory was wanting to read it.
+-- is this one; or memory ran out for reading it.
 abbrev pub IsNamesFault : FilesOf → FilesOf → List ℕ → Early → Type 0
 IsNamesFault before now file early =
     IsTextGot before now file (Err early)

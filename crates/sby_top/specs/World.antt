@@ -35,7 +35,7 @@ abbrev pub world_at : Option Store → ℕ → Option (List ℕ) → Option (Lis
 world_at told faults blamed taken sink_faults ended yard =
     record { told = told; file_faults = faults; blamed = blamed; taken = taken; sink_faults = sink_faults; ended = ended; yard = yard }
 
--- What the lanes of a task, which has this number in its call, know of the yard, before them and behind them; and the reading at which they
+-- What the lanes of a task, which has this number in its call, know of the yard, before them and after them; and the reading at which they
 -- started, where they have a limit.
 pub record RaceOf : Type 0 where
   pub task : ℕ

@@ -66,7 +66,7 @@ pub fn fail_of_cover_names_a_statement<C: Clock>(clock: &C)
         → IsNamedUnreached start finish task end }
 {}
 
-/// What the last line says is the task's status: where a sink that tells took it of a task, no call of it failed, and memory was not wanting.
+/// What the last line says is the task's status: where a sink that tells took it of a task, no call of it failed, and memory did not run out.
 pub fn last_line_is_the_status<C: Clock>(clock: &C)
     ensures { (before start finish : World) (words : List (List ℕ)) (done : Done) (task : TaskOf) (end : TaskEnd) (status : Status) (rc : ℕ) → IsTaskOf (C.may_read clock.now) before words done start finish task end → end.status ≢ Memory
         → HasTold start finish task.request.name status rc → end.status ≡ status }
@@ -103,24 +103,24 @@ pub fn exit_status_0_is_as_expected<C: Clock>(clock: &C)
 
 /// Each other status names its event. UNKNOWN: each end of a job without an answer is Unknown or NotServed, and has its cause. TIMEOUT: such
 /// an end was stopped by a reading of the clock that shows the limit. ERROR: a fault before the lanes, by its kind and place; or such an end
-/// is that of a stream which is no certificate, or of a call for a child that failed. Want of memory is free.
+/// is that of a stream which is no certificate, or of a call for a child that failed. Out of memory is free.
 pub fn each_status_names_its_event<C: Clock>(clock: &C)
     ensures { (before start finish : World) (words : List (List ℕ)) (done : Done) (task : TaskOf) (end : TaskEnd) → (is : IsTaskOf (C.may_read clock.now) before words done start finish task end) → IsEvent (C.may_read clock.now) is.place start finish task end end.status }
 {}
 
-/// Files change by nothing but the files of the first jobs of the accepted design, and behind them its trace files.
+/// Files change by nothing but the files of the first jobs of the accepted design, and after them its trace files.
 pub fn files_change_by_job_and_trace_files<C: Clock>(clock: &C)
     ensures { (before start finish : World) (words : List (List ℕ)) (done : Done) (task : TaskOf) (end : TaskEnd) → IsTaskOf (C.may_read clock.now) before words done start finish task end → IsStored task start.told finish.told }
 {}
 
-/// The sink grows by the task's lines: whole; or, after want of memory, by the first of them; or, where a call of it failed, by a part of
+/// The sink grows by the task's lines: whole; or, after an answer out of memory, by the first of them; or, where a call of it failed, by a part of
 /// their bytes.
 pub fn sink_grows_by_lines<C: Clock>(clock: &C)
     ensures { (before start finish : World) (words : List (List ℕ)) (done : Done) (task : TaskOf) (end : TaskEnd) → IsTaskOf (C.may_read clock.now) before words done start finish task end
         → (exit : Exit) × IsPrinted task.request.name start.taken finish.taken start.sink_faults finish.sink_faults finish.ended (AreLines task end) task.request.expect (HasOwnStatus task end) end.status exit }
 {}
 
-/// Refused words give the usage line alone, exit status 16 and no change of files; or memory was wanting, and nothing was done.
+/// Refused words give the usage line alone, exit status 16 and no change of files; or memory ran out, and nothing was done.
 pub fn refused_words_give_the_usage_line<C: Clock>(clock: &C)
     ensures { (before after : World) (words : List (List ℕ)) (done : Done) → Did (C.may_read clock.now) before after words done → ((request : Request) → Asks words request → ⊥) → UsageAlone before after done ⊎ IsNothing before after done }
 {}

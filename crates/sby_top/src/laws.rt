@@ -47,7 +47,7 @@ use cert_judge::{certificate_is_found, certificate_is_found_before_more, one_fat
 use judge::{files_tell_what_jobs_ask, findings_tell_what_can_be_solved, one_file};
 use sby_edge::Clock;
 
-/// A design that is not refused is judged: over a store that tells, where no call failed and memory was not wanting, and where there is a
+/// A design that is not refused is judged: over a store that tells, where no call failed and memory did not run out, and where there is a
 /// job for each stream, the task comes to its lanes, and there is a store at which it was judged; of `--judge` in bmc where there is one
 /// stream at most.
 pub fn accepted_design_is_judged<C: Clock>(clock: &C)
@@ -61,7 +61,7 @@ pub fn accepted_design_is_judged<C: Clock>(clock: &C)
         → (now : Store) × IsJudgedAt (C.may_read clock.now) is.place start finish task end now }
 {}
 
-/// A valid certificate gives its verdict, PASS for Unsat and FAIL for Sat: of `--judge` in bmc, where memory was not wanting, and the one
+/// A valid certificate gives its verdict, PASS for Unsat and FAIL for Sat: of `--judge` in bmc, where memory did not run out, and the one
 /// stream, of the kind that its path names, is a certificate for this answer of the job's file, as both stand when the task is judged.
 pub fn valid_certificate_gives_its_verdict<C: Clock>(clock: &C)
     ensures { (before start finish : World) (words : List (List ℕ)) (done : Done) (j : JudgeRequest) (end : TaskEnd) (now : Store) (path stream file : List ℕ) (kind : StreamKind) (answer : Answer)
@@ -72,7 +72,7 @@ pub fn valid_certificate_gives_its_verdict<C: Clock>(clock: &C)
     one_file();
 }
 
-/// Valid certificates give their verdict, in every mode: of `--judge`, where memory was not wanting, and each stream is there, with its fate, as
+/// Valid certificates give their verdict, in every mode: of `--judge`, where memory did not run out, and each stream is there, with its fate, as
 /// one of the kind that its path names, for its job's file, as both stand when the task is judged: where the answers of these fates decide a
 /// verdict, the status is that verdict's.
 pub fn valid_certificates_give_their_verdict<C: Clock>(clock: &C)
@@ -84,9 +84,9 @@ pub fn valid_certificates_give_their_verdict<C: Clock>(clock: &C)
     one_file();
 }
 
-/// A stored certificate in DRUP text gives its verdict: of `--judge` in bmc, where memory was not wanting, and the one stream, whose path
+/// A stored certificate in DRUP text gives its verdict: of `--judge` in bmc, where memory did not run out, and the one stream, whose path
 /// names no other kind, is a certificate of the job's file, of at most 2^32 bytes, as both stand when the task is judged; or where it goes on
-/// behind one, with white space or a line feed within these bytes and whatever comes then.
+/// after one, with white space or a line feed within these bytes and whatever comes then.
 pub fn stored_certificate_gives_its_verdict<C: Clock>(clock: &C)
     ensures alone { (before start finish : World) (words : List (List ℕ)) (done : Done) (j : JudgeRequest) (end : TaskEnd) (now : Store) (path cert file : List ℕ) (answer : Answer)
         → (is : IsTaskOf (C.may_read clock.now) before words done start finish (judge_task j) end) → IsJudgedAt (C.may_read clock.now) is.place start finish (judge_task j) end now → j.mode ≡ Bmc → end.status ≢ Memory
@@ -105,7 +105,7 @@ pub fn stored_certificate_gives_its_verdict<C: Clock>(clock: &C)
 /// A valid certificate of a child, judged in time, gives its verdict, PASS for Unsat and FAIL for Sat: of bmc of one slice, where the script
 /// of a lane's child is told and has no gate, the lane's engine serves jobs, and what the child leaves is a certificate for this answer of the
 /// job's file, as it stands when the task is judged: what it writes, up to its stall; or, where the engine's kind is such and that comes to
-/// nothing, its proof file. Else memory was wanting; a reading of the clock showed the limit, with TIMEOUT; or a call for a child of this lane
+/// nothing, its proof file. Else memory ran out; a reading of the clock showed the limit, with TIMEOUT; or a call for a child of this lane
 /// failed, with ERROR.
 pub fn valid_child_gives_its_verdict<C: Clock>(clock: &C)
     ensures { (before start finish : World) (words : List (List ℕ)) (done : Done) (task : TaskOf) (end : TaskEnd) (engines : List Engine) (lane : ℕ) (script : ScriptOf) (now : Store) (file : List ℕ) (answer : Answer)
@@ -135,7 +135,7 @@ pub fn valid_child_settles_its_job<C: Clock>(clock: &C)
 /// Lanes that nothing disturbed give Plain's status, which goes by the scripts and the engine lines alone: always where that is a verdict; else
 /// so, or some job's finding came by a look, while no lane's end of that job is Found. Nothing disturbs them where the yard tells its scripts
 /// and the task's have no gates, no call for a child failed, there is no timeout or no two readings that the clock may give are the limit
-/// apart, and memory was not wanting.
+/// apart, and memory did not run out.
 pub fn undisturbed_lanes_give_the_plain_status<C: Clock>(clock: &C)
     ensures verdict { (before start finish : World) (words : List (List ℕ)) (done : Done) (task : TaskOf) (end : TaskEnd) (engines : List Engine) (now : Store) (status : Status)
         → (is : IsTaskOf (C.may_read clock.now) before words done start finish task end) → (judged : IsJudgedAt (C.may_read clock.now) is.place start finish task end now) → task.service ≡ Lanes engines

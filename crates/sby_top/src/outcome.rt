@@ -10,7 +10,7 @@ use sby_terms::Status;
 pub struct TaskEnd {
     /// The work folder's text.
     pub name: String,
-    /// MEMORY where memory was wanting for a line or a trace file.
+    /// MEMORY where memory ran out for a line or a trace file.
     pub status: Status,
     pub early: Option<Early>,
     /// The reading of the clock, in milliseconds, at which lanes under a time limit started.
@@ -29,6 +29,6 @@ pub struct Done {
     /// The exit status: the bitwise or over the tasks, with 32 where the list of ends stops short; exactly 16 after a fault of the
     /// sink, or where the words are refused.
     pub rc: u8,
-    /// One end for each task, in order; the list stops short where memory is wanting even for an end.
+    /// One end for each task, in order; the list stops short where memory runs out even for an end.
     pub ends: Vec<TaskEnd>,
 }

@@ -66,7 +66,7 @@ fn ended(told: Result<(), Stop>, decided: Status, rc: u8) -> (Status, Exit)
     }
 }
 
-/// Prints the lines of a fault before the lanes of a task of so many slices, with this name.
+/// Prints the lines of a fault before the lanes of a task of this many slices, with this name.
 pub fn finish_fault<S: Sink>(
     alloc: Global,
     out: &mut S,

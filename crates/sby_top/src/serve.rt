@@ -60,7 +60,7 @@ fn bytes_of(got: Got) -> Vec<u8>
     }
 }
 
-/// Gets the content of a path, cut behind `most + 1` bytes.
+/// Gets the content of a path, cut after `most + 1` bytes.
 pub fn get<F: Files>(alloc: Global, files: &mut F, path: &str, most: u64) -> Result<Vec<u8>, Early>
     ensures got { IfOk result (λ bytes. IsGot (F.told files.old) path.now most bytes.items) }
     ensures failed { IfErr result (IsFailedCall (files_at (F.told files.old) (F.faults files.old) (F.blamed files.old)) (files_at (F.told files.new) (F.faults files.new) (F.blamed files.new)) path.now) }

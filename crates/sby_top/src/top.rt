@@ -65,7 +65,7 @@ fn run_turn<R: Threads + Wait + Sync, F: Files, S: Sink, Y: Yard, C: Clock>(
     }
 }
 
-// Memory was wanting before anything was done.
+// Memory ran out before anything was done.
 fn out_of_memory(alloc: Global) -> Done
     ensures rc { result.rc ≡ 32 }
     ensures ends { result.ends.items ≡ [] }
@@ -132,7 +132,7 @@ fn run_asked<R: Threads + Wait + Sync, F: Files, S: Sink, Y: Yard, C: Clock>(
         book.now.stem.now (option_map (λ s. s.now) book.now.directory) book.now.config.now (option_map (λ s. s.now) asked.entry) done.old done.new result }
     ensures room { vec_capacity done.old.ends ≤ vec_capacity done.new.ends }
 {
-    // So many turns as a number of 32 bits can't count aren't had.
+    // This many turns as a number of 32 bits can't count aren't had.
     let (Ok(number), Ok(turn)) = (u32::try_from(done.ends.len()), turn_of(alloc, book, asked))
     else {
         done.rc |= 32;
@@ -538,7 +538,7 @@ fn run_usage<S: Sink>(alloc: Global, out: &mut S) -> Done
 ///
 /// Served are all forms of words: `--judge` with stored streams, task files, `--gen` and `--dumptasks`. The jobs of a task file are raced
 /// by its engines, one lane for each, on threads of `rt`: their children are started in bays of `yard`, which all come back to it. `clock`
-/// is read under a timeout alone. Want of memory is told in the answer: status MEMORY, exit status 32.
+/// is read under a timeout alone. Out of memory is told in the answer: status MEMORY, exit status 32.
 pub fn run_sby<R: Threads + Wait + Sync, F: Files, S: Sink, Y: Yard, C: Clock>(
     rt: &R,
     alloc: Global,

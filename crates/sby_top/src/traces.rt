@@ -247,7 +247,7 @@ fn put_listed<F: Files>(
     }
 }
 
-/// Puts the trace files of runs, one after the other, up to one for which memory is wanting, and lists those that couldn't be put.
+/// Puts the trace files of runs, one after the other, up to one for which memory runs out, and lists those that couldn't be put.
 pub fn put_traces<F: Files>(
     alloc: Global,
     files: &mut F,

@@ -66,7 +66,7 @@ all_pass P xs i past all = subst (λ (ys : List (Bor (List ℕ))). All P (texts 
 abbrev pub nowhere : Bor (List ℕ)
 nowhere = record { ref_ptr = (0, 0); now = [] }
 
--- the words behind the first n
+-- the words after the first n
 abbrev pub later : ℕ → List (Bor (List ℕ)) → List (Bor (List ℕ))
 later n xs = take (length xs - n) (drop n xs)
 

@@ -116,14 +116,14 @@ next_words rows vs (word ∷ words) none = ap (λ (t : List Row). fold with_word
 abbrev ready : List Row → Walk
 ready rows = record { held = record { rows = rows; pending = None; skip = 0 }; waiting = idle; position = 1; is_trailing = false; stopped = None }
 
--- behind `-d`, and behind DIR
+-- after `-d`, and after DIR
 abbrev option_waits : List Row → Walk
 option_waits rows = record { held = record { rows = rows; pending = Some (codes "folder", []); skip = 0 }; waiting = option (codes "folder"); position = 1; is_trailing = false; stopped = None }
 
 abbrev option_has : List Row → Text → Walk
 option_has rows dir = record { held = record { rows = rows; pending = Some (codes "folder", dir ∷ []); skip = 0 }; waiting = idle; position = 1; is_trailing = false; stopped = None }
 
--- behind a word of the list, which waits
+-- after a word of the list, which waits
 abbrev behind : List Row → Text → Walk
 behind rows last = record { held = record { rows = rows; pending = Some (codes "words", last ∷ []); skip = 0 }; waiting = positional; position = 1; is_trailing = false; stopped = None }
 
@@ -151,7 +151,7 @@ next_turn : (rows : List Row) (last word : Text) → Plain word → Turn (behind
 unfolding clap_on_literals
 next_turn rows last word p = record { to = rw (p.no_end, p.no_long, p.no_short) refl; passes = rw (p.no_end, p.no_long, p.no_short) refl }
 
--- behind `-f` and `-d DIR`
+-- after `-f` and `-d DIR`
 abbrev behind_options : Bool → Option Text → Walk
 behind_options force None = ready (force_rows force)
 behind_options force (Some dir) = option_has (force_rows force) dir

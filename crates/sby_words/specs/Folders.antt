@@ -37,6 +37,6 @@ abbrev pub task_end : List ℕ → List ℕ
 task_end [] = []
 task_end (b ∷ bs) = codes "_" ++ b ∷ bs
 
--- the work folder of a task: DIR or else the stem, and `_TASK` behind it
+-- the work folder of a task: DIR or else the stem, and `_TASK` after it
 abbrev pub task_folder : List ℕ → Option (List ℕ) → List ℕ → List ℕ
 task_folder stem directory task = unwrap_or directory stem ++ task_end task

@@ -11,7 +11,7 @@ use crate::request::asked_by;
 use clap::error::ErrorKind;
 use std::alloc::{AllocError, Global};
 
-/// What the words behind the program's name ask, and `None` where they are refused: `clap` doesn't take them, or they are of
+/// What the words after the program's name ask, and `None` where they are refused: `clap` doesn't take them, or they are of
 /// none of the four forms. `-f` is taken in each form and changes nothing. MODE is `bmc`, `prove` or `cover`, DEPTH from 1 to
 /// `MAX_DEPTH`, N from 2 to 10,000, and neither DIR nor the stem of DESIGN or FILE may be empty.
 pub fn asked_of(alloc: Global, words: &[String]) -> Result<Option<Asked>, AllocError>

@@ -34,7 +34,7 @@ use Rattle.task_race.proofs.PlaceLemmas.{at_contains, at_map, contains_at, stand
 
 -- ---- what a child leaves
 
--- an output and what is left behind it are the stream of the job's child
+-- an output and what is left after it are the stream of the job's child
 front_streams : (told : Option YardOf) (task lane : ℕ) (job : JobName) (output rest : List ℕ) → IsFrontOf (new_bay told task lane) job output rest
     → IsStreamOf (script_of told task lane job) (output ++ rest)
 front_streams None task lane job output rest front = tt

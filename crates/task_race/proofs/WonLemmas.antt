@@ -22,7 +22,7 @@ use Rattle.lane_child.specs.Reading.{IfWon}
 use Rattle.lane_run.specs.Done.{JobDone, LaneSoFar}
 use Rattle.task_race.proofs.PlaceLemmas.{first_or_later}
 
--- an event behind a part that is Wrong, or has settled, is Wrong
+-- an event after a part that is Wrong, or has settled, is Wrong
 wrong_after : {T : Type 0} (e : LaneEvent T) → reader_after e reader.Wrong ≡ reader.Wrong
 wrong_after (event.Read n p) = refl
 wrong_after e = refl

@@ -53,7 +53,7 @@ IsCalledOffBy racing job f = (racing.wait ≡ false) × (f.problem ≡ racing.pr
 abbrev pub IsSkippedBy : RacingOf → JobName → FindingOf → Type 0
 IsSkippedBy racing job f = (racing.wait ≡ false) × (f.problem ≡ racing.problem.problem) × (skipped_by f.job f.answer job ≡ true)
 
--- a reading that the clock may give shows the limit: so many milliseconds behind the start
+-- a reading that the clock may give shows the limit: this many milliseconds after the start
 pub record IsLimitShown (may_read : ℕ → Type 0) (limit start : Option ℕ) (t : ℕ) : Type 0 where
   pub begun : ℕ
   pub millis : ℕ
@@ -65,7 +65,7 @@ pub record IsLimitShown (may_read : ℕ → Type 0) (limit start : Option ℕ) (
 
 -- A job of a lane that started at this reading, over what its yard tells; its bay came back with these counts.
 module _ (racing : RacingOf) (may_read : ℕ → Type 0) (told : Option YardOf) (counts : CountsOf) (start : Option ℕ) (lane : ℕ) (job : JobName) where
-  -- the cause of its end, by its case; want of memory is free
+  -- the cause of its end, by its case; out of memory is free
   abbrev pub HasEndCause : JobEnd FindingOf → Type 0
   HasEndCause (end.Found f) = IsJudgedAs racing told lane job (judged.Found f)
   HasEndCause end.Unknown = IsJudgedAs racing told lane job judged.Unknown

@@ -28,7 +28,7 @@ pub fn ends_have_causes<C: Clock>(clock: &C)
 
 /// A job ends by the fate of what its child leaves as a certificate for the job's file: its stream, or, where its output leaves that to it,
 /// its proof file. So it is where the lane's engine serves jobs and its script is told and has no gate; unless a call failed, the job was
-/// skipped, called off or stopped, or memory was wanting.
+/// skipped, called off or stopped, or memory ran out.
 pub fn streams_give_their_fates<C: Clock>(clock: &C)
     ensures { (racing : RacingOf) (before now : YardAt) (start : Option ℕ) (reports : List (ReportOf FindingOf)) → LanesRan racing (C.may_read clock.now) before now start reports
         → EachLane reports (λ lane r. (place : ℕ) (script : ScriptOf) (file : List ℕ) (fate : Fate) → place < job_count racing

@@ -104,7 +104,7 @@ fn race_bays<R: Threads + Wait + Sync, L: Launch + Send, C: Clock>(
 }
 
 /// Races the lanes of a task, in bays of a yard that all come back to it. A store that tells has the files of all jobs before. Where
-/// memory is wanting before the first child starts, none is started.
+/// memory runs out before the first child starts, none is started.
 pub fn race_task<R: Threads + Wait + Sync, F: Files, Y: Yard, C: Clock>(
     rt: &R,
     alloc: Global,
@@ -122,7 +122,7 @@ pub fn race_task<R: Threads + Wait + Sync, F: Files, Y: Yard, C: Clock>(
     ensures memory { OnErr result (NoneStarted (yard_at (Y.told yard.old) (Y.started yard.old) (counts_at (Y.start_faults yard.old) (Y.read_faults yard.old) (Y.hold_faults yard.old)))
         (yard_at (Y.told yard.new) (Y.started yard.new) (counts_at (Y.start_faults yard.new) (Y.read_faults yard.new) (Y.hold_faults yard.new)))) }
 {
-    // So many lanes as a number of 32 bits can't count aren't raced.
+    // This many lanes as a number of 32 bits can't count aren't raced.
     let Ok(lanes) = u32::try_from(racing.engines.len()) else {
         return Err(AllocError);
     };

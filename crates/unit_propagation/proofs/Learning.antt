@@ -115,7 +115,7 @@ module _ (vars : ℕ) (slots : List (Option (List LitOf))) (s : State) (pairs : 
         rising = v.rising;
       }
 
-  -- no clause came, for want of memory
+  -- no clause came, because memory ran out
   pub unlearnt : (slots' : List (Option (List LitOf))) (s' : State) (pairs' : List (List Watch)) → s'.trail ≡ s.trail → length slots' ≡ length s'.heads → Same slots slots' → IsFiled slots' s' pairs'
       → ((b : List LitOf) → ((l : LitOf) → Contains b l → Contains s.trail l) → AllKept b b slots s.heads → AllKept b b slots' s'.heads) → IsPropagator vars slots' s' pairs' limits conflict
   unlearnt slots' s' pairs' same_trail count same filed kept = record {

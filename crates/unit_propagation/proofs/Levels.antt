@@ -64,7 +64,7 @@ module _ (vars : ℕ) (slots : List (Option (List LitOf))) (s : State) (pairs : 
             ];
       }
 
-  -- for want of memory nothing changed but watches
+  -- out of memory, nothing changed but watches
   pub unopened : (new : State) → length new.heads ≡ length s.heads → IsFiled slots new pairs → new.trail ≡ s.trail
       → ((j : ℕ) (d : Head) → j < length new.heads → (b : List LitOf) → ((l : LitOf) → Contains b l → Contains s.trail l) → IsKept b b (slot_at slots j) (get_or s.heads j d) → IsKept b b (slot_at slots j) (get_or new.heads j d))
       → IsPropagator vars slots new pairs limits conflict

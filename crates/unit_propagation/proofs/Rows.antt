@@ -23,7 +23,7 @@ row_set_other rows l u xs d = get_or-set_other rows (index_of l) (index_of u) xs
 abbrev items_of : List (Vec Watch Global) → List (List Watch)
 items_of lists = map (λ (v : Vec Watch Global). v.items) lists
 
--- the empty lists of the literals behind them
+-- the empty lists of the literals after them
 abbrev empties : ℕ → List (List Watch)
 empties n = replicate n []
 

@@ -58,7 +58,7 @@ module _ (vars : ℕ) (slots : List (Option (List LitOf))) (s : State) (pairs : 
     rising = λ i j d h k. absurd (omega (arith, k, ap length zero));
   }
 
-  -- no clause came, for want of memory
+  -- no clause came, because memory ran out
   pub without_clause : (slots' : List (Option (List LitOf))) (s' : State) (pairs' : List (List Watch)) → limits ≡ [] → s'.trail ≡ s.trail → length slots' ≡ length s'.heads → Same slots slots' → IsFiled slots' s' pairs'
       → (AllKept s.trail s.trail slots s.heads → AllKept s.trail s.trail slots' s'.heads) → IsPropagator vars slots' s' pairs' limits conflict
   without_clause slots' s' pairs' zero same_trail count same filed kept = record {

@@ -38,7 +38,7 @@ end_tail size x hs k =
     let e : suc k + 1 ≡ suc (k + 1) = omega arith in
     ap (λ n. get_or (map (λ (y : Head). y.start) (x ∷ hs)) n size) e
 
--- a clause more, behind the others
+-- a clause more, after the others
 module _ (size more : ℕ) (heads : List Head) (h : Head) (at : h.start ≡ size) where
   pub end_push : (k : ℕ) → k < length heads → end_of more (heads ++ h ∷ []) k ≡ end_of size heads k
   end_push k room = end_next more (heads ++ h ∷ []) k h (omega (arith, room, length_push heads h)) ∙

@@ -81,6 +81,6 @@ abbrev pub EndsDecided : PropagatorOf → Option ℕ → Type 0
 EndsDecided new None = new.conflict ≡ false
 EndsDecided new (Some k) = (new.conflict ≡ true) × ((c : List LitOf) × (slot_at new.slots k ≡ Some c) × IsFalsified new.trail c)
 
--- memory was wanting: only a number may be used up
+-- memory ran out: only a number may be used up
 abbrev pub IsWanting : PropagatorOf → PropagatorOf → Type 0
 IsWanting old new = Same old.slots new.slots × (new ≡ record old { slots = new.slots })

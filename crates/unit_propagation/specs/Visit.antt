@@ -126,7 +126,7 @@ pub record IsPending (p : List LitOf) (f : LitOf) (slots : List (Option (List Li
   pub each : (j : ℕ) (d : Head) → j < length s.heads → IsKept (p ++ negate f ∷ []) s.trail (slot_at slots j) (slice_index_or s.heads j d)
       ⊎ (IsKept p s.trail (slot_at slots j) (slice_index_or s.heads j d) × StandsFrom list k j)
 
--- how it stopped: not yet, at a falsified clause, or for want of memory
+-- how it stopped: not yet, at a falsified clause, or because memory ran out
 abbrev pub StopFits : List LitOf → LitOf → List (Option (List LitOf)) → State → List Watch → ℕ → Option Stop → Type 0
 StopFits p f slots s list k None = IsPending p f slots s list k
 StopFits p f slots s list k (Some (Conflict j)) = (c : List LitOf) × (slot_at slots j ≡ Some c) × IsFalsified s.trail c
@@ -194,7 +194,7 @@ pub record IsFiledBut (n : ℕ) (slots : List (Option (List LitOf))) (s : State)
       → Contains (row pairs (slice_index_or s.heads j d).left) (record { clause = j; blocker = (slice_index_or s.heads j d).right })
       × Contains (row pairs (slice_index_or s.heads j d).right) (record { clause = j; blocker = (slice_index_or s.heads j d).left })
 
--- How propagation from a trail that grew past base ended: with nothing left, at a falsified clause, or, for want of memory, with
+-- How propagation from a trail that grew past base ended: with nothing left, at a falsified clause, or, because memory ran out, with
 -- the trail cut to base.
 abbrev pub SettleFits : List (Option (List LitOf)) → List (List Watch) → State → State → List LitOf → Result (Option ℕ) AllocError → Type 0
 SettleFits slots pairs old new base (Ok None) = Walks slots pairs old new × AllKept new.trail new.trail slots new.heads

@@ -44,7 +44,7 @@ pub record WatchFits (vars count : ℕ) (w : Watch) : Type 0 where
 abbrev pub AreWatches : ℕ → ℕ → Vec Watch Global → Type 0
 AreWatches vars count v = All (WatchFits vars count) v.items
 
--- the lists by the place of their literal; the literals over the variables behind those that are there have empty ones
+-- the lists by the place of their literal; the literals over the variables after those that are there have empty ones
 abbrev pub rows_of : ℕ → List (Vec Watch Global) → List (List Watch)
 rows_of vars lists = map (λ (v : Vec Watch Global). v.items) lists ++ replicate (2 * vars + 2 - length lists) []
 

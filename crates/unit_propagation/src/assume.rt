@@ -52,7 +52,7 @@ fn assume_all(trail: &mut Trail, lits: &[Lit]) -> Result<bool, AllocError>
     Ok(true)
 }
 
-// Assumes literals and propagates. For want of memory the trail is as it was.
+// Assumes literals and propagates. Out of memory the trail is as it was.
 pub(crate) fn assume(
     store: &mut ClauseStore,
     lists: &mut WatchLists,

@@ -1,4 +1,4 @@
-// Clauses: their literals in one list, one clause behind the other, and a head for each.
+// Clauses: their literals in one list, one clause after the other, and a head for each.
 
 ghost use Rattle.std.specs.Prelude.{◌≡◌, ◌≢◌, ◌+◌, ◌<◌, ◌≤◌, ◌^◌, ◌++◌, ◌∷◌, [], length, All, OnOk, OnErr, IfSome, IfNone, Some, None, slice_index_or, slice_range, slice_set};
 ghost use Rattle.cnf_form.specs.Cnf.{LitOf};

@@ -34,7 +34,7 @@ pub(crate) enum Visited {
     NoMemory(Lit),
 }
 
-// Why propagation stopped: a clause is falsified, or memory was wanting.
+// Why propagation stopped: a clause is falsified, or memory ran out.
 #[derive(Clone, Copy)]
 pub(crate) enum Stop {
     Conflict(u32),
@@ -124,7 +124,7 @@ fn look_at(store: &ClauseStore, k: u32, head: Head, trail: &Trail, falsified: Li
     let end = store.end(k);
     let clause = &lits[head.start as usize..end as usize];
     match find_open(clause, (head.from - head.start) as usize, other, marks) {
-        // The next search begins behind the new watch.
+        // The next search begins after the new watch.
         Some(k) => Visit::Move(head.start + k as u32 + 1, clause[k], other),
         None => {
             if marks[other.negate().index()] {

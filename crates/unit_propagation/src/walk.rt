@@ -225,7 +225,7 @@ pub(crate) fn propagate(
     None
 }
 
-// Propagates from a place of the trail on. For want of memory the trail is cut to that place. The falsified clause, if there
+// Propagates from a place of the trail on. Out of memory the trail is cut to that place. The falsified clause, if there
 // is one.
 pub(crate) fn settle(
     store: &mut ClauseStore,
@@ -261,7 +261,7 @@ pub(crate) fn settle(
     }
 }
 
-// Makes an open literal true, and propagates. For want of memory the trail is as it was.
+// Makes an open literal true, and propagates. Out of memory the trail is as it was.
 pub(crate) fn settle_unit(
     store: &mut ClauseStore,
     lists: &mut WatchLists,

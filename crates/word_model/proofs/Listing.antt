@@ -22,7 +22,7 @@ item-next {Y = Y} {Z = Z} h items item left x xs total e f before =
 pub items-end : {Y Z : Type 0} (h : Y → Z) (items : List Z) (left : List Y) (total : List Z) → left ≡ [] → items ++ map h left ≡ total → items ≡ total
 items-end {Y = Y} h items left total e before = sym (append-nil items) ∙ (ap (λ (l : List Y). items ++ map h l) (sym e) ∙ before)
 
--- the first so many elements, and the next
+-- the first N elements, and the next
 pub take-next : {X : Type 0} (xs : List X) (k : ℕ) (x : X) → slice_get xs k ≡ Some x → take (k + 1) xs ≡ take k xs ++ x ∷ []
 take-next {X = X} xs k x at =
     take_more xs k x (slice_get_within xs k x at) ∙ ap (λ (y : X). take k xs ++ y ∷ []) (get_or_from_slice_get xs k x x at)

@@ -68,7 +68,7 @@ module _ (d : DesignOf) (shape : IsDesign d) (flat : IsFlat d) (order : List Dri
           let lt : f.0 < d.free = subst (λ (z : SigBit). IsDeclared d.wires d.free z) f.1 db in
           omega (arith, e, at, lt)
 
-  -- a state bit is a wire's bit or stands behind the constants
+  -- a state bit is a wire's bit or stands after the constants
   state-where : (p : ℕ) → Contains (states m) p → (p < wire_bits d) ⊎ ((places d ≤ p) × (p < places d + kept_bits d))
   state-where p h = let s = state-owner d shape flat order ordered m built p h in by s.0 s.1 s.2 s.3
     where

@@ -15,7 +15,7 @@ use Rattle.design_signals.specs.declared.sig_bit.SigBit.TheVariants.{Const, Free
 use Rattle.model_core.specs.Meaning.{Cycle}
 use Rattle.model_core.specs.Shape.{ModelOf}
 
--- kept rows stand behind the constants, in file order, lowest bit first
+-- kept rows stand after the constants, in file order, lowest bit first
 abbrev pub kept_place : DesignOf → ℕ → ℕ → ℕ
 kept_place d i k = places d + kept_offset d i + k
 

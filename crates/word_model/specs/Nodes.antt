@@ -64,7 +64,7 @@ IsNodeOf d (Connect i k) n =
     (j : ConnectOf) × (left : SigBit) × (right : SigBit)
     × (slice_get d.connects i ≡ Some j) × (slice_get j.left k ≡ Some left) × (slice_get j.right k ≡ Some right) × (n ≡ copy_node d left right)
 
--- the nodes of the first so many drivers, in their order
+-- the nodes of the first N drivers, in their order
 pub record AreNodes (d : DesignOf) (order : List Driver) (count : ℕ) (nodes : List NodeOf) : Type 0 where
   pub size : length nodes ≡ count
   pub each : (k : ℕ) (r : Driver) (n : NodeOf) → slice_get order k ≡ Some r → slice_get nodes k ≡ Some n → IsNodeOf d r n

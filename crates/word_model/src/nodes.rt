@@ -268,7 +268,7 @@ fn push_driver(
     }
 }
 
-/// Adds the nodes of all drivers, each behind those of what it reads.
+/// Adds the nodes of all drivers, each after those of what it reads.
 pub(crate) fn push_nodes(
     alloc: Global,
     flat: &Flat,

@@ -108,7 +108,7 @@ pub(crate) fn fill_parameter(
     }
 }
 
-/// Makes the row that of so many places from the first on.
+/// Makes the row that of this many places from the first on.
 pub(crate) fn fill_range(first: u32, count: usize, row: &mut Vec<u32>) -> Result<(), AllocError>
     requires { first + count < 2 ^ 32 }
     ensures { OnOk result (row.new.items ≡ map (λ k. first + k) (range_with_len 0 count)) }

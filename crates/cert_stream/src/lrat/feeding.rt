@@ -13,7 +13,7 @@ use crate::{Event, Fed, ParseFault};
 use cnf_form::Lit;
 use std::alloc::AllocError;
 
-/// Gets what a hinted stream says. Each call answers whether no more is wanted, or want of memory.
+/// Gets what a hinted stream says. Each call answers whether no more is wanted, or that memory ran out.
 pub trait LratReceiver {
     /// It takes literals of the variables from 1 to this one.
     ghost vars: { Self → ℕ };
@@ -145,7 +145,7 @@ impl LratParser {
 
     /// Takes the next piece of the stream, and hands to the receiver what the bytes say, until it stops. The answer is then Stopped, and
     /// more bytes have no meaning; else it is the fault, if no hinted stream begins with the bytes so far, or More. A stream has fewer
-    /// than 2^64 bytes, and the receiver takes the literals of its variables. After want of memory nothing is known.
+    /// than 2^64 bytes, and the receiver takes the literals of its variables. After an answer out of memory nothing is known.
     pub fn feed<R: LratReceiver>(
         &mut self,
         piece: &[u8],

@@ -7,7 +7,7 @@ ghost use Rattle.cert_stream.specs.LratTelling.{LratSaying, StandsFor, after, fr
 ghost use Rattle.cert_stream.specs.LratLines.{sayings};
 ghost use Rattle.cert_stream.specs.declared.lrat.mode.Mode.TheVariants.{Bad};
 
-/// What stands for the bytes so far stands, after a piece, for these with the piece behind them.
+/// What stands for the bytes so far stands, after a piece, for these with the piece after them.
 #[tactic(auto, using(crate::proofs::LratCutting::stands_append))]
 pub fn pieces_join()
     ensures { (vars : ℕ) (w : LratOf) (bytes piece : List ℕ) → StandsFor vars w bytes → StandsFor vars (after w piece) (bytes ++ piece) }

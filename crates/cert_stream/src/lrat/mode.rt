@@ -53,7 +53,7 @@ pub enum Mode {
     StatusHead,
     /// s and white space.
     StatusGap,
-    /// s and so many bytes of UNKNOWN.
+    /// s and this many bytes of UNKNOWN.
     Spelled(u8),
     /// s, UNKNOWN and white space.
     Whole,
@@ -65,7 +65,7 @@ pub enum Mode {
     DeletionHead,
     InLits(LitList, Part),
     InIds(IdList, IdPart),
-    /// White space behind its last 0.
+    /// White space after its last 0.
     Closed,
     Bad(ParseFault),
 }

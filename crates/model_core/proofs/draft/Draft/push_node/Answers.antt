@@ -1,4 +1,4 @@
--- The node's rows stand behind those of the others, and what stood before stays.
+-- The node's rows stand after those of the others, and what stood before stays.
 use Rattle.std.proofs.Common.{◌≡◌, ◌++◌, refl, arith, length}
 use Rattle.model_core.proofs.Keeping.{pushed_node, registers_stay}
 use Rattle.model_core.proofs.draft.Draft.push_node.Goals as goal

@@ -1,4 +1,4 @@
--- The register's rows and state bits stand behind those of the others, and what stood before stays.
+-- The register's rows and state bits stand after those of the others, and what stood before stays.
 use Rattle.std.proofs.Common.{◌≡◌, ◌++◌, refl, arith, length}
 use Rattle.model_core.proofs.Keeping.{kept_register, nodes_stay, pushed_register}
 use Rattle.model_core.proofs.draft.Draft.push_register.Goals as goal

@@ -1,0 +1,108 @@
+// Words that are asked, and words that are refused.
+
+use cert_judge::StreamKind;
+use run_scenes::owned;
+use sby_terms::Mode;
+use sby_words::{Asked, JudgeWords, asked_of, stream_kind};
+use std::alloc::{AllocError, Global};
+use std::test::Fail;
+
+// Lines of words; the first has none.
+const REFUSED: &str = "
+.sby
+--help
+-h
+--gen 1
+--gen 10001
+--gen 2 3
+--dumptasks
+--dumptasks t.sby a
+-d w --dumptasks t.sby
+--judge --gen t.il bmc 1
+--judge t.il live 1
+--judge t.il bmc
+--judge t.il bmc 0
+--judge t.il bmc 01
+--judge t.il bmc +1
+--judge t.il bmc 1x
+--judge t.il bmc 100001
+--judge .il bmc 1
+-d out --judge .rtlil bmc 1
+-d  --judge t.il bmc 1
+--judge t.il bmc 1 t.wit
+--judge --judge t.il bmc 1
+--judge t.il bmc 1 -d
+--judge t.il bmc 1 -x";
+
+#[test]
+fn other_words_are_refused(rt: HostRuntime) -> Result<(), Fail> {
+    for line in REFUSED.split('\n') {
+        let words = owned(rt.alloc(), line)?;
+        assert!(rt; asked_of(rt.alloc(), &words)?.is_none(), "{line}");
+    }
+    Ok(())
+}
+
+// Words, and after a colon the folder, the design, the mode, the depth and the streams that they ask for.
+const ASKED: &str = "--judge t.il bmc 1 : t t.il bmc 1
+--judge t.il prove 1 : t t.il prove 1
+--judge t.il cover 1 : t t.il cover 1
+-d out --judge a/b.il bmc 3 x y : out a/b.il bmc 3 x y
+a/b.rtlil -f bmc --judge 100000 x -d o : o a/b.rtlil bmc 100000 x
+--judge a/b.rtlil bmc 20 t.drup : a/b a/b.rtlil bmc 20 t.drup
+--judge -fdo t bmc 1 : o t bmc 1
+--judge -- t.il.il bmc 7 : t.il t.il.il bmc 7";
+
+fn word_of(mode: Mode) -> &'static str {
+    match mode {
+        Mode::Bmc => "bmc",
+        Mode::Prove => "prove",
+        Mode::Cover => "cover",
+    }
+}
+
+fn told(alloc: Global, asked: &JudgeWords) -> Result<String, AllocError> {
+    let (folder, design) = (asked.folder.as_str(), asked.design.as_str());
+    let (mode, depth) = (word_of(asked.mode), asked.depth);
+    let mut text = format!(in alloc; "{folder} {design} {mode} {depth}")?;
+    for stream in &asked.streams {
+        text.push_str(" ")?;
+        text.push_str(stream.as_str())?;
+    }
+    Ok(text)
+}
+
+// Whether the words of a line ask for what stands after its colon.
+fn is_asked(alloc: Global, line: &str) -> Result<bool, AllocError> {
+    let Some((words, want)) = line.split_once(" : ") else {
+        return Ok(false);
+    };
+    match asked_of(alloc, &owned(alloc, words)?)? {
+        Some(Asked::Judge(asked)) => Ok(told(alloc, &asked)?.as_str() == want),
+        Some(Asked::Tasks(_) | Asked::Names(_) | Asked::Gen(_)) | None => Ok(false),
+    }
+}
+
+#[test]
+fn judged_designs_are_asked(rt: HostRuntime) -> Result<(), Fail> {
+    for line in ASKED.split('\n') {
+        assert!(rt; is_asked(rt.alloc(), line)?, "{line}");
+    }
+    Ok(())
+}
+
+#[test]
+fn streams_are_of_the_kinds_of_their_names(rt: HostRuntime) -> Result<(), Fail> {
+    for (name, kind) in [
+        ("t.lrat", StreamKind::Lrat),
+        ("a/t.proof", StreamKind::Proof),
+        (".proofb", StreamKind::ProofBinary),
+        ("t.drup", StreamKind::Drup),
+        ("t.proofb.gz", StreamKind::Drup),
+        ("lrat", StreamKind::Drup),
+        ("", StreamKind::Drup),
+    ] {
+        assert_eq!(rt; stream_kind(name), kind, "{name}");
+    }
+    Ok(())
+}
