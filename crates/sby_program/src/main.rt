@@ -2,7 +2,9 @@
 #![tactic(auto)]
 
 ghost use Rattle.std.specs.Prelude.{◌≡◌, map, string_bytes};
+ghost use Rattle.sby_top.specs.Promise.{Promises};
 ghost use Rattle.sby_top.specs.Run.{Did};
+ghost use Rattle.sby_top.specs.World.{world_at};
 ghost use Rattle.sby_top.specs.declared.outcome.Done.{Done};
 
 use child_edge::{Log, RealClock, RealFiles, RealYard, StdSink};
@@ -33,7 +35,8 @@ fn words(rt: &HostRuntime, alloc: Global) -> Result<Vec<String>, AllocError> {
     Ok(words)
 }
 
-/// Does all that the program does, and answers its exit status: what a call of `run_sby` for these words does over this outside.
+/// Does all that the program does, and answers its exit status: what a call of `run_sby` for these words does over this outside, with all that
+/// it promises a reader of the output.
 fn run_program<R: Threads + Wait + Sync, F: Files, S: Sink, Y: Yard, C: Clock>(
     rt: &R,
     alloc: Global,
@@ -45,8 +48,11 @@ fn run_program<R: Threads + Wait + Sync, F: Files, S: Sink, Y: Yard, C: Clock>(
 ) -> u8
     ensures { (done : Done)
         × Did (C.may_read clock.now)
-        (record { told = F.told files.old; file_faults = F.faults files.old; blamed = F.blamed files.old; taken = S.taken out.old; sink_faults = S.faults out.old; ended = S.ended out.old; yard = record { scripts = Y.told yard.old; started = Y.started yard.old; counts = record { starts = Y.start_faults yard.old; reads = Y.read_faults yard.old; holds = Y.hold_faults yard.old } } })
-        (record { told = F.told files.new; file_faults = F.faults files.new; blamed = F.blamed files.new; taken = S.taken out.new; sink_faults = S.faults out.new; ended = S.ended out.new; yard = record { scripts = Y.told yard.new; started = Y.started yard.new; counts = record { starts = Y.start_faults yard.new; reads = Y.read_faults yard.new; holds = Y.hold_faults yard.new } } })
+        (world_at (F.told files.old) (F.faults files.old) (F.blamed files.old) (S.taken out.old) (S.faults out.old) (S.ended out.old) (record { scripts = Y.told yard.old; started = Y.started yard.old; counts = record { starts = Y.start_faults yard.old; reads = Y.read_faults yard.old; holds = Y.hold_faults yard.old } }))
+        (world_at (F.told files.new) (F.faults files.new) (F.blamed files.new) (S.taken out.new) (S.faults out.new) (S.ended out.new) (record { scripts = Y.told yard.new; started = Y.started yard.new; counts = record { starts = Y.start_faults yard.new; reads = Y.read_faults yard.new; holds = Y.hold_faults yard.new } }))
+        (map string_bytes words.now) done
+        × Promises (C.may_read clock.now)
+        (world_at (F.told files.old) (F.faults files.old) (F.blamed files.old) (S.taken out.old) (S.faults out.old) (S.ended out.old) (record { scripts = Y.told yard.old; started = Y.started yard.old; counts = record { starts = Y.start_faults yard.old; reads = Y.read_faults yard.old; holds = Y.hold_faults yard.old } }))
         (map string_bytes words.now) done
         × (result ≡ done.rc) }
 {

@@ -118,7 +118,7 @@ kept_verdict CoverMode xs ys PassVerdict same keeps h = all_by ys Sat (λ k lt. 
 kept_verdict CoverMode xs ys FailVerdict same keeps h = at_contains ys h.0 (Some Unsat) (keeps h.0 Unsat (contains_at xs (Some Unsat) h))
 
 -- PASS and FAIL don't come of answers that agree
-pass_apart : (mode : Mode) (xs ys : List (Option Answer)) → length xs ≡ length ys → ((k : ℕ) (a b : Answer) → slice_get xs k ≡ Some (Some a) → slice_get ys k ≡ Some (Some b) → a ≡ b)
+pub pass_apart : (mode : Mode) (xs ys : List (Option Answer)) → length xs ≡ length ys → ((k : ℕ) (a b : Answer) → slice_get xs k ≡ Some (Some a) → slice_get ys k ≡ Some (Some b) → a ≡ b)
     → Decides mode xs PassVerdict → Decides mode ys FailVerdict → ⊥
 pass_apart Bmc xs ys same agree pass fail =
     let no : Unsat ≡ Sat = agree fail.0 Unsat Sat (all_at xs Unsat pass.1 fail.0 (omega (arith, same, fail.1))) (contains_at ys (Some Sat) fail) in cc
@@ -129,17 +129,17 @@ pass_apart CoverMode xs ys same agree pass fail =
 one_answer : (o : Option (Option Answer)) (a b : Answer) → o ≡ Some (Some a) → o ≡ Some (Some b) → a ≡ b
 one_answer o a b x y = let same : ◌≡◌ {A = Option (Option Answer)} (Some (Some a)) (Some (Some b)) = sym x ∙ y in cc
 
--- where each answer is kept, or the others decide FAIL
-module _ (mode : Mode) (xs ys : List (Option Answer)) (each : (k : ℕ) (a : Answer) → slice_get xs k ≡ Some (Some a) → (slice_get ys k ≡ Some (Some a)) ⊎ Decides mode ys FailVerdict) where
-  kept_here : (k : ℕ) (o : Option (Option Answer)) → slice_get xs k ≡ o → ((a : Answer) → slice_get xs k ≡ Some (Some a) → slice_get ys k ≡ Some (Some a)) ⊎ Decides mode ys FailVerdict
+-- where each answer is kept, or something else holds, all are kept, or that holds
+module _ (Else : Type 0) (xs ys : List (Option Answer)) (each : (k : ℕ) (a : Answer) → slice_get xs k ≡ Some (Some a) → (slice_get ys k ≡ Some (Some a)) ⊎ Else) where
+  kept_here : (k : ℕ) (o : Option (Option Answer)) → slice_get xs k ≡ o → ((a : Answer) → slice_get xs k ≡ Some (Some a) → slice_get ys k ≡ Some (Some a)) ⊎ Else
   kept_here k None at = inl (λ a is. let no : ◌≡◌ {A = Option (Option Answer)} None (Some (Some a)) = sym at ∙ is in cc)
   kept_here k (Some None) at = inl (λ a is. let no : ◌≡◌ {A = Option (Option Answer)} (Some None) (Some (Some a)) = sym at ∙ is in cc)
   kept_here k (Some (Some a)) at = elim (each k a at) [
     | inl own ↦ inl (λ b is. own ∙ ap (λ x. Some (Some x)) (one_answer (slice_get xs k) a b at is))
-    | inr fails ↦ inr fails
+    | inr other ↦ inr other
   ]
 
-  kept_below : (n : ℕ) → ((k : ℕ) (a : Answer) → k < n → slice_get xs k ≡ Some (Some a) → slice_get ys k ≡ Some (Some a)) ⊎ Decides mode ys FailVerdict
+  kept_below : (n : ℕ) → ((k : ℕ) (a : Answer) → k < n → slice_get xs k ≡ Some (Some a) → slice_get ys k ≡ Some (Some a)) ⊎ Else
   kept_below zero = inl (λ k a lt is. absurd (omega (arith, lt)))
   kept_below (suc n) = elim (kept_below n) [
     | inl below ↦ elim (kept_here n (slice_get xs n) refl) [
@@ -147,16 +147,21 @@ module _ (mode : Mode) (xs ys : List (Option Answer)) (each : (k : ℕ) (a : Ans
         | inl less ↦ below k a less is
         | inr more ↦ let same : n ≡ k = omega (arith, lt, more) in subst (λ j. slice_get ys j ≡ Some (Some a)) same (own a (subst (λ j. slice_get xs j ≡ Some (Some a)) (sym same) is))
       ])
-      | inr fails ↦ inr fails
+      | inr other ↦ inr other
     ]
-    | inr fails ↦ inr fails
+    | inr other ↦ inr other
   ]
 
-  pub kept_or_failed : Keeps xs ys ⊎ Decides mode ys FailVerdict
-  kept_or_failed = elim (kept_below (length xs)) [
+  pub kept_or_else : Keeps xs ys ⊎ Else
+  kept_or_else = elim (kept_below (length xs)) [
     | inl all ↦ inl (λ k a is. all k a (slice_get_within xs k (Some a) is) is)
-    | inr fails ↦ inr fails
+    | inr other ↦ inr other
   ]
+
+-- where each answer is kept, or the others decide FAIL
+module _ (mode : Mode) (xs ys : List (Option Answer)) (each : (k : ℕ) (a : Answer) → slice_get xs k ≡ Some (Some a) → (slice_get ys k ≡ Some (Some a)) ⊎ Decides mode ys FailVerdict) where
+  pub kept_or_failed : Keeps xs ys ⊎ Decides mode ys FailVerdict
+  kept_or_failed = kept_or_else (Decides mode ys FailVerdict) xs ys each
 
   verdict_or_failed : (v : Verdict) → length xs ≡ length ys → ((k : ℕ) (a b : Answer) → slice_get xs k ≡ Some (Some a) → slice_get ys k ≡ Some (Some b) → a ≡ b)
       → Decides mode xs v → Decides mode ys FailVerdict → Decides mode ys v

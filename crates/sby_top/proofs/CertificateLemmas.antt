@@ -25,7 +25,7 @@ use Rattle.sby_top.specs.Claims.{IsJudgedAt}
 use Rattle.sby_top.specs.Headline.{AreFates, AreWhole, Exit, TaskRan, fate_answer, fate_event}
 use Rattle.sby_top.specs.Served.{jobs_in, most_stream}
 use Rattle.sby_top.specs.Turns.{judge_task}
-use Rattle.sby_top.specs.World.{World, files_of, race_of}
+use Rattle.sby_top.specs.World.{Moments, race_of}
 use Rattle.sby_top.specs.declared.outcome.TaskEnd.{TaskEnd}
 use Rattle.sby_top.proofs.AnswerLemmas.{Keeps, kept_verdict}
 use Rattle.sby_top.proofs.KindLemmas.{one_kind}
@@ -100,10 +100,10 @@ verdict_given mode paths own given v status kept back decides (whole, (o, decide
       | inr one ↦ decided one.0 one.1
     ])
 
-pub certificates_give : OneFate → OneFile → (may_read : ℕ → Type 0) (number : ℕ) (start finish : World) (j : JudgeRequest) (end : TaskEnd) (exit : Exit) (now : Store) (fates : List (Option Fate)) (v : Verdict)
-    → TaskRan may_read number start finish (judge_task j) end exit → (judged : IsJudgedAt may_read number start finish (judge_task j) end now) → end.status ≢ Memory
+pub certificates_give : OneFate → OneFile → (may_read : ℕ → Type 0) (number : ℕ) (moments : Moments) (j : JudgeRequest) (end : TaskEnd) (exit : Exit) (now : Store) (fates : List (Option Fate)) (v : Verdict)
+    → TaskRan may_read number moments (judge_task j) end exit → (judged : IsJudgedAt may_read number moments (judge_task j) end now) → end.status ≢ Memory
     → AreFates judged.done.problem now (jobs_in judged.done.problem) j.streams fates → AreWhole j.streams fates → Decides j.mode (map fate_answer fates) v → HasStatus (Some v) [] end.status
-certificates_give one_fate one_file may_read number start finish j end exit now fates v ran judged apart are whole decides = elim ran.named.status [
+certificates_give one_fate one_file may_read number moments j end exit now fates v ran judged apart are whole decides = elim ran.named.status [
   | inl own ↦
       by_race own.0 (own.1 judged.early) (subst (λ e. IsStatus (judge_task j).request e (record { design = own.0; reports = end.reports.items; start = end.start }) end.status) judged.early own.2)
   | inr memory ↦ absurd (apart memory)
@@ -111,7 +111,7 @@ certificates_give one_fate one_file may_read number start finish j end exit now 
   where
     by_race : (d : DesignOf) → Reads end.text d → IsRaceStatus (judge_task j).request (record { design = d; reports = end.reports.items; start = end.start }) end.status → HasStatus (Some v) [] end.status
     by_race d reads race =
-        let gives = done_gives may_read (judge_task j) (files_of start) judged.middle (race_of number start finish end.start) now end.text end.reports.items d end.start end.status j.streams refl judged.told apart reads race judged.done in
+        let gives = done_gives may_read (judge_task j) moments.got moments.put (race_of number moments.before moments.after end.start) now end.text end.reports.items d end.start end.status j.streams refl judged.told apart reads race judged.done in
         verdict_given j.mode j.streams gives.fates fates v end.status
         (fates_kept one_fate one_file judged.done.problem now (jobs_in judged.done.problem) j.streams gives.fates fates gives.are are whole)
         (λ all. fates_kept one_fate one_file judged.done.problem now (jobs_in judged.done.problem) j.streams fates gives.fates are gives.are all) decides gives.give

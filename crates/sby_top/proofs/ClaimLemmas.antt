@@ -11,35 +11,35 @@ use Rattle.sby_words.specs.Requests.{Request}
 use Rattle.sby_words.specs.Words.{Asks}
 use Rattle.sby_top.specs.Run.{Did, IsNothing, UsageAlone}
 use Rattle.sby_top.specs.Task.{TaskOf}
-use Rattle.sby_top.specs.World.{World}
+use Rattle.sby_top.specs.World.{Moments, World}
 use Rattle.sby_top.specs.declared.outcome.Done.{Done}
 use Rattle.sby_top.specs.declared.outcome.TaskEnd.{TaskEnd}
 
-pub pass_claimed : (may_read : ℕ → Type 0) (number : ℕ) (start finish : World) (task : TaskOf) (end : TaskEnd) (exit : Exit) → TaskRan may_read number start finish task end exit → end.status ≡ Pass → task.request.mode ≡ Bmc
-    → (d : DesignOf) × IsDesignOf start task end d × NoBreak d task.request.span.skip task.request.span.depth
-pass_claimed may_read number start finish task end exit ran status bmc =
-    let is : IsTrueOf start.told task end.text (PassClaim Bmc task end) = subst (λ m. IsTrueOf start.told task end.text (PassClaim m task end)) bmc (ran.pass status) in
+pub pass_claimed : (may_read : ℕ → Type 0) (number : ℕ) (moments : Moments) (task : TaskOf) (end : TaskEnd) (exit : Exit) → TaskRan may_read number moments task end exit → end.status ≡ Pass → task.request.mode ≡ Bmc
+    → (d : DesignOf) × IsDesignOf moments task end d × NoBreak d task.request.span.skip task.request.span.depth
+pass_claimed may_read number moments task end exit ran status bmc =
+    let is : IsTrueOf moments.got.told task end.text (PassClaim Bmc task end) = subst (λ m. IsTrueOf moments.got.told task end.text (PassClaim m task end)) bmc (ran.pass status) in
     (is.1.0, record { got = is.0; reads = is.1.1; flat = is.1.2 }, is.1.3)
 
-pub prove_pass_claimed : (may_read : ℕ → Type 0) (number : ℕ) (start finish : World) (task : TaskOf) (end : TaskEnd) (exit : Exit) → TaskRan may_read number start finish task end exit → end.status ≡ Pass → task.request.mode ≡ Prove
-    → (d : DesignOf) × IsDesignOf start task end d × NeverBreak d
-prove_pass_claimed may_read number start finish task end exit ran status prove =
-    let is : IsTrueOf start.told task end.text (PassClaim Prove task end) = subst (λ m. IsTrueOf start.told task end.text (PassClaim m task end)) prove (ran.pass status) in
+pub prove_pass_claimed : (may_read : ℕ → Type 0) (number : ℕ) (moments : Moments) (task : TaskOf) (end : TaskEnd) (exit : Exit) → TaskRan may_read number moments task end exit → end.status ≡ Pass → task.request.mode ≡ Prove
+    → (d : DesignOf) × IsDesignOf moments task end d × NeverBreak d
+prove_pass_claimed may_read number moments task end exit ran status prove =
+    let is : IsTrueOf moments.got.told task end.text (PassClaim Prove task end) = subst (λ m. IsTrueOf moments.got.told task end.text (PassClaim m task end)) prove (ran.pass status) in
     (is.1.0, record { got = is.0; reads = is.1.1; flat = is.1.2 }, is.1.3)
 
-whole_or_cut : (start finish : World) (task : TaskOf) (end : TaskEnd) (exit : Exit)
-    → IsPrinted task.request.name start.taken finish.taken start.sink_faults finish.sink_faults finish.ended (AreLines task end) task.request.expect (HasOwnStatus task end) end.status exit → end.status ≢ Memory
-    → (lines : List (List ℕ)) × AreLines task end lines × HasPrinted start finish lines
-whole_or_cut start finish task end (Code rc) printed apart = elim printed.2.2 [
+whole_or_cut : (moments : Moments) (task : TaskOf) (end : TaskEnd) (exit : Exit)
+    → IsPrinted task.request.name moments.before.taken moments.after.taken moments.before.sink_faults moments.after.sink_faults moments.after.ended (AreLines task end) task.request.expect (HasOwnStatus task end) end.status exit → end.status ≢ Memory
+    → (lines : List (List ℕ)) × AreLines task end lines × HasPrinted moments lines
+whole_or_cut moments task end (Code rc) printed apart = elim printed.2.2 [
   | inl whole ↦ (printed.2.0, printed.2.1, inl (printed.0, whole.1))
   | inr part ↦ absurd (apart part.0)
 ]
-whole_or_cut start finish task end Cut printed apart = (printed.2.0, printed.2.1, inr (printed.0, printed.2.3))
+whole_or_cut moments task end Cut printed apart = (printed.2.0, printed.2.1, inr (printed.0, printed.2.3))
 
-shown_break : (may_read : ℕ → Type 0) (number : ℕ) (start finish : World) (task : TaskOf) (end : TaskEnd) (exit : Exit) → TaskRan may_read number start finish task end exit → end.status ≡ Fail → IsTrueOf start.told task end.text (IsShown task end) → IsShownBreak start finish task end
-shown_break may_read number start finish task end exit ran status is =
+shown_break : (may_read : ℕ → Type 0) (number : ℕ) (moments : Moments) (task : TaskOf) (end : TaskEnd) (exit : Exit) → TaskRan may_read number moments task end exit → end.status ≡ Fail → IsTrueOf moments.got.told task end.text (IsShown task end) → IsShownBreak moments task end
+shown_break may_read number moments task end exit ran status is =
     let shown = is.1.3 in
-    let printed = whole_or_cut start finish task end exit ran.printed (λ e. let z : Fail ≡ Memory = sym status ∙ e in cc) in
+    let printed = whole_or_cut moments task end exit ran.printed (λ e. let z : Fail ≡ Memory = sym status ∙ e in cc) in
     record {
       design = is.1.0;
       is_design = record { got = is.0; reads = is.1.1; flat = is.1.2 };
@@ -55,16 +55,16 @@ shown_break may_read number start finish task end exit ran status is =
       printed = printed.2;
     }
 
-pub fail_claimed : (may_read : ℕ → Type 0) (number : ℕ) (start finish : World) (task : TaskOf) (end : TaskEnd) (exit : Exit) → TaskRan may_read number start finish task end exit → end.status ≡ Fail → task.request.mode ≡ Bmc → IsShownBreak start finish task end
-fail_claimed may_read number start finish task end exit ran status bmc = shown_break may_read number start finish task end exit ran status (subst (λ m. IsTrueOf start.told task end.text (FailClaim m task end)) bmc (ran.fail status))
+pub fail_claimed : (may_read : ℕ → Type 0) (number : ℕ) (moments : Moments) (task : TaskOf) (end : TaskEnd) (exit : Exit) → TaskRan may_read number moments task end exit → end.status ≡ Fail → task.request.mode ≡ Bmc → IsShownBreak moments task end
+fail_claimed may_read number moments task end exit ran status bmc = shown_break may_read number moments task end exit ran status (subst (λ m. IsTrueOf moments.got.told task end.text (FailClaim m task end)) bmc (ran.fail status))
 
-pub prove_fail_claimed : (may_read : ℕ → Type 0) (number : ℕ) (start finish : World) (task : TaskOf) (end : TaskEnd) (exit : Exit) → TaskRan may_read number start finish task end exit → end.status ≡ Fail → task.request.mode ≡ Prove → IsShownBreak start finish task end
-prove_fail_claimed may_read number start finish task end exit ran status prove = shown_break may_read number start finish task end exit ran status (subst (λ m. IsTrueOf start.told task end.text (FailClaim m task end)) prove (ran.fail status))
+pub prove_fail_claimed : (may_read : ℕ → Type 0) (number : ℕ) (moments : Moments) (task : TaskOf) (end : TaskEnd) (exit : Exit) → TaskRan may_read number moments task end exit → end.status ≡ Fail → task.request.mode ≡ Prove → IsShownBreak moments task end
+prove_fail_claimed may_read number moments task end exit ran status prove = shown_break may_read number moments task end exit ran status (subst (λ m. IsTrueOf moments.got.told task end.text (FailClaim m task end)) prove (ran.fail status))
 
-pub cover_pass_claimed : (may_read : ℕ → Type 0) (number : ℕ) (start finish : World) (task : TaskOf) (end : TaskEnd) (exit : Exit) → TaskRan may_read number start finish task end exit → end.status ≡ Pass → task.request.mode ≡ Cover → AreShownReaches start finish task end
-cover_pass_claimed may_read number start finish task end exit ran status cover =
-    let is : IsTrueOf start.told task end.text (PassClaim Cover task end) = subst (λ m. IsTrueOf start.told task end.text (PassClaim m task end)) cover (ran.pass status) in
-    let printed = whole_or_cut start finish task end exit ran.printed (λ e. let z : Pass ≡ Memory = sym status ∙ e in cc) in
+pub cover_pass_claimed : (may_read : ℕ → Type 0) (number : ℕ) (moments : Moments) (task : TaskOf) (end : TaskEnd) (exit : Exit) → TaskRan may_read number moments task end exit → end.status ≡ Pass → task.request.mode ≡ Cover → AreShownReaches moments task end
+cover_pass_claimed may_read number moments task end exit ran status cover =
+    let is : IsTrueOf moments.got.told task end.text (PassClaim Cover task end) = subst (λ m. IsTrueOf moments.got.told task end.text (PassClaim m task end)) cover (ran.pass status) in
+    let printed = whole_or_cut moments task end exit ran.printed (λ e. let z : Pass ≡ Memory = sym status ∙ e in cc) in
     record {
       design = is.1.0;
       is_design = record { got = is.0; reads = is.1.1; flat = is.1.2 };
@@ -80,10 +80,10 @@ cover_pass_claimed may_read number start finish task end exit ran status cover =
       printed = printed.2;
     }
 
-pub cover_fail_claimed : (may_read : ℕ → Type 0) (number : ℕ) (start finish : World) (task : TaskOf) (end : TaskEnd) (exit : Exit) → TaskRan may_read number start finish task end exit → end.status ≡ Fail → task.request.mode ≡ Cover → IsNamedUnreached start finish task end
-cover_fail_claimed may_read number start finish task end exit ran status cover =
-    let is : IsTrueOf start.told task end.text (FailClaim Cover task end) = subst (λ m. IsTrueOf start.told task end.text (FailClaim m task end)) cover (ran.fail status) in
-    let printed = whole_or_cut start finish task end exit ran.printed (λ e. let z : Fail ≡ Memory = sym status ∙ e in cc) in
+pub cover_fail_claimed : (may_read : ℕ → Type 0) (number : ℕ) (moments : Moments) (task : TaskOf) (end : TaskEnd) (exit : Exit) → TaskRan may_read number moments task end exit → end.status ≡ Fail → task.request.mode ≡ Cover → IsNamedUnreached moments task end
+cover_fail_claimed may_read number moments task end exit ran status cover =
+    let is : IsTrueOf moments.got.told task end.text (FailClaim Cover task end) = subst (λ m. IsTrueOf moments.got.told task end.text (FailClaim m task end)) cover (ran.fail status) in
+    let printed = whole_or_cut moments task end exit ran.printed (λ e. let z : Fail ≡ Memory = sym status ∙ e in cc) in
     let unreached = is.1.3.2 in
     record {
       design = is.1.0;

@@ -36,7 +36,7 @@ use Rattle.sby_top.specs.Headline.{Exit, TaskRan, fate_answer, fate_event}
 use Rattle.sby_top.specs.Judged.{AreReports, racing_of}
 use Rattle.sby_top.specs.Served.{ArePut, jobs_in}
 use Rattle.sby_top.specs.Task.{Lanes, TaskOf}
-use Rattle.sby_top.specs.World.{World, files_of, race_of}
+use Rattle.sby_top.specs.World.{Moments, race_of}
 use Rattle.sby_top.specs.declared.outcome.TaskEnd.{TaskEnd}
 use Rattle.sby_top.proofs.AnswerLemmas.{IsPlace, Spares, calling_spares, skipping_spares}
 use Rattle.sby_top.proofs.LookLemmas.{found_or_shown}
@@ -48,7 +48,7 @@ use Rattle.sby_top.proofs.ReportLemmas.{job_count as own_count, reported}
 use Rattle.sby_top.proofs.TruthLemmas.{own_design}
 
 -- the file that was put for a job
-file_put : (p : AskedOf) (folder : List ℕ) (jobs : List JobName) (before after : Option Store) → ArePut p folder jobs before after → (k : ℕ) (job : JobName) → slice_get jobs k ≡ Some job → (file : List ℕ) × IsJobFile p job file
+pub file_put : (p : AskedOf) (folder : List ℕ) (jobs : List JobName) (before after : Option Store) → ArePut p folder jobs before after → (k : ℕ) (job : JobName) → slice_get jobs k ≡ Some job → (file : List ℕ) × IsJobFile p job file
 file_put p folder [] before after put k job at = let none : None ≡ Some job = at in cc
 file_put p folder (j ∷ jobs) before after put zero job at = let same : j ≡ job = cc in (put.0, subst (λ x. IsJobFile p x put.0) same put.1)
 file_put p folder (j ∷ jobs) before after put (suc k) job at = file_put p folder jobs _ after put.2 k job at
@@ -66,39 +66,39 @@ module _ (fate : Fate) where
       let same : BadFate is.0 at ≡ fate = sym is.2 in
       subst (λ x. (end_answer (Bad number at) ≡ fate_answer (Some x)) × (told_by {T = FindingOf} (Bad number at) ≡ fate_event (Some x))) same (refl, refl)
 
-module _ (laws : FileLaws) (may_read : ℕ → Type 0) (number : ℕ) (start finish : World) (task : TaskOf) (end : TaskEnd) (exit : Exit) (engines : List Engine) (now : Store)
-    (ran : TaskRan may_read number start finish task end exit) (judged : IsJudgedAt may_read number start finish task end now) (service : task.service ≡ Lanes engines)
-    (calm : IsUndisturbed may_read number start finish task end) (plain : List (ReportOf FindingOf)) (are_plain : ArePlain (racing_of task judged.done.problem number engines) start.yard.scripts plain) where
-  lanes_ran : LanesRan (racing_of task judged.done.problem number engines) may_read start.yard finish.yard end.start end.reports.items
-  lanes_ran = subst (λ s. AreReports s may_read task judged.done.problem judged.middle.told (race_of number start finish end.start) end.reports.items) service judged.done.reports_are
+module _ (laws : FileLaws) (may_read : ℕ → Type 0) (number : ℕ) (moments : Moments) (task : TaskOf) (end : TaskEnd) (exit : Exit) (engines : List Engine) (now : Store)
+    (ran : TaskRan may_read number moments task end exit) (judged : IsJudgedAt may_read number moments task end now) (service : task.service ≡ Lanes engines)
+    (calm : IsUndisturbed may_read number moments task end) (plain : List (ReportOf FindingOf)) (are_plain : ArePlain (racing_of task judged.done.problem number engines) moments.before.yard.scripts plain) where
+  lanes_ran : LanesRan (racing_of task judged.done.problem number engines) may_read moments.before.yard moments.after.yard end.start end.reports.items
+  lanes_ran = subst (λ s. AreReports s may_read task judged.done.problem moments.put.told (race_of number moments.before moments.after end.start) end.reports.items) service judged.done.reports_are
 
   mode_is : judged.done.problem.problem.mode ≡ task.request.mode
   mode_is = ap (λ (q : ProblemOf). q.mode) judged.done.served.0.asked
 
   count : length (jobs_in judged.done.problem) ≡ length (jobs_of_mode task.request.mode task.request.span judged.done.problem.design)
-  count = own_count (files_of start).told task judged.done.problem judged.done.served.0
+  count = own_count moments.got.told task judged.done.problem judged.done.served.0
 
   are_reported : AreReported task.request.mode task.request.span judged.done.problem.design end.reports.items
-  are_reported = reported may_read (files_of start).told judged.middle.told task judged.done.problem (race_of number start finish end.start) task.service end.reports.items judged.done.served.0 judged.done.reports_are
+  are_reported = reported may_read moments.got.told moments.put.told task judged.done.problem (race_of number moments.before moments.after end.start) task.service end.reports.items judged.done.served.0 judged.done.reports_are
 
   -- of one job of one lane
   module _ (lane k : ℕ) (lt : k < length (jobs_in judged.done.problem)) where
     own_file : (file : List ℕ) × IsJobFile judged.done.problem (name_at judged.done.problem.problem.mode k) file
     own_file =
-        file_put judged.done.problem task.request.name (jobs_in judged.done.problem) (files_of start).told judged.middle.told judged.done.put k (name_at judged.done.problem.problem.mode k)
+        file_put judged.done.problem task.request.name (jobs_in judged.done.problem) moments.got.told moments.put.told judged.done.put k (name_at judged.done.problem.problem.mode k)
         (job_named judged.done.problem.problem.mode judged.done.problem.problem.span judged.done.problem.design k lt)
 
     place : IsPlace judged.done.problem.problem.mode k
     place = is_place judged.done.problem.problem.mode judged.done.problem.problem.span judged.done.problem.design k lt
 
     own_cause : (r : ReportOf FindingOf) → slice_get end.reports.items lane ≡ Some r
-        → (counts : CountsOf) × AreCountsOf number lane start.yard finish.yard counts
-        × HasEndCause (racing_of task judged.done.problem number engines) may_read start.yard.scripts counts end.start lane (name_at judged.done.problem.problem.mode k) (end_at r k)
-    own_cause r at = lane_cause (racing_of task judged.done.problem number engines) may_read start.yard finish.yard end.start end.reports.items lanes_ran lane k r at lt (end_at r k) refl
+        → (counts : CountsOf) × AreCountsOf number lane moments.before.yard moments.after.yard counts
+        × HasEndCause (racing_of task judged.done.problem number engines) may_read moments.before.yard.scripts counts end.start lane (name_at judged.done.problem.problem.mode k) (end_at r k)
+    own_cause r at = lane_cause (racing_of task judged.done.problem number engines) may_read moments.before.yard moments.after.yard end.start end.reports.items lanes_ran lane k r at lt (end_at r k) refl
 
     -- an end whose job's fate is known says it, or passes on a finding
-    by_fate : (r : ReportOf FindingOf) → Contains end.reports.items r → (fate : Fate) (e : JobEnd FindingOf) → end_at r k ≡ e → (counts : CountsOf) → AreCountsOf number lane start.yard finish.yard counts
-        → HasEndCause (racing_of task judged.done.problem number engines) may_read start.yard.scripts counts end.start lane (name_at judged.done.problem.problem.mode k) e → IsEndOfFate fate e
+    by_fate : (r : ReportOf FindingOf) → Contains end.reports.items r → (fate : Fate) (e : JobEnd FindingOf) → end_at r k ≡ e → (counts : CountsOf) → AreCountsOf number lane moments.before.yard moments.after.yard counts
+        → HasEndCause (racing_of task judged.done.problem number engines) may_read moments.before.yard.scripts counts end.start lane (name_at judged.done.problem.problem.mode k) e → IsEndOfFate fate e
         → ((end_answer e ≡ fate_answer (Some fate)) × (told_by e ≡ fate_event (Some fate))) ⊎ ((f : FindingOf) × PassesOn e f × Spares judged.done.problem.problem.mode k f.job f.answer)
     by_fate r among fate (Found f) is counts own cause of = inl (found_says fate f of)
     by_fate r among fate Unknown is counts own cause of = inl (unknown_says fate of)
@@ -113,8 +113,8 @@ module _ (laws : FileLaws) (may_read : ℕ → Type 0) (number : ℕ) (start fin
     by_fate r among fate MemoryEnd is counts own cause of = absurd (calm.lanes_memory r k among is)
 
     -- an end of a job that isn't served says so, or passes on a finding
-    unserved : (e : JobEnd FindingOf) → (IsServing (slice_get engines lane) → ⊥) → (r : ReportOf FindingOf) → Contains end.reports.items r → end_at r k ≡ e → (counts : CountsOf) → AreCountsOf number lane start.yard finish.yard counts
-        → HasEndCause (racing_of task judged.done.problem number engines) may_read start.yard.scripts counts end.start lane (name_at judged.done.problem.problem.mode k) e
+    unserved : (e : JobEnd FindingOf) → (IsServing (slice_get engines lane) → ⊥) → (r : ReportOf FindingOf) → Contains end.reports.items r → end_at r k ≡ e → (counts : CountsOf) → AreCountsOf number lane moments.before.yard moments.after.yard counts
+        → HasEndCause (racing_of task judged.done.problem number engines) may_read moments.before.yard.scripts counts end.start lane (name_at judged.done.problem.problem.mode k) e
         → ((end_answer NotServed ≡ end_answer e) × (told_by {T = FindingOf} NotServed ≡ told_by e)) ⊎ ((f : FindingOf) × PassesOn e f × Spares judged.done.problem.problem.mode k f.job f.answer)
     unserved NotServed apart r among is counts own cause = inl (refl, refl)
     unserved (Found f) apart r among is counts own cause = absurd (apart cause.0.0)
@@ -129,7 +129,7 @@ module _ (laws : FileLaws) (may_read : ℕ → Type 0) (number : ℕ) (start fin
     unserved MemoryEnd apart r among is counts own cause = absurd (calm.lanes_memory r k among is)
 
     -- the script of the lane's job
-    own_script : (o : Option YardOf) → start.yard.scripts ≡ o → IsSome o → (script : ScriptOf) × (script_of start.yard.scripts number lane (name_at judged.done.problem.problem.mode k) ≡ Some script)
+    own_script : (o : Option YardOf) → moments.before.yard.scripts ≡ o → IsSome o → (script : ScriptOf) × (script_of moments.before.yard.scripts number lane (name_at judged.done.problem.problem.mode k) ≡ Some script)
     own_script None is some = absurd (cc)
     own_script (Some scripts) is some = (scripts number lane (name_at judged.done.problem.problem.mode k), ap (λ (x : Option YardOf). script_of x number lane (name_at judged.done.problem.problem.mode k)) is)
 
@@ -137,21 +137,21 @@ module _ (laws : FileLaws) (may_read : ℕ → Type 0) (number : ℕ) (start fin
     matches : (q r : ReportOf FindingOf) → slice_get plain lane ≡ Some q → slice_get end.reports.items lane ≡ Some r → Matches judged.done.problem.problem.mode k (end_at q k) (end_at r k)
     matches q r at_q at_r =
         let among = at_contains end.reports.items lane r at_r in
-        let script = own_script start.yard.scripts refl calm.told in
+        let script = own_script moments.before.yard.scripts refl calm.told in
         let free = calm.ungated lane (name_at judged.done.problem.problem.mode k) script.0 script.1 in
         let file = own_file in
         let cause = own_cause r at_r in
         let own = (are_plain.each lane q at_q).1 k lt in
-        elim (plain_fate (racing_of task judged.done.problem number engines) start.yard.scripts lane (name_at judged.done.problem.problem.mode k) script.0 file.0 script.1 free file.1 (end_at q k) own) [
+        elim (plain_fate (racing_of task judged.done.problem number engines) moments.before.yard.scripts lane (name_at judged.done.problem.problem.mode k) script.0 file.0 script.1 free file.1 (end_at q k) own) [
           | inl none ↦ subst (λ (e : JobEnd FindingOf). Matches judged.done.problem.problem.mode k e (end_at r k)) (sym none.0) (unserved (end_at r k) none.1 r among refl cause.0 cause.1 cause.2)
           | inr served ↦
               let fate = served.1.0 in
-              let of = end_of_fate (racing_of task judged.done.problem number engines) may_read start.yard.scripts cause.0 end.start lane (name_at judged.done.problem.problem.mode k) script.0 file.0 fate
+              let of = end_of_fate (racing_of task judged.done.problem number engines) may_read moments.before.yard.scripts cause.0 end.start lane (name_at judged.done.problem.problem.mode k) script.0 file.0 fate
               served.0 script.1 free file.1 served.1.1 (end_at r k) cause.2 in
               by_own fate (end_at q k) served.1.2 own (by_fate r among fate (end_at r k) refl cause.0 cause.1 cause.2 of)
         ]
       where
-        by_own : (fate : Fate) (e : JobEnd FindingOf) → IsEndOfFate fate e → IsPlainEnd (racing_of task judged.done.problem number engines) start.yard.scripts lane (name_at judged.done.problem.problem.mode k) e
+        by_own : (fate : Fate) (e : JobEnd FindingOf) → IsEndOfFate fate e → IsPlainEnd (racing_of task judged.done.problem number engines) moments.before.yard.scripts lane (name_at judged.done.problem.problem.mode k) e
             → ((end_answer (end_at r k) ≡ fate_answer (Some fate)) × (told_by (end_at r k) ≡ fate_event (Some fate))) ⊎ ((f : FindingOf) × PassesOn (end_at r k) f × Spares judged.done.problem.problem.mode k f.job f.answer)
             → Matches judged.done.problem.problem.mode k e (end_at r k)
         by_own fate (Found f) of own (inl says) = let mine = found_says fate f of in inl (mine.0 ∙ sym says.0, mine.1 ∙ sym says.1)
@@ -168,10 +168,10 @@ module _ (laws : FileLaws) (may_read : ℕ → Type 0) (number : ℕ) (start fin
         by_own fate e of own (inr passed) = inr passed
 
     -- Plain's ends carry what is found for their jobs
-    plain_own : (e : JobEnd FindingOf) → IsPlainEnd (racing_of task judged.done.problem number engines) start.yard.scripts lane (name_at judged.done.problem.problem.mode k) e → (f : FindingOf) → Carries e f
+    plain_own : (e : JobEnd FindingOf) → IsPlainEnd (racing_of task judged.done.problem number engines) moments.before.yard.scripts lane (name_at judged.done.problem.problem.mode k) e → (f : FindingOf) → Carries e f
         → (e ≡ Found f) × (f.job ≡ name_at judged.done.problem.problem.mode k)
     plain_own (Found g) own f carries =
-        (ap Found carries, ap (λ (x : FindingOf). x.job) (sym carries) ∙ judged_job (racing_of task judged.done.problem number engines) start.yard.scripts lane (name_at judged.done.problem.problem.mode k) g own)
+        (ap Found carries, ap (λ (x : FindingOf). x.job) (sym carries) ∙ judged_job (racing_of task judged.done.problem number engines) moments.before.yard.scripts lane (name_at judged.done.problem.problem.mode k) g own)
     plain_own Unknown own f carries = absurd carries
     plain_own NotServed own f carries = absurd carries
     plain_own (Bad kind at) own f carries = absurd carries
@@ -186,9 +186,9 @@ module _ (laws : FileLaws) (may_read : ℕ → Type 0) (number : ℕ) (start fin
     -- a finding that the reports carry for the job answers as Plain's does
     agrees : (q : ReportOf FindingOf) (f g : FindingOf) → slice_get plain lane ≡ Some q → end_at q k ≡ Found f → SettledIn job_of end.reports.items (name_at judged.done.problem.problem.mode k) g → f.answer ≡ g.answer
     agrees q f g at_q is settled =
-        let own = subst (λ (e : JobEnd FindingOf). IsPlainEnd (racing_of task judged.done.problem number engines) start.yard.scripts lane (name_at judged.done.problem.problem.mode k) e) is ((are_plain.each lane q at_q).1 k lt) in
+        let own = subst (λ (e : JobEnd FindingOf). IsPlainEnd (racing_of task judged.done.problem number engines) moments.before.yard.scripts lane (name_at judged.done.problem.problem.mode k) e) is ((are_plain.each lane q at_q).1 k lt) in
         let file = own_file in
-        let says = judged_says (racing_of task judged.done.problem number engines) start.yard.scripts lane (name_at judged.done.problem.problem.mode k) f file.0 file.1.0 file.1 file.1.3 own in
+        let says = judged_says (racing_of task judged.done.problem number engines) moments.before.yard.scripts lane (name_at judged.done.problem.problem.mode k) f file.0 file.1.0 file.1 file.1.3 own in
         let true_of = lanes_ran.are_true settled.0 g settled.1 settled.2 in
         sym (answers_agree laws judged.done.problem (name_at judged.done.problem.problem.mode k) file.0 g judged.done.served.0.problem file.1 true_of.0 true_of.1 settled.3 f.answer says)
 
@@ -206,9 +206,9 @@ module _ (laws : FileLaws) (may_read : ℕ → Type 0) (number : ℕ) (start fin
         (both.0, subst (λ m. f.job ≡ name_at m k) mode_is both.1);
     found = λ lane k r f at lt is.
         let cause = own_cause lane k (back_in k lt) r at in
-        let own = subst (λ (e : JobEnd FindingOf). HasEndCause (racing_of task judged.done.problem number engines) may_read start.yard.scripts cause.0 end.start lane
+        let own = subst (λ (e : JobEnd FindingOf). HasEndCause (racing_of task judged.done.problem number engines) may_read moments.before.yard.scripts cause.0 end.start lane
         (name_at judged.done.problem.problem.mode k) e) is cause.2 in
-        subst (λ m. f.job ≡ name_at m k) mode_is (judged_job (racing_of task judged.done.problem number engines) start.yard.scripts lane (name_at judged.done.problem.problem.mode k) f own);
+        subst (λ m. f.job ≡ name_at m k) mode_is (judged_job (racing_of task judged.done.problem number engines) moments.before.yard.scripts lane (name_at judged.done.problem.problem.mode k) f own);
     matches = λ lane k q r at_q at_r lt. subst (λ m. Matches m k (end_at q k) (end_at r k)) mode_is (matches lane k (back_in k lt) q r at_q at_r);
     agree = λ lane k q f g at lt is settled. agrees lane k (back_in k lt) q f g at is (subst (λ m. SettledIn job_of end.reports.items (name_at m k) g) (sym mode_is) settled);
     sources = λ lane k r f at lt carries.

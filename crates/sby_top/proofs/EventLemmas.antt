@@ -31,7 +31,7 @@ use Rattle.sby_top.specs.Claims.{IsCausedEnd, IsEvent, IsFaultyEnd, IsLeftEnd, I
 use Rattle.sby_top.specs.Headline.{NamesEvent, WasStopped}
 use Rattle.sby_top.specs.Task.{TaskOf}
 use Rattle.sby_top.specs.Served.{jobs_in}
-use Rattle.sby_top.specs.World.{World, files_of, race_of}
+use Rattle.sby_top.specs.World.{Moments, race_of}
 use Rattle.sby_top.specs.declared.outcome.TaskEnd.{TaskEnd}
 use Rattle.sby_top.proofs.OpenLemmas.{none_spared}
 use Rattle.sby_top.proofs.ReportLemmas.{caused, job_count, reported}
@@ -103,44 +103,44 @@ faulty (CalledOff f) is = cc
 faulty (Stopped reading) is = cc
 faulty MemoryEnd is = cc
 
-module _ (may_read : ℕ → Type 0) (number : ℕ) (start finish : World) (task : TaskOf) (end : TaskEnd) where
+module _ (may_read : ℕ → Type 0) (number : ℕ) (moments : Moments) (task : TaskOf) (end : TaskEnd) where
   -- the outcome of a task that came to its lanes
   abbrev Outcome : Type 0
-  Outcome = IsOutcome may_read task (files_of start) (files_of finish) (race_of number start finish end.start) None end.text end.reports.items end.unput.items (WasStopped start finish end)
+  Outcome = IsOutcome may_read task moments (race_of number moments.before moments.after end.start) None end.text end.reports.items end.unput.items (WasStopped moments end)
 
   abbrev Came : DesignOf → CameTo
   Came d = record { design = d; reports = end.reports.items; start = end.start }
 
-  abbrev was_judged : (d : DesignOf) (answers : List (Option Answer)) → end.early ≡ None → Reads end.text d → AreAnswers task.request (Came d) answers → Outcome → WasJudged may_read number start finish task end
+  abbrev was_judged : (d : DesignOf) (answers : List (Option Answer)) → end.early ≡ None → Reads end.text d → AreAnswers task.request (Came d) answers → Outcome → WasJudged may_read number moments task end
   was_judged d answers early reads are came = record { early = early; outcome = came; design = d; reads = reads; answers = answers; are_answers = are }
 
   -- the cause of an end of an unsettled job
   open_caused : (d : DesignOf) (answers : List (Option Answer)) → Reads end.text d → AreAnswers task.request (Came d) answers → (came : Outcome) → (lane place : ℕ) (e : JobEnd FindingOf)
-      → IsUnsettledEnd end.reports.items answers lane place e → IsCausedEnd task.service may_read task came.1.problem (race_of number start finish end.start) lane place e
+      → IsUnsettledEnd end.reports.items answers lane place e → IsCausedEnd task.service may_read task came.0.problem (race_of number moments.before moments.after end.start) lane place e
   open_caused d answers reads are came lane place e is =
-      let p = came.1.problem in
-      let same : d ≡ came.1.problem.design = own_design came.1.problem end.text d came.1.served.0.problem came.1.text_is reads in
-      let count = job_count (files_of start).told task came.1.problem came.1.served.0 in
-      let size : length answers ≡ length (jobs_of_mode task.request.mode task.request.span came.1.problem.design) = are.size ∙ ap (λ x. length (jobs_of_mode task.request.mode task.request.span x)) same in
-      let lt : place < length (jobs_in came.1.problem) = omega (arith, count, size, slice_get_within answers place None is.unsettled) in
-      caused may_read came.0.told task p (race_of number start finish end.start) task.service end.reports.items came.1.reports_are (ap (λ (q : ProblemOf). q.mode) came.1.served.0.asked)
+      let p = came.0.problem in
+      let same : d ≡ came.0.problem.design = own_design came.0.problem end.text d came.0.served.0.problem came.0.text_is reads in
+      let count = job_count moments.got.told task came.0.problem came.0.served.0 in
+      let size : length answers ≡ length (jobs_of_mode task.request.mode task.request.span came.0.problem.design) = are.size ∙ ap (λ x. length (jobs_of_mode task.request.mode task.request.span x)) same in
+      let lt : place < length (jobs_in came.0.problem) = omega (arith, count, size, slice_get_within answers place None is.unsettled) in
+      caused may_read moments.put.told task p (race_of number moments.before moments.after end.start) task.service end.reports.items came.0.reports_are (ap (λ (q : ProblemOf). q.mode) came.0.served.0.asked)
       lane place is.report e is.at lt is.end_is
 
   -- where the answers decide nothing, the end of an unsettled job carries no finding
-  none_carried : (d : DesignOf) (answers : List (Option Answer)) → Reads end.text d → AreAnswers task.request (Came d) answers → (came : Outcome) → ((v : Verdict) → Decides task.request.mode answers v → ⊥)
+  pub none_carried : (d : DesignOf) (answers : List (Option Answer)) → Reads end.text d → AreAnswers task.request (Came d) answers → (came : Outcome) → ((v : Verdict) → Decides task.request.mode answers v → ⊥)
       → (lane place : ℕ) (e : JobEnd FindingOf) → IsUnsettledEnd end.reports.items answers lane place e → (f : FindingOf) → Carries e f → ⊥
   none_carried d answers reads are came left lane place e is f carries =
-      let p = came.1.problem in
-      let same : d ≡ came.1.problem.design = own_design came.1.problem end.text d came.1.served.0.problem came.1.text_is reads in
-      let count = job_count (files_of start).told task came.1.problem came.1.served.0 in
-      let own : AreAnswers task.request (Came came.1.problem.design) answers = subst (λ x. AreAnswers task.request (Came x) answers) same are in
-      let lt : place < length (jobs_of_mode task.request.mode task.request.span came.1.problem.design) = omega (arith, own.size, slice_get_within answers place None is.unsettled) in
+      let p = came.0.problem in
+      let same : d ≡ came.0.problem.design = own_design came.0.problem end.text d came.0.served.0.problem came.0.text_is reads in
+      let count = job_count moments.got.told task came.0.problem came.0.served.0 in
+      let own : AreAnswers task.request (Came came.0.problem.design) answers = subst (λ x. AreAnswers task.request (Came x) answers) same are in
+      let lt : place < length (jobs_of_mode task.request.mode task.request.span came.0.problem.design) = omega (arith, own.size, slice_get_within answers place None is.unsettled) in
       let among = at_contains end.reports.items lane is.report is.at in
       let here : Carries (end_at is.report place) f = subst (λ x. Carries x f) (sym is.end_is) carries in
-      let spares = carried_spares may_read came.0.told task p (race_of number start finish end.start) task.service end.reports.items came.1.reports_are came.1.served.0 lane place is.report is.at
+      let spares = carried_spares may_read moments.put.told task p (race_of number moments.before moments.after end.start) task.service end.reports.items came.0.reports_are came.0.served.0 lane place is.report is.at
       (omega (arith, count, lt)) f here in
       none_spared task.request.mode task.request.span p.design end.reports.items
-      (reported may_read (files_of start).told came.0.told task p (race_of number start finish end.start) task.service end.reports.items came.1.served.0 came.1.reports_are)
+      (reported may_read moments.got.told moments.put.told task p (race_of number moments.before moments.after end.start) task.service end.reports.items came.0.served.0 came.0.reports_are)
       answers own left is.report place f among lt is.unsettled here spares
 
   -- what an event comes from
@@ -150,10 +150,10 @@ module _ (may_read : ℕ → Type 0) (number : ℕ) (start finish : World) (task
       (come.2.0, come.1, end_at come.0 come.1, record { report = come.0; at = contains_at end.reports.items come.0 come.2; unsettled = come.3; end_is = refl }, come.4)
 
   open_end : (d : DesignOf) (answers : List (Option Answer)) → Reads end.text d → AreAnswers task.request (Came d) answers → (came : Outcome) → (lane place : ℕ) (e : JobEnd FindingOf)
-      → IsUnsettledEnd end.reports.items answers lane place e → IsOpenEnd may_read number start finish task end came.1.problem answers e
+      → IsUnsettledEnd end.reports.items answers lane place e → IsOpenEnd may_read number moments task end came.0.problem answers e
   open_end d answers reads are came lane place e is = record { lane = lane; place = place; is_end = is; caused = open_caused d answers reads are came lane place e is }
 
-  race_event : (d : DesignOf) (status : Status) → end.early ≡ None → Reads end.text d → IsRaceStatus task.request (Came d) status → Outcome → IsEvent may_read number start finish task end status
+  race_event : (d : DesignOf) (status : Status) → end.early ≡ None → Reads end.text d → IsRaceStatus task.request (Came d) status → Outcome → IsEvent may_read number moments task end status
   race_event d Pass early reads race came = tt
   race_event d Fail early reads race came = tt
   race_event d Memory early reads race came = tt
@@ -185,19 +185,19 @@ module _ (may_read : ℕ → Type 0) (number : ℕ) (start finish : World) (task
       )
 
   early_event : (early : Early) (status : Status) → end.early ≡ Some early → (status ≡ Error) ⊎ (status ≡ Memory)
-      → IsOutcome may_read task (files_of start) (files_of finish) (race_of number start finish end.start) (Some early) end.text end.reports.items end.unput.items (WasStopped start finish end)
-      → IsEvent may_read number start finish task end status
-  early_event early status at (inl error) came = subst (IsEvent may_read number start finish task end) (sym error) (inl (early, at, came.3))
-  early_event early status at (inr memory) came = subst (IsEvent may_read number start finish task end) (sym memory) tt
+      → IsOutcome may_read task moments (race_of number moments.before moments.after end.start) (Some early) end.text end.reports.items end.unput.items (WasStopped moments end)
+      → IsEvent may_read number moments task end status
+  early_event early status at (inl error) came = subst (IsEvent may_read number moments task end) (sym error) (inl (early, at, came.3))
+  early_event early status at (inr memory) came = subst (IsEvent may_read number moments task end) (sym memory) tt
 
   event_by : (early : Option Early) (d : DesignOf) (status : Status) → end.early ≡ early → (early ≡ None → Reads end.text d) → IsStatus task.request early (Came d) status
-      → IsOutcome may_read task (files_of start) (files_of finish) (race_of number start finish end.start) early end.text end.reports.items end.unput.items (WasStopped start finish end)
-      → IsEvent may_read number start finish task end status
+      → IsOutcome may_read task moments (race_of number moments.before moments.after end.start) early end.text end.reports.items end.unput.items (WasStopped moments end)
+      → IsEvent may_read number moments task end status
   event_by (Some early) d status at reads is came = early_event early status at (early_status task.request early _ status is) came
   event_by None d status at reads is came = race_event d status at (reads refl) is came
 
-  pub event_named : NamesEvent may_read number start finish task end → IsEvent may_read number start finish task end end.status
+  pub event_named : NamesEvent may_read number moments task end → IsEvent may_read number moments task end end.status
   event_named named = elim named.status [
     | inl own ↦ event_by end.early own.0 end.status refl own.1 own.2 named.cause
-    | inr memory ↦ subst (IsEvent may_read number start finish task end) (sym memory) tt
+    | inr memory ↦ subst (IsEvent may_read number moments task end) (sym memory) tt
   ]

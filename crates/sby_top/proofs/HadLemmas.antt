@@ -8,21 +8,22 @@ use Rattle.sby_words.specs.Requests.{AskGen, AskJudge, AskNames, AskTasks, Reque
 use Rattle.sby_words.specs.Words.{IsAsked}
 use Rattle.sby_top.specs.Claims.{IsHad, RanUpto}
 use Rattle.sby_top.specs.Headline.{Exit, Code, Cut}
-use Rattle.sby_top.specs.Run.{Did, Ran, TurnRan, TurnsDone}
+use Rattle.sby_top.specs.Run.{BeginsAt, Did, Had, OneByOne, TurnRan, TurnsDone}
 use Rattle.sby_top.specs.Turns.{Turn}
-use Rattle.sby_top.specs.World.{World}
+use Rattle.sby_top.specs.World.{Moments, World}
 use Rattle.sby_top.specs.declared.outcome.Done.{Done}
 use Rattle.sby_top.specs.declared.outcome.TaskEnd.{TaskEnd}
 
 -- the turn at a place, which was had when those before it were
 record HadAt (may_read : ℕ → Type 0) (number : ℕ) (start : World) (turns : List Turn) (ends : List TaskEnd) (place : ℕ) (end : TaskEnd) : Type 0 where
-  begins : World
-  finishes : World
+  moments : Moments
   turn : Turn
   at : slice_get turns place ≡ Some turn
-  earlier : RanUpto may_read number start (take place turns) (take place ends) begins
+  now : World
+  earlier : RanUpto may_read number start (take place turns) (take place ends) now
+  begins : BeginsAt now moments
   exit : Exit
-  ran : TurnRan may_read (number + place) begins finishes turn end exit
+  ran : TurnRan may_read (number + place) moments turn end exit
 
 first_number : (number : ℕ) → number ≡ number + 0
 first_number number = omega arith
@@ -33,44 +34,50 @@ next_number number place = omega arith
 none_at : (place : ℕ) (ends : List TaskEnd) (end : TaskEnd) → ends ≡ [] → slice_get ends place ≡ Some end → ⊥
 none_at place ends end none at = Contains-empty end (at_contains [] place end (subst (λ es. slice_get es place ≡ Some end) none at))
 
-had_at : (may_read : ℕ → Type 0) (number so_far : ℕ) (start : World) (turns : List Turn) (ends : List TaskEnd) (after : World) (exit : Exit) (place : ℕ) (end : TaskEnd) → Ran may_read number so_far start turns ends after exit → slice_get ends place ≡ Some end → HadAt may_read number start turns ends place end
-had_at may_read number so_far start [] [] after exit place end ran at = absurd (none_at place [] end refl at)
-had_at may_read number so_far start [] (e ∷ ends) after exit place end ran at = absurd ran
-had_at may_read number so_far start (turn ∷ turns) [] after exit place end ran at = absurd (none_at place [] end refl at)
-had_at may_read number so_far start (turn ∷ turns) (e ∷ ends) after exit zero end (inl cut) at = record {
-  begins = start;
-  finishes = after;
+had_at : (may_read : ℕ → Type 0) (number so_far : ℕ) (start : World) (turns : List Turn) (ms : List Moments) (ends : List TaskEnd) (after : World) (exit : Exit) (place : ℕ) (end : TaskEnd) → Had may_read number so_far turns ms ends exit → OneByOne start ms after
+    → slice_get ends place ≡ Some end → HadAt may_read number start turns ends place end
+had_at may_read number so_far start [] [] [] after exit place end had follow at = absurd (none_at place [] end refl at)
+had_at may_read number so_far start [] [] (e ∷ ends) after exit place end had follow at = absurd had
+had_at may_read number so_far start [] (m ∷ ms) ends after exit place end had follow at = absurd had
+had_at may_read number so_far start (turn ∷ turns) [] [] after exit place end had follow at = absurd (none_at place [] end refl at)
+had_at may_read number so_far start (turn ∷ turns) [] (e ∷ ends) after exit place end had follow at = absurd had
+had_at may_read number so_far start (turn ∷ turns) (m ∷ ms) [] after exit place end had follow at = absurd had
+had_at may_read number so_far start (turn ∷ turns) (m ∷ ms) (e ∷ ends) after exit zero end (inl cut) follow at = record {
+  moments = m;
   turn = turn;
   at = refl;
+  now = start;
   earlier = refl;
+  begins = follow.0;
   exit = Cut;
-  ran = subst (λ n. TurnRan may_read n start after turn end Cut) (first_number number) (subst (λ x. TurnRan may_read number start after turn x Cut) (some_same e end at) cut.0);
+  ran = subst (λ n. TurnRan may_read n m turn end Cut) (first_number number) (subst (λ x. TurnRan may_read number m turn x Cut) (some_same e end at) cut.0);
 }
-had_at may_read number so_far start (turn ∷ turns) (e ∷ ends) after exit zero end (inr more) at = record {
-  begins = start;
-  finishes = more.0;
+had_at may_read number so_far start (turn ∷ turns) (m ∷ ms) (e ∷ ends) after exit zero end (inr more) follow at = record {
+  moments = m;
   turn = turn;
   at = refl;
+  now = start;
   earlier = refl;
-  exit = Code more.1;
-  ran = subst (λ n. TurnRan may_read n start more.0 turn end (Code more.1)) (first_number number)
-      (subst (λ x. TurnRan may_read number start more.0 turn x (Code more.1)) (some_same e end at) more.2);
+  begins = follow.0;
+  exit = Code more.0;
+  ran = subst (λ n. TurnRan may_read n m turn end (Code more.0)) (first_number number) (subst (λ x. TurnRan may_read number m turn x (Code more.0)) (some_same e end at) more.1);
 }
-had_at may_read number so_far start (turn ∷ turns) (e ∷ ends) after exit (suc place) end (inl cut) at = absurd (none_at place ends end cut.1 at)
-had_at may_read number so_far start (turn ∷ turns) (e ∷ ends) after exit (suc place) end (inr more) at =
-    let rest = had_at may_read (number + 1) (bit_or so_far more.1) more.0 turns ends after exit place end more.3 at in record {
-      begins = rest.begins;
-      finishes = rest.finishes;
+had_at may_read number so_far start (turn ∷ turns) (m ∷ ms) (e ∷ ends) after exit (suc place) end (inl cut) follow at = absurd (none_at place ends end cut.2 at)
+had_at may_read number so_far start (turn ∷ turns) (m ∷ ms) (e ∷ ends) after exit (suc place) end (inr more) follow at =
+    let rest = had_at may_read (number + 1) (bit_or so_far more.0) m.after turns ms ends after exit place end more.2 follow.1 at in record {
+      moments = rest.moments;
       turn = rest.turn;
       at = rest.at;
-      earlier = (more.0, more.1, more.2, rest.earlier);
+      now = rest.now;
+      earlier = (m, more.0, follow.0, more.1, rest.earlier);
+      begins = rest.begins;
       exit = rest.exit;
-      ran = subst (λ n. TurnRan may_read n rest.begins rest.finishes rest.turn end rest.exit) (next_number number place) rest.ran;
+      ran = subst (λ n. TurnRan may_read n rest.moments rest.turn end rest.exit) (next_number number place) rest.ran;
     }
 
 -- a turn of a call has this end, which stands at this place
 abbrev pub HasTurnAt : (ℕ → Type 0) → World → List (List ℕ) → Done → ℕ → TaskEnd → Type 0
-HasTurnAt may_read before words done place end = (start : World) × (finish : World) × (turn : Turn) × (had : IsHad may_read before words done start finish turn end) × (had.place ≡ place)
+HasTurnAt may_read before words done place end = (moments : Moments) × (turn : Turn) × (had : IsHad may_read before words done moments turn end) × (had.place ≡ place)
 
 place_number : (place : ℕ) → 0 + place ≡ place
 place_number place = omega arith
@@ -78,9 +85,8 @@ place_number place = omega arith
 turns_had : (may_read : ℕ → Type 0) (before after : World) (words : List (List ℕ)) (done : Done) (asked : Asked) (place : ℕ) (end : TaskEnd) → IsAsked words (Some asked) → TurnsDone may_read before after done asked → slice_get done.ends.items place ≡ Some end
     → HasTurnAt may_read before words done place end
 turns_had may_read before after words done asked place end asks run at =
-    let had = had_at may_read 0 0 run.middle run.turns done.ends.items after run.exit place end run.ran at in (
-      had.begins,
-      had.finishes,
+    let had = had_at may_read 0 0 run.middle run.turns run.ran.0 done.ends.items after run.exit place end run.ran.1 run.ran.2 at in (
+      had.moments,
       had.turn,
       record {
         asked = asked;
@@ -92,9 +98,11 @@ turns_had may_read before after words done asked place end asks run at =
         place = place;
         turn_is = had.at;
         end_is = at;
+        now = had.now;
         earlier = had.earlier;
+        begins = had.begins;
         exit = had.exit;
-        ran = subst (λ n. TurnRan may_read n had.begins had.finishes had.turn end had.exit) (place_number place) had.ran;
+        ran = subst (λ n. TurnRan may_read n had.moments had.turn end had.exit) (place_number place) had.ran;
       },
       refl,
     )

@@ -41,7 +41,7 @@ use Rattle.sby_top.specs.Headline.{AreFates, AreWhole, Exit, IsDecided, IsFateSt
 use Rattle.sby_top.specs.Served.{ArePut, IsAccepted, IsTextOf, jobs_in, most_design, most_stream, slices_in}
 use Rattle.sby_top.specs.Task.{DesignAt, Given, Lanes, Service, Stored, Streams, TaskOf, problem_of, streams_in}
 use Rattle.sby_top.specs.Turns.{judge_task}
-use Rattle.sby_top.specs.World.{World, files_of, race_of}
+use Rattle.sby_top.specs.World.{Moments, race_of}
 use Rattle.sby_top.specs.declared.outcome.TaskEnd.{TaskEnd}
 use Rattle.sby_top.proofs.FailLemmas.{fail_status}
 use Rattle.sby_top.proofs.KindLemmas.{one_kind}
@@ -64,7 +64,7 @@ pub nothing_decides : (verdict : Verdict) → Decides Bmc (None ∷ []) verdict 
 nothing_decides PassVerdict d = let no : ◌≡◌ {A = Option Answer} None (Some Unsat) = d.1 0 None (omega arith) in cc
 nothing_decides FailVerdict d = let no : ◌≡◌ {A = Option Answer} None (Some Sat) = Contains-one None (Some Sat) d in cc
 
-pass_status : (events : List Event) (s : Status) → HasStatus (Some PassVerdict) events s → s ≡ Pass
+pub pass_status : (events : List Event) (s : Status) → HasStatus (Some PassVerdict) events s → s ≡ Pass
 pass_status events Pass h = refl
 pass_status events Fail h = cc
 pass_status events Unknown h = absurd h
@@ -72,7 +72,7 @@ pass_status events Error h = absurd h
 pass_status events Timeout h = absurd h
 pass_status events Memory h = absurd h
 
-all_one : Decides Bmc (Some Unsat ∷ []) PassVerdict
+pub all_one : Decides Bmc (Some Unsat ∷ []) PassVerdict
 all_one = ((λ none. cc), (λ i e lt. let first : i ≡ 0 = omega (arith, lt) in rw first refl))
 
 pub answer_gives : (answer : Answer) (verdict : Option Verdict) (events : List Event) (status : Status) → Decided Bmc (Some answer ∷ []) verdict → HasStatus verdict events status → status ≡ status_for answer
@@ -132,15 +132,15 @@ one_slice : (told : Option Store) (j : JudgeRequest) (p : AskedOf) → IsAccepte
 one_slice told j p accepted = ap (λ (q : ProblemOf). slices_of q.span) accepted.asked
 
 -- a task that was judged has the verdict of its one certificate
-race_gives : OneFate → OneFile → (may_read : ℕ → Type 0) (number : ℕ) (start finish : World) (j : JudgeRequest) (end : TaskEnd) (now : Store) (d : DesignOf) (path : List ℕ) (kind : StreamKind) (stream file : List ℕ) (answer : Answer)
-    → (judged : IsJudgedAt may_read number start finish (judge_task j) end now) → Reads end.text d → IsRaceStatus (judge_task j).request (record { design = d; reports = end.reports.items; start = end.start }) end.status → j.mode ≡ Bmc → end.status ≢ Memory
+race_gives : OneFate → OneFile → (may_read : ℕ → Type 0) (number : ℕ) (moments : Moments) (j : JudgeRequest) (end : TaskEnd) (now : Store) (d : DesignOf) (path : List ℕ) (kind : StreamKind) (stream file : List ℕ) (answer : Answer)
+    → (judged : IsJudgedAt may_read number moments (judge_task j) end now) → Reads end.text d → IsRaceStatus (judge_task j).request (record { design = d; reports = end.reports.items; start = end.start }) end.status → j.mode ≡ Bmc → end.status ≢ Memory
     → j.streams ≡ path ∷ [] → IsKindNamed path kind → now path ≡ Some stream → now (job_path j.folder 1 (Base 0)) ≡ Some file → IsFate kind file stream most_stream (Found answer) → end.status ≡ status_for answer
-race_gives one_fate one_file may_read number start finish j end now d path kind stream file answer judged reads race bmc apart streams named has stands valid =
-    let jobs = one_job (files_of start).told j judged.done.problem judged.done.served.0 bmc in
-    let put : ArePut judged.done.problem j.folder (Base 0 ∷ []) (files_of start).told (Some now) =
-    subst (λ t. ArePut judged.done.problem j.folder (Base 0 ∷ []) (files_of start).told t) judged.told (subst (λ js. ArePut judged.done.problem j.folder js (files_of start).told judged.middle.told) jobs judged.done.put) in
-    let own = one_put_stands judged.done.problem j.folder (files_of start).told now file (one_slice (files_of start).told j judged.done.problem judged.done.served.0) put stands in
-    let gives = done_gives may_read (judge_task j) (files_of start) judged.middle (race_of number start finish end.start) now end.text end.reports.items d end.start end.status j.streams refl judged.told apart reads race judged.done in
+race_gives one_fate one_file may_read number moments j end now d path kind stream file answer judged reads race bmc apart streams named has stands valid =
+    let jobs = one_job moments.got.told j judged.done.problem judged.done.served.0 bmc in
+    let put : ArePut judged.done.problem j.folder (Base 0 ∷ []) moments.got.told (Some now) =
+    subst (λ t. ArePut judged.done.problem j.folder (Base 0 ∷ []) moments.got.told t) judged.told (subst (λ js. ArePut judged.done.problem j.folder js moments.got.told moments.put.told) jobs judged.done.put) in
+    let own = one_put_stands judged.done.problem j.folder moments.got.told now file (one_slice moments.got.told j judged.done.problem judged.done.served.0) put stands in
+    let gives = done_gives may_read (judge_task j) moments.got moments.put (race_of number moments.before moments.after end.start) now end.text end.reports.items d end.start end.status j.streams refl judged.told apart reads race judged.done in
     let fates : AreFates judged.done.problem now (Base 0 ∷ []) (path ∷ []) gives.fates =
     subst (λ js. AreFates judged.done.problem now js (path ∷ []) gives.fates) jobs (subst (λ ps. AreFates judged.done.problem now (jobs_in judged.done.problem) ps gives.fates) streams gives.are) in
     let whole : AreWhole (path ∷ []) gives.fates ⊎ IsDecided Bmc (map fate_answer gives.fates) =
@@ -149,22 +149,22 @@ race_gives one_fate one_file may_read number start finish j end now d path kind 
     let s : IsFateStatus Bmc (Some (Found answer) ∷ []) end.status = subst (λ fs. IsFateStatus Bmc fs end.status) found (subst (λ m. IsFateStatus m gives.fates end.status) bmc gives.give.1) in
     answer_gives answer s.0 _ end.status s.1 s.2
 
-pub certificate_gives : OneFate → OneFile → (may_read : ℕ → Type 0) (number : ℕ) (start finish : World) (j : JudgeRequest) (end : TaskEnd) (exit : Exit) (now : Store) (path : List ℕ) (kind : StreamKind) (stream file : List ℕ) (answer : Answer) → TaskRan may_read number start finish (judge_task j) end exit
-    → IsJudgedAt may_read number start finish (judge_task j) end now → j.mode ≡ Bmc → end.status ≢ Memory → j.streams ≡ path ∷ [] → IsKindNamed path kind → now path ≡ Some stream
+pub certificate_gives : OneFate → OneFile → (may_read : ℕ → Type 0) (number : ℕ) (moments : Moments) (j : JudgeRequest) (end : TaskEnd) (exit : Exit) (now : Store) (path : List ℕ) (kind : StreamKind) (stream file : List ℕ) (answer : Answer) → TaskRan may_read number moments (judge_task j) end exit
+    → IsJudgedAt may_read number moments (judge_task j) end now → j.mode ≡ Bmc → end.status ≢ Memory → j.streams ≡ path ∷ [] → IsKindNamed path kind → now path ≡ Some stream
     → now (job_path j.folder 1 (Base 0)) ≡ Some file → IsFate kind file stream most_stream (Found answer) → end.status ≡ status_for answer
-certificate_gives one_fate one_file may_read number start finish j end exit now path kind stream file answer ran judged bmc apart streams named has stands valid = elim ran.named.status [
+certificate_gives one_fate one_file may_read number moments j end exit now path kind stream file answer ran judged bmc apart streams named has stands valid = elim ran.named.status [
   | inl own ↦
-      race_gives one_fate one_file may_read number start finish j end now own.0 path kind stream file answer judged (own.1 judged.early)
+      race_gives one_fate one_file may_read number moments j end now own.0 path kind stream file answer judged (own.1 judged.early)
       (subst (λ e. IsStatus (judge_task j).request e (record { design = own.0; reports = end.reports.items; start = end.start }) end.status) judged.early own.2) bmc apart streams named has stands valid
   | inr memory ↦ absurd (apart memory)
 ]
 
 -- over a store that tells, there is the one at which a task was judged
-pub judged_at : (may_read : ℕ → Type 0) (number : ℕ) (start finish : World) (task : TaskOf) (end : TaskEnd) (exit : Exit) (store : Store) → TaskRan may_read number start finish task end exit → start.told ≡ Some store → end.early ≡ None → (now : Store) × IsJudgedAt may_read number start finish task end now
-judged_at may_read number start finish task end exit store ran told early =
-    let came = subst (λ e. IsOutcome may_read task (files_of start) (files_of finish) (race_of number start finish end.start) e end.text end.reports.items end.unput.items (WasStopped start finish end)) early ran.named.cause in
-    let now = put_told came.1.problem task.request.name (jobs_in came.1.problem) start.told came.0.told store told came.1.put in
-    (now.0, record { early = early; middle = came.0; done = came.1; traced = came.2; told = now.1 })
+pub judged_at : (may_read : ℕ → Type 0) (number : ℕ) (moments : Moments) (task : TaskOf) (end : TaskEnd) (exit : Exit) (store : Store) → TaskRan may_read number moments task end exit → moments.got.told ≡ Some store → end.early ≡ None → (now : Store) × IsJudgedAt may_read number moments task end now
+judged_at may_read number moments task end exit store ran told early =
+    let came = subst (λ e. IsOutcome may_read task moments (race_of number moments.before moments.after end.start) e end.text end.reports.items end.unput.items (WasStopped moments end)) early ran.named.cause in
+    let now = put_told came.0.problem task.request.name (jobs_in came.0.problem) moments.got.told moments.put.told store told came.0.put in
+    (now.0, record { early = early; done = came.0; traced = came.1; told = now.1 })
 
 -- ---- designs that aren't refused
 
@@ -176,10 +176,10 @@ served_early : (service : Service) (store : Store) (task : TaskOf) (early : Opti
 served_early (Streams paths) store task early status is = is.7
 served_early (Lanes engines) store task early status is = is.2
 
-comes_with_jobs : (may_read : ℕ → Type 0) (number : ℕ) (start finish : World) (task : TaskOf) (end : TaskEnd) (exit : Exit) (store : Store) (text : List ℕ) → TaskRan may_read number start finish task end exit → IsSmooth start finish end.status → start.told ≡ Some store
+comes_with_jobs : (may_read : ℕ → Type 0) (number : ℕ) (moments : Moments) (task : TaskOf) (end : TaskEnd) (exit : Exit) (store : Store) (text : List ℕ) → TaskRan may_read number moments task end exit → IsSmooth moments end.status → moments.got.told ≡ Some store
     → IsTextOf (Some store) task.design text → ((fault : ProblemFault) → IsProblemFault (problem_of task text) fault → ⊥)
     → ((p : AskedOf) → IsAccepted (Some store) task p → length (streams_in task.service) ≤ length (jobs_in p)) → end.early ≡ None
-comes_with_jobs may_read number start finish task end exit store text ran smooth told got accepted few = elim (ran.complete store told smooth) [
+comes_with_jobs may_read number moments task end exit store text ran smooth told got accepted few = elim (ran.complete store told smooth) [
   | inl refused ↦ absurd (accepted refused.0 (subst (λ t. IsProblemFault (problem_of task t) refused.0) (one_text store task.design refused.1.0 text refused.1.1 got) refused.1.2))
   | inr others ↦ elim others [
     | inl many ↦ let enough = few many.0 many.1 in absurd (omega (arith, enough, many.2))
@@ -188,11 +188,11 @@ comes_with_jobs may_read number start finish task end exit store text ran smooth
 ]
 
 -- a design that isn't refused comes to its lanes, where there is a job for each stream
-pub comes_to_lanes : (may_read : ℕ → Type 0) (number : ℕ) (start finish : World) (task : TaskOf) (end : TaskEnd) (exit : Exit) (store : Store) (text : List ℕ) (d : DesignOf) → TaskRan may_read number start finish task end exit → IsSmooth start finish end.status → start.told ≡ Some store
+pub comes_to_lanes : (may_read : ℕ → Type 0) (number : ℕ) (moments : Moments) (task : TaskOf) (end : TaskEnd) (exit : Exit) (store : Store) (text : List ℕ) (d : DesignOf) → TaskRan may_read number moments task end exit → IsSmooth moments end.status → moments.got.told ≡ Some store
     → IsTextOf (Some store) task.design text → ((fault : ProblemFault) → IsProblemFault (problem_of task text) fault → ⊥) → Reads text d
     → length (streams_in task.service) ≤ length (jobs_of_mode task.request.mode task.request.span d) → end.early ≡ None
-comes_to_lanes may_read number start finish task end exit store text d ran smooth told got accepted reads few =
-    comes_with_jobs may_read number start finish task end exit store text ran smooth told got accepted (λ p is.
+comes_to_lanes may_read number moments task end exit store text d ran smooth told got accepted reads few =
+    comes_with_jobs may_read number moments task end exit store text ran smooth told got accepted (λ p is.
     let here : Reads p.problem.text d = subst (λ t. Reads t d) (one_text store task.design text p.problem.text got is.got) reads in
     let count = job_count (Some store) task p is in
     let only : length (jobs_of_mode task.request.mode task.request.span d) ≡ length (jobs_of_mode task.request.mode task.request.span p.design) =
@@ -200,8 +200,8 @@ comes_to_lanes may_read number start finish task end exit store text d ran smoot
     omega (arith, count, only, few))
 
 -- in bmc `--judge` has one job
-pub comes_in_bmc : (may_read : ℕ → Type 0) (number : ℕ) (start finish : World) (j : JudgeRequest) (end : TaskEnd) (exit : Exit) (store : Store) (text : List ℕ) → TaskRan may_read number start finish (judge_task j) end exit → IsSmooth start finish end.status → start.told ≡ Some store
+pub comes_in_bmc : (may_read : ℕ → Type 0) (number : ℕ) (moments : Moments) (j : JudgeRequest) (end : TaskEnd) (exit : Exit) (store : Store) (text : List ℕ) → TaskRan may_read number moments (judge_task j) end exit → IsSmooth moments end.status → moments.got.told ≡ Some store
     → j.mode ≡ Bmc → IsTextOf (Some store) (judge_task j).design text → ((fault : ProblemFault) → IsProblemFault (problem_of (judge_task j) text) fault → ⊥) → length j.streams ≤ 1 → end.early ≡ None
-comes_in_bmc may_read number start finish j end exit store text ran smooth told bmc got accepted few =
-    comes_with_jobs may_read number start finish (judge_task j) end exit store text ran smooth told got accepted (λ p is.
+comes_in_bmc may_read number moments j end exit store text ran smooth told bmc got accepted few =
+    comes_with_jobs may_read number moments (judge_task j) end exit store text ran smooth told got accepted (λ p is.
     let one : length (jobs_in p) ≡ 1 = ap length (one_job (Some store) j p is bmc) in omega (arith, one, few))

@@ -7,6 +7,7 @@ pub mod DoneLemmas
 pub mod EndLemmas
 pub mod EventLemmas
 pub mod EvidenceLemmas
+pub mod ExistLemmas
 pub mod FailLemmas
 pub mod FileLemmas
 pub mod HadLemmas
@@ -19,7 +20,10 @@ pub mod MatchLemmas
 pub mod OpenLemmas
 pub mod PassLemmas
 pub mod PathLemmas
+pub mod PlainLawLemmas
 pub mod PlainLemmas
+pub mod PlainOnceLemmas
+pub mod PlainStatusLemmas
 pub mod PrintedLemmas
 pub mod ReportLemmas
 pub mod RunLemmas

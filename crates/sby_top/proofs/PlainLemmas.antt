@@ -49,7 +49,7 @@ use Rattle.sby_top.specs.Headline.{AreFates, AreWhole, IsComplete, IsDecided, Is
 use Rattle.sby_top.specs.Judged.{AreJudged, AreReports, AreStreamReports, IsEndOf, IsFateEnd}
 use Rattle.sby_top.specs.Served.{ArePut, IsAccepted, IsRefused, jobs_in, most_stream}
 use Rattle.sby_top.specs.Task.{Lanes, Service, Streams, TaskOf, streams_in}
-use Rattle.sby_top.specs.World.{FilesOf, RaceOf, World, files_of, race_of}
+use Rattle.sby_top.specs.World.{FilesOf, Moments, RaceOf, race_of}
 use Rattle.sby_top.specs.declared.outcome.TaskEnd.{TaskEnd}
 use Rattle.sby_top.proofs.JobLemmas.{judged_count}
 use Rattle.sby_top.proofs.ReportLemmas.{job_count, reported}
@@ -397,25 +397,25 @@ done_served may_read task before middle race store text reports d start status (
 done_served may_read task before middle race store text reports d start status (Lanes engines) stored told apart reads is done =
     (done.problem, (subst (λ t. IsAccepted t task done.problem) told done.served.0, done.served.1), refl)
 
-plainly : (may_read : ℕ → Type 0) (before after : World) (race : RaceOf) (task : TaskOf) (store : Store) (early : Option Early) (text : List ℕ) (reports : List (ReportOf FindingOf)) (unput : List ℕ) (d : DesignOf) (start : Option ℕ) (status : Status) (stopped : Type 0) → before.told ≡ Some store
-    → (Rose before.file_faults after.file_faults → ⊥) → status ≢ Memory → (early ≡ None → Reads text d) → IsStatus task.request early (record { design = d; reports = reports; start = start }) status
-    → IsOutcome may_read task (files_of before) (files_of after) race early text reports unput stopped → IsPlainStatus store task early status
-plainly may_read before after race task store (Some (File path)) text reports unput d start status stopped told still apart reads is came = absurd (still came.3.0.rose)
-plainly may_read before after race task store (Some (Sby fault)) text reports unput d start status stopped told still apart reads is came = absurd came.3
-plainly may_read before after race task store (Some (Task fault)) text reports unput d start status stopped told still apart reads is came = absurd came.3
-plainly may_read before after race task store (Some (Read x)) text reports unput d start status stopped told still apart reads is came = inl (ReadFault x, subst (λ t. IsRefused t task (ReadFault x)) told came.3.0, refl, is)
-plainly may_read before after race task store (Some (Design x)) text reports unput d start status stopped told still apart reads is came = inl (DesignFault x, subst (λ t. IsRefused t task (DesignFault x)) told came.3.0, refl, is)
-plainly may_read before after race task store (Some (TooMany job)) text reports unput d start status stopped told still apart reads is came = inl (TooManyFault job, subst (λ t. IsRefused t task (TooManyFault job)) told came.3.0, refl, is)
-plainly may_read before after race task store (Some TooManyStreams) text reports unput d start status stopped told still apart reads is came =
+plainly : (may_read : ℕ → Type 0) (moments : Moments) (race : RaceOf) (task : TaskOf) (store : Store) (early : Option Early) (text : List ℕ) (reports : List (ReportOf FindingOf)) (unput : List ℕ) (d : DesignOf) (start : Option ℕ) (status : Status) (stopped : Type 0) → moments.got.told ≡ Some store
+    → (Rose moments.got.faults moments.put.faults → ⊥) → status ≢ Memory → (early ≡ None → Reads text d) → IsStatus task.request early (record { design = d; reports = reports; start = start }) status
+    → IsOutcome may_read task moments race early text reports unput stopped → IsPlainStatus store task early status
+plainly may_read moments race task store (Some (File path)) text reports unput d start status stopped told still apart reads is came = absurd (still came.3.0.rose)
+plainly may_read moments race task store (Some (Sby fault)) text reports unput d start status stopped told still apart reads is came = absurd came.3
+plainly may_read moments race task store (Some (Task fault)) text reports unput d start status stopped told still apart reads is came = absurd came.3
+plainly may_read moments race task store (Some (Read x)) text reports unput d start status stopped told still apart reads is came = inl (ReadFault x, subst (λ t. IsRefused t task (ReadFault x)) told came.3.0, refl, is)
+plainly may_read moments race task store (Some (Design x)) text reports unput d start status stopped told still apart reads is came = inl (DesignFault x, subst (λ t. IsRefused t task (DesignFault x)) told came.3.0, refl, is)
+plainly may_read moments race task store (Some (TooMany job)) text reports unput d start status stopped told still apart reads is came = inl (TooManyFault job, subst (λ t. IsRefused t task (TooManyFault job)) told came.3.0, refl, is)
+plainly may_read moments race task store (Some TooManyStreams) text reports unput d start status stopped told still apart reads is came =
     let r = came.3.0 in inr (inl (r.0, subst (λ t. IsAccepted t task r.0) told r.1, r.2, refl, is))
-plainly may_read before after race task store (Some MemoryEarly) text reports unput d start status stopped told still apart reads is came = absurd (apart is)
-plainly may_read before after race task store None text reports unput d start status stopped told still apart reads is came =
-    inr (inr (done_served may_read task (files_of before) came.0 race store text reports d start status task.service refl told apart (reads refl) is came.1))
+plainly may_read moments race task store (Some MemoryEarly) text reports unput d start status stopped told still apart reads is came = absurd (apart is)
+plainly may_read moments race task store None text reports unput d start status stopped told still apart reads is came =
+    inr (inr (done_served may_read task moments.got moments.put race store text reports d start status task.service refl told apart (reads refl) is came.0))
 
 -- completeness, where each status names its event
-pub is_complete : (may_read : ℕ → Type 0) (number : ℕ) (before after : World) (task : TaskOf) (end : TaskEnd) → NamesEvent may_read number before after task end → IsComplete before after task end
-is_complete may_read number before after task end named = λ store told smooth. elim named.status [
+pub is_complete : (may_read : ℕ → Type 0) (number : ℕ) (moments : Moments) (task : TaskOf) (end : TaskEnd) → NamesEvent may_read number moments task end → IsComplete moments task end
+is_complete may_read number moments task end named = λ store told smooth. elim named.status [
   | inl own ↦
-      plainly may_read before after (race_of number before after end.start) task store end.early end.text end.reports.items end.unput.items own.0 end.start end.status _ told smooth.files smooth.memory own.1 own.2 named.cause
+      plainly may_read moments (race_of number moments.before moments.after end.start) task store end.early end.text end.reports.items end.unput.items own.0 end.start end.status _ told smooth.prepared smooth.memory own.1 own.2 named.cause
   | inr memory ↦ absurd (smooth.memory memory)
 ]

@@ -21,10 +21,10 @@ use Rattle.sby_words.specs.Words.{IsAsked}
 use Rattle.sby_top.specs.Causes.{IsOutcome}
 use Rattle.sby_top.specs.Claims.{AllExpected, AreExpected, HasTold}
 use Rattle.sby_top.specs.Headline.{AreLines, Code, Cut, EndIn, Exit, HasOwnStatus, IsPrinted, TaskRan, WasStopped}
-use Rattle.sby_top.specs.Run.{Did, Ran, TurnRan, TurnsDone, rc_of_exit}
+use Rattle.sby_top.specs.Run.{Did, Had, TurnRan, TurnsDone, rc_of_exit}
 use Rattle.sby_top.specs.Task.{TaskOf, problem_of}
 use Rattle.sby_top.specs.Turns.{Refused, Run, Turn}
-use Rattle.sby_top.specs.World.{World, files_of, race_of}
+use Rattle.sby_top.specs.World.{Moments, World, race_of}
 use Rattle.sby_top.specs.declared.outcome.Done.{Done}
 use Rattle.sby_top.specs.declared.outcome.TaskEnd.{TaskEnd}
 use Rattle.sby_top.proofs.DoneLemmas.{one_done}
@@ -138,37 +138,37 @@ whole_taken earlier bytes other start finish begun grew taken =
 joined : (body : List (List ℕ)) (line : List ℕ) (lines : List (List ℕ)) → lines ≡ body ++ line ∷ [] → concat lines ≡ concat body ++ line
 joined body line lines is = ap (λ (ls : List (List ℕ)). concat ls) is ∙ (concat-append body (line ∷ []) ∙ ap (λ (l : List ℕ). concat body ++ l) (append-nil line))
 
-by_exit : (start finish : World) (task : TaskOf) (end : TaskEnd) (exit : Exit) (status : Status) (rc : ℕ)
-    → IsPrinted task.request.name start.taken finish.taken start.sink_faults finish.sink_faults finish.ended (AreLines task end) task.request.expect (HasOwnStatus task end) end.status exit → end.status ≢ Memory
-    → HasTold start finish task.request.name status rc → end.status ≡ status
-by_exit start finish task end (Code n) status rc printed apart told = elim printed.2.2 [
+by_exit : (moments : Moments) (task : TaskOf) (end : TaskEnd) (exit : Exit) (status : Status) (rc : ℕ)
+    → IsPrinted task.request.name moments.before.taken moments.after.taken moments.before.sink_faults moments.after.sink_faults moments.after.ended (AreLines task end) task.request.expect (HasOwnStatus task end) end.status exit → end.status ≢ Memory
+    → HasTold moments task.request.name status rc → end.status ≡ status
+by_exit moments task end (Code n) status rc printed apart told = elim printed.2.2 [
   | inl whole ↦
       let last = whole.2 in
-      let bytes = whole_taken told.earlier (concat printed.2.0) (told.front ++ done_line task.request.name status rc) start.taken finish.taken told.begun whole.1 told.taken in
+      let bytes = whole_taken told.earlier (concat printed.2.0) (told.front ++ done_line task.request.name status rc) moments.before.taken moments.after.taken told.begun whole.1 told.taken in
       one_done (concat last.0) told.front task.request.name end.status status n rc (small_code task.request.expect end.status n apart printed.1) told.small
       (sym (joined last.0 (done_line task.request.name end.status n) printed.2.0 last.1) ∙ bytes)
   | inr part ↦ absurd (apart part.0)
 ]
-by_exit start finish task end Cut status rc printed apart told = absurd (told.still printed.0)
+by_exit moments task end Cut status rc printed apart told = absurd (told.still printed.0)
 
-pub told_status : (may_read : ℕ → Type 0) (number : ℕ) (start finish : World) (task : TaskOf) (end : TaskEnd) (exit : Exit) (status : Status) (rc : ℕ) → TaskRan may_read number start finish task end exit → end.status ≢ Memory
-    → HasTold start finish task.request.name status rc → end.status ≡ status
-told_status may_read number start finish task end exit status rc ran apart told = by_exit start finish task end exit status rc ran.printed apart told
+pub told_status : (may_read : ℕ → Type 0) (number : ℕ) (moments : Moments) (task : TaskOf) (end : TaskEnd) (exit : Exit) (status : Status) (rc : ℕ) → TaskRan may_read number moments task end exit → end.status ≢ Memory
+    → HasTold moments task.request.name status rc → end.status ≡ status
+told_status may_read number moments task end exit status rc ran apart told = by_exit moments task end exit status rc ran.printed apart told
 
 -- ---- findings
 
-by_early : (may_read : ℕ → Type 0) (number : ℕ) (start finish : World) (task : TaskOf) (end : TaskEnd) (early : Option Early)
-    → IsOutcome may_read task (files_of start) (files_of finish) (race_of number start finish end.start) early end.text end.reports.items end.unput.items (WasStopped start finish end)
+by_early : (may_read : ℕ → Type 0) (number : ℕ) (moments : Moments) (task : TaskOf) (end : TaskEnd) (early : Option Early)
+    → IsOutcome may_read task moments (race_of number moments.before moments.after end.start) early end.text end.reports.items end.unput.items (WasStopped moments end)
     → (r : ReportOf FindingOf) (f : FindingOf) → Contains end.reports.items r → CarriedIn r.ends f → IsTrueFinding f × (f.problem ≡ problem_of task end.text)
-by_early may_read number start finish task end (Some early) came r f among carried = absurd (nothing_in r (subst (λ (rs : List (ReportOf FindingOf)). Contains rs r) came.1 among))
-by_early may_read number start finish task end None came r f among carried =
-    let done = came.1 in
-    let own = true_findings may_read came.0.told task done.problem (race_of number start finish end.start) task.service end.reports.items done.reports_are r f among carried in
+by_early may_read number moments task end (Some early) came r f among carried = absurd (nothing_in r (subst (λ (rs : List (ReportOf FindingOf)). Contains rs r) came.1 among))
+by_early may_read number moments task end None came r f among carried =
+    let done = came.0 in
+    let own = true_findings may_read moments.put.told task done.problem (race_of number moments.before moments.after end.start) task.service end.reports.items done.reports_are r f among carried in
     (own.0, own.1 ∙ (done.served.0.asked ∙ ap (λ (text : List ℕ). problem_of task text) (sym done.text_is)))
 
-pub findings_of_text : (may_read : ℕ → Type 0) (number : ℕ) (start finish : World) (task : TaskOf) (end : TaskEnd) (exit : Exit) → TaskRan may_read number start finish task end exit
+pub findings_of_text : (may_read : ℕ → Type 0) (number : ℕ) (moments : Moments) (task : TaskOf) (end : TaskEnd) (exit : Exit) → TaskRan may_read number moments task end exit
     → (r : ReportOf FindingOf) (f : FindingOf) → Contains end.reports.items r → CarriedIn r.ends f → IsTrueFinding f × (f.problem ≡ problem_of task end.text)
-findings_of_text may_read number start finish task end exit ran = by_early may_read number start finish task end end.early ran.named.cause
+findings_of_text may_read number moments task end exit ran = by_early may_read number moments task end end.early ran.named.cause
 
 -- ---- exit status 0
 
@@ -178,20 +178,23 @@ code_zero n e = cc
 cut_zero : Cut ≡ Code 0 → ⊥
 cut_zero e = cc
 
-turn_expected : (may_read : ℕ → Type 0) (number : ℕ) (before after : World) (turn : Turn) (turns : List Turn) (end : TaskEnd) (ends : List TaskEnd) → TurnRan may_read number before after turn end (Code 0) → AreExpected turns ends → AreExpected (turn ∷ turns) (end ∷ ends)
-turn_expected may_read number before after (Run task) turns end ends ran rest = (ran.named.name, zero_expected task.request.expect end.status ran.printed.1, rest)
-turn_expected may_read number before after (Refused name early) turns end ends ran rest = let own = ran.code 0 refl in let least = code_least end.status in absurd (omega (own, least.0, arith))
+turn_expected : (may_read : ℕ → Type 0) (number : ℕ) (moments : Moments) (turn : Turn) (turns : List Turn) (end : TaskEnd) (ends : List TaskEnd) → TurnRan may_read number moments turn end (Code 0) → AreExpected turns ends → AreExpected (turn ∷ turns) (end ∷ ends)
+turn_expected may_read number moments (Run task) turns end ends ran rest = (ran.named.name, zero_expected task.request.expect end.status ran.printed.1, rest)
+turn_expected may_read number moments (Refused name early) turns end ends ran rest = let own = ran.code 0 refl in let least = code_least end.status in absurd (omega (own, least.0, arith))
 
-pub ran_expected : (may_read : ℕ → Type 0) (number so_far : ℕ) (before : World) (turns : List Turn) (ends : List TaskEnd) (after : World) (exit : Exit) → Ran may_read number so_far before turns ends after exit → exit ≡ Code 0 → (so_far ≡ 0) × AreExpected turns ends
-ran_expected may_read number so_far before [] [] after exit ran zero_exit = (code_zero so_far (sym ran.1 ∙ zero_exit), tt)
-ran_expected may_read number so_far before [] (end ∷ ends) after exit ran zero_exit = absurd ran
-ran_expected may_read number so_far before (turn ∷ turns) [] after exit ran zero_exit =
-    let both = or_zero so_far 32 (code_zero (bit_or so_far 32) (sym ran.1 ∙ zero_exit)) in absurd (omega (both.1, arith))
-ran_expected may_read number so_far before (turn ∷ turns) (end ∷ ends) after exit (inl cut) zero_exit = absurd (cut_zero (sym cut.2 ∙ zero_exit))
-ran_expected may_read number so_far before (turn ∷ turns) (end ∷ ends) after exit (inr more) zero_exit =
-    let rest = ran_expected may_read (number + 1) (bit_or so_far more.1) more.0 turns ends after exit more.3 zero_exit in
-    let both = or_zero so_far more.1 rest.0 in
-    (both.0, turn_expected may_read number before more.0 turn turns end ends (subst (λ (n : ℕ). TurnRan may_read number before more.0 turn end (Code n)) both.1 more.2) rest.1)
+pub had_expected : (may_read : ℕ → Type 0) (number so_far : ℕ) (turns : List Turn) (ms : List Moments) (ends : List TaskEnd) (exit : Exit) → Had may_read number so_far turns ms ends exit → exit ≡ Code 0 → (so_far ≡ 0) × AreExpected turns ends
+had_expected may_read number so_far [] [] [] exit had zero_exit = (code_zero so_far (sym had ∙ zero_exit), tt)
+had_expected may_read number so_far [] [] (end ∷ ends) exit had zero_exit = absurd had
+had_expected may_read number so_far [] (m ∷ ms) ends exit had zero_exit = absurd had
+had_expected may_read number so_far (turn ∷ turns) [] [] exit had zero_exit =
+    let both = or_zero so_far 32 (code_zero (bit_or so_far 32) (sym had ∙ zero_exit)) in absurd (omega (both.1, arith))
+had_expected may_read number so_far (turn ∷ turns) [] (end ∷ ends) exit had zero_exit = absurd had
+had_expected may_read number so_far (turn ∷ turns) (m ∷ ms) [] exit had zero_exit = absurd had
+had_expected may_read number so_far (turn ∷ turns) (m ∷ ms) (end ∷ ends) exit (inl cut) zero_exit = absurd (cut_zero (sym cut.3 ∙ zero_exit))
+had_expected may_read number so_far (turn ∷ turns) (m ∷ ms) (end ∷ ends) exit (inr more) zero_exit =
+    let rest = had_expected may_read (number + 1) (bit_or so_far more.0) turns ms ends exit more.2 zero_exit in
+    let both = or_zero so_far more.0 rest.0 in
+    (both.0, turn_expected may_read number m turn turns end ends (subst (λ (n : ℕ). TurnRan may_read number m turn end (Code n)) both.1 more.1) rest.1)
 
 exit_zero : (exit : Exit) → rc_of_exit exit ≡ 0 → exit ≡ Code 0
 exit_zero (Code n) e = ap Code e
@@ -199,7 +202,7 @@ exit_zero Cut e = absurd (omega (e, arith))
 
 done_expected : (may_read : ℕ → Type 0) (before after : World) (words : List (List ℕ)) (done : Done) (asked : Asked) → IsAsked words (Some asked) → TurnsDone may_read before after done asked → done.rc ≡ 0 → AllExpected before words done
 done_expected may_read before after words done asked asks run zero_rc =
-    (asked, asks, inr (run.middle, run.same_sink, (run.turns, run.has_turns, (ran_expected may_read 0 0 run.middle run.turns done.ends.items after run.exit run.ran (exit_zero run.exit (sym run.rc ∙ zero_rc))).1)))
+    (asked, asks, inr (run.middle, run.same_sink, (run.turns, run.has_turns, (had_expected may_read 0 0 run.turns run.ran.0 done.ends.items run.exit run.ran.1 (exit_zero run.exit (sym run.rc ∙ zero_rc))).1)))
 
 pub all_expected : (may_read : ℕ → Type 0) (before after : World) (words : List (List ℕ)) (done : Done) → Did may_read before after words done → done.rc ≡ 0 → AllExpected before words done
 all_expected may_read before after words done (inl (None, asks, usage)) zero_rc = absurd (omega (usage.rc, zero_rc, arith))

@@ -16,7 +16,7 @@ use Rattle.sby_top.specs.End.{IsEnd, IsFaultTold}
 use Rattle.sby_top.specs.Headline.{AreLines, Exit, Code, Cut, HasOwnStatus, IsLater, IsPrinted, NamesEvent, TaskRan, WasStopped}
 use Rattle.sby_top.specs.Run.{IsRefusedStatus, WasRefused, refused_request}
 use Rattle.sby_top.specs.Task.{IsAskable, TaskOf}
-use Rattle.sby_top.specs.World.{FilesOf, SameYard, World, files_of, race_of}
+use Rattle.sby_top.specs.World.{Moments, SameFiles, SameYard, files_of, race_of}
 use Rattle.sby_top.specs.declared.outcome.TaskEnd.{TaskEnd}
 use Rattle.sby_top.proofs.EndLemmas.{no_design}
 use Rattle.sby_top.proofs.PlainLemmas.{is_complete}
@@ -61,36 +61,37 @@ own_or : (task : TaskOf) (end : TaskEnd) (early : Early) → end.early ≡ Some 
 own_or task end early is (inl holds) = inl (fault_status task end early is holds)
 own_or task end early is (inr memory) = inr memory
 
-pub fault_named : (may_read : ℕ → Type 0) (number : ℕ) (before after : World) (task : TaskOf) (end : TaskEnd) (early : Early) (told now : Option (List ℕ)) (f g : ℕ) (when : Option ℕ) (exit : Exit) → IsEnd task.request.name (Some early) [] [] None end → end.unput.items ≡ []
-    → IsFaultTold task.request early told now f g when end.status exit → HasReason task (files_of before) (files_of after) early
-    → (after.yard ≡ before.yard) ⊎ (early ≡ MemoryEarly) → NamesEvent may_read number before after task end
-fault_named may_read number before after task end early told now f g when exit is unput was reason spared = record {
+pub fault_named : (may_read : ℕ → Type 0) (number : ℕ) (moments : Moments) (task : TaskOf) (end : TaskEnd) (early : Early) (told now : Option (List ℕ)) (f g : ℕ) (when : Option ℕ) (exit : Exit) → IsEnd task.request.name (Some early) [] [] None end → end.unput.items ≡ []
+    → IsFaultTold task.request early told now f g when end.status exit → HasReason task moments.got moments.put early → files_of moments.after ≡ files_of moments.before
+    → (moments.after.yard ≡ moments.before.yard) ⊎ (early ≡ MemoryEarly) → NamesEvent may_read number moments task end
+fault_named may_read number moments task end early told now f g when exit is unput was reason files spared = record {
   name = is.name_is;
   status = own_or task end early is.early_is was.own;
-  cause = rw is.early_is (is.text_is, is.reports_are, unput, reason, (is.start_is, spared));
+  cause = rw is.early_is (is.text_is, is.reports_are, unput, reason, files, (is.start_is, spared));
 }
 
 -- ---- a task that was served
 
-pub served_named : (may_read : ℕ → Type 0) (number : ℕ) (before after : World) (start : Option ℕ) (task : TaskOf) (end : TaskEnd) (p : AskedOf) (text : List ℕ) (reports : List (ReportOf FindingOf)) (middle : FilesOf) (done : IsDone may_read task (files_of before) middle (race_of number before after start) text reports)
-    → done.problem ≡ p → IsEnd task.request.name None text reports start end → AreTracesPut task middle (files_of after) p reports end.unput.items (WasStopped before after end)
-    → HasOwnStatus task end ⊎ (end.status ≡ Memory) → NamesEvent may_read number before after task end
-served_named may_read number before after start task end p text reports middle done same is put status = record {
+pub served_named : (may_read : ℕ → Type 0) (number : ℕ) (moments : Moments) (start : Option ℕ) (task : TaskOf) (end : TaskEnd) (p : AskedOf) (text : List ℕ) (reports : List (ReportOf FindingOf))
+    (done : IsDone may_read task moments.got moments.put (race_of number moments.before moments.after start) text reports)
+    → done.problem ≡ p → IsEnd task.request.name None text reports start end → AreTracesPut task (files_of moments.before) (files_of moments.after) p reports end.unput.items (WasStopped moments end)
+    → HasOwnStatus task end ⊎ (end.status ≡ Memory) → NamesEvent may_read number moments task end
+served_named may_read number moments start task end p text reports done same is put status = record {
   name = is.name_is;
   status = status;
-  cause = rw (is.early_is, is.text_is, is.reports_are, is.start_is) (middle, done, rw same put);
+  cause = rw (is.early_is, is.text_is, is.reports_are, is.start_is) (done, rw same put);
 }
 
 -- a task that came to this end was run
-pub task_ran : Laws → (may_read : ℕ → Type 0) (number : ℕ) (before after : World) (task : TaskOf) (end : TaskEnd) (exit : Exit) → IsAskable task → NamesEvent may_read number before after task end
-    → IsPrinted task.request.name before.taken after.taken before.sink_faults after.sink_faults after.ended (AreLines task end) task.request.expect (HasOwnStatus task end) end.status exit
-    → IsLater before after → TaskRan may_read number before after task end exit
-task_ran laws may_read number before after task end exit askable named printed later = record {
-  pass = is_pass_true laws may_read number before after task end askable named;
-  fail = is_fail_true laws may_read number before after task end askable named;
+pub task_ran : Laws → (may_read : ℕ → Type 0) (number : ℕ) (moments : Moments) (task : TaskOf) (end : TaskEnd) (exit : Exit) → IsAskable task → NamesEvent may_read number moments task end
+    → IsPrinted task.request.name moments.before.taken moments.after.taken moments.before.sink_faults moments.after.sink_faults moments.after.ended (AreLines task end) task.request.expect (HasOwnStatus task end) end.status exit
+    → IsLater moments → TaskRan may_read number moments task end exit
+task_ran laws may_read number moments task end exit askable named printed later = record {
+  pass = is_pass_true laws may_read number moments task end askable named;
+  fail = is_fail_true laws may_read number moments task end askable named;
   named = named;
   printed = printed;
-  complete = is_complete may_read number before after task end named;
+  complete = is_complete may_read number moments task end named;
   later = later;
 }
 
@@ -109,10 +110,10 @@ refused_code name before now f g when are own status (Code n) printed rc is =
 refused_code name before now f g when are own status Cut printed rc is = cc
 
 -- only a fault was told
-pub fault_refused : (before after : World) (name : List ℕ) (early : Early) (end : TaskEnd) (exit : Exit) → IsEnd name (Some early) [] [] None end → end.unput.items ≡ []
-    → IsFaultTold (refused_request name) early before.taken after.taken before.sink_faults after.sink_faults after.ended end.status exit → files_of after ≡ files_of before → SameYard before after → before.sink_faults ≤ after.sink_faults
-    → WasRefused before after name early end exit
-fault_refused before after name early end exit is unput told files yard later = record {
+pub fault_refused : (moments : Moments) (name : List ℕ) (early : Early) (end : TaskEnd) (exit : Exit) → IsEnd name (Some early) [] [] None end → end.unput.items ≡ []
+    → IsFaultTold (refused_request name) early moments.before.taken moments.after.taken moments.before.sink_faults moments.after.sink_faults moments.after.ended end.status exit → SameFiles moments → SameYard moments.before moments.after
+    → moments.before.sink_faults ≤ moments.after.sink_faults → WasRefused moments name early end exit
+fault_refused moments name early end exit is unput told files yard later = record {
   name_is = is.name_is;
   early_is = is.early_is;
   reports = is.reports_are;
@@ -120,8 +121,8 @@ fault_refused before after name early end exit is unput told files yard later = 
   text = is.text_is;
   start = is.start_is;
   status = some_status name early end.status told.own;
-  code = refused_code name before.taken after.taken before.sink_faults after.sink_faults after.ended _ _ end.status exit told.printed;
-  printed = printed_weaker name before.taken after.taken before.sink_faults after.sink_faults after.ended _ _ [] _ (IsRefusedStatus name early end.status) end.status exit (λ lines has. has) (λ holds. (no_end, holds no_end)) told.printed;
+  code = refused_code name moments.before.taken moments.after.taken moments.before.sink_faults moments.after.sink_faults moments.after.ended _ _ end.status exit told.printed;
+  printed = printed_weaker name moments.before.taken moments.after.taken moments.before.sink_faults moments.after.sink_faults moments.after.ended _ _ [] _ (IsRefusedStatus name early end.status) end.status exit (λ lines has. has) (λ holds. (no_end, holds no_end)) told.printed;
   files = files;
   yard = yard;
   later = later;

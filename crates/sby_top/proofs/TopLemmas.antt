@@ -16,7 +16,9 @@ use Rattle.sby_top.specs.Ending.{RanTo, told_code}
 use Rattle.sby_top.specs.Run.{LinesAlone, NamesTold, SameSink, TurnsDone, name_lines}
 use Rattle.sby_top.specs.Served.{IsGot}
 use Rattle.sby_top.specs.Steps.{IsFailedCall}
-use Rattle.sby_top.specs.Turns.{AreTextTurns, HasTurns, IsNamesFault, IsTextGot, Refused, Turn, gen_stem, most_task_file}
+use Rattle.sby_top.specs.Asked.{HasTurns, IsNamesFault}
+use Rattle.sby_top.specs.Generated.{gen_stem}
+use Rattle.sby_top.specs.Turns.{AreTextTurns, IsTextGot, Refused, Turn, most_task_file}
 use Rattle.task_race.specs.Bays.{YardAt}
 use Rattle.sby_top.specs.World.{FilesOf, SameYard, World, files_of, world_at}
 use Rattle.sby_top.specs.declared.outcome.Done.{Done}

@@ -36,7 +36,7 @@ use Rattle.sby_lines.proofs.PlaceLemmas.{at_contains, contains_at, cover_length,
 use Rattle.sby_top.specs.Causes.{IsDone, IsOutcome}
 use Rattle.sby_top.specs.Headline.{AreLines, ArePrintedOf, FailClaim, IsReachPrinted, IsReachShown, IsShown, IsTrueOf, NamesEvent, PassClaim, WasStopped}
 use Rattle.sby_top.specs.Task.{IsAskable, TaskOf}
-use Rattle.sby_top.specs.World.{FilesOf, World, files_of, race_of}
+use Rattle.sby_top.specs.World.{FilesOf, Moments, World, race_of}
 use Rattle.sby_top.specs.declared.outcome.TaskEnd.{TaskEnd}
 use Rattle.sby_top.proofs.FailLemmas.{break_claim, one_fail, printed_carries, same_break, traced_more}
 use Rattle.sby_top.proofs.PassLemmas.{bmc_passes, prove_passes}
@@ -199,16 +199,16 @@ early_passes request (DesignFault fault) c is = cc
 early_passes request (TooMany job) c is = cc
 early_passes request Streams c is = cc
 
-passes_truly : Laws → (may_read : ℕ → Type 0) (number : ℕ) (before after : World) (task : TaskOf) (end : TaskEnd) (early : Option Early) → IsAskable task → end.early ≡ early → (d : DesignOf) → (early ≡ None → Reads end.text d)
-    → IsStatus task.request early (record { design = d; reports = end.reports.items; start = end.start }) Pass → IsOutcome may_read task (files_of before) (files_of after) (race_of number before after end.start) early end.text end.reports.items end.unput.items (WasStopped before after end)
-    → IsTrueOf before.told task end.text (PassClaim task.request.mode task end)
-passes_truly laws may_read number before after task end (Some early) askable at d reads is came = absurd (early_passes task.request early _ is)
-passes_truly laws may_read number before after task end None askable at d reads is came = done_passes laws may_read number before after (files_of before) came.0 task end came.1 askable at d (reads refl) is
+passes_truly : Laws → (may_read : ℕ → Type 0) (number : ℕ) (moments : Moments) (task : TaskOf) (end : TaskEnd) (early : Option Early) → IsAskable task → end.early ≡ early → (d : DesignOf) → (early ≡ None → Reads end.text d)
+    → IsStatus task.request early (record { design = d; reports = end.reports.items; start = end.start }) Pass → IsOutcome may_read task moments (race_of number moments.before moments.after end.start) early end.text end.reports.items end.unput.items (WasStopped moments end)
+    → IsTrueOf moments.got.told task end.text (PassClaim task.request.mode task end)
+passes_truly laws may_read number moments task end (Some early) askable at d reads is came = absurd (early_passes task.request early _ is)
+passes_truly laws may_read number moments task end None askable at d reads is came = done_passes laws may_read number moments.before moments.after moments.got moments.put task end came.0 askable at d (reads refl) is
 
-pub is_pass_true : Laws → (may_read : ℕ → Type 0) (number : ℕ) (before after : World) (task : TaskOf) (end : TaskEnd) → IsAskable task → NamesEvent may_read number before after task end → end.status ≡ Pass
-    → IsTrueOf before.told task end.text (PassClaim task.request.mode task end)
-is_pass_true laws may_read number before after task end askable named passes = elim named.status [
-  | inl own ↦ passes_truly laws may_read number before after task end end.early askable refl own.0 own.1
+pub is_pass_true : Laws → (may_read : ℕ → Type 0) (number : ℕ) (moments : Moments) (task : TaskOf) (end : TaskEnd) → IsAskable task → NamesEvent may_read number moments task end → end.status ≡ Pass
+    → IsTrueOf moments.got.told task end.text (PassClaim task.request.mode task end)
+is_pass_true laws may_read number moments task end askable named passes = elim named.status [
+  | inl own ↦ passes_truly laws may_read number moments task end end.early askable refl own.0 own.1
       (subst (IsStatus task.request end.early (record { design = own.0; reports = end.reports.items; start = end.start })) passes own.2) named.cause
   | inr memory ↦ let no : Pass ≡ Memory_ = sym passes ∙ memory in cc
 ]
@@ -312,16 +312,16 @@ early_fails request (DesignFault fault) c is = cc
 early_fails request (TooMany job) c is = cc
 early_fails request Streams c is = cc
 
-fails_truly : Laws → (may_read : ℕ → Type 0) (number : ℕ) (before after : World) (task : TaskOf) (end : TaskEnd) (early : Option Early) → end.early ≡ early → (d : DesignOf) → (early ≡ None → Reads end.text d)
-    → IsStatus task.request early (record { design = d; reports = end.reports.items; start = end.start }) Fail → IsOutcome may_read task (files_of before) (files_of after) (race_of number before after end.start) early end.text end.reports.items end.unput.items (WasStopped before after end)
-    → IsTrueOf before.told task end.text (FailClaim task.request.mode task end)
-fails_truly laws may_read number before after task end (Some early) at d reads is came = absurd (early_fails task.request early _ is)
-fails_truly laws may_read number before after task end None at d reads is came = done_fails laws may_read number before after (files_of before) came.0 task end came.1 at d (reads refl) is
+fails_truly : Laws → (may_read : ℕ → Type 0) (number : ℕ) (moments : Moments) (task : TaskOf) (end : TaskEnd) (early : Option Early) → end.early ≡ early → (d : DesignOf) → (early ≡ None → Reads end.text d)
+    → IsStatus task.request early (record { design = d; reports = end.reports.items; start = end.start }) Fail → IsOutcome may_read task moments (race_of number moments.before moments.after end.start) early end.text end.reports.items end.unput.items (WasStopped moments end)
+    → IsTrueOf moments.got.told task end.text (FailClaim task.request.mode task end)
+fails_truly laws may_read number moments task end (Some early) at d reads is came = absurd (early_fails task.request early _ is)
+fails_truly laws may_read number moments task end None at d reads is came = done_fails laws may_read number moments.before moments.after moments.got moments.put task end came.0 at d (reads refl) is
 
-pub is_fail_true : Laws → (may_read : ℕ → Type 0) (number : ℕ) (before after : World) (task : TaskOf) (end : TaskEnd) → IsAskable task → NamesEvent may_read number before after task end → end.status ≡ Fail
-    → IsTrueOf before.told task end.text (FailClaim task.request.mode task end)
-is_fail_true laws may_read number before after task end askable named fails = elim named.status [
-  | inl own ↦ fails_truly laws may_read number before after task end end.early refl own.0 own.1
+pub is_fail_true : Laws → (may_read : ℕ → Type 0) (number : ℕ) (moments : Moments) (task : TaskOf) (end : TaskEnd) → IsAskable task → NamesEvent may_read number moments task end → end.status ≡ Fail
+    → IsTrueOf moments.got.told task end.text (FailClaim task.request.mode task end)
+is_fail_true laws may_read number moments task end askable named fails = elim named.status [
+  | inl own ↦ fails_truly laws may_read number moments task end end.early refl own.0 own.1
       (subst (IsStatus task.request end.early (record { design = own.0; reports = end.reports.items; start = end.start })) fails own.2) named.cause
   | inr memory ↦ let no : Fail ≡ Memory_ = sym fails ∙ memory in cc
 ]

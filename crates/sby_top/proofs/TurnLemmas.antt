@@ -18,11 +18,11 @@ use Rattle.sby_task.specs.declared.expansion.Task.{Task as FileTask}
 use Rattle.sby_task.specs.declared.task_fault.TaskFault.{TaskFault}
 use Rattle.sby_lines.specs.declared.early.Early.TheVariants.{Memory}
 use Rattle.sby_words.specs.Folders.{task_folder}
-use Rattle.sby_top.specs.Ending.{AreHad, IsAsk, IsAskedTurn, RanTo}
+use Rattle.sby_top.specs.Ending.{AreHad, HadAtOnce, IsAsk, IsAskedTurn, RanTo}
 use Rattle.sby_top.specs.Headline.{Exit, Code, Cut}
-use Rattle.sby_top.specs.Run.{Ran, TurnRan, name_lines, rc_of_exit}
+use Rattle.sby_top.specs.Run.{Ran, name_lines, rc_of_exit}
 use Rattle.sby_top.specs.Turns.{AreTurnsOf, IsNameOf, IsTurnOf, Refused, Turn}
-use Rattle.sby_top.specs.World.{World}
+use Rattle.sby_top.specs.World.{World, at_once}
 use Rattle.sby_top.specs.declared.outcome.Done.{Done}
 use Rattle.sby_top.specs.declared.outcome.TaskEnd.{TaskEnd}
 use Rattle.sby_top.proofs.ReportLemmas.{first_or_later, nothing_in}
@@ -30,15 +30,24 @@ use Rattle.cnf_form.proofs.Members.{Contains-head, Contains-tail}
 
 -- memory ran out even for an end
 pub no_ends : (may_read : ℕ → Type 0) (before : World) (turn : Turn) (turns : List Turn) (done : Done) → done.rc ≡ 32 → done.ends.items ≡ [] → RanTo may_read before (turn ∷ turns) before done
-no_ends may_read before turn turns done rc ends = (Code (bit_or 0 32), rw ends (refl, refl), rc)
+no_ends may_read before turn turns done rc ends = (Code (bit_or 0 32), rw ends ([], refl, refl), rc)
 
-one_by : (may_read : ℕ → Type 0) (before after : World) (turn : Turn) (end : TaskEnd) (exit : Exit) → TurnRan may_read 0 before after turn end exit → (total : Exit) × Ran may_read 0 0 before (turn ∷ []) (end ∷ []) after total × (rc_of_exit exit ≡ rc_of_exit total)
-one_by may_read before after turn end (Code rc) ran = (Code (bit_or 0 rc), inr (after, rc, ran, (refl, refl)), sym (or_zero_l rc))
-one_by may_read before after turn end Cut ran = (Cut, inl (ran, refl, refl), refl)
+-- the turns that follow one that was had
+ran_next : (may_read : ℕ → Type 0) (number so_far : ℕ) (start now : World) (turn : Turn) (turns : List Turn) (end : TaskEnd) (ends : List TaskEnd) (rc : ℕ) (after : World) (exit : Exit) → HadAtOnce may_read number start now turn end (Code rc)
+    → Ran may_read (number + 1) (bit_or so_far rc) now turns ends after exit → Ran may_read number so_far start (turn ∷ turns) (end ∷ ends) after exit
+ran_next may_read number so_far start now turn turns end ends rc after exit had rest = (at_once start had.0 now ∷ rest.0, inr (rc, had.1, rest.1), ((refl, refl), rest.2))
+
+-- a turn that cut the run short
+ran_cut : (may_read : ℕ → Type 0) (number so_far : ℕ) (start after : World) (turn : Turn) (turns : List Turn) (end : TaskEnd) → HadAtOnce may_read number start after turn end Cut → Ran may_read number so_far start (turn ∷ turns) (end ∷ []) after Cut
+ran_cut may_read number so_far start after turn turns end had = (at_once start had.0 after ∷ [], inl (had.1, refl, refl, refl), ((refl, refl), refl))
+
+one_by : (may_read : ℕ → Type 0) (before after : World) (turn : Turn) (end : TaskEnd) (exit : Exit) → HadAtOnce may_read 0 before after turn end exit → (total : Exit) × Ran may_read 0 0 before (turn ∷ []) (end ∷ []) after total × (rc_of_exit exit ≡ rc_of_exit total)
+one_by may_read before after turn end (Code rc) had = (Code (bit_or 0 rc), ran_next may_read 0 0 before after turn [] end [] rc after (Code (bit_or 0 rc)) had ([], refl, refl), sym (or_zero_l rc))
+one_by may_read before after turn end Cut had = (Cut, ran_cut may_read 0 0 before after turn [] end had, refl)
 
 -- the only turn was had
-pub one_ran : (may_read : ℕ → Type 0) (before after : World) (turn : Turn) (end : TaskEnd) (exit : Exit) (done : Done) → TurnRan may_read 0 before after turn end exit → done.rc ≡ rc_of_exit exit → done.ends.items ≡ end ∷ [] → RanTo may_read before (turn ∷ []) after done
-one_ran may_read before after turn end exit done ran rc ends = let one = one_by may_read before after turn end exit ran in (one.0, rw ends one.1, rc ∙ one.2)
+pub one_ran : (may_read : ℕ → Type 0) (before after : World) (turn : Turn) (end : TaskEnd) (exit : Exit) (done : Done) → HadAtOnce may_read 0 before after turn end exit → done.rc ≡ rc_of_exit exit → done.ends.items ≡ end ∷ [] → RanTo may_read before (turn ∷ []) after done
+one_ran may_read before after turn end exit done had rc ends = let one = one_by may_read before after turn end exit had in (one.0, rw ends one.1, rc ∙ one.2)
 
 -- ---- every task has a turn
 
@@ -99,13 +108,9 @@ had_more may_read start mid now stem directory c asked a old new had is = record
   turns = had.turns ++ is.0 ∷ [];
   are = turns_append stem directory c asked (a ∷ []) had.turns (is.0 ∷ []) had.are (is.3, refl);
   go_on = λ more last after exit ran.
-      let all = had.go_on (is.0 ∷ more) (is.1 ∷ last) after exit (inr (
-        now,
-        is.2,
-        is.4,
-        subst (λ n. Ran may_read n (bit_or old.rc is.2) now more last after exit) (one_more_end old.ends.items new.ends.items is.1 is.6)
-            (subst (λ n. Ran may_read (length new.ends.items) n now more last after exit) is.5 ran),
-      )) in
+      let rest : Ran may_read (length old.ends.items + 1) (bit_or old.rc is.2) now more last after exit =
+      subst (λ n. Ran may_read n (bit_or old.rc is.2) now more last after exit) (one_more_end old.ends.items new.ends.items is.1 is.6) (subst (λ n. Ran may_read (length new.ends.items) n now more last after exit) is.5 ran) in
+      let all = had.go_on (is.0 ∷ more) (is.1 ∷ last) after exit (ran_next may_read (length old.ends.items) old.rc mid now is.0 more is.1 last is.2 after exit is.4 rest) in
       let ends : new.ends.items ++ last ≡ old.ends.items ++ is.1 ∷ last = ap (λ es. es ++ last) is.6 ∙ append_assoc old.ends.items (is.1 ∷ []) last in
       subst (λ es. Ran may_read 0 0 start ((had.turns ++ is.0 ∷ []) ++ more) es after exit) (sym ends)
       (subst (λ ts. Ran may_read 0 0 start ts (old.ends.items ++ is.1 ∷ last) after exit) (sym (append_assoc had.turns (is.0 ∷ []) more)) all);
@@ -121,7 +126,7 @@ had_last may_read start mid now stem directory c asked more a old new had (inl c
     let rest = turns_exist stem directory c more in (
       had.turns ++ cut.0 ∷ rest.0,
       turns_append stem directory c asked (a ∷ more) had.turns (cut.0 ∷ rest.0) had.are (cut.2, rest.1),
-      (Cut, rw cut.5 (had.go_on (cut.0 ∷ rest.0) (cut.1 ∷ []) now Cut (inl (cut.3, refl, refl))), cut.4),
+      (Cut, rw cut.5 (had.go_on (cut.0 ∷ rest.0) (cut.1 ∷ []) now Cut (ran_cut may_read (length old.ends.items) old.rc mid now cut.0 rest.0 cut.1 cut.3)), cut.4),
     )
 had_last may_read start mid now stem directory c asked more a old new had (inr wanting) =
     let first = turn_exists stem directory c a in
@@ -131,7 +136,7 @@ had_last may_read start mid now stem directory c asked more a old new had (inr w
       (
         Code (bit_or old.rc 32),
         subst (λ es. Ran may_read 0 0 start (had.turns ++ first.0 ∷ others.0) es now (Code (bit_or old.rc 32))) (append-nil old.ends.items ∙ sym wanting.2)
-            (had.go_on (first.0 ∷ others.0) [] now (Code (bit_or old.rc 32)) (wanting.0, refl)),
+            (had.go_on (first.0 ∷ others.0) [] now (Code (bit_or old.rc 32)) ([], refl, wanting.0)),
         wanting.1,
       ),
     )
@@ -143,7 +148,7 @@ had_all may_read start now stem directory c asked done had = (
   (
     Code done.rc,
     subst (λ ts. Ran may_read 0 0 start ts done.ends.items now (Code done.rc)) (append-nil had.turns)
-        (subst (λ es. Ran may_read 0 0 start (had.turns ++ []) es now (Code done.rc)) (append-nil done.ends.items) (had.go_on [] [] now (Code done.rc) (refl, refl))),
+        (subst (λ es. Ran may_read 0 0 start (had.turns ++ []) es now (Code done.rc)) (append-nil done.ends.items) (had.go_on [] [] now (Code done.rc) ([], refl, refl))),
     refl,
   ),
 )
@@ -158,15 +163,15 @@ none_asked may_read start stem directory c (a ∷ asked) done some rc ends =
 
 -- ---- exits as they are kept
 
-pub seen_code : (may_read : ℕ → Type 0) (own number : ℕ) (before after : World) (turn : Turn) (end : TaskEnd) (x : KeptExit) (rc : ℕ) → own ≡ number → x ≡ KeptCode rc → TurnRan may_read own before after turn end (exit_seen x)
-    → TurnRan may_read number before after turn end (Code rc)
+pub seen_code : (may_read : ℕ → Type 0) (own number : ℕ) (before after : World) (turn : Turn) (end : TaskEnd) (x : KeptExit) (rc : ℕ) → own ≡ number → x ≡ KeptCode rc → HadAtOnce may_read own before after turn end (exit_seen x)
+    → HadAtOnce may_read number before after turn end (Code rc)
 seen_code may_read own number before after turn end x rc same is ran =
-    subst (λ n. TurnRan may_read n before after turn end (Code rc)) same (subst (λ e. TurnRan may_read own before after turn end (exit_seen e)) is ran)
+    subst (λ n. HadAtOnce may_read n before after turn end (Code rc)) same (subst (λ e. HadAtOnce may_read own before after turn end (exit_seen e)) is ran)
 
-pub seen_cut : (may_read : ℕ → Type 0) (own number : ℕ) (before after : World) (turn : Turn) (end : TaskEnd) (x : KeptExit) → own ≡ number → x ≡ KeptCut → TurnRan may_read own before after turn end (exit_seen x)
-    → TurnRan may_read number before after turn end Cut
+pub seen_cut : (may_read : ℕ → Type 0) (own number : ℕ) (before after : World) (turn : Turn) (end : TaskEnd) (x : KeptExit) → own ≡ number → x ≡ KeptCut → HadAtOnce may_read own before after turn end (exit_seen x)
+    → HadAtOnce may_read number before after turn end Cut
 seen_cut may_read own number before after turn end x same is ran =
-    subst (λ n. TurnRan may_read n before after turn end Cut) same (subst (λ e. TurnRan may_read own before after turn end (exit_seen e)) is ran)
+    subst (λ n. HadAtOnce may_read n before after turn end Cut) same (subst (λ e. HadAtOnce may_read own before after turn end (exit_seen e)) is ran)
 
 -- ---- names
 

@@ -13,7 +13,7 @@ use Rattle.sby_top.specs.Judged.{AreReports}
 use Rattle.sby_top.specs.Served.{ArePut, IsAccepted, IsRefused, IsServed, jobs_in, slices_in}
 use Rattle.sby_top.specs.Task.{Stored, TaskOf, streams_in}
 use Rattle.sby_top.specs.Traces.{ArePutTraces, AreTraces, TraceOf}
-use Rattle.sby_top.specs.World.{FilesOf, IsFailedAt, RaceOf}
+use Rattle.sby_top.specs.World.{FilesOf, IsFailedAt, Moments, RaceOf, files_of}
 
 -- A file call of a task failed at this path: of its design, before anything was put; of a job's file, when those before it were put; or
 -- of a stream, when all were.
@@ -66,10 +66,10 @@ pub record AreTracesPut (task : TaskOf) (before after : FilesOf) (problem : Aske
 abbrev pub AreSpared : RaceOf → Early → Type 0
 AreSpared race early = (race.start ≡ None) × ((race.after ≡ race.before) ⊎ (early ≡ Memory))
 
--- A task ended before its lanes, for a reason; or it was done, and its trace files were put, all of them unless this was stopped: by
--- out of memory, or by a failed call of the sink.
-abbrev pub IsOutcome : (ℕ → Type 0) → TaskOf → FilesOf → FilesOf → RaceOf → Option Early → List ℕ → List (ReportOf FindingOf) → List ℕ → Type 0 → Type 0
-IsOutcome may_read task before after race (Some early) text reports unput stopped =
-    (text ≡ []) × (reports ≡ []) × (unput ≡ []) × HasReason task before after early × AreSpared race early
-IsOutcome may_read task before after race None text reports unput stopped =
-    (middle : FilesOf) × (done : IsDone may_read task before middle race text reports) × AreTracesPut task middle after done.problem reports unput stopped
+-- A task ended before its lanes, for a reason, and no trace file was put; or it was done, and its trace files were put, all of them unless
+-- this was stopped: because memory ran out, or by a failed call of the sink.
+abbrev pub IsOutcome : (ℕ → Type 0) → TaskOf → Moments → RaceOf → Option Early → List ℕ → List (ReportOf FindingOf) → List ℕ → Type 0 → Type 0
+IsOutcome may_read task m race (Some early) text reports unput stopped =
+    (text ≡ []) × (reports ≡ []) × (unput ≡ []) × HasReason task m.got m.put early × (files_of m.after ≡ files_of m.before) × AreSpared race early
+IsOutcome may_read task m race None text reports unput stopped =
+    (done : IsDone may_read task m.got m.put race text reports) × AreTracesPut task (files_of m.before) (files_of m.after) done.problem reports unput stopped

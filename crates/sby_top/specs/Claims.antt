@@ -2,13 +2,20 @@
 use Rattle.std.specs.Prelude.{◌≡◌, ◌⊎◌, ℕ, ◌+◌, ◌<◌, ◌≤◌, ◌^◌, List, [], ◌∷◌, ◌++◌, length, slice_get, string_bytes, take, Option, Some, None, Contains}
 use Rattle.std.specs.List.{concat}
 use Rattle.sby_edge.specs.Cause.{CountsOf, Rose}
+use Rattle.sby_edge.specs.Child.{YardOf, up_to}
 use Rattle.sby_edge.specs.Files.{Store}
+use Rattle.sby_edge.specs.Script.{ScriptOf}
+use Rattle.cert_judge.specs.Fate.{Found as FoundFate}
+use Rattle.lane_judge.specs.Serving.{IsServing, evidence_at}
+use Rattle.sby_terms.specs.Status.{HasStatus}
+use Rattle.sby_terms.specs.declared.names.Mode.{Mode}
+use Rattle.sby_terms.specs.declared.names.Verdict.{Verdict}
 use Rattle.design_meaning.specs.Claims.{NoReach, ReachRun, Shows}
 use Rattle.design_meaning.specs.Meaning.{asserts, covers}
 use Rattle.design_meaning.specs.Runs.{CycleOf, IsRunOf, valuations}
 use Rattle.design_core.specs.Shape.{CellOf, DesignOf}
 use Rattle.judge.specs.Finding.{FindingOf}
-use Rattle.judge.specs.Problem.{AskedOf}
+use Rattle.judge.specs.Problem.{AskedOf, IsJobFile}
 use Rattle.race_core.specs.Asking.{name_at}
 use Rattle.race_core.specs.Carrying.{Carries}
 use Rattle.race_core.specs.Collect.{SettledIn}
@@ -34,15 +41,16 @@ use Rattle.sby_words.specs.Requests.{AskNames, Request as Asked}
 use Rattle.sby_words.specs.Words.{IsAsked}
 use Rattle.sby_top.specs.Causes.{AreTracesPut, HasReason, IsDone, IsOutcome}
 use Rattle.sby_top.specs.Headline.{AreLines, ArePrintedOf, Exit, Code, IsCarried, IsReachPrinted, WasStopped}
-use Rattle.sby_top.specs.Run.{SameSink, TurnRan}
-use Rattle.sby_top.specs.Served.{ArePut, IsServed, IsTextOf, jobs_in}
+use Rattle.sby_top.specs.Run.{BeginsAt, SameSink, TurnRan}
+use Rattle.sby_top.specs.Served.{ArePut, IsServed, IsTextOf, jobs_in, most_stream}
 use Rattle.sby_top.specs.Judged.{racing_of}
 use Rattle.sby_top.specs.Task.{Lanes, Service, Streams, TaskOf}
-use Rattle.sby_top.specs.Turns.{HasTurns, Refused, Run, Turn}
+use Rattle.sby_top.specs.Asked.{HasTurns}
+use Rattle.sby_top.specs.Turns.{Refused, Run, Turn}
 use Rattle.sby_top.specs.Traces.{TraceOf, with_trace}
-use Rattle.sby_top.specs.World.{FilesOf, RaceOf, World, files_of, race_of}
+use Rattle.sby_top.specs.World.{Moments, RaceOf, World, files_of, race_of}
 use Rattle.task_race.specs.Bays.{AreCountsOf, YardAt}
-use Rattle.task_race.specs.Ends.{HasEndCause, IsCalledOffBy, IsLimitShown, IsSkippedBy}
+use Rattle.task_race.specs.Ends.{HasEndCause, IsCalledOffBy, IsFateOf, IsLimitShown, IsSkippedBy, script_of}
 use Rattle.sby_top.specs.declared.outcome.Done.{Done}
 use Rattle.sby_top.specs.declared.outcome.TaskEnd.{TaskEnd}
 
@@ -52,11 +60,11 @@ RanUpto may_read number before [] [] now = now ≡ before
 RanUpto may_read number before [] (end ∷ ends) now = ⊥
 RanUpto may_read number before (turn ∷ turns) [] now = ⊥
 RanUpto may_read number before (turn ∷ turns) (end ∷ ends) now =
-    (middle : World) × (rc : ℕ) × TurnRan may_read number before middle turn end (Code rc) × RanUpto may_read (number + 1) middle turns ends now
+    (m : Moments) × (rc : ℕ) × BeginsAt before m × TurnRan may_read number m turn end (Code rc) × RanUpto may_read (number + 1) m.after turns ends now
 
--- A turn of a call: the words ask it; it was had from one moment, at which those before it were done, to another; and this is its end,
--- which stands at its place. The place is its number, from 0 on.
-pub record IsHad (may_read : ℕ → Type 0) (before : World) (words : List (List ℕ)) (done : Done) (start finish : World) (turn : Turn) (end : TaskEnd) : Type 0 where
+-- A turn of a call: the words ask it; it was had at these moments, when those before it were; and this is its end, which stands at its
+-- place. The place is its number, from 0 on.
+pub record IsHad (may_read : ℕ → Type 0) (before : World) (words : List (List ℕ)) (done : Done) (m : Moments) (turn : Turn) (end : TaskEnd) : Type 0 where
   pub asked : Asked
   pub asks : IsAsked words (Some asked)
   pub begun : World
@@ -66,44 +74,44 @@ pub record IsHad (may_read : ℕ → Type 0) (before : World) (words : List (Lis
   pub place : ℕ
   pub turn_is : slice_get turns place ≡ Some turn
   pub end_is : slice_get done.ends.items place ≡ Some end
-  pub earlier : RanUpto may_read 0 begun (take place turns) (take place done.ends.items) start
+  pub now : World
+  pub earlier : RanUpto may_read 0 begun (take place turns) (take place done.ends.items) now
+  pub begins : BeginsAt now m
   pub exit : Exit
-  pub ran : TurnRan may_read place start finish turn end exit
+  pub ran : TurnRan may_read place m turn end exit
 
 -- a task of a call, and its end
-abbrev pub IsTaskOf : (ℕ → Type 0) → World → List (List ℕ) → Done → World → World → TaskOf → TaskEnd → Type 0
-IsTaskOf may_read before words done start finish task end = IsHad may_read before words done start finish (Run task) end
+abbrev pub IsTaskOf : (ℕ → Type 0) → World → List (List ℕ) → Done → Moments → TaskOf → TaskEnd → Type 0
+IsTaskOf may_read before words done m task end = IsHad may_read before words done m (Run task) end
 
 -- trace files of these runs were put, one after the other
 abbrev pub AreStored : TaskOf → DesignOf → List TraceOf → Option Store → Option Store → Type 0
 AreStored task d [] before after = after ≡ before
 AreStored task d (t ∷ traces) before after = AreStored task d traces (with_trace task.request d t before) after
 
--- files were put: of the first jobs of the problem, before anything else of the task; then trace files, after them
-pub record AreFilesPut (task : TaskOf) (before after : Option Store) : Type 0 where
+-- files were put: of the first jobs of the problem, as the task was prepared; then trace files, with its lines
+pub record AreFilesPut (task : TaskOf) (m : Moments) : Type 0 where
   pub problem : AskedOf
   pub jobs : ℕ
   pub traces : List TraceOf
-  pub middle : Option Store
-  pub served : IsServed before task problem
-  pub put : ArePut problem task.request.name (take jobs (jobs_in problem)) before middle
-  pub traced : AreStored task problem.design traces middle after
+  pub served : IsServed m.got.told task problem
+  pub put : ArePut problem task.request.name (take jobs (jobs_in problem)) m.got.told m.put.told
+  pub traced : AreStored task problem.design traces m.before.told m.after.told
 
 -- No file changed; or every file that did is a job's or a trace file.
-abbrev pub IsStored : TaskOf → Option Store → Option Store → Type 0
-IsStored task before after = (after ≡ before) ⊎ AreFilesPut task before after
+abbrev pub IsStored : TaskOf → Moments → Type 0
+IsStored task m = ((m.put.told ≡ m.got.told) × (m.after.told ≡ m.before.told)) ⊎ AreFilesPut task m
 
--- The task was judged when the store was this one: the jobs' files were put, and trace files are put after them.
-pub record IsJudgedAt (may_read : ℕ → Type 0) (number : ℕ) (start finish : World) (task : TaskOf) (end : TaskEnd) (now : Store) : Type 0 where
+-- The task was judged when the store was this one: the jobs' files were put, and trace files were put with its lines.
+pub record IsJudgedAt (may_read : ℕ → Type 0) (number : ℕ) (m : Moments) (task : TaskOf) (end : TaskEnd) (now : Store) : Type 0 where
   pub early : end.early ≡ None
-  pub middle : FilesOf
-  pub done : IsDone may_read task (files_of start) middle (race_of number start finish end.start) end.text end.reports.items
-  pub traced : AreTracesPut task middle (files_of finish) done.problem end.reports.items end.unput.items (WasStopped start finish end)
-  pub told : middle.told ≡ Some now
+  pub done : IsDone may_read task m.got m.put (race_of number m.before m.after end.start) end.text end.reports.items
+  pub traced : AreTracesPut task (files_of m.before) (files_of m.after) done.problem end.reports.items end.unput.items (WasStopped m end)
+  pub told : m.put.told ≡ Some now
 
 -- the text that the end keeps, which is the design's as it was got when the task began, or as the task file has it, reads this flat design
-pub record IsDesignOf (start : World) (task : TaskOf) (end : TaskEnd) (d : DesignOf) : Type 0 where
-  pub got : IsTextOf start.told task.design end.text
+pub record IsDesignOf (m : Moments) (task : TaskOf) (end : TaskEnd) (d : DesignOf) : Type 0 where
+  pub got : IsTextOf m.got.told task.design end.text
   pub reads : Reads end.text d
   pub flat : IsFlat d
 
@@ -117,19 +125,19 @@ pub record BreaksIn (d : DesignOf) (k n : ℕ) (run : List CycleOf) (assertion :
   pub is_cell : slice_get (asserts d) assertion ≡ Some cell
 
 -- the sink grew by these lines; or a call of it failed, and it grew by a part of their bytes
-abbrev pub HasPrinted : World → World → List (List ℕ) → Type 0
-HasPrinted start finish lines =
-    ((finish.sink_faults ≡ start.sink_faults) × (finish.taken ≡ grown start.taken (concat lines)))
-    ⊎ (Rose start.sink_faults finish.sink_faults × GrownBySome start.taken finish.taken (concat lines))
+abbrev pub HasPrinted : Moments → List (List ℕ) → Type 0
+HasPrinted m lines =
+    ((m.after.sink_faults ≡ m.before.sink_faults) × (m.after.taken ≡ grown m.before.taken (concat lines)))
+    ⊎ (Rose m.before.sink_faults m.after.sink_faults × GrownBySome m.before.taken m.after.taken (concat lines))
 
--- The sink tells what it has taken, no call of it failed between these moments, and what it took between them ends with the last line of a
--- task of this name, with this status and this number.
-pub record HasTold (start finish : World) (name : List ℕ) (status : Status) (rc : ℕ) : Type 0 where
-  pub still : Rose start.sink_faults finish.sink_faults → ⊥
+-- The sink tells what it has taken, no call of it failed as the lines were printed, and what it took then ends with the last line of a task
+-- of this name, with this status and this number.
+pub record HasTold (m : Moments) (name : List ℕ) (status : Status) (rc : ℕ) : Type 0 where
+  pub still : Rose m.before.sink_faults m.after.sink_faults → ⊥
   pub earlier : List ℕ
   pub front : List ℕ
-  pub begun : start.taken ≡ Some earlier
-  pub taken : finish.taken ≡ Some (earlier ++ (front ++ done_line name status rc))
+  pub begun : m.before.taken ≡ Some earlier
+  pub taken : m.after.taken ≡ Some (earlier ++ (front ++ done_line name status rc))
   pub small : rc < 2 ^ 64
 
 -- each turn is a task that was run, and its end has a status that the task expects
@@ -149,9 +157,9 @@ AllExpected before words done =
     ⊎ ((begun : World) × SameSink before begun × ((turns : List Turn) × HasTurns (files_of before) (files_of begun) asked turns × AreExpected turns done.ends.items)))
 
 -- the design and its run that breaks an assertion, and that they were printed
-pub record IsShownBreak (start finish : World) (task : TaskOf) (end : TaskEnd) : Type 0 where
+pub record IsShownBreak (m : Moments) (task : TaskOf) (end : TaskEnd) : Type 0 where
   pub design : DesignOf
-  pub is_design : IsDesignOf start task end design
+  pub is_design : IsDesignOf m task end design
   pub run : List CycleOf
   pub assertion : ℕ
   pub cell : CellOf
@@ -161,7 +169,7 @@ pub record IsShownBreak (start finish : World) (task : TaskOf) (end : TaskEnd) :
   pub lines : List (List ℕ)
   pub are_lines : AreLines task end lines
   pub shown : ArePrintedOf design task.request.name cell run lines
-  pub printed : HasPrinted start finish lines
+  pub printed : HasPrinted m lines
 
 -- a run of at most n cycles, all assumed, whose last reaches cover statement k, and the statement's cell
 pub record ReachesIn (d : DesignOf) (n : ℕ) (run : List CycleOf) (k : ℕ) (cell : CellOf) : Type 0 where
@@ -179,18 +187,18 @@ pub record IsReachIn (task : TaskOf) (end : TaskEnd) (d : DesignOf) (lines : Lis
   pub shown : IsReachPrinted d task.request.name cell run lines
 
 -- the design, for each of its cover statements a run that reaches it, and that these were printed
-pub record AreShownReaches (start finish : World) (task : TaskOf) (end : TaskEnd) : Type 0 where
+pub record AreShownReaches (m : Moments) (task : TaskOf) (end : TaskEnd) : Type 0 where
   pub design : DesignOf
-  pub is_design : IsDesignOf start task end design
+  pub is_design : IsDesignOf m task end design
   pub lines : List (List ℕ)
   pub are_lines : AreLines task end lines
   pub each : (k : ℕ) → k < length (covers design) → IsReachIn task end design lines k
-  pub printed : HasPrinted start finish lines
+  pub printed : HasPrinted m lines
 
 -- the design and a cover statement that no run of at most this many cycles reaches, and that it was named
-pub record IsNamedUnreached (start finish : World) (task : TaskOf) (end : TaskEnd) : Type 0 where
+pub record IsNamedUnreached (m : Moments) (task : TaskOf) (end : TaskEnd) : Type 0 where
   pub design : DesignOf
-  pub is_design : IsDesignOf start task end design
+  pub is_design : IsDesignOf m task end design
   pub statement : ℕ
   pub cell : CellOf
   pub is_cell : slice_get (covers design) statement ≡ Some cell
@@ -198,7 +206,7 @@ pub record IsNamedUnreached (start finish : World) (task : TaskOf) (end : TaskEn
   pub lines : List (List ℕ)
   pub are_lines : AreLines task end lines
   pub named : Contains lines (unreached_line task.request.name cell)
-  pub printed : HasPrinted start finish lines
+  pub printed : HasPrinted m lines
 
 -- the status of a task of bmc with one job, by the job's answer
 abbrev pub status_for : Answer → Status
@@ -248,9 +256,9 @@ IsStoredEnd (CalledOff f) = ⊥
 IsStoredEnd (Stopped reading) = ⊥
 
 -- The task was judged: its files were put, and these are its reports; each call that failed was for a trace file.
-pub record WasJudged (may_read : ℕ → Type 0) (number : ℕ) (start finish : World) (task : TaskOf) (end : TaskEnd) : Type 0 where
+pub record WasJudged (may_read : ℕ → Type 0) (number : ℕ) (m : Moments) (task : TaskOf) (end : TaskEnd) : Type 0 where
   pub early : end.early ≡ None
-  pub outcome : IsOutcome may_read task (files_of start) (files_of finish) (race_of number start finish end.start) None end.text end.reports.items end.unput.items (WasStopped start finish end)
+  pub outcome : IsOutcome may_read task m (race_of number m.before m.after end.start) None end.text end.reports.items end.unput.items (WasStopped m end)
   pub design : DesignOf
   pub reads : Reads end.text design
   pub answers : List (Option Answer)
@@ -272,28 +280,28 @@ IsCausedEnd (Lanes engines) may_read task p race lane place e =
     × HasEndCause (racing_of task p race.task engines) may_read race.before.scripts counts race.start lane (name_at task.request.mode place) e
 
 -- an end of an unsettled job of a task that was judged, with its cause
-pub record IsOpenEnd (may_read : ℕ → Type 0) (number : ℕ) (start finish : World) (task : TaskOf) (end : TaskEnd) (p : AskedOf) (answers : List (Option Answer)) (e : JobEnd FindingOf) : Type 0 where
+pub record IsOpenEnd (may_read : ℕ → Type 0) (number : ℕ) (m : Moments) (task : TaskOf) (end : TaskEnd) (p : AskedOf) (answers : List (Option Answer)) (e : JobEnd FindingOf) : Type 0 where
   pub lane : ℕ
   pub place : ℕ
   pub is_end : IsUnsettledEnd end.reports.items answers lane place e
-  pub caused : IsCausedEnd task.service may_read task p (race_of number start finish end.start) lane place e
+  pub caused : IsCausedEnd task.service may_read task p (race_of number m.before m.after end.start) lane place e
 
 -- The event that a status other than PASS and FAIL names: UNKNOWN that each end of an unsettled job is Unknown or NotServed, with the cause
 -- of each; TIMEOUT a reading that shows the limit; ERROR a fault before the lanes, or the faulty end of an unsettled job, with its cause. Of
 -- out of memory nothing is said.
-abbrev pub IsEvent : (ℕ → Type 0) → ℕ → World → World → TaskOf → TaskEnd → Status → Type 0
-IsEvent may_read number start finish task end Pass = Unit {0}
-IsEvent may_read number start finish task end Fail = Unit {0}
-IsEvent may_read number start finish task end Memory = Unit {0}
-IsEvent may_read number start finish task end Timeout =
-    (judged : WasJudged may_read number start finish task end) × ((t : ℕ) × IsOpenEnd may_read number start finish task end judged.outcome.1.problem judged.answers (Stopped t))
-IsEvent may_read number start finish task end Unknown =
-    (judged : WasJudged may_read number start finish task end) × ((lane place : ℕ) (e : JobEnd FindingOf) → IsUnsettledEnd end.reports.items judged.answers lane place e
-    → IsLeftEnd e × IsCausedEnd task.service may_read task judged.outcome.1.problem (race_of number start finish end.start) lane place e)
-IsEvent may_read number start finish task end Error =
-    ((early : Early) × (end.early ≡ Some early) × HasReason task (files_of start) (files_of finish) early)
-    ⊎ ((judged : WasJudged may_read number start finish task end)
-    × ((e : JobEnd FindingOf) × IsOpenEnd may_read number start finish task end judged.outcome.1.problem judged.answers e × IsFaultyEnd e))
+abbrev pub IsEvent : (ℕ → Type 0) → ℕ → Moments → TaskOf → TaskEnd → Status → Type 0
+IsEvent may_read number m task end Pass = Unit {0}
+IsEvent may_read number m task end Fail = Unit {0}
+IsEvent may_read number m task end Memory = Unit {0}
+IsEvent may_read number m task end Timeout =
+    (judged : WasJudged may_read number m task end) × ((t : ℕ) × IsOpenEnd may_read number m task end judged.outcome.0.problem judged.answers (Stopped t))
+IsEvent may_read number m task end Unknown =
+    (judged : WasJudged may_read number m task end) × ((lane place : ℕ) (e : JobEnd FindingOf) → IsUnsettledEnd end.reports.items judged.answers lane place e
+    → IsLeftEnd e × IsCausedEnd task.service may_read task judged.outcome.0.problem (race_of number m.before m.after end.start) lane place e)
+IsEvent may_read number m task end Error =
+    ((early : Early) × (end.early ≡ Some early) × HasReason task m.got m.put early)
+    ⊎ ((judged : WasJudged may_read number m task end)
+    × ((e : JobEnd FindingOf) × IsOpenEnd may_read number m task end judged.outcome.0.problem judged.answers e × IsFaultyEnd e))
 
 -- a call for a child failed: a start, a read, or one for a running child
 abbrev pub HasFailedCall : CountsOf → CountsOf → Type 0
@@ -306,10 +314,10 @@ HasOwnFailedCall number lane before now = (counts : CountsOf) × AreCountsOf num
 -- A lane's job, whose child's certificate is valid for this answer, is settled with it: a report carries a finding for it with this answer.
 -- Or a call for a child of the lane itself failed; a reading shows the limit; the lane ended the job because memory ran out; or it was skipped or
 -- called off by a finding of the task that decides it.
-abbrev pub IsJobInTime : (ℕ → Type 0) → (number lane place : ℕ) → World → World → TaskOf → AskedOf → List Engine → TaskEnd → Answer → Type 0
-IsJobInTime may_read number lane place start finish task p engines end answer =
+abbrev pub IsJobInTime : (ℕ → Type 0) → (number lane place : ℕ) → Moments → TaskOf → AskedOf → List Engine → TaskEnd → Answer → Type 0
+IsJobInTime may_read number lane place m task p engines end answer =
     ((f : FindingOf) × SettledIn job_of end.reports.items (name_at task.request.mode place) f × (f.answer ≡ answer))
-    ⊎ HasOwnFailedCall number lane start.yard finish.yard
+    ⊎ HasOwnFailedCall number lane m.before.yard m.after.yard
     ⊎ ((t : ℕ) × IsLimitShown may_read task.request.limit end.start t)
     ⊎ ((r : ReportOf FindingOf) × Contains end.reports.items r × (end_at r place ≡ MemoryEnd))
     ⊎ ((r : ReportOf FindingOf) × (f : FindingOf) × Contains end.reports.items r × Carries (end_at r place) f
@@ -317,8 +325,32 @@ IsJobInTime may_read number lane place start finish task p engines end answer =
 
 -- The status is this one; or memory ran out; or it is TIMEOUT, and a reading shows the limit; or ERROR, and a call for a child of the
 -- lane itself failed.
-abbrev pub IsInTime : (ℕ → Type 0) → (number lane : ℕ) → World → World → TaskOf → TaskEnd → Status → Type 0
-IsInTime may_read number lane start finish task end status =
+abbrev pub IsInTime : (ℕ → Type 0) → (number lane : ℕ) → Moments → TaskOf → TaskEnd → Status → Type 0
+IsInTime may_read number lane m task end status =
     (end.status ≡ status) ⊎ (end.status ≡ Memory)
     ⊎ ((end.status ≡ Timeout) × ((t : ℕ) × IsLimitShown may_read task.request.limit end.start t))
-    ⊎ ((end.status ≡ Error) × HasOwnFailedCall number lane start.yard finish.yard)
+    ⊎ ((end.status ≡ Error) × HasOwnFailedCall number lane m.before.yard m.after.yard)
+
+-- The job at this place has a valid certificate for this answer in this lane: the lane's engine serves jobs; its child's script for the job
+-- is told, and has no gate; and what the child leaves is a certificate of the job's file.
+pub record IsValidChild (told : Option YardOf) (number lane : ℕ) (engines : List Engine) (p : AskedOf) (mode : Mode) (place : ℕ) (answer : Answer) : Type 0 where
+  pub serving : IsServing (slice_get engines lane)
+  pub script : ScriptOf
+  pub script_is : script_of told number lane (name_at mode place) ≡ Some script
+  pub ungated : script.gate ≡ None
+  pub file : List ℕ
+  pub is_file : IsJobFile p (name_at mode place) file
+  pub valid : IsFateOf (evidence_at (slice_get engines lane)) file (up_to script.stalls script.bytes) (take (most_stream + 1) script.proof) (FoundFate answer)
+
+-- each of these answers has a valid certificate in the lane that is named for its job
+abbrev pub AreValidChildren : Option YardOf → ℕ → (ℕ → ℕ) → List Engine → AskedOf → Mode → List (Option Answer) → Type 0
+AreValidChildren told number lane_of engines p mode answers =
+    (place : ℕ) (answer : Answer) → slice_get answers place ≡ Some (Some answer) → IsValidChild told number (lane_of place) engines p mode place answer
+
+-- The status is that of the verdict; or memory ran out; or it is TIMEOUT, and a reading shows the limit; or ERROR, and a call for a child of
+-- one of these answers' own lanes failed.
+abbrev pub IsVerdictInTime : (ℕ → Type 0) → ℕ → (ℕ → ℕ) → List (Option Answer) → Moments → TaskOf → TaskEnd → Verdict → Type 0
+IsVerdictInTime may_read number lane_of answers m task end verdict =
+    HasStatus (Some verdict) [] end.status ⊎ (end.status ≡ Memory)
+    ⊎ ((end.status ≡ Timeout) × ((t : ℕ) × IsLimitShown may_read task.request.limit end.start t))
+    ⊎ ((end.status ≡ Error) × ((place : ℕ) × (answer : Answer) × (slice_get answers place ≡ Some (Some answer)) × HasOwnFailedCall number (lane_of place) m.before.yard m.after.yard))

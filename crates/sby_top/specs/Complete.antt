@@ -21,7 +21,7 @@ use Rattle.sby_lines.specs.Told.{IsRaceStatus}
 use Rattle.sby_top.specs.Claims.{HasFailedCall}
 use Rattle.sby_top.specs.Judged.{racing_of}
 use Rattle.sby_top.specs.Task.{TaskOf}
-use Rattle.sby_top.specs.World.{World}
+use Rattle.sby_top.specs.World.{Moments}
 use Rattle.task_race.specs.Ends.{IsJudgedAs, script_of}
 use Rattle.task_race.specs.Ran.{EachLane, RacingOf, job_count, name_in}
 use Rattle.sby_top.specs.declared.outcome.TaskEnd.{TaskEnd}
@@ -51,9 +51,9 @@ pub record ArePlain (racing : RacingOf) (told : Option YardOf) (reports : List (
   pub each : EachLane reports (λ lane r. IsPlainReport racing told lane r)
 
 -- the status that Plain's reports give a task
-pub record IsPlainLanesStatus (start : World) (task : TaskOf) (p : AskedOf) (number : ℕ) (engines : List Engine) (status : Status) : Type 0 where
+pub record IsPlainLanesStatus (m : Moments) (task : TaskOf) (p : AskedOf) (number : ℕ) (engines : List Engine) (status : Status) : Type 0 where
   pub reports : List (ReportOf FindingOf)
-  pub are_plain : ArePlain (racing_of task p number engines) start.yard.scripts reports
+  pub are_plain : ArePlain (racing_of task p number engines) m.before.yard.scripts reports
   pub is_status : IsRaceStatus task.request (record { design = p.design; reports = reports; start = None }) status
 
 -- the status of a verdict
@@ -62,10 +62,10 @@ IsVerdictStatus status = (status ≡ Pass) ⊎ (status ≡ Fail)
 
 -- The yard tells its scripts, and none of the task's has a gate; no call for a child failed; there is no timeout, or no two readings that
 -- the clock may give are the limit apart; and memory did not run out.
-pub record IsUndisturbed (may_read : ℕ → Type 0) (number : ℕ) (start finish : World) (task : TaskOf) (end : TaskEnd) : Type 0 where
-  pub told : IsSome start.yard.scripts
-  pub ungated : (lane : ℕ) (job : JobName) (script : ScriptOf) → script_of start.yard.scripts number lane job ≡ Some script → script.gate ≡ None
-  pub calls : HasFailedCall start.yard.counts finish.yard.counts → ⊥
+pub record IsUndisturbed (may_read : ℕ → Type 0) (number : ℕ) (m : Moments) (task : TaskOf) (end : TaskEnd) : Type 0 where
+  pub told : IsSome m.before.yard.scripts
+  pub ungated : (lane : ℕ) (job : JobName) (script : ScriptOf) → script_of m.before.yard.scripts number lane job ≡ Some script → script.gate ≡ None
+  pub calls : HasFailedCall m.before.yard.counts m.after.yard.counts → ⊥
   pub in_time : (a b millis : ℕ) → task.request.limit ≡ Some millis → may_read a → may_read b → a ≤ b → millis ≤ b - a → ⊥
   pub memory : end.status ≢ Memory
   pub lanes_memory : (r : ReportOf FindingOf) (place : ℕ) → Contains end.reports.items r → end_at r place ≡ MemoryEnd → ⊥

@@ -7,13 +7,17 @@ use Rattle.sby_lines.specs.declared.tell.Stop.TheVariants.{Memory as MemoryStop,
 use Rattle.sby_top.specs.Headline.{Exit, Code, Cut}
 use Rattle.sby_top.specs.Run.{Ran, TurnRan, rc_of_exit}
 use Rattle.sby_top.specs.Turns.{AreTurnsOf, IsNameOf, IsTurnOf, Turn}
-use Rattle.sby_top.specs.World.{World}
+use Rattle.sby_top.specs.World.{FilesOf, World, at_once}
 use Rattle.sby_top.specs.declared.outcome.Done.{Done}
 use Rattle.sby_top.specs.declared.outcome.TaskEnd.{TaskEnd}
 
 -- the turns were had, with these ends and this exit status
 abbrev pub RanTo : (ℕ → Type 0) → World → List Turn → World → Done → Type 0
 RanTo may_read before turns after done = (exit : Exit) × Ran may_read 0 0 before turns done.ends.items after exit × (done.rc ≡ rc_of_exit exit)
+
+-- a turn was had at one go, from one moment to another
+abbrev pub HadAtOnce : (ℕ → Type 0) → ℕ → World → World → Turn → TaskEnd → Exit → Type 0
+HadAtOnce may_read number before after turn end exit = (put : FilesOf) × TurnRan may_read number (at_once before put after) turn end exit
 
 -- this is the turn of the task that is asked for
 abbrev pub IsAskedTurn : List ℕ → Option (List ℕ) → ConfigOf → Option (List ℕ) → Turn → Type 0
@@ -23,10 +27,10 @@ IsAskedTurn stem directory c asked turn = (name : List ℕ) × IsNameOf stem dir
 -- sink failed, or memory ran out for the turn's name
 abbrev pub IsAsk : (ℕ → Type 0) → World → World → List ℕ → Option (List ℕ) → ConfigOf → Option (List ℕ) → Done → Done → Bool → Type 0
 IsAsk may_read before after stem directory c asked old new true =
-    (turn : Turn) × (end : TaskEnd) × (rc : ℕ) × IsAskedTurn stem directory c asked turn × TurnRan may_read (length old.ends.items) before after turn end (Code rc)
+    (turn : Turn) × (end : TaskEnd) × (rc : ℕ) × IsAskedTurn stem directory c asked turn × HadAtOnce may_read (length old.ends.items) before after turn end (Code rc)
     × (new.rc ≡ bit_or old.rc rc) × (new.ends.items ≡ old.ends.items ++ end ∷ [])
 IsAsk may_read before after stem directory c asked old new false =
-    ((turn : Turn) × (end : TaskEnd) × IsAskedTurn stem directory c asked turn × TurnRan may_read (length old.ends.items) before after turn end Cut × (new.rc ≡ 16) × (new.ends.items ≡ old.ends.items ++ end ∷ []))
+    ((turn : Turn) × (end : TaskEnd) × IsAskedTurn stem directory c asked turn × HadAtOnce may_read (length old.ends.items) before after turn end Cut × (new.rc ≡ 16) × (new.ends.items ≡ old.ends.items ++ end ∷ []))
     ⊎ ((after ≡ before) × (new.rc ≡ bit_or old.rc 32) × (new.ends.items ≡ old.ends.items))
 
 -- The turns of these tasks were had so far, with these ends and this exit status; and whatever turns are had after them, they were had all

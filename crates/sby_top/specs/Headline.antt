@@ -44,7 +44,7 @@ use Rattle.sby_lines.specs.declared.early.Early.TheVariants.{Read, Design, TooMa
 use Rattle.sby_top.specs.Causes.{IsOutcome}
 use Rattle.sby_top.specs.Served.{ArePut, IsAccepted, IsRefused, IsServed, IsTextOf, jobs_in, most_stream}
 use Rattle.sby_top.specs.Task.{Lanes, Service, Streams as StoredStreams, TaskOf, streams_in}
-use Rattle.sby_top.specs.World.{World, files_of, race_of}
+use Rattle.sby_top.specs.World.{Moments, race_of}
 use Rattle.task_race.specs.Bays.{AreLater}
 use Rattle.sby_top.specs.declared.outcome.TaskEnd.{TaskEnd}
 use Rattle.design_trace.specs.Trace.{trace}
@@ -129,14 +129,14 @@ HasOwnStatus task end =
     × IsStatus task.request end.early (record { design = d; reports = end.reports.items; start = end.start }) end.status
 
 -- memory ran out, or a call of the sink failed
-abbrev pub WasStopped : World → World → TaskEnd → Type 0
-WasStopped before after end = (end.status ≡ Memory) ⊎ Rose before.sink_faults after.sink_faults
+abbrev pub WasStopped : Moments → TaskEnd → Type 0
+WasStopped m end = (end.status ≡ Memory) ⊎ Rose m.before.sink_faults m.after.sink_faults
 
 -- each status names its event
-pub record NamesEvent (may_read : ℕ → Type 0) (number : ℕ) (before after : World) (task : TaskOf) (end : TaskEnd) : Type 0 where
+pub record NamesEvent (may_read : ℕ → Type 0) (number : ℕ) (m : Moments) (task : TaskOf) (end : TaskEnd) : Type 0 where
   pub name : string_bytes end.name ≡ task.request.name
   pub status : HasOwnStatus task end ⊎ (end.status ≡ Memory)
-  pub cause : IsOutcome may_read task (files_of before) (files_of after) (race_of number before after end.start) end.early end.text end.reports.items end.unput.items (WasStopped before after end)
+  pub cause : IsOutcome may_read task m (race_of number m.before m.after end.start) end.early end.text end.reports.items end.unput.items (WasStopped m end)
 
 -- how a run of tasks exits: with a number, or cut short by a failed call of the sink
 pub data Exit : Type 0 where
@@ -224,28 +224,30 @@ IsPlainStatus before task early status =
     ⊎ IsServedStatus task.service before task early status
 
 -- no call failed, and memory did not run out
-pub record IsSmooth (before after : World) (status : Status) : Type 0 where
-  pub files : Rose before.file_faults after.file_faults → ⊥
-  pub sink : Rose before.sink_faults after.sink_faults → ⊥
+pub record IsSmooth (m : Moments) (status : Status) : Type 0 where
+  pub prepared : Rose m.got.faults m.put.faults → ⊥
+  pub files : Rose m.before.file_faults m.after.file_faults → ⊥
+  pub sink : Rose m.before.sink_faults m.after.sink_faults → ⊥
   pub memory : status ≢ Memory
 
 -- completeness: over a store that tells, where no call failed and memory did not run out, the status is the plain one
-abbrev pub IsComplete : World → World → TaskOf → TaskEnd → Type 0
-IsComplete before after task end =
-    (store : Store) → before.told ≡ Some store → IsSmooth before after end.status → IsPlainStatus store task end.early end.status
+abbrev pub IsComplete : Moments → TaskOf → TaskEnd → Type 0
+IsComplete m task end =
+    (store : Store) → m.got.told ≡ Some store → IsSmooth m end.status → IsPlainStatus store task end.early end.status
 
 -- the counts of faults didn't fall, and the yard tells the same scripts
-pub record IsLater (before after : World) : Type 0 where
-  pub files : before.file_faults ≤ after.file_faults
-  pub sink : before.sink_faults ≤ after.sink_faults
-  pub children : AreLater before.yard.counts after.yard.counts
-  pub scripts : after.yard.scripts ≡ before.yard.scripts
+pub record IsLater (m : Moments) : Type 0 where
+  pub prepared : m.got.faults ≤ m.put.faults
+  pub files : m.before.file_faults ≤ m.after.file_faults
+  pub sink : m.before.sink_faults ≤ m.after.sink_faults
+  pub children : AreLater m.before.yard.counts m.after.yard.counts
+  pub scripts : m.after.yard.scripts ≡ m.before.yard.scripts
 
--- a task, which has this number in its call, was run, from one moment to another
-pub record TaskRan (may_read : ℕ → Type 0) (number : ℕ) (before after : World) (task : TaskOf) (end : TaskEnd) (exit : Exit) : Type 0 where
-  pub pass : end.status ≡ Pass → IsTrueOf before.told task end.text (PassClaim task.request.mode task end)
-  pub fail : end.status ≡ Fail → IsTrueOf before.told task end.text (FailClaim task.request.mode task end)
-  pub named : NamesEvent may_read number before after task end
-  pub printed : IsPrinted task.request.name before.taken after.taken before.sink_faults after.sink_faults after.ended (AreLines task end) task.request.expect (HasOwnStatus task end) end.status exit
-  pub complete : IsComplete before after task end
-  pub later : IsLater before after
+-- A task, which has this number in its call, was run, at these moments. That other tasks had moments of theirs between these isn't seen.
+pub record TaskRan (may_read : ℕ → Type 0) (number : ℕ) (m : Moments) (task : TaskOf) (end : TaskEnd) (exit : Exit) : Type 0 where
+  pub pass : end.status ≡ Pass → IsTrueOf m.got.told task end.text (PassClaim task.request.mode task end)
+  pub fail : end.status ≡ Fail → IsTrueOf m.got.told task end.text (FailClaim task.request.mode task end)
+  pub named : NamesEvent may_read number m task end
+  pub printed : IsPrinted task.request.name m.before.taken m.after.taken m.before.sink_faults m.after.sink_faults m.after.ended (AreLines task end) task.request.expect (HasOwnStatus task end) end.status exit
+  pub complete : IsComplete m task end
+  pub later : IsLater m

@@ -2,6 +2,8 @@ pub mod World
 pub mod Task
 pub mod Served
 pub mod Turns
+pub mod Generated
+pub mod Asked
 pub mod Judged
 pub mod Traces
 pub mod Shown
@@ -12,4 +14,5 @@ pub mod Steps
 pub mod End
 pub mod Ending
 pub mod Claims
+pub mod Promise
 pub mod Complete

@@ -18,8 +18,9 @@ use Rattle.sby_lines.specs.declared.early.Early.{Early}
 use Rattle.sby_words.specs.Requests.{AskGen, AskJudge, AskNames, AskTasks, Request as Asked}
 use Rattle.sby_words.specs.Words.{IsAsked}
 use Rattle.sby_top.specs.Headline.{Exit, Code, Cut, IsPrinted, TaskRan}
-use Rattle.sby_top.specs.Turns.{HasTurns, IsTextGot, Turn, Refused, Run}
-use Rattle.sby_top.specs.World.{SameYard, World, files_of}
+use Rattle.sby_top.specs.Asked.{HasTurns}
+use Rattle.sby_top.specs.Turns.{IsTextGot, Turn, Refused, Run}
+use Rattle.sby_top.specs.World.{Moments, SameFiles, SameYard, World, files_of, with_files}
 use Rattle.sby_top.specs.declared.outcome.Done.{Done}
 use Rattle.sby_top.specs.declared.outcome.TaskEnd.{TaskEnd}
 
@@ -33,7 +34,7 @@ IsRefusedStatus name early status = (c : CameTo) × IsStatus (refused_request na
 
 -- Only a fault was told: the status is ERROR with number 16, whatever the task's file expects, or MEMORY with 32 where memory ran out; no
 -- file changed.
-pub record WasRefused (before after : World) (name : List ℕ) (early : Early) (end : TaskEnd) (exit : Exit) : Type 0 where
+pub record WasRefused (m : Moments) (name : List ℕ) (early : Early) (end : TaskEnd) (exit : Exit) : Type 0 where
   pub name_is : string_bytes end.name ≡ name
   pub early_is : end.early ≡ Some early
   pub reports : end.reports.items ≡ []
@@ -42,28 +43,42 @@ pub record WasRefused (before after : World) (name : List ℕ) (early : Early) (
   pub start : end.start ≡ None
   pub status : IsRefusedStatus name early end.status ⊎ (end.status ≡ Memory)
   pub code : (rc : ℕ) → exit ≡ Code rc → rc ≡ code_of end.status
-  pub printed : IsPrinted name before.taken after.taken before.sink_faults after.sink_faults after.ended
+  pub printed : IsPrinted name m.before.taken m.after.taken m.before.sink_faults m.after.sink_faults m.after.ended
       (HasLines (refused_request name) [] (Some early) [] None []) [] (IsRefusedStatus name early end.status) end.status exit
-  pub files : files_of after ≡ files_of before
-  pub yard : SameYard before after
-  pub later : before.sink_faults ≤ after.sink_faults
+  pub files : SameFiles m
+  pub yard : SameYard m.before m.after
+  pub later : m.before.sink_faults ≤ m.after.sink_faults
 
--- a turn, which has this number in its call, was had, from one moment to another
-abbrev pub TurnRan : (ℕ → Type 0) → ℕ → World → World → Turn → TaskEnd → Exit → Type 0
-TurnRan may_read number before after (Refused name early) end exit = WasRefused before after name early end exit
-TurnRan may_read number before after (Run task) end exit = TaskRan may_read number before after task end exit
+-- a turn, which has this number in its call, was had, at these moments
+abbrev pub TurnRan : (ℕ → Type 0) → ℕ → Moments → Turn → TaskEnd → Exit → Type 0
+TurnRan may_read number m (Refused name early) end exit = WasRefused m name early end exit
+TurnRan may_read number m (Run task) end exit = TaskRan may_read number m task end exit
 
--- The turns, numbered from this one on, were had in order, each from the moment at which the one before it was done; the exit status of
--- each is or-ed to those before it. A failed call of the sink ends the run; where memory runs out even for an end, the list of ends stops
--- short.
+-- What the turns did, numbered from this one on, each at its moments; the exit status of each is or-ed to those before it. A failed call of
+-- the sink ends the run; where memory runs out even for an end, the list of ends stops short. The order of the moments isn't seen.
+abbrev pub Had : (ℕ → Type 0) → ℕ → ℕ → List Turn → List Moments → List TaskEnd → Exit → Type 0
+Had may_read number so_far [] [] [] exit = exit ≡ Code so_far
+Had may_read number so_far (turn ∷ turns) [] [] exit = exit ≡ Code (bit_or so_far 32)
+Had may_read number so_far (turn ∷ turns) (m ∷ ms) (end ∷ ends) exit =
+    (TurnRan may_read number m turn end Cut × (ms ≡ []) × (ends ≡ []) × (exit ≡ Cut))
+    ⊎ ((rc : ℕ) × TurnRan may_read number m turn end (Code rc) × Had may_read (number + 1) (bit_or so_far rc) turns ms ends exit)
+Had may_read number so_far [] (m ∷ ms) ends exit = ⊥
+Had may_read number so_far [] [] (end ∷ ends) exit = ⊥
+Had may_read number so_far (turn ∷ turns) (m ∷ ms) [] exit = ⊥
+Had may_read number so_far (turn ∷ turns) [] (end ∷ ends) exit = ⊥
+
+-- a task's moments begin at this one, with nothing between its preparing and its race
+abbrev pub BeginsAt : World → Moments → Type 0
+BeginsAt start m = (m.got ≡ files_of start) × (m.before ≡ with_files start m.put)
+
+-- the order of moments: each task is prepared, raced and shown before the next one
+abbrev pub OneByOne : World → List Moments → World → Type 0
+OneByOne start [] finish = finish ≡ start
+OneByOne start (m ∷ ms) finish = BeginsAt start m × OneByOne m.after ms finish
+
+-- the turns were had, numbered from this one on, one after the other
 abbrev pub Ran : (ℕ → Type 0) → ℕ → ℕ → World → List Turn → List TaskEnd → World → Exit → Type 0
-Ran may_read number so_far before [] [] after exit = (after ≡ before) × (exit ≡ Code so_far)
-Ran may_read number so_far before [] (end ∷ ends) after exit = ⊥
-Ran may_read number so_far before (turn ∷ turns) [] after exit = (after ≡ before) × (exit ≡ Code (bit_or so_far 32))
-Ran may_read number so_far before (turn ∷ turns) (end ∷ ends) after exit =
-    (TurnRan may_read number before after turn end Cut × (ends ≡ []) × (exit ≡ Cut))
-    ⊎ ((middle : World) × (rc : ℕ) × TurnRan may_read number before middle turn end (Code rc)
-    × Ran may_read (number + 1) (bit_or so_far rc) middle turns ends after exit)
+Ran may_read number so_far before turns ends after exit = (ms : List Moments) × Had may_read number so_far turns ms ends exit × OneByOne before ms after
 
 -- the exit status: exactly 16 where a failed call of the sink cut the run short
 abbrev pub rc_of_exit : Exit → ℕ
@@ -97,7 +112,7 @@ name_lines names = map (λ name. name ++ 10 ∷ []) names
 
 -- the sink and the yard are as they were
 abbrev pub SameSink : World → World → Type 0
-SameSink before now = now ≡ record before { told = now.told; file_faults = now.file_faults; blamed = now.blamed }
+SameSink before now = now ≡ with_files before (files_of now)
 
 -- the turns that words give were had
 pub record TurnsDone (may_read : ℕ → Type 0) (before after : World) (done : Done) (asked : Asked) : Type 0 where

@@ -1,6 +1,5 @@
 -- The tasks that words ask, each in its turn.
-use Rattle.std.specs.Prelude.{◌≡◌, ◌⊎◌, ℕ, ◌*◌, ◌≤◌, false, List, [], ◌∷◌, ◌++◌, codes, map, Option, Some, None, option_map, Result, Ok, Err, string_bytes, Contains}
-use Rattle.std.specs.Fmt.{decimal}
+use Rattle.std.specs.Prelude.{◌≡◌, ◌⊎◌, ℕ, ◌*◌, ◌≤◌, false, List, [], ◌∷◌, ◌++◌, map, Option, Some, None, option_map, Result, Ok, Err, string_bytes, Contains}
 use Rattle.sby_file.specs.Config.{ConfigOf}
 use Rattle.sby_task.specs.Expand.{expansion}
 use Rattle.sby_file.specs.Faults.{faults_of, first}
@@ -8,13 +7,12 @@ use Rattle.sby_file.specs.Sby.{SbyText}
 use Rattle.sby_task.specs.declared.expansion.Task.{Task as FileTask}
 use Rattle.sby_file.specs.declared.fault.SbyFault.{SbyFault}
 use Rattle.sby_task.specs.declared.task_fault.TaskFault.{TaskFault}
-use Rattle.gen_design.specs.Ring.{task_lines, text_of}
 use Rattle.sby_lines.specs.declared.early.Early.{Early}
 use Rattle.sby_lines.specs.declared.early.Early.TheVariants.{File, Sby, Task, Read, Design, TooMany, Streams as TooManyStreams, Memory}
 use Rattle.sby_terms.specs.Span.{whole}
 use Rattle.sby_terms.specs.declared.names.Status.TheVariants.{Pass}
-use Rattle.sby_words.specs.Folders.{IsStem, task_folder}
-use Rattle.sby_words.specs.Requests.{AskGen, AskJudge, AskNames, AskTasks, JudgeRequest, Request as Asked}
+use Rattle.sby_words.specs.Folders.{task_folder}
+use Rattle.sby_words.specs.Requests.{JudgeRequest}
 use Rattle.sby_top.specs.Served.{IsGot}
 use Rattle.sby_top.specs.Task.{DesignAt, Given, IsAskable, Lanes, Stored, Streams, TaskOf, task_seen}
 use Rattle.sby_top.specs.declared.turns.Turn.{Turn as KeptTurn}
@@ -113,25 +111,3 @@ IsTextGot before now path (Err TooManyStreams) = ⊥
 abbrev pub AreFileTurns : List ℕ → Option (List ℕ) → List (List ℕ) → Result (List ℕ) Early → List Turn → Type 0
 AreFileTurns stem directory names (Ok text) turns = AreTextTurns stem directory names text turns
 AreFileTurns stem directory names (Err early) turns = turns ≡ Refused (task_folder stem directory []) early ∷ []
-
--- the stem of `--gen N`
-abbrev pub gen_stem : ℕ → List ℕ
-gen_stem n = codes "gen_" ++ decimal n
-
--- The fault that `--dumptasks` tells of a file, by the moment at which it is told: it couldn't be got; it was, and its text's first fault
--- is this one; or memory ran out for reading it.
-abbrev pub IsNamesFault : FilesOf → FilesOf → List ℕ → Early → Type 0
-IsNamesFault before now file early =
-    IsTextGot before now file (Err early)
-    ⊎ ((text : List ℕ) × (fault : SbyFault) × IsTextGot before now file (Ok text) × (first (faults_of text) ≡ Some fault) × (early ≡ Sby fault))
-    ⊎ ((now ≡ before) × (early ≡ Memory))
-
--- The turns that words ask, by the moment at which the first of them begins: `--judge` has one task; a task file is got first; that of
--- `--gen N` is the generated one; `--dumptasks` has a turn for the fault of a file alone, which is told under the stem.
-abbrev pub HasTurns : FilesOf → FilesOf → Asked → List Turn → Type 0
-HasTurns before now (AskJudge j) turns = (now ≡ before) × (turns ≡ Run (judge_task j) ∷ [])
-HasTurns before now (AskTasks t) turns =
-    (got : Result (List ℕ) Early) × IsTextGot before now t.file got × ((stem : List ℕ) × IsStem t.file stem × AreFileTurns stem t.directory t.names got turns)
-HasTurns before now (AskGen g) turns = (now ≡ before) × AreTextTurns (gen_stem g.size) g.directory [] (text_of (task_lines g.size)) turns
-HasTurns before now (AskNames file) turns =
-    (early : Early) × IsNamesFault before now file early × ((stem : List ℕ) × IsStem file stem × (turns ≡ Refused (task_folder stem None []) early ∷ []))

@@ -24,6 +24,22 @@ pub record FilesOf : Type 0 where
 abbrev pub files_of : World → FilesOf
 files_of w = record { told = w.told; faults = w.file_faults; blamed = w.blamed }
 
+-- the outside with these files in place of its own
+abbrev pub with_files : World → FilesOf → World
+with_files w files = record w { told = files.told; file_faults = files.faults; blamed = files.blamed }
+
+-- The four moments of a task: the files when its preparing began, and when that was over; the outside when its race began, and when its
+-- lines were printed.
+pub record Moments : Type 0 where
+  pub got : FilesOf
+  pub put : FilesOf
+  pub before : World
+  pub after : World
+
+-- the moments of a task that is prepared, raced and shown at one go
+abbrev pub at_once : World → FilesOf → World → Moments
+at_once start put finish = record { got = files_of start; put = put; before = with_files start put; after = finish }
+
 -- a call of the file store failed at this path, and nothing else changed
 pub record IsFailedAt (before now : FilesOf) (path : List ℕ) : Type 0 where
   pub rose : Rose before.faults now.faults
@@ -49,3 +65,7 @@ race_of number before after start = record { task = number; before = before.yard
 -- the yard is as it was: it tells no new start, and no call for a child failed
 abbrev pub SameYard : World → World → Type 0
 SameYard before after = after.yard ≡ before.yard
+
+-- no file changed, and no call for one failed: neither as the task was prepared, nor as its lines were printed
+abbrev pub SameFiles : Moments → Type 0
+SameFiles m = (m.put ≡ m.got) × (files_of m.after ≡ files_of m.before)

@@ -15,7 +15,7 @@ ghost use Rattle.sby_top.specs.Headline.{AreLines, HasOwnStatus, IsPrinted, Task
 ghost use Rattle.sby_top.specs.Shown.{AreFitting, ArePutUpto, trace_seen};
 ghost use Rattle.sby_top.specs.Steps.{files_at};
 ghost use Rattle.sby_top.specs.Task.{IsAskable, task_seen};
-ghost use Rattle.sby_top.specs.World.{world_at};
+ghost use Rattle.sby_top.specs.World.{FilesOf, at_once, world_at};
 ghost use Rattle.task_race.specs.Bays.{counts_at, yard_at};
 
 use crate::outcome::TaskEnd;
@@ -238,9 +238,9 @@ pub fn run_task<R: Threads + Wait + Sync, F: Files, S: Sink, Y: Yard, C: Clock>(
     task: Task,
 ) -> (TaskEnd, Exit)
     requires { IsAskable (task_seen task) }
-    ensures { TaskRan (C.may_read clock.now) number
-        (world_at (F.told files.old) (F.faults files.old) (F.blamed files.old) (S.taken out.old) (S.faults out.old) (S.ended out.old) (yard_at (Y.told yard.old) (Y.started yard.old) (counts_at (Y.start_faults yard.old) (Y.read_faults yard.old) (Y.hold_faults yard.old))))
-        (world_at (F.told files.new) (F.faults files.new) (F.blamed files.new) (S.taken out.new) (S.faults out.new) (S.ended out.new) (yard_at (Y.told yard.new) (Y.started yard.new) (counts_at (Y.start_faults yard.new) (Y.read_faults yard.new) (Y.hold_faults yard.new))))
+    ensures { (put : FilesOf) × TaskRan (C.may_read clock.now) number (at_once
+        (world_at (F.told files.old) (F.faults files.old) (F.blamed files.old) (S.taken out.old) (S.faults out.old) (S.ended out.old) (yard_at (Y.told yard.old) (Y.started yard.old) (counts_at (Y.start_faults yard.old) (Y.read_faults yard.old) (Y.hold_faults yard.old)))) put
+        (world_at (F.told files.new) (F.faults files.new) (F.blamed files.new) (S.taken out.new) (S.faults out.new) (S.ended out.new) (yard_at (Y.told yard.new) (Y.started yard.new) (counts_at (Y.start_faults yard.new) (Y.read_faults yard.new) (Y.hold_faults yard.new)))))
         (task_seen task) result.0 (exit_seen result.1) }
 {
     // PASS of prove and of bmc stands on these laws, and what is shown on the others.

@@ -10,12 +10,16 @@ ghost use Rattle.sby_lines.specs.Texts.{usage_line};
 ghost use Rattle.sby_words.specs.Folders.{task_folder};
 ghost use Rattle.sby_words.specs.Requests.{AskGen, AskJudge, AskTasks};
 ghost use Rattle.sby_top.specs.End.{exit_seen};
-ghost use Rattle.sby_top.specs.Ending.{IsAsk, RanTo, told_code};
-ghost use Rattle.sby_top.specs.Run.{Did, LinesAlone, NamesTold, TurnRan, TurnsDone, WasRefused, name_lines, rc_of_exit};
-ghost use Rattle.sby_top.specs.Turns.{AreTextTurns, AreTurnsOf, IsSound, Refused, Turn as TurnOf, asked_tasks, gen_stem, turn_seen};
-ghost use Rattle.sby_top.specs.World.{world_at};
+ghost use Rattle.sby_top.specs.Ending.{HadAtOnce, IsAsk, RanTo, told_code};
+ghost use Rattle.sby_top.specs.Promise.{Promises};
+ghost use Rattle.sby_top.specs.Run.{Did, LinesAlone, NamesTold, TurnsDone, WasRefused, name_lines, rc_of_exit};
+ghost use Rattle.sby_top.specs.Generated.{gen_stem};
+ghost use Rattle.sby_top.specs.Turns.{AreTextTurns, AreTurnsOf, IsSound, Refused, Turn as TurnOf, asked_tasks, turn_seen};
+ghost use Rattle.sby_top.specs.Steps.{files_at};
+ghost use Rattle.sby_top.specs.World.{at_once, world_at};
 ghost use Rattle.task_race.specs.Bays.{YardAt, counts_at, yard_at};
 
+use crate::claims::output_can_be_read;
 use crate::outcome::{Done, TaskEnd};
 use crate::run::{Exit, finish_fault, run_task};
 use crate::serve::get;
@@ -35,7 +39,7 @@ const MOST_TASK_FILE: u64 = 1 << 24;
 // Only a fault is told, under this name. Its status has its number whatever is expected.
 fn refuse<S: Sink>(alloc: Global, out: &mut S, name: String, early: Early) -> (TaskEnd, Exit)
     ensures { (told : Option Store) (faults : ℕ) (blamed : Option (List ℕ)) (yard : YardAt) → WasRefused
-        (world_at told faults blamed (S.taken out.old) (S.faults out.old) (S.ended out.old) yard) (world_at told faults blamed (S.taken out.new) (S.faults out.new) (S.ended out.new) yard)
+        (at_once (world_at told faults blamed (S.taken out.old) (S.faults out.old) (S.ended out.old) yard) (files_at told faults blamed) (world_at told faults blamed (S.taken out.new) (S.faults out.new) (S.ended out.new) yard))
         (string_bytes name) early result.0 (exit_seen result.1) }
 {
     let expect = Expect::new(Vec::new(alloc));
@@ -54,7 +58,7 @@ fn run_turn<R: Threads + Wait + Sync, F: Files, S: Sink, Y: Yard, C: Clock>(
     turn: Turn,
 ) -> (TaskEnd, Exit)
     requires { IsSound (turn_seen turn) }
-    ensures { TurnRan (C.may_read clock.now) number
+    ensures { HadAtOnce (C.may_read clock.now) number
         (world_at (F.told files.old) (F.faults files.old) (F.blamed files.old) (S.taken out.old) (S.faults out.old) (S.ended out.old) (yard_at (Y.told yard.old) (Y.started yard.old) (counts_at (Y.start_faults yard.old) (Y.read_faults yard.old) (Y.hold_faults yard.old))))
         (world_at (F.told files.new) (F.faults files.new) (F.blamed files.new) (S.taken out.new) (S.faults out.new) (S.ended out.new) (yard_at (Y.told yard.new) (Y.started yard.new) (counts_at (Y.start_faults yard.new) (Y.read_faults yard.new) (Y.hold_faults yard.new))))
         (turn_seen turn) result.0 (exit_seen result.1) }
@@ -533,13 +537,8 @@ fn run_usage<S: Sink>(alloc: Global, out: &mut S) -> Done
     }
 }
 
-/// Does all that the program `sby` does: `words` are its arguments, `files` and `out` the file store and the output that it uses. It
-/// answers the exit status, and what each task came to.
-///
-/// Served are all forms of words: `--judge` with stored streams, task files, `--gen` and `--dumptasks`. The jobs of a task file are raced
-/// by its engines, one lane for each, on threads of `rt`: their children are started in bays of `yard`, which all come back to it. `clock`
-/// is read under a timeout alone. Out of memory is told in the answer: status MEMORY, exit status 32.
-pub fn run_sby<R: Threads + Wait + Sync, F: Files, S: Sink, Y: Yard, C: Clock>(
+// Does what the words ask.
+fn do_asked<R: Threads + Wait + Sync, F: Files, S: Sink, Y: Yard, C: Clock>(
     rt: &R,
     alloc: Global,
     words: &[String],
@@ -548,7 +547,6 @@ pub fn run_sby<R: Threads + Wait + Sync, F: Files, S: Sink, Y: Yard, C: Clock>(
     yard: &mut Y,
     clock: &C,
 ) -> Done
-    // The headline.
     ensures { Did (C.may_read clock.now)
         (world_at (F.told files.old) (F.faults files.old) (F.blamed files.old) (S.taken out.old) (S.faults out.old) (S.ended out.old) (yard_at (Y.told yard.old) (Y.started yard.old) (counts_at (Y.start_faults yard.old) (Y.read_faults yard.old) (Y.hold_faults yard.old))))
         (world_at (F.told files.new) (F.faults files.new) (F.blamed files.new) (S.taken out.new) (S.faults out.new) (S.ended out.new) (yard_at (Y.told yard.new) (Y.started yard.new) (counts_at (Y.start_faults yard.new) (Y.read_faults yard.new) (Y.hold_faults yard.new))))
@@ -570,4 +568,32 @@ pub fn run_sby<R: Threads + Wait + Sync, F: Files, S: Sink, Y: Yard, C: Clock>(
         Ok(None) => run_usage(alloc, out),
         Err(AllocError) => out_of_memory(alloc),
     }
+}
+
+/// Does all that the program `sby` does: `words` are its arguments, `files` and `out` the file store and the output that it uses. It
+/// answers the exit status, and what each task came to.
+///
+/// Served are all forms of words: `--judge` with stored streams, task files, `--gen` and `--dumptasks`. The jobs of a task file are raced
+/// by its engines, one lane for each, on threads of `rt`: their children are started in bays of `yard`, which all come back to it. `clock`
+/// is read under a timeout alone. Out of memory is told in the answer: status MEMORY, exit status 32.
+pub fn run_sby<R: Threads + Wait + Sync, F: Files, S: Sink, Y: Yard, C: Clock>(
+    rt: &R,
+    alloc: Global,
+    words: &[String],
+    files: &mut F,
+    out: &mut S,
+    yard: &mut Y,
+    clock: &C,
+) -> Done
+    // The headline: what the words ask was done, and what a reader of the output is promised, claim by claim.
+    ensures did { Did (C.may_read clock.now)
+        (world_at (F.told files.old) (F.faults files.old) (F.blamed files.old) (S.taken out.old) (S.faults out.old) (S.ended out.old) (yard_at (Y.told yard.old) (Y.started yard.old) (counts_at (Y.start_faults yard.old) (Y.read_faults yard.old) (Y.hold_faults yard.old))))
+        (world_at (F.told files.new) (F.faults files.new) (F.blamed files.new) (S.taken out.new) (S.faults out.new) (S.ended out.new) (yard_at (Y.told yard.new) (Y.started yard.new) (counts_at (Y.start_faults yard.new) (Y.read_faults yard.new) (Y.hold_faults yard.new))))
+        (map string_bytes words.now) result }
+    ensures promises { Promises (C.may_read clock.now)
+        (world_at (F.told files.old) (F.faults files.old) (F.blamed files.old) (S.taken out.old) (S.faults out.old) (S.ended out.old) (yard_at (Y.told yard.old) (Y.started yard.old) (counts_at (Y.start_faults yard.old) (Y.read_faults yard.old) (Y.hold_faults yard.old))))
+        (map string_bytes words.now) result }
+{
+    output_can_be_read(clock);
+    do_asked(rt, alloc, words, files, out, yard, clock)
 }

@@ -3,10 +3,10 @@ use Rattle.sby_top.proofs.EvidenceLemmas.{FileLaws}
 use Rattle.sby_top.proofs.laws.valid_child_gives_its_verdict.Goals as goal
 
 pub returns : goal.returns
-returns g c = λ before start finish words done task end engines lane script now file answer is judged bmc one service serving script_is none stands valid.
+returns g c = λ before moments words done task end engines lane script now file answer is judged bmc one service serving script_is none stands valid.
     let laws : FileLaws = record {
       solvable = c.files_tell_what_jobs_ask.ensures.solvable;
       sat = c.findings_tell_what_can_be_solved.ensures.sat;
       unsat = c.findings_tell_what_can_be_solved.ensures.unsat;
     } in
-    child_gives laws (g.C.Clock.may_read c.args.clock.now) is.place start finish task end is.exit engines lane script now file answer is.ran judged bmc one service serving script_is none stands valid
+    child_gives laws (g.C.Clock.may_read c.args.clock.now) is.place moments task end is.exit engines lane script now file answer is.ran judged bmc one service serving script_is none stands valid

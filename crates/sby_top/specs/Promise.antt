@@ -1,0 +1,72 @@
+-- What a call promises whoever reads its output, claim by claim.
+use Rattle.std.specs.Prelude.{◌≡◌, ◌≢◌, ℕ, List, Some, slice_get}
+use Rattle.design_core.specs.Shape.{DesignOf}
+use Rattle.design_meaning.specs.Claims.{NeverBreak, NoBreak}
+use Rattle.sby_terms.specs.declared.names.Mode.TheVariants.{Bmc, Cover, Prove}
+use Rattle.sby_terms.specs.declared.names.Status.{Status}
+use Rattle.sby_terms.specs.declared.names.Status.TheVariants.{Fail, Memory, Pass}
+use Rattle.sby_top.specs.Claims.{AllExpected, AreShownReaches, HasTold, IsDesignOf, IsEvent, IsHad, IsNamedUnreached, IsShownBreak, IsTaskOf}
+use Rattle.sby_top.specs.Task.{TaskOf}
+use Rattle.sby_top.specs.Turns.{Turn}
+use Rattle.sby_top.specs.World.{Moments, World}
+use Rattle.sby_top.specs.declared.outcome.Done.{Done}
+use Rattle.sby_top.specs.declared.outcome.TaskEnd.{TaskEnd}
+
+-- a claim holds of each task that the words ask and that was run, by its moments and its end
+abbrev pub OfTasks : (ℕ → Type 0) → World → List (List ℕ) → Done → (Moments → TaskOf → TaskEnd → Type 0) → Type 0
+OfTasks may_read before words done claim = (m : Moments) (task : TaskOf) (end : TaskEnd) → IsTaskOf may_read before words done m task end → claim m task end
+
+-- PASS of bmc: the text reads a flat design of which no run of more cycles than are skipped breaks an assertion within the depth.
+abbrev pub PassOfBmc : Moments → TaskOf → TaskEnd → Type 0
+PassOfBmc m task end = end.status ≡ Pass → task.request.mode ≡ Bmc → (d : DesignOf) × IsDesignOf m task end d × NoBreak d task.request.span.skip task.request.span.depth
+
+-- PASS of prove: the text reads a flat design of which no run breaks an assertion, whatever its length.
+abbrev pub PassOfProve : Moments → TaskOf → TaskEnd → Type 0
+PassOfProve m task end = end.status ≡ Pass → task.request.mode ≡ Prove → (d : DesignOf) × IsDesignOf m task end d × NeverBreak d
+
+-- PASS of cover: for each cover statement a run that reaches it was printed.
+abbrev pub PassOfCover : Moments → TaskOf → TaskEnd → Type 0
+PassOfCover m task end = end.status ≡ Pass → task.request.mode ≡ Cover → AreShownReaches m task end
+
+-- FAIL of bmc: a run was printed, all of its cycles assumed, whose last breaks the assertion that is named.
+abbrev pub FailOfBmc : Moments → TaskOf → TaskEnd → Type 0
+FailOfBmc m task end = end.status ≡ Fail → task.request.mode ≡ Bmc → IsShownBreak m task end
+
+-- FAIL of prove: as of bmc.
+abbrev pub FailOfProve : Moments → TaskOf → TaskEnd → Type 0
+FailOfProve m task end = end.status ≡ Fail → task.request.mode ≡ Prove → IsShownBreak m task end
+
+-- FAIL of cover: a statement was named that no run of at most the depth's cycles reaches.
+abbrev pub FailOfCover : Moments → TaskOf → TaskEnd → Type 0
+FailOfCover m task end = end.status ≡ Fail → task.request.mode ≡ Cover → IsNamedUnreached m task end
+
+-- The last line says the status: of a task, where the sink tells what it took, no call of it failed, and memory did not run out.
+abbrev pub LastLine : Moments → TaskOf → TaskEnd → Type 0
+LastLine m task end = (status : Status) (rc : ℕ) → end.status ≢ Memory → HasTold m task.request.name status rc → end.status ≡ status
+
+-- Each other status names its event: UNKNOWN, TIMEOUT and ERROR, by the ends of the jobs or the fault before the lanes.
+abbrev pub NamesItsEvent : (ℕ → Type 0) → World → List (List ℕ) → Done → Type 0
+NamesItsEvent may_read before words done =
+    (m : Moments) (task : TaskOf) (end : TaskEnd) → (is : IsTaskOf may_read before words done m task end) → IsEvent may_read is.place m task end end.status
+
+-- Each end is that of the turn at its place: of a task that the words ask, or of a fault that is told.
+abbrev pub EachEndIsHad : (ℕ → Type 0) → World → List (List ℕ) → Done → Type 0
+EachEndIsHad may_read before words done =
+    (place : ℕ) (end : TaskEnd) → slice_get done.ends.items place ≡ Some end → (m : Moments) × (turn : Turn) × (had : IsHad may_read before words done m turn end) × (had.place ≡ place)
+
+-- Exit status 0: all that the words ask ended as it expects.
+abbrev pub ZeroIsExpected : World → List (List ℕ) → Done → Type 0
+ZeroIsExpected before words done = done.rc ≡ 0 → AllExpected before words done
+
+-- what a call for these words promises, from the moment at which it began
+pub record Promises (may_read : ℕ → Type 0) (before : World) (words : List (List ℕ)) (done : Done) : Type 0 where
+  pub every_end : EachEndIsHad may_read before words done
+  pub pass_of_bmc : OfTasks may_read before words done PassOfBmc
+  pub pass_of_prove : OfTasks may_read before words done PassOfProve
+  pub pass_of_cover : OfTasks may_read before words done PassOfCover
+  pub fail_of_bmc : OfTasks may_read before words done FailOfBmc
+  pub fail_of_prove : OfTasks may_read before words done FailOfProve
+  pub fail_of_cover : OfTasks may_read before words done FailOfCover
+  pub other : NamesItsEvent may_read before words done
+  pub printed : OfTasks may_read before words done LastLine
+  pub exit_status : ZeroIsExpected before words done
