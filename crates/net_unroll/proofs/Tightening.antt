@@ -5,7 +5,7 @@ use Rattle.std.specs.List.{filter, flat_map}
 use Rattle.std.proofs.lemmas.Bool.{eqb-true}
 use Rattle.std.proofs.lemmas.List.{length-append, length-map}
 use Rattle.std.proofs.lemmas.List.Elements.{Contains-append_left}
-use Rattle.cnf_form.specs.Cnf.{Closure, LitOf, LitWithin, negate, propagated}
+use Rattle.cnf_form.specs.Cnf.{Assignment, Closure, LitOf, LitWithin, negate, propagated}
 use Rattle.cnf_form.specs.declared.literal.TheConstants.{MAX_VARS}
 use Rattle.gate_graph.specs.declared.gate.Gate.{Gate}
 use Rattle.gate_graph.specs.declared.gate.Gate.TheVariants.{And, Xor, Mux, Maj}
@@ -24,7 +24,7 @@ use Rattle.net_unroll.specs.Asking.{goal_of}
 use Rattle.net_unroll.specs.Encoding.{encoding, encoding_for, finished, formula_of, is_kept, made, made_for, number, renumbered, renumbered_entry, renumbered_free, renumbered_gate, vars_for}
 use Rattle.net_unroll.specs.Making.{MadeOf}
 use Rattle.net_unroll.specs.Program.{needed}
-use Rattle.net_unroll.specs.Promises.{AreDistinct, HasOrigins, IsBelow, IsFixedByUnit, Propagates, Tight}
+use Rattle.net_unroll.specs.Promises.{AreDistinct, HasOrigins, IsBelow, IsFixedByUnit, Propagates, Tight, told_by}
 use Rattle.net_unroll.specs.declared.asking.Asked.{Asked}
 use Rattle.net_unroll.specs.declared.asking.Cycles.{Cycles}
 use Rattle.net_unroll.specs.declared.encoded.Free.{Free}
@@ -32,7 +32,7 @@ use Rattle.net_unroll.proofs.Deciding.{free_apart, free_open, goal_within, kept_
 use Rattle.net_unroll.proofs.Finished.{closed, goal_kept, number_less, number_of, number_up, numbers_within, reads_below, truth_kept}
 use Rattle.net_unroll.proofs.Means.{IsWell, gate_vars, open_vars}
 use Rattle.net_unroll.proofs.Numbering.{number_few, number_some}
-use Rattle.net_unroll.proofs.Opening.{AreApart, pair, program_opened}
+use Rattle.net_unroll.proofs.Opening.{AreApart, pair, program_opened, told_is}
 use Rattle.net_unroll.proofs.Solving.{pairs, well}
 
 -- each stands once, by places
@@ -428,3 +428,11 @@ origins_law n a c net few = by (goal_of n a) refl few
               let s : goal ≡ g = cc in
               subst (λ (p : ℕ × ℕ). Contains (needed n g c p.0) p.1) (ap pair z) (subst (λ (b : LitOf). Contains (needed n b c h.cycle) h.place) s there);
         }
+
+-- a free variable tells its own bit
+pub told_once : (n : NetOf) (a : Asked) (c : Cycles) → IsNet n → made n a c ≤ MAX_VARS → (x : Assignment) (f : Free) → Contains (encoding n a c).free f → told_by x (encoding n a c).free f.cycle f.place ≡ x f.var
+told_once n a c net few x f = by (goal_of n a) refl few
+  where
+    by : (o : Option LitOf) → goal_of n a ≡ o → vars_for n c o ≤ MAX_VARS → Contains (encoding_for n c o).free f → told_by x (encoding_for n c o).free f.cycle f.place ≡ x f.var
+    by None e l i = absurd (none_in f i)
+    by (Some goal) e l i = told_is x (finished (made_for n goal c)).free f (free_apart n net goal (goal_within n a goal net e) c l) i
