@@ -175,6 +175,13 @@ same_below n need x y net one gates closed frame begun (suc b) v h p w d = by (k
         below o.var (omega arith) a (omega arith) (closed k g o at has c)) in
         subst (λ (u : ℕ). y u ≡ x u) (sym e) (frame.gates k g at ∙ bit_same y x g low ∙ sym (gates k g at has))
 
+pub some_frame : (n : NetOf) (x : Assignment) → IsNet n → (y : Assignment) × Frame n y × ((v : ℕ) → 1 < v → v < gate_var n 0 → y v ≡ x v)
+some_frame n x net = (evaluated n x, evaluated_frame n x net, λ v lo hi. evaluated_open n x v lo hi)
+
+pub one_frame : (n : NetOf) (x y : Assignment) → IsNet n → Frame n x → Frame n y → ((v : ℕ) → 1 < v → v < gate_var n 0 → x v ≡ y v) → (v : ℕ) → 0 < v → v ≤ vars n → x v ≡ y v
+one_frame n x y net f g same v p w =
+    sym (same_below n (λ _. true) x y net f.truth (λ k h at d. f.gates k h at) (λ k h o at d c. refl) g (λ u lo hi d. sym (same u lo hi)) (suc v) v (omega arith) p w refl)
+
 module _ (n : NetOf) (count : ℕ) (need : ℕ → ℕ → Bool) (rest xs : ℕ → Assignment) (net : IsNet n) (closed : IsNeed n count need) (part : PartWindow n count need xs) where
   abbrev chosen : ℕ → Assignment
   chosen t v = cond (need t v) (xs t v) (rest t v)

@@ -4,10 +4,16 @@ ghost use Rattle.std.specs.Prelude.{◌≡◌, ◌↔◌, ◌-◌, ◌<◌, ◌�
 ghost use Rattle.cnf_form.specs.Cnf.{Assignment, LitOf, LitWithin};
 ghost use Rattle.gate_graph.specs.declared.gate.Gate.{Gate};
 ghost use Rattle.gate_graph.specs.Folding.{operands};
-ghost use Rattle.bit_net.specs.Net.{IsNet, NetOf, Run, Starts, Window, gate_var, state_var, vars};
+ghost use Rattle.bit_net.specs.Net.{Frame, IsNet, NetOf, Run, Starts, Window, gate_var, state_var, vars};
 ghost use Rattle.bit_net.specs.Needs.{Extends, IsNeed, PartRun, PartWindow};
 ghost use Rattle.bit_net.specs.Reaching.{IsReach, is_needed, levels, nearer, reached};
 ghost use Rattle.bit_net.specs.declared.node.State.{State};
+
+/// Whatever the states and the inputs have, there is a cycle of the net in which they have it, and only one.
+pub fn every_choice_has_a_frame()
+    ensures some { (n : NetOf) (x : Assignment) → IsNet n → (y : Assignment) × Frame n y × ((v : ℕ) → 1 < v → v < gate_var n 0 → y v ≡ x v) }
+    ensures one { (n : NetOf) (x y : Assignment) → IsNet n → Frame n x → Frame n y → ((v : ℕ) → 1 < v → v < gate_var n 0 → x v ≡ y v) → (v : ℕ) → 0 < v → v ≤ vars n → x v ≡ y v }
+{}
 
 /// A window of the net is one of each part of it.
 pub fn windows_are_parts()

@@ -9,8 +9,8 @@ mod node;
 mod search;
 
 pub use laws::{
-    levels_are_needs, levels_are_parts, levels_are_reached, parts_extend, two_levels_are_needs,
-    windows_are_parts,
+    every_choice_has_a_frame, levels_are_needs, levels_are_parts, levels_are_reached, parts_extend,
+    two_levels_are_needs, windows_are_parts,
 };
 pub use levels::Levels;
 pub use net::Net;

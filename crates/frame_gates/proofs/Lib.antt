@@ -8,4 +8,5 @@ pub mod Framing
 pub mod Saying
 pub mod Choosing
 pub mod Filling
+pub mod Over
 pub mod Noding

@@ -4,7 +4,7 @@ use Rattle.cnf_form.specs.Cnf.{LitOf, Assignment, Satisfies, LitWithin, lit_in}
 use Rattle.gate_graph.specs.Circuit.{GatesOf, Continues}
 use Rattle.gate_graph.specs.Folding.{constant}
 use Rattle.model_core.specs.Shape.{ModelOf, IsDistinct, states}
-use Rattle.model_core.specs.Meaning.{Cycle, Window, Run}
+use Rattle.model_core.specs.Meaning.{Cycle, Frame, Window, Run}
 use Rattle.model_core.specs.Choices.{Agree, open_states}
 use Rattle.frame_gates.specs.declared.first.First.{First}
 use Rattle.frame_gates.specs.declared.first.First.TheVariants.{Start, Any}
@@ -62,3 +62,10 @@ pub record Adds (old new : GatesOf) (n : ℕ) : Type 0 where
 pub record Tells (g : GatesOf) (holds : Assignment → Type 0) (l : LitOf) : Type 0 where
   pub within : LitWithin g.formula.vars l
   pub means : (x : Assignment) → Satisfies x g.formula.clauses → (lit_in x l ≡ true) ↔ holds x
+
+-- A frame over literals that are there: the state bits have those of a row, and the inputs those of another.
+pub record IsFrameOver (m : ModelOf) (g : GatesOf) (bits ins table : List LitOf) : Type 0 where
+  pub is_table : IsTable m g table
+  pub states : lits_at table (states m) ≡ bits
+  pub inputs : lits_at table m.inputs ≡ ins
+  pub frame : (x : Assignment) → Satisfies x g.formula.clauses → Frame m (cycle_of table x)

@@ -3,13 +3,14 @@
 ghost use Rattle.std.specs.Prelude.{◌≡◌, ◌+◌, ◌*◌, ◌<◌, ◌++◌, ◌∷◌, [], true, false, All, IfOk, List, OnOk, length, ℕ};
 ghost use Rattle.cnf_form.specs.Cnf.{LitOf, LitWithin};
 ghost use Rattle.gate_graph.specs.Circuit.{Means};
-ghost use Rattle.gate_rows.specs.Literals.{Builds, IsFull};
-ghost use Rattle.model_core.specs.Meaning.{Assumed, Broken, Reached};
+ghost use Rattle.std.specs.List.{sum_by};
+ghost use Rattle.gate_rows.specs.Literals.{Builds, IsFull, MeansRow};
+ghost use Rattle.model_core.specs.Meaning.{Assumed, Broken, Reached, next_states as states_after};
 ghost use Rattle.model_core.specs.Served.{IsModel};
 ghost use Rattle.model_core.specs.Shape.{states};
-ghost use Rattle.frame_gates.specs.Costs.{frame_vars, next_gates};
-ghost use Rattle.frame_gates.specs.Frames.{Adds, AreFrames, IsTable, Opens, Tells, cycle_of, lit_at, lits_at, open_at};
-ghost use Rattle.frame_gates.specs.Steps.{IsFirstTable, IsFrame, IsOpen, MakesInputs, digits_of, without};
+ghost use Rattle.frame_gates.specs.Costs.{frame_vars, next_gates, node_gates};
+ghost use Rattle.frame_gates.specs.Frames.{Adds, AreFrames, IsFrameOver, IsTable, Opens, Tells, cycle_of, lit_at, lits_at, open_at};
+ghost use Rattle.frame_gates.specs.Steps.{IsFilled, IsFirstTable, IsFrame, IsOpen, MakesInputs, digits_of, without};
 
 use crate::first::First;
 use crate::nodes::run_nodes;
@@ -114,7 +115,75 @@ fn fill(
     Ok(())
 }
 
+// Gives the state bits and the inputs the literals of two rows, and the nodes' outputs what the nodes give.
+fn fill_over(
+    alloc: Global,
+    gates: &mut Gates,
+    model: &WordModel,
+    bits: &[Lit],
+    inputs: &[Lit],
+    words: &mut Words,
+    table: &mut [Lit],
+) -> Result<(), GateFault>
+    requires model { IsModel model.now }
+    requires table { IsTable model.now gates.old table.old }
+    requires bits { All (LitWithin gates.old.formula.vars) bits.now }
+    requires inputs { All (LitWithin gates.old.formula.vars) inputs.now }
+    requires as_many_bits { length bits.now ≡ length (states model.now) }
+    requires as_many_inputs { length inputs.now ≡ length model.now.inputs }
+    ensures filled { OnOk result (IsFilled model.now gates.new bits.now inputs.now table.old table.new) }
+    ensures builds { Builds gates.old gates.new (sum_by node_gates model.now.nodes) }
+    ensures too_many { result ≡ Err GateFault.TooMany → IsFull gates.old gates.new (sum_by node_gates model.now.nodes) }
+{
+    write_row(table, model.states(), bits);
+    write_row(table, model.inputs(), inputs);
+    run_nodes(alloc, gates, model, words, table)?;
+    Ok(())
+}
+
 impl Frames {
+    /// A frame over literals that are there: the state bits have those of `bits`, the inputs those of `inputs`, in the model's order.
+    pub fn over(
+        alloc: Global,
+        gates: &mut Gates,
+        model: &WordModel,
+        bits: &[Lit],
+        inputs: &[Lit],
+    ) -> Result<Frames, GateFault>
+        requires bits { All (LitWithin gates.old.formula.vars) bits.now }
+        requires inputs { All (LitWithin gates.old.formula.vars) inputs.now }
+        requires as_many_bits { length bits.now ≡ length (states model.now) }
+        requires as_many_inputs { length inputs.now ≡ length model.now.inputs }
+        ensures frame { IfOk result (IsFrameOver model.now gates.new bits.now inputs.now) }
+        ensures builds { IfOk result (λ _. Builds gates.old gates.new (sum_by node_gates model.now.nodes)) }
+        ensures too_many { result ≡ Err GateFault.TooMany → IsFull gates.old gates.new (sum_by node_gates model.now.nodes) }
+    {
+        let _ = model.size();
+        let mut table = new_table(alloc, gates, model)?;
+        let mut words = Words::new(alloc);
+        let lits = table.as_mut_slice();
+        fill_over(alloc, gates, model, bits, inputs, &mut words, lits)?;
+        Ok(Frames { table, words })
+    }
+
+    /// The literals that the state bits have in the cycle after the frame at hand, which stays at hand.
+    pub fn next_states(
+        &mut self,
+        alloc: Global,
+        gates: &mut Gates,
+        model: &WordModel,
+    ) -> Result<Vec<Lit>, GateFault>
+        requires table { IsTable model.now gates.old self.old }
+        ensures row { IfOk result (λ row. MeansRow gates.new (λ x. states_after model.now (cycle_of self.old x)) row.items) }
+        ensures same { self.new ≡ self.old }
+        ensures builds { Builds gates.old gates.new (next_gates model.now) }
+        ensures too_many { result ≡ Err GateFault.TooMany → IsFull gates.old gates.new (next_gates model.now) }
+    {
+        let _ = model.size();
+        let held = self.table.as_slice();
+        next_states(alloc, gates, model, &mut self.words, held)
+    }
+
     /// The first frame: one cycle from a start, or from any state.
     pub fn first(
         alloc: Global,

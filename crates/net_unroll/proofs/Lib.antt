@@ -2,3 +2,12 @@ pub mod Settling
 pub mod Stepping
 pub mod Numbering
 pub mod Bounding
+pub mod Means
+pub mod Ordered
+pub mod Walking
+pub mod Saying
+pub mod Finished
+pub mod Opening
+pub mod Solving
+pub mod Deciding
+pub mod Tightening

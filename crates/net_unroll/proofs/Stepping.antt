@@ -36,7 +36,7 @@ pub run_more : (m : MadeOf) (a b : List Step) → run m (a ++ b) ≡ run (run m 
 run_more m [] b = refl
 run_more m (s ∷ a) b = run_more (step m s) a b
 
-settled_grows : (c : CoreOf) (a : Asked) → c.vars ≤ (settled c a).0.vars
+pub settled_grows : (c : CoreOf) (a : Asked) → c.vars ≤ (settled c a).0.vars
 settled_grows c (Is l) = omega arith
 settled_grows c (Make k s) = by (found c.kept k)
   where

@@ -3,3 +3,4 @@ pub mod Program
 pub mod Making
 pub mod Encoding
 pub mod Finishing
+pub mod Promises

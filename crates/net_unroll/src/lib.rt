@@ -12,4 +12,8 @@ mod making;
 pub use asking::{Asked, Cycles};
 pub use encoded::Free;
 pub use encoding::{Encoded, TooMany, encode, encode_again};
-pub use laws::{nothing_asked_is_empty, what_is_made_is_bounded};
+pub use laws::{
+    assignments_tell_what_solves, encodings_tell_what_can_be_solved, formulas_are_tight,
+    free_variables_are_open_bits, free_variables_fix_all, nothing_asked_is_empty,
+    what_is_made_is_bounded,
+};

@@ -1,0 +1,2 @@
+pub mod NetOf
+pub mod Making
