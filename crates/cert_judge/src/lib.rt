@@ -2,6 +2,7 @@
 #![tactic(auto)]
 
 mod certificate;
+mod hinted;
 mod judging;
 mod laws;
 mod lines;
@@ -11,6 +12,10 @@ mod spot;
 mod stream;
 mod values;
 
+pub use hinted::{
+    found_fate_begins_hinted_certificate, found_hinted_fate_stays_before_more,
+    hinted_certificate_is_found, hinted_certificate_is_found_before_more,
+};
 pub use judging::Judge;
 pub use laws::{
     certificate_is_found, certificate_is_found_before_more, certificate_is_found_proof,

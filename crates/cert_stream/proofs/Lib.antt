@@ -23,6 +23,7 @@ pub mod Quiet
 pub mod Passing
 pub mod LratCutting
 pub mod LratFaults
+pub mod LratIds
 pub mod LratGoingOn
 pub mod LratKeeping
 pub mod LratLining

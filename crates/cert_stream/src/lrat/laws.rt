@@ -1,9 +1,10 @@
 // Laws of hinted streams in pieces.
 
-ghost use Rattle.std.specs.Prelude.{◌≡◌, ℕ, Bool, true, false, List, ◌++◌};
+ghost use Rattle.std.specs.Prelude.{◌≡◌, ◌⊎◌, ℕ, Bool, true, false, List, [], ◌∷◌, ◌++◌};
+ghost use Rattle.cert_stream.specs.Text.{is_blank};
 ghost use Rattle.cert_stream.specs.declared.mode.ParseFault.{ParseFault};
 ghost use Rattle.cert_stream.specs.LratMachine.{LratOf};
-ghost use Rattle.cert_stream.specs.LratTelling.{LratSaying, StandsFor, after, fresh, said, spoken};
+ghost use Rattle.cert_stream.specs.LratTelling.{IsUnknown, LratSaying, StandsFor, after, fresh, said, spoken};
 ghost use Rattle.cert_stream.specs.LratLines.{sayings};
 ghost use Rattle.cert_stream.specs.declared.lrat.mode.Mode.TheVariants.{Bad};
 
@@ -36,4 +37,14 @@ pub fn streams_say_lines()
 pub fn sayings_go_on()
     ensures goes_on { (vars : ℕ) (ended : Bool) (bytes rest : List ℕ) → (more : List LratSaying) × (sayings vars ended (bytes ++ rest) ≡ sayings vars false bytes ++ more) }
     ensures ends { (vars : ℕ) (bytes : List ℕ) → (more : List LratSaying) × (sayings vars true bytes ≡ sayings vars false bytes ++ more) }
+{}
+
+/// What a stream says that ends, its last line too, is said as well where a line feed follows, or white space, whatever comes
+/// then. Only UNKNOWN at the end needn't be: after white space its line may go on.
+#[tactic(auto, using(crate::proofs::LratGoingOn::sayings_fed, crate::proofs::LratGoingOn::sayings_parted))]
+pub fn sayings_stay_before_more()
+    ensures fed { (vars : ℕ) (bytes rest : List ℕ) → (more : List LratSaying) × (sayings vars false (bytes ++ 10 ∷ rest) ≡ sayings vars true bytes ++ more) }
+    ensures blank { (vars : ℕ) (bytes rest : List ℕ) (b : ℕ) → is_blank b ≡ true
+        → (said : List LratSaying) × (more : List LratSaying) × (sayings vars false (bytes ++ b ∷ rest) ≡ said ++ more)
+        × ((sayings vars true bytes ≡ said) ⊎ (sayings vars true bytes ≡ said ++ IsUnknown ∷ [])) }
 {}
