@@ -29,6 +29,6 @@ pub use outputs::{
     found_output_is_satisfiable, output_fate_so_far_is_the_fate, output_fates_stay,
     output_readings_go_on, outputs_are_read_by_lines, outputs_have_one_fate, proof_decides,
 };
-pub use spot::Spot;
+pub use spot::{AmidSpot, Spot};
 pub use stream::{BadCert, CertKind, Outcome, StreamKind, cert_kind};
 pub use values::Values;
