@@ -24,6 +24,9 @@ pub mod Passing
 pub mod LratCutting
 pub mod LratFaults
 pub mod LratIds
+pub mod LratGoing
+pub mod LratBeginnings
+pub mod LratQuiet
 pub mod LratGoingOn
 pub mod LratKeeping
 pub mod LratLining
