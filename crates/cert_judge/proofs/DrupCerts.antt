@@ -1,9 +1,8 @@
 -- A stream that is found to be a certificate begins with one.
 use Rattle.std.proofs.Common.{◌≡◌, ◌≢◌, ℕ, ◌+◌, ◌≤◌, Bool, true, false, ◌||◌, leb, eqb, List, [], ◌∷◌, ◌++◌, length, take, Some, refl, sym, ap, ◌∙◌, subst, inl, inr, arith, ◌⊎◌, append_assoc}
-use Rattle.std.specs.Prelude.{codes, slice_index, map, flat_map}
+use Rattle.std.specs.Prelude.{codes, slice_index, flat_map}
 use Rattle.std.proofs.lemmas.Bool.{cases_Bool, eqb-true, leb-false}
-use Rattle.std.proofs.lemmas.List.{append-nil, map-append, length_push, take-take, length-take}
-use Rattle.std.proofs.lemmas.Slice.Eq.{bytes_eq-Decides}
+use Rattle.std.proofs.lemmas.List.{append-nil, length_push}
 use Rattle.cnf_form.specs.Cnf.{LitOf, FormulaOf, Assignment, IsAdmitted, Satisfies}
 use Rattle.cert_stream.specs.Text.{Word, is_digit, literal_of, lines_of, words_from}
 use Rattle.cert_stream.specs.Scan.{Scanned, Reads, Misfit, scan}
@@ -22,28 +21,19 @@ use Rattle.sby_terms.specs.declared.names.Answer.{Answer}
 use Rattle.sby_terms.specs.declared.names.Answer.TheVariants.{Sat, Unsat}
 use Rattle.cert_judge.specs.Values.{named, named_from, unnamed}
 use Rattle.cert_judge.specs.Fate.{Found}
-use Rattle.cert_judge.specs.Drup.{Comes, ComesTo}
+use Rattle.cert_judge.specs.Drup.{BytesCome, Comes, ComesTo}
 use Rattle.cert_judge.specs.Kinds.{FateOf}
 use Rattle.cert_judge.specs.declared.stream.StreamKind.TheVariants.{Drup}
 use Rattle.cert_judge.specs.DrupCert.{words, lines, IsIdle, IsRemark, Writes, Leads, Names, IsCertOf}
-use Rattle.cert_judge.proofs.Bounding.{sides}
-use Rattle.cert_judge.proofs.Valuing.{named_append}
-use Rattle.cert_judge.proofs.DrupLines.{AreFull, cut, full, line_texts, texts, words_cut}
+use Rattle.cert_judge.proofs.Bounding.{begins_by}
+use Rattle.cert_judge.proofs.DrupLines.{AreFull, full, line_texts, texts}
+use Rattle.cert_judge.proofs.CertLines as upto
+use Rattle.cert_judge.proofs.CertLines.{Upto, names_more, names_remark, one_byte, unknown_words, upto_as, upto_cut, upto_later, upto_now, writes_more, writes_nothing}
 use Rattle.cert_judge.proofs.DrupAccepting.{none_heard_clause, none_heard_deletion}
 
 -- nothing is said, or a fault
 abbrev Nothing : List Saying → Type 0
 Nothing said = (said ≡ []) ⊎ ((k : ParseFaultKind) × (n : ℕ) × (said ≡ bad k n))
-
-writes_more : (vars : ℕ) (front : List (List ℕ)) (c : List LitOf) (w : List ℕ) (l : LitOf) → Writes vars front c → literal_of vars w ≡ Some l → Writes vars (front ++ w ∷ []) (c ++ l ∷ [])
-writes_more vars [] [] w l h e = (e, refl)
-writes_more vars [] (m ∷ c) w l h e = cc
-writes_more vars (v ∷ front) [] w l h e = absurd h
-writes_more vars (v ∷ front) (m ∷ c) w l h e = (h.0, writes_more vars front c w l h.1 e)
-
-writes_nothing : (vars : ℕ) (front : List (List ℕ)) → Writes vars front [] → front ≡ []
-writes_nothing vars [] h = refl
-writes_nothing vars (w ∷ front) h = absurd h
 
 module _ (vars : ℕ) (kind : ListKind) (counted : Bool) (unended more : List Saying) (place : ℕ) where
   -- what the words of a list, which are all these, say: its literals, and then nothing, what is said without a 0, or what its 0 says
@@ -114,32 +104,9 @@ module _ (vars : ℕ) (kind : ListKind) (counted : Bool) (unended more : List Sa
       (λ m r n. list_listed all (before ++ w.text ∷ []) (lits ++ m ∷ []) ws (e ∙ sym (append_assoc before (w.text ∷ []) (texts ws))) f.1 (writes_more vars before lits w.text m h r)
       (let k = length_push lits m in omega (arith, n, k)))
 
--- lines up to one's word 0, which are so
-abbrev Upto : (List (List (List ℕ)) → Type 0) → List (List ℕ) → Type 0
-Upto P ls =
-    (before : List (List ℕ)) × (t : List ℕ) × (after : List (List ℕ)) × (front : List (List ℕ)) × (more : List (List ℕ))
-    × (ls ≡ before ++ t ∷ after) × (words t ≡ front ++ codes "0" ∷ more) × P (map words before ++ (front ++ codes "0" ∷ []) ∷ [])
-
-upto_now : (P : List (List (List ℕ)) → Type 0) (t : List ℕ) (after : List (List ℕ)) (front more : List (List ℕ)) → words t ≡ front ++ codes "0" ∷ more
-    → P ((front ++ codes "0" ∷ []) ∷ []) → Upto P (t ∷ after)
-upto_now P t after front more e p = ([], t, after, front, more, refl, e, p)
-
-upto_later : (P Q : List (List (List ℕ)) → Type 0) (t : List ℕ) (ls : List (List ℕ)) → ((us : List (List (List ℕ))) → Q us → P (words t ∷ us)) → Upto Q ls → Upto P (t ∷ ls)
-upto_later P Q t ls step (before, u, after, front, more, e, z, q) = (t ∷ before, u, after, front, more, ap (λ k. t ∷ k) e, z, step (map words before ++ (front ++ codes "0" ∷ []) ∷ []) q)
-
-upto_as : (P Q : List (List (List ℕ)) → Type 0) (ls : List (List ℕ)) → ((us : List (List (List ℕ))) → Q us → P us) → Upto Q ls → Upto P ls
-upto_as P Q ls to (before, u, after, front, more, e, z, q) = (before, u, after, front, more, e, z, to (map words before ++ (front ++ codes "0" ∷ []) ∷ []) q)
-
--- a word of one byte
-one_byte : (text : List ℕ) (k : ℕ) → eqb (slice_index text 0) k ≡ true → eqb (length text) 1 ≡ true → text ≡ k ∷ []
-one_byte [] k f l = let e = eqb-true 0 1 l in cc
-one_byte (b ∷ []) k f l = let e : b ≡ k = eqb-true b k f in rw e refl
-one_byte (b ∷ c ∷ text) k f l = absurd (let e = eqb-true (length (b ∷ c ∷ text)) 1 l in omega (arith, e))
-
 module _ (vars : ℕ) (C : List (List LitOf)) where
-  -- lines of values that satisfy the clauses C
   abbrev NameLines : Assignment → List (List (List ℕ)) → Type 0
-  NameLines x ls = (values : List LitOf) × Names vars ls values × Satisfies (named_from x values) C
+  NameLines x ls = upto.NameLines vars C x ls
 
   -- lines that are a certificate
   abbrev CertLines : Assignment → List (List LitOf) → Answer → List (List (List ℕ)) → Type 0
@@ -147,15 +114,6 @@ module _ (vars : ℕ) (C : List (List LitOf)) where
   CertLines x F Sat ls =
       (proof : List (List (List ℕ))) × (last : List (List (List ℕ))) × (G : List (List LitOf)) × (values : List LitOf)
       × (ls ≡ proof ++ last) × Leads vars proof F G × Names vars last values × Satisfies (named_from x values) C
-
-  names_more : (x : Assignment) (ws : List (List ℕ)) (ls : List (List (List ℕ))) (rest : List (List ℕ)) (c : List LitOf) → ws ≡ codes "v" ∷ rest → Writes vars rest c → length c ≤ vars
-      → NameLines (named_from x c) ls → NameLines x (ws ∷ ls)
-  names_more x ws [] rest c e w l (values, n, s) = absurd n
-  names_more x ws (u ∷ us) rest c e w l (values, n, s) = (c ++ values, inr (rest, c, values, e, w, l, refl, n), subst (λ y. Satisfies y C) (sym (named_append x c values)) s)
-
-  names_remark : (x : Assignment) (ws : List (List ℕ)) (ls : List (List (List ℕ))) → IsRemark ws → NameLines x ls → NameLines x (ws ∷ ls)
-  names_remark x ws [] r (values, n, s) = absurd n
-  names_remark x ws (u ∷ us) r (values, n, s) = (values, inl (r, n), s)
 
   names_cert : (x : Assignment) (F : List (List LitOf)) (a : Answer) (ls : List (List (List ℕ))) → a ≡ Sat → NameLines x ls → CertLines x F a ls
   names_cert x F Unsat ls e n = cc
@@ -218,7 +176,7 @@ module _ (vars : ℕ) (C : List (List LitOf)) where
               | inr r ↦ elim r [
                 | inl (e, w, l) ↦
                     let n = amid (named_from x k.got) (subst (λ (z : List Saying). Finds F (named_from x k.got) z) e values_now) in
-                    (n.0, upto_later (NameLines x) (NameLines (named_from x k.got)) t ls (λ us m. names_more x (words t) us (texts vs) k.got v w l m) n.1)
+                    (n.0, upto_later (NameLines x) (NameLines (named_from x k.got)) t ls (λ us m. names_more vars C x (words t) us (texts vs) k.got v w l m) n.1)
                 | inr (front, rest, e, q, w, l) ↦ values_end front rest q w l (subst (λ (z : List Saying). Finds F (named_from x k.got) z) e values_now)
               ]
             ]
@@ -240,13 +198,13 @@ module _ (vars : ℕ) (C : List (List LitOf)) where
       amid_line : (ws : List Word) → texts ws ≡ words t → AreFull ws → Finds F x (line_says vars counted true broken going more ws) → NamesUpto x (t ∷ ls)
       amid_line [] e f h =
           let n = amid x h in
-          (n.0, upto_later (NameLines x) (NameLines x) t ls (λ us m. names_remark x (words t) us (subst IsRemark e tt) m) n.1)
+          (n.0, upto_later (NameLines x) (NameLines x) t ls (λ us m. names_remark vars C x (words t) us (subst IsRemark e tt) m) n.1)
       amid_line (w ∷ vs) e f h =
           elim (cases_Bool (eqb (slice_index w.text 0) 99)) [
             | inl c ↦
                 let g : Finds F x going = rw c at h in
                 let n = amid x g in
-                (n.0, upto_later (NameLines x) (NameLines x) t ls (λ us m. names_remark x (words t) us (subst IsRemark e (eqb-true (slice_index w.text 0) 99 c)) m) n.1)
+                (n.0, upto_later (NameLines x) (NameLines x) t ls (λ us m. names_remark vars C x (words t) us (subst IsRemark e (eqb-true (slice_index w.text 0) 99 c)) m) n.1)
             | inr c ↦ elim (cases_Bool (eqb (slice_index w.text 0) 118)) [
               | inl v ↦ values_first w vs e f v (rw (c, v) at h)
               | inr v ↦ absurd (fault_found F x BadLine w.place (rw (c, v) at h))
@@ -306,11 +264,6 @@ module _ (vars : ℕ) (C : List (List LitOf)) where
             ]
 
         module _ (whole : counted ≡ false → Finds F x more → ⊥) where
-          unknown_words : (ws : List Word) → texts ws ≡ codes "UNKNOWN" ∷ [] → is_unknown ws ≡ true
-          unknown_words [] h = cc
-          unknown_words (w ∷ []) h = (bytes_eq-Decides w.text (codes "UNKNOWN")).1 (let q : w.text ≡ codes "UNKNOWN" = cc in q)
-          unknown_words (w ∷ v ∷ ws) h = cc
-
           unknown_found : (ss : List Saying) → Finds F x (IsUnknown ∷ ss) → ⊥
           unknown_found ss h = cc
 
@@ -372,35 +325,14 @@ module _ (vars : ℕ) (C : List (List LitOf)) where
         (λ y k. amid_names ended (at + length t + 1) F y (u ∷ ts) k) (inr (BadLine, at + length t, refl)) (λ H k. comes_upto ended (at + length t + 1) H x (u ∷ ts) k) (λ c k. absurd (let q = c in cc))
         (words_from true at [] t) (line_texts true at t) (full true at [] t) h
 
-abbrev BeginsCert : FormulaOf → List ℕ → Answer → Type 0
-BeginsCert f s a = (n : ℕ) × (n ≤ length s) × IsCertOf f (take n s) a
+certifies : (f : FormulaOf) (s : List ℕ) (a : Answer) → CertLines f.vars f.clauses unnamed f.clauses a (lines s) → IsCertOf f s a
+certifies f s Unsat h = h
+certifies f s Sat h = h
 
-cert_of_lines : (f : FormulaOf) (s : List ℕ) (a : Answer) (ls : List (List (List ℕ))) → lines s ≡ ls → CertLines f.vars f.clauses unnamed f.clauses a ls → IsCertOf f s a
-cert_of_lines f s Unsat ls e (proof, G, g, k, d) = (proof, G, e ∙ g, k, d)
-cert_of_lines f s Sat ls e (proof, last, G, values, g, k, n, m) = (proof, last, G, values, e ∙ g, k, n, m)
-
-cert_found : (f : FormulaOf) (s : List ℕ) (ended : Bool) (a : Answer) → Comes f (sayings f.vars ended s) (Some (Found a)) → BeginsCert f s a
-cert_found f s ended a h = found (comes_upto f.vars f.clauses a ended 0 f.clauses unnamed (lines_of s) h)
-  where
-    found : CertUpto f.vars f.clauses a unnamed f.clauses (lines_of s) → BeginsCert f s a
-    found (before, t, after, front, more, e, z, certifies) =
-        let k = words_cut true 0 [] t front (codes "0") more z in
-        let c = cut s before k.0 k.1 after (e ∙ ap (λ u. before ++ u ∷ after) k.2) in
-        let l = ap (map words) c.2 ∙ map-append words before (k.0 ∷ []) ∙ ap (λ u. map words before ++ u ∷ []) k.3 in
-        (c.0, c.1, cert_of_lines f (take c.0 s) a (map words before ++ (front ++ codes "0" ∷ []) ∷ []) l certifies)
+cert_found : (f : FormulaOf) (a : Answer) (ended : Bool) (s : List ℕ) → Comes f (sayings f.vars ended s) (Some (Found a)) → (n : ℕ) × (n ≤ length s) × IsCertOf f (take n s) a
+cert_found f a ended s h =
+    let k = upto_cut (CertLines f.vars f.clauses unnamed f.clauses a) s (comes_upto f.vars f.clauses a ended 0 f.clauses unnamed (lines_of s) h) in
+    (k.0, k.1, certifies f (take k.0 s) a k.2)
 
 pub fate_cert : (f : FormulaOf) (s : List ℕ) (most : ℕ) (a : Answer) → FateOf Drup f s most (Found a) → (n : ℕ) × (n ≤ length s) × (n ≤ most) × IsCertOf f (take n s) a
-fate_cert f s most a h =
-    elim (sides (length s) most) [
-      | inl l ↦ elim (h.within l) [
-        | inl k ↦ let w = cert_found f s true a k in (w.0, w.1, omega (arith, w.1), w.2)
-        | inr (k, e) ↦ absurd (let g = e in cc)
-      ]
-      | inr l ↦ let so_far = h.beyond l in
-          elim (so_far.beyond l) [
-            | inl (x, k, e) ↦ let w = cert_found f (take most s) false a (subst (λ z. Comes f (sayings f.vars false (take most s)) z) (sym e) k) in
-                let n : w.0 ≤ most = omega (arith, w.1, length-take most s) in
-                (w.0, omega (arith, w.1, length-take most s), n, subst (λ z. IsCertOf f z a) (take-take w.0 most s n) w.2)
-            | inr (k, e) ↦ absurd (let g = e in cc)
-          ]
-    ]
+fate_cert f s most a h = begins_by (BytesCome f) most (λ t. IsCertOf f t a) a (λ ended t k. cert_found f a ended t k) s h

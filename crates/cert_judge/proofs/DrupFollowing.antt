@@ -1,5 +1,5 @@
 -- A certificate is found where white space or a line feed follows it.
-use Rattle.std.proofs.Common.{◌≡◌, ℕ, suc, ◌+◌, ◌-◌, ◌<◌, true, false, List, [], ◌∷◌, ◌++◌, length, take, Some, None, refl, sym, subst, inl, inr, arith, ◌⊎◌}
+use Rattle.std.proofs.Common.{◌≡◌, ℕ, suc, ◌+◌, ◌-◌, ◌<◌, Bool, true, false, List, [], ◌∷◌, ◌++◌, length, take, Option, Some, None, refl, sym, subst, inl, inr, arith, ◌⊎◌}
 use Rattle.std.proofs.Math.Seq.{take-append-add}
 use Rattle.cnf_form.specs.Cnf.{LitOf, FormulaOf, Assignment}
 use Rattle.cert_stream.specs.Text.{is_blank}
@@ -8,8 +8,8 @@ use Rattle.cert_stream.specs.Telling.{Saying, IsClause, IsDelete, IsValue, IsVal
 use Rattle.cert_stream.proofs.GoingOn.{sayings_fed, sayings_parted}
 use Rattle.sby_terms.specs.declared.names.Answer.{Answer}
 use Rattle.cert_judge.specs.Values.{named, unnamed}
-use Rattle.cert_judge.specs.Fate.{Found, Bad}
-use Rattle.cert_judge.specs.Drup.{Comes, ComesTo}
+use Rattle.cert_judge.specs.Fate.{Fate, FateBy, FateSoFarBy, Found, Bad}
+use Rattle.cert_judge.specs.Drup.{BytesCome, Comes, ComesTo}
 use Rattle.cert_judge.specs.Kinds.{FateSoFar, FateOf}
 use Rattle.cert_judge.specs.declared.stream.StreamKind.TheVariants.{Drup}
 use Rattle.cert_judge.specs.declared.stream.CertKind.TheVariants.{EarlyEnd}
@@ -28,8 +28,29 @@ found_before_unknown C F x answer (IsUnknown ∷ ss) h = h
 found_before_unknown C F x answer (IsFault f ∷ ss) h = h
 
 -- what ends a word
-abbrev IsSpace : ℕ → Type 0
+abbrev pub IsSpace : ℕ → Type 0
 IsSpace b = (is_blank b ≡ true) ⊎ (b ≡ 10)
+
+take_followed : (bytes rest : List ℕ) (b most : ℕ) → length bytes < most → (n : ℕ) × (take most (bytes ++ b ∷ rest) ≡ bytes ++ b ∷ take n rest)
+take_followed bytes rest b most l =
+    let n = most - (length bytes + 1) in
+    let e : length bytes + suc n ≡ most = omega (arith, l) in
+    (n, subst (λ k. take k (bytes ++ b ∷ rest) ≡ bytes ++ b ∷ take n rest) e (take-append-add bytes (b ∷ rest) (suc n)))
+
+-- whatever tells what bytes come to
+module _ (comes : Bool → List ℕ → Option Fate → Type 0) (answer : Answer)
+    (followed : (bytes rest : List ℕ) (b : ℕ) → IsSpace b → comes true bytes (Some (Found answer)) → comes false (bytes ++ b ∷ rest) (Some (Found answer))) where
+  pub followed_by : (bytes rest : List ℕ) (b most : ℕ) → IsSpace b → length bytes < most → FateBy comes bytes most (Found answer) → FateSoFarBy comes (bytes ++ b ∷ rest) most (Some (Found answer))
+  followed_by bytes rest b most s l fate = found (fate.within (omega (arith, l)))
+    where
+      found : comes true bytes (Some (Found answer)) ⊎ (comes true bytes None × (Found answer ≡ Bad EarlyEnd (length bytes))) → FateSoFarBy comes (bytes ++ b ∷ rest) most (Some (Found answer))
+      found (inr (h, e)) = absurd (let g = e in cc)
+      found (inl h) =
+          let w = take_followed bytes rest b most l in
+          record {
+            within = λ _. followed bytes rest b s h;
+            beyond = λ _. inl (Found answer, subst (λ z. comes false z (Some (Found answer))) (sym w.1) (followed bytes (take w.0 rest) b s h), refl);
+          }
 
 module _ (f : FormulaOf) (answer : Answer) where
   abbrev Finds : List Saying → Type 0
@@ -47,20 +68,5 @@ module _ (f : FormulaOf) (answer : Answer) where
       parted (said, more, e, inl q) = subst Finds (sym e) (comes_more f.clauses f.clauses unnamed said more (Found answer) (subst Finds q h))
       parted (said, more, e, inr q) = subst Finds (sym e) (comes_more f.clauses f.clauses unnamed said more (Found answer) (found_before_unknown f.clauses f.clauses unnamed answer said (subst Finds q h)))
 
-  take_followed : (bytes rest : List ℕ) (b most : ℕ) → length bytes < most → (n : ℕ) × (take most (bytes ++ b ∷ rest) ≡ bytes ++ b ∷ take n rest)
-  take_followed bytes rest b most l =
-      let n = most - (length bytes + 1) in
-      let e : length bytes + suc n ≡ most = omega (arith, l) in
-      (n, subst (λ k. take k (bytes ++ b ∷ rest) ≡ bytes ++ b ∷ take n rest) e (take-append-add bytes (b ∷ rest) (suc n)))
-
   pub fate_followed : (bytes rest : List ℕ) (b most : ℕ) → IsSpace b → length bytes < most → FateOf Drup f bytes most (Found answer) → FateSoFar Drup f (bytes ++ b ∷ rest) most (Some (Found answer))
-  fate_followed bytes rest b most s l fate = found (fate.within (omega (arith, l)))
-    where
-      found : Comes f (sayings f.vars true bytes) (Some (Found answer)) ⊎ (Comes f (sayings f.vars true bytes) None × (Found answer ≡ Bad EarlyEnd (length bytes))) → FateSoFar Drup f (bytes ++ b ∷ rest) most (Some (Found answer))
-      found (inr (h, e)) = absurd (let g = e in cc)
-      found (inl h) =
-          let w = take_followed bytes rest b most l in
-          record {
-            within = λ _. found_followed bytes rest b s h;
-            beyond = λ _. inl (Found answer, subst (λ z. Comes f (sayings f.vars false z) (Some (Found answer))) (sym w.1) (found_followed bytes (take w.0 rest) b s h), refl);
-          }
+  fate_followed bytes rest b most s l fate = followed_by (BytesCome f) answer found_followed bytes rest b most s l fate

@@ -20,8 +20,12 @@ pub mod FileEnd
 pub mod Pieces
 pub mod DrupFollowing
 pub mod DrupLines
+pub mod CertLines
 pub mod DrupAccepting
 pub mod DrupCerts
+pub mod LratCerts
+pub mod LratFollowing
+pub mod LratAccepting
 pub mod FilePrefixes
 pub mod OutputFeeding
 pub mod OutputReading

@@ -17,11 +17,11 @@ use Rattle.cert_judge.proofs.LratComing.{by_hints, refuted_first, satisfied}
 use Rattle.cert_judge.proofs.Valuing.{values_once, values_somewhere}
 
 -- what is said later changes no fate
-hints_more : (o : Option Hint) (A B : Type 0) (fate : Option Fate) → (A → B) → ByHints o A fate → ByHints o B fate
+pub hints_more : (o : Option Hint) (A B : Type 0) (fate : Option Fate) → (A → B) → ByHints o A fate → ByHints o B fate
 hints_more None A B fate g h = g h
 hints_more (Some i) A B fate g h = h
 
-tried_more : (live : Live) (lits : List LitOf) (hints : List Hint) (place : ℕ) (A B : Type 0) (fate : Option Fate) → (A → B) → HintsComeTo live lits hints place A fate → HintsComeTo live lits hints place B fate
+pub tried_more : (live : Live) (lits : List LitOf) (hints : List Hint) (place : ℕ) (A B : Type 0) (fate : Option Fate) → (A → B) → HintsComeTo live lits hints place A fate → HintsComeTo live lits hints place B fate
 tried_more live lits hints place A B fate g (inl h) = inl h
 tried_more live lits hints place A B fate g (inr (inl (a, n, h))) = inr (inl (a, n, g h))
 tried_more live lits hints place A B fate g (inr (inr h)) = inr (inr h)

@@ -1,5 +1,5 @@
 -- Where the proof file decides.
-use Rattle.std.proofs.Common.{◌≡◌, ℕ, ◌+◌, ◌≤◌, Bool, true, false, cond, ◌&&◌, ◌||◌, eqb, List, [], ◌∷◌, ◌++◌, length, map, Option, Some, None, refl, ap, sym, ◌∙◌, inl, inr, subst, arith}
+use Rattle.std.proofs.Common.{◌≡◌, ℕ, ◌+◌, ◌≤◌, Bool, true, false, cond, ◌&&◌, ◌||◌, eqb, leb, List, [], ◌∷◌, ◌++◌, length, map, Option, Some, None, refl, ap, sym, ◌∙◌, inl, inr, subst, arith}
 use Rattle.std.specs.Prelude.{slice_index}
 use Rattle.std.proofs.lemmas.Bool.{cases_Bool, eqb-true}
 use Rattle.std.proofs.lemmas.List.{length-append}
@@ -8,7 +8,7 @@ use Rattle.cnf_form.specs.Dimacs.{IsDimacs}
 use Rattle.cert_stream.specs.Stream.{bad, is_unknown, line_says, lines_say, sayings, visible_says}
 use Rattle.cert_stream.specs.Telling.{Saying, IsUnknown}
 use Rattle.cert_stream.specs.declared.mode.ParseFaultKind.TheVariants.{BadLine as BadLineFault}
-use Rattle.cert_stream.specs.Text.{NoFeed, Word, flush, is_blank, lines_of, put_first, words_from}
+use Rattle.cert_stream.specs.Text.{NoFeed, flush, is_blank, lines_of, put_first, words_from}
 use Rattle.cert_stream.proofs.Apart.{fed_lines}
 use Rattle.cert_stream.proofs.Streams.{some_line}
 use Rattle.cert_stream.proofs.Wording.{has_word, words_blank}
@@ -22,42 +22,13 @@ use Rattle.cert_judge.proofs.Bounding.{sides}
 use Rattle.cert_judge.proofs.KindFates.{within_so_far}
 use Rattle.cert_judge.specs.OutputFate.{IsOutputFate, IsOutputFateSoFar, own_fate}
 use Rattle.cert_judge.specs.Output.{any_unknown, any_values, claim_read, has_unknown, has_values, is_alone, is_claim, is_unknown_line, is_values_line, line_read, lines_read, stream_of}
-use Rattle.cert_judge.specs.Spots.{ends_word, given, given_at_end, given_by, next_spot, spot_after}
+use Rattle.cert_judge.specs.Spots.{amid_end, amid_given, amid_next, amid_unknown, ends_word, given, given_at_end, given_by, is_letter, is_values, next_spot, parted, spot_after}
+use Rattle.cert_judge.specs.declared.spot.AmidSpot.{AmidSpot}
+use Rattle.cert_judge.specs.declared.spot.AmidSpot.TheVariants.{Start as LineStart, Held as HeldHead, Within as InLine, Spelled, Whole, Passed}
 use Rattle.cert_judge.specs.declared.spot.Spot.{Spot}
-use Rattle.cert_judge.specs.declared.spot.Spot.TheVariants.{Start, Held, Within}
+use Rattle.cert_judge.specs.declared.spot.Spot.TheVariants.{Start, Held, Within, Amid}
 use Rattle.cert_judge.proofs.OutputFates.{IsLate, comes_late, so_far_late}
-use Rattle.cert_judge.proofs.OutputReading.{and_true, given_is, given_whole}
-
--- words with the same texts
-abbrev Alike : List Word → List Word → Type 0
-Alike [] [] = Unit {0}
-Alike [] (v ∷ vs) = ⊥
-Alike (w ∷ ws) [] = ⊥
-Alike (w ∷ ws) (v ∷ vs) = (w.text ≡ v.text) × Alike ws vs
-
-alike_flush : (d e : Bool) (a b : ℕ) (p : List ℕ) (ws vs : List Word) → Alike ws vs → Alike (flush d a p ++ ws) (flush e b p ++ vs)
-alike_flush d e a b [] ws vs h = h
-alike_flush d e a b (c ∷ q) ws vs h = (refl, h)
-
-alike_words : (d e : Bool) (a b : ℕ) (p bs : List ℕ) → Alike (words_from d a p bs) (words_from e b p bs)
-alike_words d e a b p [] = alike_flush d e a b p [] [] tt
-alike_words d e a b p (c ∷ cs) =
-    elim (cases_Bool (is_blank c)) [
-      | inl t ↦ rw t (alike_flush true true a b p (words_from d (a + 1) [] cs) (words_from e (b + 1) [] cs) (alike_words d e (a + 1) (b + 1) [] cs))
-      | inr f ↦ rw f (alike_words d e (a + 1) (b + 1) (p ++ c ∷ []) cs)
-    ]
-
-unknown_alike : (ws vs : List Word) → Alike ws vs → is_unknown ws ≡ is_unknown vs
-unknown_alike [] [] h = refl
-unknown_alike [] (v ∷ vs) h = absurd h
-unknown_alike (w ∷ ws) [] h = absurd h
-unknown_alike (w ∷ []) (v ∷ []) h = rw h.0 refl
-unknown_alike (w ∷ []) (v ∷ u ∷ vs) h = absurd h.1
-unknown_alike (w ∷ u ∷ ws) (v ∷ []) h = absurd h.1
-unknown_alike (w ∷ u ∷ ws) (v ∷ x ∷ vs) h = refl
-
-unknown_anywhere : (d : Bool) (a b : ℕ) (bs : List ℕ) → is_unknown (words_from d a [] bs) ≡ is_unknown (words_from true b [] bs)
-unknown_anywhere d a b bs = unknown_alike (words_from d a [] bs) (words_from true b [] bs) (alike_words d true a b [] bs)
+use Rattle.cert_judge.proofs.OutputReading.{and_true, given_is, given_whole, unknown_anywhere}
 
 module _ (vars : ℕ) (broken going more : List Saying) (fed : Bool) where
   abbrev says : ℕ → List ℕ → List Saying
@@ -78,13 +49,13 @@ module _ (vars : ℕ) (broken going more : List Saying) (fed : Bool) where
         | inl k ↦
             ap (λ z. says at (cond z 115 99 ∷ c ∷ cs)) k
             ∙ ap (λ z. line_says vars true false broken going more (cond z (flush true (at + 1) (115 ∷ []) ++ words_from fed (at + 1 + 1) [] cs) (words_from fed (at + 1 + 1) (115 ∷ c ∷ []) cs))) k
-            ∙ ap (λ z. unknown_or (z && true)) (unknown_anywhere fed (at + 1 + 1) (0 + 1) cs) ∙ ap unknown_or (and_true (is_unknown (words_from true (0 + 1) [] cs)))
+            ∙ ap (λ z. unknown_or (z && true)) (unknown_anywhere fed (at + 1 + 1) (0 + 1) [] cs) ∙ ap unknown_or (and_true (is_unknown (words_from true (0 + 1) [] cs)))
             ∙ sym (ap (λ z. unknown_or (z && is_unknown (cond z (flush true 0 [] ++ words_from true (0 + 1) [] cs) (words_from true (0 + 1) (c ∷ []) cs)))) k)
         | inr k ↦ ap (λ z. says at (cond z 115 99 ∷ c ∷ cs)) k ∙ comment_says at (c ∷ cs) ∙ sym (ap (λ z. unknown_or (z && is_unknown (words_from true 0 [] (c ∷ cs)))) k)
       ]
 
   abbrev Quiet : ℕ → List ℕ → Type 0
-  Quiet at t = says at (line_read true t) ≡ unknown_or (is_unknown_line t)
+  Quiet at t = says at (line_read true false t) ≡ unknown_or (is_unknown_line t)
 
   values_word : (at : ℕ) (bs : List ℕ) → is_alone bs ≡ false → Quiet at (118 ∷ bs)
   values_word at [] h = absurd (let k = h in cc)
@@ -96,8 +67,8 @@ module _ (vars : ℕ) (broken going more : List Saying) (fed : Bool) where
       let claims = eqb b 115 && (is_alone bs && is_unknown (words_from true 0 [] bs)) in
       elim (cases_Bool (is_blank b)) [
         | inl k ↦
-            ap (λ z. says at (cond z (b ∷ line_read true bs) (cond (is_claim b) (claim_read true b bs) (99 ∷ bs)))) k
-            ∙ ap (line_says vars true false broken going more) (words_blank fed at [] b (line_read true bs) k)
+            ap (λ z. says at (cond z (b ∷ line_read true false bs) (cond (is_claim b) (claim_read true b bs) (99 ∷ bs)))) k
+            ∙ ap (line_says vars true false broken going more) (words_blank fed at [] b (line_read true false bs) k)
             ∙ line_quiet (at + 1) bs (sym (ap (λ z. cond z (is_values_line bs) (eqb b 118 && is_alone bs)) k) ∙ h)
             ∙ sym (ap (λ z. unknown_or (cond z (is_unknown_line bs) claims)) k)
         | inr k ↦ elim (cases_Bool (eqb b 115)) [
@@ -105,7 +76,7 @@ module _ (vars : ℕ) (broken going more : List Saying) (fed : Bool) where
           | inr l ↦ elim (cases_Bool (eqb b 118)) [
             | inl m ↦ subst (λ z. Quiet at (z ∷ bs)) (sym (eqb-true b 118 m)) (values_word at bs (subst (λ z. is_values_line (z ∷ bs) ≡ false) (eqb-true b 118 m) h))
             | inr m ↦
-                ap (λ z. says at (cond z (b ∷ line_read true bs) (cond (is_claim b) (claim_read true b bs) (99 ∷ bs)))) k
+                ap (λ z. says at (cond z (b ∷ line_read true false bs) (cond (is_claim b) (claim_read true b bs) (99 ∷ bs)))) k
                 ∙ ap (λ z. says at (cond (z || eqb b 118) (claim_read true b bs) (99 ∷ bs))) l
                 ∙ ap (λ z. says at (cond z (claim_read true b bs) (99 ∷ bs))) m
                 ∙ comment_says at bs
@@ -123,13 +94,13 @@ both_false : (x y : Bool) → (x || y) ≡ false → (x ≡ false) × (y ≡ fal
 both_false true y e = absurd (let k = e in cc)
 both_false false y e = (refl, e)
 
-lines_quiet : (vars at : ℕ) (ts : List (List ℕ)) → any_values ts ≡ false → lines_say vars true false at (map (line_read true) ts) ≡ unknowns ts
+lines_quiet : (vars at : ℕ) (ts : List (List ℕ)) → any_values ts ≡ false → lines_say vars true false at (map (line_read true false) ts) ≡ unknowns ts
 lines_quiet vars at [] h = refl
 lines_quiet vars at (t ∷ []) h = line_quiet vars [] [] [] false at t (both_false (is_values_line t) false h).0
 lines_quiet vars at (t ∷ u ∷ ts) h =
     let p = both_false (is_values_line t) (any_values (u ∷ ts)) h in
-    let next : ℕ = at + length (line_read true t) + 1 in
-    line_quiet vars (bad BadLineFault (at + length (line_read true t))) (lines_say vars true true next (map (line_read true) (u ∷ ts))) (lines_say vars true false next (map (line_read true) (u ∷ ts))) true at t p.0
+    let next : ℕ = at + length (line_read true false t) + 1 in
+    line_quiet vars (bad BadLineFault (at + length (line_read true false t))) (lines_say vars true true next (map (line_read true false) (u ∷ ts))) (lines_say vars true false next (map (line_read true false) (u ∷ ts))) true at t p.0
     ∙ ap (λ z. cond (is_unknown_line t) (IsUnknown ∷ z) z) (lines_quiet vars next (u ∷ ts) p.1)
 
 -- lines have no line feed, and are read as such
@@ -149,7 +120,7 @@ claim_unfed : (b : ℕ) (bs : List ℕ) → eqb b 10 ≡ false → NoFeed bs →
 claim_unfed b [] f h = (f, tt)
 claim_unfed b (c ∷ cs) f h = elim (cases_Bool (is_blank c)) [ inl k ↦ rw k (f, h) | inr k ↦ rw k (refl, h) ]
 
-line_unfed : (t : List ℕ) → NoFeed t → NoFeed (line_read true t)
+line_unfed : (t : List ℕ) → NoFeed t → NoFeed (line_read true false t)
 line_unfed [] h = tt
 line_unfed (b ∷ bs) (f, h) =
     elim (cases_Bool (is_blank b)) [
@@ -161,34 +132,89 @@ last_line : (t : List ℕ) → NoFeed t → lines_of t ≡ t ∷ []
 last_line [] h = refl
 last_line (b ∷ bs) (f, h) = rw f (ap (put_first b) (last_line bs h))
 
-lines_again : (t : List ℕ) (ts : List (List ℕ)) → AreUnfed (t ∷ ts) → lines_of (lines_read true (t ∷ ts)) ≡ map (line_read true) (t ∷ ts)
-lines_again t [] h = last_line (line_read true t) (line_unfed t h.0)
-lines_again t (u ∷ ts) h = fed_lines (line_read true t) (lines_read true (u ∷ ts)) (line_unfed t h.0) ∙ ap (λ z. line_read true t ∷ z) (lines_again u ts h.1)
+lines_again : (t : List ℕ) (ts : List (List ℕ)) → AreUnfed (t ∷ ts) → any_values (t ∷ ts) ≡ false → lines_of (lines_read true false (t ∷ ts)) ≡ map (line_read true false) (t ∷ ts)
+lines_again t [] h v = last_line (line_read true false t) (line_unfed t h.0)
+lines_again t (u ∷ ts) h v =
+    let p = both_false (is_values_line t) (any_values (u ∷ ts)) v in
+    ap (λ z. lines_of (line_read true false t ++ 10 ∷ lines_read true z (u ∷ ts))) p.0
+    ∙ fed_lines (line_read true false t) (lines_read true false (u ∷ ts)) (line_unfed t h.0) ∙ ap (λ z. line_read true false t ∷ z) (lines_again u ts h.1 p.1)
 
-stream_lines : (bytes : List ℕ) → lines_of (stream_of true bytes) ≡ map (line_read true) (lines_of bytes)
-stream_lines bytes =
+stream_lines : (bytes : List ℕ) → has_values bytes ≡ false → lines_of (stream_of true bytes) ≡ map (line_read true false) (lines_of bytes)
+stream_lines bytes v =
     let w = some_line bytes in
-    ap (λ z. lines_of (lines_read true z)) w.2 ∙ lines_again w.0 w.1 (subst AreUnfed w.2 (lines_unfed bytes)) ∙ ap (map (line_read true)) (sym w.2)
+    ap (λ z. lines_of (lines_read true false z)) w.2 ∙ lines_again w.0 w.1 (subst AreUnfed w.2 (lines_unfed bytes)) (ap any_values (sym w.2) ∙ v) ∙ ap (map (line_read true false)) (sym w.2)
 
 stream_quiet : (vars : ℕ) (bytes : List ℕ) → has_values bytes ≡ false → sayings vars true (stream_of true bytes) ≡ unknowns (lines_of bytes)
-stream_quiet vars bytes h = ap (lines_say vars true false 0) (stream_lines bytes) ∙ lines_quiet vars 0 (lines_of bytes) h
+stream_quiet vars bytes h = ap (lines_say vars true false 0) (stream_lines bytes h) ∙ lines_quiet vars 0 (lines_of bytes) h
 
 -- as many bytes are read
+abbrev amid_held : AmidSpot → ℕ
+amid_held LineStart = 0
+amid_held (HeldHead head) = 1
+amid_held InLine = 0
+amid_held (Spelled n) = 0
+amid_held Whole = 0
+amid_held Passed = 0
+
 abbrev held : Spot → ℕ
 held Start = 0
 held (Held head) = 1
 held Within = 0
+held (Amid spot) = amid_held spot
+
+parted_held : (n : ℕ) → amid_held (parted n) ≡ 0
+parted_held n =
+    elim (cases_Bool (eqb n 0)) [
+      | inl z ↦ rw z refl
+      | inr z ↦ elim (cases_Bool (leb 7 n)) [ inl l ↦ rw (z, l) refl | inr l ↦ rw (z, l) refl ]
+    ]
+
+amid_length : (spot : AmidSpot) (b : ℕ) → length (amid_given spot b) + amid_held (amid_next spot b) ≡ amid_held spot + 1
+amid_length LineStart b =
+    elim (cases_Bool (is_blank b)) [ inl k ↦ rw k refl | inr k ↦ elim (cases_Bool (is_claim b)) [ inl l ↦ rw (k, l) refl | inr l ↦ rw (k, l) refl ] ]
+amid_length (HeldHead head) b = elim (cases_Bool (eqb head 115 && is_blank b)) [ inl k ↦ rw k refl | inr k ↦ rw k refl ]
+amid_length InLine b = refl
+amid_length (Spelled n) b =
+    elim (cases_Bool (is_blank b)) [
+      | inl k ↦ rw k (ap (λ z. 1 + z) (parted_held n))
+      | inr k ↦ elim (cases_Bool (is_letter n b)) [ inl l ↦ rw (k, l) refl | inr l ↦ rw (k, l) refl ]
+    ]
+amid_length Whole b = elim (cases_Bool (is_blank b)) [ inl k ↦ rw k refl | inr k ↦ rw k refl ]
+amid_length Passed b = refl
+
+fed_length : (spot : AmidSpot) (c : ℕ) → length (amid_end spot ++ c ∷ []) + 0 ≡ amid_held spot + 1
+fed_length LineStart c = refl
+fed_length (HeldHead head) c = refl
+fed_length InLine c = refl
+fed_length (Spelled n) c = refl
+fed_length Whole c = refl
+fed_length Passed c = refl
 
 byte_length : (spot : Spot) (b : ℕ) → length (given_by spot b) + held (next_spot spot b) ≡ held spot + 1
 byte_length Start b =
     elim (cases_Bool (ends_word b)) [ inl k ↦ rw k refl | inr k ↦ elim (cases_Bool (is_claim b)) [ inl l ↦ rw (k, l) refl | inr l ↦ rw (k, l) refl ] ]
-byte_length (Held head) b = elim (cases_Bool (eqb b 10)) [ inl k ↦ rw k refl | inr k ↦ rw k refl ]
+byte_length (Held head) b =
+    elim (cases_Bool (eqb b 10)) [
+      | inl k ↦ elim (cases_Bool (is_values head)) [ inl l ↦ rw (k, l) refl | inr l ↦ rw (k, l) refl ]
+      | inr k ↦ elim (cases_Bool (is_values head && is_blank b)) [ inl l ↦ rw (k, l) refl | inr l ↦ rw (k, l) refl ]
+    ]
 byte_length Within b = elim (cases_Bool (eqb b 10)) [ inl k ↦ rw k refl | inr k ↦ rw k refl ]
+byte_length (Amid spot) b =
+    elim (cases_Bool (eqb b 10)) [ inl k ↦ rw k (fed_length spot (cond (amid_unknown spot) 115 10)) | inr k ↦ rw k (amid_length spot b) ]
+
+amid_rest : (spot : AmidSpot) → length (amid_end spot) ≡ amid_held spot
+amid_rest LineStart = refl
+amid_rest (HeldHead head) = refl
+amid_rest InLine = refl
+amid_rest (Spelled n) = refl
+amid_rest Whole = refl
+amid_rest Passed = refl
 
 all_length : (spot : Spot) (bytes : List ℕ) → length (given spot bytes) + length (given_at_end (spot_after spot bytes)) ≡ held spot + length bytes
 all_length Start [] = refl
 all_length (Held head) [] = refl
 all_length Within [] = refl
+all_length (Amid spot) [] = let e = amid_rest spot in omega (arith, e)
 all_length spot (b ∷ bs) =
     let p = length-append (given_by spot b) (given (next_spot spot b) bs) in
     let q = byte_length spot b in
@@ -206,6 +232,12 @@ held_one : (spot : Spot) → length (given_at_end spot) ≤ 1
 held_one Start = omega arith
 held_one (Held head) = omega arith
 held_one Within = omega arith
+held_one (Amid LineStart) = omega arith
+held_one (Amid (HeldHead head)) = omega arith
+held_one (Amid InLine) = omega arith
+held_one (Amid (Spelled n)) = omega arith
+held_one (Amid Whole) = omega arith
+held_one (Amid Passed) = omega arith
 
 -- bytes that have no fate yet are, but for one that is held, no more than are taken
 pub output_within : (job bytes : List ℕ) (most : ℕ) → IsOutputFateSoFar job bytes most None → length bytes ≤ most + 1

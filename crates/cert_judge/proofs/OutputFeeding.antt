@@ -4,9 +4,10 @@ use Rattle.std.proofs.lemmas.List.{append-nil, take_rest}
 use Rattle.cert_stream.specs.Text.{NoFeed}
 use Rattle.cert_judge.specs.Judging.{JudgeOf, Stands as StreamStands, outcome_of}
 use Rattle.cert_judge.specs.OutputJudging.{Gave, Goes, OutputOf}
-use Rattle.cert_judge.specs.Spots.{given, given_by, next_spot, spot_after, values_after, values_behind}
+use Rattle.cert_judge.specs.Spots.{IsWithin, given, given_by, next_spot, spot_after, values_after, values_behind}
 use Rattle.cert_judge.specs.declared.spot.Spot.{Spot}
-use Rattle.cert_judge.specs.declared.spot.Spot.TheVariants.{Within}
+use Rattle.cert_judge.specs.declared.spot.AmidSpot.TheVariants.{Start as LineStart, Held as HeldHead, Within as InLine, Spelled, Whole, Passed}
+use Rattle.cert_judge.specs.declared.spot.Spot.TheVariants.{Start, Held, Within, Amid}
 
 -- bytes after others
 pub spot_append : (spot : Spot) (a b : List ℕ) → spot_after spot (a ++ b) ≡ spot_after (spot_after spot a) b
@@ -21,28 +22,30 @@ pub given_append : (spot : Spot) (a b : List ℕ) → given spot (a ++ b) ≡ gi
 given_append spot [] b = refl
 given_append spot (x ∷ a) b = ap (λ z. given_by spot x ++ z) (given_append (next_spot spot x) a b) ∙ sym (append_assoc (given_by spot x) (given (next_spot spot x) a) (given (spot_after (next_spot spot x) a) b))
 
--- bytes within a line
-within_given : (t : List ℕ) → NoFeed t → given Within t ≡ t
-within_given [] h = refl
-within_given (b ∷ bs) (f, h) = rw f (ap (λ z. b ∷ z) (within_given bs h))
-
-within_spot : (t : List ℕ) → NoFeed t → spot_after Within t ≡ Within
-within_spot [] h = refl
-within_spot (b ∷ bs) (f, h) = rw f (within_spot bs h)
-
-within_values : (t : List ℕ) (values : Bool) → NoFeed t → values_after Within values t ≡ values
-within_values [] values h = refl
-within_values (b ∷ bs) values (f, h) = rw f (within_values bs values h)
+-- bytes within a line that is handed on as it is
+within_given : (spot : Spot) (t : List ℕ) → IsWithin spot → NoFeed t → (given spot t ≡ t) × (spot_after spot t ≡ spot) × ((values : Bool) → values_after spot values t ≡ values)
+within_given spot [] i h = (refl, refl, λ values. refl)
+within_given Start (b ∷ bs) i h = absurd i
+within_given (Held head) (b ∷ bs) i h = absurd i
+within_given Within (b ∷ bs) i (f, h) =
+    let w = within_given Within bs tt h in
+    rw f (ap (λ z. b ∷ z) w.0, w.1, w.2)
+within_given (Amid LineStart) (b ∷ bs) i h = absurd i
+within_given (Amid (HeldHead head)) (b ∷ bs) i h = absurd i
+within_given (Amid InLine) (b ∷ bs) i (f, h) =
+    let w = within_given (Amid InLine) bs tt h in
+    rw f (ap (λ z. b ∷ z) w.0, w.1, w.2)
+within_given (Amid (Spelled n)) (b ∷ bs) i h = absurd i
+within_given (Amid Whole) (b ∷ bs) i h = absurd i
+within_given (Amid Passed) (b ∷ bs) i h = absurd i
 
 abbrev pub output : JudgeOf → Spot → Bool → OutputOf
 output j spot values = record { judge = j; spot = spot; values = values }
 
-pub goes_within : (j k : JudgeOf) (spot : Spot) (values : Bool) (t : List ℕ) → spot ≡ Within → NoFeed t → Gave j t k → Goes (output j spot values) t (output k spot values)
-goes_within j k spot values t e h g = rw e (record {
-  gave = subst (λ z. Gave j z k) (sym (within_given t h)) g;
-  spot = sym (within_spot t h);
-  values = sym (within_values t values h);
-})
+pub goes_within : (j k : JudgeOf) (spot : Spot) (values : Bool) (t : List ℕ) → IsWithin spot → NoFeed t → Gave j t k → Goes (output j spot values) t (output k spot values)
+goes_within j k spot values t i h g =
+    let w = within_given spot t i h in
+    record { gave = subst (λ z. Gave j z k) (sym w.0) g; spot = sym w.1; values = sym (w.2 values) }
 
 -- nothing
 pub gave_nothing : (j : JudgeOf) → Gave j [] j

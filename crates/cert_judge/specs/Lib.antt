@@ -13,6 +13,7 @@ pub mod Leading
 pub mod Lines
 pub mod Judging
 pub mod DrupCert
+pub mod LratCert
 pub mod Output
 pub mod Spots
 pub mod OutputFate

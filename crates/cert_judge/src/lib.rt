@@ -2,6 +2,7 @@
 #![tactic(auto)]
 
 mod certificate;
+mod hinted;
 mod judging;
 mod laws;
 mod lines;
@@ -11,6 +12,10 @@ mod spot;
 mod stream;
 mod values;
 
+pub use hinted::{
+    found_fate_begins_hinted_certificate, found_hinted_fate_stays_before_more,
+    hinted_certificate_is_found, hinted_certificate_is_found_before_more,
+};
 pub use judging::Judge;
 pub use laws::{
     certificate_is_found, certificate_is_found_before_more, certificate_is_found_proof,
@@ -24,6 +29,6 @@ pub use outputs::{
     found_output_is_satisfiable, output_fate_so_far_is_the_fate, output_fates_stay,
     output_readings_go_on, outputs_are_read_by_lines, outputs_have_one_fate, proof_decides,
 };
-pub use spot::Spot;
+pub use spot::{AmidSpot, Spot};
 pub use stream::{BadCert, CertKind, Outcome, StreamKind, cert_kind};
 pub use values::Values;

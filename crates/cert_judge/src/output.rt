@@ -6,12 +6,15 @@ ghost use Rattle.cert_judge.specs.Judging.{IsSameJudge, bits_of, formula_of, out
 ghost use Rattle.cert_judge.specs.Outcomes.{fate_of, fate_told};
 ghost use Rattle.cert_judge.specs.OutputFate.{own_fate};
 ghost use Rattle.cert_judge.specs.OutputJudging.{Ends, Feeds, Gave, Goes, OutputOf, Stands};
-ghost use Rattle.cert_judge.specs.Spots.{given_at_end, given_by, values_at_end};
-ghost use Rattle.cert_judge.specs.declared.spot.Spot.TheVariants.{Start, Held, Within};
+ghost use Rattle.cert_judge.specs.Spots.{amid_given, given_at_end, given_by, values_at_end};
+ghost use Rattle.cert_judge.specs.declared.spot.Spot.TheVariants.{Start, Held, Within, Amid};
 ghost use Rattle.cert_judge.specs.declared.stream.Outcome.{Outcome};
 
 use crate::judging::Judge;
-use crate::spot::{Spot, ends_word, head_given, is_claim, next_spot, values_at_end, values_behind};
+use crate::spot::{
+    AmidSpot, Spot, amid_feed, amid_head, ends_word, head_given, is_blank, is_claim, is_within,
+    next_spot, values_at_end, values_behind,
+};
 use crate::stream::{CertKind, Outcome, StreamKind};
 use cnf_form::Formula;
 use memchr::memchr;
@@ -19,7 +22,7 @@ use std::alloc::{AllocError, Global};
 use std::marker::Model;
 
 /// A judge of the standard output of a solver that leaves a proof file. It keeps no earlier bytes, and passes over every line that is
-/// neither one of values nor a status line.
+/// neither one of values nor s UNKNOWN.
 #[derive(Drop)]
 pub struct OutputJudge<'a> {
     judge: Judge<'a>,
@@ -73,6 +76,33 @@ fn give_start(judge: &mut Judge, b: u8) -> Result<(), AllocError>
     }
 }
 
+// Amid values, hands on what a line feed gives.
+fn give_amid_feed(judge: &mut Judge, spot: AmidSpot) -> Result<(), AllocError>
+    ensures gave { IfOk result (λ _. Gave judge.old (given_by (Amid spot) 10) judge.new) }
+    ensures err { OnErr result (judge.new.wanting ≡ true) }
+{
+    match spot {
+        AmidSpot::Held(head) => give(judge, &[amid_head(head), b'\n']),
+        _ => give(judge, &[amid_feed(spot)]),
+    }
+}
+
+// And what another byte gives.
+fn give_amid(judge: &mut Judge, spot: AmidSpot, b: u8) -> Result<(), AllocError>
+    ensures gave { IfOk result (λ _. Gave judge.old (amid_given spot b) judge.new) }
+    ensures err { OnErr result (judge.new.wanting ≡ true) }
+{
+    match spot {
+        AmidSpot::Start if is_blank(b) => give(judge, &[b]),
+        AmidSpot::Start if is_claim(b) => give(judge, &[]),
+        AmidSpot::Start => give(judge, b"c"),
+        AmidSpot::Held(head) if head == b's' && is_blank(b) => give(judge, b"  "),
+        AmidSpot::Held(head) => give(judge, &[head_given(head, b), b]),
+        AmidSpot::Within => give(judge, &[b]),
+        AmidSpot::Spelled(_) | AmidSpot::Whole | AmidSpot::Passed => give(judge, b" "),
+    }
+}
+
 // Hands on what a byte gives.
 fn give_byte(judge: &mut Judge, spot: Spot, b: u8) -> Result<(), AllocError>
     ensures gave { IfOk result (λ _. Gave judge.old (given_by spot b) judge.new) }
@@ -82,6 +112,8 @@ fn give_byte(judge: &mut Judge, spot: Spot, b: u8) -> Result<(), AllocError>
         Spot::Start => give_start(judge, b),
         Spot::Held(head) => give(judge, &[head_given(head, b), b]),
         Spot::Within => give(judge, &[b]),
+        Spot::Amid(amid) if b == b'\n' => give_amid_feed(judge, amid),
+        Spot::Amid(amid) => give_amid(judge, amid, b),
     }
 }
 
@@ -92,7 +124,8 @@ fn give_end(judge: &mut Judge, spot: Spot) -> Result<(), AllocError>
 {
     match spot {
         Spot::Held(head) => give(judge, &[head]),
-        Spot::Start | Spot::Within => give(judge, &[]),
+        Spot::Amid(AmidSpot::Held(head)) => give(judge, &[amid_head(head)]),
+        Spot::Start | Spot::Within | Spot::Amid(_) => give(judge, &[]),
     }
 }
 
@@ -129,9 +162,9 @@ impl<'a> OutputJudge<'a> {
         ensures goes { IfOk result (λ count. Goes self.old (take count bytes.now) self.new) }
         ensures err { OnErr result (self.new.judge.wanting ≡ true) }
     {
-        let Spot::Within = self.spot else {
+        if !is_within(self.spot) {
             return Ok(0);
-        };
+        }
         let count = before_feed(bytes);
         give(&mut self.judge, &bytes[..count])?;
         Ok(count)
@@ -163,7 +196,7 @@ impl<'a> OutputJudge<'a> {
     }
 
     /// Takes a piece of the output, and answers the fate of all bytes so far, however they were cut, or nothing where there is none
-    /// yet. A line that is neither one of values nor a status line is passed over, whatever it holds.
+    /// yet. A line that is neither one of values nor s UNKNOWN is passed over, whatever it holds; s UNKNOWN amid values is at fault.
     ///
     /// An outcome is answered again by every later call, and out of memory too.
     pub fn feed(&mut self, piece: &[u8]) -> Result<Option<Outcome>, AllocError>

@@ -133,7 +133,7 @@ module _ (vars : ℕ) where
           let a : (r.front ++ r.byte ∷ []) ++ r.rest ≡ text = append_assoc r.front (r.byte ∷ []) r.rest ∙ sym r.are in
           absurd (r.past (r.rest, inr (f, l, ap (literal_of vars) a ∙ e)))
 
-  zero_read : (full : Bool) (text : List ℕ) → text ≡ codes "0" → scan vars full Gap text ≡ Reads Zero
+  pub zero_read : (full : Bool) (text : List ℕ) → text ≡ codes "0" → scan vars full Gap text ≡ Reads Zero
   zero_read full text e = ap (scan vars full Gap) e
 
   -- a list's words; its 0 counts
@@ -171,7 +171,7 @@ clause_byte b h =
           (u, v, x, y)
     ]
 
-literal_byte : (vars : ℕ) (text : List ℕ) (l : LitOf) → literal_of vars text ≡ Some l → (eqb (slice_index text 0) 45 || is_digit (slice_index text 0)) ≡ true
+pub literal_byte : (vars : ℕ) (text : List ℕ) (l : LitOf) → literal_of vars text ≡ Some l → (eqb (slice_index text 0) 45 || is_digit (slice_index text 0)) ≡ true
 literal_byte vars [] l h = cc
 literal_byte vars (b ∷ bs) l h =
     elim (cases_Bool (eqb b 45)) [

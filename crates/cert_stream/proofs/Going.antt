@@ -124,7 +124,7 @@ digit_moves w kind negated n b =
       | inr f ↦ rw f (quiet_moves w (Bad (record { kind = BadLiteral; byte = w.taken })) refl)
     ]
 
-minus_room : (vars b : ℕ) → begins_literal vars b ≡ true → eqb b 45 ≡ true → 1 ≤ vars
+pub minus_room : (vars b : ℕ) → begins_literal vars b ≡ true → eqb b 45 ≡ true → 1 ≤ vars
 minus_room vars b g t =
     let i : b ≡ 45 = eqb-true b 45 t in
     let e : begins_literal vars 45 ≡ true = subst (λ z. begins_literal vars z ≡ true) i g in

@@ -87,22 +87,27 @@ fed [] rest w = last_fed w.vars w.taken w.place w.lits rest w.mode
 fed (b ∷ bs) rest w =
     starts_told (told_by (turn w b).to (turn w b).event) (speak true (turn w b).to bs) (speak false (turn w b).to (bs ++ 10 ∷ rest)) (fed bs rest (turn w b).to)
 
--- and with white space, but for UNKNOWN
-pub record Parted (at_end all : List Saying) : Type 0 where
-  pub said : List Saying
-  pub starts : Starts said all
-  pub ends : (at_end ≡ said) ⊎ (at_end ≡ said ++ IsUnknown ∷ [])
+-- and with white space, but for what UNKNOWN says
+module _ {X : Type 0} (unknown : X) where
+  pub record Parted (at_end all : List X) : Type 0 where
+    pub said : List X
+    pub starts : Starts said all
+    pub ends : (at_end ≡ said) ⊎ (at_end ≡ said ++ unknown ∷ [])
 
-parted_same : (at_end all : List Saying) → Starts at_end all → Parted at_end all
-parted_same at_end all h = record { said = at_end; starts = h; ends = inl refl }
+  pub parted_same : (at_end all : List X) → Starts at_end all → Parted at_end all
+  parted_same at_end all h = record { said = at_end; starts = h; ends = inl refl }
 
-parted_told : (told at_end all : List Saying) → Parted at_end all → Parted (told ++ at_end) (told ++ all)
-parted_told told at_end all h =
-    record {
-      said = told ++ h.said;
-      starts = starts_told told h.said all h.starts;
-      ends = elim h.ends [ inl e ↦ inl (ap (λ z. told ++ z) e) | inr e ↦ inr (ap (λ z. told ++ z) e ∙ sym (append_assoc told h.said (IsUnknown ∷ []))) ];
-    }
+  pub parted_told : (told at_end all : List X) → Parted at_end all → Parted (told ++ at_end) (told ++ all)
+  parted_told told at_end all h =
+      record {
+        said = told ++ h.said;
+        starts = starts_told told h.said all h.starts;
+        ends = elim h.ends [ inl e ↦ inl (ap (λ z. told ++ z) e) | inr e ↦ inr (ap (λ z. told ++ z) e ∙ sym (append_assoc told h.said (unknown ∷ []))) ];
+      }
+
+  pub maybe_unknown : (c : Bool) (all : List X) → Parted (cond c (unknown ∷ []) []) all
+  maybe_unknown true all = record { said = []; starts = starts_none all; ends = inr refl }
+  maybe_unknown false all = record { said = []; starts = starts_none all; ends = inl refl }
 
 module _ (vars taken place : ℕ) (lits : List LitOf) (b : ℕ) (rest : List ℕ) (h : eqb b 10 ≡ false) (g : is_blank b ≡ true) where
   zero_blank : (kind : ListKind) → Starts (ended_says kind place lits ∷ []) (speak false (parser vars taken place (InList kind Zero) lits) (b ∷ rest))
@@ -114,30 +119,26 @@ module _ (vars taken place : ℕ) (lits : List LitOf) (b : ℕ) (rest : List ℕ
       of Deletion = (_, refl)
       of Values = (_, refl)
 
-  maybe_unknown : (c : Bool) (all : List Saying) → Parted (cond c (IsUnknown ∷ []) []) all
-  maybe_unknown true all = record { said = []; starts = starts_none all; ends = inr refl }
-  maybe_unknown false all = record { said = []; starts = starts_none all; ends = inl refl }
+  last_parted : (m : Mode) → Parted IsUnknown (last_of true place lits m) (speak false (parser vars taken place m lits) (b ∷ rest))
+  last_parted (Start amid) = parted_same IsUnknown _ _ (starts_none _)
+  last_parted (Skip amid) = parted_same IsUnknown _ _ (starts_none _)
+  last_parted (Head kind) = parted_same IsUnknown _ _ (starts_none _)
+  last_parted StatusHead = parted_same IsUnknown _ _ (starts_none _)
+  last_parted StatusGap = parted_same IsUnknown _ _ (starts_none _)
+  last_parted (Spelled n) = maybe_unknown IsUnknown (eqb n 7 && true) _
+  last_parted Whole = maybe_unknown IsUnknown true _
+  last_parted (InList kind Gap) = parted_same IsUnknown _ _ (starts_none _)
+  last_parted (InList kind Minus) = parted_same IsUnknown _ _ (starts_none _)
+  last_parted (InList kind Zero) = parted_same IsUnknown _ _ (zero_blank kind)
+  last_parted (InList kind (Digits l)) = parted_same IsUnknown _ _ (starts_none _)
+  last_parted Closed = parted_same IsUnknown _ _ (starts_none _)
+  last_parted (Bad f) = parted_same IsUnknown _ _ ([], bad_ever false f vars taken place lits (b ∷ rest))
+  last_parted Lost = parted_same IsUnknown _ _ (starts_none _)
 
-  last_parted : (m : Mode) → Parted (last_of true place lits m) (speak false (parser vars taken place m lits) (b ∷ rest))
-  last_parted (Start amid) = parted_same _ _ (starts_none _)
-  last_parted (Skip amid) = parted_same _ _ (starts_none _)
-  last_parted (Head kind) = parted_same _ _ (starts_none _)
-  last_parted StatusHead = parted_same _ _ (starts_none _)
-  last_parted StatusGap = parted_same _ _ (starts_none _)
-  last_parted (Spelled n) = maybe_unknown (eqb n 7 && true) _
-  last_parted Whole = maybe_unknown true _
-  last_parted (InList kind Gap) = parted_same _ _ (starts_none _)
-  last_parted (InList kind Minus) = parted_same _ _ (starts_none _)
-  last_parted (InList kind Zero) = parted_same _ _ (zero_blank kind)
-  last_parted (InList kind (Digits l)) = parted_same _ _ (starts_none _)
-  last_parted Closed = parted_same _ _ (starts_none _)
-  last_parted (Bad f) = parted_same _ _ ([], bad_ever false f vars taken place lits (b ∷ rest))
-  last_parted Lost = parted_same _ _ (starts_none _)
-
-parted : (bytes : List ℕ) (b : ℕ) (rest : List ℕ) → eqb b 10 ≡ false → is_blank b ≡ true → (w : DrupOf) → Parted (speak true w bytes) (speak false w (bytes ++ b ∷ rest))
+parted : (bytes : List ℕ) (b : ℕ) (rest : List ℕ) → eqb b 10 ≡ false → is_blank b ≡ true → (w : DrupOf) → Parted IsUnknown (speak true w bytes) (speak false w (bytes ++ b ∷ rest))
 parted [] b rest h g w = last_parted w.vars w.taken w.place w.lits b rest h g w.mode
 parted (c ∷ bs) b rest h g w =
-    parted_told (told_by (turn w c).to (turn w c).event) (speak true (turn w c).to bs) (speak false (turn w c).to (bs ++ b ∷ rest)) (parted bs b rest h g (turn w c).to)
+    parted_told IsUnknown (told_by (turn w c).to (turn w c).event) (speak true (turn w c).to bs) (speak false (turn w c).to (bs ++ b ∷ rest)) (parted bs b rest h g (turn w c).to)
 
 pub blank_no_feed : (b : ℕ) → is_blank b ≡ true → eqb b 10 ≡ false
 blank_no_feed b g =

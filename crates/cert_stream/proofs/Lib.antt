@@ -23,6 +23,10 @@ pub mod Quiet
 pub mod Passing
 pub mod LratCutting
 pub mod LratFaults
+pub mod LratIds
+pub mod LratGoing
+pub mod LratBeginnings
+pub mod LratQuiet
 pub mod LratGoingOn
 pub mod LratKeeping
 pub mod LratLining

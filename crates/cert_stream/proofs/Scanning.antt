@@ -13,7 +13,7 @@ module _ {A : Type 0} where
   shift_none (Reads part) = refl
   shift_none (Misfit k i) = ap (Misfit k) (omega arith)
 
-  unshift : (s : Scanned A) (to : A) → shift 1 s ≡ Reads to → s ≡ Reads to
+  pub unshift : (s : Scanned A) (to : A) → shift 1 s ≡ Reads to → s ≡ Reads to
   unshift (Reads x) to q = q
   unshift (Misfit k n) to q = cc
 

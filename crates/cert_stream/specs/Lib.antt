@@ -12,3 +12,4 @@ pub mod LratMachine
 pub mod LratTelling
 pub mod LratScan
 pub mod LratLines
+pub mod LratBeginning

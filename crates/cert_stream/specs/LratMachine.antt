@@ -2,7 +2,7 @@
 use Rattle.std.specs.Prelude.{ℕ, ◌+◌, ◌-◌, ◌^◌, ◌≤◌, Bool, true, false, cond, not, ◌&&◌, ◌||◌, eqb, leb, List, [], ◌∷◌, ◌++◌, length, Option, Some, None}
 use Rattle.cnf_form.specs.Cnf.{LitOf}
 use Rattle.cert_stream.specs.Text.{is_blank, is_digit}
-use Rattle.cert_stream.specs.Machine.{IsPartWithin, begins_literal, first_of_both, goes_on, literal, spelling, with_digit}
+use Rattle.cert_stream.specs.Machine.{IsPartWithin, begins_literal, first_of_both, goes_on, is_literal_part, literal, spelling, with_digit}
 use Rattle.cert_stream.specs.declared.mode.ParseFaultKind.{ParseFaultKind}
 use Rattle.cert_stream.specs.declared.mode.ParseFaultKind.TheVariants.{BadLine, BadLiteral, LineTooLong}
 use Rattle.cert_stream.specs.declared.mode.ParseFault.{ParseFault}
@@ -252,6 +252,29 @@ at_end (InLits kind part) = at_end_lits kind part
 at_end (InIds kind part) = at_end_ids kind part
 at_end Closed = None
 at_end (Bad f) = None
+
+-- a number was read of a list: a literal, an id or a hint
+abbrev pub is_id_number : IdPart → Bool
+is_id_number IdGap = false
+is_id_number (IdMinus place) = false
+is_id_number IdZero = false
+is_id_number (IdDigits h) = true
+
+abbrev pub is_in_number : Mode → Bool
+is_in_number (Start amid) = false
+is_in_number (Skip amid) = false
+is_in_number ValuesHead = false
+is_in_number StatusHead = false
+is_in_number StatusGap = false
+is_in_number (Spelled n) = false
+is_in_number Whole = false
+is_in_number (InId n) = false
+is_in_number BehindId = false
+is_in_number DeletionHead = false
+is_in_number (InLits kind part) = is_literal_part part
+is_in_number (InIds kind part) = is_id_number part
+is_in_number Closed = false
+is_in_number (Bad f) = false
 
 -- where no stream goes on
 abbrev pub fault_of : Mode → Option ParseFault

@@ -1,10 +1,10 @@
 -- What bytes say, and what is kept of them.
-use Rattle.std.specs.Prelude.{◌≡◌, ℕ, Bool, false, cond, List, [], ◌∷◌, ◌++◌, Option, Some, None}
+use Rattle.std.specs.Prelude.{◌≡◌, ◌⊎◌, ℕ, Bool, true, false, cond, List, [], ◌∷◌, ◌++◌, Option, Some, None}
 use Rattle.cnf_form.specs.Cnf.{LitOf}
 use Rattle.cert_stream.specs.declared.mode.ParseFault.{ParseFault}
 use Rattle.cert_stream.specs.declared.mode.Event.{Event}
 use Rattle.cert_stream.specs.declared.mode.Event.TheVariants.{Clause, Delete, Value, ValuesEnd, Unknown}
-use Rattle.cert_stream.specs.LratMachine.{LratOf, turn, at_end, fault_of}
+use Rattle.cert_stream.specs.LratMachine.{LratOf, turn, at_end, fault_of, is_in_number}
 use Rattle.cert_stream.specs.declared.lrat.mode.Hint.{Hint}
 use Rattle.cert_stream.specs.declared.lrat.mode.Mode.TheVariants.{Start}
 
@@ -53,3 +53,8 @@ fault_said (Some f) = IsFault f ∷ []
 -- what the bytes say, then what counts by the stream's end where it ends, then the fault if there is one
 abbrev pub spoken : Bool → LratOf → List ℕ → List LratSaying
 spoken ended w bytes = said w bytes ++ (cond ended (told_by (after w bytes) (at_end (after w bytes).mode)) [] ++ fault_said (fault_of (after w bytes).mode))
+
+-- some byte may take memory: it comes after the digits of a number in a list, or something is said with it
+abbrev pub TakesMemory : LratOf → List ℕ → Type 0
+TakesMemory w [] = ⊥
+TakesMemory w (b ∷ bs) = (is_in_number w.mode ≡ true) ⊎ ((e : Event) × ((turn w b).event ≡ Some e)) ⊎ TakesMemory (turn w b).to bs

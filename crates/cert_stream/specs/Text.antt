@@ -1,5 +1,5 @@
 -- The text of an engine's stream: lines, parted by line feeds, and words, parted by white space.
-use Rattle.std.specs.Prelude.{◌≡◌, ℕ, ◌+◌, ◌-◌, Bool, true, false, cond, not, ◌&&◌, ◌||◌, eqb, leb, List, [], ◌∷◌, ◌++◌, length, drop, Option, Some, None}
+use Rattle.std.specs.Prelude.{◌≡◌, ℕ, ◌+◌, ◌-◌, ◌^◌, Bool, true, false, cond, not, ◌&&◌, ◌||◌, eqb, leb, List, [], ◌∷◌, ◌++◌, length, drop, Option, Some, None}
 use Rattle.std.specs.List.{list_all}
 use Rattle.std.specs.Str.Parse.{digits_value, starts_with_minus}
 use Rattle.cnf_form.specs.Cnf.{LitOf}
@@ -59,3 +59,7 @@ abbrev pub literal_of : ℕ → List ℕ → Option LitOf
 literal_of vars text =
     cond (is_number (size_of text) && leb (digits_value 10 (size_of text)) vars)
     (Some (record { var = digits_value 10 (size_of text); negated = starts_with_minus text })) None
+
+-- an id: a number up to 2 ^ 63 - 1
+abbrev pub id_of : List ℕ → Option ℕ
+id_of text = cond (is_number text && leb (digits_value 10 text) (2 ^ 63 - 1)) (Some (digits_value 10 text)) None

@@ -1,11 +1,11 @@
 // Pieces of a hinted stream.
 
-ghost use Rattle.std.specs.Prelude.{◌≡◌, ℕ, ◌+◌, ◌<◌, ◌≤◌, ◌^◌, Bool, true, false, List, length, Option, Some, None, IfOk};
+ghost use Rattle.std.specs.Prelude.{◌≡◌, ◌≢◌, ℕ, ◌+◌, ◌<◌, ◌≤◌, ◌^◌, Bool, true, false, List, length, Option, Some, None, IfOk, OnErr};
 ghost use Rattle.cnf_form.specs.Cnf.{LitWithin, ClauseWithin};
 ghost use Rattle.cert_stream.specs.Machine.{IsEventWithin};
 ghost use Rattle.cert_stream.specs.Telling.{Gets, answer, is_stopped};
 ghost use Rattle.cert_stream.specs.LratMachine.{LratOf, at_end, fault_of};
-ghost use Rattle.cert_stream.specs.LratTelling.{LratSaying, IsClause, IsDelete, IsValue, IsValuesEnd, IsUnknown, after, said, saying, told_by};
+ghost use Rattle.cert_stream.specs.LratTelling.{LratSaying, TakesMemory, IsClause, IsDelete, IsValue, IsValuesEnd, IsUnknown, after, said, saying, told_by};
 
 use crate::lrat::mode::Hint;
 use crate::lrat::parser::LratParser;
@@ -90,7 +90,7 @@ fn tell<R: LratReceiver>(
 }
 
 // Takes a piece, and answers whether the receiver stopped.
-#[tactic(auto, using(crate::proofs::LratPieces::left_start, crate::proofs::LratPieces::left_quiet, crate::proofs::LratPieces::left_told, crate::proofs::LratPieces::left_stopped, crate::proofs::LratPieces::left_told_all, crate::proofs::LratPieces::left_kept_all))]
+#[tactic(auto, using(crate::proofs::LratPieces::left_start, crate::proofs::LratPieces::left_quiet, crate::proofs::LratPieces::left_told, crate::proofs::LratPieces::left_stopped, crate::proofs::LratPieces::left_told_all, crate::proofs::LratPieces::left_kept_all, crate::proofs::LratPieces::memory_at, crate::proofs::LratPieces::memory_told))]
 fn take_piece<R: LratReceiver>(
     parser: &mut LratParser,
     piece: &[u8],
@@ -102,6 +102,7 @@ fn take_piece<R: LratReceiver>(
     ensures kept { IfOk result (λ stopped. stopped ≡ false → parser.new ≡ after parser.old piece.now) }
     ensures vars { IfOk result (λ _. R.vars receiver.new ≡ parser.new.vars) }
     ensures count { IfOk result (λ _. parser.new.taken ≤ parser.old.taken + length piece.now) }
+    ensures memory { OnErr result (TakesMemory parser.old piece.now) }
 {
     let mut i = 0;
     while i < piece.len() {
@@ -121,6 +122,7 @@ fn take_end<R: LratReceiver>(parser: &LratParser, receiver: &mut R) -> Result<bo
     requires { R.vars receiver.old ≡ parser.now.vars }
     ensures told { IfOk result (λ stopped. Gets R.gets R.stops receiver.old (told_by parser.now (at_end parser.now.mode)) receiver.new stopped) }
     ensures vars { IfOk result (λ _. R.vars receiver.new ≡ parser.now.vars) }
+    ensures memory { OnErr result (at_end parser.now.mode ≢ None) }
 {
     let Some(event) = parser.at_end() else {
         return Ok(false);
@@ -145,7 +147,8 @@ impl LratParser {
 
     /// Takes the next piece of the stream, and hands to the receiver what the bytes say, until it stops. The answer is then Stopped, and
     /// more bytes have no meaning; else it is the fault, if no hinted stream begins with the bytes so far, or More. A stream has fewer
-    /// than 2^64 bytes, and the receiver takes the literals of its variables. After an answer out of memory nothing is known.
+    /// than 2^64 bytes, and the receiver takes the literals of its variables. Out of memory comes only where a number of a list was read or
+    /// something said, and after it nothing is known.
     pub fn feed<R: LratReceiver>(
         &mut self,
         piece: &[u8],
@@ -158,6 +161,7 @@ impl LratParser {
         ensures vars { IfOk result (λ _. R.vars receiver.new ≡ self.new.vars) }
         ensures answer { IfOk result (λ fed. is_stopped fed ≡ false → fed ≡ answer (fault_of (after self.old piece.now).mode)) }
         ensures count { IfOk result (λ _. self.new.taken ≤ self.old.taken + length piece.now) }
+        ensures memory { OnErr result (TakesMemory self.old piece.now) }
     {
         let stopped = take_piece(self, piece, receiver)?;
         Ok(self.answer(stopped))
@@ -172,6 +176,7 @@ impl LratParser {
         ensures told { IfOk result (λ fed. Gets R.gets R.stops receiver.old (told_by self.now (at_end self.now.mode)) receiver.new (is_stopped fed)) }
         ensures vars { IfOk result (λ _. R.vars receiver.new ≡ self.now.vars) }
         ensures answer { IfOk result (λ fed. is_stopped fed ≡ false → fed ≡ answer (fault_of self.now.mode)) }
+        ensures memory { OnErr result (at_end self.now.mode ≢ None) }
     {
         let stopped = take_end(self, receiver)?;
         Ok(self.answer(stopped))

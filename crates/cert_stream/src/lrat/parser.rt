@@ -1,11 +1,11 @@
 // What is kept of a hinted stream.
 
-ghost use Rattle.std.specs.Prelude.{◌≡◌, ℕ, ◌+◌, ◌<◌, ◌≤◌, ◌^◌, cond, Bool, true, false, List, [], ◌∷◌, ◌++◌, length, Option, Some, None, IfOk};
+ghost use Rattle.std.specs.Prelude.{◌≡◌, ℕ, ◌+◌, ◌<◌, ◌≤◌, ◌^◌, cond, Bool, true, false, List, [], ◌∷◌, ◌++◌, length, Option, Some, None, IfOk, OnErr};
 ghost use Rattle.cnf_form.specs.Cnf.{LitOf, ClauseWithin};
 ghost use Rattle.cnf_form.specs.declared.literal.TheConstants.{MAX_VARS};
 ghost use Rattle.cert_stream.specs.Text.{is_blank};
-ghost use Rattle.cert_stream.specs.Machine.{IsPartWithin, IsEventWithin, begins_literal, goes_on, spelling, with_digit};
-ghost use Rattle.cert_stream.specs.LratMachine.{LratOf, Turn, IsIdPartWithin, IsModeWithin, at_end, begins_id, emptied, end_id_part, end_line, end_part, end_word, ended, fails, fault_of, heard, id_digit, id_first, id_goes_on, id_part, lits_ended, own_digit, read, takes_minus, turn, unended, visible, visible_behind, visible_digit, visible_first, visible_part, visible_plain, visible_spelled, visible_start};
+ghost use Rattle.cert_stream.specs.Machine.{IsPartWithin, IsEventWithin, begins_literal, goes_on, is_literal_part, spelling, with_digit};
+ghost use Rattle.cert_stream.specs.LratMachine.{LratOf, Turn, IsIdPartWithin, IsModeWithin, at_end, begins_id, emptied, end_id_part, end_line, end_part, end_word, ended, fails, fault_of, heard, id_digit, id_first, id_goes_on, id_part, is_id_number, is_in_number, lits_ended, own_digit, read, takes_minus, turn, unended, visible, visible_behind, visible_digit, visible_first, visible_part, visible_plain, visible_spelled, visible_start};
 ghost use Rattle.cert_stream.specs.LratTelling.{fresh};
 
 use crate::lrat::mode::{Hint, IdList, IdPart, LitList, MAX_HINTS, MAX_ID, Mode};
@@ -173,7 +173,8 @@ impl LratParser {
 
     fn end_part(&mut self, kind: LitList, part: Part) -> Result<Option<Event>, AllocError>
         requires { IsPartWithin self.old.vars part }
-        ensures { IfOk result (λ event. record { to = self.new; event = event } ≡ end_part self.old kind part) }
+        ensures part { IfOk result (λ event. record { to = self.new; event = event } ≡ end_part self.old kind part) }
+        ensures memory { OnErr result (is_literal_part part ≡ true) }
     {
         match part {
             Part::Gap => {
@@ -194,7 +195,8 @@ impl LratParser {
     }
 
     fn end_id_part(&mut self, kind: IdList, part: IdPart) -> Result<Option<Event>, AllocError>
-        ensures { IfOk result (λ event. record { to = self.new; event = event } ≡ end_id_part self.old kind part) }
+        ensures part { IfOk result (λ event. record { to = self.new; event = event } ≡ end_id_part self.old kind part) }
+        ensures memory { OnErr result (is_id_number part ≡ true) }
     {
         match part {
             IdPart::Gap => self.mode = Mode::InIds(kind, IdPart::Gap),
@@ -212,7 +214,8 @@ impl LratParser {
     }
 
     fn end_word(&mut self) -> Result<Option<Event>, AllocError>
-        ensures { IfOk result (λ event. record { to = self.new; event = event } ≡ end_word self.old self.old.mode) }
+        ensures word { IfOk result (λ event. record { to = self.new; event = event } ≡ end_word self.old self.old.mode) }
+        ensures memory { OnErr result (is_in_number self.old.mode ≡ true) }
     {
         match self.mode {
             Mode::InLits(kind, part) => return self.end_part(kind, part),
@@ -456,7 +459,8 @@ impl LratParser {
     }
 
     fn read(&mut self, b: u8) -> Result<Option<Event>, AllocError>
-        ensures { IfOk result (λ event. record { to = self.new; event = event } ≡ read self.old b) }
+        ensures read { IfOk result (λ event. record { to = self.new; event = event } ≡ read self.old b) }
+        ensures memory { OnErr result (is_in_number self.old.mode ≡ true) }
     {
         if b == b'\n' {
             let event = self.end_word()?;
@@ -529,6 +533,7 @@ impl LratParser {
         ensures turned { IfOk result (λ event. record { to = self.new; event = event } ≡ turn self.old b) }
         ensures vars { IfOk result (λ _. self.new.vars ≡ self.old.vars) }
         ensures within { IfOk result (λ event. IsEventWithin self.old.vars event) }
+        ensures memory { OnErr result (is_in_number self.old.mode ≡ true) }
     {
         let taken = self.taken;
         let event = self.read(b)?;

@@ -9,7 +9,7 @@ use std::test::Fail;
 
 // What is judged: whether a DRUP or LRAT stream or an engine's output, the most bytes that are taken, and the formula; and after each mark
 // what is told, and the stream. A clause that is admitted tells nothing by itself.
-const TABLES: [&str; 22] = [
+const TABLES: [&str; 23] = [
     "drup 1000 p cnf 2 3\n1 0\n-1 2 0\n-2 0\n\
 #refuted=0\n#refuted=c hello\n-1 0\n0\n#refuted=c hello\n-1 0\n0#refuted=0\n@@@ rubbish#refuted= \t\r\n0\
 #unknown=s UNKNOWN\nx#unknown=s UNKNOWN#unknown=s UNKNOWN x\ns\ns UNKNOWN \n1#EarlyEnd 16=s UNSATISFIABLE\n#EarlyEnd 0=\
@@ -60,7 +60,12 @@ const TABLES: [&str; 22] = [
 #file=s UNSATISFIABLE\n#file=#file=0\n1 2 0\nd 1 0\n@#file=verbose 3\nsum 12\n vv\n#unknown=s UNKNOWN\
 #unknown=read 2 clauses\ns UNKNOWN\nv 2 0\n#file=s UNKNOWN 1\nsUNKNOWN\n#satisfied 2=s SATISFIABLE\nv 2 0\
 #satisfied 1 2=hello\nv 1\nworld\nvv\n0\n v 2 0\n@#NotSatisfying 1=v -2 0\n#EarlyEnd 1=v#EarlyEnd 6=@\nv 1\n#BadLiteral 4=v 2 x\n\
-#LineTooLong 6=v 1 1 1 0\n#satisfied 2=v 2 0 1\n#BadLine 4=v 1\ns UNKNOWN\n#satisfied 1 2=v 1\nsum\nv 2 0\n#BadLine 4=v 1\ns",
+#LineTooLong 6=v 1 1 1 0\n#satisfied 2=v 2 0 1\n#satisfied 1 2=v 1\nsum\nv 2 0\n#EarlyEnd 5=v 1\ns",
+    // Status lines amid values.
+    "output 1000 p cnf 2 2\n1 2 0\n-1 2 0\n\
+#satisfied 1 2=v 1\ns SATISFIABLE\nv 2 0\n#BadLine 13=v 1\ns UNKNOWN\nv 2 0\n#BadLine 17=v 1\n s  UNKNOWN \t\nv 2 0\n\
+#EarlyEnd 13=v 1\ns UNKNOWN#satisfied 1 2=v 1\ns UNKNOWN x\ns\n s UNKNOWNS\ns UNKNOW\nsUNKNOWN\ns U NKNOWN\ns \ts UNKNOWN\nv 2 0\n\
+#satisfied 1 2=v 1\nc\ns UNKNOWN\t v\n\nv 2 0\n#unknown=s \tUNKNOWN \r\nv 2 0\n#BadLine 17=v 1\nx\nv\ns UNKNOWN\nv 2 0\n",
     "output 4 p cnf 2 2\n1 2 0\n-1 2 0\n\
 #TooLong 4=hello#TooLong 4=hi!\nv 2 0\n#TooLong 4=hi!\nv",
     "output 5 p cnf 2 2\n1 2 0\n-1 2 0\n\

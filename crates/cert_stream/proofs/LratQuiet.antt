@@ -1,0 +1,110 @@
+-- Comments and status lines of a hinted stream take no memory.
+use Rattle.std.proofs.Common.{◌≡◌, ◌⊎◌, ℕ, ◌+◌, Bool, true, false, cond, not, ◌&&◌, eqb, leb, List, [], ◌∷◌, ◌++◌, Option, Some, None, refl, ap, sym, ◌∙◌, inl, inr, subst}
+use Rattle.std.proofs.lemmas.Bool.{cases_Bool}
+use Rattle.cert_stream.specs.Text.{NoFeed, AreBlank, is_blank}
+use Rattle.cert_stream.specs.Machine.{spelling}
+use Rattle.cert_stream.specs.LratMachine.{LratOf, Turn, turn, is_in_number}
+use Rattle.cert_stream.specs.LratTelling.{TakesMemory}
+use Rattle.cert_stream.specs.declared.mode.Event.{Event}
+use Rattle.cert_stream.specs.declared.lrat.mode.Mode.{Mode}
+use Rattle.cert_stream.specs.declared.lrat.mode.Mode.TheVariants.{Start, Skip, ValuesHead, StatusHead, StatusGap, Spelled, Whole, InId, BehindId, DeletionHead, InLits, InIds, Closed, Bad}
+use Rattle.cert_stream.proofs.LratTurning.{Kept, kept, parser}
+use Rattle.cert_stream.proofs.GoingOn.{blank_no_feed}
+
+-- in a comment or a status line, or after its fault
+abbrev Still : Mode → Type 0
+Still (Start amid) = ⊥
+Still (Skip amid) = Unit {0}
+Still ValuesHead = ⊥
+Still StatusHead = Unit {0}
+Still StatusGap = Unit {0}
+Still (Spelled n) = Unit {0}
+Still Whole = Unit {0}
+Still (InId n) = ⊥
+Still BehindId = ⊥
+Still DeletionHead = ⊥
+Still (InLits kind part) = ⊥
+Still (InIds kind part) = ⊥
+Still Closed = ⊥
+Still (Bad f) = Unit {0}
+
+abbrev Stays : Turn → Type 0
+Stays t = Still t.to.mode × (t.event ≡ None)
+
+still_either : (c : Bool) (m n : Mode) → Still m → Still n → Still (cond c m n)
+still_either true m n h k = h
+still_either false m n h k = k
+
+module _ (vars taken place : ℕ) (line : Kept) (b : ℕ) (h : eqb b 10 ≡ false) where
+  by_blank : (m : Mode) → (is_blank b ≡ true → Stays (turn (parser vars taken place m line) b)) → (is_blank b ≡ false → Stays (turn (parser vars taken place m line) b)) → Stays (turn (parser vars taken place m line) b)
+  by_blank m x y = elim (cases_Bool (is_blank b)) [ inl t ↦ x t | inr f ↦ y f ]
+
+  spelled_stays : (n : ℕ) → Still (cond (not (leb 7 n) && eqb b (spelling n)) (Spelled (n + 1)) (Skip false))
+  spelled_stays n = still_either (not (leb 7 n) && eqb b (spelling n)) (Spelled (n + 1)) (Skip false) tt tt
+
+  still_turn : (m : Mode) → Still m → Stays (turn (parser vars taken place m line) b)
+  still_turn (Start amid) s = absurd s
+  still_turn (Skip amid) s = by_blank (Skip amid) (λ t. rw (h, t) (tt, refl)) (λ f. rw (h, f) (tt, refl))
+  still_turn ValuesHead s = absurd s
+  still_turn StatusHead s = by_blank StatusHead (λ t. rw (h, t) (tt, refl)) (λ f. rw (h, f) (tt, refl))
+  still_turn StatusGap s = by_blank StatusGap (λ t. rw (h, t) (tt, refl)) (λ f. rw (h, f) (spelled_stays 0, refl))
+  still_turn (Spelled n) s = by_blank (Spelled n) (λ t. rw (h, t) (still_either (eqb n 7) Whole (Skip false) tt tt, refl)) (λ f. rw (h, f) (spelled_stays n, refl))
+  still_turn Whole s = by_blank Whole (λ t. rw (h, t) (tt, refl)) (λ f. rw (h, f) (tt, refl))
+  still_turn (InId n) s = absurd s
+  still_turn BehindId s = absurd s
+  still_turn DeletionHead s = absurd s
+  still_turn (InLits kind part) s = absurd s
+  still_turn (InIds kind part) s = absurd s
+  still_turn Closed s = absurd s
+  still_turn (Bad f) s = by_blank (Bad f) (λ t. rw (h, t) (tt, refl)) (λ g. rw (h, g) (tt, refl))
+
+not_in_number : (m : Mode) → Still m → is_in_number m ≡ true → ⊥
+not_in_number (Start amid) s e = s
+not_in_number (Skip amid) s e = cc
+not_in_number ValuesHead s e = s
+not_in_number StatusHead s e = cc
+not_in_number StatusGap s e = cc
+not_in_number (Spelled n) s e = cc
+not_in_number Whole s e = cc
+not_in_number (InId n) s e = s
+not_in_number BehindId s e = s
+not_in_number DeletionHead s e = s
+not_in_number (InLits kind part) s e = s
+not_in_number (InIds kind part) s e = s
+not_in_number Closed s e = s
+not_in_number (Bad f) s e = cc
+
+not_told : (o : Option Event) → o ≡ None → (e : Event) × (o ≡ Some e) → ⊥
+not_told o n (e, k) = let q : None ≡ Some e = sym n ∙ k in cc
+
+still_text : (t : List ℕ) (w : LratOf) → NoFeed t → Still w.mode → TakesMemory w t → ⊥
+still_text [] w n s k = k
+still_text (b ∷ bs) w (n, ns) s (inl k) = not_in_number w.mode s k
+still_text (b ∷ bs) w (n, ns) s (inr (inl k)) = not_told (turn w b).event (still_turn w.vars w.taken w.place (kept w.id w.lits w.hints) b n w.mode s).1 k
+still_text (b ∷ bs) w (n, ns) s (inr (inr k)) = still_text bs (turn w b).to ns (still_turn w.vars w.taken w.place (kept w.id w.lits w.hints) b n w.mode s).0 k
+
+-- c or s
+first_still : (vars taken place : ℕ) (line : Kept) (amid : Bool) (b : ℕ) → (b ≡ 99) ⊎ (b ≡ 115) → Stays (turn (parser vars taken place (Start amid) line) b)
+first_still vars taken place line amid b (inl e) = subst (λ z. Stays (turn (parser vars taken place (Start amid) line) z)) (sym e) (tt, refl)
+first_still vars taken place line true b (inr e) = subst (λ z. Stays (turn (parser vars taken place (Start true) line) z)) (sym e) (tt, refl)
+first_still vars taken place line false b (inr e) = subst (λ z. Stays (turn (parser vars taken place (Start false) line) z)) (sym e) (tt, refl)
+
+start_text : (vars place : ℕ) (line : Kept) (amid : Bool) (blanks : List ℕ) (b : ℕ) (text : List ℕ) (taken : ℕ) → AreBlank blanks → (b ≡ 99) ⊎ (b ≡ 115) → NoFeed text
+    → TakesMemory (parser vars taken place (Start amid) line) (blanks ++ b ∷ text) → ⊥
+start_text vars place line amid [] b text taken a c n (inl k) = cc
+start_text vars place line amid [] b text taken a c n (inr (inl k)) = not_told (turn (parser vars taken place (Start amid) line) b).event (first_still vars taken place line amid b c).1 k
+start_text vars place line amid [] b text taken a c n (inr (inr k)) = still_text text (turn (parser vars taken place (Start amid) line) b).to n (first_still vars taken place line amid b c).0 k
+start_text vars place line amid (x ∷ blanks) b text taken (a, others) c n k = blank (λ j. start_text vars place line amid blanks b text (taken + 1) others c n j) k
+  where
+    step : turn (parser vars taken place (Start amid) line) x ≡ (let t : Turn = record { to = parser vars (taken + 1) place (Start amid) line; event = None } in t)
+    step = let h = blank_no_feed x a in rw (h, a) refl
+
+    blank : (TakesMemory (parser vars (taken + 1) place (Start amid) line) (blanks ++ b ∷ text) → ⊥) → TakesMemory (parser vars taken place (Start amid) line) (x ∷ blanks ++ b ∷ text) → ⊥
+    blank again (inl k) = cc
+    blank again (inr (inl k)) = not_told (turn (parser vars taken place (Start amid) line) x).event (ap (λ (t : Turn). t.event) step) k
+    blank again (inr (inr k)) = again (subst (λ (t : Turn). TakesMemory t.to (blanks ++ b ∷ text)) step k)
+
+pub quiet_line : (w : LratOf) (amid : Bool) (blanks : List ℕ) (b : ℕ) (text : List ℕ) → w.mode ≡ Start amid → AreBlank blanks → (b ≡ 99) ⊎ (b ≡ 115) → NoFeed text
+    → TakesMemory w (blanks ++ b ∷ text) → ⊥
+quiet_line w amid blanks b text m a c n k =
+    start_text w.vars w.place (kept w.id w.lits w.hints) amid blanks b text w.taken a c n (subst (λ z. TakesMemory (parser w.vars w.taken w.place z (kept w.id w.lits w.hints)) (blanks ++ b ∷ text)) m k)
