@@ -1,5 +1,5 @@
 -- Jobs of a model by the encodings of its net.
-use Rattle.std.proofs.Common.{◌≡◌, ℕ, zero, suc, ◌+◌, ◌<◌, ◌≤◌, Bool, true, false, List, [], ◌∷◌, Option, Some, None, refl, sym, ap, ◌∙◌, subst, inl, inr, arith, length, map}
+use Rattle.std.proofs.Common.{Contains, ◌≡◌, ℕ, zero, suc, ◌+◌, ◌<◌, ◌≤◌, Bool, true, false, List, [], ◌∷◌, Option, Some, None, refl, sym, ap, ◌∙◌, subst, inl, inr, arith, length, map}
 use Rattle.std.specs.Prelude.{option_map, slice_get}
 use Rattle.std.proofs.lemmas.Option.{slice_get_within}
 use Rattle.cnf_form.specs.Cnf.{Assignment, LitOf, Satisfies, lit_in, negate}
@@ -17,7 +17,7 @@ use Rattle.bit_net.specs.Net.{IsNet, NetOf, input_var, state_var}
 use Rattle.bit_net.specs.Net as net
 use Rattle.bit_net.specs.Reaching.{numbers}
 use Rattle.bit_net.specs.declared.node.State.{State}
-use Rattle.frame_gates.proofs.Lists.{at_place, map_at}
+use Rattle.frame_gates.proofs.Lists.{at_place, length_map, map_at, one_at}
 use Rattle.frame_net.specs.NetOf.{AreAlike, IsNetOf}
 use Rattle.frame_net.proofs.Running.{near, near_back, run, run_back, window, window_back}
 use Rattle.job_cnf.specs.Encoding.{IsDecoded, ShowsGoal, empty_job}
@@ -29,9 +29,10 @@ use Rattle.net_unroll.specs.Promises.IsOpenAt.{an_input, a_state}
 use Rattle.net_unroll.specs.declared.asking.Asked.{Asked}
 use Rattle.net_unroll.specs.declared.asking.Asked.TheVariants as ask
 use Rattle.net_unroll.specs.declared.asking.Cycles.{Cycles}
+use Rattle.net_unroll.specs.declared.encoded.Free.{Free}
 use Rattle.net_unroll.proofs.Deciding.{few_law, solvable_law as net_solvable, solves_law, told_cases}
 use Rattle.net_unroll.proofs.Tightening.{origins_law, told_once}
-use Rattle.net_jobs.specs.Jobs.{asked_of, cycles_of, decoded, job_encoding, job_made}
+use Rattle.net_jobs.specs.Jobs.{StandsFor, asked_of, cycles_of, decoded, job_encoding, job_made}
 use Rattle.net_jobs.proofs.Choosing.{choices_fit, input_told, many_rows, row_told, start_at}
 use Rattle.net_jobs.proofs.Meeting.{goal_met, met_goal, run_solves}
 
@@ -182,6 +183,32 @@ module _ (m : ModelOf) (n : NetOf) (is : IsModel m) (served : IsNet n) (of : IsN
           ]);
         }
 
+    -- the places of the model
+    pub value_at : (t v p : ℕ) → StandsFor m n true t v p → t < cycles_told c e x → cs t p ≡ told_by x e.free t v
+    value_at t v p (inl (k, at, q)) l =
+        let z = of.inputs in
+        let j = slice_get_within m.inputs k p at in
+        let same = (near m n is served of (cs t)).2 in
+        sym (same.inputs k p at) ∙ ap (us t) (sym q) ∙ bit_told t v l (an_input k (omega arith) q)
+    value_at t v p (inr (k, at, q, zero_is, open_is)) l =
+        let lengths = is.starts in
+        let j = slice_get_within (states m) k p at in
+        let same = (near m n is served of (cs t)).2 in
+        let many : length n.states ≡ length (states m) = sym (length_map (λ (r : State). r.start) n.states) ∙ ap length of.starts ∙ is.starts in
+        let (s, here) = at_place n.states k (omega arith) in
+        let digit = subst (λ ds. slice_get ds k ≡ Some s.start) of.starts (map_at (λ (r : State). r.start) n.states k s here) in
+        let free : s.start ≡ None = one_at m.starts k s.start None digit (open_is refl) in
+        sym (same.states k p at) ∙ ap (us t) (sym q) ∙ bit_told t v l (a_state k s here q zero_is (λ h. free))
+
+    pub free_at : (f : Free) (p : ℕ) → Contains e.free f → StandsFor m n true f.cycle f.place p → f.cycle < cycles_told c e x → cs f.cycle p ≡ x f.var
+    free_at f p d stands l = value_at f.cycle f.place p stands l ∙ told_once n (asked_of job) c served few x f d
+
+    pub none_at : (t v p : ℕ) → StandsFor m n true t v p → t < cycles_told c e x → ((f : Free) → Contains e.free f → f.cycle ≡ t → f.place ≡ v → ⊥) → cs t p ≡ false
+    none_at t v p stands l none = value_at t v p stands l ∙ (elim (told_cases x e.free t v) as (λ _. told_by x e.free t v ≡ false) [
+      | inl (f, d, a, b, r) ↦ absurd (none f d a b)
+      | inr (z, r) ↦ r
+    ])
+
     run_told : net.Run n (cycles_told c e x) us × AreAlike m n (cycles_told c e x) cs us
     run_told = run m n is served of (cycles_told c e x) cs whole
 
@@ -202,6 +229,20 @@ module _ (m : ModelOf) (n : NetOf) (is : IsModel m) (served : IsNet n) (of : IsN
       pub whole_run : model.Run m (cycles_told c e x) cs
       whole_run = whole
 
+  pub stands : (job : JobName) (span : Span) → job_made n job span ≤ MAX_VARS → (f : Free) → Contains (job_encoding n job span).free f →
+      (f.cycle < (cycles_of job span).count) × ((p : ℕ) × StandsFor m n (cycles_of job span).start f.cycle f.place p)
+  stands job span few f d =
+      let (l, o) = (origins_law n (asked_of job) (cycles_of job span) served few).open_bits f d in
+      (l, by o)
+    where
+      by : IsOpenAt n (cycles_of job span).start f.cycle f.place → (p : ℕ) × StandsFor m n (cycles_of job span).start f.cycle f.place p
+      by (an_input k j q) = let z = of.inputs in let (p, at) = at_place m.inputs k (omega arith) in (p, inl (k, at, q))
+      by (a_state k s here q zero_is free) =
+          let j = slice_get_within n.states k s here in
+          let many : length n.states ≡ length (states m) = sym (length_map (λ (r : State). r.start) n.states) ∙ ap length of.starts ∙ is.starts in
+          let (p, at) = at_place (states m) k (omega arith) in
+          (p, inr (k, at, q, zero_is, λ h. subst (λ ds. slice_get ds k ≡ Some s.start) of.starts (map_at (λ (r : State). r.start) n.states k s here) ∙ ap Some (free h)))
+
   goal_shown : (job : JobName) (k : ℕ) (cs : ℕ → Cycle) → (job ≡ Step → ⊥) → 0 < k → model.Run m k cs → ((t : ℕ) → t < k → model.Assumed m (cs t)) → ((t : ℕ) → suc t ≡ k → IsGoal m job (cs t)) → ShowsGoal m job k cs
   goal_shown (Base i) zero cs other some r a g = absurd (omega arith)
   goal_shown (Base i) (suc t) cs other some r a g =
@@ -210,7 +251,7 @@ module _ (m : ModelOf) (n : NetOf) (is : IsModel m) (served : IsNet n) (of : IsN
   goal_shown Step k cs other some r a g = absurd (other refl)
   goal_shown (Cover j) k cs other some r a g = record { run = r; assumed = a; last = g }
 
-  starts_at : (job : JobName) (span : Span) → (job ≡ Step → ⊥) → (cycles_of job span).start ≡ true
+  pub starts_at : (job : JobName) (span : Span) → (job ≡ Step → ⊥) → (cycles_of job span).start ≡ true
   starts_at (Base i) span other = refl
   starts_at Step span other = absurd (other refl)
   starts_at (Cover k) span other = refl

@@ -1,5 +1,5 @@
 -- The jobs of a model, asked of its net.
-use Rattle.std.specs.Prelude.{ℕ, suc, ◌+◌, ◌<◌, Bool, true, false, List, [], ◌∷◌, map, Option, Some, None}
+use Rattle.std.specs.Prelude.{slice_get, ◌⊎◌, ◌≡◌, ℕ, suc, ◌+◌, ◌<◌, Bool, true, false, List, [], ◌∷◌, map, Option, Some, None}
 use Rattle.cnf_form.specs.Cnf.{Assignment}
 use Rattle.sby_bits.specs.Rows.{Row}
 use Rattle.sby_terms.specs.Span.{first_of, last_of, slices_of}
@@ -7,7 +7,7 @@ use Rattle.sby_terms.specs.declared.names.JobName.{JobName}
 use Rattle.sby_terms.specs.declared.names.JobName.TheVariants.{Base, Step, Cover}
 use Rattle.sby_terms.specs.declared.span.Span.{Span}
 use Rattle.model_core.specs.Choices.{ChoicesOf}
-use Rattle.model_core.specs.Shape.{ModelOf}
+use Rattle.model_core.specs.Shape.{ModelOf, states}
 use Rattle.bit_net.specs.Net.{NetOf, input_var, state_var}
 use Rattle.bit_net.specs.Reaching.{numbers}
 use Rattle.net_unroll.specs.Encoding.{EncodedOf, encoding, made}
@@ -54,3 +54,9 @@ decoded m n c e x = record {
   starts = start_bits m.starts 0 (λ k. told_by x e.free 0 (state_var k));
   inputs = map (λ t. map (λ k. told_by x e.free t (input_var n k)) (numbers 0 n.inputs)) (numbers 0 (cycles_told c e x));
 }
+
+-- A bit of a net's cycle stands for a place of the model: that of an input, or in the first cycle that of a state bit, if it has no start
+-- digit or need not be a start.
+abbrev pub StandsFor : ModelOf → NetOf → Bool → ℕ → ℕ → ℕ → Type 0
+StandsFor m n start t v p = ((k : ℕ) × (slice_get m.inputs k ≡ Some p) × (v ≡ input_var n k))
+    ⊎ ((k : ℕ) × (slice_get (states m) k ≡ Some p) × (v ≡ state_var k) × (t ≡ 0) × (start ≡ true → slice_get m.starts k ≡ Some None))
