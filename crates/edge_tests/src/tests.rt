@@ -3,6 +3,7 @@
 mod cells;
 mod induction;
 mod memory;
+mod pools;
 mod reports;
 mod rings;
 mod scripts;

@@ -159,9 +159,10 @@ keeps_look {T} of_cell may_read notes place value events events' of known adds =
     shown other f (inr seen) = absurd seen
 
 -- where a keeper stands between two turns
-pub record AtTurn (keeps notes turns : Type 0) (room : ℕ) (hold : Type 0) : Type 0 where
+pub record AtTurn (keeps notes turns place : Type 0) (room : ℕ) (hold : Type 0) : Type 0 where
   pub so_far : keeps
   pub of : notes
   pub part : turns
+  pub same_place : place
   pub some : 2 ≤ room
   pub held : hold

@@ -84,18 +84,18 @@ look_alive false (Some f) false keeper.Wrong h = h
 look_alive false None true keeper.Wrong h = h
 look_alive false None false keeper.Wrong h = h
 
-kill_step : {T : Type 0} (a : Terms T) (e : LaneEvent T) (k : Keeper T) → IsKilled (keeper_after a e k) → IsKill e
+kill_step : {T : Type 0} (a : Terms T) (e : LaneEvent T) (k : Keeper T) → IsKilled (keeper_after a e k) → IsKilled k ⊎ IsKill e
 kill_step a (event.Poll polled.Failed) k h = absurd (due_alive reason.Fault k h)
 kill_step a (event.Poll polled.Exited) k h = absurd (turn_alive k h)
 kill_step a (event.Turns n) k h = absurd (turn_alive k h)
 kill_step a (event.Clock t) k h = absurd (clock_alive (shows_limit a.start a.limit t) t k h)
 kill_step a (event.Look c known) k h = absurd (look_alive (c == a.cell) known (tells_ending (ending a (c == a.cell) k) known) k h)
-kill_step a event.Kill k h = tt
+kill_step a event.Kill k h = inr tt
 kill_step a event.KeeperMemory k h = absurd (due_alive reason.Memory k h)
-kill_step a event.Took k h = absurd h
-kill_step a event.Start k h = absurd h
-kill_step a event.Finish k h = absurd h
-kill_step a event.Gave k h = absurd h
+kill_step a event.Took k h = inl h
+kill_step a event.Start k h = inl h
+kill_step a event.Finish k h = inl h
+kill_step a event.Gave k h = inl h
 kill_step a (event.Read n p) k h = absurd h
 kill_step a (event.File n p) k h = absurd h
 kill_step a (event.Settle won) k h = absurd h
@@ -104,7 +104,7 @@ kill_step a event.ReaderMemory k h = absurd h
 kill_had : {T : Type 0} (a : Terms T) (k : Keeper T) (es : List (LaneEvent T)) → IsKilled (keeper_from a k es) → IsKilled k ⊎ HasKill es
 kill_had a k [] h = inl h
 kill_had a k (e ∷ es) h = elim (kill_had a (keeper_after a e k) es h) [
-  | inl here ↦ inr (inl (kill_step a e k here))
+  | inl here ↦ elim (kill_step a e k here) [ inl before ↦ inl before | inr kill ↦ inr (inl kill) ]
   | inr later ↦ inr (inr later)
 ]
 

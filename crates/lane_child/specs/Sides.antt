@@ -6,10 +6,11 @@ use Rattle.sby_terms.specs.declared.names.JobName.{JobName}
 use Rattle.race_core.specs.Ends.{IsKilled}
 use Rattle.race_core.specs.declared.part.Keeper.{Keeper}
 use Rattle.race_cells.specs.Notes.{NoteOf}
-use Rattle.race_core.specs.Parts.{Terms, keeper_from, reader_from, reader_of}
+use Rattle.race_core.specs.Parts.{Terms, keeper_from, place_from, reader_from, reader_of}
 use Rattle.race_core.specs.declared.event.Judged.{Judged}
 use Rattle.race_core.specs.declared.event.LaneEvent.{LaneEvent}
 use Rattle.race_core.specs.declared.part.Keeper.TheVariants as keeper
+use Rattle.race_core.specs.declared.part.Place.TheVariants.{Away}
 use Rattle.race_core.specs.declared.part.Reader.{Reader}
 use Rattle.race_core.specs.declared.part.Reader.TheVariants as reader
 use Rattle.race_core.specs.declared.part.Reason.{Reason}
@@ -33,10 +34,11 @@ pub record ReadOut {T : Type 0} (stands ends proves proves' : List ℕ → Judge
   pub comes : Comes stands ends proves (NoneLeft pipe') output [] part
 
 -- A keeper's work. Its list says that it takes its turns, or that it killed the child, and why; for a failed poll only where the hold
--- counted a fault.
+-- counted a fault. Its lane's place stays.
 pub record KeptOut {T : Type 0} (a : Terms T) (of_cell : ℕ → T → Type 0) (may_read : ℕ → Type 0) (notes notes' : List (NoteOf T))
     (events events' : List (LaneEvent T)) (faults : ℕ) (why : Option (Reason T)) (is_failed : Bool) : Type 0 where
   pub part : MatchOption why (TakesTurns (keeper_from a keeper.Fresh events')) (λ reason. keeper_from a keeper.Fresh events' ≡ keeper.Killed reason)
+  pub place : place_from Away events' ≡ place_from Away events
   pub keeps : Keeps of_cell may_read notes notes' events events'
   pub fault : IfSome why (λ r. EndsChild r × (r ≡ reason.Fault → 0 < faults))
   pub failed : is_failed ≡ true → 0 < faults

@@ -8,9 +8,10 @@ ghost use Rattle.lane_child.specs.Sides.{Asks, Finishes, RanFrom, kept_by};
 ghost use Rattle.race_cells.specs.Notes.{AreNotesOf, known_at};
 ghost use Rattle.race_core.specs.Asking.{terms_of};
 ghost use Rattle.race_core.specs.Ends.{EndIs};
-ghost use Rattle.race_core.specs.Parts.{RightKeeper, RightReader, Terms, keeper_from, reader_from};
+ghost use Rattle.race_core.specs.Parts.{RightKeeper, RightReader, Terms, keeper_from, place_from, reader_from};
 ghost use Rattle.race_core.specs.declared.end.JobEnd.TheVariants as end;
 ghost use Rattle.race_core.specs.declared.part.Keeper.TheVariants as keeper;
+ghost use Rattle.race_core.specs.declared.part.Place.TheVariants.{Away};
 ghost use Rattle.race_core.specs.declared.part.Reader.TheVariants as reader;
 ghost use Rattle.race_core.specs.declared.part.Reason.TheVariants as reason;
 ghost use Rattle.sby_edge.specs.Cause.{Rose};
@@ -208,6 +209,7 @@ pub fn run_started<
     ensures end { EndIs (terms_of T.job T.answer watch.now.terms.now) (λ _. ⊥) (reader_from reader.Fresh result.events.events) (keeper_from (terms_of T.job T.answer watch.now.terms.now) keeper.Fresh keeper_events.new.events) result.end }
     ensures right { RightReader (reader_from reader.Fresh result.events.events) × RightKeeper (keeper_from (terms_of T.job T.answer watch.now.terms.now) keeper.Fresh keeper_events.new.events) }
     ensures looked { keeper_from (terms_of T.job T.answer watch.now.terms.now) keeper.Fresh keeper_events.new.events ≢ keeper.Fresh }
+    ensures place { place_from Away keeper_events.new.events ≡ place_from Away keeper_events.old.events }
     ensures keeps { Keeps (IsOfCell T.problem T.job (J.problem watch.now.asks.now) watch.now.terms.now watch.now.other) (C.may_read watch.now.clock.now) notes.old notes.new keeper_events.old.events keeper_events.new.events }
     ensures won { IfWon (reader_from reader.Fresh result.events.events) (λ f. known_at notes.new watch.now.terms.now.cell ≡ Some f) }
     ensures ran { RanFrom (S.stands subject) (S.ends subject) (S.proves subject) asked.now.job asked.now.most (S.most subject) (L.told bay.old) (L.told bay.new)

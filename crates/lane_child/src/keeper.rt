@@ -5,8 +5,9 @@ ghost use Rattle.std.specs.Option.{MatchOption};
 ghost use Rattle.lane_child.specs.Keeping.{EndsChild, IsOfCell, IsPlain, Keeps, Remember, TakesTurns};
 ghost use Rattle.race_cells.specs.Notes.{AreNotesOf, known_at};
 ghost use Rattle.race_core.specs.Asking.{is_needless, terms_of};
-ghost use Rattle.race_core.specs.Parts.{keeper_after, keeper_from};
+ghost use Rattle.race_core.specs.Parts.{keeper_after, keeper_from, place_after, place_from};
 ghost use Rattle.race_core.specs.declared.part.Keeper.TheVariants as keeper;
+ghost use Rattle.race_core.specs.declared.part.Place.TheVariants.{Away};
 ghost use Rattle.race_core.specs.declared.part.Reason.TheVariants as reason;
 
 use crate::entering::enter;
@@ -78,6 +79,7 @@ fn enter_needless<J: Asks<T>, T: Settled + Drop, C: Clock>(
     requires turning { (place ≡ watch.now.terms.now.cell) ⊎ (keeper_from (terms_of T.job T.answer watch.now.terms.now) keeper.Fresh events.old.events ≡ keeper.Turning) }
     ensures due { keeper_from (terms_of T.job T.answer watch.now.terms.now) keeper.Fresh events.new.events ≡ keeper.Due result }
     ensures room { events.new.room + 1 ≡ events.old.room }
+    ensures place { place_from Away events.new.events ≡ place_from Away events.old.events }
     ensures keeps { Keeps (IsOfCell T.problem T.job (J.problem watch.now.asks.now) watch.now.terms.now watch.now.other) (C.may_read watch.now.clock.now) notes.now notes.now events.old.events events.new.events }
     ensures reason { (result ≢ reason.Fault) × EndsChild result }
 {
@@ -112,6 +114,7 @@ fn look<J: Asks<T>, T: Settled + Drop, C: Clock>(
     requires turns { TakesTurns (keeper_from (terms_of T.job T.answer watch.now.terms.now) keeper.Fresh events.old.events) }
     ensures due { MatchOption result (events.new ≡ events.old) (λ why. keeper_from (terms_of T.job T.answer watch.now.terms.now) keeper.Fresh events.new.events ≡ keeper.Due why) }
     ensures room { events.old.room ≤ events.new.room + 2 }
+    ensures place { place_from Away events.new.events ≡ place_from Away events.old.events }
     ensures keeps { Keeps (IsOfCell T.problem T.job (J.problem watch.now.asks.now) watch.now.terms.now watch.now.other) (C.may_read watch.now.clock.now) notes.old notes.new events.old.events events.new.events }
     ensures reason { IfSome result (λ why. (why ≢ reason.Fault) × EndsChild why) }
 {
@@ -144,6 +147,7 @@ fn read_clock<J: Asks<T>, T: Settled + Drop, C: Clock>(
     requires turns { TakesTurns (keeper_from (terms_of T.job T.answer watch.now.terms.now) keeper.Fresh events.old.events) }
     ensures due { MatchOption result (events.new ≡ events.old) (λ why. keeper_from (terms_of T.job T.answer watch.now.terms.now) keeper.Fresh events.new.events ≡ keeper.Due why) }
     ensures room { events.old.room ≤ events.new.room + 1 }
+    ensures place { place_from Away events.new.events ≡ place_from Away events.old.events }
     ensures keeps { Keeps (IsOfCell T.problem T.job (J.problem watch.now.asks.now) watch.now.terms.now watch.now.other) (C.may_read watch.now.clock.now) notes.now notes.now events.old.events events.new.events }
     ensures reason { IfSome result (λ why. (why ≢ reason.Fault) × EndsChild why) }
 {
@@ -169,6 +173,7 @@ pub(crate) fn enter_plain<J: Asks<T>, T: Settled + Drop, C: Clock>(
     requires plain { IsPlain entry }
     ensures room { events.new.room + 1 ≡ events.old.room }
     ensures part { keeper_from (terms_of T.job T.answer watch.now.terms.now) keeper.Fresh events.new.events ≡ keeper_after (terms_of T.job T.answer watch.now.terms.now) entry (keeper_from (terms_of T.job T.answer watch.now.terms.now) keeper.Fresh events.old.events) }
+    ensures place { place_from Away events.new.events ≡ place_after entry (place_from Away events.old.events) }
     ensures keeps { Keeps (IsOfCell T.problem T.job (J.problem watch.now.asks.now) watch.now.terms.now watch.now.other) (C.may_read watch.now.clock.now) notes.now notes.now events.old.events events.new.events }
 {
     enter(events, entry);
@@ -186,6 +191,7 @@ fn poll<J: Asks<T>, T: Settled + Drop, C: Clock, H: Hold>(
     requires turns { TakesTurns (keeper_from (terms_of T.job T.answer watch.now.terms.now) keeper.Fresh events.old.events) }
     ensures due { MatchOption result (TakesTurns (keeper_from (terms_of T.job T.answer watch.now.terms.now) keeper.Fresh events.new.events)) (λ why. keeper_from (terms_of T.job T.answer watch.now.terms.now) keeper.Fresh events.new.events ≡ keeper.Due why) }
     ensures room { events.old.room ≤ events.new.room + 1 }
+    ensures place { place_from Away events.new.events ≡ place_from Away events.old.events }
     ensures keeps { Keeps (IsOfCell T.problem T.job (J.problem watch.now.asks.now) watch.now.terms.now watch.now.other) (C.may_read watch.now.clock.now) notes.now notes.now events.old.events events.new.events }
     ensures hold { (H.killed hold.new ≡ H.killed hold.old) × (H.is_reaped hold.new ≡ H.is_reaped hold.old) × (H.faults hold.old ≤ H.faults hold.new) }
     ensures fault { IfSome result (λ why. EndsChild why × (why ≡ reason.Fault → 0 < H.faults hold.new)) }
@@ -219,6 +225,7 @@ fn turn<J: Asks<T>, T: Settled + Drop, C: Clock, H: Hold>(
     requires turns { TakesTurns (keeper_from (terms_of T.job T.answer watch.now.terms.now) keeper.Fresh events.old.events) }
     ensures due { MatchOption result (TakesTurns (keeper_from (terms_of T.job T.answer watch.now.terms.now) keeper.Fresh events.new.events)) (λ why. keeper_from (terms_of T.job T.answer watch.now.terms.now) keeper.Fresh events.new.events ≡ keeper.Due why) }
     ensures room { MatchOption result (2 ≤ events.new.room) (λ why. 1 ≤ events.new.room) }
+    ensures place { place_from Away events.new.events ≡ place_from Away events.old.events }
     ensures keeps { Keeps (IsOfCell T.problem T.job (J.problem watch.now.asks.now) watch.now.terms.now watch.now.other) (C.may_read watch.now.clock.now) notes.old notes.new events.old.events events.new.events }
     ensures hold { (H.killed hold.new ≡ H.killed hold.old) × (H.is_reaped hold.new ≡ H.is_reaped hold.old) × (H.faults hold.old ≤ H.faults hold.new) }
     ensures fault { IfSome result (λ why. EndsChild why × (why ≡ reason.Fault → 0 < H.faults hold.new)) }
@@ -259,6 +266,7 @@ fn kill<J: Asks<T>, T: Settled + Drop, C: Clock, H: Hold>(
     requires due { keeper_from (terms_of T.job T.answer watch.now.terms.now) keeper.Fresh events.old.events ≡ keeper.Due why }
     ensures why { result.why ≡ Some why }
     ensures killed { keeper_from (terms_of T.job T.answer watch.now.terms.now) keeper.Fresh events.new.events ≡ keeper.Killed why }
+    ensures place { place_from Away events.new.events ≡ place_from Away events.old.events }
     ensures keeps { Keeps (IsOfCell T.problem T.job (J.problem watch.now.asks.now) watch.now.terms.now watch.now.other) (C.may_read watch.now.clock.now) notes.now notes.now events.old.events events.new.events }
     ensures hold { (H.is_reaped hold.new ≡ H.is_reaped hold.old) × (H.faults hold.old ≤ H.faults hold.new) }
     ensures fault { result.is_failed ≡ true → 0 < H.faults hold.new }
@@ -286,6 +294,7 @@ pub(crate) fn keep<R: Wait, J: Asks<T>, T: Settled + Drop, C: Clock, H: Hold>(
     requires room { 2 ≤ events.old.room }
     requires turns { TakesTurns (keeper_from (terms_of T.job T.answer watch.now.terms.now) keeper.Fresh events.old.events) }
     ensures kept { MatchOption result.why (TakesTurns (keeper_from (terms_of T.job T.answer watch.now.terms.now) keeper.Fresh events.new.events)) (λ why. keeper_from (terms_of T.job T.answer watch.now.terms.now) keeper.Fresh events.new.events ≡ keeper.Killed why) }
+    ensures place { place_from Away events.new.events ≡ place_from Away events.old.events }
     ensures keeps { Keeps (IsOfCell T.problem T.job (J.problem watch.now.asks.now) watch.now.terms.now watch.now.other) (C.may_read watch.now.clock.now) notes.old notes.new events.old.events events.new.events }
     ensures killed { IfNone result.why (H.killed hold.new ≡ H.killed hold.old) }
     ensures hold { (H.is_reaped hold.new ≡ H.is_reaped hold.old) × (H.faults hold.old ≤ H.faults hold.new) }

@@ -8,8 +8,9 @@ ghost use Rattle.lane_child.specs.Reading.{Comes, HasRead, NoneLeft, ReadSoFar};
 ghost use Rattle.lane_child.specs.Sides.{KeptOut, KilledBy, ReadOut};
 ghost use Rattle.race_cells.specs.Notes.{AreNotesOf};
 ghost use Rattle.race_core.specs.Asking.{terms_of};
-ghost use Rattle.race_core.specs.Parts.{keeper_from, reader_of};
+ghost use Rattle.race_core.specs.Parts.{keeper_from, place_from, reader_of};
 ghost use Rattle.race_core.specs.declared.part.Keeper.TheVariants as keeper;
+ghost use Rattle.race_core.specs.declared.part.Place.TheVariants.{Away};
 ghost use Rattle.race_core.specs.declared.part.Reader.TheVariants as reader;
 ghost use Rattle.race_core.specs.declared.part.Reason.TheVariants as reason;
 ghost use Rattle.sby_edge.specs.Cause.{Rose};
@@ -202,6 +203,7 @@ pub(crate) fn live<
         × Comes (S.stands subject) (S.ends subject) (S.proves subject) (NoneLeft now) (S.taken result.subject) [] result.part }
     ensures read_failed { result.part ≡ reader.Failed → Rose (L.read_faults bay.old) (L.read_faults bay.new) }
     ensures kept { MatchOption result.why (TakesTurns (keeper_from (terms_of T.job T.answer watch.now.terms.now) keeper.Fresh keeper_events.new.events)) (λ why. keeper_from (terms_of T.job T.answer watch.now.terms.now) keeper.Fresh keeper_events.new.events ≡ keeper.Killed why) }
+    ensures place { place_from Away keeper_events.new.events ≡ place_from Away keeper_events.old.events }
     ensures keeps { Keeps (IsOfCell T.problem T.job (J.problem watch.now.asks.now) watch.now.terms.now watch.now.other) (C.may_read watch.now.clock.now) notes.old notes.new keeper_events.old.events keeper_events.new.events }
     ensures fault { IfSome result.why (λ why. EndsChild why × (why ≡ reason.Fault → Rose (L.hold_faults bay.old) (L.hold_faults bay.new))) }
     ensures failed { result.is_failed ≡ true → Rose (L.hold_faults bay.old) (L.hold_faults bay.new) }

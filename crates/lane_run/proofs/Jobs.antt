@@ -11,13 +11,14 @@ use Rattle.race_core.specs.Asking.{name_at, terms_of}
 use Rattle.race_core.specs.Carrying.{Carries, Looked}
 use Rattle.race_core.specs.Consistent.{Replayed}
 use Rattle.race_core.specs.Ends.{EndIs, HasEnd, UnservedEndIs}
-use Rattle.race_core.specs.Parts.{RightKeeper, RightReader, Terms, keeper_from, keeper_of, reader_of}
+use Rattle.race_core.specs.Parts.{RightKeeper, RightReader, Terms, keeper_from, keeper_of, reader_of, place_from, place_of}
 use Rattle.race_core.specs.Report.{EventsOf}
 use Rattle.race_core.specs.declared.end.JobEnd.{JobEnd}
 use Rattle.race_core.specs.declared.end.JobEnd.TheVariants as end
 use Rattle.race_core.specs.declared.event.LaneEvent.{LaneEvent}
 use Rattle.race_core.specs.declared.part.Keeper.{Keeper}
 use Rattle.race_core.specs.declared.part.Keeper.TheVariants as keeper
+use Rattle.race_core.specs.declared.part.Place.TheVariants.{Away}
 use Rattle.race_core.specs.declared.part.Reader.{Reader}
 use Rattle.race_core.specs.declared.part.Reader.TheVariants as reader
 use Rattle.race_core.specs.declared.step.JobTerms.{JobTerms}
@@ -74,6 +75,7 @@ pub record Served {T : Type 0} (problem : T → ProblemOf) (job : T → JobName)
   pub ended : EndIs (terms_of job answer terms) (λ _. ⊥) (reader_of es) (keeper_of (terms_of job answer terms) es) e
   pub right_reader : RightReader (reader_of es)
   pub right_keeper : RightKeeper (keeper_of (terms_of job answer terms) es)
+  pub away : place_of es ≡ Away
   pub keeps : Keeps (IsOfCell problem job p terms other) may_read notes notes' [] es.keeper
   pub won : IfWon (reader_of es) (λ f. known_at notes' terms.cell ≡ Some f)
   pub found : (f : T) → HasEnd (reader_of es) (end.Found f) → (problem f ≡ p) × (job f ≡ terms.job)
@@ -83,6 +85,7 @@ pub record Passed {T : Type 0} (problem : T → ProblemOf) (job : T → JobName)
     (notes notes' : List (NoteOf T)) (es : List (LaneEvent T)) (e : JobEnd T) (terms : JobTerms) (other : Option (ℕ × JobName)) : Type 0 where
   pub ended : UnservedEndIs (terms_of job answer terms) known reader.Fresh (keeper_from (terms_of job answer terms) keeper.Fresh es) e
   pub right_keeper : RightKeeper (keeper_from (terms_of job answer terms) keeper.Fresh es)
+  pub away : place_from Away es ≡ Away
   pub keeps : Keeps (IsOfCell problem job p terms other) may_read notes notes' [] es
 
 -- what no earlier job showed, nothing knows
@@ -188,6 +191,7 @@ module _ {T : Type 0} (problem : T → ProblemOf) (job : T → JobName) (answer 
       record {
         right_reader = h.right_reader;
         right_keeper = h.right_keeper;
+        away = h.away;
         replayed = inl (serve, ends_more (terms_of job answer (terms_at m limit k)) known (reader_of es) (keeper_of (terms_of job answer (terms_at m limit k)) es) e h.ended);
         carried = λ f is. carried_served (terms_of job answer (terms_at m limit k)) (IsFor problem job p m) k es e f h.found (λ c g seen. (looks c g seen).0) h.ended is;
         won = if_won (reader_of es) (IsFor problem job p m k) (λ f. known_at notes' k ≡ Some f) h.won h.found;
@@ -209,6 +213,7 @@ module _ {T : Type 0} (problem : T → ProblemOf) (job : T → JobName) (answer 
       record {
         right_reader = tt;
         right_keeper = h.right_keeper;
+        away = h.away;
         replayed = inr (not, ended);
         carried = λ f is. carried_passed a (IsFor problem job p m) known reader.Fresh es e f knew (λ c g seen. (looks c g seen).0) ended is;
         won = tt;

@@ -149,6 +149,7 @@ pub done_more : {T : Type 0} (For : ℕ → T → Type 0) (serves : Type 0) (a :
 done_more {T} For serves a K K' may_read place notes notes' es e there back remember d = record {
   right_reader = d.right_reader;
   right_keeper = d.right_keeper;
+  away = d.away;
   replayed = replayed_same serves a K K' es e there back d.replayed;
   carried = d.carried;
   won = won_more (reader_of es) d.won;

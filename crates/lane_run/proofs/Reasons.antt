@@ -139,10 +139,10 @@ step a k (event.Settle won) w h = absurd h
 step a k event.ReaderMemory w h = absurd h
 step a k (event.Turns n) w h = absurd (turned k w h)
 step a k event.Kill w h = inl (killed a k w h, λ r x. x)
-step a k event.Took w h = absurd h
-step a k event.Start w h = absurd h
-step a k event.Finish w h = absurd h
-step a k event.Gave w h = absurd h
+step a k event.Took w h = inl (h, λ r x. x)
+step a k event.Start w h = inl (h, λ r x. x)
+step a k event.Finish w h = inl (h, λ r x. x)
+step a k event.Gave w h = inl (h, λ r x. x)
 
 -- what came before the event that gives the reason, and what came after it, where no reading stands
 pub record Caused {T : Type 0} (a : Terms T) (w : Reason T) (events : List (LaneEvent T)) : Type 0 where

@@ -6,12 +6,13 @@ use Rattle.race_cells.specs.Notes.{NoteOf, known_at}
 use Rattle.race_core.specs.Carrying.{Carries, Looked}
 use Rattle.race_core.specs.Consistent.{Replays, Tells, end_at, events_at}
 use Rattle.race_core.specs.Ends.{IsLast}
-use Rattle.race_core.specs.Parts.{RightKeeper, RightReader, Terms, keeper_of, reader_of}
+use Rattle.race_core.specs.Parts.{RightKeeper, RightReader, Terms, keeper_of, place_of, reader_of}
 use Rattle.race_core.specs.Report.{EventsOf, ReportOf, no_events}
 use Rattle.race_core.specs.declared.end.JobEnd.{JobEnd}
 use Rattle.race_core.specs.declared.end.JobEnd.TheVariants as end
 use Rattle.race_core.specs.declared.event.LaneEvent.TheVariants as event
 use Rattle.race_core.specs.declared.part.By.{By}
+use Rattle.race_core.specs.declared.part.Place.TheVariants.{Away}
 use Rattle.race_core.specs.declared.part.Reader.{Reader}
 use Rattle.race_core.specs.declared.part.Reader.TheVariants as reader
 use Rattle.lane_child.specs.Reading.{IfWon}
@@ -43,6 +44,7 @@ pub want_done : {T : Type 0} (For : ℕ → T → Type 0) (serves : Type 0) (a :
 want_done For serves a known may_read place notes decided = record {
   right_reader = tt;
   right_keeper = tt;
+  away = refl;
   replayed = elim decided [ inl served ↦ inl (served, (inr (inr (tt, λ x. x)), inl refl)) | inr passed ↦ inr (passed, (inr (inr (tt, λ x. x)), inl refl)) ];
   carried = λ f is. absurd is;
   won = tt;
@@ -63,6 +65,7 @@ module _ {T : Type 0} (For : ℕ → T → Type 0) (serves : ℕ → Type 0) (te
     events = lane.events ∙ all;
     right_reader = λ j lt. elim (lane.each j lt) [ inl d ↦ d.1.right_reader | inr late ↦ subst (λ (es : EventsOf T). RightReader (reader_of es)) (sym late.4) tt ];
     right_keeper = λ j lt. elim (lane.each j lt) [ inl d ↦ d.1.right_keeper | inr late ↦ subst (λ (es : EventsOf T). RightKeeper (keeper_of (terms j) es)) (sym late.4) tt ];
+    place = λ j lt. elim (lane.each j lt) [ inl d ↦ d.1.away | inr late ↦ subst (λ (es : EventsOf T). place_of es ≡ Away) (sym late.4) refl ];
     each = λ j lt. elim (lane.each j lt) [ inl d ↦ inl (d.0, d.1.replayed) | inr late ↦ inr late ];
   }
 

@@ -5,12 +5,13 @@ use Rattle.race_cells.specs.Notes.{NoteOf, known_at}
 use Rattle.race_core.specs.Carrying.{Carries, KnewBy, Looked}
 use Rattle.race_core.specs.Consistent.{Replayed, end_at, events_at}
 use Rattle.race_core.specs.Ends.{IsLast}
-use Rattle.race_core.specs.Parts.{RightKeeper, RightReader, Terms, keeper_of, reader_of}
+use Rattle.race_core.specs.Parts.{RightKeeper, RightReader, Terms, keeper_of, place_of, reader_of}
 use Rattle.race_core.specs.Report.{EventsOf, ReportOf, no_events}
 use Rattle.race_core.specs.declared.end.JobEnd.{JobEnd}
 use Rattle.race_core.specs.declared.end.JobEnd.TheVariants as end
 use Rattle.race_core.specs.declared.event.LaneEvent.{LaneEvent}
 use Rattle.race_core.specs.declared.event.LaneEvent.TheVariants as event
+use Rattle.race_core.specs.declared.part.Place.TheVariants.{Away}
 use Rattle.lane_child.specs.Keeping.{HasReading}
 use Rattle.lane_child.specs.Reading.{IfWon}
 use Rattle.lane_run.specs.declared.task.Limit.{Limit}
@@ -23,12 +24,13 @@ IsLastReading {T} r events = (front : List (LaneEvent T)) × (back : List (LaneE
 abbrev pub KnownIn : {T : Type 0} → ReportOf T → T → Type 0
 KnownIn {T} r f = Contains r.ends (end.Found f) ⊎ ((es : EventsOf T) × Contains r.events es × ((c : ℕ) × Contains es.keeper (event.Look c (Some f))))
 
--- A job that a lane has done. Its end follows from its events; every finding that it carries, won or looked at is one of the problem
+-- A job that a lane has done. Its end follows from its events, which keep no place; every finding that it carries, won or looked at is one of the problem
 -- for the job of its place, and the lane's notes know what was won or looked at; and its readings are ones that the clock may give.
 pub record JobDone {T : Type 0} (For : ℕ → T → Type 0) (serves : Type 0) (a : Terms T) (known : T → Type 0) (may_read : ℕ → Type 0) (place : ℕ)
     (notes : List (NoteOf T)) (es : EventsOf T) (e : JobEnd T) : Type 0 where
   pub right_reader : RightReader (reader_of es)
   pub right_keeper : RightKeeper (keeper_of a es)
+  pub away : place_of es ≡ Away
   pub replayed : Replayed serves a known es e
   pub carried : (f : T) → Carries e f → (k : ℕ) × For k f
   pub won : IfWon (reader_of es) (λ f. For place f × (known_at notes place ≡ Some f))

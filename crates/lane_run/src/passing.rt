@@ -4,8 +4,9 @@ ghost use Rattle.std.specs.Prelude.{◌≡◌, ◌≢◌, ◌+◌, ◌<◌, ◌�
 ghost use Rattle.race_cells.specs.Notes.{AreNotesOf};
 ghost use Rattle.race_core.specs.Asking.{terms_of};
 ghost use Rattle.race_core.specs.Ends.{UnservedEndIs};
-ghost use Rattle.race_core.specs.Parts.{RightKeeper, keeper_from};
+ghost use Rattle.race_core.specs.Parts.{RightKeeper, keeper_from, place_from};
 ghost use Rattle.race_core.specs.declared.part.Keeper.TheVariants as keeper;
+ghost use Rattle.race_core.specs.declared.part.Place.TheVariants.{Away};
 ghost use Rattle.race_core.specs.declared.part.Reader.TheVariants as reader;
 ghost use Rattle.lane_child.specs.Keeping.{IsOfCell, Keeps};
 ghost use Rattle.lane_child.specs.Starting.{NoStart};
@@ -33,6 +34,7 @@ pub(crate) fn pass_job<J: Asks<T>, T: Settled + Drop, C: Clock>(
     ensures no_start { NoStart result }
     ensures looked { keeper_from (terms_of T.job T.answer watch.now.terms.now) keeper.Fresh events.new.events ≢ keeper.Fresh }
     ensures right { RightKeeper (keeper_from (terms_of T.job T.answer watch.now.terms.now) keeper.Fresh events.new.events) }
+    ensures place { place_from Away events.new.events ≡ Away }
     ensures keeps { Keeps (IsOfCell T.problem T.job (J.problem watch.now.asks.now) watch.now.terms.now watch.now.other) (C.may_read watch.now.clock.now) notes.old notes.new [] events.new.events }
 {
     if let Some(end) = look_first(watch, notes, events) {

@@ -4,3 +4,4 @@ mod Lowest
 mod Collecting
 mod AddedEvents
 mod SharedParts
+mod Places

@@ -1,7 +1,7 @@
 -- Sharing an entry changes no part.
 use Rattle.std.proofs.Common.{◌≡◌, ℕ, zero, suc, ◌+◌, ◌<◌, Bool, true, false, cond, nat_lt, ◌&&◌, List, [], ◌∷◌, Some, None, refl, arith}
 use Rattle.race_core.specs.Sharing.{entries, fits, read_more, shared, with_event}
-use Rattle.race_core.specs.Parts.{Terms, by_of, turns, reader_after, reader_from, keeper_after, keeper_from}
+use Rattle.race_core.specs.Parts.{Terms, by_of, turns, reader_after, reader_from, keeper_after, keeper_from, place_after, place_from}
 use Rattle.race_core.specs.declared.event.Judged.TheVariants as progress
 use Rattle.race_core.specs.declared.event.LaneEvent.{LaneEvent}
 use Rattle.race_core.specs.declared.event.LaneEvent.TheVariants as event
@@ -10,6 +10,7 @@ use Rattle.race_core.specs.declared.part.Reader.{Reader}
 use Rattle.race_core.specs.declared.part.Reader.TheVariants as reader
 use Rattle.race_core.specs.declared.part.Keeper.{Keeper}
 use Rattle.race_core.specs.declared.part.Keeper.TheVariants as keeper
+use Rattle.race_core.specs.declared.part.Place.{Place}
 use borrow.Author.Tests.{ltb-true}
 
 -- some bytes are no close
@@ -177,3 +178,71 @@ pub keeper_with : {T : Type 0} (a : Terms T) (k : Keeper T) (e : LaneEvent T) (e
 keeper_with a k e [] = refl
 keeper_with a k e (x ∷ []) = share_keeper a k x e
 keeper_with a k e (x ∷ y ∷ es) = keeper_with a (keeper_after a x k) e (y ∷ es)
+
+reads_share_place : (T : Type 0) (m n : ℕ) (p : Place) (c : Bool)
+    → place_from {T = T} p (entries (read_more m) (read_more n) (cond c (Some (read_more (m + n))) None)) ≡ p
+reads_share_place T m n p true = refl
+reads_share_place T m n p false = refl
+
+turns_share_place : (T : Type 0) (m n : ℕ) (p : Place) (c : Bool)
+    → place_from {T = T} p (entries (event.Turns m) (event.Turns n) (cond c (Some (event.Turns (m + n))) None)) ≡ p
+turns_share_place T m n p true = refl
+turns_share_place T m n p false = refl
+
+share_place : {T : Type 0} (p : Place) (x e : LaneEvent T) → place_from p (entries x e (shared x e)) ≡ place_after e (place_after x p)
+share_place {T} p (event.Read m progress.More) (event.Read n progress.More) = reads_share_place T m n p ((nat_lt 0 m && nat_lt 0 n) && fits (m + n))
+share_place p (event.Read m progress.More) (event.Read n (progress.Found v2)) = refl
+share_place p (event.Read m progress.More) (event.Read n progress.Unknown) = refl
+share_place p (event.Read m progress.More) (event.Read n (progress.Bad number2 at2)) = refl
+share_place p (event.Read m progress.More) (event.Read n progress.Failed) = refl
+share_place p (event.Read m progress.More) (event.Read n progress.Unjudged) = refl
+share_place p (event.Read m progress.More) (event.File n2 p2) = refl
+share_place p (event.Read m progress.More) (event.Settle w2) = refl
+share_place p (event.Read m progress.More) event.ReaderMemory = refl
+share_place p (event.Read m progress.More) (event.Turns n2) = refl
+share_place p (event.Read m progress.More) (event.Poll p2) = refl
+share_place p (event.Read m progress.More) (event.Clock t2) = refl
+share_place p (event.Read m progress.More) (event.Look c2 s2) = refl
+share_place p (event.Read m progress.More) event.Kill = refl
+share_place p (event.Read m progress.More) event.KeeperMemory = refl
+share_place p (event.Read m progress.More) event.Took = refl
+share_place p (event.Read m progress.More) event.Start = refl
+share_place p (event.Read m progress.More) event.Finish = refl
+share_place p (event.Read m progress.More) event.Gave = refl
+share_place p (event.Read m (progress.Found v)) e = refl
+share_place p (event.Read m progress.Unknown) e = refl
+share_place p (event.Read m (progress.Bad number at)) e = refl
+share_place p (event.Read m progress.Failed) e = refl
+share_place p (event.Read m progress.Unjudged) e = refl
+share_place p (event.File n q) e = refl
+share_place p (event.Settle w) e = refl
+share_place p event.ReaderMemory e = refl
+share_place p (event.Turns m) (event.Read n2 p2) = refl
+share_place p (event.Turns m) (event.File n2 p2) = refl
+share_place p (event.Turns m) (event.Settle w2) = refl
+share_place p (event.Turns m) event.ReaderMemory = refl
+share_place {T} p (event.Turns m) (event.Turns n) = turns_share_place T m n p (fits (m + n))
+share_place p (event.Turns m) (event.Poll p2) = refl
+share_place p (event.Turns m) (event.Clock t2) = refl
+share_place p (event.Turns m) (event.Look c2 s2) = refl
+share_place p (event.Turns m) event.Kill = refl
+share_place p (event.Turns m) event.KeeperMemory = refl
+share_place p (event.Turns m) event.Took = refl
+share_place p (event.Turns m) event.Start = refl
+share_place p (event.Turns m) event.Finish = refl
+share_place p (event.Turns m) event.Gave = refl
+share_place p (event.Poll q) e = refl
+share_place p (event.Clock t) e = refl
+share_place p (event.Look c s) e = refl
+share_place p event.Kill e = refl
+share_place p event.KeeperMemory e = refl
+share_place p event.Took e = refl
+share_place p event.Start e = refl
+share_place p event.Finish e = refl
+share_place p event.Gave e = refl
+
+-- the place after a list with one more event
+pub place_with : {T : Type 0} (p : Place) (e : LaneEvent T) (es : List (LaneEvent T)) → place_from p (with_event e es) ≡ place_after e (place_from p es)
+place_with p e [] = refl
+place_with p e (x ∷ []) = share_place p x e
+place_with p e (x ∷ y ∷ es) = place_with (place_after x p) e (y ∷ es)

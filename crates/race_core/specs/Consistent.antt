@@ -2,11 +2,12 @@
 use Rattle.race_core.specs.Carrying.{Looked, KnewBy, Carries}
 use Rattle.std.specs.Prelude.{◌≡◌, ◌⊎◌, ℕ, ◌<◌, true, List, Some, length, slice_index_or, slice_get}
 use Rattle.race_core.specs.Report.{EventsOf, ReportOf, no_events}
-use Rattle.race_core.specs.Parts.{Terms, reader_of, keeper_of, RightReader, RightKeeper}
+use Rattle.race_core.specs.Parts.{Terms, reader_of, keeper_of, place_of, RightReader, RightKeeper}
 use Rattle.race_core.specs.Ends.{EndIs, UnservedEndIs, IsLast}
 use Rattle.race_core.specs.declared.end.JobEnd.{JobEnd}
 use Rattle.race_core.specs.declared.end.JobEnd.TheVariants as end
 use Rattle.race_core.specs.declared.part.By.{By}
+use Rattle.race_core.specs.declared.part.Place.TheVariants as place
 use Rattle.race_core.specs.declared.part.Reader.TheVariants as reader
 
 abbrev pub events_at : {T : Type 0} → ReportOf T → ℕ → EventsOf T
@@ -20,12 +21,13 @@ abbrev pub Replayed : {T : Type 0} → Type 0 → Terms T → (T → Type 0) →
 Replayed serves a known es e =
     (serves × EndIs a known (reader_of es) (keeper_of a es) e) ⊎ ((serves → ⊥) × UnservedEndIs a known (reader_of es) (keeper_of a es) e)
 
--- A report's events give its ends, job by job.
+-- A report's events give its ends, job by job. Each start stands between a place that was taken and its return, and no place is kept.
 pub record Replays {T : Type 0} (serves : ℕ → Type 0) (terms : ℕ → Terms T) (jobs : ℕ) (r : ReportOf T) : Type 0 where
   pub ends : length r.ends ≡ jobs
   pub events : length r.events ≡ jobs
   pub right_reader : (j : ℕ) → j < jobs → RightReader (reader_of (events_at r j))
   pub right_keeper : (j : ℕ) → j < jobs → RightKeeper (keeper_of (terms j) (events_at r j))
+  pub place : (j : ℕ) → j < jobs → place_of (events_at r j) ≡ place.Away
   pub each : (j : ℕ) → j < jobs
       → (((l : ℕ) → l < j → IsLast (end_at r l) → ⊥) × Replayed (serves j) (terms j) (KnewBy (events_at r) j) (events_at r j) (end_at r j))
       ⊎ ((l : ℕ) × (l < j) × IsLast (end_at r l) × (end_at r j ≡ end_at r l) × (events_at r j ≡ no_events))

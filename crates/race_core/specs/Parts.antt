@@ -137,7 +137,7 @@ abbrev pub after_kill : {T : Type 0} → Keeper T → Keeper T
 after_kill (keeper.Due why) = keeper.Killed why
 after_kill k = keeper.Wrong
 
--- The keeper after one of its events. Those of the allowance are Wrong, since no lane waits for a place yet.
+-- The keeper after one of its events. Those of the allowance change the place alone.
 abbrev pub keeper_after : {T : Type 0} → Terms T → LaneEvent T → Keeper T → Keeper T
 keeper_after a (event.Poll polled.Failed) k = comes_due reason.Fault k
 keeper_after a (event.Poll polled.Exited) k = turns k
@@ -146,10 +146,10 @@ keeper_after a (event.Clock r) k = cond (shows_limit a.start a.limit r) (comes_d
 keeper_after a (event.Look c known) k = after_look (c == a.cell) known (tells_ending (ending a (c == a.cell) k) known) k
 keeper_after a event.Kill k = after_kill k
 keeper_after a event.KeeperMemory k = comes_due reason.Memory k
-keeper_after a event.Took k = keeper.Wrong
-keeper_after a event.Start k = keeper.Wrong
-keeper_after a event.Finish k = keeper.Wrong
-keeper_after a event.Gave k = keeper.Wrong
+keeper_after a event.Took k = k
+keeper_after a event.Start k = k
+keeper_after a event.Finish k = k
+keeper_after a event.Gave k = k
 keeper_after a (event.Read n p) k = keeper.Wrong
 keeper_after a (event.File n p) k = keeper.Wrong
 keeper_after a (event.Settle won) k = keeper.Wrong
@@ -186,11 +186,18 @@ abbrev pub keeper_from : {T : Type 0} → Terms T → Keeper T → List (LaneEve
 keeper_from a k [] = k
 keeper_from a k (e ∷ es) = keeper_from a (keeper_after a e k) es
 
+abbrev pub place_from : {T : Type 0} → Place → List (LaneEvent T) → Place
+place_from p [] = p
+place_from p (e ∷ es) = place_from (place_after e p) es
+
 abbrev pub reader_of : {T : Type 0} → EventsOf T → Reader T
 reader_of events = reader_from reader.Fresh events.reader
 
 abbrev pub keeper_of : {T : Type 0} → Terms T → EventsOf T → Keeper T
 keeper_of a events = keeper_from a keeper.Fresh events.keeper
+
+abbrev pub place_of : {T : Type 0} → EventsOf T → Place
+place_of events = place_from place.Away events.keeper
 
 -- no event came that can't come there
 abbrev pub RightReader : {T : Type 0} → Reader T → Type 0
@@ -213,3 +220,10 @@ RightKeeper keeper.Looked = Unit
 RightKeeper keeper.Turning = Unit
 RightKeeper (keeper.Due why) = Unit
 RightKeeper (keeper.Killed why) = Unit
+
+abbrev pub RightPlace : Place → Type 0
+RightPlace place.Wrong = ⊥
+RightPlace place.Away = Unit
+RightPlace place.Held = Unit
+RightPlace place.Used = Unit
+RightPlace place.Back = Unit

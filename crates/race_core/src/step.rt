@@ -228,11 +228,8 @@ pub fn keeper_step<T: Settled + Drop>(
             _ => Keeper::Wrong,
         },
         LaneEvent::KeeperMemory => due(Reason::Memory, part),
-        LaneEvent::Took
-        | LaneEvent::Start
-        | LaneEvent::Finish
-        | LaneEvent::Gave
-        | LaneEvent::Read { .. }
+        LaneEvent::Took | LaneEvent::Start | LaneEvent::Finish | LaneEvent::Gave => part,
+        LaneEvent::Read { .. }
         | LaneEvent::File { .. }
         | LaneEvent::Settle { .. }
         | LaneEvent::ReaderMemory => Keeper::Wrong,

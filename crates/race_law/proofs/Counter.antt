@@ -97,19 +97,19 @@ runs : {T : Type 0} (f : T) → WorldRun (the_race f) (world [] [] None) (steps 
     (world (event.Read 1 progress.More ∷ event.Read 0 (progress.Found f) ∷ event.Settle true ∷ []) (event.Clock 5 ∷ event.Kill ∷ []) (Some f))
 runs f = (
   world (event.Read 1 progress.More ∷ []) [] None,
-  record { meets = ((refl, omega arith), λ c. refl); here = refl; elsewhere = λ i j h. other _ _ i j h; right_reader = tt; right_keeper = tt },
+  record { meets = ((refl, omega arith), λ c. refl); here = refl; elsewhere = λ i j h. other _ _ i j h; right_reader = tt; right_keeper = tt; right_place = tt },
   (
     world (event.Read 1 progress.More ∷ []) (event.Clock 5 ∷ []) None,
-    record { meets = λ c. refl; here = refl; elsewhere = λ i j h. other _ _ i j h; right_reader = tt; right_keeper = tt },
+    record { meets = λ c. refl; here = refl; elsewhere = λ i j h. other _ _ i j h; right_reader = tt; right_keeper = tt; right_place = tt },
     (
       world (event.Read 1 progress.More ∷ []) (event.Clock 5 ∷ event.Kill ∷ []) None,
-      record { meets = λ c. refl; here = refl; elsewhere = λ i j h. other _ _ i j h; right_reader = tt; right_keeper = tt },
+      record { meets = λ c. refl; here = refl; elsewhere = λ i j h. other _ _ i j h; right_reader = tt; right_keeper = tt; right_place = tt },
       (
         world (event.Read 1 progress.More ∷ event.Read 0 (progress.Found f) ∷ []) (event.Clock 5 ∷ event.Kill ∷ []) None,
-        record { meets = ((refl, inr tt), λ c. refl); here = refl; elsewhere = λ i j h. other _ _ i j h; right_reader = tt; right_keeper = tt },
+        record { meets = ((refl, inr tt), λ c. refl); here = refl; elsewhere = λ i j h. other _ _ i j h; right_reader = tt; right_keeper = tt; right_place = tt },
         (
           world (event.Read 1 progress.More ∷ event.Read 0 (progress.Found f) ∷ event.Settle true ∷ []) (event.Clock 5 ∷ event.Kill ∷ []) (Some f),
-          record { meets = (refl, (f, refl, refl), λ c h. apart f c h); here = refl; elsewhere = λ i j h. other _ _ i j h; right_reader = tt; right_keeper = tt },
+          record { meets = (refl, (f, refl, refl), λ c h. apart f c h); here = refl; elsewhere = λ i j h. other _ _ i j h; right_reader = tt; right_keeper = tt; right_place = tt },
           refl,
         ),
       ),

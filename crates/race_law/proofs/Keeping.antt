@@ -139,10 +139,10 @@ keeper-step a cells Q (event.Look c known) k o m q =
     look-ok (ends_job a) cells Q (c == a.cell) known (tells_ending (ending a (c == a.cell) k) known) k (λ f e t. (ending-ends a (c == a.cell) k f (tells-known (ending a (c == a.cell) k) known f e t), (c, sym m ∙ e)))
 keeper-step a cells Q event.Kill k o m q = kill-ok (ends_job a) cells Q k o
 keeper-step a cells Q event.KeeperMemory k o m q = due-ok (ends_job a) cells Q reason.Memory k (elim q [ inl quiet ↦ absurd quiet | inr x ↦ x ])
-keeper-step a cells Q event.Took k o m q = tt
-keeper-step a cells Q event.Start k o m q = tt
-keeper-step a cells Q event.Finish k o m q = tt
-keeper-step a cells Q event.Gave k o m q = tt
+keeper-step a cells Q event.Took k o m q = o
+keeper-step a cells Q event.Start k o m q = o
+keeper-step a cells Q event.Finish k o m q = o
+keeper-step a cells Q event.Gave k o m q = o
 keeper-step a cells Q e k o m q = tt
 
 -- a kill stays
@@ -176,10 +176,10 @@ killed-stays a (event.Clock t) k right killed = absurd (clock-right t (shows_lim
 killed-stays a (event.Look c known) k right killed = absurd (look-right (c == a.cell) known (tells_ending (ending a (c == a.cell) k) known) k killed right)
 killed-stays a event.Kill k right killed = absurd (kill-right k killed right)
 killed-stays a event.KeeperMemory k right killed = absurd (poll-right reason.Memory k killed right)
-killed-stays a event.Took k right killed = absurd right
-killed-stays a event.Start k right killed = absurd right
-killed-stays a event.Finish k right killed = absurd right
-killed-stays a event.Gave k right killed = absurd right
+killed-stays a event.Took k right killed = killed
+killed-stays a event.Start k right killed = killed
+killed-stays a event.Finish k right killed = killed
+killed-stays a event.Gave k right killed = killed
 killed-stays a e k right killed = absurd right
 
 -- no read, file or want makes a finding settled

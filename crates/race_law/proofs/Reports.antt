@@ -3,7 +3,7 @@ use Rattle.race_core.specs.Carrying.{Looked, KnewBy, Carries}
 use Rattle.std.proofs.Common.{refl, ◌≡◌, ◌⊎◌, ℕ, ◌<◌, List, Option, Some, None, sym, ◌∙◌, subst, inl, inr, arith, true}
 use Rattle.std.specs.Prelude.{slice_get}
 use Rattle.race_core.specs.Report.{EventsOf, ReportOf, no_events}
-use Rattle.race_core.specs.Parts.{Terms, reader_of, keeper_of, RightReader, RightKeeper}
+use Rattle.race_core.specs.Parts.{Terms, reader_of, keeper_of, place_of, RightReader, RightKeeper}
 use Rattle.race_core.specs.Ends.{IsLast}
 use Rattle.race_law.specs.World.{Script, Race, World, Serves}
 use Rattle.race_law.specs.Invariant.{Inv}
@@ -12,6 +12,7 @@ use Rattle.race_law.specs.Theorem.{Agree, Knows, WasFound}
 use Rattle.race_core.specs.Consistent.{events_at, end_at, Replayed, Tells, Consistent, AreOf}
 use Rattle.race_core.specs.declared.end.JobEnd.{JobEnd}
 use Rattle.race_core.specs.declared.part.By.{By}
+use Rattle.race_core.specs.declared.part.Place.TheVariants as place
 use Rattle.race_core.specs.declared.part.Reader.TheVariants as reader
 
 none-served : {T : Type 0} (s : Script T) → None ≡ Some s → ⊥
@@ -46,6 +47,12 @@ module _ {T : Type 0} (For : ℕ → T → Type 0) (Fatal : ℕ → T → Type 0
           inr (l.0, l.1, subst (λ x. IsLast x) (sym (are.ends_are i l.0 r at lt)) l.2, are.ends_are i j r at jl ∙ l.3 ∙ sym (are.ends_are i l.0 r at lt), l.4)
     ]
 
+    away : (j : ℕ) → j < race.jobs → place_of (events_at r j) ≡ place.Away
+    away j jl = elim (ended-at j jl) [
+      | inl e ↦ e.2
+      | inr l ↦ subst (λ es. place_of es ≡ place.Away) (sym l.4) refl
+    ]
+
   pub consistent : Consistent For (Serves race.script) race.terms race.lanes race.jobs reports
   consistent = record {
     lanes_are = are.lanes_are;
@@ -55,6 +62,7 @@ module _ {T : Type 0} (For : ℕ → T → Type 0) (Fatal : ℕ → T → Type 0
       events = are.events_size i r at;
       right_reader = λ j jl. subst (λ (es : ℕ → EventsOf T). RightReader (reader_of (es j))) (same i r at) (inv.seat i j).right_reader;
       right_keeper = λ j jl. subst (λ (es : ℕ → EventsOf T). RightKeeper (keeper_of (race.terms j) (es j))) (same i r at) (inv.seat i j).right_keeper;
+      place = away i r at;
       each = each i r at;
     };
     carried = λ i j r f at jl h.

@@ -2,12 +2,13 @@
 use Rattle.std.specs.Prelude.{◌≡◌, ◌⊎◌, ℕ, ◌<◌, Option, Some, None}
 use Rattle.race_core.specs.Carrying.{KnewBy, Carries}
 use Rattle.race_core.specs.Report.{EventsOf, no_events}
-use Rattle.race_core.specs.Parts.{Terms, reader_of, keeper_of}
+use Rattle.race_core.specs.Parts.{Terms, reader_of, keeper_of, place_of}
 use Rattle.race_core.specs.Ends.{EndIs, UnservedEndIs, IsLast}
 use Rattle.race_law.specs.World.{Script, Race, World, plain}
 use Rattle.race_core.specs.declared.event.Judged.{Judged}
 use Rattle.race_core.specs.declared.event.Judged.TheVariants as progress
 use Rattle.race_core.specs.declared.end.JobEnd.{JobEnd}
+use Rattle.race_core.specs.declared.part.Place.TheVariants as place
 use Rattle.race_core.specs.declared.end.JobEnd.TheVariants as end
 
 -- the end follows from the events, where the job is served and where not
@@ -15,10 +16,10 @@ abbrev pub EndOf : {T : Type 0} → Option (Script T) → Terms T → (T → Typ
 EndOf None a known es e = UnservedEndIs a known (reader_of es) (keeper_of a es) e
 EndOf (Some s) a known es e = EndIs a known (reader_of es) (keeper_of a es) e
 
--- A lane's job has ended so: by its events, or, after Stopped or Memory, the same and without events.
+-- A lane's job has ended so: by its events, which keep no place; or, after Stopped or Memory, the same and without events.
 abbrev pub HasEnded : {T : Type 0} → Option (Script T) → Terms T → (ℕ → EventsOf T) → (ℕ → JobEnd T) → ℕ → Type 0
 HasEnded script a events ends j =
-    (((l : ℕ) → l < j → IsLast (ends l) → ⊥) × EndOf script a (KnewBy events j) (events j) (ends j))
+    (((l : ℕ) → l < j → IsLast (ends l) → ⊥) × EndOf script a (KnewBy events j) (events j) (ends j) × (place_of (events j) ≡ place.Away))
     ⊎ ((l : ℕ) × (l < j) × IsLast (ends l) × (ends j ≡ ends l) × (events j ≡ no_events))
 
 -- all lanes have ended

@@ -1,7 +1,7 @@
 -- A world of lanes: what each has read and seen so far, and one set-once cell per job.
 use Rattle.std.specs.Prelude.{◌≡◌, ◌⊎◌, ℕ, zero, suc, ◌+◌, ◌≤◌, ◌<◌, Bool, true, false, ◌||◌, List, [], ◌∷◌, ◌++◌, Option, Some, None}
 use Rattle.race_core.specs.Report.{EventsOf, no_events}
-use Rattle.race_core.specs.Parts.{Terms, reader_of, keeper_of, shows_limit, RightReader, RightKeeper}
+use Rattle.race_core.specs.Parts.{Terms, reader_of, keeper_of, place_of, shows_limit, RightReader, RightKeeper, RightPlace}
 use Rattle.race_core.specs.declared.event.Polled.TheVariants as polled
 use Rattle.race_core.specs.Ends.{IsKilled}
 use Rattle.race_core.specs.declared.event.Judged.{Judged}
@@ -141,6 +141,7 @@ pub record Steps {T : Type 0} (race : Race T) (w : World T) (s : Step T) (v : Wo
   pub elsewhere : (i j : ℕ) → (i ≡ s.lane → j ≡ s.job → ⊥) → v.events i j ≡ w.events i j
   pub right_reader : RightReader (reader_of (v.events s.lane s.job))
   pub right_keeper : RightKeeper (keeper_of (race.terms s.job) (v.events s.lane s.job))
+  pub right_place : RightPlace (place_of (v.events s.lane s.job))
 
 -- any list of steps
 abbrev pub WorldRun : {T : Type 0} → Race T → World T → List (Step T) → World T → Type 0

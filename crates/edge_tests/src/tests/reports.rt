@@ -67,7 +67,9 @@ fn events_change_their_part(rt: HostRuntime) {
     state = lane_step(state, LaneEvent::Clock(15));
     assert!(rt; matches!(state.keeper, Keeper::Due(Reason::Limit(15))));
     state = lane_step(state, LaneEvent::Took);
-    assert!(rt; state.place == Place::Held && matches!(state.keeper, Keeper::Wrong));
+    assert!(rt;
+        state.place == Place::Held && matches!(state.keeper, Keeper::Due(Reason::Limit(15)))
+    );
 }
 
 // A read that was judged More.

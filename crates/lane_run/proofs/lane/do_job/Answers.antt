@@ -26,7 +26,7 @@ returns-then-serves-clause-done g c =
     served_done g.T.Settled.problem g.T.Settled.job g.T.Settled.answer (g.M.Asks.problem m) t.mode t.limit (g.M.Makes.is_served m c.args.report.now.lane (name_at t.mode c.args.place)) (g.C.Clock.may_read t.clock.now)
     c.args.place c.args.notes.now c.run_child.new.notes c.run_child.result.end (KnewBy (events_at c.args.report.now) c.args.place)
     (record { reader = c.run_child.result.events.events; keeper = c.run_child.new.keeper_events.events }) c.terms-terms.result c.other_cell.result c.terms-terms.ensures c.other_cell.ensures serve
-    (record { ended = e.end; right_reader = e.right.0; right_keeper = e.right.1; keeps = e.keeps; won = e.won; found = e.found })
+    (record { ended = e.end; right_reader = e.right.0; right_keeper = e.right.1; away = e.place; keeps = e.keeps; won = e.won; found = e.found })
 
 pub returns-else-serves-clause-done : goal.returns-else-serves-clause-done
 returns-else-serves-clause-done g c =
@@ -48,7 +48,7 @@ returns-else-serves-clause-done g c =
     (λ f h. known_knew for serves terms may n c.args.notes.now r c.requires.so_far f h)
     (λ f h. knew_known for serves terms may n c.args.notes.now r c.requires.so_far few f h)
     (λ f h. known_for for serves terms may n c.args.notes.now r c.requires.so_far f h)
-    (record { ended = e.end; right_keeper = e.right; keeps = e.keeps }))
+    (record { ended = e.end; right_keeper = e.right; away = e.place; keeps = e.keeps }))
 
 pub returns-then-serves-clause-faults : goal.returns-then-serves-clause-faults
 returns-then-serves-clause-faults g c =
