@@ -53,6 +53,7 @@ fn run_program<R: Threads + Wait + Sync, F: Files, S: Sink, Y: Yard, C: Clock>(
         (map string_bytes words.now) done
         × Promises (C.may_read clock.now)
         (world_at (F.told files.old) (F.faults files.old) (F.blamed files.old) (S.taken out.old) (S.faults out.old) (S.ended out.old) (record { scripts = Y.told yard.old; started = Y.started yard.old; counts = record { starts = Y.start_faults yard.old; reads = Y.read_faults yard.old; holds = Y.hold_faults yard.old } }))
+        (world_at (F.told files.new) (F.faults files.new) (F.blamed files.new) (S.taken out.new) (S.faults out.new) (S.ended out.new) (record { scripts = Y.told yard.new; started = Y.started yard.new; counts = record { starts = Y.start_faults yard.new; reads = Y.read_faults yard.new; holds = Y.hold_faults yard.new } }))
         (map string_bytes words.now) done
         × (result ≡ done.rc) }
 {

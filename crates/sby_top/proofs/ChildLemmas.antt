@@ -18,8 +18,6 @@ use Rattle.race_core.specs.Carrying.{Carries}
 use Rattle.race_core.specs.Consistent.{end_at}
 use Rattle.race_core.specs.Report.{ReportOf}
 use Rattle.race_core.specs.Told.{Decided, told_by}
-use Rattle.race_core.specs.declared.end.JobEnd.{JobEnd}
-use Rattle.race_core.specs.declared.end.JobEnd.TheVariants.{Stopped}
 use Rattle.sby_terms.specs.Decide.{Decides}
 use Rattle.sby_terms.specs.Path.{job_path}
 use Rattle.sby_terms.specs.Problem.{ProblemOf}
@@ -39,9 +37,10 @@ use Rattle.sby_lines.specs.Lines.{IsStatus}
 use Rattle.sby_lines.specs.Told.{IsRaceStatus}
 use Rattle.lane_judge.specs.Fates.{most_bytes}
 use Rattle.lane_judge.specs.Serving.{IsServing, evidence_at}
-use Rattle.task_race.specs.Ends.{IsFateOf, IsLimitShown, script_of}
+use Rattle.task_race.specs.Ends.{IsFateOf, script_of}
+use Rattle.task_race.proofs.PlaceLemmas.{at_contains}
 use Rattle.task_race.specs.Ran.{LanesRan}
-use Rattle.sby_top.specs.Claims.{AreValidChildren, HasOwnFailedCall, IsCausedEnd, IsEvent, IsInTime, IsJudgedAt, IsValidChild, IsVerdictInTime, status_for}
+use Rattle.sby_top.specs.Claims.{AreValidChildren, HasOwnEnd, HasOwnFailedCall, IsInTime, IsJudgedAt, IsStoppedEnd, IsValidChild, IsVerdictInTime, status_for}
 use Rattle.sby_top.specs.Headline.{Exit, TaskRan}
 use Rattle.sby_top.specs.Judged.{AreReports, racing_of}
 use Rattle.sby_top.specs.Served.{ArePut, jobs_in}
@@ -49,7 +48,7 @@ use Rattle.sby_top.specs.Task.{Lanes, TaskOf}
 use Rattle.sby_top.specs.World.{Moments, race_of}
 use Rattle.sby_top.specs.declared.outcome.TaskEnd.{TaskEnd}
 use Rattle.sby_top.proofs.AnswerLemmas.{kept_or_else, kept_verdict, pass_apart}
-use Rattle.sby_top.proofs.EventLemmas.{event_named, none_carried}
+use Rattle.sby_top.proofs.EventLemmas.{none_carried}
 use Rattle.sby_top.proofs.EvidenceLemmas.{FileLaws, answers_agree, fate_says}
 use Rattle.sby_top.proofs.FailLemmas.{fail_status}
 use Rattle.sby_top.proofs.LawLemmas.{all_one, one_put_stands, pass_status}
@@ -70,26 +69,22 @@ module _ (laws : FileLaws) (may_read : ℕ → Type 0) (number : ℕ) (moments :
   lanes_ran : LanesRan (racing_of task judged.done.problem number engines) may_read moments.before.yard moments.after.yard end.start end.reports.items
   lanes_ran = subst (λ s. AreReports s may_read task judged.done.problem moments.put.told (race_of number moments.before moments.after end.start) end.reports.items) service judged.done.reports_are
 
-  -- TIMEOUT names a reading that shows the limit
-  timed_out : (status : Status) → end.status ≡ status → status ≡ Timeout → (t : ℕ) × IsLimitShown may_read task.request.limit end.start t
-  timed_out status is timeout =
-      let event : IsEvent may_read number moments task end Timeout = subst (IsEvent may_read number moments task end) (is ∙ timeout) (event_named may_read number moments task end ran.named) in
-      let stopped = event.1.1 in
-      (event.1.0, (subst (λ s. IsCausedEnd s may_read task event.0.outcome.0.problem (race_of number moments.before moments.after end.start) stopped.lane stopped.place (Stopped event.1.0)) service stopped.caused).2)
-
   -- the status where a job with a valid certificate has no answer, and nothing is decided
-  unanswered : (place : ℕ) (a : Answer) → slice_get answers place ≡ Some (Some a) → (events : List Event) (e : JobEnd FindingOf) (status : Status) → end.status ≡ status → HasStatus None events status → Contains events (told_by e)
-      → Hinders may_read task.request.limit (HasOwnFailedCall number (lane_of place) moments.before.yard moments.after.yard) end.start e → Given
-  unanswered place a at events e Pass is h told hindered = absurd h
-  unanswered place a at events e Fail is h told hindered = absurd h
-  unanswered place a at events e Memory is h told hindered = inr (inl is)
-  unanswered place a at events e Timeout is h told hindered = inr (inr (inl (is, timed_out Timeout is refl)))
-  unanswered place a at events e Error is h told (inl failed) = inr (inr (inr (is, (place, a, at, failed.1))))
-  unanswered place a at events e Error is h told (inr (inl stopped)) = absurd (h.1 (subst (Contains events) stopped.0 told))
-  unanswered place a at events e Error is h told (inr (inr memory)) = absurd (h.0 (subst (Contains events) memory told))
-  unanswered place a at events e Unknown is h told (inl failed) = absurd (h.2 (subst (Contains events) failed.0 told))
-  unanswered place a at events e Unknown is h told (inr (inl stopped)) = absurd (h.1 (subst (Contains events) stopped.0 told))
-  unanswered place a at events e Unknown is h told (inr (inr memory)) = absurd (h.0 (subst (Contains events) memory told))
+  unanswered : (place : ℕ) (a : Answer) → slice_get answers place ≡ Some (Some a) → (events : List Event) (r : ReportOf FindingOf) → slice_get end.reports.items (lane_of place) ≡ Some r → (status : Status) → end.status ≡ status
+      → HasStatus None events status → Contains events (told_by (end_at r place))
+      → Hinders may_read task.request.limit (HasOwnFailedCall number (lane_of place) moments.before.yard moments.after.yard) end.start (end_at r place) → Given
+  unanswered place a at events r own Pass is h told hindered = absurd h
+  unanswered place a at events r own Fail is h told hindered = absurd h
+  unanswered place a at events r own Memory is h told hindered = inr (inl is)
+  unanswered place a at events r own Timeout is h told (inl failed) = inr (inr (place, a, at, inl (inl is, failed.1)))
+  unanswered place a at events r own Timeout is h told (inr (inl stopped)) = inr (inr (place, a, at, inr (is, (r, own, stopped))))
+  unanswered place a at events r own Timeout is h told (inr (inr memory)) = absurd (h.0 (subst (Contains events) memory told))
+  unanswered place a at events r own Error is h told (inl failed) = inr (inr (place, a, at, inl (inr is, failed.1)))
+  unanswered place a at events r own Error is h told (inr (inl stopped)) = absurd (h.1 (subst (Contains events) (ap told_by stopped.1) told))
+  unanswered place a at events r own Error is h told (inr (inr memory)) = absurd (h.0 (subst (Contains events) memory told))
+  unanswered place a at events r own Unknown is h told (inl failed) = absurd (h.2 (subst (Contains events) failed.0 told))
+  unanswered place a at events r own Unknown is h told (inr (inl stopped)) = absurd (h.1 (subst (Contains events) (ap told_by stopped.1) told))
+  unanswered place a at events r own Unknown is h told (inr (inr memory)) = absurd (h.0 (subst (Contains events) memory told))
 
   module _ (d : DesignOf) (reads : Reads end.text d) (race : Race d) where
     -- there is an answer or none for each job
@@ -124,7 +119,7 @@ module _ (laws : FileLaws) (may_read : ℕ → Type 0) (number : ℕ) (moments :
         let lt : k < length (jobs_in judged.done.problem) = omega (arith, size, slice_get_within answers k (Some a) at) in
         let hindered = child_hindered may_read number moments task end engines (lane_of k) k child.script now child.file a judged service lt child.serving child.script_is child.ungated child.is_file child.valid
         (λ r at_lane f carries. none_carried may_read number moments task end d race.0 reads race.1 (judged.done, judged.traced) left (lane_of k) k (end_at r k) (record { report = r; at = at_lane; unsettled = found_at; end_is = refl }) f carries) in
-        inr (unanswered k a at race.2.events (end_at hindered.0 k) end.status refl has (race.2.all hindered.0 k hindered.1 found_at) hindered.2)
+        inr (unanswered k a at race.2.events hindered.0 hindered.1 end.status refl has (race.2.all hindered.0 k (at_contains end.reports.items (lane_of k) hindered.0 hindered.1) found_at) hindered.2)
 
     some_at : (k : ℕ) (a : Answer) → slice_get answers k ≡ Some (Some a) → (o : Option (Option Answer)) → slice_get race.0 k ≡ o → (x : Option Answer) × (slice_get race.0 k ≡ Some x)
     some_at k a at (Some x) is = (x, is)
@@ -198,6 +193,13 @@ module _ (laws : FileLaws) (may_read : ℕ → Type 0) (number : ℕ) (moments :
       }
   own_child (suc place) a at = let no : ◌≡◌ {A = Option (Option Answer)} None (Some (Some a)) = at in cc
 
+  by_own : (place : ℕ) (a : Answer) → slice_get (Some answer ∷ []) place ≡ Some (Some a)
+      → ((((end.status ≡ Timeout) ⊎ (end.status ≡ Error)) × HasOwnFailedCall number lane moments.before.yard moments.after.yard) ⊎ ((end.status ≡ Timeout) × HasOwnEnd end lane place (IsStoppedEnd may_read task end)))
+      → IsInTime may_read number lane moments task end (status_for answer)
+  by_own place a at (inl failed) = inr (inr (inl failed))
+  by_own zero a at (inr stopped) = inr (inr (inr stopped))
+  by_own (suc place) a at (inr stopped) = let no : ◌≡◌ {A = Option (Option Answer)} None (Some (Some a)) = at in cc
+
   pub child_gives : IsInTime may_read number lane moments task end (status_for answer)
   child_gives = elim
       (children_give laws may_read number moments task end exit engines now (Some answer ∷ []) (λ place. lane) (verdict_for answer) ran judged service (sym (ap length jobs_are)) own_child
@@ -205,9 +207,6 @@ module _ (laws : FileLaws) (may_read : ℕ → Type 0) (number : ℕ) (moments :
         | inl has ↦ inl (status_of_one answer end.status has)
         | inr others ↦ elim others [
           | inl memory ↦ inr (inl memory)
-          | inr more ↦ elim more [
-            | inl timeout ↦ inr (inr (inl timeout))
-            | inr failed ↦ inr (inr (inr (failed.0, failed.1.3)))
-          ]
+          | inr own ↦ by_own own.0 own.1 own.2 own.3
         ]
       ]

@@ -1,27 +1,25 @@
 -- Each end of a call is that of the turn at its place.
-use Rattle.std.proofs.Common.{◌≡◌, List, [], ◌∷◌, ℕ, zero, suc, ◌+◌, refl, subst, inl, inr, take, arith}
+use Rattle.std.proofs.Common.{◌≡◌, List, [], ◌∷◌, ℕ, zero, suc, ◌+◌, refl, subst, inl, inr, arith}
 use Rattle.std.specs.Prelude.{Some, None, bit_or, slice_get}
 use Rattle.cnf_form.proofs.Members.{Contains-empty}
 use Rattle.sby_lines.proofs.PlaceLemmas.{at_contains}
 use Rattle.sby_lines.proofs.ShownLemmas.{some_same}
 use Rattle.sby_words.specs.Requests.{AskGen, AskJudge, AskNames, AskTasks, Request as Asked}
 use Rattle.sby_words.specs.Words.{IsAsked}
-use Rattle.sby_top.specs.Claims.{IsHad, RanUpto}
+use Rattle.sby_top.specs.Claims.{IsHad}
 use Rattle.sby_top.specs.Headline.{Exit, Code, Cut}
-use Rattle.sby_top.specs.Run.{BeginsAt, Did, Had, OneByOne, TurnRan, TurnsDone}
+use Rattle.sby_top.specs.Run.{Did, Had, TurnRan, TurnsDone}
 use Rattle.sby_top.specs.Turns.{Turn}
 use Rattle.sby_top.specs.World.{Moments, World}
 use Rattle.sby_top.specs.declared.outcome.Done.{Done}
 use Rattle.sby_top.specs.declared.outcome.TaskEnd.{TaskEnd}
 
--- the turn at a place, which was had when those before it were
-record HadAt (may_read : ℕ → Type 0) (number : ℕ) (start : World) (turns : List Turn) (ends : List TaskEnd) (place : ℕ) (end : TaskEnd) : Type 0 where
+-- the turn at a place, with its moments
+record HadAt (may_read : ℕ → Type 0) (number : ℕ) (turns : List Turn) (ms : List Moments) (place : ℕ) (end : TaskEnd) : Type 0 where
   moments : Moments
   turn : Turn
   at : slice_get turns place ≡ Some turn
-  now : World
-  earlier : RanUpto may_read number start (take place turns) (take place ends) now
-  begins : BeginsAt now moments
+  moments_at : slice_get ms place ≡ Some moments
   exit : Exit
   ran : TurnRan may_read (number + place) moments turn end exit
 
@@ -34,58 +32,52 @@ next_number number place = omega arith
 none_at : (place : ℕ) (ends : List TaskEnd) (end : TaskEnd) → ends ≡ [] → slice_get ends place ≡ Some end → ⊥
 none_at place ends end none at = Contains-empty end (at_contains [] place end (subst (λ es. slice_get es place ≡ Some end) none at))
 
-had_at : (may_read : ℕ → Type 0) (number so_far : ℕ) (start : World) (turns : List Turn) (ms : List Moments) (ends : List TaskEnd) (after : World) (exit : Exit) (place : ℕ) (end : TaskEnd) → Had may_read number so_far turns ms ends exit → OneByOne start ms after
-    → slice_get ends place ≡ Some end → HadAt may_read number start turns ends place end
-had_at may_read number so_far start [] [] [] after exit place end had follow at = absurd (none_at place [] end refl at)
-had_at may_read number so_far start [] [] (e ∷ ends) after exit place end had follow at = absurd had
-had_at may_read number so_far start [] (m ∷ ms) ends after exit place end had follow at = absurd had
-had_at may_read number so_far start (turn ∷ turns) [] [] after exit place end had follow at = absurd (none_at place [] end refl at)
-had_at may_read number so_far start (turn ∷ turns) [] (e ∷ ends) after exit place end had follow at = absurd had
-had_at may_read number so_far start (turn ∷ turns) (m ∷ ms) [] after exit place end had follow at = absurd had
-had_at may_read number so_far start (turn ∷ turns) (m ∷ ms) (e ∷ ends) after exit zero end (inl cut) follow at = record {
+had_at : (may_read : ℕ → Type 0) (number so_far : ℕ) (turns : List Turn) (ms : List Moments) (ends : List TaskEnd) (exit : Exit) (place : ℕ) (end : TaskEnd) → Had may_read number so_far turns ms ends exit
+    → slice_get ends place ≡ Some end → HadAt may_read number turns ms place end
+had_at may_read number so_far [] [] [] exit place end had at = absurd (none_at place [] end refl at)
+had_at may_read number so_far [] [] (e ∷ ends) exit place end had at = absurd had
+had_at may_read number so_far [] (m ∷ ms) ends exit place end had at = absurd had
+had_at may_read number so_far (turn ∷ turns) [] [] exit place end had at = absurd (none_at place [] end refl at)
+had_at may_read number so_far (turn ∷ turns) [] (e ∷ ends) exit place end had at = absurd had
+had_at may_read number so_far (turn ∷ turns) (m ∷ ms) [] exit place end had at = absurd had
+had_at may_read number so_far (turn ∷ turns) (m ∷ ms) (e ∷ ends) exit zero end (inl cut) at = record {
   moments = m;
   turn = turn;
   at = refl;
-  now = start;
-  earlier = refl;
-  begins = follow.0;
+  moments_at = refl;
   exit = Cut;
   ran = subst (λ n. TurnRan may_read n m turn end Cut) (first_number number) (subst (λ x. TurnRan may_read number m turn x Cut) (some_same e end at) cut.0);
 }
-had_at may_read number so_far start (turn ∷ turns) (m ∷ ms) (e ∷ ends) after exit zero end (inr more) follow at = record {
+had_at may_read number so_far (turn ∷ turns) (m ∷ ms) (e ∷ ends) exit zero end (inr more) at = record {
   moments = m;
   turn = turn;
   at = refl;
-  now = start;
-  earlier = refl;
-  begins = follow.0;
+  moments_at = refl;
   exit = Code more.0;
   ran = subst (λ n. TurnRan may_read n m turn end (Code more.0)) (first_number number) (subst (λ x. TurnRan may_read number m turn x (Code more.0)) (some_same e end at) more.1);
 }
-had_at may_read number so_far start (turn ∷ turns) (m ∷ ms) (e ∷ ends) after exit (suc place) end (inl cut) follow at = absurd (none_at place ends end cut.2 at)
-had_at may_read number so_far start (turn ∷ turns) (m ∷ ms) (e ∷ ends) after exit (suc place) end (inr more) follow at =
-    let rest = had_at may_read (number + 1) (bit_or so_far more.0) m.after turns ms ends after exit place end more.2 follow.1 at in record {
+had_at may_read number so_far (turn ∷ turns) (m ∷ ms) (e ∷ ends) exit (suc place) end (inl cut) at = absurd (none_at place ends end cut.2 at)
+had_at may_read number so_far (turn ∷ turns) (m ∷ ms) (e ∷ ends) exit (suc place) end (inr more) at =
+    let rest = had_at may_read (number + 1) (bit_or so_far more.0) turns ms ends exit place end more.2 at in record {
       moments = rest.moments;
       turn = rest.turn;
       at = rest.at;
-      now = rest.now;
-      earlier = (m, more.0, follow.0, more.1, rest.earlier);
-      begins = rest.begins;
+      moments_at = rest.moments_at;
       exit = rest.exit;
       ran = subst (λ n. TurnRan may_read n rest.moments rest.turn end rest.exit) (next_number number place) rest.ran;
     }
 
 -- a turn of a call has this end, which stands at this place
-abbrev pub HasTurnAt : (ℕ → Type 0) → World → List (List ℕ) → Done → ℕ → TaskEnd → Type 0
-HasTurnAt may_read before words done place end = (moments : Moments) × (turn : Turn) × (had : IsHad may_read before words done moments turn end) × (had.place ≡ place)
+abbrev pub HasTurnAt : (ℕ → Type 0) → World → World → List (List ℕ) → Done → ℕ → TaskEnd → Type 0
+HasTurnAt may_read before after words done place end = (moments : Moments) × (turn : Turn) × (had : IsHad may_read before after words done moments turn end) × (had.place ≡ place)
 
 place_number : (place : ℕ) → 0 + place ≡ place
 place_number place = omega arith
 
 turns_had : (may_read : ℕ → Type 0) (before after : World) (words : List (List ℕ)) (done : Done) (asked : Asked) (place : ℕ) (end : TaskEnd) → IsAsked words (Some asked) → TurnsDone may_read before after done asked → slice_get done.ends.items place ≡ Some end
-    → HasTurnAt may_read before words done place end
+    → HasTurnAt may_read before after words done place end
 turns_had may_read before after words done asked place end asks run at =
-    let had = had_at may_read 0 0 run.middle run.turns run.ran.0 done.ends.items after run.exit place end run.ran.1 run.ran.2 at in (
+    let had = had_at may_read 0 0 run.turns run.ran.0 done.ends.items run.exit place end run.ran.1 at in (
       had.moments,
       had.turn,
       record {
@@ -95,19 +87,22 @@ turns_had may_read before after words done asked place end asks run at =
         same_sink = run.same_sink;
         turns = run.turns;
         has_turns = run.has_turns;
+        ms = run.ran.0;
+        total = run.exit;
+        had = run.ran.1;
+        order = run.ran.2;
+        rc = run.rc;
         place = place;
         turn_is = had.at;
+        moments_are = had.moments_at;
         end_is = at;
-        now = had.now;
-        earlier = had.earlier;
-        begins = had.begins;
         exit = had.exit;
         ran = subst (λ n. TurnRan may_read n had.moments had.turn end had.exit) (place_number place) had.ran;
       },
       refl,
     )
 
-pub each_had : (may_read : ℕ → Type 0) (before after : World) (words : List (List ℕ)) (done : Done) (place : ℕ) (end : TaskEnd) → Did may_read before after words done → slice_get done.ends.items place ≡ Some end → HasTurnAt may_read before words done place end
+pub each_had : (may_read : ℕ → Type 0) (before after : World) (words : List (List ℕ)) (done : Done) (place : ℕ) (end : TaskEnd) → Did may_read before after words done → slice_get done.ends.items place ≡ Some end → HasTurnAt may_read before after words done place end
 each_had may_read before after words done place end (inl (None, asks, usage)) at = absurd (none_at place done.ends.items end usage.ends at)
 each_had may_read before after words done place end (inl (Some (AskNames file), asks, inl told)) at = absurd (none_at place done.ends.items end told.4.ends at)
 each_had may_read before after words done place end (inl (Some (AskNames file), asks, inr run)) at = turns_had may_read before after words done (AskNames file) place end asks run at

@@ -21,6 +21,7 @@ use Rattle.sby_words.specs.Words.{IsAsked}
 use Rattle.sby_top.specs.Causes.{IsOutcome}
 use Rattle.sby_top.specs.Claims.{AllExpected, AreExpected, HasTold}
 use Rattle.sby_top.specs.Headline.{AreLines, Code, Cut, EndIn, Exit, HasOwnStatus, IsPrinted, TaskRan, WasStopped}
+use Rattle.sby_top.specs.Promise.{ZeroIsExpected}
 use Rattle.sby_top.specs.Run.{Did, Had, TurnRan, TurnsDone, rc_of_exit}
 use Rattle.sby_top.specs.Task.{TaskOf, problem_of}
 use Rattle.sby_top.specs.Turns.{Refused, Run, Turn}
@@ -200,14 +201,20 @@ exit_zero : (exit : Exit) → rc_of_exit exit ≡ 0 → exit ≡ Code 0
 exit_zero (Code n) e = ap Code e
 exit_zero Cut e = absurd (omega (e, arith))
 
+turned_expected : (may_read : ℕ → Type 0) (before after : World) (done : Done) (asked : Asked) → done.rc ≡ 0 → (turned : TurnsDone may_read before after done asked) → AreExpected turned.turns done.ends.items
+turned_expected may_read before after done asked zero_rc turned = (had_expected may_read 0 0 turned.turns turned.ran.0 done.ends.items turned.exit turned.ran.1 (exit_zero turned.exit (sym turned.rc ∙ zero_rc))).1
+
 done_expected : (may_read : ℕ → Type 0) (before after : World) (words : List (List ℕ)) (done : Done) (asked : Asked) → IsAsked words (Some asked) → TurnsDone may_read before after done asked → done.rc ≡ 0 → AllExpected before words done
 done_expected may_read before after words done asked asks run zero_rc =
-    (asked, asks, inr (run.middle, run.same_sink, (run.turns, run.has_turns, (had_expected may_read 0 0 run.turns run.ran.0 done.ends.items run.exit run.ran.1 (exit_zero run.exit (sym run.rc ∙ zero_rc))).1)))
+    (asked, asks, inr (run.middle, run.same_sink, (run.turns, run.has_turns, turned_expected may_read before after done asked zero_rc run)))
 
-pub all_expected : (may_read : ℕ → Type 0) (before after : World) (words : List (List ℕ)) (done : Done) → Did may_read before after words done → done.rc ≡ 0 → AllExpected before words done
+all_expected : (may_read : ℕ → Type 0) (before after : World) (words : List (List ℕ)) (done : Done) → Did may_read before after words done → done.rc ≡ 0 → AllExpected before words done
 all_expected may_read before after words done (inl (None, asks, usage)) zero_rc = absurd (omega (usage.rc, zero_rc, arith))
 all_expected may_read before after words done (inl (Some (AskNames file), asks, told)) zero_rc = (AskNames file, asks, inl (file, refl))
 all_expected may_read before after words done (inl (Some (AskJudge j), asks, run)) zero_rc = done_expected may_read before after words done (AskJudge j) asks run zero_rc
 all_expected may_read before after words done (inl (Some (AskTasks t), asks, run)) zero_rc = done_expected may_read before after words done (AskTasks t) asks run zero_rc
 all_expected may_read before after words done (inl (Some (AskGen g), asks, run)) zero_rc = done_expected may_read before after words done (AskGen g) asks run zero_rc
 all_expected may_read before after words done (inr nothing) zero_rc = absurd (omega (nothing.rc, zero_rc, arith))
+
+pub zero_expected_all : (may_read : ℕ → Type 0) (before after : World) (words : List (List ℕ)) (done : Done) → Did may_read before after words done → ZeroIsExpected may_read before after words done
+zero_expected_all may_read before after words done did zero_rc = (all_expected may_read before after words done did zero_rc, λ asked asks turned. turned_expected may_read before after done asked zero_rc turned)

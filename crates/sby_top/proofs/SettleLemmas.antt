@@ -47,7 +47,7 @@ serving_within (e ∷ engines) (suc lane) serving = let rest = serving_within en
 -- the ends of a job with a valid certificate that don't settle it
 abbrev pub Hinders : (ℕ → Type 0) → Option ℕ → Type 0 → Option ℕ → JobEnd FindingOf → Type 0
 Hinders may_read limit Failed start e =
-    ((told_by e ≡ FaultEvent) × Failed) ⊎ ((told_by e ≡ StoppedEvent) × ((t : ℕ) × IsLimitShown may_read limit start t)) ⊎ (told_by e ≡ MemoryEvent)
+    ((told_by e ≡ FaultEvent) × Failed) ⊎ ((t : ℕ) × (e ≡ Stopped t) × IsLimitShown may_read limit start t) ⊎ (told_by e ≡ MemoryEvent)
 
 module _ (may_read : ℕ → Type 0) (number : ℕ) (moments : Moments) (task : TaskOf) (end : TaskEnd) (engines : List Engine) (lane place : ℕ) (script : ScriptOf) (now : Store) (file : List ℕ) (answer : Answer)
     (judged : IsJudgedAt may_read number moments task end now) (service : task.service ≡ Lanes engines) (lt : place < length (jobs_in judged.done.problem)) (serving : IsServing (slice_get engines lane))
@@ -98,10 +98,10 @@ module _ (may_read : ℕ → Type 0) (number : ℕ) (moments : Moments) (task : 
   by_end ReadFailed is cause fate = inr (inl (own_cause.0, own_cause.1, inr (inl cause)))
   by_end StartFailed is cause fate = inr (inl (own_cause.0, own_cause.1, inl cause))
   by_end HoldFailed is cause fate = inr (inl (own_cause.0, own_cause.1, inr (inr cause)))
-  by_end (Skipped f) is cause fate = inr (inr (inr (inr (own_report.0, f, among, subst (λ (x : JobEnd FindingOf). Carries x f) (sym is) refl, inl cause))))
-  by_end (CalledOff f) is cause fate = inr (inr (inr (inr (own_report.0, f, among, subst (λ (x : JobEnd FindingOf). Carries x f) (sym is) refl, inr cause))))
-  by_end (Stopped t) is cause fate = inr (inr (inl (t, cause)))
-  by_end MemoryEnd is cause fate = inr (inr (inr (inl (own_report.0, among, is))))
+  by_end (Skipped f) is cause fate = inr (inr (inr (inr (own_report.0, own_report.1, (f, subst (λ (x : JobEnd FindingOf). Carries x f) (sym is) refl, inl cause)))))
+  by_end (CalledOff f) is cause fate = inr (inr (inr (inr (own_report.0, own_report.1, (f, subst (λ (x : JobEnd FindingOf). Carries x f) (sym is) refl, inr cause)))))
+  by_end (Stopped t) is cause fate = inr (inr (inl (own_report.0, own_report.1, (t, is, cause))))
+  by_end MemoryEnd is cause fate = inr (inr (inr (inl (own_report.0, own_report.1, is))))
 
   pub child_settles : IsJobInTime may_read number lane place moments task judged.done.problem engines end answer
   child_settles = by_end (end_at own_report.0 place) refl own_cause.2 own_fate
@@ -118,10 +118,10 @@ module _ (may_read : ℕ → Type 0) (number : ℕ) (moments : Moments) (task : 
   hinders HoldFailed none cause fate = inl (refl, (own_cause.0, own_cause.1, inr (inr cause)))
   hinders (Skipped f) none cause fate = absurd (none f refl)
   hinders (CalledOff f) none cause fate = absurd (none f refl)
-  hinders (Stopped t) none cause fate = inr (inl (refl, (t, cause)))
+  hinders (Stopped t) none cause fate = inr (inl (t, refl, cause))
   hinders MemoryEnd none cause fate = inr (inr refl)
 
   -- an end of the job that carries no finding hinders it
   pub child_hindered : ((r : ReportOf FindingOf) → slice_get end.reports.items lane ≡ Some r → (f : FindingOf) → Carries (end_at r place) f → ⊥)
-      → (r : ReportOf FindingOf) × Contains end.reports.items r × Hinders may_read task.request.limit (HasOwnFailedCall number lane moments.before.yard moments.after.yard) end.start (end_at r place)
-  child_hindered none = (own_report.0, among, hinders (end_at own_report.0 place) (none own_report.0 own_report.1) own_cause.2 own_fate)
+      → (r : ReportOf FindingOf) × (slice_get end.reports.items lane ≡ Some r) × Hinders may_read task.request.limit (HasOwnFailedCall number lane moments.before.yard moments.after.yard) end.start (end_at r place)
+  child_hindered none = (own_report.0, own_report.1, hinders (end_at own_report.0 place) (none own_report.0 own_report.1) own_cause.2 own_fate)

@@ -5,13 +5,16 @@ use Rattle.judge.specs.Finding.{FindingOf}
 use Rattle.judge.specs.Problem.{AskedOf}
 use Rattle.judge.specs.declared.problem.ProblemFault.TheVariants.{Read as ReadFault, Design as DesignFault, TooMany as TooManyFault}
 use Rattle.race_core.specs.Report.{ReportOf}
+use Rattle.sby_terms.specs.declared.engine.Engine.{Engine}
 use Rattle.sby_terms.specs.declared.names.JobName.{JobName}
 use Rattle.sby_terms.specs.Path.{job_path}
 use Rattle.sby_lines.specs.declared.early.Early.{Early}
 use Rattle.sby_lines.specs.declared.early.Early.TheVariants.{File, Sby, Task, Read, Design, TooMany, Streams, Memory}
-use Rattle.sby_top.specs.Judged.{AreReports}
+use Rattle.sby_top.specs.Judged.{AreReports, racing_of}
 use Rattle.sby_top.specs.Served.{ArePut, IsAccepted, IsRefused, IsServed, jobs_in, slices_in}
-use Rattle.sby_top.specs.Task.{Stored, TaskOf, streams_in}
+use Rattle.sby_top.specs.Task.{Lanes, Stored, TaskOf, streams_in}
+use Rattle.task_race.specs.Bays.{NoneStarted}
+use Rattle.task_race.specs.Ran.{LanesRan}
 use Rattle.sby_top.specs.Traces.{ArePutTraces, AreTraces, TraceOf}
 use Rattle.sby_top.specs.World.{FilesOf, IsFailedAt, Moments, RaceOf, files_of}
 
@@ -30,8 +33,8 @@ IsHalted task before after =
     (after ≡ before) ⊎ ((p : AskedOf) × (i : ℕ) × IsServed before task p × ArePut p task.request.name (take i (jobs_in p)) before after)
 
 -- Why a task ended before its lanes: a file call failed, at this path, which is one of the task's; the design's text is refused so; or it
--- is accepted, with more streams than jobs. These two put no file, and no call failed. A task that is run has a sound task file. Want of
--- memory may come at any time, and leaves the files as they were put so far.
+-- is accepted, with more streams than jobs. These two put no file, and no call failed. A task that is run has a sound task file.
+-- Memory may run out at any time, which leaves the files as they were put so far.
 abbrev pub HasReason : TaskOf → FilesOf → FilesOf → Early → Type 0
 HasReason task before after (File path) =
     IsFailedAt (record before { told = after.told }) after (string_bytes path) × IsFailedPath task before.told after.told (string_bytes path)
@@ -62,14 +65,24 @@ pub record AreTracesPut (task : TaskOf) (before after : FilesOf) (problem : Aske
   pub put : ArePutTraces task.request problem.design (take count traces) before after unput
   pub whole : stopped ⊎ (AreTraces task.request (record { design = problem.design; reports = reports; start = None }) traces × (take count traces ≡ traces))
 
--- no child was started; or memory ran out, perhaps after the lanes
-abbrev pub AreSpared : RaceOf → Early → Type 0
-AreSpared race early = (race.start ≡ None) × ((race.after ≡ race.before) ⊎ (early ≡ Memory))
+-- the task's lanes were raced
+abbrev pub WereRaced : (ℕ → Type 0) → TaskOf → Option Store → RaceOf → Type 0
+WereRaced may_read task told race =
+    (p : AskedOf) × (engines : List Engine) × (start : Option ℕ) × (reports : List (ReportOf FindingOf)) × IsServed told task p × (task.service ≡ Lanes engines)
+    × LanesRan (racing_of task p race.task engines) may_read race.before race.after start reports
+
+-- The yard is as it was; or memory ran out, and none of the task's children was started, or its lanes were raced.
+abbrev pub IsSpared : (ℕ → Type 0) → TaskOf → Option Store → RaceOf → Early → Type 0
+IsSpared may_read task told race early = (race.after ≡ race.before) ⊎ ((early ≡ Memory) × (NoneStarted race.before race.after ⊎ WereRaced may_read task told race))
+
+-- no lane has a reading at which it started, and no child was started but in lanes that were raced
+abbrev pub AreSpared : (ℕ → Type 0) → TaskOf → Option Store → RaceOf → Early → Type 0
+AreSpared may_read task told race early = (race.start ≡ None) × IsSpared may_read task told race early
 
 -- A task ended before its lanes, for a reason, and no trace file was put; or it was done, and its trace files were put, all of them unless
 -- this was stopped: because memory ran out, or by a failed call of the sink.
 abbrev pub IsOutcome : (ℕ → Type 0) → TaskOf → Moments → RaceOf → Option Early → List ℕ → List (ReportOf FindingOf) → List ℕ → Type 0 → Type 0
 IsOutcome may_read task m race (Some early) text reports unput stopped =
-    (text ≡ []) × (reports ≡ []) × (unput ≡ []) × HasReason task m.got m.put early × (files_of m.after ≡ files_of m.before) × AreSpared race early
+    (text ≡ []) × (reports ≡ []) × (unput ≡ []) × HasReason task m.got m.put early × (files_of m.after ≡ files_of m.before) × AreSpared may_read task m.got.told race early
 IsOutcome may_read task m race None text reports unput stopped =
     (done : IsDone may_read task m.got m.put race text reports) × AreTracesPut task (files_of m.before) (files_of m.after) done.problem reports unput stopped

@@ -41,7 +41,7 @@ use Rattle.sby_words.specs.Requests.{AskNames, Request as Asked}
 use Rattle.sby_words.specs.Words.{IsAsked}
 use Rattle.sby_top.specs.Causes.{AreTracesPut, HasReason, IsDone, IsOutcome}
 use Rattle.sby_top.specs.Headline.{AreLines, ArePrintedOf, Exit, Code, IsCarried, IsReachPrinted, WasStopped}
-use Rattle.sby_top.specs.Run.{BeginsAt, SameSink, TurnRan}
+use Rattle.sby_top.specs.Run.{Had, OneByOne, SameSink, TurnRan, rc_of_exit}
 use Rattle.sby_top.specs.Served.{ArePut, IsServed, IsTextOf, jobs_in, most_stream}
 use Rattle.sby_top.specs.Judged.{racing_of}
 use Rattle.sby_top.specs.Task.{Lanes, Service, Streams, TaskOf}
@@ -54,35 +54,30 @@ use Rattle.task_race.specs.Ends.{HasEndCause, IsCalledOffBy, IsFateOf, IsLimitSh
 use Rattle.sby_top.specs.declared.outcome.Done.{Done}
 use Rattle.sby_top.specs.declared.outcome.TaskEnd.{TaskEnd}
 
--- turns, numbered from this one on, were had, one after the other, from one moment to another
-abbrev pub RanUpto : (ℕ → Type 0) → ℕ → World → List Turn → List TaskEnd → World → Type 0
-RanUpto may_read number before [] [] now = now ≡ before
-RanUpto may_read number before [] (end ∷ ends) now = ⊥
-RanUpto may_read number before (turn ∷ turns) [] now = ⊥
-RanUpto may_read number before (turn ∷ turns) (end ∷ ends) now =
-    (m : Moments) × (rc : ℕ) × BeginsAt before m × TurnRan may_read number m turn end (Code rc) × RanUpto may_read (number + 1) m.after turns ends now
-
--- A turn of a call: the words ask it; it was had at these moments, when those before it were; and this is its end, which stands at its
--- place. The place is its number, from 0 on.
-pub record IsHad (may_read : ℕ → Type 0) (before : World) (words : List (List ℕ)) (done : Done) (m : Moments) (turn : Turn) (end : TaskEnd) : Type 0 where
+-- A turn of a call: the words ask it; the turns were had, in their order, from the call's begin to its end; and this is the one at a place,
+-- with its moments and its end. The place is its number, from 0 on.
+pub record IsHad (may_read : ℕ → Type 0) (before after : World) (words : List (List ℕ)) (done : Done) (m : Moments) (turn : Turn) (end : TaskEnd) : Type 0 where
   pub asked : Asked
   pub asks : IsAsked words (Some asked)
   pub begun : World
   pub same_sink : SameSink before begun
   pub turns : List Turn
   pub has_turns : HasTurns (files_of before) (files_of begun) asked turns
+  pub ms : List Moments
+  pub total : Exit
+  pub had : Had may_read 0 0 turns ms done.ends.items total
+  pub order : OneByOne begun ms after
+  pub rc : done.rc ≡ rc_of_exit total
   pub place : ℕ
   pub turn_is : slice_get turns place ≡ Some turn
+  pub moments_are : slice_get ms place ≡ Some m
   pub end_is : slice_get done.ends.items place ≡ Some end
-  pub now : World
-  pub earlier : RanUpto may_read 0 begun (take place turns) (take place done.ends.items) now
-  pub begins : BeginsAt now m
   pub exit : Exit
   pub ran : TurnRan may_read place m turn end exit
 
 -- a task of a call, and its end
-abbrev pub IsTaskOf : (ℕ → Type 0) → World → List (List ℕ) → Done → Moments → TaskOf → TaskEnd → Type 0
-IsTaskOf may_read before words done m task end = IsHad may_read before words done m (Run task) end
+abbrev pub IsTaskOf : (ℕ → Type 0) → World → World → List (List ℕ) → Done → Moments → TaskOf → TaskEnd → Type 0
+IsTaskOf may_read before after words done m task end = IsHad may_read before after words done m (Run task) end
 
 -- trace files of these runs were put, one after the other
 abbrev pub AreStored : TaskOf → DesignOf → List TraceOf → Option Store → Option Store → Type 0
@@ -130,7 +125,7 @@ HasPrinted m lines =
     ((m.after.sink_faults ≡ m.before.sink_faults) × (m.after.taken ≡ grown m.before.taken (concat lines)))
     ⊎ (Rose m.before.sink_faults m.after.sink_faults × GrownBySome m.before.taken m.after.taken (concat lines))
 
--- The sink tells what it has taken, no call of it failed as the lines were printed, and what it took then ends with the last line of a task
+-- The sink tells what it has taken, no call of it failed while the lines were printed, and what it took then ends with the last line of a task
 -- of this name, with this status and this number.
 pub record HasTold (m : Moments) (name : List ℕ) (status : Status) (rc : ℕ) : Type 0 where
   pub still : Rose m.before.sink_faults m.after.sink_faults → ⊥
@@ -288,7 +283,7 @@ pub record IsOpenEnd (may_read : ℕ → Type 0) (number : ℕ) (m : Moments) (t
 
 -- The event that a status other than PASS and FAIL names: UNKNOWN that each end of an unsettled job is Unknown or NotServed, with the cause
 -- of each; TIMEOUT a reading that shows the limit; ERROR a fault before the lanes, or the faulty end of an unsettled job, with its cause. Of
--- out of memory nothing is said.
+-- MEMORY nothing is said.
 abbrev pub IsEvent : (ℕ → Type 0) → ℕ → Moments → TaskOf → TaskEnd → Status → Type 0
 IsEvent may_read number m task end Pass = Unit {0}
 IsEvent may_read number m task end Fail = Unit {0}
@@ -311,25 +306,33 @@ HasFailedCall before now = Rose before.starts now.starts ⊎ Rose before.reads n
 abbrev pub HasOwnFailedCall : (number lane : ℕ) → YardAt → YardAt → Type 0
 HasOwnFailedCall number lane before now = (counts : CountsOf) × AreCountsOf number lane before now counts × ((0 < counts.starts) ⊎ (0 < counts.reads) ⊎ (0 < counts.holds))
 
+-- the lane's own report has this end of the job at this place
+abbrev pub HasOwnEnd : TaskEnd → (lane place : ℕ) → (JobEnd FindingOf → Type 0) → Type 0
+HasOwnEnd end lane place P = (r : ReportOf FindingOf) × (slice_get end.reports.items lane ≡ Some r) × P (end_at r place)
+
+-- an end by a reading that shows the limit
+abbrev pub IsStoppedEnd : (ℕ → Type 0) → TaskOf → TaskEnd → JobEnd FindingOf → Type 0
+IsStoppedEnd may_read task end e = (t : ℕ) × (e ≡ Stopped t) × IsLimitShown may_read task.request.limit end.start t
+
 -- A lane's job, whose child's certificate is valid for this answer, is settled with it: a report carries a finding for it with this answer.
--- Or a call for a child of the lane itself failed; a reading shows the limit; the lane ended the job because memory ran out; or it was skipped or
--- called off by a finding of the task that decides it.
+-- Or a call for a child of the lane itself failed; or the lane's own end of the job says that it was stopped by a reading that shows the
+-- limit, that memory ran out, or that it was skipped or called off by a finding of the task that decides it.
 abbrev pub IsJobInTime : (ℕ → Type 0) → (number lane place : ℕ) → Moments → TaskOf → AskedOf → List Engine → TaskEnd → Answer → Type 0
 IsJobInTime may_read number lane place m task p engines end answer =
     ((f : FindingOf) × SettledIn job_of end.reports.items (name_at task.request.mode place) f × (f.answer ≡ answer))
     ⊎ HasOwnFailedCall number lane m.before.yard m.after.yard
-    ⊎ ((t : ℕ) × IsLimitShown may_read task.request.limit end.start t)
-    ⊎ ((r : ReportOf FindingOf) × Contains end.reports.items r × (end_at r place ≡ MemoryEnd))
-    ⊎ ((r : ReportOf FindingOf) × (f : FindingOf) × Contains end.reports.items r × Carries (end_at r place) f
+    ⊎ HasOwnEnd end lane place (IsStoppedEnd may_read task end)
+    ⊎ HasOwnEnd end lane place (λ e. e ≡ MemoryEnd)
+    ⊎ HasOwnEnd end lane place (λ e. (f : FindingOf) × Carries e f
     × (IsSkippedBy (racing_of task p number engines) (name_at task.request.mode place) f ⊎ IsCalledOffBy (racing_of task p number engines) (name_at task.request.mode place) f))
 
--- The status is this one; or memory ran out; or it is TIMEOUT, and a reading shows the limit; or ERROR, and a call for a child of the
--- lane itself failed.
+-- The status is this one; or memory ran out; or it is TIMEOUT or ERROR, and a call for a child of the lane itself failed; or TIMEOUT, and
+-- the lane's own end of its first job is by a reading that shows the limit.
 abbrev pub IsInTime : (ℕ → Type 0) → (number lane : ℕ) → Moments → TaskOf → TaskEnd → Status → Type 0
 IsInTime may_read number lane m task end status =
     (end.status ≡ status) ⊎ (end.status ≡ Memory)
-    ⊎ ((end.status ≡ Timeout) × ((t : ℕ) × IsLimitShown may_read task.request.limit end.start t))
-    ⊎ ((end.status ≡ Error) × HasOwnFailedCall number lane m.before.yard m.after.yard)
+    ⊎ (((end.status ≡ Timeout) ⊎ (end.status ≡ Error)) × HasOwnFailedCall number lane m.before.yard m.after.yard)
+    ⊎ ((end.status ≡ Timeout) × HasOwnEnd end lane 0 (IsStoppedEnd may_read task end))
 
 -- The job at this place has a valid certificate for this answer in this lane: the lane's engine serves jobs; its child's script for the job
 -- is told, and has no gate; and what the child leaves is a certificate of the job's file.
@@ -347,10 +350,11 @@ abbrev pub AreValidChildren : Option YardOf → ℕ → (ℕ → ℕ) → List E
 AreValidChildren told number lane_of engines p mode answers =
     (place : ℕ) (answer : Answer) → slice_get answers place ≡ Some (Some answer) → IsValidChild told number (lane_of place) engines p mode place answer
 
--- The status is that of the verdict; or memory ran out; or it is TIMEOUT, and a reading shows the limit; or ERROR, and a call for a child of
--- one of these answers' own lanes failed.
+-- The status is that of the verdict; or memory ran out; or it is TIMEOUT or ERROR, and a call for a child of one of these answers' own lanes
+-- failed; or TIMEOUT, and such a lane's own end of its job is by a reading that shows the limit.
 abbrev pub IsVerdictInTime : (ℕ → Type 0) → ℕ → (ℕ → ℕ) → List (Option Answer) → Moments → TaskOf → TaskEnd → Verdict → Type 0
 IsVerdictInTime may_read number lane_of answers m task end verdict =
     HasStatus (Some verdict) [] end.status ⊎ (end.status ≡ Memory)
-    ⊎ ((end.status ≡ Timeout) × ((t : ℕ) × IsLimitShown may_read task.request.limit end.start t))
-    ⊎ ((end.status ≡ Error) × ((place : ℕ) × (answer : Answer) × (slice_get answers place ≡ Some (Some answer)) × HasOwnFailedCall number (lane_of place) m.before.yard m.after.yard))
+    ⊎ ((place : ℕ) × (answer : Answer) × (slice_get answers place ≡ Some (Some answer))
+    × ((((end.status ≡ Timeout) ⊎ (end.status ≡ Error)) × HasOwnFailedCall number (lane_of place) m.before.yard m.after.yard)
+    ⊎ ((end.status ≡ Timeout) × HasOwnEnd end (lane_of place) place (IsStoppedEnd may_read task end))))

@@ -15,7 +15,7 @@ use Rattle.sby_top.specs.declared.outcome.TaskEnd.{TaskEnd}
 abbrev pub RanTo : (ℕ → Type 0) → World → List Turn → World → Done → Type 0
 RanTo may_read before turns after done = (exit : Exit) × Ran may_read 0 0 before turns done.ends.items after exit × (done.rc ≡ rc_of_exit exit)
 
--- a turn was had at one go, from one moment to another
+-- a turn was had in one go, from one moment to another
 abbrev pub HadAtOnce : (ℕ → Type 0) → ℕ → World → World → Turn → TaskEnd → Exit → Type 0
 HadAtOnce may_read number before after turn end exit = (put : FilesOf) × TurnRan may_read number (at_once before put after) turn end exit
 

@@ -148,7 +148,7 @@ abbrev pub EndIn : List ℕ → List (List ℕ) → Type 0
 EndIn line lines = (body : List (List ℕ)) × (lines ≡ body ++ line ∷ [])
 
 -- The lines of a task of this name were printed, where no call of the sink failed: whole, the last one with the status and its number; or up
--- to a line for which, or for a trace file, memory ran out. They were cut short where one did, and it took nothing after that call.
+-- to a line for which, or for a trace file, memory ran out. Where a call failed, the lines were cut short, and the sink took nothing after that call.
 abbrev pub IsPrinted : List ℕ → Option (List ℕ) → Option (List ℕ) → ℕ → ℕ → Option ℕ → (List (List ℕ) → Type 0) → List Status → Type 0 → Status → Exit → Type 0
 IsPrinted name before now faults_before faults ended are_lines expect own status (Code rc) =
     (faults ≡ faults_before) × HasCode expect status rc
@@ -223,14 +223,14 @@ IsPlainStatus before task early status =
     ⊎ ((p : AskedOf) × IsAccepted (Some before) task p × (length (jobs_in p) < length (streams_in task.service)) × (early ≡ Some Streams) × (status ≡ Error))
     ⊎ IsServedStatus task.service before task early status
 
--- no call failed, and memory did not run out
+-- no call of the files or the sink failed, and memory did not run out
 pub record IsSmooth (m : Moments) (status : Status) : Type 0 where
   pub prepared : Rose m.got.faults m.put.faults → ⊥
   pub files : Rose m.before.file_faults m.after.file_faults → ⊥
   pub sink : Rose m.before.sink_faults m.after.sink_faults → ⊥
   pub memory : status ≢ Memory
 
--- completeness: over a store that tells, where no call failed and memory did not run out, the status is the plain one
+-- completeness: over a store that tells, where no call of the files or the sink failed and memory did not run out, the status is the plain one
 abbrev pub IsComplete : Moments → TaskOf → TaskEnd → Type 0
 IsComplete m task end =
     (store : Store) → m.got.told ≡ Some store → IsSmooth m end.status → IsPlainStatus store task end.early end.status
@@ -243,7 +243,7 @@ pub record IsLater (m : Moments) : Type 0 where
   pub children : AreLater m.before.yard.counts m.after.yard.counts
   pub scripts : m.after.yard.scripts ≡ m.before.yard.scripts
 
--- A task, which has this number in its call, was run, at these moments. That other tasks had moments of theirs between these isn't seen.
+-- A task, which has this number in its call, was run, at these moments. Other tasks may have moments between these.
 pub record TaskRan (may_read : ℕ → Type 0) (number : ℕ) (m : Moments) (task : TaskOf) (end : TaskEnd) (exit : Exit) : Type 0 where
   pub pass : end.status ≡ Pass → IsTrueOf m.got.told task end.text (PassClaim task.request.mode task end)
   pub fail : end.status ≡ Fail → IsTrueOf m.got.told task end.text (FailClaim task.request.mode task end)

@@ -55,7 +55,8 @@ TurnRan may_read number m (Refused name early) end exit = WasRefused m name earl
 TurnRan may_read number m (Run task) end exit = TaskRan may_read number m task end exit
 
 -- What the turns did, numbered from this one on, each at its moments; the exit status of each is or-ed to those before it. A failed call of
--- the sink ends the run; where memory runs out even for an end, the list of ends stops short. The order of the moments isn't seen.
+-- the sink ends the run; where memory runs out even for an end, the list of ends stops short. In which order the moments
+-- follow is said by `OneByOne`.
 abbrev pub Had : (ℕ → Type 0) → ℕ → ℕ → List Turn → List Moments → List TaskEnd → Exit → Type 0
 Had may_read number so_far [] [] [] exit = exit ≡ Code so_far
 Had may_read number so_far (turn ∷ turns) [] [] exit = exit ≡ Code (bit_or so_far 32)
@@ -96,7 +97,7 @@ pub record UsageAlone (before after : World) (done : Done) : Type 0 where
       ⊎ (Rose before.sink_faults after.sink_faults × AreAll after.ended after.taken × GrownBySome before.taken after.taken usage_line)
 
 -- These lines alone were printed, whole, with exit status 0; or by a failed call of the sink only a part of them, with 16; or, where memory
--- was wanting for one, those before it, with 32.
+-- ran out for one, those before it, with 32.
 pub record LinesAlone (before after : World) (lines : List (List ℕ)) (done : Done) : Type 0 where
   pub ends : done.ends.items ≡ []
   pub files : files_of after ≡ files_of before

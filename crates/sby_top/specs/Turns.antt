@@ -57,7 +57,7 @@ file_task folder t = record {
   service = Lanes t.engines;
 }
 
--- the turn of a task by what its lines say; out of memory is told as such
+-- the turn of a task by what its lines say; or memory ran out, which is told as such
 abbrev pub IsTurnOf : List ℕ → Result FileTask TaskFault → Turn → Type 0
 IsTurnOf name (Ok t) turn = (turn ≡ Run (file_task name t)) ⊎ (turn ≡ Refused name Memory)
 IsTurnOf name (Err fault) turn = (turn ≡ Refused name (Task fault)) ⊎ (turn ≡ Refused name Memory)

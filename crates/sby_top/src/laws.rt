@@ -1,4 +1,4 @@
-// Laws of what is promised of designs and stored certificates. Each stands over the definitions, and its body is empty but for the laws of
+// Laws of certificates, stored and of children, and of completeness. Each stands over the definitions, and its body is empty but for the laws of
 // the judge that it cites.
 
 ghost use Rattle.std.specs.Prelude.{◌≡◌, ◌≢◌, ◌⊎◌, ◌+◌, ◌<◌, ◌≤◌, [], ◌∷◌, ◌++◌, ℕ, true, List, IsSome, None, Option, length, map, slice_get, take, Some};
@@ -52,21 +52,21 @@ use sby_edge::Clock;
 /// job for each stream, the task comes to its lanes, and there is a store at which it was judged; of `--judge` in bmc where there is one
 /// stream at most.
 pub fn accepted_design_is_judged<C: Clock>(clock: &C)
-    ensures bmc { (before : World) (m : Moments) (words : List (List ℕ)) (done : Done) (j : JudgeRequest) (end : TaskEnd) (store : Store) (text : List ℕ) → (is : IsTaskOf (C.may_read clock.now) before words done m (judge_task j) end)
+    ensures bmc { (before after : World) (m : Moments) (words : List (List ℕ)) (done : Done) (j : JudgeRequest) (end : TaskEnd) (store : Store) (text : List ℕ) → (is : IsTaskOf (C.may_read clock.now) before after words done m (judge_task j) end)
         → IsSmooth m end.status → m.got.told ≡ Some store → j.mode ≡ Bmc → IsTextOf (Some store) (judge_task j).design text → ((fault : ProblemFault) → IsProblemFault (problem_of (judge_task j) text) fault → ⊥)
         → length j.streams ≤ 1 → end.early ≡ None }
-    ensures every { (before : World) (m : Moments) (words : List (List ℕ)) (done : Done) (task : TaskOf) (end : TaskEnd) (store : Store) (text : List ℕ) (d : DesignOf) → (is : IsTaskOf (C.may_read clock.now) before words done m task end)
+    ensures every { (before after : World) (m : Moments) (words : List (List ℕ)) (done : Done) (task : TaskOf) (end : TaskEnd) (store : Store) (text : List ℕ) (d : DesignOf) → (is : IsTaskOf (C.may_read clock.now) before after words done m task end)
         → IsSmooth m end.status → m.got.told ≡ Some store → IsTextOf (Some store) task.design text → ((fault : ProblemFault) → IsProblemFault (problem_of task text) fault → ⊥)
         → Reads text d → length (streams_in task.service) ≤ length (jobs_in task.request.mode task.request.span d) → end.early ≡ None }
-    ensures at { (before : World) (m : Moments) (words : List (List ℕ)) (done : Done) (task : TaskOf) (end : TaskEnd) (store : Store) → (is : IsTaskOf (C.may_read clock.now) before words done m task end) → m.got.told ≡ Some store → end.early ≡ None
+    ensures at { (before after : World) (m : Moments) (words : List (List ℕ)) (done : Done) (task : TaskOf) (end : TaskEnd) (store : Store) → (is : IsTaskOf (C.may_read clock.now) before after words done m task end) → m.got.told ≡ Some store → end.early ≡ None
         → (now : Store) × IsJudgedAt (C.may_read clock.now) is.place m task end now }
 {}
 
 /// A valid certificate gives its verdict, PASS for Unsat and FAIL for Sat: of `--judge` in bmc, where memory did not run out, and the one
 /// stream, of the kind that its path names, is a certificate for this answer of the job's file, as both stand when the task is judged.
 pub fn valid_certificate_gives_its_verdict<C: Clock>(clock: &C)
-    ensures { (before : World) (m : Moments) (words : List (List ℕ)) (done : Done) (j : JudgeRequest) (end : TaskEnd) (now : Store) (path stream file : List ℕ) (kind : StreamKind) (answer : Answer)
-        → (is : IsTaskOf (C.may_read clock.now) before words done m (judge_task j) end) → IsJudgedAt (C.may_read clock.now) is.place m (judge_task j) end now → j.mode ≡ Bmc → end.status ≢ Memory
+    ensures { (before after : World) (m : Moments) (words : List (List ℕ)) (done : Done) (j : JudgeRequest) (end : TaskEnd) (now : Store) (path stream file : List ℕ) (kind : StreamKind) (answer : Answer)
+        → (is : IsTaskOf (C.may_read clock.now) before after words done m (judge_task j) end) → IsJudgedAt (C.may_read clock.now) is.place m (judge_task j) end now → j.mode ≡ Bmc → end.status ≢ Memory
         → j.streams ≡ path ∷ [] → IsKindNamed path kind → now path ≡ Some stream → now (job_path j.folder 1 (Base 0)) ≡ Some file → IsFate kind file stream most_stream (Found answer) → end.status ≡ status_for answer }
 {
     one_fate();
@@ -77,8 +77,8 @@ pub fn valid_certificate_gives_its_verdict<C: Clock>(clock: &C)
 /// one of the kind that its path names, for its job's file, as both stand when the task is judged: where the answers of these fates decide a
 /// verdict, the status is that verdict's.
 pub fn valid_certificates_give_their_verdict<C: Clock>(clock: &C)
-    ensures { (before : World) (m : Moments) (words : List (List ℕ)) (done : Done) (j : JudgeRequest) (end : TaskEnd) (now : Store) (fates : List (Option Fate)) (verdict : Verdict)
-        → (is : IsTaskOf (C.may_read clock.now) before words done m (judge_task j) end) → (judged : IsJudgedAt (C.may_read clock.now) is.place m (judge_task j) end now) → end.status ≢ Memory
+    ensures { (before after : World) (m : Moments) (words : List (List ℕ)) (done : Done) (j : JudgeRequest) (end : TaskEnd) (now : Store) (fates : List (Option Fate)) (verdict : Verdict)
+        → (is : IsTaskOf (C.may_read clock.now) before after words done m (judge_task j) end) → (judged : IsJudgedAt (C.may_read clock.now) is.place m (judge_task j) end now) → end.status ≢ Memory
         → AreFates judged.done.problem now (jobs_asked judged.done.problem) j.streams fates → AreWhole j.streams fates → Decides j.mode (map fate_answer fates) verdict → HasStatus (Some verdict) [] end.status }
 {
     one_fate();
@@ -89,11 +89,11 @@ pub fn valid_certificates_give_their_verdict<C: Clock>(clock: &C)
 /// names no other kind, is a certificate of the job's file, of at most 2^32 bytes, as both stand when the task is judged; or where it goes on
 /// after one, with white space or a line feed within these bytes and whatever comes then.
 pub fn stored_certificate_gives_its_verdict<C: Clock>(clock: &C)
-    ensures alone { (before : World) (m : Moments) (words : List (List ℕ)) (done : Done) (j : JudgeRequest) (end : TaskEnd) (now : Store) (path cert file : List ℕ) (answer : Answer)
-        → (is : IsTaskOf (C.may_read clock.now) before words done m (judge_task j) end) → IsJudgedAt (C.may_read clock.now) is.place m (judge_task j) end now → j.mode ≡ Bmc → end.status ≢ Memory
+    ensures alone { (before after : World) (m : Moments) (words : List (List ℕ)) (done : Done) (j : JudgeRequest) (end : TaskEnd) (now : Store) (path cert file : List ℕ) (answer : Answer)
+        → (is : IsTaskOf (C.may_read clock.now) before after words done m (judge_task j) end) → IsJudgedAt (C.may_read clock.now) is.place m (judge_task j) end now → j.mode ≡ Bmc → end.status ≢ Memory
         → j.streams ≡ path ∷ [] → IsKindNamed path Drup → now path ≡ Some cert → now (job_path j.folder 1 (Base 0)) ≡ Some file → IsCert file cert answer → length cert ≤ most_stream → end.status ≡ status_for answer }
-    ensures followed { (before : World) (m : Moments) (words : List (List ℕ)) (done : Done) (j : JudgeRequest) (end : TaskEnd) (now : Store) (path cert rest file : List ℕ) (b : ℕ) (answer : Answer)
-        → (is : IsTaskOf (C.may_read clock.now) before words done m (judge_task j) end) → IsJudgedAt (C.may_read clock.now) is.place m (judge_task j) end now → j.mode ≡ Bmc → end.status ≢ Memory
+    ensures followed { (before after : World) (m : Moments) (words : List (List ℕ)) (done : Done) (j : JudgeRequest) (end : TaskEnd) (now : Store) (path cert rest file : List ℕ) (b : ℕ) (answer : Answer)
+        → (is : IsTaskOf (C.may_read clock.now) before after words done m (judge_task j) end) → IsJudgedAt (C.may_read clock.now) is.place m (judge_task j) end now → j.mode ≡ Bmc → end.status ≢ Memory
         → j.streams ≡ path ∷ [] → IsKindNamed path Drup → now path ≡ Some (cert ++ b ∷ rest) → now (job_path j.folder 1 (Base 0)) ≡ Some file
         → IsCert file cert answer → (is_blank b ≡ true) ⊎ (b ≡ 10) → length cert < most_stream → end.status ≡ status_for answer }
 {
@@ -109,8 +109,8 @@ pub fn stored_certificate_gives_its_verdict<C: Clock>(clock: &C)
 /// nothing, its proof file. Else memory ran out; a reading of the clock showed the limit, with TIMEOUT; or a call for a child of this lane
 /// failed, with ERROR.
 pub fn valid_child_gives_its_verdict<C: Clock>(clock: &C)
-    ensures { (before : World) (m : Moments) (words : List (List ℕ)) (done : Done) (task : TaskOf) (end : TaskEnd) (engines : List Engine) (lane : ℕ) (script : ScriptOf) (now : Store) (file : List ℕ) (answer : Answer)
-        → (is : IsTaskOf (C.may_read clock.now) before words done m task end) → IsJudgedAt (C.may_read clock.now) is.place m task end now
+    ensures { (before after : World) (m : Moments) (words : List (List ℕ)) (done : Done) (task : TaskOf) (end : TaskEnd) (engines : List Engine) (lane : ℕ) (script : ScriptOf) (now : Store) (file : List ℕ) (answer : Answer)
+        → (is : IsTaskOf (C.may_read clock.now) before after words done m task end) → IsJudgedAt (C.may_read clock.now) is.place m task end now
         → task.request.mode ≡ Bmc → slices_of task.request.span ≡ 1 → task.service ≡ Lanes engines → IsServing (slice_get engines lane)
         → script_of m.before.yard.scripts is.place lane (Base 0) ≡ Some script → script.gate ≡ None
         → now (job_path task.request.name 1 (Base 0)) ≡ Some file → IsFateOf (evidence_at (slice_get engines lane)) file (up_to script.stalls script.bytes) (take (most_stream + 1) script.proof) (Found answer)
@@ -120,12 +120,13 @@ pub fn valid_child_gives_its_verdict<C: Clock>(clock: &C)
     findings_tell_what_can_be_solved();
 }
 
-/// Valid certificates of children, judged in time, give their verdict, in every mode: where each of some answers has a valid certificate in
-/// the lane that is named for its job, and these answers decide a verdict, the task has the verdict's status, whatever failed in other lanes.
-/// Else memory ran out; a reading of the clock showed the limit, with TIMEOUT; or a call for a child of one of these lanes failed, with ERROR.
+/// Valid certificates of children, judged in time, give their verdict, in every mode: where each of some answers has a valid certificate
+/// (`IsValidChild`: its script is told and has no gate) in the lane that is named for its job, and these answers decide a verdict, the task has the verdict's status, whatever failed in other lanes.
+/// Else memory ran out; a call for a child of one of these lanes failed, with ERROR or TIMEOUT; or such a lane was stopped in its job by a
+/// reading that shows the limit, with TIMEOUT.
 pub fn valid_children_give_their_verdict<C: Clock>(clock: &C)
-    ensures { (before : World) (m : Moments) (words : List (List ℕ)) (done : Done) (task : TaskOf) (end : TaskEnd) (engines : List Engine) (now : Store) (answers : List (Option Answer)) (lane_of : ℕ → ℕ) (verdict : Verdict)
-        → (is : IsTaskOf (C.may_read clock.now) before words done m task end) → (judged : IsJudgedAt (C.may_read clock.now) is.place m task end now) → task.service ≡ Lanes engines
+    ensures { (before after : World) (m : Moments) (words : List (List ℕ)) (done : Done) (task : TaskOf) (end : TaskEnd) (engines : List Engine) (now : Store) (answers : List (Option Answer)) (lane_of : ℕ → ℕ) (verdict : Verdict)
+        → (is : IsTaskOf (C.may_read clock.now) before after words done m task end) → (judged : IsJudgedAt (C.may_read clock.now) is.place m task end now) → task.service ≡ Lanes engines
         → length answers ≡ length (jobs_asked judged.done.problem)
         → AreValidChildren m.before.yard.scripts is.place lane_of engines judged.done.problem task.request.mode answers → Decides task.request.mode answers verdict
         → IsVerdictInTime (C.may_read clock.now) is.place lane_of answers m task end verdict }
@@ -137,30 +138,30 @@ pub fn valid_children_give_their_verdict<C: Clock>(clock: &C)
 /// A valid certificate of a child settles its job, in every mode: where the script of a lane's child is told and has no gate, the lane's engine
 /// serves jobs, and what the child leaves is a certificate for this answer of the job's file, some report carries a finding for the job with
 /// this answer. Else a call for a child of this lane failed, whatever failed in another; a reading of the clock showed the limit; the lane
-/// wanted memory; or the job was skipped or called off by a finding that decides it.
+/// ran out of memory; or the job was skipped or called off by a finding that decides it.
 pub fn valid_child_settles_its_job<C: Clock>(clock: &C)
-    ensures { (before : World) (m : Moments) (words : List (List ℕ)) (done : Done) (task : TaskOf) (end : TaskEnd) (engines : List Engine) (lane place : ℕ) (script : ScriptOf) (now : Store) (file : List ℕ) (answer : Answer)
-        → (is : IsTaskOf (C.may_read clock.now) before words done m task end) → (judged : IsJudgedAt (C.may_read clock.now) is.place m task end now)
+    ensures { (before after : World) (m : Moments) (words : List (List ℕ)) (done : Done) (task : TaskOf) (end : TaskEnd) (engines : List Engine) (lane place : ℕ) (script : ScriptOf) (now : Store) (file : List ℕ) (answer : Answer)
+        → (is : IsTaskOf (C.may_read clock.now) before after words done m task end) → (judged : IsJudgedAt (C.may_read clock.now) is.place m task end now)
         → task.service ≡ Lanes engines → place < length (jobs_asked judged.done.problem) → IsServing (slice_get engines lane)
         → script_of m.before.yard.scripts is.place lane (name_at task.request.mode place) ≡ Some script → script.gate ≡ None → IsJobFile judged.done.problem (name_at task.request.mode place) file
         → IsFateOf (evidence_at (slice_get engines lane)) file (up_to script.stalls script.bytes) (take (most_stream + 1) script.proof) (Found answer)
         → IsJobInTime (C.may_read clock.now) is.place lane place m task judged.done.problem engines end answer }
 {}
 
-/// A plain status of a task's lanes is there, whatever their children's scripts are: not all statuses fail to be one.
+/// There is a plain status of a task's lanes, where the yard tells its scripts, whatever these are: it can't be that no status is one.
 pub fn some_plain_status<C: Clock>(clock: &C)
-    ensures { (before : World) (m : Moments) (words : List (List ℕ)) (done : Done) (task : TaskOf) (end : TaskEnd) (engines : List Engine) (now : Store)
-        → (is : IsTaskOf (C.may_read clock.now) before words done m task end) → (judged : IsJudgedAt (C.may_read clock.now) is.place m task end now) → IsSome m.before.yard.scripts
+    ensures { (before after : World) (m : Moments) (words : List (List ℕ)) (done : Done) (task : TaskOf) (end : TaskEnd) (engines : List Engine) (now : Store)
+        → (is : IsTaskOf (C.may_read clock.now) before after words done m task end) → (judged : IsJudgedAt (C.may_read clock.now) is.place m task end now) → IsSome m.before.yard.scripts
         → ((status : Status) → IsPlainLanesStatus m task judged.done.problem is.place engines status → ⊥) → ⊥ }
 {
     some_fate();
     one_file();
 }
 
-/// And there is only one, where the scripts have no gate.
+/// And there is at most one, where none of the task's scripts has a gate.
 pub fn one_plain_status<C: Clock>(clock: &C)
-    ensures { (before : World) (m : Moments) (words : List (List ℕ)) (done : Done) (task : TaskOf) (end : TaskEnd) (engines : List Engine) (now : Store)
-        → (is : IsTaskOf (C.may_read clock.now) before words done m task end) → (judged : IsJudgedAt (C.may_read clock.now) is.place m task end now) → IsSome m.before.yard.scripts
+    ensures { (before after : World) (m : Moments) (words : List (List ℕ)) (done : Done) (task : TaskOf) (end : TaskEnd) (engines : List Engine) (now : Store)
+        → (is : IsTaskOf (C.may_read clock.now) before after words done m task end) → (judged : IsJudgedAt (C.may_read clock.now) is.place m task end now) → IsSome m.before.yard.scripts
         → ((lane : ℕ) (job : JobName) (script : ScriptOf) → script_of m.before.yard.scripts is.place lane job ≡ Some script → script.gate ≡ None)
         → (s t : Status) → IsPlainLanesStatus m task judged.done.problem is.place engines s → IsPlainLanesStatus m task judged.done.problem is.place engines t → s ≡ t }
 {
@@ -172,11 +173,11 @@ pub fn one_plain_status<C: Clock>(clock: &C)
 /// and the task's have no gates, no call for a child failed, there is no timeout or no two readings that the clock may give are the limit
 /// apart, and memory did not run out.
 pub fn undisturbed_lanes_give_the_plain_status<C: Clock>(clock: &C)
-    ensures verdict { (before : World) (m : Moments) (words : List (List ℕ)) (done : Done) (task : TaskOf) (end : TaskEnd) (engines : List Engine) (now : Store) (status : Status)
-        → (is : IsTaskOf (C.may_read clock.now) before words done m task end) → (judged : IsJudgedAt (C.may_read clock.now) is.place m task end now) → task.service ≡ Lanes engines
+    ensures verdict { (before after : World) (m : Moments) (words : List (List ℕ)) (done : Done) (task : TaskOf) (end : TaskEnd) (engines : List Engine) (now : Store) (status : Status)
+        → (is : IsTaskOf (C.may_read clock.now) before after words done m task end) → (judged : IsJudgedAt (C.may_read clock.now) is.place m task end now) → task.service ≡ Lanes engines
         → IsUndisturbed (C.may_read clock.now) is.place m task end → IsPlainLanesStatus m task judged.done.problem is.place engines status → IsVerdictStatus status → end.status ≡ status }
-    ensures other { (before : World) (m : Moments) (words : List (List ℕ)) (done : Done) (task : TaskOf) (end : TaskEnd) (engines : List Engine) (now : Store) (status : Status)
-        → (is : IsTaskOf (C.may_read clock.now) before words done m task end) → (judged : IsJudgedAt (C.may_read clock.now) is.place m task end now) → task.service ≡ Lanes engines
+    ensures other { (before after : World) (m : Moments) (words : List (List ℕ)) (done : Done) (task : TaskOf) (end : TaskEnd) (engines : List Engine) (now : Store) (status : Status)
+        → (is : IsTaskOf (C.may_read clock.now) before after words done m task end) → (judged : IsJudgedAt (C.may_read clock.now) is.place m task end now) → task.service ≡ Lanes engines
         → IsUndisturbed (C.may_read clock.now) is.place m task end → IsPlainLanesStatus m task judged.done.problem is.place engines status
         → (end.status ≡ status) ⊎ IsByLook task.request.mode end.reports.items }
 {

@@ -3,7 +3,7 @@
 ghost use Rattle.std.specs.Prelude.{◌≡◌, ◌⊎◌, ◌<◌, ◌≤◌, [], ℕ, List, None, Some, IfErr, IfOk, OnErr, OnOk, Contains, length, map, option_map, slice_get, string_bytes};
 ghost use Rattle.judge.specs.Problem.{IsJob, IsJobFile, IsProblem};
 ghost use Rattle.sby_terms.specs.declared.names.JobName.{JobName};
-ghost use Rattle.sby_top.specs.Causes.{HasReason, IsDone};
+ghost use Rattle.sby_top.specs.Causes.{HasReason, IsDone, IsSpared};
 ghost use Rattle.sby_top.specs.Judged.{AreJudged, AreReports, AreStreamReports, racing_of};
 ghost use Rattle.sby_lines.specs.declared.early.Early.TheVariants.{Memory as EarlyMemory};
 ghost use Rattle.sby_top.specs.Steps.{files_at, got_items, IsCutShort, IsFailedCall, IsPathJudged, IsPutFailed, IsRefusal, IsTextFailed};
@@ -15,7 +15,7 @@ ghost use Rattle.sby_terms.specs.Problem.{ProblemOf};
 ghost use Rattle.sby_terms.specs.Path.{job_path};
 ghost use Rattle.sby_lines.specs.Told.{AreLimited, AreReported, IsCollected};
 ghost use Rattle.sby_top.specs.Task.{IsAskable, problem_of, design_seen, service_seen, streams_in, task_seen};
-ghost use Rattle.task_race.specs.Bays.{AreLater, counts_at, yard_at};
+ghost use Rattle.task_race.specs.Bays.{AreLater, NoneStarted, counts_at, yard_at};
 ghost use Rattle.task_race.specs.Ran.{LanesRan};
 
 use crate::judge_stream::judge_stored;
@@ -342,7 +342,8 @@ fn race_jobs<R: Threads + Wait + Sync, F: Files, Y: Yard, C: Clock>(
         (yard_at (Y.told yard.new) (Y.started yard.new) (counts_at (Y.start_faults yard.new) (Y.read_faults yard.new) (Y.hold_faults yard.new))) ran.start ran.reports.items) }
     ensures err { IfErr result (IsCutShort problem.now (task_seen task.now).request.name [] (files_at (F.told files.old) (F.faults files.old) (F.blamed files.old)) (files_at (F.told files.new) (F.faults files.new) (F.blamed files.new))) }
     ensures spared { IfErr result (λ early. (yard_at (Y.told yard.new) (Y.started yard.new) (counts_at (Y.start_faults yard.new) (Y.read_faults yard.new) (Y.hold_faults yard.new))
-        ≡ yard_at (Y.told yard.old) (Y.started yard.old) (counts_at (Y.start_faults yard.old) (Y.read_faults yard.old) (Y.hold_faults yard.old))) ⊎ (early ≡ EarlyMemory)) }
+        ≡ yard_at (Y.told yard.old) (Y.started yard.old) (counts_at (Y.start_faults yard.old) (Y.read_faults yard.old) (Y.hold_faults yard.old)))
+        ⊎ ((early ≡ EarlyMemory) × NoneStarted (yard_at (Y.told yard.old) (Y.started yard.old) (counts_at (Y.start_faults yard.old) (Y.read_faults yard.old) (Y.hold_faults yard.old))) (yard_at (Y.told yard.new) (Y.started yard.new) (counts_at (Y.start_faults yard.new) (Y.read_faults yard.new) (Y.hold_faults yard.new))))) }
     ensures still { OnOk result (F.faults files.new ≡ F.faults files.old) }
     ensures blamed { OnOk result (F.blamed files.new ≡ F.blamed files.old) }
     ensures later { F.faults files.old ≤ F.faults files.new }
@@ -389,7 +390,8 @@ fn serve_jobs<R: Threads + Wait + Sync, F: Files, Y: Yard, C: Clock>(
         }) ran.reports.items) }
     ensures err { IfErr result (IsCutShort problem.now (task_seen task.now).request.name (streams_in (service_seen task.now.service)) (files_at (F.told files.old) (F.faults files.old) (F.blamed files.old)) (files_at (F.told files.new) (F.faults files.new) (F.blamed files.new))) }
     ensures spared { IfErr result (λ early. (yard_at (Y.told yard.new) (Y.started yard.new) (counts_at (Y.start_faults yard.new) (Y.read_faults yard.new) (Y.hold_faults yard.new))
-        ≡ yard_at (Y.told yard.old) (Y.started yard.old) (counts_at (Y.start_faults yard.old) (Y.read_faults yard.old) (Y.hold_faults yard.old))) ⊎ (early ≡ EarlyMemory)) }
+        ≡ yard_at (Y.told yard.old) (Y.started yard.old) (counts_at (Y.start_faults yard.old) (Y.read_faults yard.old) (Y.hold_faults yard.old)))
+        ⊎ ((early ≡ EarlyMemory) × NoneStarted (yard_at (Y.told yard.old) (Y.started yard.old) (counts_at (Y.start_faults yard.old) (Y.read_faults yard.old) (Y.hold_faults yard.old))) (yard_at (Y.told yard.new) (Y.started yard.new) (counts_at (Y.start_faults yard.new) (Y.read_faults yard.new) (Y.hold_faults yard.new))))) }
     ensures still { OnOk result (F.faults files.new ≡ F.faults files.old) }
     ensures blamed { OnOk result (F.blamed files.new ≡ F.blamed files.old) }
     ensures later { F.faults files.old ≤ F.faults files.new }
@@ -449,8 +451,12 @@ pub fn serve<R: Threads + Wait + Sync, F: Files, Y: Yard, C: Clock>(
     ensures limited { IfOk result (λ s. AreLimited s.start task.now.limit s.reports.items) }
     ensures collected { IfOk result (λ s. IsCollected task.now.mode task.now.span s.problem.design s.reports.items s.collected) }
     ensures err { IfErr result (HasReason (task_seen task.now) (files_at (F.told files.old) (F.faults files.old) (F.blamed files.old)) (files_at (F.told files.new) (F.faults files.new) (F.blamed files.new))) }
-    ensures spared { IfErr result (λ early. (yard_at (Y.told yard.new) (Y.started yard.new) (counts_at (Y.start_faults yard.new) (Y.read_faults yard.new) (Y.hold_faults yard.new))
-        ≡ yard_at (Y.told yard.old) (Y.started yard.old) (counts_at (Y.start_faults yard.old) (Y.read_faults yard.old) (Y.hold_faults yard.old))) ⊎ (early ≡ EarlyMemory)) }
+    ensures spared { IfErr result (IsSpared (C.may_read clock.now) (task_seen task.now) (F.told files.old) (record {
+      task = number;
+      before = yard_at (Y.told yard.old) (Y.started yard.old) (counts_at (Y.start_faults yard.old) (Y.read_faults yard.old) (Y.hold_faults yard.old));
+      after = yard_at (Y.told yard.new) (Y.started yard.new) (counts_at (Y.start_faults yard.new) (Y.read_faults yard.new) (Y.hold_faults yard.new));
+      start = None;
+    })) }
     ensures later { F.faults files.old ≤ F.faults files.new }
     ensures scripts { Y.told yard.new ≡ Y.told yard.old }
     ensures children { AreLater (counts_at (Y.start_faults yard.old) (Y.read_faults yard.old) (Y.hold_faults yard.old)) (counts_at (Y.start_faults yard.new) (Y.read_faults yard.new) (Y.hold_faults yard.new)) }

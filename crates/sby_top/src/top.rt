@@ -46,7 +46,7 @@ fn refuse<S: Sink>(alloc: Global, out: &mut S, name: String, early: Early) -> (T
     finish_fault(alloc, out, name, 1, &expect, early)
 }
 
-// Has a turn.
+// Runs a turn.
 fn run_turn<R: Threads + Wait + Sync, F: Files, S: Sink, Y: Yard, C: Clock>(
     rt: &R,
     alloc: Global,
@@ -80,7 +80,7 @@ fn out_of_memory(alloc: Global) -> Done
     }
 }
 
-// Has the only turn there is.
+// Runs the only turn there is.
 fn run_only<R: Threads + Wait + Sync, F: Files, S: Sink, Y: Yard, C: Clock>(
     rt: &R,
     alloc: Global,
@@ -117,7 +117,7 @@ fn rc_of_exit(exit: Exit) -> u8
     }
 }
 
-// Has the turn of the task that is asked for, and answers whether others may follow.
+// Runs the turn of the task that is asked for, and answers whether others may follow.
 fn run_asked<R: Threads + Wait + Sync, F: Files, S: Sink, Y: Yard, C: Clock>(
     rt: &R,
     alloc: Global,
@@ -156,7 +156,7 @@ fn run_asked<R: Threads + Wait + Sync, F: Files, S: Sink, Y: Yard, C: Clock>(
     }
 }
 
-// Has the turns of the tasks of these names, in their order.
+// Runs the turns of the tasks of these names, in their order.
 fn run_named<R: Threads + Wait + Sync, F: Files, S: Sink, Y: Yard, C: Clock>(
     rt: &R,
     alloc: Global,
@@ -196,7 +196,7 @@ fn run_named<R: Threads + Wait + Sync, F: Files, S: Sink, Y: Yard, C: Clock>(
     done
 }
 
-// Has the turn of the nameless task.
+// Runs the turn of the nameless task.
 fn run_nameless<R: Threads + Wait + Sync, F: Files, S: Sink, Y: Yard, C: Clock>(
     rt: &R,
     alloc: Global,
@@ -217,7 +217,7 @@ fn run_nameless<R: Threads + Wait + Sync, F: Files, S: Sink, Y: Yard, C: Clock>(
     }
 }
 
-// Has the turns of the tasks that are asked for: those that are named, else all of the file.
+// Runs the turns of the tasks that are asked for: those that are named, else all of the file.
 fn run_book<R: Threads + Wait + Sync, F: Files, S: Sink, Y: Yard, C: Clock>(
     rt: &R,
     alloc: Global,
@@ -275,7 +275,7 @@ fn run_fault<R: Threads + Wait + Sync, F: Files, S: Sink, Y: Yard, C: Clock>(
     }
 }
 
-// Has the turns that a task file's text gives.
+// Runs the turns that a task file's text gives.
 fn run_text<R: Threads + Wait + Sync, F: Files, S: Sink, Y: Yard, C: Clock>(
     rt: &R,
     alloc: Global,
@@ -337,7 +337,7 @@ fn text_in(text: &Option<String>) -> Option<&str>
     }
 }
 
-// Has the turns that a task file gives.
+// Runs the turns that a task file gives.
 fn run_tasks<R: Threads + Wait + Sync, F: Files, S: Sink, Y: Yard, C: Clock>(
     rt: &R,
     alloc: Global,
@@ -381,7 +381,7 @@ fn generated(alloc: Global, size: u32) -> Result<(String, Vec<u8>), AllocError>
     Ok((stem, text))
 }
 
-// Has the turns of the generated task file.
+// Runs the turns of the generated task file.
 fn run_gen<R: Threads + Wait + Sync, F: Files, S: Sink, Y: Yard, C: Clock>(
     rt: &R,
     alloc: Global,
@@ -417,7 +417,7 @@ fn run_gen<R: Threads + Wait + Sync, F: Files, S: Sink, Y: Yard, C: Clock>(
     }
 }
 
-// Has the turn of the task that `--judge` asks.
+// Runs the turn of the task that `--judge` asks.
 fn run_judge<R: Threads + Wait + Sync, F: Files, S: Sink, Y: Yard, C: Clock>(
     rt: &R,
     alloc: Global,
@@ -575,7 +575,7 @@ fn do_asked<R: Threads + Wait + Sync, F: Files, S: Sink, Y: Yard, C: Clock>(
 ///
 /// Served are all forms of words: `--judge` with stored streams, task files, `--gen` and `--dumptasks`. The jobs of a task file are raced
 /// by its engines, one lane for each, on threads of `rt`: their children are started in bays of `yard`, which all come back to it. `clock`
-/// is read under a timeout alone. Out of memory is told in the answer: status MEMORY, exit status 32.
+/// is read under a timeout alone. That memory ran out is told in the answer: status MEMORY, exit status 32.
 pub fn run_sby<R: Threads + Wait + Sync, F: Files, S: Sink, Y: Yard, C: Clock>(
     rt: &R,
     alloc: Global,
@@ -592,6 +592,7 @@ pub fn run_sby<R: Threads + Wait + Sync, F: Files, S: Sink, Y: Yard, C: Clock>(
         (map string_bytes words.now) result }
     ensures promises { Promises (C.may_read clock.now)
         (world_at (F.told files.old) (F.faults files.old) (F.blamed files.old) (S.taken out.old) (S.faults out.old) (S.ended out.old) (yard_at (Y.told yard.old) (Y.started yard.old) (counts_at (Y.start_faults yard.old) (Y.read_faults yard.old) (Y.hold_faults yard.old))))
+        (world_at (F.told files.new) (F.faults files.new) (F.blamed files.new) (S.taken out.new) (S.faults out.new) (S.ended out.new) (yard_at (Y.told yard.new) (Y.started yard.new) (counts_at (Y.start_faults yard.new) (Y.read_faults yard.new) (Y.hold_faults yard.new))))
         (map string_bytes words.now) result }
 {
     output_can_be_read(clock);

@@ -88,7 +88,7 @@ IsFateOf (ProofFile kind) file stream proof fate =
     ⊎ (IsOutputFate file stream most_bytes None × IsFate kind file proof most_bytes fate)
 
 -- the end of a job whose child leaves what has this fate: the fate's own; or a call failed, the job was skipped, called off or stopped, or memory
--- was wanting
+-- ran out
 abbrev pub IsEndOfFate : Fate → JobEnd FindingOf → Type 0
 IsEndOfFate fate (end.Found f) = fate ≡ Found f.answer
 IsEndOfFate fate end.Unknown = fate ≡ Unknown

@@ -3,7 +3,7 @@ use Rattle.sby_top.proofs.EvidenceLemmas.{FileLaws}
 use Rattle.sby_top.proofs.laws.valid_child_gives_its_verdict.Goals as goal
 
 pub returns : goal.returns
-returns g c = λ before moments words done task end engines lane script now file answer is judged bmc one service serving script_is none stands valid.
+returns g c = λ before after moments words done task end engines lane script now file answer is judged bmc one service serving script_is none stands valid.
     let laws : FileLaws = record {
       solvable = c.files_tell_what_jobs_ask.ensures.solvable;
       sat = c.findings_tell_what_can_be_solved.ensures.sat;
