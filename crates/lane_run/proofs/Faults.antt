@@ -2,7 +2,7 @@
 use Rattle.std.proofs.Common.{◌≡◌, ◌⊎◌, inl, inr, ℕ, ◌+◌, ◌<◌, ◌≤◌, List, [], ◌∷◌, ◌++◌, length, get_or, sym, ap, subst, ◌∙◌, arith}
 use Rattle.std.proofs.lemmas.List.{get_or-append-add, get_or_append_left}
 use Rattle.sby_edge.specs.Cause.{CountsOf, Rose}
-use Rattle.lane_child.specs.Starting.{NoStart}
+use Rattle.lane_run.specs.Starting.{NoStart}
 use Rattle.race_core.specs.Consistent.{end_at}
 use Rattle.race_core.specs.Ends.{IsLast}
 use Rattle.race_core.specs.Report.{ReportOf}

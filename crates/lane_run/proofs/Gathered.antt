@@ -6,7 +6,7 @@ use Rattle.race_core.specs.Carrying.{KnewBy}
 use Rattle.race_core.specs.Consistent.{end_at, events_at}
 use Rattle.race_core.specs.Parts.{Terms}
 use Rattle.race_core.specs.Report.{ReportOf}
-use Rattle.lane_child.specs.Keeping.{Remember}
+use Rattle.lane_run.specs.Keeping.{Remember}
 use Rattle.lane_run.specs.Done.{LaneSoFar}
 use Rattle.lane_run.specs.Raced.{HasDone, LanesDone}
 use Rattle.lane_run.proofs.Lanes.{done_more}

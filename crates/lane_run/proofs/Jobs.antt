@@ -22,8 +22,8 @@ use Rattle.race_core.specs.declared.part.Place.TheVariants.{Away}
 use Rattle.race_core.specs.declared.part.Reader.{Reader}
 use Rattle.race_core.specs.declared.part.Reader.TheVariants as reader
 use Rattle.race_core.specs.declared.step.JobTerms.{JobTerms}
-use Rattle.lane_child.specs.Keeping.{HasReading, IsOfCell, IsSlice, Keeps}
-use Rattle.lane_child.specs.Reading.{IfWon}
+use Rattle.lane_run.specs.Keeping.{HasReading, IsOfCell, IsSlice, Keeps}
+use Rattle.lane_run.specs.Reading.{IfWon}
 use Rattle.lane_run.specs.Asked.{IsFor, other_of, terms_at}
 use Rattle.lane_run.specs.declared.task.Limit.{Limit}
 use Rattle.lane_run.specs.Done.{JobDone}

@@ -3,7 +3,7 @@ use Rattle.std.proofs.Common.{◌≡◌, ◌⊎◌, inl, inr, ℕ, zero, suc, �
 use Rattle.std.proofs.lemmas.List.{get_or-append-add, get_or_append_left, length-append}
 use Rattle.std.specs.Prelude.{slice_index_or}
 use Rattle.race_cells.specs.Notes.{NoteOf, Agree, first_of, joined, known_at}
-use Rattle.lane_child.specs.Keeping.{Remember}
+use Rattle.lane_run.specs.Keeping.{Remember}
 
 first_left : {T : Type 0} (o p : Option T) (f : T) → o ≡ Some f → first_of o p ≡ Some f
 first_left (Some g) p f h = h

@@ -14,8 +14,8 @@ use Rattle.race_core.specs.declared.event.LaneEvent.TheVariants as event
 use Rattle.race_core.specs.declared.part.Keeper.{Keeper}
 use Rattle.race_core.specs.declared.part.Reader.{Reader}
 use Rattle.race_core.specs.declared.part.Reader.TheVariants as reader
-use Rattle.lane_child.specs.Keeping.{Remember}
-use Rattle.lane_child.specs.Reading.{IfWon}
+use Rattle.lane_run.specs.Keeping.{Remember}
+use Rattle.lane_run.specs.Reading.{IfWon}
 use Rattle.lane_run.specs.Done.{CameLate, JobDone, KnownIn, LaneSoFar}
 use Rattle.lane_run.proofs.Jobs.{replayed_same}
 

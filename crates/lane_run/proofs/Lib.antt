@@ -1,3 +1,10 @@
+mod Endings
+mod Entries
+mod Keepers
+mod Kills
+mod Proving
+mod Readers
+mod ChildStarts
 pub mod Faults
 pub mod Gathered
 pub mod Jobs

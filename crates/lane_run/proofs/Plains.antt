@@ -21,8 +21,8 @@ use Rattle.race_core.specs.declared.part.By.{By}
 use Rattle.race_core.specs.declared.part.By.TheVariants as by
 use Rattle.race_core.specs.declared.part.Reader.{Reader}
 use Rattle.race_core.specs.declared.part.Reader.TheVariants as reader
-use Rattle.lane_child.specs.Reading.{Comes, ComesBy, IsProof, NotByFile}
-use Rattle.lane_child.specs.Starting.{IsFront, NoStart, ReadsScript, Starts}
+use Rattle.lane_run.specs.Reading.{Comes, ComesBy, IsProof, NotByFile}
+use Rattle.lane_run.specs.Starting.{IsFront, NoStart, ReadsScript, Starts}
 use Rattle.lane_run.specs.Complete.{ComesTo, IsKnown, IsPlain, IsUndisturbed}
 use Rattle.lane_run.specs.Done.{CameLate, LaneFaults, LaneSoFar, LaneStops}
 use Rattle.lane_run.specs.Started.{LaneStarts}

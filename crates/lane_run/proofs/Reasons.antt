@@ -10,7 +10,7 @@ use Rattle.race_core.specs.declared.part.Keeper.{Keeper}
 use Rattle.race_core.specs.declared.part.Keeper.TheVariants as keeper
 use Rattle.race_core.specs.declared.part.Reason.{Reason}
 use Rattle.race_core.specs.declared.part.Reason.TheVariants as reason
-use Rattle.lane_child.specs.Keeping.{HasReading, IsReading}
+use Rattle.lane_run.specs.Keeping.{HasReading, IsReading}
 use Rattle.lane_run.specs.Done.{IsLastReading}
 
 -- the event gives a keeper this reason

@@ -15,8 +15,8 @@ use Rattle.race_core.specs.declared.event.Judged.{Judged}
 use Rattle.race_core.specs.declared.event.LaneEvent.{LaneEvent}
 use Rattle.race_core.specs.declared.part.Reader.{Reader}
 use Rattle.race_core.specs.declared.part.Reader.TheVariants as reader
-use Rattle.lane_child.specs.Reading.{TookProof}
-use Rattle.lane_child.specs.Starting.{IsFrontOf, ReadsScript, with_starts}
+use Rattle.lane_run.specs.Reading.{TookProof}
+use Rattle.lane_run.specs.Starting.{IsFrontOf, ReadsScript, with_starts}
 use Rattle.lane_run.specs.Done.{CameLate, Stand}
 use Rattle.lane_run.specs.Started.{JobStarts, LaneStarts, starts_upto}
 

@@ -13,7 +13,7 @@ use Rattle.race_core.specs.declared.event.LaneEvent.{LaneEvent}
 use Rattle.race_core.specs.declared.event.LaneEvent.TheVariants as event
 use Rattle.race_core.specs.declared.part.Keeper.TheVariants as keeper
 use Rattle.race_core.specs.declared.part.Reason.TheVariants as reason
-use Rattle.lane_child.specs.Keeping.{HasReading}
+use Rattle.lane_run.specs.Keeping.{HasReading}
 use Rattle.lane_run.specs.Done.{IsStopped, JobDone, LaneSoFar}
 use Rattle.lane_run.specs.declared.task.Limit.{Limit}
 use Rattle.lane_run.proofs.Reasons.{by_reading}

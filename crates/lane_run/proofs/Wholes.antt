@@ -15,7 +15,7 @@ use Rattle.race_core.specs.declared.part.By.{By}
 use Rattle.race_core.specs.declared.part.Place.TheVariants.{Away}
 use Rattle.race_core.specs.declared.part.Reader.{Reader}
 use Rattle.race_core.specs.declared.part.Reader.TheVariants as reader
-use Rattle.lane_child.specs.Reading.{IfWon}
+use Rattle.lane_run.specs.Reading.{IfWon}
 use Rattle.lane_run.specs.Done.{JobDone, LaneSoFar}
 
 none_at : {T : Type 0} (n j : ℕ) → get_or (replicate n (no_events {T = T})) j no_events ≡ no_events

@@ -12,7 +12,7 @@ use Rattle.race_core.specs.declared.end.JobEnd.{JobEnd}
 use Rattle.race_core.specs.declared.end.JobEnd.TheVariants as end
 use Rattle.race_core.specs.declared.event.Judged.{Judged}
 use Rattle.race_core.specs.declared.event.Judged.TheVariants as judged
-use Rattle.lane_child.specs.Reading.{IsProof}
+use Rattle.lane_run.specs.Reading.{IsProof}
 use Rattle.lane_run.specs.declared.task.Limit.{Limit}
 
 -- what a whole output comes to; or, where its end leaves that to it, what was got of the proof file

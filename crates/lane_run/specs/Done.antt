@@ -12,8 +12,8 @@ use Rattle.race_core.specs.declared.end.JobEnd.TheVariants as end
 use Rattle.race_core.specs.declared.event.LaneEvent.{LaneEvent}
 use Rattle.race_core.specs.declared.event.LaneEvent.TheVariants as event
 use Rattle.race_core.specs.declared.part.Place.TheVariants.{Away}
-use Rattle.lane_child.specs.Keeping.{HasReading}
-use Rattle.lane_child.specs.Reading.{IfWon}
+use Rattle.lane_run.specs.Keeping.{HasReading}
+use Rattle.lane_run.specs.Reading.{IfWon}
 use Rattle.lane_run.specs.declared.task.Limit.{Limit}
 
 -- the last reading of a list

@@ -1,3 +1,8 @@
+pub mod Judging
+pub mod Keeping
+pub mod Reading
+pub mod Sides
+pub mod Starting
 pub mod Asked
 pub mod Complete
 pub mod Done

@@ -8,7 +8,7 @@ use Rattle.race_core.specs.Consistent.{end_at, events_at}
 use Rattle.race_core.specs.Report.{EventsOf, ReportOf}
 use Rattle.race_core.specs.declared.end.JobEnd.{JobEnd}
 use Rattle.race_core.specs.declared.event.Judged.{Judged}
-use Rattle.lane_child.specs.Starting.{ReadsScript, Starts, with_starts}
+use Rattle.lane_run.specs.Starting.{ReadsScript, Starts, with_starts}
 use Rattle.lane_run.specs.Done.{CameLate}
 
 -- The starts of one job: none or one, which has its words and its file; what its reader read is of the script that the bay tells for it; and

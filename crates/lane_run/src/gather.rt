@@ -1,7 +1,7 @@
 // What the lanes of a race leave.
 
 ghost use Rattle.std.specs.Prelude.{◌≡◌, ◌+◌, ◌<◌, ◌≤◌, All, List, ◌∷◌, ◌++◌, [], length, map, vec_capacity};
-ghost use Rattle.lane_child.specs.Keeping.{Remember};
+ghost use Rattle.lane_run.specs.Keeping.{Remember};
 
 use crate::racing::Lane;
 use race_cells::Notes;

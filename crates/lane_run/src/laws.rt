@@ -17,8 +17,8 @@ ghost use Rattle.lane_run.specs.Started.{LaneStarts};
 ghost use Rattle.sby_edge.specs.Cause.{CountsOf};
 ghost use Rattle.sby_edge.specs.Child.{BayOf};
 
+use crate::Makes;
 use crate::task::Task;
-use lane_child::Makes;
 use race_cells::Notes;
 use race_core::Report;
 use sby_edge::Clock;

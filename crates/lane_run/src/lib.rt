@@ -1,17 +1,34 @@
-//! The lanes of a task: each runs its jobs in order, and all run beside each other.
+//! The lanes of a task: the life of a lane's child, its reader and its keeper beside each other; each lane runs its jobs in order, and all run
+//! beside each other.
 #![tactic(auto)]
 
+mod ending;
+mod entering;
 mod gather;
+mod job;
+mod keeper;
 mod known;
 mod lane;
 mod laws;
+mod life;
+mod making;
+mod over;
 mod passing;
 mod prepare;
 mod racing;
+mod reader;
+mod start;
+mod subject;
 mod task;
 
 pub use gather::Raced;
+pub use job::{Ran, run_started};
+pub use keeper::Watch;
 pub use lane::run_lane;
 pub use laws::{lanes_are_consistent, reasons_have_causes};
+pub use making::{Child, Makes};
+pub use over::Asked;
 pub use racing::{Lane, race, run_lanes};
+pub use start::{look_first, run_child, want};
+pub use subject::{Asks, Subject};
 pub use task::{Limit, Task};

@@ -8,12 +8,12 @@ ghost use Rattle.race_core.specs.Parts.{RightKeeper, keeper_from, place_from};
 ghost use Rattle.race_core.specs.declared.part.Keeper.TheVariants as keeper;
 ghost use Rattle.race_core.specs.declared.part.Place.TheVariants.{Away};
 ghost use Rattle.race_core.specs.declared.part.Reader.TheVariants as reader;
-ghost use Rattle.lane_child.specs.Keeping.{IsOfCell, Keeps};
-ghost use Rattle.lane_child.specs.Starting.{NoStart};
+ghost use Rattle.lane_run.specs.Keeping.{IsOfCell, Keeps};
+ghost use Rattle.lane_run.specs.Starting.{NoStart};
 ghost use Rattle.lane_run.specs.Done.{KnownIn};
 
 use crate::known::known_skipping;
-use lane_child::{Asks, Watch, look_first, want};
+use crate::{Asks, Watch, look_first, want};
 use race_cells::Notes;
 use race_core::{EventList, JobEnd, Report};
 use sby_edge::Clock;

@@ -9,11 +9,11 @@ ghost use Rattle.lane_run.specs.Done.{LaneFaults, LaneStops};
 ghost use Rattle.lane_run.specs.Raced.{HasDone, IsReady, LanesDone};
 ghost use Rattle.lane_run.specs.Started.{LaneStarts};
 
+use crate::Makes;
 use crate::gather::{Raced, gather};
 use crate::lane::run_lane;
 use crate::prepare::{Fresh, fresh_lanes};
 use crate::task::Task;
-use lane_child::Makes;
 use race_cells::Notes;
 use race_core::Report;
 use sby_edge::{Clock, Launch};

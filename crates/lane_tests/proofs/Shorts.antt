@@ -4,7 +4,7 @@ use Rattle.std.specs.Prelude.{◌≤◌, IfOk}
 use Rattle.std.specs.declared.alloc.AllocError.{AllocError}
 use Rattle.cert_judge.proofs.KindFates.{within_most}
 use Rattle.cert_judge.specs.Kinds.{IsFateSoFar}
-use Rattle.lane_child.specs.Judging.{Says}
+use Rattle.lane_run.specs.Judging.{Says}
 use Rattle.race_core.specs.declared.event.Judged.TheVariants as judged
 use Rattle.sby_terms.specs.declared.names.JobName.{JobName}
 use Rattle.cert_judge.specs.Fate.{Fate}
@@ -14,8 +14,8 @@ use Rattle.judge.specs.Problem.{AskedOf, IsJobFile}
 use Rattle.judge.specs.declared.judging.Progress.{Progress}
 use Rattle.judge.specs.declared.judging.Progress.TheVariants as progress
 use Rattle.judge.specs.declared.judging.State.TheVariants.{Reading}
-use Rattle.lane_judge.specs.Fates.{judged_as}
-use Rattle.lane_judge.specs.Watching.{told_as}
+use Rattle.task_race.specs.Fates.{judged_as}
+use Rattle.task_race.specs.Watching.{told_as}
 use Rattle.lane_tests.specs.Short.{HasTaken, IsOurs, SaysShort}
 
 -- a finding is one for the job of the problem

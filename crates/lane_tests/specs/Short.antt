@@ -8,7 +8,7 @@ use Rattle.race_core.specs.declared.event.Judged.TheVariants as judged
 use Rattle.judge.specs.Finding.{FindingOf}
 use Rattle.judge.specs.Judging.{JudgeOf, Took}
 use Rattle.judge.specs.Problem.{AskedOf, IsJob}
-use Rattle.lane_child.specs.Judging.{Says}
+use Rattle.lane_run.specs.Judging.{Says}
 
 -- a finding that is said is one for the job of the problem
 abbrev pub IsOurs : ProblemOf → JobName → List ℕ → Judged FindingOf → Type 0

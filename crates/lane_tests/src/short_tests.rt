@@ -2,10 +2,10 @@
 
 ghost use Rattle.std.specs.Prelude.{◌≡◌, ◌≢◌, ◌++◌, ℕ, List};
 ghost use Rattle.judge.specs.Problem.{AskedOf, IsJobFile};
-ghost use Rattle.lane_child.specs.Judging.{Says};
-ghost use Rattle.lane_judge.specs.Serving.{IsServed, file_of};
-ghost use Rattle.lane_judge.specs.Watching.{told_as};
-ghost use Rattle.lane_judge.specs.Words.{proof_path, words_at};
+ghost use Rattle.lane_run.specs.Judging.{Says};
+ghost use Rattle.task_race.specs.Serving.{IsServed, file_of};
+ghost use Rattle.task_race.specs.Watching.{told_as};
+ghost use Rattle.task_race.specs.Words.{proof_path, words_at};
 ghost use Rattle.lane_tests.specs.Short.{HasTaken, IsOurs, SaysShort};
 ghost use Rattle.sby_terms.specs.Path.{job_path};
 ghost use Rattle.sby_terms.specs.Span.{slices_of};
@@ -16,8 +16,7 @@ use super::tests::{
 };
 use cert_judge::{BadCert, StreamKind};
 use judge::{Finding, Judge, Problem, Progress, State};
-use lane_child::{Asks, Child, Makes, Subject};
-use lane_judge::{Output, ProblemLanes, Told};
+use lane_run::{Asks, Child, Makes, Subject};
 use race_cells::Cells;
 use race_core::Judged;
 use sby_edge::Scripted;
@@ -27,6 +26,7 @@ use std::sync::Wait;
 use std::test::Fail;
 use std::thread::Threads;
 use std::time::Clock as SystemClock;
+use task_race::{Output, ProblemLanes, Told};
 
 // No bytes.
 #[derive(Drop)]

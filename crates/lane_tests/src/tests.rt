@@ -3,9 +3,7 @@
 ghost use Rattle.std.specs.Prelude.{◌≡◌, ◌<◌, ◌^◌, IfOk, length};
 
 use judge::{Finding, Problem};
-use lane_child::Makes;
-use lane_judge::ProblemLanes;
-use lane_run::{Limit, Raced, Task, race};
+use lane_run::{Limit, Makes, Raced, Task, race};
 use race_cells::Cells;
 use race_core::{JobEnd, JobEvents, LaneEvent, Report, answer_among};
 use sby_edge::{
@@ -17,6 +15,7 @@ use std::sync::Wait;
 use std::test::Fail;
 use std::thread::Threads;
 use std::time::Clock as SystemClock;
+use task_race::ProblemLanes;
 
 /// A register that is 0 first and then turns. Its assertion breaks in every second cycle, cycle 1 first.
 pub const TURNS: &str =

@@ -35,8 +35,8 @@ use Rattle.sby_terms.specs.declared.names.Verdict.{Verdict}
 use Rattle.sby_terms.specs.declared.names.Verdict.TheVariants.{Pass as PassVerdict, Fail as FailVerdict}
 use Rattle.sby_lines.specs.Lines.{IsStatus}
 use Rattle.sby_lines.specs.Told.{IsRaceStatus}
-use Rattle.lane_judge.specs.Fates.{most_bytes}
-use Rattle.lane_judge.specs.Serving.{IsServing, evidence_at}
+use Rattle.task_race.specs.Fates.{most_bytes}
+use Rattle.task_race.specs.Serving.{IsServing, evidence_at}
 use Rattle.task_race.specs.Ends.{IsFateOf, script_of}
 use Rattle.task_race.proofs.PlaceLemmas.{at_contains}
 use Rattle.task_race.specs.Ran.{LanesRan}

@@ -17,7 +17,7 @@ use Rattle.race_core.specs.Report.{ReportOf}
 use Rattle.race_core.specs.Told.{told_by}
 use Rattle.race_core.specs.declared.end.JobEnd.{JobEnd}
 use Rattle.race_core.specs.declared.end.JobEnd.TheVariants.{Found, Unknown, NotServed, Bad, ReadFailed, StartFailed, HoldFailed, Skipped, CalledOff, Stopped, Memory as MemoryEnd}
-use Rattle.lane_judge.specs.Serving.{IsServing}
+use Rattle.task_race.specs.Serving.{IsServing}
 use Rattle.sby_terms.specs.Problem.{ProblemOf}
 use Rattle.sby_terms.specs.declared.engine.Engine.{Engine}
 use Rattle.sby_terms.specs.declared.names.JobName.{JobName}

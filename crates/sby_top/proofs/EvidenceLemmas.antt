@@ -21,10 +21,10 @@ use Rattle.race_core.specs.declared.end.JobEnd.{JobEnd}
 use Rattle.race_core.specs.declared.end.JobEnd.TheVariants.{Found, Unknown, NotServed, Bad, ReadFailed, StartFailed, HoldFailed, Skipped, CalledOff, Stopped, Memory as MemoryEnd}
 use Rattle.race_core.specs.declared.event.Judged.{Judged}
 use Rattle.race_core.specs.declared.event.Judged.TheVariants as judged
-use Rattle.lane_judge.specs.Fates.{Ends, IsWhole, Proves, Tells, for_law, most_bytes}
-use Rattle.lane_judge.specs.Serving.{IsServing}
-use Rattle.lane_judge.specs.declared.evidence.Evidence.{Evidence}
-use Rattle.lane_judge.specs.declared.evidence.Evidence.TheVariants.{Output, ProofFile}
+use Rattle.task_race.specs.Fates.{Ends, IsWhole, Proves, Tells, for_law, most_bytes}
+use Rattle.task_race.specs.Serving.{IsServing}
+use Rattle.task_race.specs.declared.evidence.Evidence.{Evidence}
+use Rattle.task_race.specs.declared.evidence.Evidence.TheVariants.{Output, ProofFile}
 use Rattle.sby_terms.specs.Problem.{ProblemOf}
 use Rattle.sby_terms.specs.declared.names.Answer.{Answer}
 use Rattle.sby_terms.specs.declared.names.Answer.TheVariants.{Sat, Unsat}

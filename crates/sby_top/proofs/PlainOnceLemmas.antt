@@ -35,9 +35,9 @@ use Rattle.sby_terms.specs.declared.span.Span.{Span}
 use Rattle.sby_lines.specs.Told.{answer_of, job_of}
 use Rattle.sby_lines.proofs.PlaceLemmas.{at_contains, contains_at}
 use Rattle.sby_lines.proofs.ShownLemmas.{one_verdict}
-use Rattle.lane_judge.specs.Fates.{most_bytes}
-use Rattle.lane_judge.specs.declared.evidence.Evidence.{Evidence}
-use Rattle.lane_judge.specs.declared.evidence.Evidence.TheVariants.{Output, ProofFile}
+use Rattle.task_race.specs.Fates.{most_bytes}
+use Rattle.task_race.specs.declared.evidence.Evidence.{Evidence}
+use Rattle.task_race.specs.declared.evidence.Evidence.TheVariants.{Output, ProofFile}
 use Rattle.task_race.specs.Ends.{IsEndOfFate, IsFateOf, script_of}
 use Rattle.task_race.specs.Ran.{RacingOf, job_count, name_in}
 use Rattle.task_race.proofs.PlaceLemmas.{stands_at}

@@ -31,10 +31,10 @@ use Rattle.sby_terms.specs.declared.names.Status.{Status}
 use Rattle.sby_lines.specs.Told.{IsRaceStatus, answer_of, job_of}
 use Rattle.sby_lines.proofs.PlaceLemmas.{job_named}
 use Rattle.lane_run.specs.Complete.{ComesTo}
-use Rattle.lane_judge.specs.Fates.{Ends, Proves, Tells, most_bytes}
-use Rattle.lane_judge.specs.Serving.{IsServing}
-use Rattle.lane_judge.specs.declared.evidence.Evidence.{Evidence}
-use Rattle.lane_judge.specs.declared.evidence.Evidence.TheVariants.{Output, ProofFile}
+use Rattle.task_race.specs.Fates.{Ends, Proves, Tells, most_bytes}
+use Rattle.task_race.specs.Serving.{IsServing}
+use Rattle.task_race.specs.declared.evidence.Evidence.{Evidence}
+use Rattle.task_race.specs.declared.evidence.Evidence.TheVariants.{Output, ProofFile}
 use Rattle.task_race.specs.Ends.{IsJudgedAs, IsProofOf, script_of}
 use Rattle.task_race.specs.Ran.{RacingOf, evidence_in, job_count, name_in}
 use Rattle.sby_top.specs.Complete.{ArePlain, IsPlainEnd, IsPlainReport}

@@ -23,8 +23,8 @@ use Rattle.sby_terms.specs.Problem.{ProblemOf}
 use Rattle.sby_terms.specs.declared.engine.Engine.{Engine}
 use Rattle.sby_terms.specs.declared.names.Answer.{Answer}
 use Rattle.sby_terms.specs.declared.names.Mode.{Mode}
-use Rattle.lane_judge.specs.Fates.{most_bytes}
-use Rattle.lane_judge.specs.Serving.{IsServing, evidence_at}
+use Rattle.task_race.specs.Fates.{most_bytes}
+use Rattle.task_race.specs.Serving.{IsServing, evidence_at}
 use Rattle.task_race.specs.Bays.{AreCountsOf}
 use Rattle.task_race.specs.Ends.{HasEndCause, IsEndOfFate, IsFateOf, IsLimitShown, script_of}
 use Rattle.task_race.specs.Ran.{LanesRan}

@@ -6,7 +6,7 @@ use Rattle.sby_edge.specs.Child.{YardOf, up_to}
 use Rattle.sby_edge.specs.Files.{Store}
 use Rattle.sby_edge.specs.Script.{ScriptOf}
 use Rattle.cert_judge.specs.Fate.{Found as FoundFate}
-use Rattle.lane_judge.specs.Serving.{IsServing, evidence_at}
+use Rattle.task_race.specs.Serving.{IsServing, evidence_at}
 use Rattle.sby_terms.specs.Status.{HasStatus}
 use Rattle.sby_terms.specs.declared.names.Mode.{Mode}
 use Rattle.sby_terms.specs.declared.names.Verdict.{Verdict}

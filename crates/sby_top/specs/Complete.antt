@@ -4,7 +4,7 @@ use Rattle.sby_edge.specs.Child.{YardOf}
 use Rattle.sby_edge.specs.Script.{ScriptOf}
 use Rattle.judge.specs.Finding.{FindingOf}
 use Rattle.judge.specs.Problem.{AskedOf}
-use Rattle.lane_judge.specs.Serving.{IsServing}
+use Rattle.task_race.specs.Serving.{IsServing}
 use Rattle.race_core.specs.Asking.{name_at}
 use Rattle.race_core.specs.Carrying.{Carries, Looked}
 use Rattle.race_core.specs.Consistent.{end_at, events_at}

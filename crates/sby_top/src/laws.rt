@@ -18,7 +18,7 @@ ghost use Rattle.judge.specs.declared.problem.ProblemFault.{ProblemFault};
 ghost use Rattle.sby_edge.specs.Child.{up_to};
 ghost use Rattle.sby_edge.specs.Files.{Store};
 ghost use Rattle.sby_edge.specs.Script.{ScriptOf};
-ghost use Rattle.lane_judge.specs.Serving.{IsServing, evidence_at};
+ghost use Rattle.task_race.specs.Serving.{IsServing, evidence_at};
 ghost use Rattle.sby_terms.specs.Decide.{Decides};
 ghost use Rattle.sby_terms.specs.Path.{job_path};
 ghost use Rattle.sby_terms.specs.Span.{slices_of};

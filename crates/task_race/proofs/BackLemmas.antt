@@ -4,7 +4,7 @@ use Rattle.std.specs.Prelude.{Option, Some, None, All, Contains, IfSome, slice_g
 use Rattle.std.proofs.lemmas.List.Elements.{All-append, Contains-append_left, Contains-append_right}
 use Rattle.sby_edge.specs.Cause.{CountsOf}
 use Rattle.sby_edge.specs.Child.{BayOf, IsLogged, LaneOf, StartOf, YardOf, left_by, new_bay}
-use Rattle.lane_child.specs.Starting.{with_starts}
+use Rattle.lane_run.specs.Starting.{with_starts}
 use Rattle.task_race.specs.Bays.{AreCountsOf, BackOf, CameBack, YardAt, counts_in, left_all, none_failed}
 use Rattle.task_race.proofs.PlaceLemmas.{first_or_later}
 

@@ -16,15 +16,15 @@ use Rattle.race_core.specs.declared.end.JobEnd.{JobEnd}
 use Rattle.race_core.specs.declared.end.JobEnd.TheVariants as end
 use Rattle.race_core.specs.declared.event.Judged.{Judged}
 use Rattle.race_core.specs.declared.event.Judged.TheVariants as judged
-use Rattle.lane_child.specs.Reading.{Comes, IsProof, NotByFile}
-use Rattle.lane_child.specs.Starting.{IsFrontOf, NoStart, ReadsScript}
+use Rattle.lane_run.specs.Reading.{Comes, IsProof, NotByFile}
+use Rattle.lane_run.specs.Starting.{IsFrontOf, NoStart, ReadsScript}
 use Rattle.lane_run.proofs.Plains.{plain_bad, plain_found, plain_unknown}
 use Rattle.lane_run.proofs.Reasons.{called_by_look, skipped_by_look}
 use Rattle.lane_run.specs.Complete.{ComesTo}
 use Rattle.lane_run.specs.Started.{starts_upto}
 use Rattle.std.proofs.lemmas.Option.{slice_get_within}
-use Rattle.lane_judge.specs.Fates.{Ends, Proves, Stands, most_bytes, most_output, stays_law}
-use Rattle.lane_judge.specs.Serving.{IsServing}
+use Rattle.task_race.specs.Fates.{Ends, Proves, Stands, most_bytes, most_output, stays_law}
+use Rattle.task_race.specs.Serving.{IsServing}
 use Rattle.task_race.specs.Bays.{AreCountsOf, BackOf, YardAt, counts_in, none_failed}
 use Rattle.task_race.proofs.BackLemmas.{counts_told}
 use Rattle.task_race.specs.Ends.{HasEndCause, IsJudgedAs, IsLimitShown, IsCalledOffBy, IsProofOf, IsSkippedBy, IsStreamOf, script_of}

@@ -1,3 +1,7 @@
+mod Files
+mod Answering
+mod Marking
+mod Subjects
 pub mod BackLemmas
 pub mod CountLemmas
 pub mod EndLemmas

@@ -17,8 +17,8 @@ use Rattle.lane_run.specs.Asked.{IsFor, terms_at}
 use Rattle.lane_run.specs.Done.{JobFaults, LaneFaults, LaneStops}
 use Rattle.lane_run.specs.Raced.{LanesDone}
 use Rattle.lane_run.specs.Started.{LaneStarts}
-use Rattle.lane_judge.specs.Fates.{Ends, Proves, Stands, most_bytes, most_output}
-use Rattle.lane_judge.specs.Serving.{IsServed, file_of}
+use Rattle.task_race.specs.Fates.{Ends, Proves, Stands, most_bytes, most_output}
+use Rattle.task_race.specs.Serving.{IsServed, file_of}
 use Rattle.sby_terms.specs.declared.names.Mode.{Mode}
 use Rattle.task_race.specs.Bays.{BackOf, CameBack, YardAt, left_all, none_failed}
 use Rattle.task_race.specs.Ran.{RacingOf, AreConsistent, AreDone, AreStarts, EachBack, EachLane, IsStart, LanesRan, Serves, WinnersFind, answer_in, evidence_in, job_count, job_in, limit_from, name_in, problem_in, terms_in, words_in}

@@ -18,7 +18,7 @@ use Rattle.race_core.specs.declared.part.Keeper.{Keeper}
 use Rattle.race_core.specs.declared.part.Reader.{Reader}
 use Rattle.race_core.specs.declared.part.Reader.TheVariants as reader
 use Rattle.sby_terms.specs.declared.names.JobName.{JobName}
-use Rattle.lane_child.specs.Reading.{IfWon}
+use Rattle.lane_run.specs.Reading.{IfWon}
 use Rattle.lane_run.specs.Done.{JobDone, LaneSoFar}
 use Rattle.task_race.proofs.PlaceLemmas.{first_or_later}
 

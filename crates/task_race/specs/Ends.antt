@@ -16,10 +16,10 @@ use Rattle.race_core.specs.declared.end.JobEnd.TheVariants as end
 use Rattle.race_core.specs.declared.event.Judged.{Judged}
 use Rattle.race_core.specs.declared.event.Judged.TheVariants as judged
 use Rattle.lane_run.specs.Complete.{ComesTo}
-use Rattle.lane_judge.specs.Fates.{Ends, Proves, most_bytes}
-use Rattle.lane_judge.specs.Serving.{IsServed, IsServing}
-use Rattle.lane_judge.specs.declared.evidence.Evidence.{Evidence}
-use Rattle.lane_judge.specs.declared.evidence.Evidence.TheVariants.{Output, ProofFile}
+use Rattle.task_race.specs.Fates.{Ends, Proves, most_bytes}
+use Rattle.task_race.specs.Serving.{IsServed, IsServing}
+use Rattle.task_race.specs.declared.evidence.Evidence.{Evidence}
+use Rattle.task_race.specs.declared.evidence.Evidence.TheVariants.{Output, ProofFile}
 use Rattle.task_race.specs.Ran.{RacingOf, evidence_in}
 
 -- the script of a lane's job, where it is told

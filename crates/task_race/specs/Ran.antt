@@ -22,10 +22,10 @@ use Rattle.lane_run.specs.Done.{LaneFaults, LaneStops}
 use Rattle.lane_run.specs.Raced.{LanesDone}
 use Rattle.lane_run.specs.Started.{LaneStarts}
 use Rattle.lane_run.specs.declared.task.Limit.{Limit}
-use Rattle.lane_judge.specs.Fates.{Ends, Proves, Stands, most_bytes, most_output}
-use Rattle.lane_judge.specs.Serving.{IsServed, evidence_at, file_of}
-use Rattle.lane_judge.specs.Words.{proof_path, words_at}
-use Rattle.lane_judge.specs.declared.evidence.Evidence.{Evidence}
+use Rattle.task_race.specs.Fates.{Ends, Proves, Stands, most_bytes, most_output}
+use Rattle.task_race.specs.Serving.{IsServed, evidence_at, file_of}
+use Rattle.task_race.specs.Words.{proof_path, words_at}
+use Rattle.task_race.specs.declared.evidence.Evidence.{Evidence}
 use Rattle.task_race.specs.Bays.{BackOf, CameBack, YardAt, counts_in, left_all, none_failed}
 use Rattle.task_race.specs.declared.racing.Racing.{Racing}
 

@@ -1,13 +1,23 @@
-//! The lanes of one task, from the bays of a yard to what they report.
+//! The lanes of one task: which engine serves which job, the words of its child and the judge of its output; and their race, from the bays
+//! of a yard to what they report.
 #![tactic(auto)]
 
 mod bays;
+mod evidence;
+mod lanes;
 mod laws;
+mod output;
 mod racing;
+mod subject;
 mod truth;
+mod words;
 
+pub use evidence::Evidence;
+pub use lanes::ProblemLanes;
 pub use laws::{
     each_lane_reports, ends_have_causes, lanes_stop_under_a_limit, streams_give_their_fates,
     winners_carry_findings,
 };
+pub use output::{Output, Told};
 pub use racing::{Racing, RanLanes, race_task};
+pub use subject::JobJudge;

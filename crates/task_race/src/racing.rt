@@ -9,10 +9,10 @@ ghost use Rattle.sby_edge.specs.Files.{Store};
 ghost use Rattle.task_race.specs.Bays.{AreLater, NoneStarted, counts_at, yard_at};
 ghost use Rattle.task_race.specs.Ran.{AreConsistent, AreDone, AreStarts, HasJobFiles, IsStart, LanesRan, job_count, limit_from, racing_seen};
 
+use crate::ProblemLanes;
 use crate::bays::{give_back, take_bays};
 use crate::truth::learn_reports;
 use judge::{Finding, Problem};
-use lane_judge::ProblemLanes;
 use lane_run::{Limit, Raced, Task, race};
 use race_cells::Cells;
 use race_core::Report;

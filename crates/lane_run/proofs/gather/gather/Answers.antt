@@ -1,6 +1,6 @@
 use Rattle.std.proofs.Common.{◌≡◌, ◌∷◌, [], ◌++◌, All, List, length, map, sym, ap, subst, ◌∙◌, append_assoc, append-nil, arith}
 use Rattle.std.specs.Vec.Iter.{into_iter_items}
-use Rattle.lane_child.specs.Keeping.{Remember}
+use Rattle.lane_run.specs.Keeping.{Remember}
 use Rattle.lane_run.specs.declared.racing.Lane.{Lane}
 use Rattle.lane_run.proofs.Joins.{all_more, all_there, map_more, nothing_left, remember_both}
 use Rattle.lane_run.proofs.gather.gather.Goals as goal

@@ -1,7 +1,7 @@
 use Rattle.std.proofs.Common.{◌≡◌, ◌≤◌, ◌++◌, All, List, length, map}
 use Rattle.std.specs.Prelude.{vec_capacity}
 use Rattle.std.specs.Vec.Iter.{into_iter_items, into_iter_len}
-use Rattle.lane_child.specs.Keeping.{Remember}
+use Rattle.lane_run.specs.Keeping.{Remember}
 use Rattle.lane_run.specs.declared.racing.Lane.{Lane}
 use Rattle.lane_run.proofs.gather.gather.Given as goal
 

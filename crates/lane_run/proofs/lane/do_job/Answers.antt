@@ -6,7 +6,7 @@ use Rattle.race_core.specs.Consistent.{events_at}
 use Rattle.race_core.specs.Report.{EventsOf}
 use Rattle.race_core.specs.declared.event.LaneEvent.{LaneEvent}
 use Rattle.race_core.specs.declared.step.JobTerms.{JobTerms}
-use Rattle.lane_child.specs.Starting.{with_starts}
+use Rattle.lane_run.specs.Starting.{with_starts}
 use Rattle.lane_run.specs.Asked.{IsFor, terms_at}
 use Rattle.lane_run.specs.Done.{JobDone, KnownIn}
 use Rattle.lane_run.proofs.Jobs.{passed_done, served_done}

@@ -1,7 +1,7 @@
 use Rattle.std.proofs.Common.{◌≡◌}
 use Rattle.race_cells.specs.Notes.{AreNotesOf}
 use Rattle.race_core.specs.Asking.{name_at, terms_of}
-use Rattle.lane_child.specs.Keeping.{Remember}
+use Rattle.lane_run.specs.Keeping.{Remember}
 use Rattle.lane_run.specs.Asked.{IsFor, terms_at}
 use Rattle.lane_run.specs.Done.{LaneFaults, LaneSoFar}
 use Rattle.lane_run.specs.Started.{LaneStarts}

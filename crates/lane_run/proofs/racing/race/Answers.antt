@@ -3,7 +3,7 @@ use Rattle.std.specs.Prelude.{slice_get, slice_index_or}
 use Rattle.race_core.specs.Asking.{name_at, terms_of}
 use Rattle.race_core.specs.Consistent.{Consistent}
 use Rattle.race_core.specs.Report.{ReportOf}
-use Rattle.lane_child.specs.Keeping.{Remember}
+use Rattle.lane_run.specs.Keeping.{Remember}
 use Rattle.lane_run.specs.Asked.{IsFor, terms_at}
 use Rattle.lane_run.specs.Done.{LaneFaults, LaneStops}
 use Rattle.lane_run.specs.Raced.{LanesDone}

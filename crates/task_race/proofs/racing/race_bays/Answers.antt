@@ -4,8 +4,8 @@ use Rattle.judge.specs.Finding.{FindingOf}
 use Rattle.race_core.specs.Asking.{name_at, terms_of}
 use Rattle.race_core.specs.Consistent.{Consistent}
 use Rattle.race_core.specs.Report.{ReportOf}
-use Rattle.lane_judge.specs.Fates.{Ends, Proves, Stands, most_bytes, most_output}
-use Rattle.lane_judge.specs.Serving.{IsServed, file_of}
+use Rattle.task_race.specs.Fates.{Ends, Proves, Stands, most_bytes, most_output}
+use Rattle.task_race.specs.Serving.{IsServed, file_of}
 use Rattle.lane_run.specs.Asked.{IsFor, terms_at}
 use Rattle.lane_run.specs.Done.{LaneFaults}
 use Rattle.lane_run.specs.Raced.{LanesDone}

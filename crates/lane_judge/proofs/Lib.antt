@@ -1,4 +1,0 @@
-mod Files
-mod Answering
-mod Marking
-mod Subjects

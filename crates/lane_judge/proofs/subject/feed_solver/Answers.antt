@@ -1,9 +1,0 @@
-use Rattle.std.proofs.Common.{◌++◌, subst, sym}
-use Rattle.race_core.specs.declared.event.Judged.{Judged}
-use Rattle.judge.specs.Finding.{FindingOf}
-use Rattle.lane_judge.proofs.Answering.{solver_told}
-use Rattle.lane_judge.proofs.subject.feed_solver.Goals as goal
-
-pub returns : goal.returns
-returns c = λ p job kind bytes goes.
-    rw c.judged.ensures (solver_told p job kind c.args.judge.now c.feed.new.self bytes (bytes ++ c.args.piece.now) goes c.feed.result (c.feed.ensures.feeds bytes goes.took))

@@ -1,7 +1,0 @@
-use Rattle.std.proofs.Common.{rules, append_assoc}
-use Rattle.lane_judge.specs.Words.{file_text}
-use Rattle.lane_judge.proofs.words.file_text.Goals as goal
-
-pub returns : goal.returns
-unfolding file_text
-returns c = search (rules, append_assoc)

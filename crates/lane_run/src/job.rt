@@ -1,0 +1,244 @@
+// A job of a lane that has a child.
+
+ghost use Rattle.std.specs.Prelude.{◌≡◌, ◌≢◌, ◌⊎◌, ℕ, ◌+◌, ◌<◌, ◌≤◌, [], Option, Some, IfSome, length, map, option_map, string_bytes, false, true};
+ghost use Rattle.lane_run.specs.Keeping.{EndsChild, HasKept, IsOfCell, Keeps, Remember, TakesTurns};
+ghost use Rattle.lane_run.specs.Reading.{HasRead, IfWon, IsHolding, IsOver, bytes_filed, bytes_read, empty_reads};
+ghost use Rattle.lane_run.specs.Starting.{HasRun};
+ghost use Rattle.lane_run.specs.Sides.{Asks, Finishes, RanFrom, kept_by};
+ghost use Rattle.race_cells.specs.Notes.{AreNotesOf, known_at};
+ghost use Rattle.race_core.specs.Asking.{terms_of};
+ghost use Rattle.race_core.specs.Ends.{EndIs};
+ghost use Rattle.race_core.specs.Parts.{RightKeeper, RightReader, Terms, keeper_from, place_from, reader_from};
+ghost use Rattle.race_core.specs.declared.end.JobEnd.TheVariants as end;
+ghost use Rattle.race_core.specs.declared.part.Keeper.TheVariants as keeper;
+ghost use Rattle.race_core.specs.declared.part.Place.TheVariants.{Away};
+ghost use Rattle.race_core.specs.declared.part.Reader.TheVariants as reader;
+ghost use Rattle.race_core.specs.declared.part.Reason.TheVariants as reason;
+ghost use Rattle.sby_edge.specs.Cause.{Rose};
+
+use crate::ending::job_end;
+use crate::keeper::Watch;
+use crate::life::{Lived, live};
+use crate::over::{Asked, read_proof, settle};
+use crate::subject::{Asks, Subject};
+use race_cells::{Cells, Notes};
+use race_core::{EventList, JobEnd, Keeper, Reader, Reason};
+use sby_edge::{Clock, Launch};
+use sby_terms::Settled;
+use std::alloc::Global;
+use std::sync::Wait;
+use std::thread::Threads;
+
+/// What a child's life leaves to its lane: how the job ends, and the events of its reader.
+#[derive(Drop)]
+pub struct Ran<T> {
+    pub end: JobEnd<T>,
+    pub events: EventList<T>,
+}
+
+fn kept<T: Drop>(why: Option<Reason<T>>) -> Keeper<T>
+    ensures { result ≡ kept_by why }
+{
+    match why {
+        Some(why) => Keeper::Killed(why),
+        None => Keeper::Turning,
+    }
+}
+
+// Asks for the proof file, where the output left the end to it and no kill came.
+fn ask_proof<L: Launch, S: Subject<T>, T: Settled + Drop>(
+    alloc: Global,
+    bay: &mut L,
+    asked: &Asked<'_>,
+    why: &Option<Reason<T>>,
+    part: Reader<T>,
+    subject: &mut S,
+    events: &mut EventList<T>,
+) -> Reader<T>
+    requires part { part ≡ reader_from reader.Fresh events.old.events }
+    requires has_read { HasRead part }
+    requires room { (part ≡ reader.Short) ⊎ (1 ≤ events.old.room) }
+    requires awaits { part ≡ reader.Asking → S.awaits subject.old }
+    requires unfiled { bytes_filed events.old.events ≡ 0 }
+    ensures part { result ≡ reader_from reader.Fresh events.new.events }
+    ensures over { IsOver result (kept_by why.now) ⊎ IsHolding result }
+    ensures room { IsHolding result → 1 ≤ events.new.room }
+    ensures asks { Asks (S.proves subject.old) (L.told bay.old) asked.now.job asked.now.most why.now part result (bytes_filed events.new.events) }
+    ensures read { bytes_read events.new.events ≡ bytes_read events.old.events }
+    ensures empty { empty_reads events.new.events ≡ empty_reads events.old.events }
+    ensures failed { result ≡ reader.Failed → (part ≡ reader.Failed) ⊎ Rose (L.read_faults bay.old) (L.read_faults bay.new) }
+    ensures told { L.told bay.new ≡ L.told bay.old }
+    ensures starts { L.start_faults bay.new ≡ L.start_faults bay.old }
+    ensures holds { L.hold_faults bay.new ≡ L.hold_faults bay.old }
+    ensures reads { L.read_faults bay.old ≤ L.read_faults bay.new }
+    ensures unsettled { IfWon result (λ f. ⊥) }
+{
+    match part {
+        Reader::Asking if why.is_none() => read_proof(alloc, bay, asked, subject, events),
+        part => part,
+    }
+}
+
+// The reader's last steps: the proof file, where the output left the end to it and no kill came, and the settle.
+fn finish_reader<L: Launch, S: Subject<T>, T: Settled + Drop>(
+    alloc: Global,
+    bay: &mut L,
+    asked: &Asked<'_>,
+    cells: &Cells<T>,
+    place: u32,
+    lived: Lived<S, T>,
+    notes: &mut Notes<T>,
+) -> Lived<S, T>
+    requires place { place < length cells.now }
+    requires notes { AreNotesOf cells.now notes.old }
+    requires part { lived.part ≡ reader_from reader.Fresh lived.events.events }
+    requires has_read { HasRead lived.part }
+    requires room { (lived.part ≡ reader.Short) ⊎ (1 ≤ lived.events.room) }
+    requires awaits { lived.part ≡ reader.Asking → S.awaits lived.subject }
+    requires unfiled { bytes_filed lived.events.events ≡ 0 }
+    ensures part { result.part ≡ reader_from reader.Fresh result.events.events }
+    ensures over { IsOver result.part (kept_by lived.why) }
+    ensures finishes { Finishes (S.proves lived.subject) (L.told bay.old) asked.now.job asked.now.most lived.why lived.part result.part (bytes_filed result.events.events) }
+    ensures read { bytes_read result.events.events ≡ bytes_read lived.events.events }
+    ensures empty { empty_reads result.events.events ≡ empty_reads lived.events.events }
+    ensures remember { Remember notes.old notes.new }
+    ensures won { IfWon result.part (λ f. known_at notes.new place ≡ Some f) }
+    ensures failed { result.part ≡ reader.Failed → (lived.part ≡ reader.Failed) ⊎ Rose (L.read_faults bay.old) (L.read_faults bay.new) }
+    ensures told { L.told bay.new ≡ L.told bay.old }
+    ensures starts { L.start_faults bay.new ≡ L.start_faults bay.old }
+    ensures holds { L.hold_faults bay.new ≡ L.hold_faults bay.old }
+    ensures reads { L.read_faults bay.old ≤ L.read_faults bay.new }
+    ensures same { (result.why ≡ lived.why) × (result.is_failed ≡ lived.is_failed) }
+{
+    let Lived {
+        mut subject,
+        mut events,
+        part,
+        why,
+        is_failed,
+    } = lived;
+    let part = ask_proof(alloc, bay, asked, &why, part, &mut subject, &mut events);
+    let part = settle(alloc, cells, place, part, notes, &mut events);
+    Lived {
+        subject,
+        events,
+        part,
+        why,
+        is_failed,
+    }
+}
+
+// The end of a job whose child is over.
+fn conclude<L: Launch, S: Subject<T> + Drop, T: Settled + Drop>(
+    alloc: Global,
+    bay: &mut L,
+    asked: &Asked<'_>,
+    cells: &Cells<T>,
+    place: u32,
+    lived: Lived<S, T>,
+    notes: &mut Notes<T>,
+) -> Ran<T>
+    requires place { place < length cells.now }
+    requires notes { AreNotesOf cells.now notes.old }
+    requires part { lived.part ≡ reader_from reader.Fresh lived.events.events }
+    requires has_read { HasRead lived.part }
+    requires room { (lived.part ≡ reader.Short) ⊎ (1 ≤ lived.events.room) }
+    requires awaits { lived.part ≡ reader.Asking → S.awaits lived.subject }
+    requires unfiled { bytes_filed lived.events.events ≡ 0 }
+    requires why { HasKept (kept_by lived.why) }
+    ensures end { (a : Terms T) → EndIs a (λ _. ⊥) (reader_from reader.Fresh result.events.events) (kept_by lived.why) result.end }
+    ensures right { RightReader (reader_from reader.Fresh result.events.events) }
+    ensures finishes { Finishes (S.proves lived.subject) (L.told bay.old) asked.now.job asked.now.most lived.why lived.part (reader_from reader.Fresh result.events.events) (bytes_filed result.events.events) }
+    ensures read { bytes_read result.events.events ≡ bytes_read lived.events.events }
+    ensures empty { empty_reads result.events.events ≡ empty_reads lived.events.events }
+    ensures remember { Remember notes.old notes.new }
+    ensures won { IfWon (reader_from reader.Fresh result.events.events) (λ f. known_at notes.new place ≡ Some f) }
+    ensures started { HasRun result.end }
+    ensures read_failed { result.end ≡ end.ReadFailed → (lived.part ≡ reader.Failed) ⊎ Rose (L.read_faults bay.old) (L.read_faults bay.new) }
+    ensures hold_failed { result.end ≡ end.HoldFailed → (lived.is_failed ≡ true) ⊎ (kept_by lived.why ≡ keeper.Killed reason.Fault) }
+    ensures told { L.told bay.new ≡ L.told bay.old }
+    ensures starts { L.start_faults bay.new ≡ L.start_faults bay.old }
+    ensures holds { L.hold_faults bay.new ≡ L.hold_faults bay.old }
+    ensures reads { L.read_faults bay.old ≤ L.read_faults bay.new }
+{
+    let Lived {
+        subject,
+        events,
+        part,
+        why,
+        is_failed,
+    } = finish_reader(alloc, bay, asked, cells, place, lived, notes);
+    drop(subject);
+    Ran {
+        end: job_end(part, kept(why), is_failed),
+        events,
+    }
+}
+
+/// Runs a job whose child was started, and not killed since: its reader and its keeper beside each other, a kill where none came, the reap in every case, and
+/// the end. Until its reader has ended, the child is killed only by a kill of its keeper's list, for which that has a reason. Then the proof file, where the output leaves the end to it, and the settle of what was found. Waits for the child.
+#[tactic(auto, using(crate::proofs::Endings::rose_later, crate::proofs::Endings::rose_earlier))]
+pub fn run_started<
+    R: Threads + Wait + Sync,
+    L: Launch,
+    S: Subject<T> + Drop,
+    J: Asks<T> + Sync,
+    T: Settled + Drop + Send + Sync,
+    C: Clock,
+>(
+    rt: &R,
+    alloc: Global,
+    bay: &mut L,
+    child: (L::Pipe, L::Hold),
+    asked: &Asked<'_>,
+    watch: &Watch<'_, J, T, C>,
+    subject: S,
+    notes: &mut Notes<T>,
+    reader_events: EventList<T>,
+    keeper_events: &mut EventList<T>,
+) -> Ran<T>
+    requires fresh { (S.taken subject ≡ []) × (reader_events.events ≡ []) }
+    requires reader_room { 1 ≤ reader_events.room }
+    requires goes_on { S.goes_on subject }
+    requires alive { L.Hold.killed child.1 ≡ None }
+    requires cell { watch.now.terms.now.cell < length watch.now.cells.now }
+    requires other { IfSome watch.now.other (λ o. o.0 < length watch.now.cells.now) }
+    requires notes { AreNotesOf watch.now.cells.now notes.old }
+    requires room { 2 ≤ keeper_events.old.room }
+    requires turns { TakesTurns (keeper_from (terms_of T.job T.answer watch.now.terms.now) keeper.Fresh keeper_events.old.events) }
+    ensures end { EndIs (terms_of T.job T.answer watch.now.terms.now) (λ _. ⊥) (reader_from reader.Fresh result.events.events) (keeper_from (terms_of T.job T.answer watch.now.terms.now) keeper.Fresh keeper_events.new.events) result.end }
+    ensures right { RightReader (reader_from reader.Fresh result.events.events) × RightKeeper (keeper_from (terms_of T.job T.answer watch.now.terms.now) keeper.Fresh keeper_events.new.events) }
+    ensures looked { keeper_from (terms_of T.job T.answer watch.now.terms.now) keeper.Fresh keeper_events.new.events ≢ keeper.Fresh }
+    ensures place { place_from Away keeper_events.new.events ≡ place_from Away keeper_events.old.events }
+    ensures keeps { Keeps (IsOfCell T.problem T.job (J.problem watch.now.asks.now) watch.now.terms.now watch.now.other) (C.may_read watch.now.clock.now) notes.old notes.new keeper_events.old.events keeper_events.new.events }
+    ensures won { IfWon (reader_from reader.Fresh result.events.events) (λ f. known_at notes.new watch.now.terms.now.cell ≡ Some f) }
+    ensures ran { RanFrom (S.stands subject) (S.ends subject) (S.proves subject) asked.now.job asked.now.most (S.most subject) (L.told bay.old) (L.told bay.new)
+        (L.Pipe.told child.0) result.events.events keeper_events.new.events }
+    ensures started { HasRun result.end }
+    ensures read_failed { result.end ≡ end.ReadFailed → Rose (L.read_faults bay.old) (L.read_faults bay.new) }
+    ensures hold_failed { result.end ≡ end.HoldFailed → Rose (L.hold_faults bay.old) (L.hold_faults bay.new) }
+    ensures starts { L.start_faults bay.new ≡ L.start_faults bay.old }
+    ensures reads { L.read_faults bay.old ≤ L.read_faults bay.new }
+    ensures holds { L.hold_faults bay.old ≤ L.hold_faults bay.new }
+{
+    let lived = live(
+        rt,
+        alloc,
+        bay,
+        child,
+        watch,
+        subject,
+        notes,
+        reader_events,
+        keeper_events,
+    );
+    conclude(
+        alloc,
+        bay,
+        asked,
+        watch.cells,
+        watch.terms.cell,
+        lived,
+        notes,
+    )
+}

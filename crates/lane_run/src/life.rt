@@ -1,0 +1,249 @@
+// A child's life, from its start to its end.
+
+ghost use Rattle.std.specs.Prelude.{◌≡◌, ◌⊎◌, ℕ, ◌+◌, ◌<◌, ◌≤◌, ◌^◌, [], None, Option, IfNone, IfSome, option_map, length, true};
+ghost use Rattle.std.specs.Option.{MatchOption};
+ghost use Rattle.lane_run.specs.Judging.{Within};
+ghost use Rattle.lane_run.specs.Keeping.{EndsChild, IsOfCell, Keeps, TakesTurns};
+ghost use Rattle.lane_run.specs.Reading.{Comes, HasRead, NoneLeft, ReadSoFar};
+ghost use Rattle.lane_run.specs.Sides.{KeptOut, KilledBy, ReadOut};
+ghost use Rattle.race_cells.specs.Notes.{AreNotesOf};
+ghost use Rattle.race_core.specs.Asking.{terms_of};
+ghost use Rattle.race_core.specs.Parts.{keeper_from, place_from, reader_of};
+ghost use Rattle.race_core.specs.declared.part.Keeper.TheVariants as keeper;
+ghost use Rattle.race_core.specs.declared.part.Place.TheVariants.{Away};
+ghost use Rattle.race_core.specs.declared.part.Reader.TheVariants as reader;
+ghost use Rattle.race_core.specs.declared.part.Reason.TheVariants as reason;
+ghost use Rattle.sby_edge.specs.Cause.{Rose};
+ghost use Rattle.sby_edge.specs.Child.{PipeOf, finished};
+
+use crate::keeper::{Kept, Watch, keep};
+use crate::reader::read_out;
+use crate::subject::{Asks, Subject};
+use race_cells::Notes;
+use race_core::{EventList, Reader, Reason};
+use sby_edge::{Clock, Hold, Launch, Pipe};
+use sby_terms::Settled;
+use std::alloc::Global;
+use std::sync::Wait;
+use std::sync::atomic::{AtomicBool, Ordering};
+use std::thread::{Threads, join_mut};
+
+// A work that is done beside another.
+pub(crate) trait Side {
+    type Output;
+
+    ghost can_run: { Self → Type 0 };
+
+    ghost runs: { Self → Self.Output → Self → Type 0 };
+
+    fn run(&mut self) -> Self::Output
+        requires { can_run self.old }
+        ensures { runs self.old result self.new };
+}
+
+// The reader's side and the keeper beside each other. Where no thread can be made, `join_mut` calls its second closure first. That has to be
+// the reader's side: it needs nothing of the keeper to come to its end, and a keeper without it would wait for ever.
+fn run_beside<
+    R: Threads + Wait + Sync,
+    A: Side<Output = X>,
+    J: Asks<T> + Sync,
+    T: Settled + Drop + Send + Sync,
+    C: Clock,
+    H: Hold + Send,
+    X,
+>(
+    rt: &R,
+    reader: &mut A,
+    watch: &Watch<'_, J, T, C>,
+    has_ended: &AtomicBool,
+    hold: &mut H,
+    notes: &mut Notes<T>,
+    events: &mut EventList<T>,
+) -> (X, Kept<T>)
+    requires reader { A.can_run reader.old }
+    requires alive { H.killed hold.old ≡ None }
+    requires cell { watch.now.terms.now.cell < length watch.now.cells.now }
+    requires other { IfSome watch.now.other (λ o. o.0 < length watch.now.cells.now) }
+    requires notes { AreNotesOf watch.now.cells.now notes.old }
+    requires room { 2 ≤ events.old.room }
+    requires turns { TakesTurns (keeper_from (terms_of T.job T.answer watch.now.terms.now) keeper.Fresh events.old.events) }
+    ensures reader { A.runs reader.old result.0 reader.new }
+    ensures kept { KeptOut (terms_of T.job T.answer watch.now.terms.now) (IsOfCell T.problem T.job (J.problem watch.now.asks.now) watch.now.terms.now watch.now.other) (C.may_read watch.now.clock.now) notes.old notes.new events.old.events events.new.events
+        (H.faults hold.new) result.1.why result.1.is_failed }
+    ensures killed { IfNone result.1.why (H.killed hold.new ≡ None) }
+    ensures reaped { H.is_reaped hold.new ≡ H.is_reaped hold.old }
+{
+    let (kept, given) = join_mut(
+        rt,
+        &mut || -> Kept<T>
+            requires cell { watch.now.terms.now.cell < length watch.now.cells.now }
+            requires other { IfSome watch.now.other (λ o. o.0 < length watch.now.cells.now) }
+            requires notes { AreNotesOf watch.now.cells.now notes.now }
+            requires room { 2 ≤ events.now.room }
+            requires turns { TakesTurns (keeper_from (terms_of T.job T.answer watch.now.terms.now) keeper.Fresh events.now.events) }
+        { keep(rt, watch, has_ended, hold, notes, events) },
+        &mut || -> X
+            requires { A.can_run reader.now }
+        { reader.run() },
+    );
+    (given, kept)
+}
+
+// The reader's side.
+pub(crate) struct ReaderSide<'r, 'f, R, P, S, T> {
+    pub(crate) rt: &'r R,
+    pub(crate) alloc: Global,
+    pub(crate) has_ended: &'f AtomicBool,
+    pub(crate) pipe: P,
+    pub(crate) subject: S,
+    pub(crate) events: EventList<T>,
+}
+
+impl<'r, 'f, R: Wait, P: Pipe, S: Subject<T>, T: Settled + Drop> Side
+    for ReaderSide<'r, 'f, R, P, S, T> {
+    type Output = Reader<T>;
+
+    ghost can_run = { λ s. (S.taken s.subject ≡ []) × (s.events.events ≡ []) × (1 ≤ s.events.room) × S.goes_on s.subject };
+
+    ghost runs = { λ before part now. ReadOut (S.stands before.subject) (S.ends before.subject) (S.proves before.subject) (S.proves now.subject)
+        (S.awaits now.subject) (S.most before.subject) (P.faults now.pipe) now.events.room (P.told before.pipe) (P.told now.pipe) (S.taken now.subject) now.events.events part };
+
+    fn run(&mut self) -> Reader<T> {
+        let part = read_out(
+            self.rt,
+            self.alloc,
+            &mut self.pipe,
+            &mut self.subject,
+            &mut self.events,
+        );
+        self.has_ended.store(true, Ordering::SeqCst);
+        part
+    }
+}
+
+/// What a child's two sides leave.
+pub(crate) struct Lived<S, T> {
+    pub(crate) subject: S,
+    pub(crate) events: EventList<T>,
+    pub(crate) part: Reader<T>,
+    pub(crate) why: Option<Reason<T>>,
+    // A kill or the reap failed.
+    pub(crate) is_failed: bool,
+}
+
+// Kills a child that its keeper didn't kill, after its reader. Answers whether that failed.
+fn kill_last<L: Launch, T>(
+    bay: &L,
+    pipe: &L::Pipe,
+    hold: &mut L::Hold,
+    why: &Option<Reason<T>>,
+) -> bool
+    requires { IfNone why.now (L.Hold.killed hold.old ≡ None) }
+    ensures killed { KilledBy why.now (L.Pipe.told pipe.now) (L.Hold.killed hold.new) }
+    ensures faults { L.Hold.faults hold.old ≤ L.Hold.faults hold.new }
+    ensures failed { result ≡ true → 0 < L.Hold.faults hold.new }
+{
+    match why {
+        Some(_) => false,
+        None => bay.kill(pipe, hold).is_err(),
+    }
+}
+
+// Kills a child that its keeper didn't kill, and reaps it. Answers whether a kill or the reap failed.
+fn end_child<L: Launch, T>(bay: &L, pipe: &L::Pipe, hold: &mut L::Hold, kept: &Kept<T>) -> bool
+    requires failed { kept.now.is_failed ≡ true → 0 < L.Hold.faults hold.old }
+    requires alive { IfNone kept.now.why (L.Hold.killed hold.old ≡ None) }
+    ensures killed { KilledBy kept.now.why (L.Pipe.told pipe.now) (L.Hold.killed hold.new) }
+    ensures reaped { L.Hold.is_reaped hold.new ≡ true }
+    ensures faults { L.Hold.faults hold.old ≤ L.Hold.faults hold.new }
+    ensures failed { result ≡ true → 0 < L.Hold.faults hold.new }
+{
+    let is_alive = kill_last(bay, pipe, hold, &kept.why);
+    let is_lost = hold.reap().is_err();
+    kept.is_failed || is_alive || is_lost
+}
+
+// The life of a child that was started: reader and keeper beside each other, then the kill, where none came, the reap in every case,
+// and the end.
+pub(crate) fn live<
+    R: Threads + Wait + Sync,
+    L: Launch,
+    S: Subject<T>,
+    J: Asks<T> + Sync,
+    T: Settled + Drop + Send + Sync,
+    C: Clock,
+>(
+    rt: &R,
+    alloc: Global,
+    bay: &mut L,
+    child: (L::Pipe, L::Hold),
+    watch: &Watch<'_, J, T, C>,
+    subject: S,
+    notes: &mut Notes<T>,
+    reader_events: EventList<T>,
+    keeper_events: &mut EventList<T>,
+) -> Lived<S, T>
+    requires fresh { (S.taken subject ≡ []) × (reader_events.events ≡ []) }
+    requires reader_room { 1 ≤ reader_events.room }
+    requires goes_on { S.goes_on subject }
+    requires alive { L.Hold.killed child.1 ≡ None }
+    requires cell { watch.now.terms.now.cell < length watch.now.cells.now }
+    requires other { IfSome watch.now.other (λ o. o.0 < length watch.now.cells.now) }
+    requires notes { AreNotesOf watch.now.cells.now notes.old }
+    requires room { 2 ≤ keeper_events.old.room }
+    requires turns { TakesTurns (keeper_from (terms_of T.job T.answer watch.now.terms.now) keeper.Fresh keeper_events.old.events) }
+    ensures part { result.part ≡ reader_of (record { reader = result.events.events; keeper = [] }) }
+    ensures has_read { HasRead result.part }
+    ensures room { (result.part ≡ reader.Short) ⊎ (1 ≤ result.events.room) }
+    ensures awaits { result.part ≡ reader.Asking → S.awaits result.subject }
+    ensures proves { Within (S.proves result.subject) (S.proves subject) }
+    ensures most { length (S.taken result.subject) ≤ S.most subject + 2 ^ 16 }
+    ensures reader { (now : Option PipeOf) × (killed : Option ℕ) × (L.told bay.new ≡ option_map (finished now killed) (L.told bay.old)) × KilledBy result.why now killed
+        × ReadSoFar (L.Pipe.told child.0) now (S.taken result.subject) result.events.events
+        × Comes (S.stands subject) (S.ends subject) (S.proves subject) (NoneLeft now) (S.taken result.subject) [] result.part }
+    ensures read_failed { result.part ≡ reader.Failed → Rose (L.read_faults bay.old) (L.read_faults bay.new) }
+    ensures kept { MatchOption result.why (TakesTurns (keeper_from (terms_of T.job T.answer watch.now.terms.now) keeper.Fresh keeper_events.new.events)) (λ why. keeper_from (terms_of T.job T.answer watch.now.terms.now) keeper.Fresh keeper_events.new.events ≡ keeper.Killed why) }
+    ensures place { place_from Away keeper_events.new.events ≡ place_from Away keeper_events.old.events }
+    ensures keeps { Keeps (IsOfCell T.problem T.job (J.problem watch.now.asks.now) watch.now.terms.now watch.now.other) (C.may_read watch.now.clock.now) notes.old notes.new keeper_events.old.events keeper_events.new.events }
+    ensures fault { IfSome result.why (λ why. EndsChild why × (why ≡ reason.Fault → Rose (L.hold_faults bay.old) (L.hold_faults bay.new))) }
+    ensures failed { result.is_failed ≡ true → Rose (L.hold_faults bay.old) (L.hold_faults bay.new) }
+    ensures starts { L.start_faults bay.new ≡ L.start_faults bay.old }
+    ensures later { (L.read_faults bay.old ≤ L.read_faults bay.new) × (L.hold_faults bay.old ≤ L.hold_faults bay.new) }
+{
+    let (pipe, mut hold) = child;
+    let flag = AtomicBool::new(false);
+    let mut reader = ReaderSide {
+        rt,
+        alloc,
+        has_ended: &flag,
+        pipe,
+        subject,
+        events: reader_events,
+    };
+    let (part, kept) = run_beside(
+        rt,
+        &mut reader,
+        watch,
+        &flag,
+        &mut hold,
+        notes,
+        keeper_events,
+    );
+    let is_failed = end_child(bay, &reader.pipe, &mut hold, &kept);
+    let ReaderSide {
+        rt: _,
+        alloc: _,
+        has_ended: _,
+        pipe,
+        subject,
+        events,
+    } = reader;
+    bay.finish(pipe, hold);
+    Lived {
+        subject,
+        events,
+        part,
+        why: kept.why,
+        is_failed,
+    }
+}

@@ -1,0 +1,215 @@
+// What is left to the reader once the child is over: the proof file, where the output left the end to it, and the settling of what it
+// found.
+
+ghost use Rattle.std.specs.Prelude.{◌≡◌, ◌≢◌, ◌⊎◌, ℕ, ◌+◌, ◌<◌, ◌≤◌, List, [], Some, IfOk, length, true};
+ghost use Rattle.lane_run.specs.Keeping.{Remember};
+ghost use Rattle.lane_run.specs.Reading.{FiledAs, IfWon, IsHolding, Proves, Settles, TookProof, got_bytes, bytes_filed, bytes_read, empty_reads};
+ghost use Rattle.race_cells.specs.Notes.{AreNotesOf, known_at};
+ghost use Rattle.race_core.specs.Parts.{reader_from};
+ghost use Rattle.race_core.specs.declared.event.Judged.TheVariants as judged;
+ghost use Rattle.race_core.specs.declared.part.Reader.TheVariants as reader;
+ghost use Rattle.sby_edge.specs.Cause.{HasCause, Rose};
+ghost use Rattle.sby_edge.specs.Child.{ProofFrom};
+
+use crate::entering::enter;
+use crate::subject::Subject;
+use race_cells::{Cells, Notes, Settling};
+use race_core::{By, EventList, Judged, LaneEvent, Reader};
+use sby_edge::{Fail, Got, Launch};
+use sby_terms::{JobName, Settled};
+use std::alloc::Global;
+
+/// A job as its lane's child is asked it.
+#[derive(Clone, Copy)]
+pub struct Asked<'a> {
+    pub job: JobName,
+    /// The words of the child, the path of the job's file among them; and that file.
+    pub words: &'a [String],
+    pub bytes: &'a [u8],
+    /// The path at which the child may leave a proof file, and of how many bytes it is judged at most.
+    pub proof: &'a str,
+    pub most: u64,
+}
+
+// Out of memory ends the reader.
+fn enter_memory<T: Drop>(events: &mut EventList<T>) -> Reader<T>
+    requires room { 1 ≤ events.old.room }
+    requires part { (reader_from reader.Fresh events.old.events ≡ reader.Asking) ⊎ IsHolding (reader_from reader.Fresh events.old.events) }
+    ensures short { result ≡ reader.Short }
+    ensures part { result ≡ reader_from reader.Fresh events.new.events }
+    ensures read { bytes_read events.new.events ≡ bytes_read events.old.events }
+    ensures empty { empty_reads events.new.events ≡ empty_reads events.old.events }
+    ensures filed { bytes_filed events.new.events ≡ bytes_filed events.old.events }
+{
+    enter(events, LaneEvent::ReaderMemory);
+    Reader::Short
+}
+
+// Settles what the reader holds. A copy stays for the job's end; where memory runs out for that or for the settle, the finding is
+// dropped.
+#[tactic(auto, using(crate::proofs::Keepers::learns_remember, crate::proofs::Keepers::learns_known))]
+pub(crate) fn settle<T: Settled + Drop>(
+    alloc: Global,
+    cells: &Cells<T>,
+    place: u32,
+    part: Reader<T>,
+    notes: &mut Notes<T>,
+    events: &mut EventList<T>,
+) -> Reader<T>
+    requires place { place < length cells.now }
+    requires notes { AreNotesOf cells.now notes.old }
+    requires part { part ≡ reader_from reader.Fresh events.old.events }
+    requires unsettled { IfWon part (λ f. ⊥) }
+    requires room { IsHolding part → 1 ≤ events.old.room }
+    ensures part { result ≡ reader_from reader.Fresh events.new.events }
+    ensures settles { Settles part result }
+    ensures remember { Remember notes.old notes.new }
+    ensures won { IfWon result (λ f. known_at notes.new place ≡ Some f) }
+    ensures read { bytes_read events.new.events ≡ bytes_read events.old.events }
+    ensures empty { empty_reads events.new.events ≡ empty_reads events.old.events }
+    ensures filed { bytes_filed events.new.events ≡ bytes_filed events.old.events }
+{
+    let Reader::Holding { value, by } = part else {
+        return part;
+    };
+    let Ok(kept) = value.copy() else {
+        return enter_memory(events);
+    };
+    let won = match cells.settle(alloc, place, value, notes) {
+        Ok(Settling::Won) => true,
+        Ok(Settling::Lost(_value)) => false,
+        Err(_) => return enter_memory(events),
+    };
+    enter(events, LaneEvent::Settle { won });
+    Reader::Found {
+        value: kept,
+        by,
+        won,
+    }
+}
+
+// What the proof file was judged as.
+fn enter_file<T: Settled + Drop>(
+    events: &mut EventList<T>,
+    bytes: u64,
+    progress: Judged<T>,
+) -> Reader<T>
+    requires room { 2 ≤ events.old.room }
+    requires part { reader_from reader.Fresh events.old.events ≡ reader.Asking }
+    requires whole { progress ≢ judged.More }
+    ensures part { result ≡ reader_from reader.Fresh events.new.events }
+    ensures room { (result ≡ reader.Short) ⊎ (1 ≤ events.new.room) }
+    ensures entered { FiledAs progress result }
+    ensures read { bytes_read events.new.events ≡ bytes_read events.old.events }
+    ensures empty { empty_reads events.new.events ≡ empty_reads events.old.events }
+    ensures filed { bytes_filed events.new.events ≡ bytes_filed events.old.events + bytes }
+{
+    let by = By::File;
+    let (entry, part) = match progress {
+        Judged::Found(value) => match value.copy() {
+            Ok(copied) => (Judged::Found(copied), Reader::Holding { value, by }),
+            Err(_) => return enter_unjudged(events, bytes),
+        },
+        Judged::Unjudged => return enter_unjudged(events, bytes),
+        Judged::More => unreachable!(),
+        Judged::Unknown => (Judged::Unknown, Reader::Unknown { by }),
+        Judged::Bad { no, at } => (Judged::Bad { no, at }, Reader::Bad { no, at, by }),
+        Judged::Failed => (Judged::Failed, Reader::Failed),
+    };
+    enter(
+        events,
+        LaneEvent::File {
+            bytes,
+            progress: entry,
+        },
+    );
+    part
+}
+
+// A proof file that wasn't judged because memory ran out.
+fn enter_unjudged<T: Drop>(events: &mut EventList<T>, bytes: u64) -> Reader<T>
+    requires room { 2 ≤ events.old.room }
+    requires part { reader_from reader.Fresh events.old.events ≡ reader.Asking }
+    ensures part { result ≡ reader_from reader.Fresh events.new.events }
+    ensures short { result ≡ reader.Short }
+    ensures read { bytes_read events.new.events ≡ bytes_read events.old.events }
+    ensures empty { empty_reads events.new.events ≡ empty_reads events.old.events }
+    ensures filed { bytes_filed events.new.events ≡ bytes_filed events.old.events + bytes }
+{
+    enter(
+        events,
+        LaneEvent::File {
+            bytes,
+            progress: Judged::Unjudged,
+        },
+    );
+    enter(events, LaneEvent::ReaderMemory);
+    Reader::Short
+}
+
+fn bytes_of(got: Got) -> Vec<u8>
+    ensures { result.items ≡ got_bytes got }
+{
+    match got {
+        Got::All(bytes) | Got::Long(bytes) => bytes,
+    }
+}
+
+// Has the proof file judged.
+#[tactic(auto, using(crate::proofs::Proving::proves_filed))]
+fn judge_proof<S: Subject<T>, T: Settled + Drop>(
+    alloc: Global,
+    subject: &mut S,
+    proof: &[u8],
+    events: &mut EventList<T>,
+) -> Reader<T>
+    requires room { 2 ≤ events.old.room }
+    requires part { reader_from reader.Fresh events.old.events ≡ reader.Asking }
+    requires awaits { S.awaits subject.old }
+    ensures part { result ≡ reader_from reader.Fresh events.new.events }
+    ensures room { (result ≡ reader.Short) ⊎ (1 ≤ events.new.room) }
+    ensures proves { Proves (S.proves subject.old) proof.now result }
+    ensures read { bytes_read events.new.events ≡ bytes_read events.old.events }
+    ensures empty { empty_reads events.new.events ≡ empty_reads events.old.events }
+    ensures filed { bytes_filed events.new.events ≡ bytes_filed events.old.events + length proof.now }
+    ensures unfailed { result ≢ reader.Failed }
+{
+    let progress = subject.prove(alloc, proof);
+    enter_file(events, proof.len() as u64, progress)
+}
+
+// Asks for the proof file, and has it judged.
+#[tactic(auto, using(crate::proofs::Proving::proof_got, crate::proofs::Proving::failed_unfiled))]
+pub(crate) fn read_proof<L: Launch, S: Subject<T>, T: Settled + Drop>(
+    alloc: Global,
+    bay: &mut L,
+    asked: &Asked<'_>,
+    subject: &mut S,
+    events: &mut EventList<T>,
+) -> Reader<T>
+    requires room { 1 ≤ events.old.room }
+    requires part { reader_from reader.Fresh events.old.events ≡ reader.Asking }
+    requires awaits { S.awaits subject.old }
+    requires unfiled { bytes_filed events.old.events ≡ 0 }
+    ensures part { result ≡ reader_from reader.Fresh events.new.events }
+    ensures room { (result ≡ reader.Short) ⊎ (1 ≤ events.new.room) }
+    ensures proof { (proof : List ℕ) × TookProof (L.told bay.old) asked.now.job asked.now.most proof result
+        × (bytes_filed events.new.events ≡ length proof) × Proves (S.proves subject.old) proof result }
+    ensures read { bytes_read events.new.events ≡ bytes_read events.old.events }
+    ensures empty { empty_reads events.new.events ≡ empty_reads events.old.events }
+    ensures failed { result ≡ reader.Failed → Rose (L.read_faults bay.old) (L.read_faults bay.new) }
+    ensures told { L.told bay.new ≡ L.told bay.old }
+    ensures counts { (L.start_faults bay.new ≡ L.start_faults bay.old) × (L.hold_faults bay.new ≡ L.hold_faults bay.old) × (L.read_faults bay.old ≤ L.read_faults bay.new) }
+{
+    if events.take_room(2).is_err() {
+        return enter_memory(events);
+    }
+    match bay.proof(alloc, asked.job, asked.proof, asked.most) {
+        Err(Fail::Failed) => enter_file(events, 0, Judged::Failed),
+        Err(Fail::Memory) => enter_memory(events),
+        Ok(got) => {
+            let bytes = bytes_of(got);
+            judge_proof(alloc, subject, bytes.as_slice(), events)
+        }
+    }
+}

@@ -1,0 +1,362 @@
+// A job from the look before its start on.
+
+ghost use Rattle.std.specs.Prelude.{◌≡◌, ◌≢◌, ◌⊎◌, ℕ, ◌+◌, ◌<◌, ◌≤◌, List, [], Some, IfOk, IfSome, length, map, option_map, string_bytes, true};
+ghost use Rattle.std.specs.Option.{MatchOption};
+ghost use Rattle.lane_run.specs.Keeping.{IsOfCell, Keeps, Remember};
+ghost use Rattle.lane_run.specs.Reading.{IfWon};
+ghost use Rattle.lane_run.specs.Starting.{NoStart, ReadsScript, Starts, with_starts};
+ghost use Rattle.race_cells.specs.Notes.{AreNotesOf, known_at};
+ghost use Rattle.race_core.specs.Asking.{is_skipped, terms_of};
+ghost use Rattle.race_core.specs.Ends.{EndIs, HasEnd};
+ghost use Rattle.race_core.specs.Parts.{RightKeeper, RightReader, keeper_from, place_from, reader_from};
+ghost use Rattle.race_core.specs.declared.end.JobEnd.TheVariants as end;
+ghost use Rattle.race_core.specs.declared.event.Judged.TheVariants as judged;
+ghost use Rattle.race_core.specs.declared.part.Keeper.TheVariants as keeper;
+ghost use Rattle.race_core.specs.declared.part.Place.TheVariants.{Away};
+ghost use Rattle.race_core.specs.declared.part.Reader.TheVariants as reader;
+ghost use Rattle.sby_edge.specs.Cause.{Rose};
+ghost use Rattle.sby_edge.specs.Child.{StartOf};
+
+use crate::entering::enter;
+use crate::job::{Ran, run_started};
+use crate::keeper::{Watch, enter_plain, twice};
+use crate::making::{Child, Makes};
+use crate::over::Asked;
+use crate::subject::{Asks, Subject};
+use race_cells::Notes;
+use race_core::{EventList, JobEnd, LaneEvent};
+use sby_edge::{Clock, Fail, Launch};
+use sby_terms::{JobName, Settled};
+use std::alloc::{AllocError, Global};
+use std::sync::Wait;
+use std::thread::Threads;
+
+// Two copies of what the cell at a place has, where that skips the job: one for the list, one for the end.
+#[tactic(auto, using(crate::proofs::Keepers::learns_remember, crate::proofs::Keepers::learns_known))]
+fn skipping_at<J: Asks<T>, T: Settled + Drop, C: Clock>(
+    watch: &Watch<'_, J, T, C>,
+    place: u32,
+    job: JobName,
+    notes: &mut Notes<T>,
+) -> Option<Result<(T, T), AllocError>>
+    requires place { place < length watch.now.cells.now }
+    requires notes { AreNotesOf watch.now.cells.now notes.old }
+    ensures notes { Remember notes.old notes.new }
+    ensures found { IfSome result (λ copies. IfOk copies (λ c. (c.0 ≡ c.1) × (known_at notes.new place ≡ Some c.0)
+        × (T.problem c.0 ≡ J.problem watch.now.asks.now) × (T.job c.0 ≡ job) × (is_skipped T.job T.answer watch.now.terms.now c.0 ≡ true))) }
+{
+    let value = watch.cells.look(place, notes)?;
+    if !watch.asks.is_for(value, job) || !watch.terms.is_skipped_by(value) {
+        return None;
+    }
+    Some(twice(value))
+}
+
+// The end of a job that what the cell at a place has skips, or for whose copies memory runs out.
+fn skip<J: Asks<T>, T: Settled + Drop, C: Clock>(
+    watch: &Watch<'_, J, T, C>,
+    place: u32,
+    copies: Result<(T, T), AllocError>,
+    notes: &Notes<T>,
+    events: &mut EventList<T>,
+) -> JobEnd<T>
+    requires room { 1 ≤ events.old.room }
+    requires skipped { IfOk copies (λ c. (c.0 ≡ c.1) × (is_skipped T.job T.answer watch.now.terms.now c.0 ≡ true)) }
+    requires found { IfOk copies (λ c. (known_at notes.now place ≡ Some c.0) × IsOfCell T.problem T.job (J.problem watch.now.asks.now) watch.now.terms.now watch.now.other place c.0) }
+    requires before { (keeper_from (terms_of T.job T.answer watch.now.terms.now) keeper.Fresh events.old.events ≡ keeper.Fresh)
+        ⊎ ((keeper_from (terms_of T.job T.answer watch.now.terms.now) keeper.Fresh events.old.events ≡ keeper.Looked) × (place ≢ watch.now.terms.now.cell)) }
+    ensures end { NoStart result × (keeper_from (terms_of T.job T.answer watch.now.terms.now) keeper.Fresh events.new.events ≢ keeper.Fresh) × RightKeeper (keeper_from (terms_of T.job T.answer watch.now.terms.now) keeper.Fresh events.new.events)
+        × EndIs (terms_of T.job T.answer watch.now.terms.now) (λ _. ⊥) reader.Fresh (keeper_from (terms_of T.job T.answer watch.now.terms.now) keeper.Fresh events.new.events) result }
+    ensures room { events.new.room + 1 ≡ events.old.room }
+    ensures place { place_from Away events.new.events ≡ place_from Away events.old.events }
+    ensures keeps { Keeps (IsOfCell T.problem T.job (J.problem watch.now.asks.now) watch.now.terms.now watch.now.other) (C.may_read watch.now.clock.now) notes.now notes.now events.old.events events.new.events }
+{
+    match copies {
+        Ok((known, value)) => {
+            enter(
+                events,
+                LaneEvent::Look {
+                    cell: place,
+                    known: Some(known),
+                },
+            );
+            JobEnd::Skipped(value)
+        }
+        Err(_) => {
+            enter_plain(watch, notes, events, LaneEvent::KeeperMemory);
+            JobEnd::Memory
+        }
+    }
+}
+
+// A look at one cell before the start. Its answer is the end of a job that isn't started.
+fn look_before<J: Asks<T>, T: Settled + Drop, C: Clock>(
+    watch: &Watch<'_, J, T, C>,
+    place: u32,
+    job: JobName,
+    notes: &mut Notes<T>,
+    events: &mut EventList<T>,
+) -> Option<JobEnd<T>>
+    requires place { place < length watch.now.cells.now }
+    requires notes { AreNotesOf watch.now.cells.now notes.old }
+    requires room { 1 ≤ events.old.room }
+    requires of_cell { (f : T) → T.problem f ≡ J.problem watch.now.asks.now → T.job f ≡ job → IsOfCell T.problem T.job (J.problem watch.now.asks.now) watch.now.terms.now watch.now.other place f }
+    requires before { (keeper_from (terms_of T.job T.answer watch.now.terms.now) keeper.Fresh events.old.events ≡ keeper.Fresh)
+        ⊎ ((keeper_from (terms_of T.job T.answer watch.now.terms.now) keeper.Fresh events.old.events ≡ keeper.Looked) × (place ≢ watch.now.terms.now.cell)) }
+    ensures end { MatchOption result (keeper_from (terms_of T.job T.answer watch.now.terms.now) keeper.Fresh events.new.events ≡ keeper.Looked)
+        (λ e. NoStart e × (keeper_from (terms_of T.job T.answer watch.now.terms.now) keeper.Fresh events.new.events ≢ keeper.Fresh) × RightKeeper (keeper_from (terms_of T.job T.answer watch.now.terms.now) keeper.Fresh events.new.events)
+        × EndIs (terms_of T.job T.answer watch.now.terms.now) (λ _. ⊥) reader.Fresh (keeper_from (terms_of T.job T.answer watch.now.terms.now) keeper.Fresh events.new.events) e) }
+    ensures room { events.new.room + 1 ≡ events.old.room }
+    ensures place { place_from Away events.new.events ≡ place_from Away events.old.events }
+    ensures keeps { Keeps (IsOfCell T.problem T.job (J.problem watch.now.asks.now) watch.now.terms.now watch.now.other) (C.may_read watch.now.clock.now) notes.old notes.new events.old.events events.new.events }
+{
+    let Some(copies) = skipping_at(watch, place, job, notes) else {
+        enter_plain(
+            watch,
+            notes,
+            events,
+            LaneEvent::Look {
+                cell: place,
+                known: None,
+            },
+        );
+        return None;
+    };
+    Some(skip(watch, place, copies, notes, events))
+}
+
+// The looks at the cells of the slices before a slice. One that shows nothing isn't entered.
+fn look_at_slices<J: Asks<T>, T: Settled + Drop, C: Clock>(
+    watch: &Watch<'_, J, T, C>,
+    notes: &mut Notes<T>,
+    events: &mut EventList<T>,
+) -> Option<JobEnd<T>>
+    requires cell { watch.now.terms.now.cell < length watch.now.cells.now }
+    requires notes { AreNotesOf watch.now.cells.now notes.old }
+    requires room { 1 ≤ events.old.room }
+    requires looked { keeper_from (terms_of T.job T.answer watch.now.terms.now) keeper.Fresh events.old.events ≡ keeper.Looked }
+    ensures end { MatchOption result (keeper_from (terms_of T.job T.answer watch.now.terms.now) keeper.Fresh events.new.events ≡ keeper.Looked)
+        (λ e. NoStart e × (keeper_from (terms_of T.job T.answer watch.now.terms.now) keeper.Fresh events.new.events ≢ keeper.Fresh) × RightKeeper (keeper_from (terms_of T.job T.answer watch.now.terms.now) keeper.Fresh events.new.events)
+        × EndIs (terms_of T.job T.answer watch.now.terms.now) (λ _. ⊥) reader.Fresh (keeper_from (terms_of T.job T.answer watch.now.terms.now) keeper.Fresh events.new.events) e) }
+    ensures room { events.old.room ≤ events.new.room + 1 }
+    ensures place { place_from Away events.new.events ≡ place_from Away events.old.events }
+    ensures keeps { Keeps (IsOfCell T.problem T.job (J.problem watch.now.asks.now) watch.now.terms.now watch.now.other) (C.may_read watch.now.clock.now) notes.old notes.new events.old.events events.new.events }
+{
+    let JobName::Base(_) = watch.terms.job else {
+        return None;
+    };
+    for place in 0..watch.terms.cell {
+        if let Some(copies) = skipping_at(watch, place, JobName::Base(place), notes) {
+            return Some(skip(watch, place, copies, notes, events));
+        }
+    }
+    None
+}
+
+/// The looks before a job's start: at its own cell, then at the other one, or at those of the slices before a slice. The answer is the
+/// end of a job that isn't started: it is skipped, by a finding that makes it needless or is that an earlier slice is Sat, or memory was
+/// wanting.
+pub fn look_first<J: Asks<T>, T: Settled + Drop, C: Clock>(
+    watch: &Watch<'_, J, T, C>,
+    notes: &mut Notes<T>,
+    events: &mut EventList<T>,
+) -> Option<JobEnd<T>>
+    requires cell { watch.now.terms.now.cell < length watch.now.cells.now }
+    requires other { IfSome watch.now.other (λ o. o.0 < length watch.now.cells.now) }
+    requires notes { AreNotesOf watch.now.cells.now notes.old }
+    requires fresh { (events.old.events ≡ []) × (2 ≤ events.old.room) }
+    ensures end { MatchOption result (keeper_from (terms_of T.job T.answer watch.now.terms.now) keeper.Fresh events.new.events ≡ keeper.Looked)
+        (λ e. NoStart e × (keeper_from (terms_of T.job T.answer watch.now.terms.now) keeper.Fresh events.new.events ≢ keeper.Fresh) × RightKeeper (keeper_from (terms_of T.job T.answer watch.now.terms.now) keeper.Fresh events.new.events)
+        × EndIs (terms_of T.job T.answer watch.now.terms.now) (λ _. ⊥) reader.Fresh (keeper_from (terms_of T.job T.answer watch.now.terms.now) keeper.Fresh events.new.events) e) }
+    ensures room { events.old.room ≤ events.new.room + 2 }
+    ensures place { place_from Away events.new.events ≡ Away }
+    ensures keeps { Keeps (IsOfCell T.problem T.job (J.problem watch.now.asks.now) watch.now.terms.now watch.now.other) (C.may_read watch.now.clock.now) notes.old notes.new events.old.events events.new.events }
+{
+    let terms = watch.terms;
+    if let Some(end) = look_before(watch, terms.cell, terms.job, notes, events) {
+        return Some(end);
+    }
+    match watch.other {
+        Some((place, job)) if place != terms.cell => look_before(watch, place, job, notes, events),
+        _ => look_at_slices(watch, notes, events),
+    }
+}
+
+/// Enters that memory ran out before a job's start, and answers the job's end.
+pub fn want<J: Asks<T>, T: Settled + Drop, C: Clock>(
+    watch: &Watch<'_, J, T, C>,
+    notes: &Notes<T>,
+    events: &mut EventList<T>,
+) -> JobEnd<T>
+    requires room { 1 ≤ events.old.room }
+    requires looked { keeper_from (terms_of T.job T.answer watch.now.terms.now) keeper.Fresh events.old.events ≡ keeper.Looked }
+    ensures end { EndIs (terms_of T.job T.answer watch.now.terms.now) (λ _. ⊥) reader.Fresh (keeper_from (terms_of T.job T.answer watch.now.terms.now) keeper.Fresh events.new.events) result }
+    ensures right { RightKeeper (keeper_from (terms_of T.job T.answer watch.now.terms.now) keeper.Fresh events.new.events) }
+    ensures looked { keeper_from (terms_of T.job T.answer watch.now.terms.now) keeper.Fresh events.new.events ≢ keeper.Fresh }
+    ensures is { result ≡ end.Memory }
+    ensures place { place_from Away events.new.events ≡ place_from Away events.old.events }
+    ensures keeps { Keeps (IsOfCell T.problem T.job (J.problem watch.now.asks.now) watch.now.terms.now watch.now.other) (C.may_read watch.now.clock.now) notes.now notes.now events.old.events events.new.events }
+{
+    enter_plain(watch, notes, events, LaneEvent::KeeperMemory);
+    JobEnd::Memory
+}
+
+// What a judge finds is for its job.
+fn findings_are_for<S: Subject<T>, T: Settled>(subject: &S)
+    ensures { (bytes : List ℕ) (f : T) → S.stands subject.now bytes (judged.Found f) ⊎ (S.ends subject.now bytes (judged.Found f) ⊎ S.proves subject.now bytes (judged.Found f))
+        → (T.problem f ≡ S.problem subject.now) × (T.job f ≡ S.job subject.now) }
+{}
+
+// Starts a child, and runs it.
+fn start_child<
+    R: Threads + Wait + Sync,
+    L: Launch,
+    S: Subject<T> + Drop,
+    J: Asks<T> + Sync,
+    T: Settled + Drop + Send + Sync,
+    C: Clock,
+>(
+    rt: &R,
+    alloc: Global,
+    bay: &mut L,
+    watch: &Watch<'_, J, T, C>,
+    child: Child<S>,
+    bytes: &[u8],
+    most: u64,
+    notes: &mut Notes<T>,
+    reader_events: EventList<T>,
+    keeper_events: &mut EventList<T>,
+) -> Ran<T>
+    requires fresh { (S.taken child.subject ≡ []) × (reader_events.events ≡ []) }
+    requires goes_on { S.goes_on child.subject }
+    requires about { (S.problem child.subject ≡ J.problem watch.now.asks.now) × (S.job child.subject ≡ watch.now.terms.now.job) }
+    requires reader_room { 1 ≤ reader_events.room }
+    requires cell { watch.now.terms.now.cell < length watch.now.cells.now }
+    requires other { IfSome watch.now.other (λ o. o.0 < length watch.now.cells.now) }
+    requires notes { AreNotesOf watch.now.cells.now notes.old }
+    requires room { 2 ≤ keeper_events.old.room }
+    requires looked { keeper_from (terms_of T.job T.answer watch.now.terms.now) keeper.Fresh keeper_events.old.events ≡ keeper.Looked }
+    ensures end { EndIs (terms_of T.job T.answer watch.now.terms.now) (λ _. ⊥) (reader_from reader.Fresh result.events.events) (keeper_from (terms_of T.job T.answer watch.now.terms.now) keeper.Fresh keeper_events.new.events) result.end }
+    ensures right { RightReader (reader_from reader.Fresh result.events.events) × RightKeeper (keeper_from (terms_of T.job T.answer watch.now.terms.now) keeper.Fresh keeper_events.new.events) }
+    ensures place { place_from Away keeper_events.new.events ≡ place_from Away keeper_events.old.events }
+    ensures keeps { Keeps (IsOfCell T.problem T.job (J.problem watch.now.asks.now) watch.now.terms.now watch.now.other) (C.may_read watch.now.clock.now) notes.old notes.new keeper_events.old.events keeper_events.new.events }
+    ensures looked { keeper_from (terms_of T.job T.answer watch.now.terms.now) keeper.Fresh keeper_events.new.events ≢ keeper.Fresh }
+    ensures won { IfWon (reader_from reader.Fresh result.events.events) (λ f. known_at notes.new watch.now.terms.now.cell ≡ Some f) }
+    ensures found { (f : T) → HasEnd (reader_from reader.Fresh result.events.events) (end.Found f) → (T.problem f ≡ J.problem watch.now.asks.now) × (T.job f ≡ watch.now.terms.now.job) }
+    ensures starts { (starts : List StartOf) × (L.told bay.new ≡ option_map (with_starts starts) (L.told bay.old))
+        × Starts watch.now.terms.now.job (map string_bytes child.words.items) bytes.now
+        (ReadsScript (S.stands child.subject) (S.ends child.subject) (S.proves child.subject) (L.told bay.old) watch.now.terms.now.job most (S.most child.subject) result.events.events)
+        result.events.events keeper_events.new.events result.end starts }
+    ensures start_failed { result.end ≡ end.StartFailed → Rose (L.start_faults bay.old) (L.start_faults bay.new) }
+    ensures read_failed { result.end ≡ end.ReadFailed → Rose (L.read_faults bay.old) (L.read_faults bay.new) }
+    ensures hold_failed { result.end ≡ end.HoldFailed → Rose (L.hold_faults bay.old) (L.hold_faults bay.new) }
+    ensures later { (L.start_faults bay.old ≤ L.start_faults bay.new) × (L.read_faults bay.old ≤ L.read_faults bay.new) × (L.hold_faults bay.old ≤ L.hold_faults bay.new) }
+{
+    let Child {
+        subject,
+        words,
+        proof,
+    } = child;
+    findings_are_for(&subject);
+    let job = watch.terms.job;
+    match bay.start(alloc, job, words.as_slice(), bytes) {
+        Err(Fail::Failed) => Ran {
+            end: JobEnd::StartFailed,
+            events: reader_events,
+        },
+        Err(Fail::Memory) => Ran {
+            end: want(watch, notes, keeper_events),
+            events: reader_events,
+        },
+        Ok(started) => {
+            let asked = Asked {
+                job,
+                words: words.as_slice(),
+                bytes,
+                proof: proof.as_str(),
+                most,
+            };
+            run_started(
+                rt,
+                alloc,
+                bay,
+                started,
+                &asked,
+                watch,
+                subject,
+                notes,
+                reader_events,
+                keeper_events,
+            )
+        }
+    }
+}
+
+/// Runs a job that the lane serves: it is skipped where a look before its start shows a finding that skips it; else its child is made
+/// and started, with these words and the job's file, once, and runs to its end. Waits for the child.
+pub fn run_child<
+    R: Threads + Wait + Sync,
+    L: Launch,
+    M: Makes<T> + Sync,
+    T: Settled + Drop + Send + Sync,
+    C: Clock,
+>(
+    rt: &R,
+    alloc: Global,
+    bay: &mut L,
+    lane: u32,
+    watch: &Watch<'_, M, T, C>,
+    notes: &mut Notes<T>,
+    reader_events: EventList<T>,
+    keeper_events: &mut EventList<T>,
+) -> Ran<T>
+    requires served { M.is_served watch.now.asks.now lane watch.now.terms.now.job }
+    requires fresh { (reader_events.events ≡ []) × (keeper_events.old.events ≡ []) }
+    requires room { (1 ≤ reader_events.room) × (4 ≤ keeper_events.old.room) }
+    requires cell { watch.now.terms.now.cell < length watch.now.cells.now }
+    requires other { IfSome watch.now.other (λ o. o.0 < length watch.now.cells.now) }
+    requires notes { AreNotesOf watch.now.cells.now notes.old }
+    ensures end { EndIs (terms_of T.job T.answer watch.now.terms.now) (λ _. ⊥) (reader_from reader.Fresh result.events.events) (keeper_from (terms_of T.job T.answer watch.now.terms.now) keeper.Fresh keeper_events.new.events) result.end }
+    ensures right { RightReader (reader_from reader.Fresh result.events.events) × RightKeeper (keeper_from (terms_of T.job T.answer watch.now.terms.now) keeper.Fresh keeper_events.new.events) }
+    ensures place { place_from Away keeper_events.new.events ≡ Away }
+    ensures keeps { Keeps (IsOfCell T.problem T.job (M.problem watch.now.asks.now) watch.now.terms.now watch.now.other) (C.may_read watch.now.clock.now) notes.old notes.new [] keeper_events.new.events }
+    ensures looked { keeper_from (terms_of T.job T.answer watch.now.terms.now) keeper.Fresh keeper_events.new.events ≢ keeper.Fresh }
+    ensures won { IfWon (reader_from reader.Fresh result.events.events) (λ f. known_at notes.new watch.now.terms.now.cell ≡ Some f) }
+    ensures found { (f : T) → HasEnd (reader_from reader.Fresh result.events.events) (end.Found f) → (T.problem f ≡ M.problem watch.now.asks.now) × (T.job f ≡ watch.now.terms.now.job) }
+    ensures starts { (starts : List StartOf) × (L.told bay.new ≡ option_map (with_starts starts) (L.told bay.old))
+        × Starts watch.now.terms.now.job (M.words watch.now.asks.now lane watch.now.terms.now.job) (M.file watch.now.asks.now watch.now.terms.now.job)
+        (ReadsScript (M.stands watch.now.asks.now lane watch.now.terms.now.job) (M.ends watch.now.asks.now lane watch.now.terms.now.job) (M.proves watch.now.asks.now lane watch.now.terms.now.job)
+        (L.told bay.old) watch.now.terms.now.job (M.most watch.now.asks.now) (M.most_output watch.now.asks.now lane) result.events.events)
+        result.events.events keeper_events.new.events result.end starts }
+    ensures start_failed { result.end ≡ end.StartFailed → Rose (L.start_faults bay.old) (L.start_faults bay.new) }
+    ensures read_failed { result.end ≡ end.ReadFailed → Rose (L.read_faults bay.old) (L.read_faults bay.new) }
+    ensures hold_failed { result.end ≡ end.HoldFailed → Rose (L.hold_faults bay.old) (L.hold_faults bay.new) }
+    ensures later { (L.start_faults bay.old ≤ L.start_faults bay.new) × (L.read_faults bay.old ≤ L.read_faults bay.new) × (L.hold_faults bay.old ≤ L.hold_faults bay.new) }
+{
+    if let Some(end) = look_first(watch, notes, keeper_events) {
+        return Ran {
+            end,
+            events: reader_events,
+        };
+    }
+    let makes = watch.asks;
+    let job = watch.terms.job;
+    let Ok(child) = makes.make(alloc, lane, job) else {
+        return Ran {
+            end: want(watch, notes, keeper_events),
+            events: reader_events,
+        };
+    };
+    start_child(
+        rt,
+        alloc,
+        bay,
+        watch,
+        child,
+        makes.bytes(job),
+        makes.most(),
+        notes,
+        reader_events,
+        keeper_events,
+    )
+}

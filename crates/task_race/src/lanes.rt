@@ -1,0 +1,209 @@
+// The lanes of a problem.
+
+ghost use Rattle.std.specs.Prelude.{◌≡◌, ℕ, [], IfOk, MatchBool, Some, map, slice_get, string_bytes};
+ghost use Rattle.judge.specs.Problem.{IsJob};
+ghost use Rattle.task_race.specs.Fates.{Ends, Proves, Stands, most_bytes, most_output};
+ghost use Rattle.task_race.specs.Serving.{IsServed, IsServing, ServesJobs, evidence_at, evidence_of, file_of};
+ghost use Rattle.task_race.specs.Watching.{Watches};
+ghost use Rattle.task_race.specs.Words.{proof_path, words_at};
+ghost use Rattle.sby_terms.specs.Path.{job_path};
+ghost use Rattle.sby_terms.specs.Span.{slices_of};
+
+use crate::evidence::Evidence;
+use crate::output::{Output, Told};
+use crate::subject::{JobJudge, Watch};
+use crate::words::{proof_path, words_of};
+use cert_judge::StreamKind;
+use judge::{Finding, Judge, Problem, SolverJudge, one_file};
+use lane_run::{Asks, Child, Makes};
+use sby_terms::{Engine, JobName, MAX_STREAM, job_path};
+use std::alloc::{AllocError, Global};
+
+/// The lanes of a problem, one for each engine line: every engine but `btor` serves every job. The jobs' files lie in the work folder,
+/// below `model`, and so do the proof files that children leave.
+#[derive(Clone, Copy)]
+pub struct ProblemLanes<'a> {
+    pub problem: &'a Problem,
+    pub engines: &'a [Engine],
+    pub folder: &'a str,
+}
+
+// Whether the lane's engine serves jobs.
+fn is_serving(engines: &[Engine], lane: u32) -> bool
+    ensures { MatchBool result (IsServing (slice_get engines.now lane)) (IsServing (slice_get engines.now lane) → ⊥) }
+{
+    match engines.get(lane as usize) {
+        Some(
+            Engine::Sat(_)
+            | Engine::Drup(_)
+            | Engine::Lrat(_)
+            | Engine::Proof(_)
+            | Engine::ProofBinary(_),
+        ) => true,
+        Some(Engine::Btor(_)) => false,
+        None => false,
+    }
+}
+
+// Where the certificate of an engine's child comes from.
+fn evidence_of(engine: &Engine) -> Evidence
+    ensures { result ≡ evidence_of engine.now }
+{
+    match engine {
+        Engine::Sat(_) | Engine::Drup(_) | Engine::Btor(_) => Evidence::Output(StreamKind::Drup),
+        Engine::Lrat(_) => Evidence::Output(StreamKind::Lrat),
+        Engine::Proof(_) => Evidence::ProofFile(StreamKind::Proof),
+        Engine::ProofBinary(_) => Evidence::ProofFile(StreamKind::ProofBinary),
+    }
+}
+
+// A judge of a job's output that has taken nothing yet.
+fn watch<'a>(
+    alloc: Global,
+    problem: &'a Problem,
+    job: JobName,
+    evidence: Evidence,
+) -> Result<Watch<'a>, AllocError>
+    requires { IsJob problem.now job }
+    ensures { IfOk result (λ w. Watches problem.now job evidence w []) }
+{
+    match evidence {
+        Evidence::Output(kind) => {
+            let judge = Judge::new(alloc, problem, job, kind, MAX_STREAM)?;
+            Ok(Watch::Stream(judge))
+        }
+        Evidence::ProofFile(_) => {
+            let judge = SolverJudge::new(alloc, problem, job, MAX_STREAM)?;
+            Ok(Watch::Solver(judge))
+        }
+    }
+}
+
+// Whether it is a job of the problem.
+fn is_job(problem: &Problem, job: JobName) -> bool
+    ensures { MatchBool result (IsJob problem.now job) (IsJob problem.now job → ⊥) }
+{
+    for place in 0..problem.jobs() {
+        if problem.job(place) == job {
+            return true;
+        }
+    }
+    false
+}
+
+// The path of a job's file.
+fn path_of(alloc: Global, lanes: &ProblemLanes<'_>, job: JobName) -> Result<String, AllocError>
+    ensures { IfOk result (λ t. string_bytes t ≡ job_path lanes.now.folder.now (slices_of lanes.now.problem.now.problem.span) job) }
+{
+    let _flat = lanes.problem.flat();
+    job_path(alloc, lanes.folder, lanes.problem.span().slices(), job)
+}
+
+// The path of the proof file that a lane's child leaves for a job.
+fn proof_of(
+    alloc: Global,
+    lanes: &ProblemLanes<'_>,
+    lane: u32,
+    job: JobName,
+) -> Result<String, AllocError>
+    ensures { IfOk result (λ t. string_bytes t ≡ proof_path lanes.now.folder.now lane (slices_of lanes.now.problem.now.problem.span) job) }
+{
+    let _flat = lanes.problem.flat();
+    proof_path(
+        alloc,
+        lanes.folder,
+        lane,
+        lanes.problem.span().slices(),
+        job,
+    )
+}
+
+impl<'a> Asks<Finding> for ProblemLanes<'a> {
+    ghost problem = { λ l. l.problem.now.problem };
+
+    fn is_for(&self, value: &Finding, job: JobName) -> bool {
+        value.is_of(self.problem, job)
+    }
+}
+
+// No bytes.
+#[derive(Drop)]
+struct Nothing;
+
+impl Told for Nothing {
+    ghost use Rattle.std.specs.Prelude.{[]};
+
+    ghost bytes = { λ _. [] };
+}
+
+impl<'a> Makes<Finding> for ProblemLanes<'a> {
+    ghost use Rattle.task_race.specs.Fates.{stays_law};
+
+    type Subject = JobJudge<'a>;
+
+    ghost is_served = { λ l lane job. IsServed l.engines.now l.problem.now lane job };
+
+    ghost words = { λ l lane job. words_at (slice_get l.engines.now lane) (job_path l.folder.now (slices_of l.problem.now.problem.span) job)
+        (proof_path l.folder.now lane (slices_of l.problem.now.problem.span) job) };
+
+    ghost proof = { λ l lane job. proof_path l.folder.now lane (slices_of l.problem.now.problem.span) job };
+
+    ghost file = { λ l job. file_of l.problem.now job };
+
+    ghost stands = { λ l lane job. Stands l.problem.now job (evidence_at (slice_get l.engines.now lane)) };
+
+    ghost ends = { λ l lane job. Ends l.problem.now job (evidence_at (slice_get l.engines.now lane)) };
+
+    ghost proves = { λ l lane job. Proves l.problem.now job (evidence_at (slice_get l.engines.now lane)) };
+
+    ghost most = { λ l. most_bytes };
+
+    ghost most_output = { λ l lane. most_output (evidence_at (slice_get l.engines.now lane)) };
+
+    fn serves(&self, lane: u32, job: JobName) -> bool {
+        is_serving(self.engines, lane) && is_job(self.problem, job)
+    }
+
+    fn make(
+        &self,
+        alloc: Global,
+        lane: u32,
+        job: JobName,
+    ) -> Result<Child<JobJudge<'a>>, AllocError> {
+        let Some(engine) = self.engines.get(lane as usize) else {
+            unreachable!()
+        };
+        let proof = proof_of(alloc, self, lane, job)?;
+        let words = words_of(alloc, engine, path_of(alloc, self, job)?, proof.as_str())?;
+        let evidence = evidence_of(engine);
+        let watch = watch(alloc, self.problem, job, evidence)?;
+        let subject = JobJudge {
+            problem: self.problem,
+            job,
+            evidence,
+            watch,
+            output: Output::of(&Nothing),
+        };
+        Ok(Child {
+            subject,
+            words,
+            proof,
+        })
+    }
+
+    #[tactic(auto, using(crate::proofs::Files::none_without_job))]
+    fn bytes(&self, job: JobName) -> &[u8] {
+        one_file();
+        if is_job(self.problem, job) {
+            self.problem.job_bytes(job)
+        } else {
+            &[]
+        }
+    }
+
+    fn most(&self) -> u64 {
+        MAX_STREAM
+    }
+
+    ghost stays = { λ l lane job. stays_law l.problem.now job (evidence_at (slice_get l.engines.now lane)) };
+}

@@ -1,0 +1,187 @@
+// The judge of a child's output, as a lane asks for it.
+
+ghost use Rattle.std.specs.Prelude.{◌≡◌, ◌≢◌, ℕ, ◌++◌, List, true};
+ghost use Rattle.judge.specs.Problem.{AskedOf, IsJob};
+ghost use Rattle.lane_run.specs.Judging.{Says};
+ghost use Rattle.task_race.specs.Fates.{Ends, GoesOn, Proves, ProvesAs, SolverGoesOn, Stands, judged_as, most_output};
+ghost use Rattle.task_race.specs.Watching.{Awaits, EndedSo, FedSo, IsReading, Watches, told_as};
+ghost use Rattle.task_race.specs.declared.evidence.Evidence.TheVariants as evidence;
+ghost use Rattle.race_core.specs.declared.event.Judged.TheVariants as judged;
+ghost use Rattle.sby_terms.specs.declared.names.JobName.{JobName};
+ghost use Rattle.cert_judge.specs.declared.stream.StreamKind.{StreamKind};
+
+use crate::evidence::Evidence;
+use crate::output::{Output, Told};
+use cert_judge::{BadCert, StreamKind};
+use judge::{Finding, Judge, Problem, Progress, SolverJudge};
+use lane_run::Subject;
+use race_core::Judged;
+use sby_terms::{JobName, MAX_STREAM};
+use std::alloc::{AllocError, Global};
+
+// Who judges the output itself.
+#[derive(Drop)]
+pub(crate) enum Watch<'a> {
+    Stream(Judge<'a>),
+    Solver(SolverJudge<'a>),
+}
+
+/// The judge of a child's output, and of the proof file after it, as a certificate for a job of a problem. It keeps none of the output's
+/// bytes.
+#[derive(Drop)]
+pub struct JobJudge<'a> {
+    pub(crate) problem: &'a Problem,
+    pub(crate) job: JobName,
+    pub(crate) evidence: Evidence,
+    pub(crate) watch: Watch<'a>,
+    pub(crate) output: Output,
+}
+
+// An output with its next piece.
+#[derive(Drop)]
+struct Longer<'o, 'p> {
+    output: &'o Output,
+    piece: &'p [u8],
+}
+
+impl<'o, 'p> Told for Longer<'o, 'p> {
+    ghost use Rattle.std.specs.Prelude.{◌++◌};
+
+    ghost bytes = { λ l. l.output.now.bytes ++ l.piece.now };
+}
+
+fn with_piece(output: &Output, piece: &[u8]) -> Output
+    ensures { result.bytes ≡ output.now.bytes ++ piece.now }
+{
+    Output::of(&Longer { output, piece })
+}
+
+// An answer of a judge, as a lane's list has it.
+fn judged_as(answer: Result<Progress, BadCert>) -> Judged<Finding>
+    ensures { result ≡ judged_as answer }
+{
+    match answer {
+        Ok(Progress::More) => Judged::More,
+        Ok(Progress::Done(finding)) => Judged::Found(finding),
+        Ok(Progress::Unknown) => Judged::Unknown,
+        Err(bad) => Judged::Bad {
+            no: bad.kind.number(),
+            at: bad.at,
+        },
+    }
+}
+
+// Out of memory isn't judged.
+fn judged(answer: Result<Result<Progress, BadCert>, AllocError>) -> Judged<Finding>
+    ensures { result ≡ told_as answer }
+{
+    match answer {
+        Ok(answer) => judged_as(answer),
+        Err(_) => Judged::Unjudged,
+    }
+}
+
+// What a judge of the job's stream makes of its next piece.
+fn feed_stream(judge: &mut Judge, piece: &[u8]) -> Judged<Finding>
+    requires { IsReading judge.old }
+    ensures { (p : AskedOf) (job : JobName) (kind : StreamKind) (bytes : List ℕ) → GoesOn p job kind judge.old bytes
+        → FedSo p job (evidence.Output kind) (GoesOn p job kind judge.new (bytes ++ piece.now)) (bytes ++ piece.now) result }
+{
+    judged(judge.feed(piece))
+}
+
+// And of its end.
+fn end_stream(judge: &mut Judge) -> Judged<Finding>
+    ensures { (p : AskedOf) (job : JobName) (kind : StreamKind) (bytes : List ℕ) → GoesOn p job kind judge.old bytes → EndedSo p job (evidence.Output kind) bytes result }
+{
+    judged(judge.end())
+}
+
+// What a judge of a solver's output makes of its next piece.
+fn feed_solver(judge: &mut SolverJudge, piece: &[u8]) -> Judged<Finding>
+    requires { judge.old.reading ≡ true }
+    ensures { (p : AskedOf) (job : JobName) (kind : StreamKind) (bytes : List ℕ) → SolverGoesOn p job judge.old bytes
+        → FedSo p job (evidence.ProofFile kind) (SolverGoesOn p job judge.new (bytes ++ piece.now)) (bytes ++ piece.now) result }
+{
+    judged(judge.feed(piece))
+}
+
+// And of its end.
+fn end_solver(judge: &mut SolverJudge) -> Judged<Finding>
+    requires { judge.old.reading ≡ true }
+    ensures { (p : AskedOf) (job : JobName) (kind : StreamKind) (bytes : List ℕ) → SolverGoesOn p job judge.old bytes → EndedSo p job (evidence.ProofFile kind) bytes result }
+{
+    judged(judge.end())
+}
+
+// Judges a proof file of a kind.
+fn judge_file(
+    alloc: Global,
+    problem: &Problem,
+    job: JobName,
+    kind: StreamKind,
+    proof: &[u8],
+) -> Judged<Finding>
+    requires { IsJob problem.now job }
+    ensures says { Says (ProvesAs problem.now job kind) proof.now result }
+    ensures whole { result ≢ judged.More }
+{
+    let _file = problem.job_bytes(job);
+    let Ok(mut judge) = Judge::new(alloc, problem, job, kind, MAX_STREAM) else {
+        return Judged::Unjudged;
+    };
+    match feed_stream(&mut judge, proof) {
+        Judged::More => end_stream(&mut judge),
+        told => told,
+    }
+}
+
+impl<'a> Subject<Finding> for JobJudge<'a> {
+    ghost use Rattle.task_race.specs.Fates.{for_law, stays_law};
+
+    ghost problem = { λ s. s.problem.now.problem };
+
+    ghost job = { λ s. s.job };
+
+    ghost taken = { λ s. s.output.bytes };
+
+    ghost most = { λ s. most_output s.evidence };
+
+    ghost goes_on = { λ s. Watches s.problem.now s.job s.evidence s.watch s.output.bytes };
+
+    ghost awaits = { λ s. Awaits s.problem.now s.job s.evidence };
+
+    ghost stands = { λ s. Stands s.problem.now s.job s.evidence };
+
+    ghost ends = { λ s. Ends s.problem.now s.job s.evidence };
+
+    ghost proves = { λ s. Proves s.problem.now s.job s.evidence };
+
+    fn feed(&mut self, _alloc: Global, piece: &[u8]) -> Judged<Finding> {
+        let _file = self.problem.job_bytes(self.job);
+        self.output = with_piece(&self.output, piece);
+        match &mut self.watch {
+            Watch::Stream(judge) => feed_stream(judge, piece),
+            Watch::Solver(judge) => feed_solver(judge, piece),
+        }
+    }
+
+    fn end(&mut self, _alloc: Global) -> Judged<Finding> {
+        let _file = self.problem.job_bytes(self.job);
+        match &mut self.watch {
+            Watch::Stream(judge) => end_stream(judge),
+            Watch::Solver(judge) => end_solver(judge),
+        }
+    }
+
+    fn prove(&mut self, alloc: Global, proof: &[u8]) -> Judged<Finding> {
+        match self.evidence {
+            Evidence::ProofFile(kind) => judge_file(alloc, self.problem, self.job, kind, proof),
+            Evidence::Output(_) => unreachable!(),
+        }
+    }
+
+    ghost stays = { λ s. stays_law s.problem.now s.job s.evidence };
+
+    ghost is_for = { λ s. for_law s.problem.now s.job s.evidence };
+}
