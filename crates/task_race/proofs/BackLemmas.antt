@@ -5,7 +5,7 @@ use Rattle.std.proofs.lemmas.List.Elements.{All-append, Contains-append_left, Co
 use Rattle.sby_edge.specs.Cause.{CountsOf}
 use Rattle.sby_edge.specs.Child.{BayOf, IsLogged, LaneOf, StartOf, YardOf, left_by, new_bay}
 use Rattle.lane_run.specs.Starting.{with_starts}
-use Rattle.task_race.specs.Bays.{AreCountsOf, BackOf, CameBack, YardAt, counts_in, left_all, none_failed}
+use Rattle.task_race.specs.Bays.{AreCountsOf, BackOf, CameBack, IsToldSince, YardAt, counts_in, left_all, none_failed}
 use Rattle.task_race.proofs.PlaceLemmas.{first_or_later}
 
 -- ---- lists that yards tell
@@ -61,21 +61,16 @@ left_contains (first ∷ backs) back bay among is = elim (first_or_later first b
 
 pub counts_told : (scripts : Option YardOf) (before now : Option (List LaneOf)) (task lane : ℕ) (backs : List BackOf) (back : BackOf) (starts : List StartOf)
     → Contains backs back → back.told ≡ option_map (with_starts starts) (new_bay scripts task lane) → IsLogged (left_all backs) before now
-    → IfSome scripts (λ _. IfSome now (λ lanes. (left : LaneOf) × Contains lanes left × (left.task ≡ task) × (left.lane ≡ lane) × (left.counts ≡ back.counts)))
+    → IfSome scripts (λ _. IsToldSince before now (λ left. (left.task ≡ task) × (left.lane ≡ lane) × (left.counts ≡ back.counts)))
 unfolding entry
 counts_told None before now task lane backs back starts among is logged = tt
-counts_told (Some scripts) before None task lane backs back starts among is logged = tt
-counts_told (Some scripts) before (Some lanes) task lane backs back starts among is (inr none) = absurd cc
-counts_told (Some scripts) None (Some lanes) task lane backs back starts among is (inl logged) = absurd cc
+counts_told (Some scripts) None now task lane backs back starts among is logged = tt
+counts_told (Some scripts) (Some earlier) None task lane backs back starts among is logged = tt
+counts_told (Some scripts) (Some earlier) (Some lanes) task lane backs back starts among is (inr none) = absurd cc
 counts_told (Some scripts) (Some earlier) (Some lanes) task lane backs back starts among is (inl logged) =
     let bay : BayOf = record { task = task; lane = lane; scripts = scripts task lane; starts = [] ++ starts } in
-    let same : lanes ≡ earlier ++ left_all backs = cc in (
-      entry bay back.counts,
-      subst (λ (l : List LaneOf). Contains l (entry bay back.counts)) (sym same) (Contains-append_right earlier (left_all backs) (entry bay back.counts) (left_contains backs back bay among is)),
-      refl,
-      refl,
-      refl,
-    )
+    let same : lanes ≡ earlier ++ left_all backs = cc in
+    (left_all backs, entry bay back.counts, same, left_contains backs back bay among is, (refl, refl, refl))
 
 -- the counts of bays, by what they left
 pub counts_left : {B : Type 0} (view : B → BackOf) (counts : B → CountsOf) (bays : List B) → ((b : B) → (view b).counts ≡ counts b) → map counts_in (map view bays) ≡ map counts bays

@@ -66,7 +66,12 @@ pub record NoneStarted (before now : YardAt) : Type 0 where
   pub logged : IsLogged lanes before.started now.started
   pub unstarted : All (λ lane. lane.starts ≡ []) lanes
 
--- The counts with which the bay of a task's lane came back: those of its yard rose for them; and the yard tells them, where it tells of its bays.
+-- among the bays that a yard tells now, and did not tell before, is such a one
+abbrev pub IsToldSince : Option (List LaneOf) → Option (List LaneOf) → (LaneOf → Type 0) → Type 0
+IsToldSince before now P = IfSome before (λ earlier. IfSome now (λ lanes. (since : List LaneOf) × (left : LaneOf) × (lanes ≡ earlier ++ since) × Contains since left × P left))
+
+-- The counts with which the bay of a task's lane came back: those of its yard rose for them; and, where the yard tells of its bays, it tells
+-- them of one that came back since.
 pub record AreCountsOf (task lane : ℕ) (before now : YardAt) (counts : CountsOf) : Type 0 where
   pub rose : HaveRisenFor counts before.counts now.counts
-  pub told : IfSome before.scripts (λ _. IfSome now.started (λ lanes. (left : LaneOf) × Contains lanes left × (left.task ≡ task) × (left.lane ≡ lane) × (left.counts ≡ counts)))
+  pub told : IfSome before.scripts (λ _. IsToldSince before.started now.started (λ left. (left.task ≡ task) × (left.lane ≡ lane) × (left.counts ≡ counts)))
