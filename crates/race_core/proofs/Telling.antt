@@ -1,8 +1,10 @@
 -- What the ends of one more job say.
 use Rattle.race_core.specs.Told.{told_by}
-use Rattle.std.proofs.Common.{◌≡◌, ℕ, ◌+◌, List, [], ◌∷◌, ◌++◌, map, Option, Some, None, sym, ap, ◌∙◌, subst, inl, inr, arith}
+use Rattle.std.proofs.Common.{◌≡◌, ℕ, ◌+◌, ◌*◌, ◌<◌, ◌≤◌, length, length-append, List, [], ◌∷◌, ◌++◌, map, Option, Some, None, sym, ap, ◌∙◌, subst, inl, inr, arith}
 use Rattle.std.specs.Prelude.{Contains, slice_get}
 use Rattle.std.proofs.lemmas.Bool.{cases_eq}
+use Rattle.std.proofs.lemmas.List.{length-map}
+use Rattle.std.proofs.Math.Nat.{mul-le-mul_right}
 use Rattle.std.proofs.lemmas.List.Elements.{Contains-append_left, Contains-append_right, Contains-append_cases}
 use Rattle.race_core.proofs.Lowest.{one-same, one-is}
 use Rattle.sby_terms.specs.declared.names.Answer.{Answer}
@@ -50,3 +52,24 @@ told-skip reports answers n es t settled = record {
     | inr other ↦ t.all r k c (omega arith) none
   ];
 }
+
+-- a job more says at most one event a report
+pub few-next : (n l a : ℕ) → a ≤ n * l → a + l ≤ (n + 1) * l
+few-next n l a few = let e : (n + 1) * l ≡ n * l + l = grind arith in omega (arith, few, e)
+
+pub few-same : (n l a : ℕ) → a ≤ n * l → a ≤ (n + 1) * l
+few-same n l a few = let next = few-next n l a few in omega (arith, next)
+
+-- there is room for the events of a job below the last
+pub room-left : (n all l a room : ℕ) → a ≤ n * l → n < all → all * l ≤ room → a + l ≤ room
+room-left n all l a room few lt fits =
+    let next = few-next n l a few in
+    let most : (n + 1) * l ≤ all * l = mul-le-mul_right l (omega (arith, lt)) in
+    omega (arith, next, most, fits)
+
+pub added-few : {T : Type 0} (reports : List (ReportOf T)) (n : ℕ) (es fs : List Event) → length es ≤ n * length reports → fs ≡ es ++ map (λ r. told_by (end_at r n)) reports
+    → length fs ≤ (n + 1) * length reports
+added-few reports n es fs few is =
+    let next = few-next n (length reports) (length es) few in
+    let size : length fs ≡ length es + length reports = ap length is ∙ length-append es (map (λ r. told_by (end_at r n)) reports) ∙ ap (λ k. length es + k) (length-map reports (λ r. told_by (end_at r n))) in
+    omega (arith, next, size)

@@ -10,3 +10,4 @@ pub mod Consistent
 pub mod Stepped
 pub mod Sharing
 pub mod Listed
+pub mod Room

@@ -2,12 +2,11 @@
 
 ghost use Rattle.race_core.specs.Asking.{name_at};
 ghost use Rattle.race_core.specs.Carrying.{Carries};
-ghost use Rattle.std.specs.Prelude.{◌≡◌, IfOk, Option};
+ghost use Rattle.std.specs.Prelude.{◌≡◌, ◌≤◌, [], Option, vec_capacity};
 ghost use Rattle.race_core.specs.Collect.{AreCollected, CarriedIn, SettledIn, IsAnswer};
 
 use crate::{JobEnd, Report};
 use sby_terms::{Answer, JobName, Mode, Settled};
-use std::alloc::{AllocError, Global};
 
 // The answer of the finding that an end carries for a job.
 fn answer_in<T: Settled>(end: &JobEnd<T>, job: JobName) -> Option<Answer>
@@ -70,18 +69,19 @@ pub fn job_at(mode: Mode, place: u32) -> JobName
     }
 }
 
-/// The answers of the findings that reports carry, one entry per job.
-pub fn answers<T: Settled + Drop>(
-    alloc: Global,
+/// The answers of the findings that reports carry, one entry per job, in a vector with room for them.
+pub(crate) fn answers<T: Settled + Drop>(
+    mut answers: Vec<Option<Answer>>,
     reports: &[Report<T>],
     mode: Mode,
     jobs: u32,
-) -> Result<Vec<Option<Answer>>, AllocError>
-    ensures { IfOk result (λ a. AreCollected T.job T.answer mode jobs reports.now a.items) }
+) -> Vec<Option<Answer>>
+    requires none { answers.items ≡ [] }
+    requires room { jobs ≤ vec_capacity answers }
+    ensures { AreCollected T.job T.answer mode jobs reports.now result.items }
 {
-    let mut answers = Vec::new(alloc);
     for place in 0..jobs {
-        answers.push(answer_among(reports, job_at(mode, place)))?;
+        answers.push_reserved(answer_among(reports, job_at(mode, place)));
     }
-    Ok(answers)
+    answers
 }

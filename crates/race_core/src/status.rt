@@ -1,9 +1,10 @@
 // The status of a task, from the reports of its lanes.
 
 ghost use Rattle.race_core.specs.Told.{told_by};
-ghost use Rattle.std.specs.Prelude.{◌≡◌, ◌<◌, ◌++◌, All, IfOk, OnOk, List, Option, Some, None, true, false, length, map, slice_get};
+ghost use Rattle.std.specs.Prelude.{◌≡◌, ◌<◌, ◌≤◌, ◌+◌, ◌*◌, ◌++◌, [], All, IfOk, List, Option, Some, None, true, false, length, map, slice_get, vec_capacity};
 ghost use Rattle.race_core.specs.Consistent.{end_at};
 ghost use Rattle.race_core.specs.Collect.{AreTold, IsOutcome, IsStatus};
+ghost use Rattle.race_core.specs.Room.{HasRoom};
 
 use crate::answering::answers;
 use crate::printing::printing_lanes;
@@ -36,18 +37,15 @@ fn told_at<T: Drop>(report: &Report<T>, place: usize) -> Event
 }
 
 // Adds what the reports' ends of a job say.
-fn add_told<T: Drop>(
-    events: &mut Vec<Event>,
-    reports: &[Report<T>],
-    place: usize,
-) -> Result<(), AllocError>
-    requires { All (λ r. place < length r.ends) reports.now }
-    ensures { OnOk result (events.new.items ≡ events.old.items ++ map (λ r. told_by (end_at r place)) reports.now) }
+fn add_told<T: Drop>(events: &mut Vec<Event>, reports: &[Report<T>], place: usize)
+    requires ends { All (λ r. place < length r.ends) reports.now }
+    requires room { length events.old.items + length reports.now ≤ vec_capacity events.old }
+    ensures events { events.new.items ≡ events.old.items ++ map (λ r. told_by (end_at r place)) reports.now }
+    ensures room { vec_capacity events.new ≡ vec_capacity events.old }
 {
     for report in reports {
-        events.push(told_at(report, place))?;
+        events.push_reserved(told_at(report, place));
     }
-    Ok(())
 }
 
 fn is_unsettled(answers: &[Option<Answer>], place: usize) -> bool
@@ -58,22 +56,23 @@ fn is_unsettled(answers: &[Option<Answer>], place: usize) -> bool
     answers[place].is_none()
 }
 
-/// What the ends of the unsettled jobs say.
-pub fn events_of<T: Drop>(
-    alloc: Global,
+/// What the ends of the unsettled jobs say, in a vector with room for it.
+fn events_of<T: Drop>(
+    mut events: Vec<Event>,
     reports: &[Report<T>],
     answers: &[Option<Answer>],
-) -> Result<Vec<Event>, AllocError>
-    requires { All (λ r. length r.ends ≡ length answers.now) reports.now }
-    ensures { IfOk result (λ e. AreTold reports.now answers.now (length answers.now) e.items) }
+) -> Vec<Event>
+    requires ends { All (λ r. length r.ends ≡ length answers.now) reports.now }
+    requires none { events.items ≡ [] }
+    requires room { length answers.now * length reports.now ≤ vec_capacity events }
+    ensures { AreTold reports.now answers.now (length answers.now) result.items }
 {
-    let mut events = Vec::new(alloc);
     for place in 0..answers.len() {
         if is_unsettled(answers, place) {
-            add_told(&mut events, reports, place)?;
+            add_told(&mut events, reports, place);
         }
     }
-    Ok(events)
+    events
 }
 
 /// What the reports of a task come to.
@@ -84,6 +83,52 @@ pub struct Outcome {
     /// The lane whose finding is printed, for each job that is settled.
     pub lanes: Vec<Option<u32>>,
     pub status: Status,
+}
+
+/// Room for what the reports of a race come to. It is made before the race, so that nothing is lost where memory runs out after it.
+#[derive(Drop)]
+pub struct Room {
+    answers: Vec<Option<Answer>>,
+    lanes: Vec<Option<u32>>,
+    events: Vec<Event>,
+}
+
+impl Room {
+    /// Room for this many jobs and reports.
+    pub fn new(alloc: Global, jobs: u32, reports: usize) -> Result<Room, AllocError>
+        ensures { IfOk result (HasRoom jobs reports) }
+    {
+        let Some(entries) = (jobs as usize).checked_mul(reports) else {
+            return Err(AllocError);
+        };
+        Ok(Room {
+            answers: Vec::with_capacity(alloc, jobs as usize)?,
+            lanes: Vec::with_capacity(alloc, jobs as usize)?,
+            events: Vec::with_capacity(alloc, entries)?,
+        })
+    }
+}
+
+/// Collects the reports of a task's lanes in room that was made for them.
+pub fn collect_in<T: Settled + Drop>(
+    room: Room,
+    reports: &[Report<T>],
+    mode: Mode,
+    jobs: u32,
+) -> Outcome
+    requires room { HasRoom jobs (length reports.now) room }
+    requires ends { All (λ r. length r.ends ≡ jobs) reports.now }
+    requires events { All (λ r. length r.events ≡ jobs) reports.now }
+    ensures { IsOutcome T.job T.answer mode jobs reports.now result.answers.items result.lanes.items result.status }
+{
+    let answers = answers(room.answers, reports, mode, jobs);
+    let lanes = printing_lanes(room.lanes, reports, mode, jobs);
+    let status = status_among(room.events, reports, mode, answers.as_slice());
+    Outcome {
+        answers,
+        lanes,
+        status,
+    }
 }
 
 /// Collects the reports of a task's lanes.
@@ -97,26 +142,22 @@ pub fn collect<T: Settled + Drop>(
     requires events { All (λ r. length r.events ≡ jobs) reports.now }
     ensures { IfOk result (λ o. IsOutcome T.job T.answer mode jobs reports.now o.answers.items o.lanes.items o.status) }
 {
-    let answers = answers(alloc, reports, mode, jobs)?;
-    let lanes = printing_lanes(alloc, reports, mode, jobs)?;
-    let status = status_among(alloc, reports, mode, answers.as_slice())?;
-    Ok(Outcome {
-        answers,
-        lanes,
-        status,
-    })
+    let room = Room::new(alloc, jobs, reports.len())?;
+    Ok(collect_in(room, reports, mode, jobs))
 }
 
 // The status, by the verdict of the answers, else by the ends of the unsettled jobs.
 fn status_among<T: Settled + Drop>(
-    alloc: Global,
+    events: Vec<Event>,
     reports: &[Report<T>],
     mode: Mode,
     answers: &[Option<Answer>],
-) -> Result<Status, AllocError>
-    requires { All (λ r. length r.ends ≡ length answers.now) reports.now }
-    ensures { IfOk result (λ s. IsStatus T.job mode reports.now answers.now s) }
+) -> Status
+    requires ends { All (λ r. length r.ends ≡ length answers.now) reports.now }
+    requires none { events.items ≡ [] }
+    requires room { length answers.now * length reports.now ≤ vec_capacity events }
+    ensures { IsStatus T.job mode reports.now answers.now result }
 {
-    let events = events_of(alloc, reports, answers)?;
-    Ok(status_of(decide(mode, answers), events.as_slice()))
+    let events = events_of(events, reports, answers);
+    status_of(decide(mode, answers), events.as_slice())
 }

@@ -11,7 +11,7 @@ use Rattle.sby_terms.specs.declared.names.Mode.TheVariants.{Bmc, Prove, Cover as
 use Rattle.sby_terms.specs.declared.names.Status.{Status}
 use Rattle.sby_terms.specs.declared.names.Verdict.{Verdict}
 use Rattle.sby_lines.specs.Counts.{counts_of}
-use Rattle.sby_lines.specs.Lines.{HasCoverLines, HasJobLines, HasRunLines, HasStopLines, HasVerdictLines, race_lines, settled_lines, skipped_lines, told_answers, unless_decided}
+use Rattle.sby_lines.specs.Lines.{HasCoverLines, HasJobLines, HasRunLines, HasStopLines, HasVerdictLines, design_line, race_lines, settled_lines, skipped_lines, told_answers, unless_decided}
 use Rattle.sby_lines.specs.Telling.{Tells}
 use Rattle.sby_lines.specs.Texts.{design_text, line_of}
 use Rattle.sby_lines.specs.Told.{AreReported, CameTo, Request, answer_of, job_of, jobs_for}
@@ -81,6 +81,18 @@ job_parts request c status answers verdict lines are collected decided has =
     let same : has.answers ≡ answers = answers_same request.mode request.span c.design c.reports are (length (jobs_for request c.design)) has.answers answers has.are_answers collected in
     let one : has.verdict ≡ verdict = one_verdict request.mode answers has.verdict verdict (subst (λ xs. Decided request.mode xs has.verdict) same has.decided) decided in
     subst (λ v. JobParts request c status answers v lines) one (subst (λ xs. JobParts request c status xs has.verdict lines) same (own_parts request c status lines has))
+
+later_parts : {X : Type 0} (x : X) (xs front rest : List X) → x ∷ xs ≡ (x ∷ front) ++ rest → xs ≡ front ++ rest
+later_parts x xs front rest same = cc
+
+-- the lines after the design's
+pub after_design : (request : Request) (c : CameTo) (status : Status) (answers : List (Option Answer)) (verdict : Option Verdict) (lines : List (List ℕ))
+    → (p : JobParts request c status answers verdict (design_line request.name c.design ∷ lines))
+    → lines ≡ (skipped_lines request ++ settled_lines request.name (slices_of request.span) (jobs_for request c.design) (told_answers request.mode answers))
+    ++ (p.stop ++ (unless_decided verdict (race_lines request.name (slices_of request.span) (jobs_for request c.design) answers c.reports) ++ p.shown))
+after_design request c status answers verdict lines p = later_parts (design_line request.name c.design) lines
+    (skipped_lines request ++ settled_lines request.name (slices_of request.span) (jobs_for request c.design) (told_answers request.mode answers))
+    (p.stop ++ (unless_decided verdict (race_lines request.name (slices_of request.span) (jobs_for request c.design) answers c.reports) ++ p.shown)) p.all
 
 -- the lines of runs are the last
 pub shown_last : (request : Request) (c : CameTo) (status : Status) (answers : List (Option Answer)) (verdict : Option Verdict) (lines : List (List ℕ)) (p : JobParts request c status answers verdict lines)

@@ -172,6 +172,10 @@ HasVerdictLines Bmc request c answers verdict lines = HasRunLines request c answ
 HasVerdictLines Prove request c answers verdict lines = HasRunLines request c answers verdict lines
 HasVerdictLines Cover request c answers verdict lines = HasCoverLines request c 0 answers lines
 
+-- the line of a design
+abbrev pub design_line : List ℕ → DesignOf → List ℕ
+design_line name d = line_of name (design_text (counts_of d))
+
 -- The lines of a design and its jobs: those of the design, of the cycles that are skipped, of the settled jobs, of a stop, without a
 -- verdict of the unsettled jobs, and of the runs.
 pub record HasJobLines (request : Request) (c : CameTo) (status : Status) (lines : List (List ℕ)) : Type 0 where
@@ -184,7 +188,7 @@ pub record HasJobLines (request : Request) (c : CameTo) (status : Status) (lines
   pub stopped : HasStopLines request c answers status stop
   pub runs : HasVerdictLines request.mode request c answers verdict shown
   pub all : lines
-      ≡ line_of request.name (design_text (counts_of c.design)) ∷ (skipped_lines request
+      ≡ design_line request.name c.design ∷ (skipped_lines request
       ++ (settled_lines request.name (slices_of request.span) (jobs_for request c.design) (told_answers request.mode answers)
       ++ (stop
       ++ (unless_decided verdict (race_lines request.name (slices_of request.span) (jobs_for request c.design) answers c.reports)

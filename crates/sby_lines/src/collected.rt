@@ -1,7 +1,8 @@
 // What the reports of a task come to.
 
-ghost use Rattle.std.specs.Prelude.{◌≡◌, ◌<◌, ℕ, true, false, IfOk, IfNone, IfSome, Some, length, slice_get};
+ghost use Rattle.std.specs.Prelude.{◌≡◌, ◌<◌, ℕ, true, false, IfNone, IfSome, Some, length, slice_get};
 ghost use Rattle.judge.specs.Jobs.{jobs_in};
+ghost use Rattle.race_core.specs.Room.{HasRoom};
 ghost use Rattle.sby_terms.specs.Span.{IsSpan};
 ghost use Rattle.sby_terms.specs.declared.names.Answer.TheVariants.{Sat};
 ghost use Rattle.sby_lines.specs.Lines.{told_answers};
@@ -10,9 +11,8 @@ ghost use Rattle.sby_lines.specs.Told.{AreReported, IsCollected, IsFirstSat};
 use crate::counts::counts_of;
 use design_check::flat::Flat;
 use judge::Finding;
-use race_core::{Outcome, Report, collect};
+use race_core::{Outcome, Report, Room, collect_in};
 use sby_terms::{Answer, Mode, Span, Status, Verdict, decide};
-use std::alloc::{AllocError, Global};
 
 /// What the reports of a task come to.
 #[derive(Drop)]
@@ -37,28 +37,30 @@ fn job_count(mode: Mode, span: &Span, flat: &Flat) -> u32
 }
 
 impl Collected {
-    /// Collects the reports of a task.
+    /// Collects the reports of a task in room that was made for them.
     pub fn new(
-        alloc: Global,
+        room: Room,
         mode: Mode,
         span: &Span,
         flat: &Flat,
         reports: &[Report<Finding>],
-    ) -> Result<Collected, AllocError>
-        requires { AreReported mode span.now flat.now reports.now }
-        ensures { IfOk result (IsCollected mode span.now flat.now reports.now) }
+    ) -> Collected
+        requires reported { AreReported mode span.now flat.now reports.now }
+        requires room { HasRoom (length (jobs_in mode span.now flat.now)) (length reports.now) room }
+        ensures { IsCollected mode span.now flat.now reports.now result }
     {
+        let jobs = job_count(mode, span, flat);
         let Outcome {
             answers,
             lanes: _,
             status,
-        } = collect(alloc, reports, mode, job_count(mode, span, flat))?;
+        } = collect_in(room, reports, mode, jobs);
         let verdict = decide(mode, &answers);
-        Ok(Collected {
+        Collected {
             answers,
             verdict,
             status,
-        })
+        }
     }
 }
 

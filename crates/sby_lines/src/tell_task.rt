@@ -6,11 +6,10 @@ ghost use Rattle.sby_terms.specs.Span.{IsSpan, slices_of};
 ghost use Rattle.sby_terms.specs.declared.names.Status.{Status};
 ghost use Rattle.sby_terms.specs.declared.names.JobName.{JobName};
 ghost use Rattle.design_core.specs.Shape.{DesignOf};
-ghost use Rattle.sby_lines.specs.Counts.{counts_of};
 ghost use Rattle.sby_lines.specs.Jobs.{HasJobs};
-ghost use Rattle.sby_lines.specs.Lines.{HasJobLines, HasStopLines, HasVerdictLines, done_line, early_text, line_if, race_lines, settled_lines, skipped_lines, told_answers, unless_decided, unput_lines};
+ghost use Rattle.sby_lines.specs.Lines.{HasJobLines, HasStopLines, HasVerdictLines, design_line, done_line, early_text, line_if, race_lines, settled_lines, skipped_lines, told_answers, unless_decided, unput_lines};
 ghost use Rattle.sby_lines.specs.Telling.{Tells};
-ghost use Rattle.sby_lines.specs.Texts.{design_text, line_of, not_written_text, stopped_text, trace_path};
+ghost use Rattle.sby_lines.specs.Texts.{line_of, not_written_text, stopped_text, trace_path};
 ghost use Rattle.sby_lines.specs.Told.{AreInPlace, AreLimited, AreReported, IsCollected, IsStopReading, asked_by, came};
 
 use crate::collected::{Collected, told_answers};
@@ -78,8 +77,9 @@ pub fn tell_early<S: Sink>(
     tell_done(alloc, out, name, status, rc)
 }
 
-fn tell_design<S: Sink>(alloc: Global, out: &mut S, name: &str, flat: &Flat) -> Result<(), Stop>
-    ensures { Tells (S.taken out.old) (S.taken out.new) (S.faults out.old) (S.faults out.new) (S.ended out.new) (line_of name.now (design_text (counts_of flat.now)) ∷ []) result }
+/// Offers the line of a task's design.
+pub fn tell_design<S: Sink>(alloc: Global, out: &mut S, name: &str, flat: &Flat) -> Result<(), Stop>
+    ensures { Tells (S.taken out.old) (S.taken out.new) (S.faults out.old) (S.faults out.new) (S.ended out.new) (design_line name.now flat.now ∷ []) result }
 {
     match text::design_text(alloc, &counts_of(flat.design())) {
         Ok(text) => tell_line(alloc, out, name, text.as_str()),
@@ -99,23 +99,21 @@ fn tell_skipped<S: Sink>(alloc: Global, out: &mut S, heading: &Heading<'_>) -> R
     }
 }
 
-// The lines of the design, of the cycles that are skipped, and of the settled jobs.
+// The lines of the cycles that are skipped, and of the settled jobs.
 fn tell_head<S: Sink>(
     alloc: Global,
     out: &mut S,
     heading: &Heading<'_>,
-    flat: &Flat,
     collected: &Collected,
 ) -> Result<(), Stop>
     requires span { IsSpan heading.now.span }
     requires few { length collected.now.answers.items < 2 ^ 32 }
-    requires jobs { length collected.now.answers.items ≡ length (jobs_in heading.now.mode heading.now.span flat.now) }
-    ensures { (expect : List Status) → Tells (S.taken out.old) (S.taken out.new) (S.faults out.old) (S.faults out.new) (S.ended out.new)
-        (line_of heading.now.name.now (design_text (counts_of flat.now)) ∷ (skipped_lines (asked_by heading.now expect)
-        ++ settled_lines heading.now.name.now (slices_of heading.now.span) (jobs_in heading.now.mode heading.now.span flat.now)
-        (told_answers heading.now.mode collected.now.answers.items))) result }
+    ensures { (expect : List Status) (d : DesignOf) → length collected.now.answers.items ≡ length (jobs_in heading.now.mode heading.now.span d)
+        → Tells (S.taken out.old) (S.taken out.new) (S.faults out.old) (S.faults out.new) (S.ended out.new)
+        (skipped_lines (asked_by heading.now expect)
+        ++ settled_lines heading.now.name.now (slices_of heading.now.span) (jobs_in heading.now.mode heading.now.span d)
+        (told_answers heading.now.mode collected.now.answers.items)) result }
 {
-    tell_design(alloc, out, heading.name, flat)?;
     tell_skipped(alloc, out, heading)?;
     let answers = told_answers(heading.mode, &collected.answers);
     tell_answers(alloc, out, heading, heading.span.slices(), answers)
@@ -246,8 +244,8 @@ fn tell_verdict<S: Sink>(
     }
 }
 
-/// Offers the lines of a task's design and of its jobs, by what its lanes report, the reading of the clock at which they started, in
-/// milliseconds, and what the reports come to. A lane is stopped under a limit alone, so these lines exist.
+/// Offers the lines of a task's jobs, which come after its design's (`tell_design`), by what its lanes report, the reading of the clock
+/// at which they started, in milliseconds, and what the reports come to. A lane is stopped under a limit alone, so these lines exist.
 pub fn tell_jobs<S: Sink>(
     alloc: Global,
     out: &mut S,
@@ -261,10 +259,10 @@ pub fn tell_jobs<S: Sink>(
     requires limited { AreLimited start heading.now.limit reports.now }
     requires collected { IsCollected heading.now.mode heading.now.span flat.now reports.now collected.now }
     ensures { (expect : List Status) (lines : List (List ℕ))
-        → HasJobLines (asked_by heading.now expect) (came flat.now reports.now start) collected.now.status lines
+        → HasJobLines (asked_by heading.now expect) (came flat.now reports.now start) collected.now.status (design_line heading.now.name.now flat.now ∷ lines)
         → Tells (S.taken out.old) (S.taken out.new) (S.faults out.old) (S.faults out.new) (S.ended out.new) lines result }
 {
-    tell_head(alloc, out, heading, flat, collected)?;
+    tell_head(alloc, out, heading, collected)?;
     tell_stop(alloc, out, heading, reports, start, collected)?;
     tell_undecided(alloc, out, heading, reports, collected)?;
     tell_verdict(alloc, out, heading, flat, reports, collected)

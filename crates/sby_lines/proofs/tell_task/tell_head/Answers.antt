@@ -12,18 +12,14 @@ tell_answers-requires g c =
     let same : c.told_answers-answers.result.now ≡ told_answers c.args.heading.now.mode c.args.collected.now.answers.items = c.told_answers-answers.ensures ∙ ap (told_answers c.args.heading.now.mode) c.deref.ensures.value in
     omega (arith, told_fewer c.args.heading.now.mode c.args.collected.now.answers.items c.told_answers-answers.result.now same, c.requires.few)
 
-pub returns-in_err-tell_design : goal.returns-in_err-tell_design
-returns-in_err-tell_design g c = let p = err_from_is_err_and c.from_residual.result c.from_residual.ensures.1 in
-    rw (p.1, p.2) (λ expect. tells_stopped {T = Unit {0}} _ _ _ _ _ _ _ c.in_err-tell_design.ensures)
-
 pub returns-in_err-tell_skipped : goal.returns-in_err-tell_skipped
-returns-in_err-tell_skipped g c = let p = err_from_is_err_and c.from_residual-in_err-tell_skipped.result c.from_residual-in_err-tell_skipped.ensures.1 in
-    rw (p.1, p.2) (λ expect. tells_then {T = Unit {0}} {U = Unit {0}} _ _ _ _ _ _ _ _ tt _ c.in_ok-tell_design.ensures (tells_stopped {T = Unit {0}} _ _ _ _ _ _ _ (c.in_err-tell_skipped.ensures expect)))
+returns-in_err-tell_skipped g c = let p = err_from_is_err_and c.from_residual.result c.from_residual.ensures.1 in
+    rw (p.1, p.2) (λ expect d jobs. tells_stopped {T = Unit {0}} _ _ _ _ _ _ _ (c.in_err-tell_skipped.ensures expect))
 
 pub returns : goal.returns
-returns g c = λ expect.
+returns g c = λ expect d jobs.
     let same : c.told_answers-answers.result.now ≡ told_answers c.args.heading.now.mode c.args.collected.now.answers.items = c.told_answers-answers.ensures ∙ ap (told_answers c.args.heading.now.mode) c.deref.ensures.value in
     let fits = told_fewer c.args.heading.now.mode c.args.collected.now.answers.items c.told_answers-answers.result.now same in
-    let has = has_jobs c.args.heading.now.mode c.args.heading.now.span c.args.flat.now (length c.told_answers-answers.result.now) (omega (arith, fits, c.requires.jobs)) in
-    rw (← same, ← c.slices.ensures.slices) (tells_then {T = Unit {0}} {U = Unit {0}} _ _ _ _ _ _ _ _ tt _ c.in_ok-tell_design.ensures
-    (tells_then {T = Unit {0}} {U = Unit {0}} _ _ _ _ _ _ _ _ tt _ (c.in_ok-tell_skipped.ensures expect) (c.tell_answers.ensures (jobs_in c.args.heading.now.mode c.args.heading.now.span c.args.flat.now) has)))
+    let has = has_jobs c.args.heading.now.mode c.args.heading.now.span d (length c.told_answers-answers.result.now) (omega (arith, fits, jobs)) in
+    rw (← same, ← c.slices.ensures.slices) (tells_then {T = Unit {0}} {U = Unit {0}} _ _ _ _ _ _ _ _ tt _ (c.in_ok-tell_skipped.ensures expect)
+    (c.tell_answers.ensures (jobs_in c.args.heading.now.mode c.args.heading.now.span d) has))
