@@ -14,7 +14,6 @@ use Rattle.judge.specs.Finding.{FindingOf}
 use Rattle.judge.specs.Jobs.{jobs_in as jobs_of_mode}
 use Rattle.judge.specs.Problem.{IsJobFile}
 use Rattle.race_core.specs.Asking.{name_at}
-use Rattle.race_core.specs.Carrying.{Carries}
 use Rattle.race_core.specs.Consistent.{end_at}
 use Rattle.race_core.specs.Report.{ReportOf}
 use Rattle.race_core.specs.Told.{Decided, told_by}

@@ -15,9 +15,10 @@ use Rattle.sby_terms.specs.Code.{HasCode}
 use Rattle.sby_terms.specs.Span.{slices_of}
 use Rattle.sby_terms.specs.declared.names.Status.{Status}
 use Rattle.sby_terms.specs.declared.names.Status.TheVariants.{Memory}
-use Rattle.sby_lines.specs.Lines.{HasJobLines, HasLines, IsStatus, done_line, early_text, line_if, unput_lines}
+use Rattle.sby_lines.specs.Lines.{HasJobLines, HasLines, IsStatus, design_line, done_line, early_text, line_if, race_lines, settled_lines, skipped_lines, told_answers, unless_decided, unput_lines}
 use Rattle.sby_lines.specs.Telling.{Tells}
-use Rattle.sby_lines.specs.Told.{CameTo, IsRaceStatus, Request}
+use Rattle.sby_lines.specs.Told.{CameTo, IsRaceStatus, Request, jobs_for}
+use Rattle.sby_lines.proofs.TellLemmas.{tells_nothing, tells_stopped, tells_then}
 use Rattle.sby_lines.specs.declared.early.Early.{Early}
 use Rattle.sby_lines.specs.declared.tell.Stop.{Stop}
 use Rattle.sby_lines.specs.declared.tell.Stop.TheVariants.{Memory as MemoryStop, Sink}
@@ -87,6 +88,35 @@ fault_told request early name slices expect before now f g when told decided rc 
 -- a list that has a last has some
 pub some_last : {X : Type 0} (xs : List X) (x : X) → 0 < length (xs ++ x ∷ [])
 some_last xs x = let both = length-append xs (x ∷ []) in omega (arith, both)
+
+-- the design's line was told, and then those after it
+pub after_head : {T U : Type 0} (first mid now : Option (List ℕ)) (f g h : ℕ) (at when : Option ℕ) (request : Request) (c : CameTo) (status : Status) (lines last : List (List ℕ)) (x : T) (told : Result U Stop)
+    → HasJobLines request c status lines → Tells {T = T} first mid f g at (design_line request.name c.design ∷ []) (Ok x)
+    → ((rest : List (List ℕ)) → HasJobLines request c status (design_line request.name c.design ∷ rest) → Tells {T = U} mid now g h when (rest ++ last) told)
+    → Tells {T = U} first now f h when (lines ++ last) told
+after_head {T} {U} first mid now f g h at when request c status lines last x told has head more =
+    subst (λ ls. Tells {T = U} first now f h when (ls ++ last) told) (sym has.all)
+    (tells_then {T = T} {U = U} first mid now f g h (design_line request.name c.design ∷ []) (after has ++ last) x told head (more (after has) (subst (HasJobLines request c status) has.all has)))
+  where
+    after : HasJobLines request c status lines → List (List ℕ)
+    after has = skipped_lines request
+        ++ (settled_lines request.name (slices_of request.span) (jobs_for request c.design) (told_answers request.mode has.answers)
+        ++ (has.stop
+        ++ (unless_decided has.verdict (race_lines request.name (slices_of request.span) (jobs_for request c.design) has.answers c.reports)
+        ++ has.shown)))
+
+-- lines whose first wasn't told, or not whole
+pub head_stopped : {T U : Type 0} (first mid : Option (List ℕ)) (f g : ℕ) (at : Option ℕ) (request : Request) (c : CameTo) (status : Status) (lines last : List (List ℕ)) (e : Stop)
+    → HasJobLines request c status lines → Tells {T = T} first mid f g at (design_line request.name c.design ∷ []) (Err e) → Tells {T = U} first mid f g at (lines ++ last) (Err e)
+head_stopped {T} {U} first mid f g at request c status lines last e has head =
+    subst (λ ls. Tells {T = U} first mid f g at (ls ++ last) (Err e)) (sym has.all) (tells_stopped {T = T} {U = U} first mid f g (design_line request.name c.design ∷ []) _ e head)
+
+-- memory ran out once the design's line was told
+pub head_alone : {T U : Type 0} (first mid : Option (List ℕ)) (f g : ℕ) (at : Option ℕ) (request : Request) (c : CameTo) (status : Status) (lines unput : List (List ℕ)) (line : List ℕ) (x : T)
+    → HasJobLines request c status lines → Tells {T = T} first mid f g at (design_line request.name c.design ∷ []) (Ok x) → Tells {T = U} first mid f g at (lines ++ (unput ++ line ∷ [])) (Err MemoryStop)
+head_alone {T} {U} first mid f g at request c status lines unput line x has head =
+    after_head {T = T} {U = U} first mid mid f g g at at request c status lines (unput ++ line ∷ []) x (Err MemoryStop) has head
+    (λ rest own. tells_nothing {T = U} mid g (rest ++ (unput ++ line ∷ [])) (let one = some_last unput line in let both = length-append rest (unput ++ line ∷ []) in omega (arith, one, both)))
 
 -- lines that end so end with their last one
 pub served_last : (lines unput : List (List ℕ)) (line : List ℕ) → EndIn line (lines ++ (unput ++ line ∷ []))

@@ -1,8 +1,8 @@
 -- Reports have a status.
-use Rattle.std.proofs.Common.{◌≡◌, ℕ, zero, suc, ◌+◌, ◌<◌, List, [], ◌∷◌, ◌++◌, refl, ap, sym, ◌∙◌, subst, inl, inr, ◌⊎◌, length, get_or, arith}
+use Rattle.std.proofs.Common.{◌≡◌, ℕ, zero, suc, ◌<◌, List, [], ◌∷◌, ◌++◌, refl, ap, sym, ◌∙◌, subst, inl, inr, ◌⊎◌, length, get_or, arith}
 use Rattle.std.specs.Prelude.{Contains, Option, Some, None, slice_get}
 use Rattle.std.proofs.lemmas.List.Elements.{Contains-append_cases, Contains-append_left, Contains-append_right, Contains-push, Contains-push_cases}
-use Rattle.std.proofs.lemmas.Option.{get_or_from_slice_get, slice_get-get_or, slice_get_within}
+use Rattle.std.proofs.lemmas.Option.{slice_get_within}
 use Rattle.race_core.specs.Asking.{name_at}
 use Rattle.race_core.specs.Carrying.{Carries}
 use Rattle.race_core.specs.Collect.{AreCollected, CarriedIn, IsAnswer, IsStatus, SettledIn}

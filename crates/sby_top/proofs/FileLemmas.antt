@@ -1,6 +1,6 @@
 -- The files of all jobs stand in the store into which they were put.
-use Rattle.std.proofs.Common.{◌≡◌, ℕ, zero, suc, ◌<◌, ◌^◌, Bool, true, false, List, [], ◌∷◌, refl, sym, ap, subst, ◌∙◌, inl, inr, length, arith}
-use Rattle.std.specs.Prelude.{Option, Some, None, Contains, option_map, slice_get}
+use Rattle.std.proofs.Common.{◌≡◌, ℕ, zero, suc, ◌<◌, Bool, true, false, List, [], ◌∷◌, refl, sym, ap, subst, ◌∙◌, inl, inr, length, arith}
+use Rattle.std.specs.Prelude.{Option, Some, None, Contains, slice_get}
 use Rattle.std.specs.Str.{bytes_eq}
 use Rattle.std.proofs.lemmas.Option.{slice_get_within}
 use Rattle.std.proofs.lemmas.Slice.Eq.{bytes_eq-Decides}
@@ -16,7 +16,7 @@ use Rattle.sby_terms.specs.declared.names.JobName.{JobName}
 use Rattle.sby_terms.specs.declared.names.Mode.{Mode}
 use Rattle.sby_terms.specs.declared.names.Mode.TheVariants.{Bmc, Prove, Cover as CoverMode}
 use Rattle.sby_terms.specs.declared.span.Span.{Span}
-use Rattle.sby_top.specs.Served.{ArePut, jobs_in, slices_in, with_file}
+use Rattle.sby_top.specs.Served.{ArePut, jobs_in, slices_in}
 use Rattle.sby_top.proofs.PathLemmas.{IsNumbered, path_same}
 use Rattle.task_race.specs.Ran.{HasJobFiles, RacingOf}
 use Rattle.task_race.proofs.JobLemmas.{job_named}

@@ -1,9 +1,9 @@
 -- Two lists of plain reports of the same lanes, whose scripts have no gate, give the same status.
-use Rattle.std.proofs.Common.{◌≡◌, ℕ, ◌+◌, ◌<◌, List, refl, ap, sym, ◌∙◌, subst, inl, inr, ◌⊎◌, length, take, get_or, arith}
+use Rattle.std.proofs.Common.{◌≡◌, ℕ, ◌<◌, List, refl, ap, sym, ◌∙◌, subst, inl, inr, length, get_or, arith}
 use Rattle.std.specs.Prelude.{Contains, Option, Some, None, slice_get}
 use Rattle.std.proofs.lemmas.List.{get_or_default}
 use Rattle.std.proofs.lemmas.Option.{slice_get-get_or, slice_get_within}
-use Rattle.sby_edge.specs.Child.{YardOf, up_to}
+use Rattle.sby_edge.specs.Child.{YardOf}
 use Rattle.sby_edge.specs.Script.{ScriptOf}
 use Rattle.cert_judge.specs.Fate.{Fate, Found as FoundFate, Unknown as UnknownFate, Bad as BadFate}
 use Rattle.cert_judge.specs.declared.stream.StreamKind.TheVariants.{Drup}
@@ -14,7 +14,6 @@ use Rattle.design_core.specs.Shape.{DesignOf}
 use Rattle.judge.specs.Finding.{FindingOf}
 use Rattle.judge.specs.Jobs.{jobs_in as jobs_of_mode}
 use Rattle.judge.specs.Problem.{IsJobFile}
-use Rattle.race_core.specs.Asking.{name_at}
 use Rattle.race_core.specs.Carrying.{Carries}
 use Rattle.race_core.specs.Collect.{AreCollected, IsStatus, SettledIn}
 use Rattle.race_core.specs.Consistent.{end_at}
@@ -27,7 +26,6 @@ use Rattle.sby_terms.specs.declared.names.Answer.{Answer}
 use Rattle.sby_terms.specs.declared.names.Answer.TheVariants.{Sat, Unsat}
 use Rattle.sby_terms.specs.declared.names.Event.{Event}
 use Rattle.sby_terms.specs.declared.names.JobName.{JobName}
-use Rattle.sby_terms.specs.declared.names.Mode.{Mode}
 use Rattle.sby_terms.specs.declared.names.Status.{Status}
 use Rattle.sby_terms.specs.declared.names.Status.TheVariants.{Pass, Fail, Unknown as UnknownStatus, Error, Timeout, Memory}
 use Rattle.sby_terms.specs.declared.names.Verdict.{Verdict}

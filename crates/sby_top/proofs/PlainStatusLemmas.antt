@@ -1,8 +1,7 @@
 -- There is one plain status of lanes, and only one.
-use Rattle.std.proofs.Common.{◌≡◌, ℕ, zero, suc, ◌+◌, ◌<◌, List, [], ◌∷◌, refl, ap, sym, ◌∙◌, subst, inl, inr, ◌⊎◌, length, take, get_or, arith}
-use Rattle.std.specs.Prelude.{Bool, true, false, Contains, Option, Some, None, slice_get}
-use Rattle.std.proofs.lemmas.List.{get_or_default}
-use Rattle.std.proofs.lemmas.Option.{slice_get-get_or, slice_get_within}
+use Rattle.std.proofs.Common.{◌≡◌, ℕ, zero, suc, ◌+◌, ◌<◌, List, [], ◌∷◌, refl, ap, sym, subst, inl, inr, length, take, get_or, arith}
+use Rattle.std.specs.Prelude.{true, Option, Some, None, slice_get}
+use Rattle.std.proofs.lemmas.Option.{slice_get-get_or}
 use Rattle.sby_edge.specs.Child.{YardOf, up_to}
 use Rattle.sby_edge.specs.Script.{ScriptOf}
 use Rattle.cert_judge.specs.Fate.{Fate, Found as FoundFate, Unknown as UnknownFate, Bad as BadFate}
@@ -16,8 +15,6 @@ use Rattle.cnf_form.specs.Cnf.{FormulaOf}
 use Rattle.cnf_form.specs.Dimacs.{IsDimacs}
 use Rattle.judge.specs.Finding.{FindingOf}
 use Rattle.judge.specs.Problem.{AskedOf, IsJob, IsJobFile}
-use Rattle.race_core.specs.Asking.{name_at}
-use Rattle.race_core.specs.Consistent.{end_at}
 use Rattle.race_core.specs.Report.{ReportOf}
 use Rattle.race_core.specs.declared.end.JobEnd.{JobEnd}
 use Rattle.race_core.specs.declared.end.JobEnd.TheVariants.{Found, Unknown, NotServed, Bad}
@@ -27,18 +24,16 @@ use Rattle.sby_terms.specs.declared.engine.Engine.{Engine}
 use Rattle.sby_terms.specs.declared.engine.Engine.TheVariants as engine
 use Rattle.sby_terms.specs.declared.names.Answer.{Answer}
 use Rattle.sby_terms.specs.declared.names.JobName.{JobName}
-use Rattle.sby_terms.specs.declared.names.Status.{Status}
-use Rattle.sby_lines.specs.Told.{IsRaceStatus, answer_of, job_of}
 use Rattle.sby_lines.proofs.PlaceLemmas.{job_named}
 use Rattle.lane_run.specs.Complete.{ComesTo}
 use Rattle.task_race.specs.Fates.{Ends, Proves, Tells, most_bytes}
 use Rattle.task_race.specs.Serving.{IsServing}
 use Rattle.task_race.specs.declared.evidence.Evidence.{Evidence}
 use Rattle.task_race.specs.declared.evidence.Evidence.TheVariants.{Output, ProofFile}
-use Rattle.task_race.specs.Ends.{IsJudgedAs, IsProofOf, script_of}
+use Rattle.task_race.specs.Ends.{IsJudgedAs, IsProofOf}
 use Rattle.task_race.specs.Ran.{RacingOf, evidence_in, job_count, name_in}
 use Rattle.sby_top.specs.Complete.{ArePlain, IsPlainEnd, IsPlainReport}
-use Rattle.sby_top.proofs.ExistLemmas.{Known, some_answers, status_exists}
+use Rattle.sby_top.proofs.ExistLemmas.{Known}
 use Rattle.sby_top.proofs.LawLemmas.{OneFile}
 
 -- no stream is without a fate

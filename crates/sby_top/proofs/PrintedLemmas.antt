@@ -1,12 +1,11 @@
 -- From what was printed of a task, and from the exit status, to its status.
 use Rattle.std.proofs.Common.{◌≡◌, ◌≢◌, ◌⊎◌, ◌∙◌, ℕ, suc, ◌+◌, ◌<◌, ◌≤◌, ◌^◌, List, [], ◌∷◌, ◌++◌, inl, inr, refl, sym, ap, subst, append-nil, arith}
-use Rattle.std.specs.Prelude.{Option, Some, None, Contains, bit_or, option_map}
+use Rattle.std.specs.Prelude.{Option, Some, None, Contains, bit_or}
 use Rattle.std.specs.List.{concat}
 use Rattle.std.proofs.lemmas.Bool.{cases_lt}
 use Rattle.std.proofs.lemmas.List.{append_cancel_left}
 use Rattle.std.proofs.lemmas.Nat.{le_or_l, le_or_r}
 use Rattle.std.proofs.lemmas.List.Folds.{concat-append}
-use Rattle.sby_edge.specs.Cause.{Rose}
 use Rattle.judge.specs.Finding.{FindingOf, IsTrueFinding}
 use Rattle.race_core.specs.Collect.{CarriedIn}
 use Rattle.race_core.specs.Report.{ReportOf}
@@ -20,7 +19,7 @@ use Rattle.sby_words.specs.Requests.{AskGen, AskJudge, AskNames, AskTasks, Reque
 use Rattle.sby_words.specs.Words.{IsAsked}
 use Rattle.sby_top.specs.Causes.{IsOutcome}
 use Rattle.sby_top.specs.Claims.{AllExpected, AreExpected, HasTold}
-use Rattle.sby_top.specs.Headline.{AreLines, Code, Cut, EndIn, Exit, HasOwnStatus, IsPrinted, TaskRan, WasStopped}
+use Rattle.sby_top.specs.Headline.{AreLines, Code, Cut, Exit, HasOwnStatus, IsPrinted, TaskRan, WasStopped}
 use Rattle.sby_top.specs.Promise.{ZeroIsExpected}
 use Rattle.sby_top.specs.Run.{Did, Had, TurnRan, TurnsDone, rc_of_exit}
 use Rattle.sby_top.specs.Task.{TaskOf, problem_of}

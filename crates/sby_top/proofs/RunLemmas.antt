@@ -10,7 +10,6 @@ use Rattle.sby_terms.specs.declared.names.Status.TheVariants.{Memory}
 use Rattle.sby_lines.specs.Lines.{HasLines, IsStatus}
 use Rattle.sby_lines.specs.Told.{CameTo}
 use Rattle.sby_lines.specs.declared.early.Early.{Early}
-use Rattle.sby_lines.specs.declared.early.Early.TheVariants.{Memory as MemoryEarly}
 use Rattle.sby_top.specs.Causes.{AreTracesPut, HasReason, IsDone, IsSpared}
 use Rattle.sby_top.specs.End.{IsEnd, IsFaultTold}
 use Rattle.sby_top.specs.Headline.{AreLines, Exit, Code, Cut, HasOwnStatus, IsLater, IsPrinted, NamesEvent, TaskRan, WasStopped}
@@ -63,7 +62,7 @@ own_or task end early is (inr memory) = inr memory
 
 pub fault_named : (may_read : ℕ → Type 0) (number : ℕ) (moments : Moments) (task : TaskOf) (end : TaskEnd) (early : Early) (told now : Option (List ℕ)) (f g : ℕ) (when : Option ℕ) (exit : Exit) → IsEnd task.request.name (Some early) [] [] None end → end.unput.items ≡ []
     → IsFaultTold task.request early told now f g when end.status exit → HasReason task moments.got moments.put early → files_of moments.after ≡ files_of moments.before
-    → IsSpared may_read task moments.got.told (race_of number moments.before moments.after None) early → NamesEvent may_read number moments task end
+    → IsSpared moments.before.yard moments.after.yard early → NamesEvent may_read number moments task end
 fault_named may_read number moments task end early told now f g when exit is unput was reason files spared = record {
   name = is.name_is;
   status = own_or task end early is.early_is was.own;

@@ -1,5 +1,5 @@
 -- What came of a task's files.
-use Rattle.std.proofs.Common.{◌≡◌, ◌⊎◌, ℕ, ◌≤◌, List, refl, ap, sym, ◌∙◌, subst, inl, inr, length, take, arith}
+use Rattle.std.proofs.Common.{◌≡◌, ℕ, ◌≤◌, List, refl, ap, sym, ◌∙◌, subst, inl, inr, length, take, arith}
 use Rattle.std.specs.Prelude.{Option, Some, None, Contains, map, option_map, slice_get, string_bytes}
 use Rattle.std.specs.Borrow.{Bor}
 use Rattle.std.specs.Slice.{IsItemAt}
@@ -7,20 +7,16 @@ use Rattle.std.proofs.lemmas.Option.{slice_get-get_or, slice_get-map, slice_get_
 use Rattle.design_core.proofs.Lists.{Contains-from_place}
 use Rattle.std.proofs.lemmas.List.{take_all}
 use Rattle.sby_edge.specs.Files.{Store}
-use Rattle.judge.specs.Finding.{FindingOf}
 use Rattle.judge.specs.Problem.{AskedOf, IsProblem}
-use Rattle.race_core.specs.Report.{ReportOf}
-use Rattle.task_race.specs.Bays.{NoneStarted}
 use Rattle.sby_terms.specs.declared.names.JobName.{JobName}
 use Rattle.sby_terms.specs.Path.{job_path}
 use Rattle.sby_lines.specs.declared.early.Early.{Early}
 use Rattle.sby_lines.specs.declared.early.Early.TheVariants.{File, Sby, Task, Read, Design, TooMany, Streams, Memory}
-use Rattle.sby_top.specs.Causes.{HasReason, IsHalted, IsSpared}
-use Rattle.sby_top.specs.Judged.{AreReports}
+use Rattle.sby_top.specs.Causes.{HasReason, IsHalted}
 use Rattle.sby_top.specs.Steps.{files_at, IsCutShort, IsFailedCall, IsPutFailed, IsRefusal, IsTextFailed}
 use Rattle.sby_top.specs.Served.{ArePut, IsAccepted, IsServed, IsTextOf, jobs_in, slices_in}
-use Rattle.sby_top.specs.Task.{Lanes, Service, Stored, Streams as StoredStreams, TaskOf, problem_of, streams_in}
-use Rattle.sby_top.specs.World.{FilesOf, IsFailedAt, RaceOf}
+use Rattle.sby_top.specs.Task.{Stored, TaskOf, problem_of, streams_in}
+use Rattle.sby_top.specs.World.{FilesOf, IsFailedAt}
 
 -- ---- what is got
 
@@ -158,14 +154,3 @@ short_since task p t0 t1 ta f0 f1 fa b0 b1 ba early served told faults blamed sh
 -- the files of all jobs were put, since then
 pub all_since : (task : TaskOf) (p : AskedOf) (t0 t1 ta : Option Store) → t1 ≡ t0 → ArePut p task.request.name (jobs_in p) t1 ta → ArePut p task.request.name (jobs_in p) t0 ta
 all_since task p t0 t1 ta told put = subst (λ t. ArePut p task.request.name (jobs_in p) t ta) told put
-
--- memory ran out after what served the jobs
-pub raced_first : (may_read : ℕ → Type 0) (task : TaskOf) (p : AskedOf) (told now : Option Store) (race : RaceOf) (reports : List (ReportOf FindingOf)) → IsServed told task p → (service : Service) → task.service ≡ service
-    → AreReports service may_read task p now race reports → IsSpared may_read task told (record race { start = None }) Memory
-raced_first may_read task p told now race reports served (StoredStreams paths) is are = inl are.2
-raced_first may_read task p told now race reports served (Lanes engines) is are = inr (refl, inr (p, engines, race.start, reports, served, is, are))
-
--- memory ran out before any child was started
-pub spared_lanes : (may_read : ℕ → Type 0) (task : TaskOf) (told : Option Store) (race : RaceOf) (early : Early) → (race.after ≡ race.before) ⊎ ((early ≡ Memory) × NoneStarted race.before race.after) → IsSpared may_read task told race early
-spared_lanes may_read task told race early (inl same) = inl same
-spared_lanes may_read task told race early (inr memory) = inr (memory.0, inl memory.1)

@@ -1,5 +1,5 @@
 -- A valid certificate of a child settles its job, in every mode.
-use Rattle.std.proofs.Common.{◌≡◌, ℕ, zero, suc, ◌+◌, ◌<◌, List, [], ◌∷◌, refl, ap, sym, ◌∙◌, subst, inl, inr, ◌⊎◌, length, take, arith}
+use Rattle.std.proofs.Common.{◌≡◌, ℕ, zero, suc, ◌+◌, ◌<◌, List, [], ◌∷◌, refl, ap, sym, subst, inl, inr, ◌⊎◌, length, take, arith}
 use Rattle.std.specs.Prelude.{Contains, None, Option, Some, slice_get}
 use Rattle.std.proofs.lemmas.List.{get_or_default}
 use Rattle.sby_edge.specs.Child.{up_to}
@@ -14,7 +14,7 @@ use Rattle.race_core.specs.Collect.{SettledIn}
 use Rattle.race_core.specs.Consistent.{end_at}
 use Rattle.race_core.specs.Report.{ReportOf}
 use Rattle.race_core.specs.Told.{told_by}
-use Rattle.sby_terms.specs.declared.names.Event.TheVariants.{Fault as FaultEvent, Memory as MemoryEvent, Stopped as StoppedEvent}
+use Rattle.sby_terms.specs.declared.names.Event.TheVariants.{Fault as FaultEvent, Memory as MemoryEvent}
 use Rattle.race_core.specs.declared.end.JobEnd.{JobEnd}
 use Rattle.race_core.specs.declared.end.JobEnd.TheVariants.{Found, Unknown as UnknownEnd, NotServed, Bad, ReadFailed, StartFailed, HoldFailed, Skipped, CalledOff, Stopped, Memory as MemoryEnd}
 use Rattle.sby_edge.specs.Cause.{CountsOf}

@@ -1,8 +1,7 @@
 -- Files change by jobs' files and trace files alone.
-use Rattle.std.proofs.Common.{◌≡◌, List, [], ◌∷◌, ℕ, refl, ap, sym, subst, inl, inr, length, take, arith}
+use Rattle.std.proofs.Common.{◌≡◌, List, [], ◌∷◌, ℕ, ap, sym, subst, inl, inr, length, take, arith}
 use Rattle.std.specs.Prelude.{Option, Some, None}
 use Rattle.std.proofs.lemmas.List.{take_all}
-use Rattle.sby_edge.specs.Files.{Store}
 use Rattle.design_core.specs.Shape.{DesignOf}
 use Rattle.judge.specs.Finding.{FindingOf}
 use Rattle.race_core.specs.Report.{ReportOf}

@@ -5,16 +5,14 @@ use Rattle.judge.specs.Finding.{FindingOf}
 use Rattle.judge.specs.Problem.{AskedOf}
 use Rattle.judge.specs.declared.problem.ProblemFault.TheVariants.{Read as ReadFault, Design as DesignFault, TooMany as TooManyFault}
 use Rattle.race_core.specs.Report.{ReportOf}
-use Rattle.sby_terms.specs.declared.engine.Engine.{Engine}
 use Rattle.sby_terms.specs.declared.names.JobName.{JobName}
 use Rattle.sby_terms.specs.Path.{job_path}
 use Rattle.sby_lines.specs.declared.early.Early.{Early}
 use Rattle.sby_lines.specs.declared.early.Early.TheVariants.{File, Sby, Task, Read, Design, TooMany, Streams, Memory}
-use Rattle.sby_top.specs.Judged.{AreReports, racing_of}
+use Rattle.sby_top.specs.Judged.{AreReports}
 use Rattle.sby_top.specs.Served.{ArePut, IsAccepted, IsRefused, IsServed, jobs_in, slices_in}
-use Rattle.sby_top.specs.Task.{Lanes, Stored, TaskOf, streams_in}
-use Rattle.task_race.specs.Bays.{NoneStarted}
-use Rattle.task_race.specs.Ran.{LanesRan}
+use Rattle.sby_top.specs.Task.{Stored, TaskOf, streams_in}
+use Rattle.task_race.specs.Bays.{NoneStarted, YardAt}
 use Rattle.sby_top.specs.Traces.{ArePutTraces, AreTraces, TraceOf}
 use Rattle.sby_top.specs.World.{FilesOf, IsFailedAt, Moments, RaceOf, files_of}
 
@@ -65,24 +63,18 @@ pub record AreTracesPut (task : TaskOf) (before after : FilesOf) (problem : Aske
   pub put : ArePutTraces task.request problem.design (take count traces) before after unput
   pub whole : stopped ⊎ (AreTraces task.request (record { design = problem.design; reports = reports; start = None }) traces × (take count traces ≡ traces))
 
--- the task's lanes were raced
-abbrev pub WereRaced : (ℕ → Type 0) → TaskOf → Option Store → RaceOf → Type 0
-WereRaced may_read task told race =
-    (p : AskedOf) × (engines : List Engine) × (start : Option ℕ) × (reports : List (ReportOf FindingOf)) × IsServed told task p × (task.service ≡ Lanes engines)
-    × LanesRan (racing_of task p race.task engines) may_read race.before race.after start reports
+-- the yard is as it was; or memory ran out, and none of the task's children was started
+abbrev pub IsSpared : YardAt → YardAt → Early → Type 0
+IsSpared before after early = (after ≡ before) ⊎ ((early ≡ Memory) × NoneStarted before after)
 
--- The yard is as it was; or memory ran out, and none of the task's children was started, or its lanes were raced.
-abbrev pub IsSpared : (ℕ → Type 0) → TaskOf → Option Store → RaceOf → Early → Type 0
-IsSpared may_read task told race early = (race.after ≡ race.before) ⊎ ((early ≡ Memory) × (NoneStarted race.before race.after ⊎ WereRaced may_read task told race))
-
--- no lane has a reading at which it started, and no child was started but in lanes that were raced
-abbrev pub AreSpared : (ℕ → Type 0) → TaskOf → Option Store → RaceOf → Early → Type 0
-AreSpared may_read task told race early = (race.start ≡ None) × IsSpared may_read task told race early
+-- no lane has a reading at which it started, and no child was started
+abbrev pub AreSpared : RaceOf → Early → Type 0
+AreSpared race early = (race.start ≡ None) × IsSpared race.before race.after early
 
 -- A task ended before its lanes, for a reason, and no trace file was put; or it was done, and its trace files were put, all of them unless
 -- this was stopped: because memory ran out, or by a failed call of the sink.
 abbrev pub IsOutcome : (ℕ → Type 0) → TaskOf → Moments → RaceOf → Option Early → List ℕ → List (ReportOf FindingOf) → List ℕ → Type 0 → Type 0
 IsOutcome may_read task m race (Some early) text reports unput stopped =
-    (text ≡ []) × (reports ≡ []) × (unput ≡ []) × HasReason task m.got m.put early × (files_of m.after ≡ files_of m.before) × AreSpared may_read task m.got.told race early
+    (text ≡ []) × (reports ≡ []) × (unput ≡ []) × HasReason task m.got m.put early × (files_of m.after ≡ files_of m.before) × AreSpared race early
 IsOutcome may_read task m race None text reports unput stopped =
     (done : IsDone may_read task m.got m.put race text reports) × AreTracesPut task (files_of m.before) (files_of m.after) done.problem reports unput stopped

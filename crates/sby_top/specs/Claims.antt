@@ -40,7 +40,7 @@ use Rattle.sby_lines.specs.declared.early.Early.{Early}
 use Rattle.sby_words.specs.Requests.{AskNames, Request as Asked}
 use Rattle.sby_words.specs.Words.{IsAsked}
 use Rattle.sby_top.specs.Causes.{AreTracesPut, HasReason, IsDone, IsOutcome}
-use Rattle.sby_top.specs.Headline.{AreLines, ArePrintedOf, Exit, Code, IsCarried, IsReachPrinted, WasStopped}
+use Rattle.sby_top.specs.Headline.{AreLines, ArePrintedOf, Exit, IsCarried, IsReachPrinted, WasStopped}
 use Rattle.sby_top.specs.Run.{Had, OneByOne, SameSink, TurnRan, rc_of_exit}
 use Rattle.sby_top.specs.Served.{ArePut, IsServed, IsTextOf, jobs_in, most_stream}
 use Rattle.sby_top.specs.Judged.{racing_of}

@@ -16,3 +16,4 @@ pub mod Ending
 pub mod Claims
 pub mod Promise
 pub mod Complete
+pub mod Ready

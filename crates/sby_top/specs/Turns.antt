@@ -1,5 +1,5 @@
 -- The tasks that words ask, each in its turn.
-use Rattle.std.specs.Prelude.{◌≡◌, ◌⊎◌, ℕ, ◌*◌, ◌≤◌, false, List, [], ◌∷◌, ◌++◌, map, Option, Some, None, option_map, Result, Ok, Err, string_bytes, Contains}
+use Rattle.std.specs.Prelude.{◌≡◌, ◌⊎◌, ℕ, ◌*◌, ◌≤◌, false, List, [], ◌∷◌, map, Option, Some, None, option_map, Result, Ok, Err, string_bytes, Contains}
 use Rattle.sby_file.specs.Config.{ConfigOf}
 use Rattle.sby_task.specs.Expand.{expansion}
 use Rattle.sby_file.specs.Faults.{faults_of, first}

@@ -28,15 +28,15 @@ files_of w = record { told = w.told; faults = w.file_faults; blamed = w.blamed }
 abbrev pub with_files : World → FilesOf → World
 with_files w files = record w { told = files.told; file_faults = files.faults; blamed = files.blamed }
 
--- The four moments of a task: the files when its preparing began, and when that was over; the outside when its race began, and when its
--- lines had been printed.
+-- The four moments of a task: the files when its preparing began, and when that was over; the outside when its design was told, before its
+-- race, and when its lines had been printed.
 pub record Moments : Type 0 where
   pub got : FilesOf
   pub put : FilesOf
   pub before : World
   pub after : World
 
--- the moments of a task that is prepared, raced and shown in one go (that the files are there before the race is asked by `race_task`)
+-- the moments of a task that is prepared, raced and shown in one go (that the files are there before the race is asked by `run_race`)
 abbrev pub at_once : World → FilesOf → World → Moments
 at_once start put finish = record { got = files_of start; put = put; before = with_files start put; after = finish }
 

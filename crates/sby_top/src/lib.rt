@@ -2,6 +2,7 @@
 #![tactic(auto)]
 
 mod claims;
+mod host;
 mod judge_stream;
 mod laws;
 mod outcome;

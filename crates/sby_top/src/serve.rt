@@ -3,8 +3,9 @@
 ghost use Rattle.std.specs.Prelude.{◌≡◌, ◌⊎◌, ◌<◌, ◌≤◌, [], ℕ, List, None, Some, IfErr, IfOk, OnErr, OnOk, Contains, length, map, option_map, slice_get, string_bytes};
 ghost use Rattle.judge.specs.Problem.{IsJob, IsJobFile, IsProblem};
 ghost use Rattle.sby_terms.specs.declared.names.JobName.{JobName};
-ghost use Rattle.sby_top.specs.Causes.{HasReason, IsDone, IsSpared};
+ghost use Rattle.sby_top.specs.Causes.{HasReason, IsSpared};
 ghost use Rattle.sby_top.specs.Judged.{AreJudged, AreReports, AreStreamReports, racing_of};
+ghost use Rattle.sby_top.specs.Ready.{IsReady, IsServing, back_by, report_count};
 ghost use Rattle.sby_lines.specs.declared.early.Early.TheVariants.{Memory as EarlyMemory};
 ghost use Rattle.sby_top.specs.Steps.{files_at, got_items, IsCutShort, IsFailedCall, IsPathJudged, IsPutFailed, IsRefusal, IsTextFailed};
 ghost use Rattle.sby_top.specs.Served.{ArePut, IsGot, IsServed, IsTextOf, jobs_in, slices_in};
@@ -14,23 +15,43 @@ ghost use Rattle.judge.specs.Fault.{IsProblemFault};
 ghost use Rattle.sby_terms.specs.Problem.{ProblemOf};
 ghost use Rattle.sby_terms.specs.Path.{job_path};
 ghost use Rattle.sby_lines.specs.Told.{AreLimited, AreReported, IsCollected};
+ghost use Rattle.sby_top.specs.World.{files_of, race_of};
 ghost use Rattle.sby_top.specs.Task.{IsAskable, problem_of, design_seen, service_seen, streams_in, task_seen};
-ghost use Rattle.task_race.specs.Bays.{AreLater, NoneStarted, counts_at, yard_at};
-ghost use Rattle.task_race.specs.Ran.{LanesRan};
+ghost use Rattle.sby_terms.specs.declared.engine.Engine.{Engine as EngineOf};
+ghost use Rattle.sby_edge.specs.Files.{Store};
+ghost use Rattle.task_race.specs.Bays.{AreLater};
+ghost use Rattle.task_race.specs.Ran.{HasJobFiles, racing_seen};
+ghost use Rattle.sby_top.specs.Task.{Lanes};
 
+use crate::host::{Host, Outside};
 use crate::judge_stream::judge_stored;
 use crate::task::{DesignAt, Service, Task};
 use judge::{Finding, Problem, ProblemFault, one_file};
-use race_core::{JobEnd, Report};
-use sby_edge::{Clock, Fail, Files, Got, Yard};
+use race_core::{JobEnd, Report, Room};
+use sby_edge::{Clock, Fail, Files, Got, Sink, Yard};
 use sby_lines::{Collected, Early};
 use sby_terms::{Engine, JobName, job_path};
 use std::alloc::Global;
 use std::sync::Wait;
 use std::thread::Threads;
-use task_race::{Racing, RanLanes, race_task};
+use task_race::{PreparedRace, Racing, RanLanes, finish_race, prepare_race, run_race};
 
 const MOST_DESIGN: u64 = 1 << 26;
+
+/// What serves the jobs of a task that is ready for its race.
+pub enum Serving<'t, L> {
+    /// Stored streams, which were judged: their report.
+    Judged(Vec<Report<Finding>>),
+    /// Lanes of these engines, for which all memory is taken.
+    Lanes(&'t [Engine], PreparedRace<L>),
+}
+
+/// A task whose design was accepted and whose jobs' files were put, with room for what its reports come to.
+pub struct Ready<'t, L> {
+    pub problem: Problem,
+    pub room: Room,
+    pub serving: Serving<'t, L>,
+}
 
 /// A task whose design was accepted: its problem, what its lanes report, and what the reports come to.
 #[derive(Drop)]
@@ -324,150 +345,198 @@ fn judge_streams<F: Files>(
     Ok(reports)
 }
 
-// Puts the jobs' files, then races the lanes of these engines.
-fn race_jobs<R: Threads + Wait + Sync, F: Files, Y: Yard, C: Clock>(
-    rt: &R,
-    alloc: Global,
-    files: &mut F,
-    yard: &mut Y,
-    clock: &C,
-    problem: &Problem,
-    task: &Task,
-    engines: &[Engine],
+// What is raced of a task: the jobs of its problem, by these engines.
+fn racing<'a>(
+    problem: &'a Problem,
+    task: &'a Task,
+    engines: &'a [Engine],
     number: u32,
-) -> Result<RanLanes, Early>
-    ensures put { OnOk result (ArePut problem.now (task_seen task.now).request.name (jobs_in problem.now) (F.told files.old) (F.told files.new)) }
-    ensures ok { IfOk result (λ ran. LanesRan (racing_of (task_seen task.now) problem.now number engines.now) (C.may_read clock.now)
-        (yard_at (Y.told yard.old) (Y.started yard.old) (counts_at (Y.start_faults yard.old) (Y.read_faults yard.old) (Y.hold_faults yard.old)))
-        (yard_at (Y.told yard.new) (Y.started yard.new) (counts_at (Y.start_faults yard.new) (Y.read_faults yard.new) (Y.hold_faults yard.new))) ran.start ran.reports.items) }
-    ensures err { IfErr result (IsCutShort problem.now (task_seen task.now).request.name [] (files_at (F.told files.old) (F.faults files.old) (F.blamed files.old)) (files_at (F.told files.new) (F.faults files.new) (F.blamed files.new))) }
-    ensures spared { IfErr result (λ early. (yard_at (Y.told yard.new) (Y.started yard.new) (counts_at (Y.start_faults yard.new) (Y.read_faults yard.new) (Y.hold_faults yard.new))
-        ≡ yard_at (Y.told yard.old) (Y.started yard.old) (counts_at (Y.start_faults yard.old) (Y.read_faults yard.old) (Y.hold_faults yard.old)))
-        ⊎ ((early ≡ EarlyMemory) × NoneStarted (yard_at (Y.told yard.old) (Y.started yard.old) (counts_at (Y.start_faults yard.old) (Y.read_faults yard.old) (Y.hold_faults yard.old))) (yard_at (Y.told yard.new) (Y.started yard.new) (counts_at (Y.start_faults yard.new) (Y.read_faults yard.new) (Y.hold_faults yard.new))))) }
-    ensures still { OnOk result (F.faults files.new ≡ F.faults files.old) }
-    ensures blamed { OnOk result (F.blamed files.new ≡ F.blamed files.old) }
-    ensures later { F.faults files.old ≤ F.faults files.new }
-    ensures scripts { Y.told yard.new ≡ Y.told yard.old }
-    ensures children { AreLater (counts_at (Y.start_faults yard.old) (Y.read_faults yard.old) (Y.hold_faults yard.old)) (counts_at (Y.start_faults yard.new) (Y.read_faults yard.new) (Y.hold_faults yard.new)) }
+) -> Racing<'a>
+    ensures { racing_seen result ≡ racing_of (task_seen task.now) problem.now number engines.now }
 {
-    // A job has one file, and the problem is one.
-    one_file();
-    let _ = problem.flat();
-    let name = task.name.as_str();
-    put_jobs(alloc, files, problem, name)?;
-    let racing = Racing {
+    Racing {
         problem,
         engines,
-        folder: name,
+        folder: task.name.as_str(),
         task: number,
         wait: task.wait,
         limit: task.limit,
-    };
-    match race_task(rt, alloc, files, yard, clock, &racing) {
-        Ok(ran) => Ok(ran),
-        Err(_) => Err(Early::Memory),
     }
 }
 
-// Serves the jobs of an accepted design, by what serves them.
-fn serve_jobs<R: Threads + Wait + Sync, F: Files, Y: Yard, C: Clock>(
-    rt: &R,
-    alloc: Global,
-    files: &mut F,
-    yard: &mut Y,
-    clock: &C,
-    problem: &Problem,
-    task: &Task,
-    number: u32,
-) -> Result<RanLanes, Early>
-    ensures put { OnOk result (ArePut problem.now (task_seen task.now).request.name (jobs_in problem.now) (F.told files.old) (F.told files.new)) }
-    ensures ok { IfOk result (λ ran. AreReports (service_seen task.now.service) (C.may_read clock.now) (task_seen task.now) problem.now (F.told files.new)
-        (record {
-          task = number;
-          before = yard_at (Y.told yard.old) (Y.started yard.old) (counts_at (Y.start_faults yard.old) (Y.read_faults yard.old) (Y.hold_faults yard.old));
-          after = yard_at (Y.told yard.new) (Y.started yard.new) (counts_at (Y.start_faults yard.new) (Y.read_faults yard.new) (Y.hold_faults yard.new));
-          start = ran.start;
-        }) ran.reports.items) }
-    ensures err { IfErr result (IsCutShort problem.now (task_seen task.now).request.name (streams_in (service_seen task.now.service)) (files_at (F.told files.old) (F.faults files.old) (F.blamed files.old)) (files_at (F.told files.new) (F.faults files.new) (F.blamed files.new))) }
-    ensures spared { IfErr result (λ early. (yard_at (Y.told yard.new) (Y.started yard.new) (counts_at (Y.start_faults yard.new) (Y.read_faults yard.new) (Y.hold_faults yard.new))
-        ≡ yard_at (Y.told yard.old) (Y.started yard.old) (counts_at (Y.start_faults yard.old) (Y.read_faults yard.old) (Y.hold_faults yard.old)))
-        ⊎ ((early ≡ EarlyMemory) × NoneStarted (yard_at (Y.told yard.old) (Y.started yard.old) (counts_at (Y.start_faults yard.old) (Y.read_faults yard.old) (Y.hold_faults yard.old))) (yard_at (Y.told yard.new) (Y.started yard.new) (counts_at (Y.start_faults yard.new) (Y.read_faults yard.new) (Y.hold_faults yard.new))))) }
-    ensures still { OnOk result (F.faults files.new ≡ F.faults files.old) }
-    ensures blamed { OnOk result (F.blamed files.new ≡ F.blamed files.old) }
-    ensures later { F.faults files.old ≤ F.faults files.new }
-    ensures scripts { Y.told yard.new ≡ Y.told yard.old }
-    ensures children { AreLater (counts_at (Y.start_faults yard.old) (Y.read_faults yard.old) (Y.hold_faults yard.old)) (counts_at (Y.start_faults yard.new) (Y.read_faults yard.new) (Y.hold_faults yard.new)) }
+// How many reports there will be.
+fn report_count(service: &Service) -> usize
+    ensures { result ≡ report_count (service_seen service.now) }
 {
-    match &task.service {
-        Service::Streams(paths) => {
-            let reports = judge_streams(alloc, files, problem, task.name.as_str(), paths)?;
-            Ok(RanLanes {
+    match service {
+        Service::Streams(_) => 1,
+        Service::Lanes(engines) => engines.len(),
+    }
+}
+
+impl<R: Threads + Wait + Sync, F: Files, S: Sink, Y: Yard, C: Clock> Host<'_, R, F, S, Y, C> {
+    // Puts the jobs' files, then takes all that the race of these engines needs.
+    fn prepare_lanes<'t>(
+        &mut self,
+        problem: &Problem,
+        task: &Task,
+        engines: &'t [Engine],
+        number: u32,
+    ) -> Result<Serving<'t, Y::Bay>, Early>
+        ensures put { OnOk result (ArePut problem.now (task_seen task.now).request.name (jobs_in problem.now) (⟦<Self as Outside>⟧.world self.old).told (⟦<Self as Outside>⟧.world self.new).told) }
+        ensures serving { IfOk result (λ s. (task_seen task.now).service ≡ Lanes engines.now → IsServing (back_by Y.Bay.told Y.Bay.start_faults Y.Bay.read_faults Y.Bay.hold_faults)
+            (task_seen task.now) problem.now number (⟦<Self as Outside>⟧.world self.new).told (⟦<Self as Outside>⟧.world self.old).yard.scripts s) }
+        ensures yard { OnOk result ((⟦<Self as Outside>⟧.world self.new).yard ≡ (⟦<Self as Outside>⟧.world self.old).yard) }
+        ensures err { IfErr result (IsCutShort problem.now (task_seen task.now).request.name [] (files_of (⟦<Self as Outside>⟧.world self.old)) (files_of (⟦<Self as Outside>⟧.world self.new))) }
+        ensures spared { IfErr result (IsSpared (⟦<Self as Outside>⟧.world self.old).yard (⟦<Self as Outside>⟧.world self.new).yard) }
+        ensures still { OnOk result ((⟦<Self as Outside>⟧.world self.new).file_faults ≡ (⟦<Self as Outside>⟧.world self.old).file_faults) }
+        ensures blamed { OnOk result ((⟦<Self as Outside>⟧.world self.new).blamed ≡ (⟦<Self as Outside>⟧.world self.old).blamed) }
+        ensures later { (⟦<Self as Outside>⟧.world self.old).file_faults ≤ (⟦<Self as Outside>⟧.world self.new).file_faults }
+        ensures scripts { (⟦<Self as Outside>⟧.world self.new).yard.scripts ≡ (⟦<Self as Outside>⟧.world self.old).yard.scripts }
+        ensures children { AreLater (⟦<Self as Outside>⟧.world self.old).yard.counts (⟦<Self as Outside>⟧.world self.new).yard.counts }
+        ensures out { self.new.out.now ≡ self.old.out.now }
+        ensures keeps { ⟦<Self as Outside>⟧.keeps self.old self.new }
+    {
+        put_jobs(self.alloc, self.files, problem, task.name.as_str())?;
+        let racing = racing(problem, task, engines, number);
+        match prepare_race(self.alloc, self.yard, &racing) {
+            Ok(prepared) => Ok(Serving::Lanes(engines, prepared)),
+            Err(_) => Err(Early::Memory),
+        }
+    }
+
+    // Puts the jobs' files of an accepted design, and judges the stored streams, or takes all that the race needs.
+    fn prepare_jobs<'t>(
+        &mut self,
+        problem: &Problem,
+        task: &'t Task,
+        number: u32,
+    ) -> Result<Serving<'t, Y::Bay>, Early>
+        ensures put { OnOk result (ArePut problem.now (task_seen task.now).request.name (jobs_in problem.now) (⟦<Self as Outside>⟧.world self.old).told (⟦<Self as Outside>⟧.world self.new).told) }
+        ensures serving { IfOk result (IsServing (back_by Y.Bay.told Y.Bay.start_faults Y.Bay.read_faults Y.Bay.hold_faults)
+            (task_seen task.now) problem.now number (⟦<Self as Outside>⟧.world self.new).told (⟦<Self as Outside>⟧.world self.old).yard.scripts) }
+        ensures yard { OnOk result ((⟦<Self as Outside>⟧.world self.new).yard ≡ (⟦<Self as Outside>⟧.world self.old).yard) }
+        ensures err { IfErr result (IsCutShort problem.now (task_seen task.now).request.name (streams_in (service_seen task.now.service)) (files_of (⟦<Self as Outside>⟧.world self.old)) (files_of (⟦<Self as Outside>⟧.world self.new))) }
+        ensures spared { IfErr result (IsSpared (⟦<Self as Outside>⟧.world self.old).yard (⟦<Self as Outside>⟧.world self.new).yard) }
+        ensures still { OnOk result ((⟦<Self as Outside>⟧.world self.new).file_faults ≡ (⟦<Self as Outside>⟧.world self.old).file_faults) }
+        ensures blamed { OnOk result ((⟦<Self as Outside>⟧.world self.new).blamed ≡ (⟦<Self as Outside>⟧.world self.old).blamed) }
+        ensures later { (⟦<Self as Outside>⟧.world self.old).file_faults ≤ (⟦<Self as Outside>⟧.world self.new).file_faults }
+        ensures scripts { (⟦<Self as Outside>⟧.world self.new).yard.scripts ≡ (⟦<Self as Outside>⟧.world self.old).yard.scripts }
+        ensures children { AreLater (⟦<Self as Outside>⟧.world self.old).yard.counts (⟦<Self as Outside>⟧.world self.new).yard.counts }
+        ensures out { self.new.out.now ≡ self.old.out.now }
+        ensures keeps { ⟦<Self as Outside>⟧.keeps self.old self.new }
+    {
+        match &task.service {
+            Service::Streams(paths) => {
+                let reports = judge_streams(
+                    self.alloc,
+                    self.files,
+                    problem,
+                    task.name.as_str(),
+                    paths,
+                )?;
+                Ok(Serving::Judged(reports))
+            }
+            Service::Lanes(engines) => self.prepare_lanes(problem, task, engines, number),
+        }
+    }
+
+    /// Gets the design, puts the jobs' files, and judges the stored streams, or takes all that the race needs: after this memory runs out
+    /// for none of the reports.
+    pub fn prepare<'t>(&mut self, number: u32, task: &'t Task) -> Result<Ready<'t, Y::Bay>, Early>
+        requires { IsAskable (task_seen task.now) }
+        ensures served { IfOk result (λ r. IsServed (⟦<Self as Outside>⟧.world self.old).told (task_seen task.now) r.problem) }
+        ensures put { IfOk result (λ r. ArePut r.problem (task_seen task.now).request.name (jobs_in r.problem) (⟦<Self as Outside>⟧.world self.old).told (⟦<Self as Outside>⟧.world self.new).told) }
+        ensures ready { IfOk result (IsReady (back_by Y.Bay.told Y.Bay.start_faults Y.Bay.read_faults Y.Bay.hold_faults)
+            (task_seen task.now) number (⟦<Self as Outside>⟧.world self.new).told (⟦<Self as Outside>⟧.world self.old).yard.scripts) }
+        ensures yard { OnOk result ((⟦<Self as Outside>⟧.world self.new).yard ≡ (⟦<Self as Outside>⟧.world self.old).yard) }
+        ensures err { IfErr result (HasReason (task_seen task.now) (files_of (⟦<Self as Outside>⟧.world self.old)) (files_of (⟦<Self as Outside>⟧.world self.new))) }
+        ensures spared { IfErr result (IsSpared (⟦<Self as Outside>⟧.world self.old).yard (⟦<Self as Outside>⟧.world self.new).yard) }
+        ensures still { OnOk result ((⟦<Self as Outside>⟧.world self.new).file_faults ≡ (⟦<Self as Outside>⟧.world self.old).file_faults) }
+        ensures blamed { OnOk result ((⟦<Self as Outside>⟧.world self.new).blamed ≡ (⟦<Self as Outside>⟧.world self.old).blamed) }
+        ensures later { (⟦<Self as Outside>⟧.world self.old).file_faults ≤ (⟦<Self as Outside>⟧.world self.new).file_faults }
+        ensures scripts { (⟦<Self as Outside>⟧.world self.new).yard.scripts ≡ (⟦<Self as Outside>⟧.world self.old).yard.scripts }
+        ensures children { AreLater (⟦<Self as Outside>⟧.world self.old).yard.counts (⟦<Self as Outside>⟧.world self.new).yard.counts }
+        ensures out { self.new.out.now ≡ self.old.out.now }
+        ensures keeps { ⟦<Self as Outside>⟧.keeps self.old self.new }
+    {
+        // A job has one file, and the problem is one.
+        one_file();
+        let problem = accept(self.alloc, self.files, task)?;
+        let Ok(room) = Room::new(self.alloc, job_count(&problem), report_count(&task.service))
+        else {
+            return Err(Early::Memory);
+        };
+        let serving = self.prepare_jobs(&problem, task, number)?;
+        Ok(Ready {
+            problem,
+            room,
+            serving,
+        })
+    }
+
+    // What came of the jobs: the reports of the streams that were judged; or the lanes are raced, whose children are started in the yard.
+    fn run_lanes(
+        &mut self,
+        number: u32,
+        task: &Task,
+        problem: &Problem,
+        serving: Serving<'_, Y::Bay>,
+    ) -> RanLanes
+        requires serving { IsServing (back_by Y.Bay.told Y.Bay.start_faults Y.Bay.read_faults Y.Bay.hold_faults)
+            (task_seen task.now) problem.now number (⟦<Self as Outside>⟧.world self.old).told (⟦<Self as Outside>⟧.world self.old).yard.scripts serving }
+        requires files { (engines : List EngineOf) (store : Store) → (⟦<Self as Outside>⟧.world self.old).told ≡ Some store → HasJobFiles (racing_of (task_seen task.now) problem.now number engines) store }
+        ensures reports { AreReports (task_seen task.now).service (⟦<Self as Outside>⟧.may_read self.old) (task_seen task.now) problem.now (⟦<Self as Outside>⟧.world self.new).told
+            (race_of number (⟦<Self as Outside>⟧.world self.old) (⟦<Self as Outside>⟧.world self.new) result.start) result.reports.items }
+        ensures files { self.new.files.now ≡ self.old.files.now }
+        ensures scripts { (⟦<Self as Outside>⟧.world self.new).yard.scripts ≡ (⟦<Self as Outside>⟧.world self.old).yard.scripts }
+        ensures children { AreLater (⟦<Self as Outside>⟧.world self.old).yard.counts (⟦<Self as Outside>⟧.world self.new).yard.counts }
+        ensures out { self.new.out.now ≡ self.old.out.now }
+        ensures keeps { ⟦<Self as Outside>⟧.keeps self.old self.new }
+    {
+        match serving {
+            Serving::Judged(reports) => RanLanes {
                 reports,
                 start: None,
-            })
+            },
+            Serving::Lanes(engines, prepared) => {
+                let racing = racing(problem, task, engines, number);
+                let raced = run_race(
+                    self.rt, self.alloc, self.files, self.clock, &racing, prepared,
+                );
+                finish_race(self.yard, raced)
+            }
         }
-        Service::Lanes(engines) => race_jobs(
-            rt, alloc, files, yard, clock, problem, task, engines, number,
-        ),
     }
-}
 
-// What the reports come to.
-fn collected(
-    alloc: Global,
-    task: &Task,
-    problem: &Problem,
-    reports: &[Report<Finding>],
-) -> Result<Collected, Early>
-    requires { AreReported task.now.mode task.now.span problem.now.design reports.now }
-    ensures ok { IfOk result (IsCollected task.now.mode task.now.span problem.now.design reports.now) }
-    ensures err { IfErr result (λ early. early ≡ EarlyMemory) }
-{
-    match Collected::new(alloc, task.mode, &task.span, problem.flat(), reports) {
-        Ok(collected) => Ok(collected),
-        Err(_) => Err(Early::Memory),
+    /// Serves the jobs of a task that is ready, and collects what they came to.
+    pub fn serve(&mut self, number: u32, task: &Task, ready: Ready<'_, Y::Bay>) -> Served
+        requires { IsReady (back_by Y.Bay.told Y.Bay.start_faults Y.Bay.read_faults Y.Bay.hold_faults)
+            (task_seen task.now) number (⟦<Self as Outside>⟧.world self.old).told (⟦<Self as Outside>⟧.world self.old).yard.scripts ready }
+        ensures problem { result.problem ≡ ready.entry.problem }
+        ensures reports { AreReports (task_seen task.now).service (⟦<Self as Outside>⟧.may_read self.old) (task_seen task.now) ready.entry.problem (⟦<Self as Outside>⟧.world self.new).told
+            (race_of number (⟦<Self as Outside>⟧.world self.old) (⟦<Self as Outside>⟧.world self.new) result.start) result.reports.items }
+        ensures reported { AreReported task.now.mode task.now.span result.problem.design result.reports.items }
+        ensures limited { AreLimited result.start task.now.limit result.reports.items }
+        ensures collected { IsCollected task.now.mode task.now.span result.problem.design result.reports.items result.collected }
+        ensures files { self.new.files.now ≡ self.old.files.now }
+        ensures scripts { (⟦<Self as Outside>⟧.world self.new).yard.scripts ≡ (⟦<Self as Outside>⟧.world self.old).yard.scripts }
+        ensures children { AreLater (⟦<Self as Outside>⟧.world self.old).yard.counts (⟦<Self as Outside>⟧.world self.new).yard.counts }
+        ensures out { self.new.out.now ≡ self.old.out.now }
+        ensures keeps { ⟦<Self as Outside>⟧.keeps self.old self.new }
+    {
+        let Ready {
+            problem,
+            room,
+            serving,
+        } = ready;
+        let ran = self.run_lanes(number, task, &problem, serving);
+        let collected = Collected::new(room, task.mode, &task.span, problem.flat(), &ran.reports);
+        Served {
+            problem,
+            reports: ran.reports,
+            start: ran.start,
+            collected,
+        }
     }
-}
-
-/// Gets the design, puts the jobs' files, and serves the jobs.
-pub fn serve<R: Threads + Wait + Sync, F: Files, Y: Yard, C: Clock>(
-    rt: &R,
-    alloc: Global,
-    files: &mut F,
-    yard: &mut Y,
-    clock: &C,
-    number: u32,
-    task: &Task,
-) -> Result<Served, Early>
-    requires { IsAskable (task_seen task.now) }
-    ensures done { IfOk result (λ s. (done : IsDone (C.may_read clock.now) (task_seen task.now) (files_at (F.told files.old) (F.faults files.old) (F.blamed files.old)) (files_at (F.told files.new) (F.faults files.new) (F.blamed files.new))
-        (record {
-          task = number;
-          before = yard_at (Y.told yard.old) (Y.started yard.old) (counts_at (Y.start_faults yard.old) (Y.read_faults yard.old) (Y.hold_faults yard.old));
-          after = yard_at (Y.told yard.new) (Y.started yard.new) (counts_at (Y.start_faults yard.new) (Y.read_faults yard.new) (Y.hold_faults yard.new));
-          start = s.start;
-        }) s.problem.problem.text s.reports.items) × (done.problem ≡ s.problem)) }
-    ensures reported { IfOk result (λ s. AreReported task.now.mode task.now.span s.problem.design s.reports.items) }
-    ensures limited { IfOk result (λ s. AreLimited s.start task.now.limit s.reports.items) }
-    ensures collected { IfOk result (λ s. IsCollected task.now.mode task.now.span s.problem.design s.reports.items s.collected) }
-    ensures err { IfErr result (HasReason (task_seen task.now) (files_at (F.told files.old) (F.faults files.old) (F.blamed files.old)) (files_at (F.told files.new) (F.faults files.new) (F.blamed files.new))) }
-    ensures spared { IfErr result (IsSpared (C.may_read clock.now) (task_seen task.now) (F.told files.old) (record {
-      task = number;
-      before = yard_at (Y.told yard.old) (Y.started yard.old) (counts_at (Y.start_faults yard.old) (Y.read_faults yard.old) (Y.hold_faults yard.old));
-      after = yard_at (Y.told yard.new) (Y.started yard.new) (counts_at (Y.start_faults yard.new) (Y.read_faults yard.new) (Y.hold_faults yard.new));
-      start = None;
-    })) }
-    ensures later { F.faults files.old ≤ F.faults files.new }
-    ensures scripts { Y.told yard.new ≡ Y.told yard.old }
-    ensures children { AreLater (counts_at (Y.start_faults yard.old) (Y.read_faults yard.old) (Y.hold_faults yard.old)) (counts_at (Y.start_faults yard.new) (Y.read_faults yard.new) (Y.hold_faults yard.new)) }
-{
-    let problem = accept(alloc, files, task)?;
-    let ran = serve_jobs(rt, alloc, files, yard, clock, &problem, task, number)?;
-    let collected = collected(alloc, task, &problem, &ran.reports)?;
-    Ok(Served {
-        problem,
-        reports: ran.reports,
-        start: ran.start,
-        collected,
-    })
 }

@@ -20,8 +20,9 @@ ghost use Rattle.sby_top.specs.World.{at_once, world_at};
 ghost use Rattle.task_race.specs.Bays.{YardAt, counts_at, yard_at};
 
 use crate::claims::output_can_be_read;
+use crate::host::{Host, Outside};
 use crate::outcome::{Done, TaskEnd};
-use crate::run::{Exit, finish_fault, run_task};
+use crate::run::{Exit, finish_fault};
 use crate::serve::get;
 use crate::turns::{Book, Turn, judge_task, turn_of};
 use gen_design::task_file;
@@ -46,29 +47,6 @@ fn refuse<S: Sink>(alloc: Global, out: &mut S, name: String, early: Early) -> (T
     finish_fault(alloc, out, name, 1, &expect, early)
 }
 
-// Runs a turn.
-fn run_turn<R: Threads + Wait + Sync, F: Files, S: Sink, Y: Yard, C: Clock>(
-    rt: &R,
-    alloc: Global,
-    files: &mut F,
-    out: &mut S,
-    yard: &mut Y,
-    clock: &C,
-    number: u32,
-    turn: Turn,
-) -> (TaskEnd, Exit)
-    requires { IsSound (turn_seen turn) }
-    ensures { HadAtOnce (C.may_read clock.now) number
-        (world_at (F.told files.old) (F.faults files.old) (F.blamed files.old) (S.taken out.old) (S.faults out.old) (S.ended out.old) (yard_at (Y.told yard.old) (Y.started yard.old) (counts_at (Y.start_faults yard.old) (Y.read_faults yard.old) (Y.hold_faults yard.old))))
-        (world_at (F.told files.new) (F.faults files.new) (F.blamed files.new) (S.taken out.new) (S.faults out.new) (S.ended out.new) (yard_at (Y.told yard.new) (Y.started yard.new) (counts_at (Y.start_faults yard.new) (Y.read_faults yard.new) (Y.hold_faults yard.new))))
-        (turn_seen turn) result.0 (exit_seen result.1) }
-{
-    match turn {
-        Turn::Refused(name, early) => refuse(alloc, out, name, early),
-        Turn::Run(task) => run_task(rt, alloc, files, out, yard, clock, number, task),
-    }
-}
-
 // Memory ran out before anything was done.
 fn out_of_memory(alloc: Global) -> Done
     ensures rc { result.rc ≡ 32 }
@@ -77,33 +55,6 @@ fn out_of_memory(alloc: Global) -> Done
     Done {
         rc: 32,
         ends: Vec::new(alloc),
-    }
-}
-
-// Runs the only turn there is.
-fn run_only<R: Threads + Wait + Sync, F: Files, S: Sink, Y: Yard, C: Clock>(
-    rt: &R,
-    alloc: Global,
-    files: &mut F,
-    out: &mut S,
-    yard: &mut Y,
-    clock: &C,
-    turn: Turn,
-) -> Done
-    requires { IsSound (turn_seen turn) }
-    ensures { RanTo (C.may_read clock.now)
-        (world_at (F.told files.old) (F.faults files.old) (F.blamed files.old) (S.taken out.old) (S.faults out.old) (S.ended out.old) (yard_at (Y.told yard.old) (Y.started yard.old) (counts_at (Y.start_faults yard.old) (Y.read_faults yard.old) (Y.hold_faults yard.old)))) (turn_seen turn ∷ [])
-        (world_at (F.told files.new) (F.faults files.new) (F.blamed files.new) (S.taken out.new) (S.faults out.new) (S.ended out.new) (yard_at (Y.told yard.new) (Y.started yard.new) (counts_at (Y.start_faults yard.new) (Y.read_faults yard.new) (Y.hold_faults yard.new)))) result }
-{
-    let mut ends = match Vec::with_capacity(alloc, 1) {
-        Ok(ends) => ends,
-        Err(_) => return out_of_memory(alloc),
-    };
-    let (end, exit) = run_turn(rt, alloc, files, out, yard, clock, 0, turn);
-    ends.push(end).unwrap();
-    Done {
-        rc: rc_of_exit(exit),
-        ends,
     }
 }
 
@@ -117,216 +68,6 @@ fn rc_of_exit(exit: Exit) -> u8
     }
 }
 
-// Runs the turn of the task that is asked for, and answers whether others may follow.
-fn run_asked<R: Threads + Wait + Sync, F: Files, S: Sink, Y: Yard, C: Clock>(
-    rt: &R,
-    alloc: Global,
-    files: &mut F,
-    out: &mut S,
-    yard: &mut Y,
-    clock: &C,
-    book: &Book<'_>,
-    asked: Option<&str>,
-    done: &mut Done,
-) -> bool
-    requires { length done.old.ends.items < vec_capacity done.old.ends }
-    ensures asked { IsAsk (C.may_read clock.now)
-        (world_at (F.told files.old) (F.faults files.old) (F.blamed files.old) (S.taken out.old) (S.faults out.old) (S.ended out.old) (yard_at (Y.told yard.old) (Y.started yard.old) (counts_at (Y.start_faults yard.old) (Y.read_faults yard.old) (Y.hold_faults yard.old))))
-        (world_at (F.told files.new) (F.faults files.new) (F.blamed files.new) (S.taken out.new) (S.faults out.new) (S.ended out.new) (yard_at (Y.told yard.new) (Y.started yard.new) (counts_at (Y.start_faults yard.new) (Y.read_faults yard.new) (Y.hold_faults yard.new))))
-        book.now.stem.now (option_map (λ s. s.now) book.now.directory) book.now.config.now (option_map (λ s. s.now) asked.entry) done.old done.new result }
-    ensures room { vec_capacity done.old.ends ≤ vec_capacity done.new.ends }
-{
-    // This many turns as a number of 32 bits can't count aren't had.
-    let (Ok(number), Ok(turn)) = (u32::try_from(done.ends.len()), turn_of(alloc, book, asked))
-    else {
-        done.rc |= 32;
-        return false;
-    };
-    let (end, exit) = run_turn(rt, alloc, files, out, yard, clock, number, turn);
-    done.ends.push(end).unwrap();
-    match exit {
-        Exit::Code(rc) => {
-            done.rc |= rc;
-            true
-        }
-        Exit::Cut => {
-            done.rc = 16;
-            false
-        }
-    }
-}
-
-// Runs the turns of the tasks of these names, in their order.
-fn run_named<R: Threads + Wait + Sync, F: Files, S: Sink, Y: Yard, C: Clock>(
-    rt: &R,
-    alloc: Global,
-    files: &mut F,
-    out: &mut S,
-    yard: &mut Y,
-    clock: &C,
-    book: &Book<'_>,
-    names: &[String],
-) -> Done
-    requires { 0 < length names.now }
-    ensures { (turns : List TurnOf) × AreTurnsOf book.now.stem.now (option_map (λ s. s.now) book.now.directory) book.now.config.now (map Some (map string_bytes names.now)) turns
-        × RanTo (C.may_read clock.now)
-        (world_at (F.told files.old) (F.faults files.old) (F.blamed files.old) (S.taken out.old) (S.faults out.old) (S.ended out.old) (yard_at (Y.told yard.old) (Y.started yard.old) (counts_at (Y.start_faults yard.old) (Y.read_faults yard.old) (Y.hold_faults yard.old)))) turns
-        (world_at (F.told files.new) (F.faults files.new) (F.blamed files.new) (S.taken out.new) (S.faults out.new) (S.ended out.new) (yard_at (Y.told yard.new) (Y.started yard.new) (counts_at (Y.start_faults yard.new) (Y.read_faults yard.new) (Y.hold_faults yard.new)))) result }
-{
-    let ends = match Vec::with_capacity(alloc, names.len()) {
-        Ok(ends) => ends,
-        Err(_) => return out_of_memory(alloc),
-    };
-    let mut done = Done { rc: 0, ends };
-    for name in names {
-        if !run_asked(
-            rt,
-            alloc,
-            files,
-            out,
-            yard,
-            clock,
-            book,
-            Some(name.as_str()),
-            &mut done,
-        ) {
-            return done;
-        }
-    }
-    done
-}
-
-// Runs the turn of the nameless task.
-fn run_nameless<R: Threads + Wait + Sync, F: Files, S: Sink, Y: Yard, C: Clock>(
-    rt: &R,
-    alloc: Global,
-    files: &mut F,
-    out: &mut S,
-    yard: &mut Y,
-    clock: &C,
-    book: &Book<'_>,
-) -> Done
-    ensures { (turns : List TurnOf) × AreTurnsOf book.now.stem.now (option_map (λ s. s.now) book.now.directory) book.now.config.now (None ∷ []) turns
-        × RanTo (C.may_read clock.now)
-        (world_at (F.told files.old) (F.faults files.old) (F.blamed files.old) (S.taken out.old) (S.faults out.old) (S.ended out.old) (yard_at (Y.told yard.old) (Y.started yard.old) (counts_at (Y.start_faults yard.old) (Y.read_faults yard.old) (Y.hold_faults yard.old)))) turns
-        (world_at (F.told files.new) (F.faults files.new) (F.blamed files.new) (S.taken out.new) (S.faults out.new) (S.ended out.new) (yard_at (Y.told yard.new) (Y.started yard.new) (counts_at (Y.start_faults yard.new) (Y.read_faults yard.new) (Y.hold_faults yard.new)))) result }
-{
-    match turn_of(alloc, book, None) {
-        Ok(turn) => run_only(rt, alloc, files, out, yard, clock, turn),
-        Err(_) => out_of_memory(alloc),
-    }
-}
-
-// Runs the turns of the tasks that are asked for: those that are named, else all of the file.
-fn run_book<R: Threads + Wait + Sync, F: Files, S: Sink, Y: Yard, C: Clock>(
-    rt: &R,
-    alloc: Global,
-    files: &mut F,
-    out: &mut S,
-    yard: &mut Y,
-    clock: &C,
-    book: &Book<'_>,
-    names: &[String],
-) -> Done
-    ensures { (turns : List TurnOf) × AreTurnsOf book.now.stem.now (option_map (λ s. s.now) book.now.directory) book.now.config.now (asked_tasks (map string_bytes names.now) book.now.config.now) turns
-        × RanTo (C.may_read clock.now)
-        (world_at (F.told files.old) (F.faults files.old) (F.blamed files.old) (S.taken out.old) (S.faults out.old) (S.ended out.old) (yard_at (Y.told yard.old) (Y.started yard.old) (counts_at (Y.start_faults yard.old) (Y.read_faults yard.old) (Y.hold_faults yard.old)))) turns
-        (world_at (F.told files.new) (F.faults files.new) (F.blamed files.new) (S.taken out.new) (S.faults out.new) (S.ended out.new) (yard_at (Y.told yard.new) (Y.started yard.new) (counts_at (Y.start_faults yard.new) (Y.read_faults yard.new) (Y.hold_faults yard.new)))) result }
-{
-    if !names.is_empty() {
-        return run_named(rt, alloc, files, out, yard, clock, book, names);
-    }
-    let tasks = book.config.tasks();
-    if tasks.is_empty() {
-        run_nameless(rt, alloc, files, out, yard, clock, book)
-    } else {
-        run_named(rt, alloc, files, out, yard, clock, book, tasks)
-    }
-}
-
-// Tells a fault of a task file, under its stem.
-fn run_fault<R: Threads + Wait + Sync, F: Files, S: Sink, Y: Yard, C: Clock>(
-    rt: &R,
-    alloc: Global,
-    files: &mut F,
-    out: &mut S,
-    yard: &mut Y,
-    clock: &C,
-    stem: &str,
-    directory: Option<&str>,
-    early: Early,
-) -> Done
-    ensures { RanTo (C.may_read clock.now)
-        (world_at (F.told files.old) (F.faults files.old) (F.blamed files.old) (S.taken out.old) (S.faults out.old) (S.ended out.old) (yard_at (Y.told yard.old) (Y.started yard.old) (counts_at (Y.start_faults yard.old) (Y.read_faults yard.old) (Y.hold_faults yard.old))))
-        (Refused (task_folder stem.now (option_map (λ s. s.now) directory.entry) []) early ∷ [])
-        (world_at (F.told files.new) (F.faults files.new) (F.blamed files.new) (S.taken out.new) (S.faults out.new) (S.ended out.new) (yard_at (Y.told yard.new) (Y.started yard.new) (counts_at (Y.start_faults yard.new) (Y.read_faults yard.new) (Y.hold_faults yard.new)))) result }
-{
-    match folder_of(alloc, stem, directory, "") {
-        Ok(name) => run_only(
-            rt,
-            alloc,
-            files,
-            out,
-            yard,
-            clock,
-            Turn::Refused(name, early),
-        ),
-        Err(_) => out_of_memory(alloc),
-    }
-}
-
-// Runs the turns that a task file's text gives.
-fn run_text<R: Threads + Wait + Sync, F: Files, S: Sink, Y: Yard, C: Clock>(
-    rt: &R,
-    alloc: Global,
-    files: &mut F,
-    out: &mut S,
-    yard: &mut Y,
-    clock: &C,
-    stem: &str,
-    directory: Option<&str>,
-    names: &[String],
-    text: &[u8],
-) -> Done
-    ensures { (turns : List TurnOf) × AreTextTurns stem.now (option_map (λ s. s.now) directory.entry) (map string_bytes names.now) text.now turns
-        × RanTo (C.may_read clock.now)
-        (world_at (F.told files.old) (F.faults files.old) (F.blamed files.old) (S.taken out.old) (S.faults out.old) (S.ended out.old) (yard_at (Y.told yard.old) (Y.started yard.old) (counts_at (Y.start_faults yard.old) (Y.read_faults yard.old) (Y.hold_faults yard.old)))) turns
-        (world_at (F.told files.new) (F.faults files.new) (F.blamed files.new) (S.taken out.new) (S.faults out.new) (S.ended out.new) (yard_at (Y.told yard.new) (Y.started yard.new) (counts_at (Y.start_faults yard.new) (Y.read_faults yard.new) (Y.hold_faults yard.new)))) result }
-{
-    match read(alloc, text) {
-        Ok(Ok(config)) => {
-            let book = Book {
-                config: &config,
-                stem,
-                directory,
-            };
-            run_book(rt, alloc, files, out, yard, clock, &book, names)
-        }
-        Ok(Err(fault)) => run_fault(
-            rt,
-            alloc,
-            files,
-            out,
-            yard,
-            clock,
-            stem,
-            directory,
-            Early::Sby(fault),
-        ),
-        Err(_) => run_fault(
-            rt,
-            alloc,
-            files,
-            out,
-            yard,
-            clock,
-            stem,
-            directory,
-            Early::Memory,
-        ),
-    }
-}
-
 // The text, where there is one.
 fn text_in(text: &Option<String>) -> Option<&str>
     ensures { option_map (λ s. s.now) result ≡ option_map string_bytes text.now }
@@ -334,40 +75,6 @@ fn text_in(text: &Option<String>) -> Option<&str>
     match text {
         Some(text) => Some(text.as_str()),
         None => None,
-    }
-}
-
-// Runs the turns that a task file gives.
-fn run_tasks<R: Threads + Wait + Sync, F: Files, S: Sink, Y: Yard, C: Clock>(
-    rt: &R,
-    alloc: Global,
-    files: &mut F,
-    out: &mut S,
-    yard: &mut Y,
-    clock: &C,
-    words: &TaskWords,
-) -> Done
-    ensures { TurnsDone (C.may_read clock.now)
-        (world_at (F.told files.old) (F.faults files.old) (F.blamed files.old) (S.taken out.old) (S.faults out.old) (S.ended out.old) (yard_at (Y.told yard.old) (Y.started yard.old) (counts_at (Y.start_faults yard.old) (Y.read_faults yard.old) (Y.hold_faults yard.old))))
-        (world_at (F.told files.new) (F.faults files.new) (F.blamed files.new) (S.taken out.new) (S.faults out.new) (S.ended out.new) (yard_at (Y.told yard.new) (Y.started yard.new) (counts_at (Y.start_faults yard.new) (Y.read_faults yard.new) (Y.hold_faults yard.new))))
-        result (AskTasks words.now) }
-{
-    let stem = stem_of(words.file.as_str());
-    let directory = text_in(&words.directory);
-    match get(alloc, files, words.file.as_str(), MOST_TASK_FILE) {
-        Ok(text) => run_text(
-            rt,
-            alloc,
-            files,
-            out,
-            yard,
-            clock,
-            stem,
-            directory,
-            &words.names,
-            &text,
-        ),
-        Err(early) => run_fault(rt, alloc, files, out, yard, clock, stem, directory, early),
     }
 }
 
@@ -379,65 +86,6 @@ fn generated(alloc: Global, size: u32) -> Result<(String, Vec<u8>), AllocError>
     let stem = format!(in alloc; "gen_{size}")?;
     let text = task_file(alloc, size)?;
     Ok((stem, text))
-}
-
-// Runs the turns of the generated task file.
-fn run_gen<R: Threads + Wait + Sync, F: Files, S: Sink, Y: Yard, C: Clock>(
-    rt: &R,
-    alloc: Global,
-    files: &mut F,
-    out: &mut S,
-    yard: &mut Y,
-    clock: &C,
-    words: &GenWords,
-) -> Done
-    requires { 2 ≤ words.now.size }
-    ensures { TurnsDone (C.may_read clock.now)
-        (world_at (F.told files.old) (F.faults files.old) (F.blamed files.old) (S.taken out.old) (S.faults out.old) (S.ended out.old) (yard_at (Y.told yard.old) (Y.started yard.old) (counts_at (Y.start_faults yard.old) (Y.read_faults yard.old) (Y.hold_faults yard.old))))
-        (world_at (F.told files.new) (F.faults files.new) (F.blamed files.new) (S.taken out.new) (S.faults out.new) (S.ended out.new) (yard_at (Y.told yard.new) (Y.started yard.new) (counts_at (Y.start_faults yard.new) (Y.read_faults yard.new) (Y.hold_faults yard.new))))
-        result (AskGen words.now) }
-{
-    match generated(alloc, words.size) {
-        Ok((stem, text)) => {
-            let directory = text_in(&words.directory);
-            run_text(
-                rt,
-                alloc,
-                files,
-                out,
-                yard,
-                clock,
-                stem.as_str(),
-                directory,
-                &[],
-                &text,
-            )
-        }
-        Err(_) => out_of_memory(alloc),
-    }
-}
-
-// Runs the turn of the task that `--judge` asks.
-fn run_judge<R: Threads + Wait + Sync, F: Files, S: Sink, Y: Yard, C: Clock>(
-    rt: &R,
-    alloc: Global,
-    files: &mut F,
-    out: &mut S,
-    yard: &mut Y,
-    clock: &C,
-    words: JudgeWords,
-) -> Done
-    requires least { 1 ≤ words.depth }
-    requires most { words.depth ≤ 100000 }
-    ensures { TurnsDone (C.may_read clock.now)
-        (world_at (F.told files.old) (F.faults files.old) (F.blamed files.old) (S.taken out.old) (S.faults out.old) (S.ended out.old) (yard_at (Y.told yard.old) (Y.started yard.old) (counts_at (Y.start_faults yard.old) (Y.read_faults yard.old) (Y.hold_faults yard.old))))
-        (world_at (F.told files.new) (F.faults files.new) (F.blamed files.new) (S.taken out.new) (S.faults out.new) (S.ended out.new) (yard_at (Y.told yard.new) (Y.started yard.new) (counts_at (Y.start_faults yard.new) (Y.read_faults yard.new) (Y.hold_faults yard.new))))
-        result (AskJudge words) }
-{
-    match judge_task(alloc, words) {
-        Ok(task) => run_only(rt, alloc, files, out, yard, clock, Turn::Run(task)),
-        Err(_) => out_of_memory(alloc),
-    }
 }
 
 // Offers the names of tasks, one a line.
@@ -474,53 +122,6 @@ fn tell_names<S: Sink>(alloc: Global, out: &mut S, config: &Config) -> Done
     }
 }
 
-// Prints the names of the tasks of a file, or tells its fault.
-fn run_names<R: Threads + Wait + Sync, F: Files, S: Sink, Y: Yard, C: Clock>(
-    rt: &R,
-    alloc: Global,
-    files: &mut F,
-    out: &mut S,
-    yard: &mut Y,
-    clock: &C,
-    file: &str,
-) -> Done
-    ensures { NamesTold (C.may_read clock.now)
-        (world_at (F.told files.old) (F.faults files.old) (F.blamed files.old) (S.taken out.old) (S.faults out.old) (S.ended out.old) (yard_at (Y.told yard.old) (Y.started yard.old) (counts_at (Y.start_faults yard.old) (Y.read_faults yard.old) (Y.hold_faults yard.old))))
-        (world_at (F.told files.new) (F.faults files.new) (F.blamed files.new) (S.taken out.new) (S.faults out.new) (S.ended out.new) (yard_at (Y.told yard.new) (Y.started yard.new) (counts_at (Y.start_faults yard.new) (Y.read_faults yard.new) (Y.hold_faults yard.new))))
-        file.now result }
-{
-    let stem = stem_of(file);
-    let text = match get(alloc, files, file, MOST_TASK_FILE) {
-        Ok(text) => text,
-        Err(early) => return run_fault(rt, alloc, files, out, yard, clock, stem, None, early),
-    };
-    match read(alloc, &text) {
-        Ok(Ok(config)) => tell_names(alloc, out, &config),
-        Ok(Err(fault)) => run_fault(
-            rt,
-            alloc,
-            files,
-            out,
-            yard,
-            clock,
-            stem,
-            None,
-            Early::Sby(fault),
-        ),
-        Err(_) => run_fault(
-            rt,
-            alloc,
-            files,
-            out,
-            yard,
-            clock,
-            stem,
-            None,
-            Early::Memory,
-        ),
-    }
-}
-
 // Prints the usage line.
 fn run_usage<S: Sink>(alloc: Global, out: &mut S) -> Done
     ensures rc { result.rc ≡ 16 }
@@ -537,36 +138,267 @@ fn run_usage<S: Sink>(alloc: Global, out: &mut S) -> Done
     }
 }
 
-// Does what the words ask.
-fn do_asked<R: Threads + Wait + Sync, F: Files, S: Sink, Y: Yard, C: Clock>(
-    rt: &R,
-    alloc: Global,
-    words: &[String],
-    files: &mut F,
-    out: &mut S,
-    yard: &mut Y,
-    clock: &C,
-) -> Done
-    ensures { Did (C.may_read clock.now)
-        (world_at (F.told files.old) (F.faults files.old) (F.blamed files.old) (S.taken out.old) (S.faults out.old) (S.ended out.old) (yard_at (Y.told yard.old) (Y.started yard.old) (counts_at (Y.start_faults yard.old) (Y.read_faults yard.old) (Y.hold_faults yard.old))))
-        (world_at (F.told files.new) (F.faults files.new) (F.blamed files.new) (S.taken out.new) (S.faults out.new) (S.ended out.new) (yard_at (Y.told yard.new) (Y.started yard.new) (counts_at (Y.start_faults yard.new) (Y.read_faults yard.new) (Y.hold_faults yard.new))))
-        (map string_bytes words.now) result }
-{
-    match asked_of(alloc, words) {
-        Ok(Some(Asked::Judge(asked))) => run_judge(rt, alloc, files, out, yard, clock, asked),
-        Ok(Some(Asked::Tasks(asked))) => run_tasks(rt, alloc, files, out, yard, clock, &asked),
-        Ok(Some(Asked::Names(file))) => run_names(
-            rt,
-            alloc,
-            files,
-            out,
-            yard,
-            clock,
-            file.as_str(),
-        ),
-        Ok(Some(Asked::Gen(asked))) => run_gen(rt, alloc, files, out, yard, clock, &asked),
-        Ok(None) => run_usage(alloc, out),
-        Err(AllocError) => out_of_memory(alloc),
+impl<R: Threads + Wait + Sync, F: Files, S: Sink, Y: Yard, C: Clock> Host<'_, R, F, S, Y, C> {
+    // Runs a turn.
+    fn run_turn(&mut self, number: u32, turn: Turn) -> (TaskEnd, Exit)
+        requires { IsSound (turn_seen turn) }
+        ensures had { HadAtOnce (⟦<Self as Outside>⟧.may_read self.old) number
+            (⟦<Self as Outside>⟧.world self.old)
+            (⟦<Self as Outside>⟧.world self.new)
+            (turn_seen turn) result.0 (exit_seen result.1) }
+        ensures keeps { ⟦<Self as Outside>⟧.keeps self.old self.new }
+    {
+        match turn {
+            Turn::Refused(name, early) => refuse(self.alloc, self.out, name, early),
+            Turn::Run(task) => self.run_task(number, task),
+        }
+    }
+
+    // Runs the only turn there is.
+    fn run_only(&mut self, turn: Turn) -> Done
+        requires { IsSound (turn_seen turn) }
+        ensures ran { RanTo (⟦<Self as Outside>⟧.may_read self.old)
+            (⟦<Self as Outside>⟧.world self.old) (turn_seen turn ∷ [])
+            (⟦<Self as Outside>⟧.world self.new) result }
+        ensures keeps { ⟦<Self as Outside>⟧.keeps self.old self.new }
+    {
+        let mut ends = match Vec::with_capacity(self.alloc, 1) {
+            Ok(ends) => ends,
+            Err(_) => return out_of_memory(self.alloc),
+        };
+        let (end, exit) = self.run_turn(0, turn);
+        ends.push(end).unwrap();
+        Done {
+            rc: rc_of_exit(exit),
+            ends,
+        }
+    }
+
+    // Runs the turn of the task that is asked for, and answers whether others may follow.
+    fn run_asked(&mut self, book: &Book<'_>, asked: Option<&str>, done: &mut Done) -> bool
+        requires { length done.old.ends.items < vec_capacity done.old.ends }
+        ensures asked { IsAsk (⟦<Self as Outside>⟧.may_read self.old)
+            (⟦<Self as Outside>⟧.world self.old)
+            (⟦<Self as Outside>⟧.world self.new)
+            book.now.stem.now (option_map (λ s. s.now) book.now.directory) book.now.config.now (option_map (λ s. s.now) asked.entry) done.old done.new result }
+        ensures room { vec_capacity done.old.ends ≤ vec_capacity done.new.ends }
+        ensures keeps { ⟦<Self as Outside>⟧.keeps self.old self.new }
+    {
+        // This many turns as a number of 32 bits can't count aren't had.
+        let (Ok(number), Ok(turn)) = (
+            u32::try_from(done.ends.len()),
+            turn_of(self.alloc, book, asked),
+        ) else {
+            done.rc |= 32;
+            return false;
+        };
+        let (end, exit) = self.run_turn(number, turn);
+        done.ends.push(end).unwrap();
+        match exit {
+            Exit::Code(rc) => {
+                done.rc |= rc;
+                true
+            }
+            Exit::Cut => {
+                done.rc = 16;
+                false
+            }
+        }
+    }
+
+    // Runs the turns of the tasks of these names, in their order.
+    fn run_named(&mut self, book: &Book<'_>, names: &[String]) -> Done
+        requires { 0 < length names.now }
+        ensures ran { (turns : List TurnOf) × AreTurnsOf book.now.stem.now (option_map (λ s. s.now) book.now.directory) book.now.config.now (map Some (map string_bytes names.now)) turns
+            × RanTo (⟦<Self as Outside>⟧.may_read self.old)
+            (⟦<Self as Outside>⟧.world self.old) turns
+            (⟦<Self as Outside>⟧.world self.new) result }
+        ensures keeps { ⟦<Self as Outside>⟧.keeps self.old self.new }
+    {
+        let ends = match Vec::with_capacity(self.alloc, names.len()) {
+            Ok(ends) => ends,
+            Err(_) => return out_of_memory(self.alloc),
+        };
+        let mut done = Done { rc: 0, ends };
+        for name in names {
+            if !self.run_asked(book, Some(name.as_str()), &mut done) {
+                return done;
+            }
+        }
+        done
+    }
+
+    // Runs the turn of the nameless task.
+    fn run_nameless(&mut self, book: &Book<'_>) -> Done
+        ensures ran { (turns : List TurnOf) × AreTurnsOf book.now.stem.now (option_map (λ s. s.now) book.now.directory) book.now.config.now (None ∷ []) turns
+            × RanTo (⟦<Self as Outside>⟧.may_read self.old)
+            (⟦<Self as Outside>⟧.world self.old) turns
+            (⟦<Self as Outside>⟧.world self.new) result }
+        ensures keeps { ⟦<Self as Outside>⟧.keeps self.old self.new }
+    {
+        match turn_of(self.alloc, book, None) {
+            Ok(turn) => self.run_only(turn),
+            Err(_) => out_of_memory(self.alloc),
+        }
+    }
+
+    // Runs the turns of the tasks that are asked for: those that are named, else all of the file.
+    fn run_book(&mut self, book: &Book<'_>, names: &[String]) -> Done
+        ensures ran { (turns : List TurnOf) × AreTurnsOf book.now.stem.now (option_map (λ s. s.now) book.now.directory) book.now.config.now (asked_tasks (map string_bytes names.now) book.now.config.now) turns
+            × RanTo (⟦<Self as Outside>⟧.may_read self.old)
+            (⟦<Self as Outside>⟧.world self.old) turns
+            (⟦<Self as Outside>⟧.world self.new) result }
+        ensures keeps { ⟦<Self as Outside>⟧.keeps self.old self.new }
+    {
+        if !names.is_empty() {
+            return self.run_named(book, names);
+        }
+        let tasks = book.config.tasks();
+        if tasks.is_empty() {
+            self.run_nameless(book)
+        } else {
+            self.run_named(book, tasks)
+        }
+    }
+
+    // Tells a fault of a task file, under its stem.
+    fn run_fault(&mut self, stem: &str, directory: Option<&str>, early: Early) -> Done
+        ensures ran { RanTo (⟦<Self as Outside>⟧.may_read self.old)
+            (⟦<Self as Outside>⟧.world self.old)
+            (Refused (task_folder stem.now (option_map (λ s. s.now) directory.entry) []) early ∷ [])
+            (⟦<Self as Outside>⟧.world self.new) result }
+        ensures keeps { ⟦<Self as Outside>⟧.keeps self.old self.new }
+    {
+        match folder_of(self.alloc, stem, directory, "") {
+            Ok(name) => self.run_only(Turn::Refused(name, early)),
+            Err(_) => out_of_memory(self.alloc),
+        }
+    }
+
+    // Runs the turns that a task file's text gives.
+    fn run_text(
+        &mut self,
+        stem: &str,
+        directory: Option<&str>,
+        names: &[String],
+        text: &[u8],
+    ) -> Done
+        ensures ran { (turns : List TurnOf) × AreTextTurns stem.now (option_map (λ s. s.now) directory.entry) (map string_bytes names.now) text.now turns
+            × RanTo (⟦<Self as Outside>⟧.may_read self.old)
+            (⟦<Self as Outside>⟧.world self.old) turns
+            (⟦<Self as Outside>⟧.world self.new) result }
+        ensures keeps { ⟦<Self as Outside>⟧.keeps self.old self.new }
+    {
+        match read(self.alloc, text) {
+            Ok(Ok(config)) => {
+                let book = Book {
+                    config: &config,
+                    stem,
+                    directory,
+                };
+                self.run_book(&book, names)
+            }
+            Ok(Err(fault)) => self.run_fault(stem, directory, Early::Sby(fault)),
+            Err(_) => self.run_fault(stem, directory, Early::Memory),
+        }
+    }
+
+    // Runs the turns that a task file gives.
+    fn run_tasks(&mut self, words: &TaskWords) -> Done
+        ensures done { TurnsDone (⟦<Self as Outside>⟧.may_read self.old)
+            (⟦<Self as Outside>⟧.world self.old)
+            (⟦<Self as Outside>⟧.world self.new)
+            result (AskTasks words.now) }
+        ensures keeps { ⟦<Self as Outside>⟧.keeps self.old self.new }
+    {
+        let stem = stem_of(words.file.as_str());
+        let directory = text_in(&words.directory);
+        match get(self.alloc, self.files, words.file.as_str(), MOST_TASK_FILE) {
+            Ok(text) => self.run_text(stem, directory, &words.names, &text),
+            Err(early) => self.run_fault(stem, directory, early),
+        }
+    }
+
+    // Runs the turns of the generated task file.
+    fn run_gen(&mut self, words: &GenWords) -> Done
+        requires { 2 ≤ words.now.size }
+        ensures done { TurnsDone (⟦<Self as Outside>⟧.may_read self.old)
+            (⟦<Self as Outside>⟧.world self.old)
+            (⟦<Self as Outside>⟧.world self.new)
+            result (AskGen words.now) }
+        ensures keeps { ⟦<Self as Outside>⟧.keeps self.old self.new }
+    {
+        match generated(self.alloc, words.size) {
+            Ok((stem, text)) => {
+                let directory = text_in(&words.directory);
+                self.run_text(stem.as_str(), directory, &[], &text)
+            }
+            Err(_) => out_of_memory(self.alloc),
+        }
+    }
+
+    // Runs the turn of the task that `--judge` asks.
+    fn run_judge(&mut self, words: JudgeWords) -> Done
+        requires least { 1 ≤ words.depth }
+        requires most { words.depth ≤ 100000 }
+        ensures done { TurnsDone (⟦<Self as Outside>⟧.may_read self.old)
+            (⟦<Self as Outside>⟧.world self.old)
+            (⟦<Self as Outside>⟧.world self.new)
+            result (AskJudge words) }
+        ensures keeps { ⟦<Self as Outside>⟧.keeps self.old self.new }
+    {
+        match judge_task(self.alloc, words) {
+            Ok(task) => self.run_only(Turn::Run(task)),
+            Err(_) => out_of_memory(self.alloc),
+        }
+    }
+
+    // Prints the names of the tasks of a file, or tells its fault.
+    fn run_names(&mut self, file: &str) -> Done
+        ensures told { NamesTold (⟦<Self as Outside>⟧.may_read self.old)
+            (⟦<Self as Outside>⟧.world self.old)
+            (⟦<Self as Outside>⟧.world self.new)
+            file.now result }
+        ensures keeps { ⟦<Self as Outside>⟧.keeps self.old self.new }
+    {
+        let stem = stem_of(file);
+        let text = match get(self.alloc, self.files, file, MOST_TASK_FILE) {
+            Ok(text) => text,
+            Err(early) => return self.run_fault(stem, None, early),
+        };
+        match read(self.alloc, &text) {
+            Ok(Ok(config)) => tell_names(self.alloc, self.out, &config),
+            Ok(Err(fault)) => self.run_fault(stem, None, Early::Sby(fault)),
+            Err(_) => self.run_fault(stem, None, Early::Memory),
+        }
+    }
+
+    // Does what the words ask.
+    fn do_asked(&mut self, words: &[String]) -> Done
+        ensures did { Did (⟦<Self as Outside>⟧.may_read self.old)
+            (⟦<Self as Outside>⟧.world self.old)
+            (⟦<Self as Outside>⟧.world self.new)
+            (map string_bytes words.now) result }
+        ensures keeps { ⟦<Self as Outside>⟧.keeps self.old self.new }
+    {
+        match asked_of(self.alloc, words) {
+            Ok(Some(Asked::Judge(asked))) => self.run_judge(asked),
+            Ok(Some(Asked::Tasks(asked))) => self.run_tasks(&asked),
+            Ok(Some(Asked::Names(file))) => self.run_names(file.as_str()),
+            Ok(Some(Asked::Gen(asked))) => self.run_gen(&asked),
+            Ok(None) => run_usage(self.alloc, self.out),
+            Err(AllocError) => out_of_memory(self.alloc),
+        }
+    }
+
+    // Does what the words ask, with all that a reader of the output is promised.
+    fn do_promised(&mut self, words: &[String]) -> Done
+        ensures did { Did (⟦<Self as Outside>⟧.may_read self.old) (⟦<Self as Outside>⟧.world self.old) (⟦<Self as Outside>⟧.world self.new) (map string_bytes words.now) result }
+        ensures promises { Promises (⟦<Self as Outside>⟧.may_read self.old) (⟦<Self as Outside>⟧.world self.old) (⟦<Self as Outside>⟧.world self.new) (map string_bytes words.now) result }
+        ensures keeps { ⟦<Self as Outside>⟧.keeps self.old self.new }
+    {
+        output_can_be_read(self.clock);
+        self.do_asked(words)
     }
 }
 
@@ -576,14 +408,14 @@ fn do_asked<R: Threads + Wait + Sync, F: Files, S: Sink, Y: Yard, C: Clock>(
 /// Served are all forms of words: `--judge` with stored streams, task files, `--gen` and `--dumptasks`. The jobs of a task file are raced
 /// by its engines, one lane for each, on threads of `rt`: their children are started in bays of `yard`, which all come back to it. `clock`
 /// is read under a timeout alone. That memory ran out is told in the answer: status MEMORY, exit status 32.
-pub fn run_sby<R: Threads + Wait + Sync, F: Files, S: Sink, Y: Yard, C: Clock>(
-    rt: &R,
+pub fn run_sby<'h, R: Threads + Wait + Sync, F: Files, S: Sink, Y: Yard, C: Clock>(
+    rt: &'h R,
     alloc: Global,
     words: &[String],
-    files: &mut F,
-    out: &mut S,
-    yard: &mut Y,
-    clock: &C,
+    files: &'h mut F,
+    out: &'h mut S,
+    yard: &'h mut Y,
+    clock: &'h C,
 ) -> Done
     // The headline: what the words ask was done, and what a reader of the output is promised, claim by claim.
     ensures did { Did (C.may_read clock.now)
@@ -595,6 +427,13 @@ pub fn run_sby<R: Threads + Wait + Sync, F: Files, S: Sink, Y: Yard, C: Clock>(
         (world_at (F.told files.new) (F.faults files.new) (F.blamed files.new) (S.taken out.new) (S.faults out.new) (S.ended out.new) (yard_at (Y.told yard.new) (Y.started yard.new) (counts_at (Y.start_faults yard.new) (Y.read_faults yard.new) (Y.hold_faults yard.new))))
         (map string_bytes words.now) result }
 {
-    output_can_be_read(clock);
-    do_asked(rt, alloc, words, files, out, yard, clock)
+    let mut host = Host {
+        rt,
+        alloc,
+        files,
+        out,
+        yard,
+        clock,
+    };
+    host.do_promised(words)
 }

@@ -1,0 +1,38 @@
+-- A task that is ready for its race.
+use Rattle.std.specs.Prelude.{◌≡◌, ℕ, List, Option, Some, length, map}
+use Rattle.judge.specs.Problem.{AskedOf}
+use Rattle.race_core.specs.Room.{HasRoom}
+use Rattle.sby_edge.specs.Child.{BayOf, YardOf}
+use Rattle.sby_edge.specs.Files.{Store}
+use Rattle.sby_terms.specs.declared.engine.Engine.{Engine}
+use Rattle.sby_top.specs.Judged.{AreStreamReports, racing_of}
+use Rattle.sby_top.specs.Served.{IsServed, jobs_in}
+use Rattle.sby_top.specs.Task.{Lanes, Service, Streams, TaskOf}
+use Rattle.sby_top.specs.declared.serve.Ready.{Ready}
+use Rattle.sby_top.specs.declared.serve.Serving.{Serving}
+use Rattle.sby_top.specs.declared.serve.Serving.TheVariants.{Judged, Lanes as LanesReady}
+use Rattle.task_race.specs.Bays.{BackOf, counts_at}
+use Rattle.task_race.specs.Prepared.{AreNew, IsPrepared, bays_in}
+use Rattle.task_race.specs.Ran.{HasJobFiles}
+
+-- what a bay tells, by what its trait tells
+abbrev pub back_by : {L : Type 0} → (L → Option BayOf) → (L → ℕ) → (L → ℕ) → (L → ℕ) → L → BackOf
+back_by told starts reads holds bay = record { told = told bay; counts = counts_at (starts bay) (reads bay) (holds bay) }
+
+-- how many reports a task will have, by what serves its jobs
+abbrev pub report_count : Service → ℕ
+report_count (Streams paths) = 1
+report_count (Lanes engines) = length engines
+
+-- its stored streams were judged, over this store; or its lanes are prepared, in bays of a yard with these scripts, as they are made
+abbrev pub IsServing : {L : Type 0} → (L → BackOf) → TaskOf → AskedOf → ℕ → Option Store → Option YardOf → Serving L → Type 0
+IsServing back task p number told scripts (Judged reports) = (paths : List (List ℕ)) × (task.service ≡ Streams paths) × AreStreamReports p told paths reports.items
+IsServing back task p number told scripts (LanesReady engines prepared) =
+    (task.service ≡ Lanes engines.now) × IsPrepared (racing_of task p number engines.now) prepared × AreNew scripts number (map back (bays_in prepared))
+
+-- its design was accepted, its jobs' files stand in the store, what serves its jobs is ready, and there is room for what the reports come to
+pub record IsReady {L : Type 0} (back : L → BackOf) (task : TaskOf) (number : ℕ) (told : Option Store) (scripts : Option YardOf) (ready : Ready L) : Type 0 where
+  pub served : (before : Option Store) × IsServed before task ready.problem
+  pub files : (engines : List Engine) (store : Store) → told ≡ Some store → HasJobFiles (racing_of task ready.problem number engines) store
+  pub serving : IsServing back task ready.problem number told scripts ready.serving
+  pub room : HasRoom (length (jobs_in ready.problem)) (report_count task.service) ready.room
