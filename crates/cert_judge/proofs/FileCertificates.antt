@@ -1,23 +1,24 @@
 -- Proofs and certificates.
-use Rattle.std.proofs.Common.{◌≡◌, ◌⊎◌, ℕ, ◌+◌, ◌-◌, ◌≤◌, true, false, List, [], ◌∷◌, ◌++◌, length, take, drop, take-append-drop, Some, None, refl, sym, ap, ◌∙◌, subst, inl, inr, arith, append_assoc}
+use Rattle.std.proofs.Common.{◌≡◌, ℕ, ◌+◌, ◌-◌, ◌≤◌, true, false, List, [], ◌∷◌, ◌++◌, length, take, drop, take-append-drop, Some, refl, sym, ap, ◌∙◌, subst, inl, inr, arith, append_assoc}
 use Rattle.std.proofs.lemmas.List.{append-nil}
-use Rattle.cnf_form.specs.Cnf.{LitOf, FormulaOf, Assignment}
+use Rattle.cnf_form.specs.Cnf.{LitOf, FormulaOf}
 use Rattle.cnf_form.specs.Dimacs.{IsDimacs}
 use Rattle.cnf_form.proofs.Reading.{IsDimacs-one}
 use Rattle.cert_stream.specs.Text.{lines_of}
 use Rattle.cert_stream.specs.Stream.{lines_say, sayings}
-use Rattle.cert_stream.specs.Telling.{Saying, IsClause, IsDelete, IsValue, IsValuesEnd, IsUnknown, IsFault}
+use Rattle.cert_stream.specs.Telling.{Saying, IsClause}
 use Rattle.sby_terms.specs.declared.names.Answer.TheVariants.{Unsat}
 use Rattle.cert_judge.specs.DrupCert.{IsCert, IsCertOf}
 use Rattle.cert_judge.specs.Drup.{ComesTo}
 use Rattle.cert_judge.specs.Fate.{Found}
 use Rattle.cert_judge.specs.Kinds.{FateOf, FateSoFar, IsFate}
 use Rattle.cert_judge.specs.ProofFile.{BytesCome, tried}
-use Rattle.cert_judge.specs.Values.{named, unnamed}
+use Rattle.cert_judge.specs.Values.{unnamed}
 use Rattle.cert_judge.specs.declared.stream.StreamKind.TheVariants.{Drup, Proof}
 use Rattle.cert_judge.proofs.Deletions.{Clauses}
 use Rattle.cert_judge.proofs.DrupAccepting.{cert_fate}
 use Rattle.cert_judge.proofs.DrupCerts.{fate_cert}
+use Rattle.cert_judge.proofs.CertSayings.{comes_cut}
 use Rattle.cert_judge.proofs.DrupFates.{comes_more}
 use Rattle.cert_judge.proofs.FileFates.{found_at_end}
 use Rattle.cert_judge.proofs.FilePrefixes.{prefix_found}
@@ -47,18 +48,6 @@ module _ (C : Clauses) where
   lines_move [] ss ts F e f h = absurd (let k = subst (λ (z : List Saying). Finds F z) e h in cc)
   lines_move (l ∷ ls) ss ts F (p, s, e, a) (q, t, f, b) h =
       subst (λ (z : List Saying). Finds F z) (sym f) (line_moves l.kind l.lits p q F s t (λ H k. lines_move ls s t H a b k) (subst (λ (z : List Saying). Finds F z) e h))
-
-  -- a proof that the end completes came to nothing yet before it, or was complete
-  split : (F : Clauses) (x : Assignment) (ss : List Saying) (n : ℕ) → ComesTo C F x (tried n ss) (Some (Found Unsat)) → ComesTo C F x ss (Some (Found Unsat)) ⊎ ComesTo C F x ss None
-  split F x [] n h = inr refl
-  split F x (IsClause c p ∷ ss) n (inl h) = inl (inl h)
-  split F x (IsClause c p ∷ ss) n (inr (inl (a, m, h))) = elim (split (F ++ c ∷ []) x ss n h) [ inl k ↦ inl (inr (inl (a, m, k))) | inr k ↦ inr (inr (inl (a, m, k))) ]
-  split F x (IsClause c p ∷ ss) n (inr (inr (a, e))) = absurd (let k = e in cc)
-  split F x (IsDelete c ∷ ss) n (G, d, h) = elim (split G x ss n h) [ inl k ↦ inl (G, d, k) | inr k ↦ inr (G, d, k) ]
-  split F x (IsValue l ∷ ss) n h = split F (named x l) ss n h
-  split F x (IsValuesEnd ∷ ss) n h = inl h
-  split F x (IsUnknown ∷ ss) n h = inl h
-  split F x (IsFault f ∷ ss) n h = inl h
 
 -- a last line 0
 pub last_line : (vars at : ℕ) (t : List ℕ) (ls : List ProofLine) → IsTextProof vars at t ls → IsTextProof vars at (t ++ 48 ∷ 10 ∷ []) (ls ++ empty ∷ [])
@@ -118,7 +107,7 @@ module _ (f : FormulaOf) (ls : List ProofLine) (t : List ℕ) (most : ℕ) (h : 
       let b : AreSaid ls ts = text_lines f.vars ls t h true ts (file_spoken Text f.vars true t) in
       let i = lines_move f.clauses (ls ++ empty ∷ []) (sayings f.vars false whole) (tried (length t) ss) f.clauses whole_said (said_tried ls ss (length t) a) m in
       let j = lines_move f.clauses (ls ++ empty ∷ []) (sayings f.vars false whole) (tried (length t) ts) f.clauses whole_said (said_tried ls ts (length t) b) m in
-      let file : BytesCome Text f true t (Some (Found Unsat)) = elim (split f.clauses f.clauses unnamed ss (length t) i) [
+      let file : BytesCome Text f true t (Some (Found Unsat)) = elim (comes_cut f.clauses f.clauses unnamed ss (IsClause [] (length t) ∷ []) (Found Unsat) i) [
         | inl k ↦ inl (ss, file_spoken Text f.vars false t, k)
         | inr k ↦ inr ((ss, file_spoken Text f.vars false t, k), (ts, Found Unsat, file_spoken Text f.vars true t, j, refl))
       ] in

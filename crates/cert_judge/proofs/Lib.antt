@@ -33,4 +33,8 @@ pub mod OutputFates
 pub mod OutputDeciding
 pub mod OutputAnswering
 pub mod FileSpelling
+pub mod CertSayings
 pub mod FileCertificates
+pub mod TextCerts
+pub mod BinaryCerts
+pub mod KindCerts

@@ -2,6 +2,7 @@
 #![tactic(auto)]
 
 mod certificate;
+mod certs;
 mod hinted;
 mod judging;
 mod laws;
@@ -12,6 +13,9 @@ mod spot;
 mod stream;
 mod values;
 
+pub use certs::{
+    found_streams_hold_certificates, held_certificates_are_found, outputs_hold_certificates,
+};
 pub use hinted::{
     found_fate_begins_hinted_certificate, found_hinted_fate_stays_before_more,
     hinted_certificate_is_found, hinted_certificate_is_found_before_more,

@@ -12,3 +12,4 @@ pub mod Files
 pub mod Spelling
 pub mod Grouping
 pub mod Alone
+pub mod BinaryLines

@@ -156,7 +156,7 @@ module _ (vars total : ℕ) (ended : Bool) where
   head_says Clause at x = refl
   head_says Deletion at x = refl
 
-  binary_said : (ls : List ProofLine) (at : ℕ) (bytes : List ℕ) → IsBinaryProof vars bytes ls → AreSaid ls (numbers_say vars cut None (numbers_from at [] bytes))
+  pub binary_said : (ls : List ProofLine) (at : ℕ) (bytes : List ℕ) → IsBinaryProof vars bytes ls → AreSaid ls (numbers_say vars cut None (numbers_from at [] bytes))
   binary_said [] at bytes e = ap (λ z. numbers_say vars cut None (numbers_from at [] z)) e
   binary_said (l ∷ ls) at bytes (text, rest, e, a, len, h) =
       let k = literals_say l.kind at (at + 0 + 1) [] l.lits text rest a (omega (arith, len)) in (

@@ -7,7 +7,7 @@ ghost use Rattle.proof_stream.specs.File.{FileOf, StandsFor, after, fault, fresh
 ghost use Rattle.proof_stream.specs.Lines.{AreProofLines, FileSays};
 ghost use Rattle.proof_stream.specs.Numbers.{groups_read};
 ghost use Rattle.proof_stream.specs.Grouping.{IsRead};
-ghost use Rattle.proof_stream.specs.Spelling.{AreSaid, ProofLine, Spelt};
+ghost use Rattle.proof_stream.specs.Spelling.{AreSaid, ProofLine, SaysLines, Spelt};
 ghost use Rattle.proof_stream.specs.declared.spot.Form.{Form};
 ghost use Rattle.proof_stream.specs.declared.spot.Form.TheVariants.{Text, Binary};
 
@@ -40,6 +40,12 @@ pub fn files_say_lines()
 #[tactic(auto, using(crate::proofs::Alone::file_lines))]
 pub fn files_say_proof_lines()
     ensures { (form : Form) (vars : ℕ) (ended : Bool) (bytes : List ℕ) (ss : List Saying) → FileSays form vars ended bytes ss → AreProofLines ss }
+{}
+
+/// What a binary proof says is its whole lines, and then one fault at most.
+#[tactic(auto, using(crate::proofs::BinaryLines::binary_lines))]
+pub fn binary_files_say_whole_lines()
+    ensures { (vars : ℕ) (ended : Bool) (bytes : List ℕ) (ss : List Saying) → FileSays Binary vars ended bytes ss → SaysLines vars ended bytes ss }
 {}
 
 /// A binary proof and the text that spells it say the same lines, and nothing else, but for their places.

@@ -1,0 +1,111 @@
+-- Streams of every kind that begin with a certificate are found to, and those that are found to do.
+use Rattle.std.proofs.Common.{◌≡◌, ◌⊎◌, ℕ, ◌≤◌, Bool, true, false, List, [], ◌∷◌, ◌++◌, length, take, Some, refl, sym, subst, inl, inr, arith, append_assoc}
+use Rattle.std.proofs.lemmas.List.{append-nil, length-append, length-take, take-take}
+use Rattle.cnf_form.specs.Cnf.{FormulaOf}
+use Rattle.cnf_form.specs.Dimacs.{IsDimacs}
+use Rattle.proof_stream.specs.declared.spot.Form.TheVariants.{Text, Binary}
+use Rattle.sby_terms.specs.declared.names.Answer.{Answer}
+use Rattle.sby_terms.specs.declared.names.Answer.TheVariants.{Sat, Unsat}
+use Rattle.cert_judge.specs.Fate.{Found}
+use Rattle.cert_judge.specs.KindCert.{BeginsCert, Counts, HasCert, HoldsCert, IsClosedCert, IsOpenCert}
+use Rattle.cert_judge.specs.Kinds.{BytesCome, FateOf, IsFate}
+use Rattle.cert_judge.specs.Output.{has_values, stream_of}
+use Rattle.cert_judge.specs.OutputFate.{IsOutputFate, own_fate}
+use Rattle.cert_judge.specs.declared.stream.StreamKind.{StreamKind}
+use Rattle.cert_judge.specs.declared.stream.StreamKind.TheVariants.{Drup, Lrat, Proof, ProofBinary}
+use Rattle.cert_judge.proofs.BinaryCerts.{binary_cert, binary_closed, binary_lines_cert, binary_open}
+use Rattle.cert_judge.proofs.Bounding.{sides}
+use Rattle.cert_judge.proofs.DrupAccepting.{cert_fate}
+use Rattle.cert_judge.proofs.DrupCerts.{fate_cert}
+use Rattle.cert_judge.proofs.DrupFollowing.{fate_followed}
+use Rattle.cert_judge.proofs.FileFates.{file_never}
+use Rattle.cert_judge.proofs.KindFates.{fate_at_end, fate_stays}
+use Rattle.cert_judge.proofs.LratAccepting.{cert_fate as hinted_fate}
+use Rattle.cert_judge.proofs.LratCerts.{fate_cert as fate_hinted}
+use Rattle.cert_judge.proofs.LratFollowing.{fate_followed as hinted_followed}
+use Rattle.cert_judge.proofs.OutputFates.{own_same}
+use Rattle.cert_judge.proofs.TextCerts.{lines_cert, text_cert, text_closed, text_followed, text_open}
+
+-- the bytes come to a certificate so far, and stay so
+module _ (kind : StreamKind) (f : FormulaOf) (most : ℕ) (answer : Answer) where
+  stays_found : (bytes rest : List ℕ) → length bytes ≤ most → BytesCome kind f false bytes (Some (Found answer)) → FateOf kind f (bytes ++ rest) most (Found answer)
+  stays_found bytes rest l h =
+      fate_at_end kind f most (bytes ++ rest) (Found answer) (fate_stays kind f most bytes rest (Found answer) (record { within = λ _. h; beyond = λ b. absurd (omega (arith, b, l)) }))
+
+  whole_found : (bytes : List ℕ) → length bytes ≤ most → BytesCome kind f true bytes (Some (Found answer)) → FateOf kind f bytes most (Found answer)
+  whole_found bytes l h = record { within = λ _. inl h; beyond = λ b. absurd (omega (arith, b, l)) }
+
+-- a certificate that counts
+closed_found : (kind : StreamKind) (f : FormulaOf) (most : ℕ) (answer : Answer) (cert rest : List ℕ) → IsClosedCert kind f cert answer → Counts kind most cert rest → FateOf kind f (cert ++ rest) most (Found answer)
+closed_found Drup f most answer cert [] c l = subst (λ z. FateOf Drup f z most (Found answer)) (sym (append-nil cert)) (cert_fate f cert most answer c l)
+closed_found Drup f most answer cert (b ∷ rest) c (s, l) =
+    fate_at_end Drup f most (cert ++ b ∷ rest) (Found answer) (fate_followed f answer cert rest b most s l (cert_fate f cert most answer c (omega (arith, l))))
+closed_found Lrat f most answer cert [] c l = subst (λ z. FateOf Lrat f z most (Found answer)) (sym (append-nil cert)) (hinted_fate f cert most answer c l)
+closed_found Lrat f most answer cert (b ∷ rest) c (s, l) =
+    fate_at_end Lrat f most (cert ++ b ∷ rest) (Found answer) (hinted_followed f answer cert rest b most s l (hinted_fate f cert most answer c (omega (arith, l))))
+closed_found Proof f most answer cert [] (e, none, c) l =
+    subst (λ z. FateOf Proof f z most (Found answer)) (sym (append-nil cert)) (subst (λ a. FateOf Proof f cert most (Found a)) (sym e) (whole_found Proof f most Unsat cert l (text_closed f cert none c)))
+closed_found Proof f most answer cert (b ∷ rest) (e, none, c) (s, l) =
+    let len = length-append cert (b ∷ []) in
+    subst (λ z. FateOf Proof f z most (Found answer)) (append_assoc cert (b ∷ []) rest)
+    (subst (λ a. FateOf Proof f ((cert ++ b ∷ []) ++ rest) most (Found a)) (sym e) (stays_found Proof f most Unsat (cert ++ b ∷ []) rest (omega (arith, l, len)) (text_followed f cert b s none c)))
+closed_found ProofBinary f most answer cert rest (e, (front, q, r)) l =
+    subst (λ a. FateOf ProofBinary f (cert ++ rest) most (Found a)) (sym e)
+    (stays_found ProofBinary f most Unsat cert rest l (subst (λ z. BytesCome ProofBinary f false z (Some (Found Unsat))) (sym q) (binary_closed f front r)))
+
+open_found : (kind : StreamKind) (f : FormulaOf) (most : ℕ) (answer : Answer) (file : List ℕ) → IsOpenCert kind f file answer → length file ≤ most → FateOf kind f file most (Found answer)
+open_found Drup f most answer file c l = absurd c
+open_found Lrat f most answer file c l = absurd c
+open_found Proof f most answer file (e, none, (G, g, a)) l = subst (λ a. FateOf Proof f file most (Found a)) (sym e) (whole_found Proof f most Unsat file l (text_open f file none G g a))
+open_found ProofBinary f most answer file (e, r) l = subst (λ a. FateOf ProofBinary f file most (Found a)) (sym e) (whole_found ProofBinary f most Unsat file l (binary_open f file r))
+
+begins_found : (kind : StreamKind) (f : FormulaOf) (stream : List ℕ) (most : ℕ) (answer : Answer) → BeginsCert kind f stream most answer → FateOf kind f stream most (Found answer)
+begins_found kind f stream most answer (inl (cert, rest, e, c, l)) = subst (λ z. FateOf kind f z most (Found answer)) (sym e) (closed_found kind f most answer cert rest c l)
+begins_found kind f stream most answer (inr (c, l)) = open_found kind f most answer stream c l
+
+pub held_found : (kind : StreamKind) (job stream : List ℕ) (most : ℕ) (answer : Answer) → HoldsCert kind job stream most answer → IsFate kind job stream most (Found answer)
+held_found kind job stream most answer (f, d, h) = (f, d, begins_found kind f stream most answer h)
+
+-- what is found begins with a certificate
+module _ (kind : StreamKind) (f : FormulaOf) (most : ℕ) (answer : Answer) where
+  abbrev Closed : List ℕ → Type 0
+  Closed bytes = (n : ℕ) × (n ≤ length bytes) × IsClosedCert kind f (take n bytes) answer
+
+  begins_by : ((bytes : List ℕ) → BytesCome kind f false bytes (Some (Found answer)) → Closed bytes) → ((bytes : List ℕ) → BytesCome kind f true bytes (Some (Found answer)) → Closed bytes ⊎ IsOpenCert kind f bytes answer)
+      → (stream : List ℕ) → FateOf kind f stream most (Found answer) → HasCert kind f stream most answer
+  begins_by more all stream h =
+      elim (sides (length stream) most) [
+        | inl l ↦ elim (h.within l) [
+          | inl k ↦ elim (all stream k) [ inl (n, m, c) ↦ inl (n, m, omega (arith, m, l), c) | inr c ↦ inr (c, l) ]
+          | inr (k, e) ↦ absurd (let g = e in cc)
+        ]
+        | inr l ↦ elim ((h.beyond l).beyond l) [
+          | inl (x, k, e) ↦
+              let w = more (take most stream) (rw e k) in
+              let m : w.0 ≤ most = omega (arith, w.1, length-take most stream) in
+              inl (w.0, omega (arith, m, l), m, subst (λ z. IsClosedCert kind f z answer) (take-take w.0 most stream m) w.2)
+          | inr (k, e) ↦ absurd (let g = e in cc)
+        ]
+      ]
+
+fate_has : (kind : StreamKind) (f : FormulaOf) (stream : List ℕ) (most : ℕ) (answer : Answer) → FateOf kind f stream most (Found answer) → HasCert kind f stream most answer
+fate_has Drup f stream most answer h = inl (fate_cert f stream most answer h)
+fate_has Lrat f stream most answer h = inl (fate_hinted f stream most answer h)
+fate_has Proof f stream most Unsat h = begins_by Proof f most Unsat (λ bytes k. lines_cert f bytes k) (λ bytes k. text_cert f bytes k) stream h
+fate_has Proof f stream most Sat h = begins_by Proof f most Sat (λ bytes k. absurd (file_never Text f false bytes k)) (λ bytes k. absurd (file_never Text f true bytes k)) stream h
+fate_has ProofBinary f stream most Unsat h = begins_by ProofBinary f most Unsat (λ bytes k. binary_lines_cert f bytes k) (λ bytes k. binary_cert f bytes k) stream h
+fate_has ProofBinary f stream most Sat h = begins_by ProofBinary f most Sat (λ bytes k. absurd (file_never Binary f false bytes k)) (λ bytes k. absurd (file_never Binary f true bytes k)) stream h
+
+pub found_has : (kind : StreamKind) (job stream : List ℕ) (most : ℕ) (answer : Answer) → IsFate kind job stream most (Found answer) → (f : FormulaOf) × IsDimacs job f × HasCert kind f stream most answer
+found_has kind job stream most answer (f, d, h) = (f, d, fate_has kind f stream most answer h)
+
+-- a solver's output, read as a stream
+own_found : (values : Bool) (answer : Answer) → Some (Found answer) ≡ own_fate values (Found answer)
+own_found true answer = refl
+own_found false answer = refl
+
+pub output_found : (job bytes : List ℕ) (most : ℕ) (answer : Answer) → HoldsCert Drup job (stream_of true bytes) most answer → IsOutputFate job bytes most (Some (Found answer))
+output_found job bytes most answer h = (Found answer, held_found Drup job (stream_of true bytes) most answer h, own_found (has_values bytes) answer)
+
+pub output_has : (job bytes : List ℕ) (most : ℕ) (answer : Answer) → IsOutputFate job bytes most (Some (Found answer)) → (f : FormulaOf) × IsDimacs job f × HasCert Drup f (stream_of true bytes) most answer
+output_has job bytes most answer (x, h, e) = found_has Drup job (stream_of true bytes) most answer (subst (IsFate Drup job (stream_of true bytes) most) (own_same (has_values bytes) x (Found answer) e) h)
