@@ -12,9 +12,9 @@ use Rattle.proof_stream.specs.Spelling.{AreNumbers, AreSaid, IsBinaryProof, Proo
 use Rattle.proof_stream.specs.declared.spot.Form.TheVariants.{Binary}
 use Rattle.proof_stream.specs.declared.spot.LineKind.{LineKind}
 use Rattle.proof_stream.specs.declared.spot.LineKind.TheVariants.{Clause, Deletion}
+use Rattle.proof_stream.proofs.AnyLines.{binary_says}
 use Rattle.proof_stream.proofs.BinaryLines.{binary_lines}
 use Rattle.proof_stream.proofs.Files.{file_spoken}
-use Rattle.proof_stream.proofs.Spelling.{binary_said}
 use Rattle.sby_terms.specs.declared.names.Answer.TheVariants.{Unsat}
 use Rattle.cert_judge.specs.BinaryCert.{IsRefutation, LineLeads, LinesLead}
 use Rattle.cert_judge.specs.Drup.{Comes, ComesTo}
@@ -116,8 +116,8 @@ module _ (f : FormulaOf) where
       let t = file_spoken Binary f.vars true bytes in
       let n : Comes f (says false bytes) None =
       subst (λ (z : List Saying). Comes f z None) (append-nil (says false bytes))
-      (lines_lead f.clauses ls f.clauses G (says false bytes) [] None (subst (AreSaid ls) (sym s) (binary_said f.vars (length bytes) false ls 0 bytes p)) g refl) in
-      let k = lines_lead f.clauses ls f.clauses G (says true bytes) (IsClause [] (length bytes) ∷ []) (Some (Found Unsat)) (subst (AreSaid ls) (sym t) (binary_said f.vars (length bytes) true ls 0 bytes p)) g
+      (lines_lead f.clauses ls f.clauses G (says false bytes) [] None (subst (AreSaid ls) (sym s) (binary_says f.vars (length bytes) false ls bytes p)) g refl) in
+      let k = lines_lead f.clauses ls f.clauses G (says true bytes) (IsClause [] (length bytes) ∷ []) (Some (Found Unsat)) (subst (AreSaid ls) (sym t) (binary_says f.vars (length bytes) true ls bytes p)) g
       (empty_found f.clauses G (length bytes) [] a) in
       inr ((says false bytes, s, n), (says true bytes, Found Unsat, t, k, refl))
 
@@ -130,7 +130,7 @@ module _ (f : FormulaOf) where
       let bytes : List ℕ = front ++ 97 ∷ 0 ∷ [] in
       let s = file_spoken Binary f.vars false bytes in
       let q = proof_append f.vars ls (empty ∷ []) front (97 ∷ 0 ∷ []) p empty_line in
-      let k = said_append ls (empty ∷ []) (says false bytes) (subst (AreSaid (ls ++ empty ∷ [])) (sym s) (binary_said f.vars (length bytes) false (ls ++ empty ∷ []) 0 bytes q)) in
+      let k = said_append ls (empty ∷ []) (says false bytes) (subst (AreSaid (ls ++ empty ∷ [])) (sym s) (binary_says f.vars (length bytes) false (ls ++ empty ∷ []) bytes q)) in
       let h : Finds (k.0 ++ k.1) =
       subst (λ (z : List Saying). Finds (k.0 ++ z)) (sym k.4.2) (lines_lead f.clauses ls f.clauses G k.0 (IsClause [] k.4.0 ∷ k.4.1) (Some (Found Unsat)) k.3 g (empty_found f.clauses G k.4.0 k.4.1 a)) in
       (says false bytes, s, subst Finds (sym k.2) h)

@@ -1,5 +1,5 @@
 -- Streams of every kind that begin with a certificate are found to, and those that are found to do.
-use Rattle.std.proofs.Common.{◌≡◌, ◌⊎◌, ℕ, ◌≤◌, Bool, true, false, List, [], ◌∷◌, ◌++◌, length, take, Some, refl, sym, subst, inl, inr, arith, append_assoc}
+use Rattle.std.proofs.Common.{◌≡◌, ◌⊎◌, ℕ, ◌<◌, ◌≤◌, Bool, true, false, List, [], ◌∷◌, ◌++◌, length, take, Some, refl, sym, subst, inl, inr, arith, append_assoc}
 use Rattle.std.proofs.lemmas.List.{append-nil, length-append, length-take, take-take}
 use Rattle.cnf_form.specs.Cnf.{FormulaOf}
 use Rattle.cnf_form.specs.Dimacs.{IsDimacs}
@@ -7,8 +7,8 @@ use Rattle.proof_stream.specs.declared.spot.Form.TheVariants.{Text, Binary}
 use Rattle.sby_terms.specs.declared.names.Answer.{Answer}
 use Rattle.sby_terms.specs.declared.names.Answer.TheVariants.{Sat, Unsat}
 use Rattle.cert_judge.specs.Fate.{Found}
-use Rattle.cert_judge.specs.KindCert.{BeginsCert, Counts, HasCert, HoldsCert, IsClosedCert, IsOpenCert}
-use Rattle.cert_judge.specs.Kinds.{BytesCome, FateOf, IsFate}
+use Rattle.cert_judge.specs.KindCert.{BeginsCert, Counts, HasCert, HoldsCert, IsClosedCert, IsOpenCert, IsSpace}
+use Rattle.cert_judge.specs.Kinds.{BytesCome, FateOf, FateSoFar, IsFate, IsFateSoFar}
 use Rattle.cert_judge.specs.Output.{has_values, stream_of}
 use Rattle.cert_judge.specs.OutputFate.{IsOutputFate, own_fate}
 use Rattle.cert_judge.specs.declared.stream.StreamKind.{StreamKind}
@@ -28,30 +28,43 @@ use Rattle.cert_judge.proofs.TextCerts.{lines_cert, text_cert, text_closed, text
 
 -- the bytes come to a certificate so far, and stay so
 module _ (kind : StreamKind) (f : FormulaOf) (most : ℕ) (answer : Answer) where
-  stays_found : (bytes rest : List ℕ) → length bytes ≤ most → BytesCome kind f false bytes (Some (Found answer)) → FateOf kind f (bytes ++ rest) most (Found answer)
-  stays_found bytes rest l h =
-      fate_at_end kind f most (bytes ++ rest) (Found answer) (fate_stays kind f most bytes rest (Found answer) (record { within = λ _. h; beyond = λ b. absurd (omega (arith, b, l)) }))
+  stays_found : (bytes rest : List ℕ) → length bytes ≤ most → BytesCome kind f false bytes (Some (Found answer)) → FateSoFar kind f (bytes ++ rest) most (Some (Found answer))
+  stays_found bytes rest l h = fate_stays kind f most bytes rest (Found answer) (record { within = λ _. h; beyond = λ b. absurd (omega (arith, b, l)) })
 
   whole_found : (bytes : List ℕ) → length bytes ≤ most → BytesCome kind f true bytes (Some (Found answer)) → FateOf kind f bytes most (Found answer)
   whole_found bytes l h = record { within = λ _. inl h; beyond = λ b. absurd (omega (arith, b, l)) }
 
--- a certificate that counts
-closed_found : (kind : StreamKind) (f : FormulaOf) (most : ℕ) (answer : Answer) (cert rest : List ℕ) → IsClosedCert kind f cert answer → Counts kind most cert rest → FateOf kind f (cert ++ rest) most (Found answer)
-closed_found Drup f most answer cert [] c l = subst (λ z. FateOf Drup f z most (Found answer)) (sym (append-nil cert)) (cert_fate f cert most answer c l)
-closed_found Drup f most answer cert (b ∷ rest) c (s, l) =
-    fate_at_end Drup f most (cert ++ b ∷ rest) (Found answer) (fate_followed f answer cert rest b most s l (cert_fate f cert most answer c (omega (arith, l))))
-closed_found Lrat f most answer cert [] c l = subst (λ z. FateOf Lrat f z most (Found answer)) (sym (append-nil cert)) (hinted_fate f cert most answer c l)
-closed_found Lrat f most answer cert (b ∷ rest) c (s, l) =
-    fate_at_end Lrat f most (cert ++ b ∷ rest) (Found answer) (hinted_followed f answer cert rest b most s l (hinted_fate f cert most answer c (omega (arith, l))))
-closed_found Proof f most answer cert [] (e, none, c) l =
-    subst (λ z. FateOf Proof f z most (Found answer)) (sym (append-nil cert)) (subst (λ a. FateOf Proof f cert most (Found a)) (sym e) (whole_found Proof f most Unsat cert l (text_closed f cert none c)))
-closed_found Proof f most answer cert (b ∷ rest) (e, none, c) (s, l) =
+-- a certificate that counts, where more follows
+closed_so_far : (kind : StreamKind) (f : FormulaOf) (most : ℕ) (answer : Answer) (cert rest : List ℕ) (b : ℕ) → IsClosedCert kind f cert answer → Counts kind most cert (b ∷ rest)
+    → FateSoFar kind f (cert ++ b ∷ rest) most (Some (Found answer))
+closed_so_far Drup f most answer cert rest b c (s, l) = fate_followed f answer cert rest b most s l (cert_fate f cert most answer c (omega (arith, l)))
+closed_so_far Lrat f most answer cert rest b c (s, l) = hinted_followed f answer cert rest b most s l (hinted_fate f cert most answer c (omega (arith, l)))
+closed_so_far Proof f most answer cert rest b (e, none, c) (s, l) =
     let len = length-append cert (b ∷ []) in
-    subst (λ z. FateOf Proof f z most (Found answer)) (append_assoc cert (b ∷ []) rest)
-    (subst (λ a. FateOf Proof f ((cert ++ b ∷ []) ++ rest) most (Found a)) (sym e) (stays_found Proof f most Unsat (cert ++ b ∷ []) rest (omega (arith, l, len)) (text_followed f cert b s none c)))
-closed_found ProofBinary f most answer cert rest (e, (front, q, r)) l =
-    subst (λ a. FateOf ProofBinary f (cert ++ rest) most (Found a)) (sym e)
-    (stays_found ProofBinary f most Unsat cert rest l (subst (λ z. BytesCome ProofBinary f false z (Some (Found Unsat))) (sym q) (binary_closed f front r)))
+    subst (λ z. FateSoFar Proof f z most (Some (Found answer))) (append_assoc cert (b ∷ []) rest)
+    (subst (λ a. FateSoFar Proof f ((cert ++ b ∷ []) ++ rest) most (Some (Found a))) (sym e) (stays_found Proof f most Unsat (cert ++ b ∷ []) rest (omega (arith, l, len)) (text_followed f cert b s none c)))
+closed_so_far ProofBinary f most answer cert rest b (e, (front, q, r)) l =
+    subst (λ a. FateSoFar ProofBinary f (cert ++ b ∷ rest) most (Some (Found a))) (sym e)
+    (stays_found ProofBinary f most Unsat cert (b ∷ rest) l (subst (λ z. BytesCome ProofBinary f false z (Some (Found Unsat))) (sym q) (binary_closed f front r)))
+
+-- and where the stream ends with it
+closed_whole : (kind : StreamKind) (f : FormulaOf) (most : ℕ) (answer : Answer) (cert : List ℕ) → IsClosedCert kind f cert answer → Counts kind most cert [] → FateOf kind f cert most (Found answer)
+closed_whole Drup f most answer cert c l = cert_fate f cert most answer c l
+closed_whole Lrat f most answer cert c l = hinted_fate f cert most answer c l
+closed_whole Proof f most answer cert (e, none, c) l = subst (λ a. FateOf Proof f cert most (Found a)) (sym e) (whole_found Proof f most Unsat cert l (text_closed f cert none c))
+closed_whole ProofBinary f most answer cert (e, (front, q, r)) l =
+    subst (λ a. FateOf ProofBinary f cert most (Found a)) (sym e)
+    (fate_at_end ProofBinary f most cert (Found Unsat)
+    (subst (λ z. FateSoFar ProofBinary f z most (Some (Found Unsat))) (append-nil cert)
+    (stays_found ProofBinary f most Unsat cert [] l (subst (λ z. BytesCome ProofBinary f false z (Some (Found Unsat))) (sym q) (binary_closed f front r)))))
+
+closed_found : (kind : StreamKind) (f : FormulaOf) (most : ℕ) (answer : Answer) (cert rest : List ℕ) → IsClosedCert kind f cert answer → Counts kind most cert rest → FateOf kind f (cert ++ rest) most (Found answer)
+closed_found kind f most answer cert [] c l = subst (λ z. FateOf kind f z most (Found answer)) (sym (append-nil cert)) (closed_whole kind f most answer cert c l)
+closed_found kind f most answer cert (b ∷ rest) c l = fate_at_end kind f most (cert ++ b ∷ rest) (Found answer) (closed_so_far kind f most answer cert rest b c l)
+
+pub followed_found : (kind : StreamKind) (job cert rest : List ℕ) (b most : ℕ) (answer : Answer) (f : FormulaOf) → IsDimacs job f → IsClosedCert kind f cert answer → Counts kind most cert (b ∷ rest)
+    → IsFateSoFar kind job (cert ++ b ∷ rest) most (Some (Found answer))
+followed_found kind job cert rest b most answer f d c l = (f, d, closed_so_far kind f most answer cert rest b c l)
 
 open_found : (kind : StreamKind) (f : FormulaOf) (most : ℕ) (answer : Answer) (file : List ℕ) → IsOpenCert kind f file answer → length file ≤ most → FateOf kind f file most (Found answer)
 open_found Drup f most answer file c l = absurd c
@@ -109,3 +122,10 @@ output_found job bytes most answer h = (Found answer, held_found Drup job (strea
 
 pub output_has : (job bytes : List ℕ) (most : ℕ) (answer : Answer) → IsOutputFate job bytes most (Some (Found answer)) → (f : FormulaOf) × IsDimacs job f × HasCert Drup f (stream_of true bytes) most answer
 output_has job bytes most answer (x, h, e) = found_has Drup job (stream_of true bytes) most answer (subst (IsFate Drup job (stream_of true bytes) most) (own_same (has_values bytes) x (Found answer) e) h)
+
+-- what was found of a stream stays where white space or a line feed follows
+pub drup_stays : (job stream rest : List ℕ) (b most : ℕ) (answer : Answer) → IsFate Drup job stream most (Found answer) → IsSpace b → length stream < most → IsFateSoFar Drup job (stream ++ b ∷ rest) most (Some (Found answer))
+drup_stays job stream rest b most answer (f, d, h) s l = (f, d, fate_followed f answer stream rest b most s l h)
+
+pub lrat_stays : (job stream rest : List ℕ) (b most : ℕ) (answer : Answer) → IsFate Lrat job stream most (Found answer) → IsSpace b → length stream < most → IsFateSoFar Lrat job (stream ++ b ∷ rest) most (Some (Found answer))
+lrat_stays job stream rest b most answer (f, d, h) s l = (f, d, hinted_followed f answer stream rest b most s l h)

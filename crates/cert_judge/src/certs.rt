@@ -1,16 +1,16 @@
 // Laws of certificates of every kind.
 
-ghost use Rattle.std.specs.Prelude.{ℕ, true, List, Some};
+ghost use Rattle.std.specs.Prelude.{◌<◌, ◌∷◌, ◌++◌, ℕ, true, List, length, Some};
 ghost use Rattle.cnf_form.specs.Cnf.{FormulaOf};
 ghost use Rattle.cnf_form.specs.Dimacs.{IsDimacs};
 ghost use Rattle.sby_terms.specs.declared.names.Answer.{Answer};
 ghost use Rattle.cert_judge.specs.Fate.{Found};
-ghost use Rattle.cert_judge.specs.KindCert.{HasCert, HoldsCert};
-ghost use Rattle.cert_judge.specs.Kinds.{IsFate};
+ghost use Rattle.cert_judge.specs.KindCert.{Counts, HasCert, HoldsCert, IsClosedCert, IsSpace};
+ghost use Rattle.cert_judge.specs.Kinds.{IsFate, IsFateSoFar};
 ghost use Rattle.cert_judge.specs.Output.{stream_of};
 ghost use Rattle.cert_judge.specs.OutputFate.{IsOutputFate};
 ghost use Rattle.cert_judge.specs.declared.stream.StreamKind.{StreamKind};
-ghost use Rattle.cert_judge.specs.declared.stream.StreamKind.TheVariants.{Drup};
+ghost use Rattle.cert_judge.specs.declared.stream.StreamKind.TheVariants.{Drup, Lrat};
 
 /// A stream that begins with a certificate of its kind that counts, whatever comes then, and a proof file that its end completes, are found
 /// to be certificates.
@@ -26,6 +26,21 @@ pub fn held_certificates_are_found()
 pub fn found_streams_hold_certificates()
     ensures { (kind : StreamKind) (job stream : List ℕ) (most : ℕ) (answer : Answer) → IsFate kind job stream most (Found answer)
         → (f : FormulaOf) × IsDimacs job f × HasCert kind f stream most answer }
+{}
+
+/// A certificate that ends with its own 0 is found once what follows makes it count, whatever comes then.
+pub fn certificates_are_found_before_more()
+    ensures { (kind : StreamKind) (job cert rest : List ℕ) (b most : ℕ) (answer : Answer) (f : FormulaOf) → IsDimacs job f → IsClosedCert kind f cert answer
+        → Counts kind most cert (b ∷ rest) → IsFateSoFar kind job (cert ++ b ∷ rest) most (Some (Found answer)) }
+{}
+
+/// A found fate of DRUP text or of hinted text stays where white space or a line feed follows.
+#[tactic(auto, using(crate::proofs::KindCerts::drup_stays, crate::proofs::KindCerts::lrat_stays))]
+pub fn found_fates_stay_before_more()
+    ensures drup { (job stream rest : List ℕ) (b most : ℕ) (answer : Answer) → IsFate Drup job stream most (Found answer) → IsSpace b → length stream < most
+        → IsFateSoFar Drup job (stream ++ b ∷ rest) most (Some (Found answer)) }
+    ensures hinted { (job stream rest : List ℕ) (b most : ℕ) (answer : Answer) → IsFate Lrat job stream most (Found answer) → IsSpace b → length stream < most
+        → IsFateSoFar Lrat job (stream ++ b ∷ rest) most (Some (Found answer)) }
 {}
 
 /// A solver's output is found to be a certificate exactly where the stream as which it is read is.

@@ -1,9 +1,9 @@
 -- The bytes of a binary proof are whole lines, and then what says nothing or is at fault.
-use Rattle.std.proofs.Common.{◌≡◌, ◌⊎◌, ℕ, zero, suc, ◌+◌, ◌*◌, ◌/◌, ◌%◌, ◌<◌, ◌≤◌, Bool, true, false, eqb, leb, List, [], ◌∷◌, ◌++◌, length, Option, Some, None, refl, ap, sym, ◌∙◌, inl, inr, arith, append_assoc, cond, subst, length-append}
+use Rattle.std.proofs.Common.{◌≡◌, ◌⊎◌, ℕ, zero, suc, ◌+◌, ◌*◌, ◌<◌, ◌≤◌, Bool, true, false, eqb, leb, List, [], ◌∷◌, ◌++◌, length, Option, Some, None, refl, ap, sym, ◌∙◌, inl, inr, arith, append_assoc, cond, subst, length-append}
 use Rattle.std.specs.Prelude.{slice_index}
 use Rattle.std.proofs.lemmas.Bool.{cases_Bool, eqb-true, leb-false}
 use Rattle.std.proofs.lemmas.List.{append-nil}
-use Rattle.cnf_form.specs.Cnf.{LitOf, LitWithin, index_of}
+use Rattle.cnf_form.specs.Cnf.{LitOf, LitWithin}
 use Rattle.cnf_form.specs.Coding.{index_of-lit_from, lit_from}
 use Rattle.cert_stream.specs.Stream.{bad}
 use Rattle.cert_stream.specs.Telling.{Saying}
@@ -58,7 +58,7 @@ one_group (c ∷ []) b h e l = ap (λ z. z ∷ []) (eqb-true c b e)
 one_group (c ∷ d ∷ g) b h e l = absurd (let k : leb 128 b ≡ true = subst (λ z. leb 128 z ≡ true) (eqb-true c b e) h.0 in let q = sym k ∙ l in cc)
 
 -- the first groups that are a number are all
-all_groups : (front rest : List ℕ) → AreGroups front → AreGroups (front ++ rest) → rest ≡ []
+pub all_groups : (front rest : List ℕ) → AreGroups front → AreGroups (front ++ rest) → rest ≡ []
 all_groups [] rest h g = absurd h
 all_groups (b ∷ []) [] h g = refl
 all_groups (b ∷ []) (c ∷ rest) h g = absurd (let q : true ≡ false = sym g.0 ∙ h in cc)
@@ -72,7 +72,7 @@ not_tops (b ∷ c ∷ front) rest h t = not_tops (c ∷ front) rest h.1 t.1
 top_first : (b : ℕ) (p : List ℕ) (k : ℕ) → AreTops (b ∷ p) → leb 128 k ≡ false → eqb b k ≡ false
 top_first b p k h l = elim (cases_Bool (eqb b k)) [ inr f ↦ f | inl e ↦ absurd (let q : true ≡ false = sym (subst (λ z. leb 128 z ≡ true) (eqb-true b k e) h.0) ∙ l in cc) ]
 
-within_of : (vars v : ℕ) (b : Bool) → 2 ≤ 2 * v + cond b 1 0 → 2 * v + cond b 1 0 ≤ 2 * vars + 1 → (0 < v) × (v ≤ vars)
+pub within_of : (vars v : ℕ) (b : Bool) → 2 ≤ 2 * v + cond b 1 0 → 2 * v + cond b 1 0 ≤ 2 * vars + 1 → (0 < v) × (v ≤ vars)
 within_of vars v true a b = (omega (arith, a), omega (arith, b))
 within_of vars v false a b = (omega (arith, a), omega (arith, b))
 

@@ -13,3 +13,5 @@ pub mod Spelling
 pub mod Grouping
 pub mod Alone
 pub mod BinaryLines
+pub mod AnyText
+pub mod AnyLines

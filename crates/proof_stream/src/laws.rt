@@ -7,6 +7,7 @@ ghost use Rattle.proof_stream.specs.File.{FileOf, StandsFor, after, fault, fresh
 ghost use Rattle.proof_stream.specs.Lines.{AreProofLines, FileSays};
 ghost use Rattle.proof_stream.specs.Numbers.{groups_read};
 ghost use Rattle.proof_stream.specs.Grouping.{IsRead};
+ghost use Rattle.proof_stream.specs.AnyLines.{AreSaidTo, SpeltAny};
 ghost use Rattle.proof_stream.specs.Spelling.{AreSaid, ProofLine, SaysLines, Spelt};
 ghost use Rattle.proof_stream.specs.declared.spot.Form.{Form};
 ghost use Rattle.proof_stream.specs.declared.spot.Form.TheVariants.{Text, Binary};
@@ -49,11 +50,20 @@ pub fn binary_files_say_whole_lines()
 {}
 
 /// A binary proof and the text that spells it say the same lines, and nothing else, but for their places.
-#[tactic(auto, using(crate::proofs::Spelling::spelt_says))]
+#[tactic(auto, using(crate::proofs::AnyLines::spelt_says))]
 pub fn spelt_files_say_the_same()
     ensures { (vars : ℕ) (b t : List ℕ) → Spelt vars b t
         → (lines : List ProofLine) × ((ended : Bool) (ss : List Saying) → FileSays Binary vars ended b ss → AreSaid lines ss)
         × ((ended : Bool) (ss : List Saying) → FileSays Text vars ended t ss → AreSaid lines ss) }
+{}
+
+/// So do they where their literals are of any variables, and their lines of any length: they say the same lines up to the first that does not
+/// fit, and the same fault then, but for places.
+#[tactic(auto, using(crate::proofs::AnyLines::spelt_any_says))]
+pub fn any_spelt_files_say_the_same()
+    ensures { (vars : ℕ) (b t : List ℕ) → SpeltAny vars b t
+        → (lines : List ProofLine) × ((ended : Bool) (ss : List Saying) → FileSays Binary vars ended b ss → AreSaidTo vars lines ss)
+        × ((ended : Bool) (ss : List Saying) → FileSays Text vars ended t ss → AreSaidTo vars lines ss) }
 {}
 
 /// Groups, read one after the other, are read as what they are: a literal, the beginning of one, or none; in a full line none may
