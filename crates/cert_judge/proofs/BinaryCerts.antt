@@ -1,7 +1,6 @@
 -- Binary proofs that are certificates.
-use Rattle.std.proofs.Common.{◌≡◌, ◌⊎◌, ℕ, ◌+◌, ◌≤◌, Bool, true, false, List, [], ◌∷◌, ◌++◌, length, take, Option, Some, None, refl, sym, ap, ◌∙◌, subst, inl, inr, arith, append_assoc}
-use Rattle.std.proofs.lemmas.List.{append-nil, length-append}
-use Rattle.std.proofs.Math.Seq.{take-append_seam}
+use Rattle.std.proofs.Common.{◌≡◌, ◌⊎◌, ℕ, Bool, true, false, List, [], ◌∷◌, ◌++◌, length, Option, Some, None, refl, sym, ap, ◌∙◌, subst, inl, inr, arith, append_assoc}
+use Rattle.std.proofs.lemmas.List.{append-nil}
 use Rattle.cnf_form.specs.Cnf.{LitOf, FormulaOf, IsAdmitted}
 use Rattle.cert_stream.specs.Telling.{Saying, IsClause}
 use Rattle.cert_stream.specs.Stream.{bad}
@@ -137,7 +136,7 @@ module _ (f : FormulaOf) where
 
   -- a certificate with which the bytes begin
   abbrev Closed : List ℕ → Type 0
-  Closed bytes = (n : ℕ) × (n ≤ length bytes) × IsClosedCert ProofBinary f (take n bytes) Unsat
+  Closed bytes = (cert : List ℕ) × (rest : List ℕ) × (bytes ≡ cert ++ rest) × IsClosedCert ProofBinary f cert Unsat × Unit {0}
 
   closed_in : (bytes front rest : List ℕ) (ls : List ProofLine) → bytes ≡ front ++ rest → IsBinaryProof f.vars front ls → Refuted f.clauses f.clauses ls → Closed bytes
   closed_in bytes front rest ls e p (ms, ns, G, q, g, a) =
@@ -145,9 +144,7 @@ module _ (f : FormulaOf) where
       let cert : List ℕ = k.0 ++ 97 ∷ 0 ∷ [] in
       let whole : bytes ≡ cert ++ (k.1 ++ rest) =
       e ∙ ap (λ z. z ++ rest) k.2 ∙ append_assoc k.0 (97 ∷ 0 ∷ k.1) rest ∙ sym (append_assoc k.0 (97 ∷ 0 ∷ []) (k.1 ++ rest)) in
-      let len : length bytes ≡ length cert + length (k.1 ++ rest) = ap length whole ∙ length-append cert (k.1 ++ rest) in
-      let t : take (length cert) bytes ≡ cert = ap (take (length cert)) whole ∙ take-append_seam cert (k.1 ++ rest) in
-      (length cert, omega (arith, len), (refl, (k.0, t, (ms, G, k.3, g, a))))
+      (cert, k.1 ++ rest, whole, (refl, (k.0, refl, (ms, G, k.3, g, a))), tt)
 
   nothing_found : (tail : List Saying) (G : Clauses) → ((kind : ParseFaultKind) × (byte : ℕ) × (tail ≡ bad kind byte)) → (more : List Saying) → ComesTo f.clauses G unnamed (tail ++ more) (Some (Found Unsat)) → ⊥
   nothing_found tail G (kind, byte, e) more h = let k = subst (λ (z : List Saying). ComesTo f.clauses G unnamed (z ++ more) (Some (Found Unsat))) e h in cc

@@ -9,19 +9,18 @@ use Rattle.sby_terms.specs.declared.names.Answer.TheVariants.{Unsat}
 use Rattle.cert_judge.specs.DrupCert.{IsCert, IsCertOf}
 use Rattle.cert_judge.specs.Drup.{ComesTo}
 use Rattle.cert_judge.specs.Fate.{Found}
-use Rattle.cert_judge.specs.Kinds.{FateOf, FateSoFar, IsFate}
+use Rattle.cert_judge.specs.Kinds.{FateOf, IsFate}
 use Rattle.cert_judge.specs.ProofFile.{BytesCome, tried}
 use Rattle.cert_judge.specs.Values.{unnamed}
 use Rattle.cert_judge.specs.declared.stream.StreamKind.TheVariants.{Drup, Proof}
 use Rattle.cert_judge.proofs.Deletions.{Clauses}
 use Rattle.cert_judge.proofs.DrupAccepting.{cert_fate}
-use Rattle.cert_judge.proofs.DrupCerts.{fate_cert}
+use Rattle.cert_judge.proofs.DrupCerts.{cert_found as drup_found}
 use Rattle.cert_judge.proofs.CertSayings.{comes_cut}
 use Rattle.cert_judge.proofs.DrupFates.{comes_more}
 use Rattle.cert_judge.proofs.FileFates.{found_at_end}
 use Rattle.cert_judge.proofs.FilePrefixes.{prefix_found}
 use Rattle.cert_judge.proofs.FileSpelling.{Comes, comes_of, empty}
-use Rattle.cert_judge.proofs.KindFates.{fate_at_end}
 use Rattle.proof_stream.specs.Binary.{line_said}
 use Rattle.proof_stream.specs.File.{fresh, spoken}
 use Rattle.proof_stream.specs.Spelling.{AreSaid, IsTextProof, ProofLine, Spelt}
@@ -89,9 +88,8 @@ module _ (f : FormulaOf) (ls : List ProofLine) (t : List ℕ) (most : ℕ) (h : 
   found_cert k =
       let u = found_tried (comes_of f (AreSaid ls) most Text t (Found Unsat) (text_file_says f.vars ls t h) l k) in
       let c = lines_move f.clauses (ls ++ empty ∷ []) u.0 (sayings f.vars false whole) f.clauses u.1 whole_said u.2 in
-      let s : FateSoFar Drup f whole (length whole) (Some (Found Unsat)) = record { within = λ _. c; beyond = λ b. absurd (omega (arith, b)) } in
-      let g = fate_cert f whole (length whole) Unsat (fate_at_end Drup f (length whole) whole (Found Unsat) s) in
-      (g.0, g.1, g.3)
+      let g = drup_found f Unsat false whole c in
+      (g.0, g.1, g.2)
 
   cert_says : (cert : List ℕ) → FateOf Drup f cert (length cert) (Found Unsat) → Finds f.clauses f.clauses (sayings f.vars true cert)
   cert_says cert g = elim (g.within (omega arith)) [ inl k ↦ k | inr (k, e) ↦ absurd (let z = e in cc) ]

@@ -1,8 +1,9 @@
 -- Proof files in text that are certificates.
-use Rattle.std.proofs.Common.{◌≡◌, ◌⊎◌, ℕ, ◌+◌, ◌≤◌, Bool, true, false, ◌&&◌, eqb, List, [], ◌∷◌, ◌++◌, length, take, drop, take-append-drop, Some, None, refl, sym, ap, ◌∙◌, subst, inl, inr, arith, append_assoc}
+use Rattle.std.proofs.Common.{◌≡◌, ◌⊎◌, ℕ, ◌+◌, ◌≤◌, Bool, true, false, ◌&&◌, eqb, List, [], ◌∷◌, ◌++◌, length, take, Some, None, refl, sym, ap, ◌∙◌, subst, inl, inr, arith, append_assoc}
 use Rattle.std.specs.Prelude.{codes, map}
 use Rattle.std.proofs.lemmas.Bool.{cases_Bool, eqb-true}
-use Rattle.std.proofs.lemmas.List.{append-nil, length-append, map-append, take_all, take-append-le}
+use Rattle.std.proofs.Math.Seq.{take-append_seam}
+use Rattle.std.proofs.lemmas.List.{append-nil, length-append, map-append}
 use Rattle.cnf_form.specs.Cnf.{LitOf, FormulaOf, IsAdmitted}
 use Rattle.cert_stream.specs.Machine.{DrupOf, at_end, fault_of, turn}
 use Rattle.cert_stream.specs.Text.{is_blank, lines_of, put_first}
@@ -27,18 +28,17 @@ use Rattle.cert_judge.specs.Drup.{Comes}
 use Rattle.cert_judge.specs.DrupCert.{Leads, IsCertOf, lines, words}
 use Rattle.cert_judge.specs.Fate.{Found}
 use Rattle.cert_judge.specs.KindCert.{IsClosedCert, IsOpenCert, IsSpace}
-use Rattle.cert_judge.specs.Kinds.{FateOf}
 use Rattle.cert_judge.specs.ProofFile.{BytesCome, LinesCome, tried}
 use Rattle.cert_judge.specs.Values.{unnamed}
-use Rattle.cert_judge.specs.declared.stream.StreamKind.TheVariants.{Drup, Proof}
+use Rattle.cert_judge.specs.declared.stream.StreamKind.TheVariants.{Proof}
 use Rattle.cert_judge.proofs.Bounding.{sides}
 use Rattle.cert_judge.proofs.CertSayings.{comes_cut, fault_some, found_before_fault, last_moves}
 use Rattle.cert_judge.proofs.DrupAccepting.{cert_fate}
-use Rattle.cert_judge.proofs.DrupCerts.{fate_cert}
+use Rattle.cert_judge.proofs.CertEnds.{Parts, drup_zero, last_same, parts, parts_front}
+use Rattle.cert_judge.proofs.DrupCerts.{cert_found}
 use Rattle.cert_judge.proofs.DrupFates.{comes_more}
 use Rattle.cert_judge.proofs.DrupFollowing.{fate_followed}
 use Rattle.cert_judge.proofs.FileFates.{found_at_end}
-use Rattle.cert_judge.proofs.KindFates.{fate_at_end}
 
 -- no line of s or v
 abbrev pub NoClaim : List ℕ → Type 0
@@ -46,9 +46,6 @@ NoClaim bytes = HasClaim bytes → ⊥
 
 no_claim_prefix : (front rest : List ℕ) → NoClaim (front ++ rest) → NoClaim front
 no_claim_prefix front rest n (x, b, y, e, h, t) = n (x, b, y ++ rest, ap (λ z. z ++ rest) e ∙ append_assoc x (b ∷ y) rest, h, t)
-
-no_claim_take : (n : ℕ) (bytes : List ℕ) → NoClaim bytes → NoClaim (take n bytes)
-no_claim_take n bytes h = no_claim_prefix (take n bytes) (drop n bytes) (subst NoClaim (sym (take-append-drop n bytes)) h)
 
 space_claim : (b : ℕ) → IsSpace b → is_claim b ≡ false
 space_claim b (inr e) = ap is_claim e
@@ -81,17 +78,9 @@ lines_fed (c ∷ a) b =
       | inr f ↦ rw f (ap (put_first c) (lines_fed a b) ∙ put_append c (lines_of a) (lines_of b) (some_line a))
     ]
 
-last_same : (a b : List (List (List ℕ))) (x y : List (List ℕ)) → a ++ x ∷ [] ≡ b ++ y ∷ [] → (a ≡ b) × (x ≡ y)
-last_same [] [] x y e = (refl, let k : x ≡ y = cc in k)
-last_same [] (d ∷ []) x y e = absurd (let k = e in cc)
-last_same [] (d ∷ c ∷ b) x y e = absurd (let k = e in cc)
-last_same (c ∷ []) [] x y e = absurd (let k = e in cc)
-last_same (c ∷ d ∷ a) [] x y e = absurd (let k = e in cc)
-last_same (c ∷ a) (d ∷ b) x y e =
-    let h : c ≡ d = cc in
-    let t : a ++ x ∷ [] ≡ b ++ y ∷ [] = cc in
-    let k = last_same a b x y t in
-    (ap (λ z. z ∷ a) h ∙ ap (λ z. d ∷ z) k.0, k.1)
+-- a certificate with which a text begins
+abbrev pub TextParts : FormulaOf → Bool → List ℕ → Type 0
+TextParts f ended bytes = Parts (λ c. IsClosedCert Proof f c Unsat) ended bytes
 
 module _ (f : FormulaOf) where
   abbrev Finds : List Saying → Type 0
@@ -106,14 +95,9 @@ module _ (f : FormulaOf) where
   cert_says : (cert : List ℕ) → IsCertOf f cert Unsat → Finds (sayings f.vars true cert)
   cert_says cert w = elim ((cert_fate f cert (length cert) Unsat w (omega arith)).within (omega arith)) [ inl k ↦ k | inr (k, e) ↦ absurd (let z = e in cc) ]
 
-  says_cert : (bytes : List ℕ) → FateOf Drup f bytes (length bytes) (Found Unsat) → (n : ℕ) × (n ≤ length bytes) × IsCertOf f (take n bytes) Unsat
-  says_cert bytes h = let k = fate_cert f bytes (length bytes) Unsat h in (k.0, k.1, k.3)
-
-  ended_cert : (bytes : List ℕ) → Finds (sayings f.vars true bytes) → (n : ℕ) × (n ≤ length bytes) × IsCertOf f (take n bytes) Unsat
-  ended_cert bytes h = says_cert bytes (record { within = λ _. inl h; beyond = λ b. absurd (omega (arith, b)) })
-
-  open_cert : (bytes : List ℕ) → Finds (sayings f.vars false bytes) → (n : ℕ) × (n ≤ length bytes) × IsCertOf f (take n bytes) Unsat
-  open_cert bytes h = says_cert bytes (fate_at_end Drup f (length bytes) bytes (Found Unsat) (record { within = λ _. h; beyond = λ b. absurd (omega (arith, b)) }))
+  cert_parts : (ended : Bool) (bytes : List ℕ) → Finds (sayings f.vars ended bytes) → Parts (λ c. IsCertOf f c Unsat) ended bytes
+  cert_parts = parts (λ ended s. Finds (sayings f.vars ended s)) (λ c. IsCertOf f c Unsat) (λ ended s h. cert_found f Unsat ended s h)
+      (λ s rest h. let m = sayings_more f.vars false s rest in subst Finds (sym m.1) (finds_more (sayings f.vars false s) m.0 h)) (λ s c. drup_zero f Unsat s c)
 
   -- a space after a certificate
   followed_says : (cert : List ℕ) (b : ℕ) → IsSpace b → IsCertOf f cert Unsat → Finds (sayings f.vars false (cert ++ b ∷ []))
@@ -196,76 +180,87 @@ module _ (f : FormulaOf) where
     not_fed : IsCertOf f fed Unsat → ⊥
     not_fed (proof, G, e, l, a) = let k = (last_same (lines stream) proof [] (codes "0" ∷ []) (sym lines_feed ∙ e)).1 in let q = k in cc
 
-    abbrev Closed : Type 0
-    Closed = (n : ℕ) × (n ≤ length stream) × IsClosedCert Proof f (take n stream) Unsat
-
     length_fed : length fed ≡ length stream + 1
     length_fed = length-append stream (10 ∷ [])
 
-    closed_take : (n : ℕ) → n ≤ length stream → IsCertOf f (take n stream) Unsat → Closed
-    closed_take n l c = (n, l, (refl, no_claim_take n stream none, c))
+    in_front : (z cert : List ℕ) (b : ℕ) (rest : List ℕ) → stream ++ z ≡ cert ++ b ∷ rest → length cert ≤ length stream → IsCertOf f cert Unsat → IsSpace b → TextParts f true stream
+    in_front z cert b rest e l c s =
+        let k = parts_front (λ x. IsCertOf f x Unsat) stream z cert b rest e l c s in
+        (k.0, k.1, k.2, (refl, no_claim_prefix k.0 k.1 (subst NoClaim k.2 none), k.3), k.4)
 
-    in_fed : (n : ℕ) → n ≤ length fed → IsCertOf f (take n fed) Unsat → Closed
-    in_fed n l c =
-        elim (sides n (length stream)) [
-          | inl k ↦ closed_take n k (subst (λ z. IsCertOf f z Unsat) (take-append-le n stream (10 ∷ []) k) c)
-          | inr k ↦ absurd (not_fed (subst (λ z. IsCertOf f z Unsat) (take_all n fed (let e = length_fed in omega (arith, k, e))) c))
+    in_fed : Parts (λ c. IsCertOf f c Unsat) false fed → TextParts f true stream
+    in_fed (cert, [], e, c, i) = absurd (let k = i in cc)
+    in_fed (cert, b ∷ rest, e, c, i) =
+        let len : length fed ≡ length cert + length (b ∷ rest) = ap length e ∙ length-append cert (b ∷ rest) in
+        let l = length_fed in
+        in_front (10 ∷ []) cert b rest e (omega (arith, len, l)) c i
+
+    whole : IsCertOf f (fed ++ 48 ∷ []) Unsat → IsOpenCert Proof f stream Unsat
+    whole (proof, G, e, k, a) =
+        let p = last_same (lines stream) proof (codes "0" ∷ []) (codes "0" ∷ []) (sym lines_zero ∙ e) in
+        (refl, none, (G, subst (λ z. Leads f.vars z f.clauses G) (sym p.0) k, a))
+
+    in_zero : Parts (λ c. IsCertOf f c Unsat) true (fed ++ 48 ∷ []) → TextParts f true stream ⊎ IsOpenCert Proof f stream Unsat
+    in_zero (cert, [], e, c, i) = inr (whole (subst (λ z. IsCertOf f z Unsat) (sym (e ∙ append-nil cert)) c))
+    in_zero (cert, b ∷ rest, e, c, i) =
+        let len : length (fed ++ 48 ∷ []) ≡ length cert + length (b ∷ rest) = ap length e ∙ length-append cert (b ∷ rest) in
+        let l = length-append fed (48 ∷ []) in
+        let m = length_fed in
+        elim (sides (length cert) (length stream)) [
+          | inl k ↦ inl (in_front (10 ∷ 48 ∷ []) cert b rest (sym (append_assoc stream (10 ∷ []) (48 ∷ [])) ∙ e) k c i)
+          | inr k ↦
+              let t : take (length cert) (fed ++ 48 ∷ []) ≡ cert = ap (take (length cert)) e ∙ take-append_seam cert (b ∷ rest) in
+              let u : take (length cert) (fed ++ 48 ∷ []) ≡ fed = ap (λ n. take n (fed ++ 48 ∷ [])) (omega (arith, len, l, m, k)) ∙ take-append_seam fed (48 ∷ []) in
+              absurd (not_fed (subst (λ z. IsCertOf f z Unsat) (sym t ∙ u) c))
         ]
 
-    in_zero : (n : ℕ) → n ≤ length (fed ++ 48 ∷ []) → IsCertOf f (take n (fed ++ 48 ∷ [])) Unsat → Closed ⊎ IsOpenCert Proof f stream Unsat
-    in_zero n l c =
-        elim (sides n (length fed)) [
-          | inl k ↦ inl (in_fed n k (subst (λ z. IsCertOf f z Unsat) (take-append-le n fed (48 ∷ []) k) c))
-          | inr k ↦ inr (whole (subst (λ z. IsCertOf f z Unsat) (take_all n (fed ++ 48 ∷ []) (let e = length-append fed (48 ∷ []) in omega (arith, k, e))) c))
-        ]
-      where
-        whole : IsCertOf f (fed ++ 48 ∷ []) Unsat → IsOpenCert Proof f stream Unsat
-        whole (proof, G, e, k, a) =
-            let p = last_same (lines stream) proof (codes "0" ∷ []) (codes "0" ∷ []) (sym lines_zero ∙ e) in
-            (refl, none, (G, subst (λ z. Leads f.vars z f.clauses G) (sym p.0) k, a))
-
-    tried_cert : Finds (tried (length stream) (sayings f.vars false fed)) → Closed ⊎ IsOpenCert Proof f stream Unsat
+    tried_cert : Finds (tried (length stream) (sayings f.vars false fed)) → TextParts f true stream ⊎ IsOpenCert Proof f stream Unsat
     tried_cert h =
         elim (finds_cut (sayings f.vars false fed) (IsClause [] (length stream) ∷ []) h) [
-          | inl g ↦ let k = open_cert fed g in inl (in_fed k.0 k.1 k.2)
+          | inl g ↦ inl (in_fed (cert_parts false fed g))
           | inr g ↦
               let z : Finds (sayings f.vars true (fed ++ 48 ∷ [])) = subst Finds (sym (zero_says (starts g))) (last_moves f.clauses f.clauses unnamed (sayings f.vars false fed) (length stream) w.taken h) in
-              let k = ended_cert (fed ++ 48 ∷ []) z in
-              in_zero k.0 k.1 k.2
+              in_zero (cert_parts true (fed ++ 48 ∷ []) z)
         ]
 
-  -- a text that goes on with a line of s or v is read up to that
-  module _ (front : List ℕ) (b : ℕ) (rest : List ℕ) (none : NoClaim front) where
-    refused_cert : (more : List Saying) → Finds (up_to_fault (sayings f.vars false front ++ bad BadLine (length front)) ++ more)
-        → (n : ℕ) × (n ≤ length front) × IsClosedCert Proof f (take n (front ++ b ∷ rest)) Unsat
-    refused_cert more h =
-        let k = open_cert front (found_before_fault f.clauses f.clauses unnamed (sayings f.vars false front) more (record { kind = BadLine; byte = length front }) Unsat h) in
-        let e : take k.0 (front ++ b ∷ rest) ≡ take k.0 front = take-append-le k.0 front (b ∷ rest) k.1 in
-        (k.0, k.1, subst (λ z. IsClosedCert Proof f z Unsat) (sym e) (refl, no_claim_take k.0 front none, k.2))
+  closed_parts : (ended : Bool) (bytes : List ℕ) → NoClaim bytes → Parts (λ c. IsCertOf f c Unsat) ended bytes → TextParts f ended bytes
+  closed_parts ended bytes none (cert, rest, e, c, i) = (cert, rest, e, (refl, no_claim_prefix cert rest (subst NoClaim e none), c), i)
 
-  pub lines_cert : (bytes : List ℕ) → LinesCome Text f bytes (Some (Found Unsat)) → (n : ℕ) × (n ≤ length bytes) × IsClosedCert Proof f (take n bytes) Unsat
-  lines_cert bytes (ss, Plain none e, h) =
-      let k = open_cert bytes (subst Finds e h) in
-      (k.0, k.1, (refl, no_claim_take k.0 bytes none, k.2))
+  -- a text that goes on with a line of s or v is read up to that
+  refused_cert : (front : List ℕ) → NoClaim front → (more : List Saying) → Finds (up_to_fault (sayings f.vars false front ++ bad BadLine (length front)) ++ more) → TextParts f false front
+  refused_cert front none more h =
+      closed_parts false front none (cert_parts false front (found_before_fault f.clauses f.clauses unnamed (sayings f.vars false front) more (record { kind = BadLine; byte = length front }) Unsat h))
+
+  goes_on : (front more : List ℕ) → TextParts f false front → TextParts f false (front ++ more)
+  goes_on front more (cert, [], e, c, i) = absurd (let k = i in cc)
+  goes_on front more (cert, b ∷ rest, e, c, i) = (cert, b ∷ rest ++ more, ap (λ z. z ++ more) e ∙ append_assoc cert (b ∷ rest) more, c, i)
+
+  pub lines_cert : (bytes : List ℕ) → LinesCome Text f bytes (Some (Found Unsat)) → TextParts f false bytes
+  lines_cert bytes (ss, Plain none e, h) = closed_parts false bytes none (cert_parts false bytes (subst Finds e h))
   lines_cert bytes (ss, Refused front b rest g i c none e, h) =
-      let k = refused_cert front b rest none [] (subst Finds (sym (append-nil (up_to_fault (sayings f.vars false front ++ bad BadLine (length front))))) (subst Finds e h)) in
-      let len : length bytes ≡ length front + length (b ∷ rest) = ap length g ∙ length-append front (b ∷ rest) in
-      (k.0, omega (arith, k.1, len), subst (λ z. IsClosedCert Proof f (take k.0 z) Unsat) (sym g) k.2)
+      let k = refused_cert front none [] (subst Finds (sym (append-nil (up_to_fault (sayings f.vars false front ++ bad BadLine (length front))))) (subst Finds e h)) in
+      subst (TextParts f false) (sym g) (goes_on front (b ∷ rest) k)
+
+  pub ends_too : (bytes : List ℕ) → TextParts f false bytes → TextParts f true bytes
+  ends_too bytes (cert, [], e, c, i) = absurd (let k = i in cc)
+  ends_too bytes (cert, b ∷ rest, e, c, i) = (cert, b ∷ rest, e, c, i)
 
   -- at a file's end
-  end_cert : (stream : List ℕ) (ss : List Saying) → FileSays Text f.vars true stream ss → Finds (tried (length stream) ss)
-      → ((n : ℕ) × (n ≤ length stream) × IsClosedCert Proof f (take n stream) Unsat) ⊎ IsOpenCert Proof f stream Unsat
+  in_stream : (stream front : List ℕ) (b : ℕ) (rest : List ℕ) → stream ++ 10 ∷ [] ≡ front ++ b ∷ rest → TextParts f false front → TextParts f true stream
+  in_stream stream front b rest g (cert, [], e, c, i) = absurd (let k = i in cc)
+  in_stream stream front b rest g (cert, d ∷ more, e, c, i) =
+      let q : stream ++ 10 ∷ [] ≡ cert ++ d ∷ (more ++ b ∷ rest) = g ∙ ap (λ z. z ++ b ∷ rest) e ∙ append_assoc cert (d ∷ more) (b ∷ rest) in
+      let len : length (stream ++ 10 ∷ []) ≡ length cert + length (d ∷ (more ++ b ∷ rest)) = ap length q ∙ length-append cert (d ∷ (more ++ b ∷ rest)) in
+      let l = length-append stream (10 ∷ []) in
+      parts_front (λ z. IsClosedCert Proof f z Unsat) stream (10 ∷ []) cert d (more ++ b ∷ rest) q (omega (arith, len, l)) c i
+
+  end_cert : (stream : List ℕ) (ss : List Saying) → FileSays Text f.vars true stream ss → Finds (tried (length stream) ss) → TextParts f true stream ⊎ IsOpenCert Proof f stream Unsat
   end_cert stream ss (Plain none e) h = tried_cert stream (no_claim_prefix stream (10 ∷ []) none) (subst (λ (z : List Saying). Finds (tried (length stream) z)) e h)
   end_cert stream ss (Refused front b rest g i c none e) h =
-      let k = refused_cert front b rest none (IsClause [] (length stream) ∷ []) (subst (λ (z : List Saying). Finds (tried (length stream) z)) e h) in
-      let len : length (stream ++ 10 ∷ []) ≡ length front + length (b ∷ rest) = ap length g ∙ length-append front (b ∷ rest) in
-      let fed : length (stream ++ 10 ∷ []) ≡ length stream + 1 = length-append stream (10 ∷ []) in
-      let l : k.0 ≤ length stream = omega (arith, k.1, len, fed) in
-      let q : take k.0 (front ++ b ∷ rest) ≡ take k.0 stream = ap (take k.0) (sym g) ∙ take-append-le k.0 stream (10 ∷ []) l in
-      inl (k.0, l, subst (λ z. IsClosedCert Proof f z Unsat) q k.2)
+      inl (in_stream stream front b rest g (refused_cert front none (IsClause [] (length stream) ∷ []) (subst (λ (z : List Saying). Finds (tried (length stream) z)) e h)))
 
-  pub text_cert : (stream : List ℕ) → BytesCome Text f true stream (Some (Found Unsat)) → ((n : ℕ) × (n ≤ length stream) × IsClosedCert Proof f (take n stream) Unsat) ⊎ IsOpenCert Proof f stream Unsat
-  text_cert stream (inl h) = inl (lines_cert stream h)
+  pub text_cert : (stream : List ℕ) → BytesCome Text f true stream (Some (Found Unsat)) → TextParts f true stream ⊎ IsOpenCert Proof f stream Unsat
+  text_cert stream (inl h) = inl (ends_too stream (lines_cert stream h))
   text_cert stream (inr (k, (ss, v, s, h, e))) = end_cert stream ss s (subst (λ z. Comes f (tried (length stream) ss) (Some z)) (found_at_end (length stream) Unsat v e) h)
 
   -- a space after a certificate, and whatever comes then

@@ -1,5 +1,5 @@
 -- Certificates of every kind, and the streams that begin with one.
-use Rattle.std.specs.Prelude.{◌≡◌, ◌⊎◌, ℕ, ◌<◌, ◌≤◌, true, List, [], ◌∷◌, ◌++◌, length, take}
+use Rattle.std.specs.Prelude.{◌≡◌, ◌⊎◌, ℕ, ◌<◌, ◌≤◌, true, List, [], ◌∷◌, ◌++◌, length}
 use Rattle.cnf_form.specs.Cnf.{LitOf, FormulaOf, IsAdmitted}
 use Rattle.cnf_form.specs.Dimacs.{IsDimacs}
 use Rattle.cert_stream.specs.Text.{is_blank}
@@ -50,8 +50,3 @@ BeginsCert kind f stream most answer =
 -- so, of the formula that the bytes of a job's file are
 abbrev pub HoldsCert : StreamKind → List ℕ → List ℕ → ℕ → Answer → Type 0
 HoldsCert kind job stream most answer = (f : FormulaOf) × IsDimacs job f × BeginsCert kind f stream most answer
-
--- a stream of a kind begins with a certificate within its first `most` bytes, or is a proof file that its end completes
-abbrev pub HasCert : StreamKind → FormulaOf → List ℕ → ℕ → Answer → Type 0
-HasCert kind f stream most answer =
-    ((n : ℕ) × (n ≤ length stream) × (n ≤ most) × IsClosedCert kind f (take n stream) answer) ⊎ (IsOpenCert kind f stream answer × (length stream ≤ most))

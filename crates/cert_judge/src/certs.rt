@@ -5,27 +5,21 @@ ghost use Rattle.cnf_form.specs.Cnf.{FormulaOf};
 ghost use Rattle.cnf_form.specs.Dimacs.{IsDimacs};
 ghost use Rattle.sby_terms.specs.declared.names.Answer.{Answer};
 ghost use Rattle.cert_judge.specs.Fate.{Found};
-ghost use Rattle.cert_judge.specs.KindCert.{Counts, HasCert, HoldsCert, IsClosedCert, IsSpace};
+ghost use Rattle.cert_judge.specs.KindCert.{Counts, HoldsCert, IsClosedCert, IsSpace};
 ghost use Rattle.cert_judge.specs.Kinds.{IsFate, IsFateSoFar};
 ghost use Rattle.cert_judge.specs.Output.{stream_of};
 ghost use Rattle.cert_judge.specs.OutputFate.{IsOutputFate};
 ghost use Rattle.cert_judge.specs.declared.stream.StreamKind.{StreamKind};
 ghost use Rattle.cert_judge.specs.declared.stream.StreamKind.TheVariants.{Drup, Lrat};
 
-/// A stream that begins with a certificate of its kind that counts, whatever comes then, and a proof file that its end completes, are found
-/// to be certificates.
-#[tactic(auto, using(crate::proofs::KindCerts::held_found))]
-pub fn held_certificates_are_found()
-    ensures { (kind : StreamKind) (job stream : List ℕ) (most : ℕ) (answer : Answer) → HoldsCert kind job stream most answer
+/// A stream is found to be a certificate exactly where it begins with one of its kind that counts, whatever comes then, or is a proof file
+/// that its end completes.
+#[tactic(auto, using(crate::proofs::KindCerts::held_found, crate::proofs::KindCerts::found_holds))]
+pub fn certificates_are_found()
+    ensures found { (kind : StreamKind) (job stream : List ℕ) (most : ℕ) (answer : Answer) → HoldsCert kind job stream most answer
         → IsFate kind job stream most (Found answer) }
-{}
-
-/// A stream that is found to be a certificate begins with one of its kind, within its first `most` bytes, or is a proof file that its end
-/// completes.
-#[tactic(auto, using(crate::proofs::KindCerts::found_has))]
-pub fn found_streams_hold_certificates()
-    ensures { (kind : StreamKind) (job stream : List ℕ) (most : ℕ) (answer : Answer) → IsFate kind job stream most (Found answer)
-        → (f : FormulaOf) × IsDimacs job f × HasCert kind f stream most answer }
+    ensures holds { (kind : StreamKind) (job stream : List ℕ) (most : ℕ) (answer : Answer) → IsFate kind job stream most (Found answer)
+        → HoldsCert kind job stream most answer }
 {}
 
 /// A certificate that ends with its own 0 is found once what follows makes it count, whatever comes then.
@@ -44,10 +38,10 @@ pub fn found_fates_stay_before_more()
 {}
 
 /// A solver's output is found to be a certificate exactly where the stream as which it is read is.
-#[tactic(auto, using(crate::proofs::KindCerts::output_found, crate::proofs::KindCerts::output_has))]
+#[tactic(auto, using(crate::proofs::KindCerts::output_found, crate::proofs::KindCerts::output_holds))]
 pub fn outputs_hold_certificates()
     ensures found { (job bytes : List ℕ) (most : ℕ) (answer : Answer) → HoldsCert Drup job (stream_of true bytes) most answer
         → IsOutputFate job bytes most (Some (Found answer)) }
     ensures holds { (job bytes : List ℕ) (most : ℕ) (answer : Answer) → IsOutputFate job bytes most (Some (Found answer))
-        → (f : FormulaOf) × IsDimacs job f × HasCert Drup f (stream_of true bytes) most answer }
+        → HoldsCert Drup job (stream_of true bytes) most answer }
 {}

@@ -13,8 +13,8 @@ mod stream;
 mod values;
 
 pub use certs::{
-    certificates_are_found_before_more, found_fates_stay_before_more,
-    found_streams_hold_certificates, held_certificates_are_found, outputs_hold_certificates,
+    certificates_are_found, certificates_are_found_before_more, found_fates_stay_before_more,
+    outputs_hold_certificates,
 };
 pub use judging::Judge;
 pub use laws::{
