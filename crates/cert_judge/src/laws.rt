@@ -97,7 +97,8 @@ pub fn spelt_files_have_the_same_fate()
         → IsFate ProofBinary job b most x → IsFate Proof job t most y → IsSameFate x y }
 {}
 
-/// So have they where their literals are of any variables, and their lines of any length.
+/// A binary proof and its text, of literals of any variables and lines of any length, all of whose bytes are taken, have the same fate but for
+/// byte numbers. Only after as many literals as fit in a line no greater variable may come.
 pub fn any_spelt_files_have_the_same_fate()
     ensures { (job b t : List ℕ) (most : ℕ) (f : FormulaOf) (x y : Fate) → IsDimacs job f → SpeltAny f.vars b t → length b ≤ most → length t ≤ most
         → IsFate ProofBinary job b most x → IsFate Proof job t most y → IsSameFate x y }

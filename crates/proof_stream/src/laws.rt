@@ -57,8 +57,8 @@ pub fn spelt_files_say_the_same()
         × ((ended : Bool) (ss : List Saying) → FileSays Text vars ended t ss → AreSaid lines ss) }
 {}
 
-/// So do they where their literals are of any variables, and their lines of any length: they say the same lines up to the first that does not
-/// fit, and the same fault then, but for places.
+/// A binary proof and its text, of literals of any variables and lines of any length, say the same lines up to the first that does not fit, and
+/// the same fault then, but for places. Only after as many literals as fit no greater variable may come.
 #[tactic(auto, using(crate::proofs::AnyLines::spelt_any_says))]
 pub fn any_spelt_files_say_the_same()
     ensures { (vars : ℕ) (b t : List ℕ) → SpeltAny vars b t
