@@ -4,14 +4,14 @@ ghost use Rattle.std.specs.Prelude.{◌≡◌, ◌⊎◌, ◌<◌, ◌≤◌, �
 ghost use Rattle.cert_stream.specs.Text.{is_blank};
 ghost use Rattle.cnf_form.specs.Cnf.{Assignment, FormulaOf, IsUnsatisfiable, Satisfies};
 ghost use Rattle.cnf_form.specs.Dimacs.{IsDimacs};
-ghost use Rattle.proof_stream.specs.AnyLines.{SpeltAny};
+ghost use Rattle.proof_stream.specs.AnyLines.{IsCrowded, SpeltAny};
 ghost use Rattle.proof_stream.specs.Spelling.{Spelt};
 ghost use Rattle.sby_terms.specs.declared.names.Answer.{Answer};
 ghost use Rattle.sby_terms.specs.declared.names.Answer.TheVariants.{Sat, Unsat};
 ghost use Rattle.cert_judge.specs.DrupCert.{IsCert};
 ghost use Rattle.cert_judge.specs.Fate.{Fate, Found};
 ghost use Rattle.cert_judge.specs.Kinds.{IsFate, IsFateSoFar};
-ghost use Rattle.cert_judge.specs.Same.{IsSameFate};
+ghost use Rattle.cert_judge.specs.Same.{IsLiteralFault, IsSameFate};
 ghost use Rattle.cert_judge.specs.declared.stream.StreamKind.{StreamKind};
 ghost use Rattle.cert_judge.specs.declared.stream.StreamKind.TheVariants.{Drup, Proof, ProofBinary};
 
@@ -98,10 +98,11 @@ pub fn spelt_files_have_the_same_fate()
 {}
 
 /// A binary proof and its text, of literals of any variables and lines of any length, all of whose bytes are taken, have the same fate but for
-/// byte numbers. Only after as many literals as fit in a line no greater variable may come.
+/// byte numbers. Only where a line has a literal of a greater variable after as many as there are variables it may be BadLiteral in the one and
+/// LineTooLong in the other.
 pub fn any_spelt_files_have_the_same_fate()
-    ensures { (job b t : List ℕ) (most : ℕ) (f : FormulaOf) (x y : Fate) → IsDimacs job f → SpeltAny f.vars b t → length b ≤ most → length t ≤ most
-        → IsFate ProofBinary job b most x → IsFate Proof job t most y → IsSameFate x y }
+    ensures { (job b t : List ℕ) (most : ℕ) (f : FormulaOf) (x y : Fate) → IsDimacs job f → (s : SpeltAny f.vars b t) → length b ≤ most → length t ≤ most
+        → IsFate ProofBinary job b most x → IsFate Proof job t most y → IsSameFate x y ⊎ (IsCrowded f.vars s.0 × IsLiteralFault x × IsLiteralFault y) }
 {}
 
 /// A text of whole lines that is found to be a proof begins, with a last line 0, with a certificate of a stream.

@@ -3,9 +3,8 @@ use Rattle.std.proofs.Common.{◌≡◌, ◌⊎◌, ℕ, ◌+◌, ◌≤◌, Boo
 use Rattle.std.specs.Prelude.{codes, slice_index}
 use Rattle.std.proofs.lemmas.Bool.{cases_Bool, le-leb, leb-true, leb-false}
 use Rattle.std.proofs.lemmas.List.{append-nil}
-use Rattle.std.proofs.lemmas.List.Elements.{All-nil, All-push}
 use Rattle.std.specs.Str.Parse.{digits_value, starts_with_minus}
-use Rattle.cnf_form.specs.Cnf.{LitOf, LitWithin, ClauseWithin}
+use Rattle.cnf_form.specs.Cnf.{LitOf, LitWithin}
 use Rattle.cert_stream.specs.Text.{Word, is_digit, is_number, lines_of, literal_of, size_of, words_from}
 use Rattle.cert_stream.specs.Scan.{Scanned, Reads, Misfit, scan}
 use Rattle.cert_stream.specs.Words.{IsMisfit, IsRead}
@@ -24,7 +23,7 @@ use Rattle.cert_stream.proofs.Reading.{literal_first, word_read}
 use Rattle.cert_stream.proofs.Streams.{fed_says, some_line}
 use Rattle.cert_stream.proofs.Tails.{word_says}
 use Rattle.cert_stream.proofs.Within.{literal_within}
-use Rattle.proof_stream.specs.AnyLines.{AreClear, AreSaidTo, AreTextLines, IsClear, IsTextLine, SaidBy, WriteAny, fault_in, is_within}
+use Rattle.proof_stream.specs.AnyLines.{AreSaidTo, AreTextLines, Either, IsTextLine, LineFault, SaidBy, Tells, WriteAny, fault_in, is_within}
 use Rattle.proof_stream.specs.Lines.{FileSays, TextSays, Plain, Refused}
 use Rattle.proof_stream.specs.Passing.{Passes, starts_after}
 use Rattle.proof_stream.specs.Spelling.{ProofLine}
@@ -99,6 +98,19 @@ module _ (vars : ℕ) (text : List ℕ) (l : LitOf) (e : literal_of l.var text �
       by (Misfit BadLiteral n) r = (n, refl)
       by (Misfit LineTooLong n) r = absurd (let k = (r.too_long.0 refl).0 in let q : true ≡ false = sym k ∙ f in cc)
 
+  -- one of another variable, one too many
+  pub either_read : (full : Bool) → full ≡ true → (k : ParseFaultKind) × (n : ℕ) × Tells Either k × (scan vars full Gap text ≡ Misfit k n)
+  either_read full f = by (scan vars full Gap text) (word_read vars full text)
+    where
+      by : (s : Scanned Part) → IsRead vars full text s → (k : ParseFaultKind) × (n : ℕ) × Tells Either k × (s ≡ Misfit k n)
+      by (Reads Gap) r = absurd (not_gap r)
+      by (Reads Minus) r = absurd (not_minus r.0)
+      by (Reads Zero) r = absurd (not_zero [] r)
+      by (Reads (Digits m)) r = absurd (let q : true ≡ false = sym f ∙ r.0 in cc)
+      by (Misfit BadLine n) r = absurd (r.not_line refl)
+      by (Misfit BadLiteral n) r = (BadLiteral, n, inl refl, refl)
+      by (Misfit LineTooLong n) r = (LineTooLong, n, inr refl, refl)
+
   -- one too many
   pub long_read : (full : Bool) → full ≡ true → l.var ≤ vars → (n : ℕ) × (scan vars full Gap text ≡ Misfit LineTooLong n)
   long_read full f in_range = by (scan vars full Gap text) (word_read vars full text)
@@ -134,48 +146,46 @@ module _ (vars : ℕ) (text : List ℕ) (l : LitOf) (e : literal_of l.var text �
       by (Misfit LineTooLong n) r = (n, refl)
 
 -- what a list with its 0 says, or the fault in it
-abbrev pub SaysBy : Saying → List Saying → Option ParseFaultKind → List Saying → Type 0
+abbrev pub SaysBy : Saying → List Saying → Option LineFault → List Saying → Type 0
 SaysBy said more None ss = ss ≡ said ∷ more
-SaysBy said more (Some k) ss = (n : ℕ) × (ss ≡ bad k n)
+SaysBy said more (Some f) ss = (k : ParseFaultKind) × (n : ℕ) × Tells f k × (ss ≡ bad k n)
 
-pub says_as : (said : Saying) (more : List Saying) (o : Option ParseFaultKind) (ss ts : List Saying) → ss ≡ ts → SaysBy said more o ts → SaysBy said more o ss
+pub says_as : (said : Saying) (more : List Saying) (o : Option LineFault) (ss ts : List Saying) → ss ≡ ts → SaysBy said more o ts → SaysBy said more o ss
 says_as said more None ss ts e h = e ∙ h
-says_as said more (Some k) ss ts e (n, h) = (n, e ∙ h)
+says_as said more (Some f) ss ts e (k, n, i, h) = (k, n, i, e ∙ h)
 
 -- the words of a list
-module _ (vars : ℕ) (kind : ListKind) (still : (l : LitOf) → heard_says kind l ≡ []) (counted : Bool) (unended more : List Saying) (place : ℕ) (line : List LitOf)
-    (clear : (front : List LitOf) (l : LitOf) (back : List LitOf) → line ≡ front ++ l ∷ back → ClauseWithin vars front → length front ≡ vars → l.var ≤ vars) where
-  abbrev Says : Option ParseFaultKind → List Saying → Type 0
+module _ (vars : ℕ) (kind : ListKind) (still : (l : LitOf) → heard_says kind l ≡ []) (counted : Bool) (unended more : List Saying) (place : ℕ) (line : List LitOf) where
+  abbrev Says : Option LineFault → List Saying → Type 0
   Says = SaysBy (ended_says kind place line) more
 
-  pub words_say : (front lits : List LitOf) (ws : List Word) (zero : Word) → line ≡ front ++ lits → ClauseWithin vars front → length front ≤ vars → WriteAny ws lits → IsZero zero
+  pub words_say : (front lits : List LitOf) (ws : List Word) (zero : Word) → line ≡ front ++ lits → length front ≤ vars → WriteAny ws lits → IsZero zero
       → Says (fault_in vars (length front) lits) (list_says vars kind counted unended more place front (ws ++ zero ∷ []))
-  words_say front [] [] zero e w len h (z, d) =
+  words_say front [] [] zero e len h (z, d) =
       let k : front ≡ line = sym (append-nil front) ∙ sym e in
       ap (λ s. word_says vars kind counted unended more place front s zero []) (zero_read vars (leb vars (length front)) zero.text z)
       ∙ ap (λ b. cond (b || counted) (ended_says kind place front ∷ more) []) d
       ∙ ap (λ x. ended_says kind place x ∷ more) k
-  words_say front (l ∷ lits) [] zero e w len h z = absurd (let k = h in cc)
-  words_say front [] (v ∷ ws) zero e w len h z = absurd h
-  words_say front (l ∷ lits) (v ∷ ws) zero e w len (d, t, h) z =
+  words_say front (l ∷ lits) [] zero e len h z = absurd (let k = h in cc)
+  words_say front [] (v ∷ ws) zero e len h z = absurd h
+  words_say front (l ∷ lits) (v ∷ ws) zero e len (d, t, h) z =
       elim (within_cases vars l) [
-        | inr (n, out) ↦
-            let room : leb vars (length front) ≡ false =
-            elim (cases_Bool (leb vars (length front))) [
-              | inr f ↦ f
-              | inl u ↦ let least = leb-true vars (length front) u in
-                  absurd (out ((literal_within l.var v.text l t).0, clear front l lits e w (omega (arith, least, len))))
-            ] in
-            let r = bad_read vars v.text l t (leb vars (length front)) room out in
-            rw n (v.place + r.0, ap (λ s. word_says vars kind counted unended more place front s v (ws ++ zero ∷ [])) r.1)
+        | inr (n, out) ↦ elim (cases_Bool (leb vars (length front))) [
+          | inl u ↦
+              let r = either_read vars v.text l t (leb vars (length front)) u in
+              rw (n, u) (r.0, v.place + r.1, r.2, ap (λ s. word_says vars kind counted unended more place front s v (ws ++ zero ∷ [])) r.3)
+          | inr u ↦
+              let r = bad_read vars v.text l t (leb vars (length front)) u out in
+              rw (n, u) (BadLiteral, v.place + r.0, refl, ap (λ s. word_says vars kind counted unended more place front s v (ws ++ zero ∷ [])) r.1)
+        ]
         | inl (y, is) ↦ elim (cases_Bool (leb vars (length front))) [
           | inl u ↦
               let r = long_read vars v.text l t (leb vars (length front)) u is.1 in
-              rw (y, u) (v.place + r.0, ap (λ s. word_says vars kind counted unended more place front s v (ws ++ zero ∷ [])) r.1)
+              rw (y, u) (LineTooLong, v.place + r.0, refl, ap (λ s. word_says vars kind counted unended more place front s v (ws ++ zero ∷ [])) r.1)
           | inr u ↦
               let less = leb-false vars (length front) u in
               let longer : length (front ++ l ∷ []) ≡ length front + 1 = length-append front (l ∷ []) in
-              let again = words_say (front ++ l ∷ []) lits ws zero (e ∙ sym (append_assoc front (l ∷ []) lits)) (All-push (LitWithin vars) front l w is) (omega (arith, less, longer)) h z in
+              let again = words_say (front ++ l ∷ []) lits ws zero (e ∙ sym (append_assoc front (l ∷ []) lits)) (omega (arith, less, longer)) h z in
               let says : list_says vars kind counted unended more place front (v ∷ ws ++ zero ∷ []) ≡ list_says vars kind counted unended more place (front ++ l ∷ []) (ws ++ zero ∷ []) =
               ap (λ s. word_says vars kind counted unended more place front s v (ws ++ zero ∷ [])) (literal_read vars (leb vars (length front)) v.text l u (fitting vars v.text l t is.1))
               ∙ ap (λ b. cond b (heard_says kind l ++ list_says vars kind counted unended more place (front ++ l ∷ []) (ws ++ zero ∷ [])) []) d
@@ -212,36 +222,36 @@ module _ (vars : ℕ) where
   abbrev Then : List Saying → List Saying → Type 0
   Then later more = more ≡ later
 
-  said_clause : (o : Option ParseFaultKind) (place : ℕ) (lits : List LitOf) (more ss : List Saying) → SaysBy (ended_says ClauseList place lits) more o ss → SaidBy o (record { kind = Clause; lits = lits }) (Then more) ss
+  said_clause : (o : Option LineFault) (place : ℕ) (lits : List LitOf) (more ss : List Saying) → SaysBy (ended_says ClauseList place lits) more o ss → SaidBy o (record { kind = Clause; lits = lits }) (Then more) ss
   said_clause None place lits more ss h = (place, more, h, refl)
-  said_clause (Some k) place lits more ss h = h
+  said_clause (Some f) place lits more ss h = h
 
-  said_deletion : (o : Option ParseFaultKind) (place : ℕ) (lits : List LitOf) (more ss : List Saying) → SaysBy (ended_says DeletionList place lits) more o ss → SaidBy o (record { kind = Deletion; lits = lits }) (Then more) ss
+  said_deletion : (o : Option LineFault) (place : ℕ) (lits : List LitOf) (more ss : List Saying) → SaysBy (ended_says DeletionList place lits) more o ss → SaidBy o (record { kind = Deletion; lits = lits }) (Then more) ss
   said_deletion None place lits more ss h = (place, more, h, refl)
-  said_deletion (Some k) place lits more ss h = h
+  said_deletion (Some f) place lits more ss h = h
 
-  line_said_any : (broken going more : List Saying) (kind : LineKind) (lits : List LitOf) (words : List Word) → IsClear vars (record { kind = kind; lits = lits }) → IsTextLine kind lits words
+  line_said_any : (broken going more : List Saying) (kind : LineKind) (lits : List LitOf) (words : List Word) → IsTextLine kind lits words
       → SaidBy (fault_in vars 0 lits) (record { kind = kind; lits = lits }) (Then more) (line_says vars true false broken going more words)
-  line_said_any broken going more Clause lits words clear (ws, zero, e, h, z) =
+  line_said_any broken going more Clause lits words (ws, zero, e, h, z) =
       let k = first_byte lits ws zero h z in
       let says = ap (line_says vars true false broken going more) (e ∙ k.2) ∙ clause_at vars true broken going more 0 lits k.0 k.1 k.3 ∙ ap (list_says vars ClauseList true broken more k.0.place []) (sym k.2) in
       said_clause (fault_in vars 0 lits) k.0.place lits more (line_says vars true false broken going more words)
       (says_as (ended_says ClauseList k.0.place lits) more (fault_in vars 0 lits) (line_says vars true false broken going more words) (list_says vars ClauseList true broken more k.0.place [] (ws ++ zero ∷ [])) says
-      (words_say vars ClauseList no_heard_clause true broken more k.0.place lits clear [] lits ws zero refl (All-nil (LitWithin vars)) (omega arith) h z))
-  line_said_any broken going more Deletion lits words clear (first, ws, zero, e, t, h, z) =
+      (words_say vars ClauseList no_heard_clause true broken more k.0.place lits [] lits ws zero refl (omega arith) h z))
+  line_said_any broken going more Deletion lits words (first, ws, zero, e, t, h, z) =
       let says = ap (line_says vars true false broken going more) e ∙ ap (λ x. visible_says vars true false broken going more (slice_index x 0) first (ws ++ zero ∷ [])) t
       ∙ alone_one first 100 (list_says vars DeletionList true broken more first.place [] (ws ++ zero ∷ [])) t in
       said_deletion (fault_in vars 0 lits) first.place lits more (line_says vars true false broken going more words)
       (says_as (ended_says DeletionList first.place lits) more (fault_in vars 0 lits) (line_says vars true false broken going more words) (list_says vars DeletionList true broken more first.place [] (ws ++ zero ∷ [])) says
-      (words_say vars DeletionList no_heard_deletion true broken more first.place lits clear [] lits ws zero refl (All-nil (LitWithin vars)) (omega arith) h z))
+      (words_say vars DeletionList no_heard_deletion true broken more first.place lits [] lits ws zero refl (omega arith) h z))
 
-  pub said_on : (o : Option ParseFaultKind) (l : ProofLine) (ls : List ProofLine) (later ss ts : List Saying) → ss ≡ ts → AreSaidTo vars ls later → SaidBy o l (Then later) ts → SaidBy o l (AreSaidTo vars ls) ss
+  pub said_on : (o : Option LineFault) (l : ProofLine) (ls : List ProofLine) (later ss ts : List Saying) → ss ≡ ts → AreSaidTo vars ls later → SaidBy o l (Then later) ts → SaidBy o l (AreSaidTo vars ls) ss
   said_on None l ls later ss ts e a (p, more, k, q) = (p, more, e ∙ k, subst (AreSaidTo vars ls) (sym q) a)
-  said_on (Some k) l ls later ss ts e a (n, q) = (n, e ∙ q)
+  said_on (Some f) l ls later ss ts e a (k, n, i, q) = (k, n, i, e ∙ q)
 
-  pub text_said : (ls : List ProofLine) (at : ℕ) (bytes tail : List ℕ) → AreTextLines at bytes ls → AreClear vars ls → Blank tail → AreSaidTo vars ls (lines_say vars false false at (lines_of (bytes ++ tail)))
-  text_said [] at bytes tail e c k = ap (λ z. lines_say vars false false at (lines_of (z ++ tail))) e ∙ k at
-  text_said (l ∷ ls) at bytes tail (text, rest, e, f, i, h) (c, cs) k =
+  pub text_said : (ls : List ProofLine) (at : ℕ) (bytes tail : List ℕ) → AreTextLines at bytes ls → Blank tail → AreSaidTo vars ls (lines_say vars false false at (lines_of (bytes ++ tail)))
+  text_said [] at bytes tail e k = ap (λ z. lines_say vars false false at (lines_of (z ++ tail))) e ∙ k at
+  text_said (l ∷ ls) at bytes tail (text, rest, e, f, i, h) k =
       let w = some_line (rest ++ tail) in
       let behind = at + length text + 1 in
       let going = lines_say vars false true behind (lines_of (rest ++ tail)) in
@@ -250,8 +260,8 @@ module _ (vars : ℕ) where
       (ap (λ z. lines_say vars false false at (lines_of z)) (ap (λ z. z ++ tail) e ∙ append_assoc text (10 ∷ rest) tail)
       ∙ ap (lines_say vars false false at) (fed_lines text (rest ++ tail) f)
       ∙ fed_says vars false false at text (lines_of (rest ++ tail)) w.0 w.1 w.2)
-      (text_said ls behind rest tail h cs k)
-      (line_said_any (bad BadLine (at + length text)) going later l.kind l.lits (words_from true at [] text) c i)
+      (text_said ls behind rest tail h k)
+      (line_said_any (bad BadLine (at + length text)) going later l.kind l.lits (words_from true at [] text) i)
 
   passes_lines : (ls : List ProofLine) (at : ℕ) (bytes tail : List ℕ) → AreTextLines at bytes ls → Passes true tail → Passes true (bytes ++ tail)
   passes_lines [] at bytes tail e k = subst (λ z. Passes true (z ++ tail)) (sym e) k
@@ -261,10 +271,10 @@ module _ (vars : ℕ) where
       subst (Passes true) (sym (ap (λ z. z ++ tail) e ∙ append_assoc text (10 ∷ rest) tail))
       (passes_append true text (10 ∷ rest ++ tail) (passes_text at text u.0 u.1 f u.2 u.3) (feed_passes (starts_after true text) (rest ++ tail) again))
 
-  says_tail : (ls : List ProofLine) (t tail : List ℕ) (ss : List Saying) → AreTextLines 0 t ls → AreClear vars ls → Blank tail → Passes true tail → TextSays vars (t ++ tail) ss → AreSaidTo vars ls ss
-  says_tail ls t tail ss h c k p (Plain n e) = subst (AreSaidTo vars ls) (sym e) (text_said ls 0 t tail h c k)
-  says_tail ls t tail ss h c k p (Refused front b rest g i q n e) = absurd (passes_none (t ++ tail) (passes_lines ls 0 t tail h p) (front, b, rest, g, i, q))
+  says_tail : (ls : List ProofLine) (t tail : List ℕ) (ss : List Saying) → AreTextLines 0 t ls → Blank tail → Passes true tail → TextSays vars (t ++ tail) ss → AreSaidTo vars ls ss
+  says_tail ls t tail ss h k p (Plain n e) = subst (AreSaidTo vars ls) (sym e) (text_said ls 0 t tail h k)
+  says_tail ls t tail ss h k p (Refused front b rest g i q n e) = absurd (passes_none (t ++ tail) (passes_lines ls 0 t tail h p) (front, b, rest, g, i, q))
 
-  pub text_lines : (ls : List ProofLine) (t : List ℕ) → AreTextLines 0 t ls → AreClear vars ls → (ended : Bool) (ss : List Saying) → FileSays Text vars ended t ss → AreSaidTo vars ls ss
-  text_lines ls t h c true ss s = says_tail ls t (10 ∷ []) ss h c (λ at. refl) (refl, tt) s
-  text_lines ls t h c false ss s = says_tail ls t [] ss h c (λ at. refl) tt (subst (λ z. TextSays vars z ss) (sym (append-nil t)) s)
+  pub text_lines : (ls : List ProofLine) (t : List ℕ) → AreTextLines 0 t ls → (ended : Bool) (ss : List Saying) → FileSays Text vars ended t ss → AreSaidTo vars ls ss
+  text_lines ls t h true ss s = says_tail ls t (10 ∷ []) ss h (λ at. refl) (refl, tt) s
+  text_lines ls t h false ss s = says_tail ls t [] ss h (λ at. refl) tt (subst (λ z. TextSays vars z ss) (sym (append-nil t)) s)

@@ -1,6 +1,6 @@
 -- Binary proofs and their text, whatever the variables and however long the lines.
-use Rattle.std.specs.Prelude.{◌≡◌, ℕ, ◌+◌, ◌<◌, ◌≤◌, Bool, true, cond, ◌&&◌, leb, List, [], ◌∷◌, ◌++◌, length, Option, Some, None, codes}
-use Rattle.cnf_form.specs.Cnf.{LitOf, ClauseWithin, index_of}
+use Rattle.std.specs.Prelude.{◌≡◌, ◌⊎◌, Contains, ℕ, ◌+◌, ◌<◌, ◌≤◌, Bool, true, cond, ◌&&◌, leb, List, [], ◌∷◌, ◌++◌, length, Option, Some, None, codes}
+use Rattle.cnf_form.specs.Cnf.{LitOf, index_of}
 use Rattle.cert_stream.specs.Text.{NoFeed, Word, literal_of, words_from}
 use Rattle.cert_stream.specs.Places.{IsZero}
 use Rattle.cert_stream.specs.Stream.{bad}
@@ -43,32 +43,38 @@ AreTextLines at bytes [] = bytes ≡ []
 AreTextLines at bytes (l ∷ ls) =
     (text : List ℕ) × (rest : List ℕ) × (bytes ≡ text ++ 10 ∷ rest) × NoFeed text × IsTextLine l.kind l.lits (words_from true at [] text) × AreTextLines (at + length text + 1) rest ls
 
--- After `vars` literals of variables from 1 to `vars` comes none of a greater variable: its first digits may begin a literal in text, and none
--- in a number.
-abbrev pub IsClear : ℕ → ProofLine → Type 0
-IsClear vars line = (front : List LitOf) (l : LitOf) (back : List LitOf) → line.lits ≡ front ++ l ∷ back → ClauseWithin vars front → length front ≡ vars → l.var ≤ vars
-
-abbrev pub AreClear : ℕ → List ProofLine → Type 0
-AreClear vars [] = Unit {0}
-AreClear vars (l ∷ ls) = IsClear vars l × AreClear vars ls
-
 -- t is the text of the binary proof b, one line each, of literals of any variables, and of any length
 abbrev pub SpeltAny : ℕ → List ℕ → List ℕ → Type 0
-SpeltAny vars b t = (lines : List ProofLine) × AreBinaryLines vars b lines × AreTextLines 0 t lines × AreClear vars lines
+SpeltAny vars b t = (lines : List ProofLine) × AreBinaryLines vars b lines × AreTextLines 0 t lines
 
--- what is at fault with a line's literals, after n others: the first of a variable that isn't one from 1 to `vars`, or the one after `vars`
+-- what is at fault with a line's literals; where the fault may be either, a text tells it by a literal's first digits, and a binary proof by its
+-- first groups
+pub data LineFault : Type 0 where
+  Sure : ParseFaultKind → LineFault
+  Either : LineFault
+
 abbrev pub is_within : ℕ → LitOf → Bool
 is_within vars l = leb 1 l.var && leb l.var vars
 
-abbrev pub fault_in : ℕ → ℕ → List LitOf → Option ParseFaultKind
+-- after n others: the first of a variable that isn't one from 1 to `vars`, or the one after `vars`; either where it is both
+abbrev pub fault_in : ℕ → ℕ → List LitOf → Option LineFault
 fault_in vars n [] = None
-fault_in vars n (l ∷ c) = cond (is_within vars l) (cond (leb vars n) (Some LineTooLong) (fault_in vars (n + 1) c)) (Some BadLiteral)
+fault_in vars n (l ∷ c) = cond (is_within vars l) (cond (leb vars n) (Some (Sure LineTooLong)) (fault_in vars (n + 1) c)) (Some (cond (leb vars n) Either (Sure BadLiteral)))
+
+-- this kind is told
+abbrev pub Tells : LineFault → ParseFaultKind → Type 0
+Tells (Sure kind) told = told ≡ kind
+Tells Either told = (told ≡ BadLiteral) ⊎ (told ≡ LineTooLong)
 
 -- the lines are said, at whatever places, up to the first with a fault
-abbrev pub SaidBy : Option ParseFaultKind → ProofLine → (List Saying → Type 0) → List Saying → Type 0
+abbrev pub SaidBy : Option LineFault → ProofLine → (List Saying → Type 0) → List Saying → Type 0
 SaidBy None l rest ss = (place : ℕ) × (more : List Saying) × (ss ≡ line_said l.kind place l.lits ∷ more) × rest more
-SaidBy (Some kind) l rest ss = (byte : ℕ) × (ss ≡ bad kind byte)
+SaidBy (Some fault) l rest ss = (kind : ParseFaultKind) × (byte : ℕ) × Tells fault kind × (ss ≡ bad kind byte)
 
 abbrev pub AreSaidTo : ℕ → List ProofLine → List Saying → Type 0
 AreSaidTo vars [] ss = ss ≡ []
 AreSaidTo vars (l ∷ ls) ss = SaidBy (fault_in vars 0 l.lits) l (AreSaidTo vars ls) ss
+
+-- in some line a literal of a greater variable comes after as many as there are variables
+abbrev pub IsCrowded : ℕ → List ProofLine → Type 0
+IsCrowded vars lines = (l : ProofLine) × Contains lines l × (fault_in vars 0 l.lits ≡ Some Either)

@@ -58,7 +58,7 @@ pub fn spelt_files_say_the_same()
 {}
 
 /// A binary proof and its text, of literals of any variables and lines of any length, say the same lines up to the first that does not fit, and
-/// the same fault then, but for places. Only after as many literals as fit no greater variable may come.
+/// then a fault that tells what is wrong with it.
 #[tactic(auto, using(crate::proofs::AnyLines::spelt_any_says))]
 pub fn any_spelt_files_say_the_same()
     ensures { (vars : ℕ) (b t : List ℕ) → SpeltAny vars b t
