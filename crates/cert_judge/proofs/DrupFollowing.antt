@@ -16,7 +16,7 @@ use Rattle.cert_judge.specs.declared.stream.CertKind.TheVariants.{EarlyEnd}
 use Rattle.cert_judge.proofs.DrupFates.{comes_more}
 
 -- a certificate is found before UNKNOWN is said
-found_before_unknown : (C F : List (List LitOf)) (x : Assignment) (answer : Answer) (ss : List Saying) → ComesTo C F x (ss ++ IsUnknown ∷ []) (Some (Found answer)) → ComesTo C F x ss (Some (Found answer))
+pub found_before_unknown : (C F : List (List LitOf)) (x : Assignment) (answer : Answer) (ss : List Saying) → ComesTo C F x (ss ++ IsUnknown ∷ []) (Some (Found answer)) → ComesTo C F x ss (Some (Found answer))
 found_before_unknown C F x answer [] h = absurd (let e = h in cc)
 found_before_unknown C F x answer (IsClause c place ∷ ss) (inl h) = inl h
 found_before_unknown C F x answer (IsClause c place ∷ ss) (inr (inl (a, n, h))) = inr (inl (a, n, found_before_unknown C (F ++ c ∷ []) x answer ss h))
