@@ -1,7 +1,7 @@
 -- What bytes come to, at most this many of them, whatever tells what they come to.
 use Rattle.std.proofs.Common.{◌≡◌, ◌⊎◌, ℕ, ◌-◌, ◌<◌, ◌≤◌, Bool, true, false, leb, List, ◌++◌, length, take, Option, Some, None, refl, sym, ◌∙◌, subst, inl, inr, arith}
 use Rattle.std.proofs.lemmas.Bool.{cases_Bool, leb-true, leb-false}
-use Rattle.std.proofs.lemmas.List.{length-append, length-take, take-append-le, take-take}
+use Rattle.std.proofs.lemmas.List.{length-append, take-append-le}
 use Rattle.std.proofs.Math.Seq.{take-append-add}
 use Rattle.sby_terms.specs.declared.names.Answer.{Answer}
 use Rattle.cert_judge.specs.Fate.{Fate, Found, Bad, FateSoFarBy, FateBy}
@@ -104,29 +104,6 @@ module _ (comes : Bool → List ℕ → Option Fate → Type 0) (most : ℕ) whe
             | inr (k, e) ↦ absurd (let g = e in cc)
           ]
           | inr l ↦ found_so_far_by bytes (h.beyond l)
-        ]
-
-  -- what is found begins with what is so, within the first bytes that are taken
-  module _ (P : List ℕ → Type 0) (answer : Answer) (found : (ended : Bool) (bytes : List ℕ) → comes ended bytes (Some (Found answer)) → (n : ℕ) × (n ≤ length bytes) × P (take n bytes)) where
-    abbrev Begins : List ℕ → Type 0
-    Begins bytes = (n : ℕ) × (n ≤ length bytes) × (n ≤ most) × P (take n bytes)
-
-    begins_taken : (bytes : List ℕ) → most < length bytes → (n : ℕ) × (n ≤ length (take most bytes)) × P (take n (take most bytes)) → Begins bytes
-    begins_taken bytes l (n, k, p) =
-        let m : n ≤ most = omega (arith, k, length-take most bytes) in
-        (n, omega (arith, m, l), m, subst P (take-take n most bytes m) p)
-
-    pub begins_by : (bytes : List ℕ) → FateBy comes bytes most (Found answer) → Begins bytes
-    begins_by bytes h =
-        elim (sides (length bytes) most) [
-          | inl l ↦ elim (h.within l) [
-            | inl k ↦ let w = found true bytes k in (w.0, w.1, omega (arith, w.1, l), w.2)
-            | inr (k, e) ↦ absurd (let g = e in cc)
-          ]
-          | inr l ↦ elim ((h.beyond l).beyond l) [
-            | inl (x, k, e) ↦ begins_taken bytes l (found false (take most bytes) (rw e k))
-            | inr (k, e) ↦ absurd (let g = e in cc)
-          ]
         ]
 
   -- some fate

@@ -1,5 +1,5 @@
 -- Lines of a stream that are a certificate, up to a word 0.
-use Rattle.std.proofs.Common.{◌≡◌, ℕ, ◌≤◌, true, eqb, List, [], ◌∷◌, ◌++◌, length, take, Some, refl, sym, ap, ◌∙◌, subst, inl, inr, arith}
+use Rattle.std.proofs.Common.{◌≡◌, ℕ, ◌≤◌, true, eqb, List, [], ◌∷◌, ◌++◌, length, take, drop, Some, refl, sym, ap, ◌∙◌, subst, inl, inr, arith}
 use Rattle.std.specs.Prelude.{codes, slice_index, map}
 use Rattle.std.proofs.lemmas.Bool.{eqb-true}
 use Rattle.std.proofs.lemmas.List.{map-append}
@@ -10,7 +10,7 @@ use Rattle.cert_stream.specs.Stream.{is_unknown}
 use Rattle.cert_judge.specs.Values.{named_from}
 use Rattle.cert_judge.specs.DrupCert.{words, lines, IsRemark, Writes, Names}
 use Rattle.cert_judge.proofs.Valuing.{named_append}
-use Rattle.cert_judge.proofs.DrupLines.{cut, texts, words_cut}
+use Rattle.cert_judge.proofs.DrupLines.{IsNext, cut, texts, words_cut}
 
 pub writes_more : (vars : ℕ) (front : List (List ℕ)) (c : List LitOf) (w : List ℕ) (l : LitOf) → Writes vars front c → literal_of vars w ≡ Some l → Writes vars (front ++ w ∷ []) (c ++ l ∷ [])
 writes_more vars [] [] w l h e = (e, refl)
@@ -49,13 +49,13 @@ upto_later P Q t ls step (before, u, after, front, more, e, z, q) = (t ∷ befor
 pub upto_as : (P Q : List (List (List ℕ)) → Type 0) (ls : List (List ℕ)) → ((us : List (List (List ℕ))) → Q us → P us) → Upto Q ls → Upto P ls
 upto_as P Q ls to (before, u, after, front, more, e, z, q) = (before, u, after, front, more, e, z, to (map words before ++ (front ++ codes "0" ∷ []) ∷ []) q)
 
--- the stream up to that word
-pub upto_cut : (P : List (List (List ℕ)) → Type 0) (s : List ℕ) → Upto P (lines_of s) → (n : ℕ) × (n ≤ length s) × P (lines (take n s))
+-- the stream up to that word, and what follows
+pub upto_cut : (P : List (List (List ℕ)) → Type 0) (s : List ℕ) → Upto P (lines_of s) → (n : ℕ) × (n ≤ length s) × P (lines (take n s)) × IsNext (drop n s)
 upto_cut P s (before, t, after, front, more, e, z, p) =
     let k = words_cut true 0 [] t front (codes "0") more z in
-    let c = cut s before k.0 k.1 after (e ∙ ap (λ u. before ++ u ∷ after) k.2) in
+    let c = cut s before k.0 k.1 after k.4 (e ∙ ap (λ u. before ++ u ∷ after) k.2) in
     let l : lines (take c.0 s) ≡ map words before ++ (front ++ codes "0" ∷ []) ∷ [] = ap (map words) c.2 ∙ map-append words before (k.0 ∷ []) ∙ ap (λ u. map words before ++ u ∷ []) k.3 in
-    (c.0, c.1, subst P (sym l) p)
+    (c.0, c.1, subst P (sym l) p, c.3)
 
 -- lines of values that satisfy the clauses C
 module _ (vars : ℕ) (C : List (List LitOf)) where

@@ -1,5 +1,5 @@
 -- A stream that is found to be a certificate begins with one.
-use Rattle.std.proofs.Common.{◌≡◌, ◌≢◌, ℕ, ◌+◌, ◌≤◌, Bool, true, false, ◌||◌, leb, eqb, List, [], ◌∷◌, ◌++◌, length, take, Some, refl, sym, ap, ◌∙◌, subst, inl, inr, arith, ◌⊎◌, append_assoc}
+use Rattle.std.proofs.Common.{◌≡◌, ◌≢◌, ℕ, ◌+◌, ◌≤◌, Bool, true, false, ◌||◌, leb, eqb, List, [], ◌∷◌, ◌++◌, length, take, drop, Some, refl, sym, ap, ◌∙◌, subst, inl, inr, arith, ◌⊎◌, append_assoc}
 use Rattle.std.specs.Prelude.{codes, slice_index, flat_map}
 use Rattle.std.proofs.lemmas.Bool.{cases_Bool, eqb-true, leb-false}
 use Rattle.std.proofs.lemmas.List.{append-nil, length_push}
@@ -21,12 +21,9 @@ use Rattle.sby_terms.specs.declared.names.Answer.{Answer}
 use Rattle.sby_terms.specs.declared.names.Answer.TheVariants.{Sat, Unsat}
 use Rattle.cert_judge.specs.Values.{named, named_from, unnamed}
 use Rattle.cert_judge.specs.Fate.{Found}
-use Rattle.cert_judge.specs.Drup.{BytesCome, Comes, ComesTo}
-use Rattle.cert_judge.specs.Kinds.{FateOf}
-use Rattle.cert_judge.specs.declared.stream.StreamKind.TheVariants.{Drup}
+use Rattle.cert_judge.specs.Drup.{Comes, ComesTo}
 use Rattle.cert_judge.specs.DrupCert.{words, lines, IsIdle, IsRemark, Writes, Leads, Names, IsCertOf}
-use Rattle.cert_judge.proofs.Bounding.{begins_by}
-use Rattle.cert_judge.proofs.DrupLines.{AreFull, full, line_texts, texts}
+use Rattle.cert_judge.proofs.DrupLines.{AreFull, IsNext, full, line_texts, texts}
 use Rattle.cert_judge.proofs.CertLines as upto
 use Rattle.cert_judge.proofs.CertLines.{Upto, names_more, names_remark, one_byte, unknown_words, upto_as, upto_cut, upto_later, upto_now, writes_more, writes_nothing}
 use Rattle.cert_judge.proofs.DrupAccepting.{none_heard_clause, none_heard_deletion}
@@ -329,10 +326,8 @@ certifies : (f : FormulaOf) (s : List ℕ) (a : Answer) → CertLines f.vars f.c
 certifies f s Unsat h = h
 certifies f s Sat h = h
 
-cert_found : (f : FormulaOf) (a : Answer) (ended : Bool) (s : List ℕ) → Comes f (sayings f.vars ended s) (Some (Found a)) → (n : ℕ) × (n ≤ length s) × IsCertOf f (take n s) a
+-- up to a word 0, and what follows it
+pub cert_found : (f : FormulaOf) (a : Answer) (ended : Bool) (s : List ℕ) → Comes f (sayings f.vars ended s) (Some (Found a)) → (n : ℕ) × (n ≤ length s) × IsCertOf f (take n s) a × IsNext (drop n s)
 cert_found f a ended s h =
     let k = upto_cut (CertLines f.vars f.clauses unnamed f.clauses a) s (comes_upto f.vars f.clauses a ended 0 f.clauses unnamed (lines_of s) h) in
-    (k.0, k.1, certifies f (take k.0 s) a k.2)
-
-pub fate_cert : (f : FormulaOf) (s : List ℕ) (most : ℕ) (a : Answer) → FateOf Drup f s most (Found a) → (n : ℕ) × (n ≤ length s) × (n ≤ most) × IsCertOf f (take n s) a
-fate_cert f s most a h = begins_by (BytesCome f) most (λ t. IsCertOf f t a) a (λ ended t k. cert_found f a ended t k) s h
+    (k.0, k.1, certifies f (take k.0 s) a k.2, k.3)

@@ -2,7 +2,6 @@
 use Rattle.std.proofs.Common.{◌≡◌, ℕ, suc, ◌+◌, ◌-◌, ◌<◌, Bool, true, false, List, [], ◌∷◌, ◌++◌, length, take, Option, Some, None, refl, sym, subst, inl, inr, arith, ◌⊎◌}
 use Rattle.std.proofs.Math.Seq.{take-append-add}
 use Rattle.cnf_form.specs.Cnf.{LitOf, FormulaOf, Assignment}
-use Rattle.cert_stream.specs.Text.{is_blank}
 use Rattle.cert_stream.specs.Stream.{sayings}
 use Rattle.cert_stream.specs.Telling.{Saying, IsClause, IsDelete, IsValue, IsValuesEnd, IsUnknown, IsFault}
 use Rattle.cert_stream.proofs.GoingOn.{sayings_fed, sayings_parted}
@@ -10,13 +9,14 @@ use Rattle.sby_terms.specs.declared.names.Answer.{Answer}
 use Rattle.cert_judge.specs.Values.{named, unnamed}
 use Rattle.cert_judge.specs.Fate.{Fate, FateBy, FateSoFarBy, Found, Bad}
 use Rattle.cert_judge.specs.Drup.{BytesCome, Comes, ComesTo}
+use Rattle.cert_judge.specs.KindCert.{IsSpace}
 use Rattle.cert_judge.specs.Kinds.{FateSoFar, FateOf}
 use Rattle.cert_judge.specs.declared.stream.StreamKind.TheVariants.{Drup}
 use Rattle.cert_judge.specs.declared.stream.CertKind.TheVariants.{EarlyEnd}
 use Rattle.cert_judge.proofs.DrupFates.{comes_more}
 
 -- a certificate is found before UNKNOWN is said
-found_before_unknown : (C F : List (List LitOf)) (x : Assignment) (answer : Answer) (ss : List Saying) → ComesTo C F x (ss ++ IsUnknown ∷ []) (Some (Found answer)) → ComesTo C F x ss (Some (Found answer))
+pub found_before_unknown : (C F : List (List LitOf)) (x : Assignment) (answer : Answer) (ss : List Saying) → ComesTo C F x (ss ++ IsUnknown ∷ []) (Some (Found answer)) → ComesTo C F x ss (Some (Found answer))
 found_before_unknown C F x answer [] h = absurd (let e = h in cc)
 found_before_unknown C F x answer (IsClause c place ∷ ss) (inl h) = inl h
 found_before_unknown C F x answer (IsClause c place ∷ ss) (inr (inl (a, n, h))) = inr (inl (a, n, found_before_unknown C (F ++ c ∷ []) x answer ss h))
@@ -26,10 +26,6 @@ found_before_unknown C F x answer (IsValue c ∷ ss) h = found_before_unknown C 
 found_before_unknown C F x answer (IsValuesEnd ∷ ss) h = h
 found_before_unknown C F x answer (IsUnknown ∷ ss) h = h
 found_before_unknown C F x answer (IsFault f ∷ ss) h = h
-
--- what ends a word
-abbrev pub IsSpace : ℕ → Type 0
-IsSpace b = (is_blank b ≡ true) ⊎ (b ≡ 10)
 
 take_followed : (bytes rest : List ℕ) (b most : ℕ) → length bytes < most → (n : ℕ) × (take most (bytes ++ b ∷ rest) ≡ bytes ++ b ∷ take n rest)
 take_followed bytes rest b most l =

@@ -1,12 +1,13 @@
 -- The words of a line, and their texts.
-use Rattle.std.proofs.Common.{◌≡◌, ◌≢◌, ℕ, suc, ◌+◌, ◌-◌, ◌≤◌, Bool, true, false, eqb, List, [], ◌∷◌, ◌++◌, length, take, Some, refl, sym, ap, ◌∙◌, inl, inr, arith}
+use Rattle.std.proofs.Common.{◌≡◌, ◌≢◌, ℕ, suc, ◌+◌, ◌-◌, ◌≤◌, Bool, true, false, eqb, List, [], ◌∷◌, ◌++◌, length, take, drop, Some, refl, sym, ap, ◌∙◌, subst, inl, inr, arith}
 use Rattle.std.specs.Prelude.{map}
-use Rattle.std.proofs.lemmas.Bool.{cases_Bool}
+use Rattle.std.proofs.lemmas.Bool.{cases_Bool, eqb-true}
 use Rattle.cnf_form.specs.Cnf.{LitOf}
 use Rattle.cert_stream.specs.Text.{Word, is_blank, flush, lines_of, literal_of, put_first, words_from}
 use Rattle.cert_stream.specs.Places.{AreDone}
 use Rattle.cert_stream.proofs.Streams.{some_line}
 use Rattle.cert_judge.specs.DrupCert.{words, Writes}
+use Rattle.cert_judge.specs.KindCert.{IsSpace}
 
 abbrev pub texts : List Word → List (List ℕ)
 texts ws = map (λ (w : Word). w.text) ws
@@ -119,17 +120,22 @@ full f at p (b ∷ bs) =
       | inr h ↦ rw h (full f (at + 1) (p ++ b ∷ []) bs)
     ]
 
+-- white space, or nothing
+abbrev pub IsParted : List ℕ → Type 0
+IsParted [] = Unit {0}
+IsParted (b ∷ bs) = is_blank b ≡ true
+
 -- a front of the text, after the bytes p of a word, with these words
 abbrev pub IsFront : List ℕ → List ℕ → List (List ℕ) → Type 0
-IsFront p t ws = (s : List ℕ) × (x : List ℕ) × (t ≡ s ++ x) × (texts (words_from true 0 p s) ≡ ws)
+IsFront p t ws = (s : List ℕ) × (x : List ℕ) × (t ≡ s ++ x) × (texts (words_from true 0 p s) ≡ ws) × IsParted x
 
 no_words : (front : List (List ℕ)) (w : List ℕ) (more : List (List ℕ)) → [] ≡ front ++ w ∷ more → ⊥
 no_words [] w more e = cc
 no_words (v ∷ front) w more e = cc
 
 blank_front : (b : ℕ) (p t : List ℕ) (ws : List (List ℕ)) → is_blank b ≡ true → IsFront [] t ws → IsFront p (b ∷ t) (texts (flush true 0 p) ++ ws)
-blank_front b p t ws h (s, x, e, z) =
-    (b ∷ s, x, ap (λ k. b ∷ k) e, rw h (flush_texts true true 0 0 p (words_from true 1 [] s) (words_from true 0 [] s) (texts_same true true 1 0 [] s) ∙ put p))
+blank_front b p t ws h (s, x, e, z, i) =
+    (b ∷ s, x, ap (λ k. b ∷ k) e, rw h (flush_texts true true 0 0 p (words_from true 1 [] s) (words_from true 0 [] s) (texts_same true true 1 0 [] s) ∙ put p), i)
   where
     put : (p : List ℕ) → texts (flush true 0 p ++ words_from true 0 [] s) ≡ texts (flush true 0 p) ++ ws
     put [] = z
@@ -138,63 +144,68 @@ blank_front b p t ws h (s, x, e, z) =
 -- the text up to one of its words
 pub words_cut : (f : Bool) (at : ℕ) (p t : List ℕ) (front : List (List ℕ)) (w : List ℕ) (more : List (List ℕ)) → texts (words_from f at p t) ≡ front ++ w ∷ more → IsFront p t (front ++ w ∷ [])
 words_cut f at [] [] front w more e = absurd (no_words front w more e)
-words_cut f at (c ∷ q) [] [] w more e = let k : c ∷ q ≡ w = cc in ([], [], refl, ap (λ z. z ∷ []) k)
+words_cut f at (c ∷ q) [] [] w more e = let k : c ∷ q ≡ w = cc in ([], [], refl, ap (λ z. z ∷ []) k, tt)
 words_cut f at (c ∷ q) [] (v ∷ front) w more e = absurd (let k : [] ≡ front ++ w ∷ more = cc in no_words front w more k)
 words_cut f at p (b ∷ bs) front w more e =
     elim (cases_Bool (is_blank b)) [
       | inl h ↦ parted h p front (rw h at e) (λ us k. words_cut f (at + 1) [] bs us w more k)
       | inr h ↦
           let k = words_cut f (at + 1) (p ++ b ∷ []) bs front w more (rw h at e) in
-          (b ∷ k.0, k.1, ap (λ z. b ∷ z) k.2, rw h (texts_same true true 1 0 (p ++ b ∷ []) k.0 ∙ k.3))
+          (b ∷ k.0, k.1, ap (λ z. b ∷ z) k.2, rw h (texts_same true true 1 0 (p ++ b ∷ []) k.0 ∙ k.3), k.4)
     ]
   where
     parted : is_blank b ≡ true → (p : List ℕ) (front : List (List ℕ)) → texts (flush true at p ++ words_from f (at + 1) [] bs) ≡ front ++ w ∷ more
         → ((us : List (List ℕ)) → texts (words_from f (at + 1) [] bs) ≡ us ++ w ∷ more → IsFront [] bs (us ++ w ∷ [])) → IsFront p (b ∷ bs) (front ++ w ∷ [])
     parted h [] front e again = blank_front b [] bs (front ++ w ∷ []) h (again front e)
-    parted h (c ∷ q) [] e again = let k : c ∷ q ≡ w = cc in ([], b ∷ bs, refl, ap (λ z. z ∷ []) k)
+    parted h (c ∷ q) [] e again = let k : c ∷ q ≡ w = cc in ([], b ∷ bs, refl, ap (λ z. z ∷ []) k, h)
     parted h (c ∷ q) (v ∷ front) e again =
         let k : c ∷ q ≡ v = cc in
         let m : texts (words_from f (at + 1) [] bs) ≡ front ++ w ∷ more = cc in
         let r = blank_front b (c ∷ q) bs (front ++ w ∷ []) h (again front m) in
-        (r.0, r.1, r.2, r.3 ∙ ap (λ z. z ∷ (front ++ w ∷ [])) k)
+        (r.0, r.1, r.2, r.3 ∙ ap (λ z. z ∷ (front ++ w ∷ [])) k, r.4)
 
--- the bytes up to a place in a line
+-- white space, a line feed, or nothing
+abbrev pub IsNext : List ℕ → Type 0
+IsNext [] = Unit {0}
+IsNext (b ∷ bs) = IsSpace b
+
+-- the bytes up to a place in a line, after which its word ends
 abbrev pub IsCut : List ℕ → List (List ℕ) → List ℕ → Type 0
-IsCut s before t = (n : ℕ) × (n ≤ length s) × (lines_of (take n s) ≡ before ++ t ∷ [])
+IsCut s before t = (n : ℕ) × (n ≤ length s) × (lines_of (take n s) ≡ before ++ t ∷ []) × IsNext (drop n s)
 
-module _ (b : ℕ) (s x : List ℕ) (after : List (List ℕ)) (further : (ls : List (List ℕ)) (v : List ℕ) → lines_of s ≡ ls ++ (v ++ x) ∷ after → IsCut s ls v) where
+module _ (b : ℕ) (s x : List ℕ) (parted : IsParted x) (after : List (List ℕ)) (further : (ls : List (List ℕ)) (v : List ℕ) → lines_of s ≡ ls ++ (v ++ x) ∷ after → IsCut s ls v) where
   feed_cut : eqb b 10 ≡ true → (before : List (List ℕ)) (t : List ℕ) → [] ∷ lines_of s ≡ before ++ (t ++ x) ∷ after → IsCut (b ∷ s) before t
-  feed_cut n [] [] e = (0, omega arith, refl)
+  feed_cut n [] [] e = (0, omega arith, refl, inr (eqb-true b 10 n))
   feed_cut n [] (c ∷ t) e = cc
   feed_cut n (p ∷ before) t e =
       let q : lines_of s ≡ before ++ (t ++ x) ∷ after = cc in
       let z : [] ≡ p = cc in
       let w = further before t q in
-      (suc w.0, omega (arith, w.1), rw n (ap (λ k. [] ∷ k) w.2 ∙ ap (λ k. k ∷ (before ++ t ∷ [])) z))
+      (suc w.0, omega (arith, w.1), rw n (ap (λ k. [] ∷ k) w.2 ∙ ap (λ k. k ∷ (before ++ t ∷ [])) z), w.3)
 
   plain_cut : eqb b 10 ≡ false → (u : List ℕ) (us : List (List ℕ)) → lines_of s ≡ u ∷ us → (before : List (List ℕ)) (t : List ℕ) → (b ∷ u) ∷ us ≡ before ++ (t ++ x) ∷ after
       → IsCut (b ∷ s) before t
-  plain_cut n u us r [] [] e = (0, omega arith, refl)
+  plain_cut n u us r [] [] e = let z : b ∷ u ≡ x = cc in (0, omega arith, refl, inl (subst IsParted (sym z) parted))
   plain_cut n u us r [] (c ∷ t) e =
       let q : u ∷ us ≡ (t ++ x) ∷ after = cc in
       let z : b ≡ c = cc in
       let w = further [] t (r ∙ q) in
-      (suc w.0, omega (arith, w.1), rw n (ap (put_first b) w.2 ∙ ap (λ k. (k ∷ t) ∷ []) z))
+      (suc w.0, omega (arith, w.1), rw n (ap (put_first b) w.2 ∙ ap (λ k. (k ∷ t) ∷ []) z), w.3)
   plain_cut n u us r (p ∷ before) t e =
       let q : us ≡ before ++ (t ++ x) ∷ after = cc in
       let z : b ∷ u ≡ p = cc in
       let w = further (u ∷ before) t (r ∙ ap (λ k. u ∷ k) q) in
-      (suc w.0, omega (arith, w.1), rw n (ap (put_first b) w.2 ∙ ap (λ k. k ∷ (before ++ t ∷ [])) z))
+      (suc w.0, omega (arith, w.1), rw n (ap (put_first b) w.2 ∙ ap (λ k. k ∷ (before ++ t ∷ [])) z), w.3)
 
-pub cut : (s : List ℕ) (before : List (List ℕ)) (t x : List ℕ) (after : List (List ℕ)) → lines_of s ≡ before ++ (t ++ x) ∷ after → IsCut s before t
-cut [] [] [] x after e = (0, omega arith, refl)
-cut [] [] (c ∷ t) x after e = cc
-cut [] (p ∷ []) t x after e = cc
-cut [] (p ∷ q ∷ before) t x after e = cc
-cut (b ∷ s) before t x after e =
+pub cut : (s : List ℕ) (before : List (List ℕ)) (t x : List ℕ) (after : List (List ℕ)) → IsParted x → lines_of s ≡ before ++ (t ++ x) ∷ after → IsCut s before t
+cut [] [] [] x after i e = (0, omega arith, refl, tt)
+cut [] [] (c ∷ t) x after i e = cc
+cut [] (p ∷ []) t x after i e = cc
+cut [] (p ∷ q ∷ before) t x after i e = cc
+cut (b ∷ s) before t x after i e =
     elim (cases_Bool (eqb b 10)) [
-      | inl n ↦ feed_cut b s x after (λ ls v q. cut s ls v x after q) n before t (rw n at e)
+      | inl n ↦ feed_cut b s x i after (λ ls v q. cut s ls v x after i q) n before t (rw n at e)
       | inr n ↦ let w = some_line s in
           let q : put_first b (lines_of s) ≡ before ++ (t ++ x) ∷ after = rw n at e in
-          plain_cut b s x after (λ ls v q. cut s ls v x after q) n w.0 w.1 w.2 before t (ap (put_first b) (sym w.2) ∙ q)
+          plain_cut b s x i after (λ ls v q. cut s ls v x after i q) n w.0 w.1 w.2 before t (ap (put_first b) (sym w.2) ∙ q)
     ]

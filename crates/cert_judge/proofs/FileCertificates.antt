@@ -1,28 +1,26 @@
 -- Proofs and certificates.
-use Rattle.std.proofs.Common.{◌≡◌, ◌⊎◌, ℕ, ◌+◌, ◌-◌, ◌≤◌, true, false, List, [], ◌∷◌, ◌++◌, length, take, drop, take-append-drop, Some, None, refl, sym, ap, ◌∙◌, subst, inl, inr, arith, append_assoc}
-use Rattle.std.proofs.lemmas.List.{append-nil}
-use Rattle.cnf_form.specs.Cnf.{LitOf, FormulaOf, Assignment}
+use Rattle.std.proofs.Common.{◌≡◌, ℕ, ◌+◌, ◌-◌, ◌≤◌, true, false, List, [], ◌∷◌, ◌++◌, length, take, drop, take-append-drop, Some, refl, sym, ap, ◌∙◌, subst, inl, inr, arith, append_assoc}
+use Rattle.cnf_form.specs.Cnf.{LitOf, FormulaOf}
 use Rattle.cnf_form.specs.Dimacs.{IsDimacs}
 use Rattle.cnf_form.proofs.Reading.{IsDimacs-one}
-use Rattle.cert_stream.specs.Text.{lines_of}
-use Rattle.cert_stream.specs.Stream.{lines_say, sayings}
-use Rattle.cert_stream.specs.Telling.{Saying, IsClause, IsDelete, IsValue, IsValuesEnd, IsUnknown, IsFault}
+use Rattle.cert_stream.specs.Stream.{sayings}
+use Rattle.cert_stream.specs.Telling.{Saying, IsClause}
 use Rattle.sby_terms.specs.declared.names.Answer.TheVariants.{Unsat}
 use Rattle.cert_judge.specs.DrupCert.{IsCert, IsCertOf}
 use Rattle.cert_judge.specs.Drup.{ComesTo}
 use Rattle.cert_judge.specs.Fate.{Found}
-use Rattle.cert_judge.specs.Kinds.{FateOf, FateSoFar, IsFate}
+use Rattle.cert_judge.specs.Kinds.{FateOf, IsFate}
 use Rattle.cert_judge.specs.ProofFile.{BytesCome, tried}
-use Rattle.cert_judge.specs.Values.{named, unnamed}
+use Rattle.cert_judge.specs.Values.{unnamed}
 use Rattle.cert_judge.specs.declared.stream.StreamKind.TheVariants.{Drup, Proof}
 use Rattle.cert_judge.proofs.Deletions.{Clauses}
 use Rattle.cert_judge.proofs.DrupAccepting.{cert_fate}
-use Rattle.cert_judge.proofs.DrupCerts.{fate_cert}
+use Rattle.cert_judge.proofs.DrupCerts.{cert_found as drup_found}
+use Rattle.cert_judge.proofs.CertSayings.{comes_cut}
 use Rattle.cert_judge.proofs.DrupFates.{comes_more}
 use Rattle.cert_judge.proofs.FileFates.{found_at_end}
 use Rattle.cert_judge.proofs.FilePrefixes.{prefix_found}
-use Rattle.cert_judge.proofs.FileSpelling.{Comes, comes_of, empty, said_tried}
-use Rattle.cert_judge.proofs.KindFates.{fate_at_end}
+use Rattle.cert_judge.proofs.FileSpelling.{Comes, comes_of, empty}
 use Rattle.proof_stream.specs.Binary.{line_said}
 use Rattle.proof_stream.specs.File.{fresh, spoken}
 use Rattle.proof_stream.specs.Spelling.{AreSaid, IsTextProof, ProofLine, Spelt}
@@ -30,7 +28,7 @@ use Rattle.proof_stream.specs.declared.spot.LineKind.{LineKind}
 use Rattle.proof_stream.specs.declared.spot.LineKind.TheVariants.{Clause, Deletion}
 use Rattle.proof_stream.specs.declared.spot.Form.TheVariants.{Text}
 use Rattle.proof_stream.proofs.Files.{file_spoken}
-use Rattle.proof_stream.proofs.Spelling.{text_lines, text_said}
+use Rattle.proof_stream.proofs.AnyLines.{text_file_says, text_says}
 
 -- what lines are found to be, wherever they stand
 module _ (C : Clauses) where
@@ -48,17 +46,9 @@ module _ (C : Clauses) where
   lines_move (l ∷ ls) ss ts F (p, s, e, a) (q, t, f, b) h =
       subst (λ (z : List Saying). Finds F z) (sym f) (line_moves l.kind l.lits p q F s t (λ H k. lines_move ls s t H a b k) (subst (λ (z : List Saying). Finds F z) e h))
 
-  -- a proof that the end completes came to nothing yet before it, or was complete
-  split : (F : Clauses) (x : Assignment) (ss : List Saying) (n : ℕ) → ComesTo C F x (tried n ss) (Some (Found Unsat)) → ComesTo C F x ss (Some (Found Unsat)) ⊎ ComesTo C F x ss None
-  split F x [] n h = inr refl
-  split F x (IsClause c p ∷ ss) n (inl h) = inl (inl h)
-  split F x (IsClause c p ∷ ss) n (inr (inl (a, m, h))) = elim (split (F ++ c ∷ []) x ss n h) [ inl k ↦ inl (inr (inl (a, m, k))) | inr k ↦ inr (inr (inl (a, m, k))) ]
-  split F x (IsClause c p ∷ ss) n (inr (inr (a, e))) = absurd (let k = e in cc)
-  split F x (IsDelete c ∷ ss) n (G, d, h) = elim (split G x ss n h) [ inl k ↦ inl (G, d, k) | inr k ↦ inr (G, d, k) ]
-  split F x (IsValue l ∷ ss) n h = split F (named x l) ss n h
-  split F x (IsValuesEnd ∷ ss) n h = inl h
-  split F x (IsUnknown ∷ ss) n h = inl h
-  split F x (IsFault f ∷ ss) n h = inl h
+said_tried : (ls : List ProofLine) (ss : List Saying) (n : ℕ) → AreSaid ls ss → AreSaid (ls ++ empty ∷ []) (tried n ss)
+said_tried [] ss n e = (n, [], ap (tried n) e, refl)
+said_tried (l ∷ ls) ss n (p, s, e, a) = (p, tried n s, ap (tried n) e, said_tried ls s n a)
 
 -- a last line 0
 pub last_line : (vars at : ℕ) (t : List ℕ) (ls : List ProofLine) → IsTextProof vars at t ls → IsTextProof vars at (t ++ 48 ∷ 10 ∷ []) (ls ++ empty ∷ [])
@@ -87,20 +77,19 @@ module _ (f : FormulaOf) (ls : List ProofLine) (t : List ℕ) (most : ℕ) (h : 
 
   whole_said : AreSaid (ls ++ empty ∷ []) (sayings f.vars false whole)
   whole_said =
-      subst (λ z. AreSaid (ls ++ empty ∷ []) (lines_say f.vars false false 0 (lines_of z))) (append-nil whole) (text_said f.vars (ls ++ empty ∷ []) 0 whole [] (last_line f.vars 0 t ls h) (λ at. refl))
+      text_says f.vars 0 (ls ++ empty ∷ []) whole (last_line f.vars 0 t ls h)
 
-  found_tried : Comes f ls most (length t) (Found Unsat) → (us : List Saying) × AreSaid (ls ++ empty ∷ []) us × Finds f.clauses f.clauses us
+  found_tried : Comes f (AreSaid ls) most (length t) (Found Unsat) → (us : List Saying) × AreSaid (ls ++ empty ∷ []) us × Finds f.clauses f.clauses us
   found_tried (inl (ss, a, k)) = (tried (length t) ss, said_tried ls ss (length t) a, comes_more f.clauses f.clauses unnamed ss (IsClause [] (length t) ∷ []) (Found Unsat) k)
   found_tried (inr (ss, a, k, us, v, c, i, e)) =
       (tried (length t) us, said_tried ls us (length t) c, subst (λ z. ComesTo f.clauses f.clauses unnamed (tried (length t) us) (Some z)) (found_at_end (length t) Unsat v e) i)
 
   pub found_cert : FateOf Proof f t most (Found Unsat) → (n : ℕ) × (n ≤ length whole) × IsCertOf f (take n whole) Unsat
   found_cert k =
-      let u = found_tried (comes_of f ls most Text t (Found Unsat) (text_lines f.vars ls t h) l k) in
+      let u = found_tried (comes_of f (AreSaid ls) most Text t (Found Unsat) (text_file_says f.vars ls t h) l k) in
       let c = lines_move f.clauses (ls ++ empty ∷ []) u.0 (sayings f.vars false whole) f.clauses u.1 whole_said u.2 in
-      let s : FateSoFar Drup f whole (length whole) (Some (Found Unsat)) = record { within = λ _. c; beyond = λ b. absurd (omega (arith, b)) } in
-      let g = fate_cert f whole (length whole) Unsat (fate_at_end Drup f (length whole) whole (Found Unsat) s) in
-      (g.0, g.1, g.3)
+      let g = drup_found f Unsat false whole c in
+      (g.0, g.1, g.2)
 
   cert_says : (cert : List ℕ) → FateOf Drup f cert (length cert) (Found Unsat) → Finds f.clauses f.clauses (sayings f.vars true cert)
   cert_says cert g = elim (g.within (omega arith)) [ inl k ↦ k | inr (k, e) ↦ absurd (let z = e in cc) ]
@@ -114,11 +103,11 @@ module _ (f : FormulaOf) (ls : List ProofLine) (t : List ℕ) (most : ℕ) (h : 
       (prefix_found f.clauses f.clauses unnamed f.vars cert rest (ls ++ empty ∷ []) v (t ++ 48 ∷ []) (sym e ∙ sym (append_assoc t (48 ∷ []) (10 ∷ []))) g) in
       let ss : List Saying = spoken false (fresh Text f.vars) t in
       let ts : List Saying = spoken true (fresh Text f.vars) t in
-      let a : AreSaid ls ss = text_lines f.vars ls t h false ss (file_spoken Text f.vars false t) in
-      let b : AreSaid ls ts = text_lines f.vars ls t h true ts (file_spoken Text f.vars true t) in
+      let a : AreSaid ls ss = text_file_says f.vars ls t h false ss (file_spoken Text f.vars false t) in
+      let b : AreSaid ls ts = text_file_says f.vars ls t h true ts (file_spoken Text f.vars true t) in
       let i = lines_move f.clauses (ls ++ empty ∷ []) (sayings f.vars false whole) (tried (length t) ss) f.clauses whole_said (said_tried ls ss (length t) a) m in
       let j = lines_move f.clauses (ls ++ empty ∷ []) (sayings f.vars false whole) (tried (length t) ts) f.clauses whole_said (said_tried ls ts (length t) b) m in
-      let file : BytesCome Text f true t (Some (Found Unsat)) = elim (split f.clauses f.clauses unnamed ss (length t) i) [
+      let file : BytesCome Text f true t (Some (Found Unsat)) = elim (comes_cut f.clauses f.clauses unnamed ss (IsClause [] (length t) ∷ []) (Found Unsat) i) [
         | inl k ↦ inl (ss, file_spoken Text f.vars false t, k)
         | inr k ↦ inr ((ss, file_spoken Text f.vars false t, k), (ts, Found Unsat, file_spoken Text f.vars true t, j, refl))
       ] in

@@ -5,7 +5,7 @@ use Rattle.std.proofs.lemmas.List.{append-nil}
 use Rattle.cnf_form.specs.Cnf.{LitOf, Assignment}
 use Rattle.cert_stream.specs.Text.{is_blank}
 use Rattle.cert_stream.specs.Machine.{DrupOf, Turn, at_end, counted, end_line, end_word, ended, fault_of, turn, unended}
-use Rattle.cert_stream.specs.Telling.{Saying, IsClause, IsDelete, IsValue, IsValuesEnd, IsUnknown, IsFault, after, fault_said, fresh, said, saying, told_by}
+use Rattle.cert_stream.specs.Telling.{Saying, IsUnknown, IsFault, after, fault_said, fresh, said, saying, told_by}
 use Rattle.cert_stream.specs.Stream.{sayings}
 use Rattle.cert_stream.specs.declared.mode.ListKind.{ListKind}
 use Rattle.cert_stream.specs.declared.mode.ListKind.TheVariants.{Clause, Deletion, Values}
@@ -21,8 +21,8 @@ use Rattle.cert_stream.proofs.Turning.{turn_blank, turn_visible}
 use Rattle.sby_terms.specs.declared.names.Answer.TheVariants.{Unsat}
 use Rattle.cert_judge.specs.Fate.{Found}
 use Rattle.cert_judge.specs.Drup.{ComesTo}
-use Rattle.cert_judge.specs.Values.{named}
 use Rattle.cert_judge.proofs.DrupFates.{comes_more}
+use Rattle.cert_judge.proofs.DrupFollowing.{found_before_unknown}
 use Rattle.proof_stream.specs.Binary.{line_said}
 use Rattle.proof_stream.specs.Spelling.{AreSaid, ProofLine}
 use Rattle.proof_stream.specs.declared.spot.LineKind.{LineKind}
@@ -30,18 +30,6 @@ use Rattle.proof_stream.specs.declared.spot.LineKind.TheVariants.{Clause as Clau
 
 abbrev Finds : List (List LitOf) → List (List LitOf) → Assignment → List Saying → Type 0
 Finds C F x ss = ComesTo C F x ss (Some (Found Unsat))
-
--- UNKNOWN finds nothing
-before_unknown : (C F : List (List LitOf)) (x : Assignment) (ss : List Saying) → Finds C F x (ss ++ IsUnknown ∷ []) → Finds C F x ss
-before_unknown C F x [] e = absurd (let k = e in cc)
-before_unknown C F x (IsClause c p ∷ ss) (inl h) = inl h
-before_unknown C F x (IsClause c p ∷ ss) (inr (inl (a, n, h))) = inr (inl (a, n, before_unknown C (F ++ c ∷ []) x ss h))
-before_unknown C F x (IsClause c p ∷ ss) (inr (inr h)) = inr (inr h)
-before_unknown C F x (IsDelete c ∷ ss) (G, d, h) = (G, d, before_unknown C G x ss h)
-before_unknown C F x (IsValue l ∷ ss) h = before_unknown C F (named x l) ss h
-before_unknown C F x (IsValuesEnd ∷ ss) h = h
-before_unknown C F x (IsUnknown ∷ ss) h = h
-before_unknown C F x (IsFault f ∷ ss) h = h
 
 -- lines have no fault
 no_line : (kind : LineKind) (p : ℕ) (c : List LitOf) (f : ParseFault) (ss ts : List Saying) → IsFault f ∷ ss ≡ line_said kind p c ∷ ts → ⊥
@@ -126,7 +114,7 @@ module _ (C F : List (List LitOf)) (x : Assignment) (vars : ℕ) (cert rest : Li
   quiet h = comes_more C F x (said (fresh vars) cert) more (Found Unsat) (subst (λ (z : List Saying). Finds C F x z) (append-nil (said (fresh vars) cert)) h)
 
   unknown : Finds C F x (said (fresh vars) cert ++ IsUnknown ∷ []) → Goal
-  unknown h = comes_more C F x (said (fresh vars) cert) more (Found Unsat) (before_unknown C F x (said (fresh vars) cert) h)
+  unknown h = comes_more C F x (said (fresh vars) cert) more (Found Unsat) (found_before_unknown C F x Unsat (said (fresh vars) cert) h)
 
   -- a 0 that ends the certificate
   module _ (kind : ListKind) (e : w.mode ≡ InList kind Zero) (h : Finds C F x (said (fresh vars) cert ++ saying w (ended kind) ∷ [])) where

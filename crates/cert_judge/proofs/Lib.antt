@@ -33,4 +33,9 @@ pub mod OutputFates
 pub mod OutputDeciding
 pub mod OutputAnswering
 pub mod FileSpelling
+pub mod CertEnds
+pub mod CertSayings
 pub mod FileCertificates
+pub mod TextCerts
+pub mod BinaryCerts
+pub mod KindCerts

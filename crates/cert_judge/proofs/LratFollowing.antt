@@ -10,7 +10,8 @@ use Rattle.cert_judge.specs.Fate.{Found}
 use Rattle.cert_judge.specs.Lrat.{BytesCome, Comes, ComesTo, Held, added, deleted, first_bad, held_first}
 use Rattle.cert_judge.specs.Kinds.{FateSoFar, FateOf}
 use Rattle.cert_judge.specs.declared.stream.StreamKind.TheVariants.{Lrat}
-use Rattle.cert_judge.proofs.DrupFollowing.{IsSpace, followed_by}
+use Rattle.cert_judge.specs.KindCert.{IsSpace}
+use Rattle.cert_judge.proofs.DrupFollowing.{followed_by}
 use Rattle.cert_judge.proofs.LratFates.{comes_more, hints_more, tried_more}
 
 -- a certificate is found before UNKNOWN is said

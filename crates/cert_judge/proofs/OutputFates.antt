@@ -105,7 +105,7 @@ output_at_end job bytes most x (f, d, h) =
     )
 
 -- an own fate is the stream's
-own_same : (values : Bool) (x y : Fate) → Some y ≡ own_fate values x → x ≡ y
+pub own_same : (values : Bool) (x y : Fate) → Some y ≡ own_fate values x → x ≡ y
 own_same true x y e = some_same x y (sym e)
 own_same false (Found a) y e = some_same (Found a) y (sym e)
 own_same false Unknown y e = some_same Unknown y (sym e)

@@ -14,6 +14,8 @@ pub mod Lines
 pub mod Judging
 pub mod DrupCert
 pub mod LratCert
+pub mod BinaryCert
+pub mod KindCert
 pub mod Output
 pub mod Spots
 pub mod OutputFate

@@ -4,13 +4,14 @@ ghost use Rattle.std.specs.Prelude.{◌≡◌, ◌⊎◌, ◌<◌, ◌≤◌, �
 ghost use Rattle.cert_stream.specs.Text.{is_blank};
 ghost use Rattle.cnf_form.specs.Cnf.{Assignment, FormulaOf, IsUnsatisfiable, Satisfies};
 ghost use Rattle.cnf_form.specs.Dimacs.{IsDimacs};
+ghost use Rattle.proof_stream.specs.AnyLines.{IsCrowded, SpeltAny};
 ghost use Rattle.proof_stream.specs.Spelling.{Spelt};
 ghost use Rattle.sby_terms.specs.declared.names.Answer.{Answer};
 ghost use Rattle.sby_terms.specs.declared.names.Answer.TheVariants.{Sat, Unsat};
 ghost use Rattle.cert_judge.specs.DrupCert.{IsCert};
 ghost use Rattle.cert_judge.specs.Fate.{Fate, Found};
 ghost use Rattle.cert_judge.specs.Kinds.{IsFate, IsFateSoFar};
-ghost use Rattle.cert_judge.specs.Same.{IsSameFate};
+ghost use Rattle.cert_judge.specs.Same.{IsLiteralFault, IsSameFate};
 ghost use Rattle.cert_judge.specs.declared.stream.StreamKind.{StreamKind};
 ghost use Rattle.cert_judge.specs.declared.stream.StreamKind.TheVariants.{Drup, Proof, ProofBinary};
 
@@ -75,12 +76,6 @@ pub fn proof_files_show_unsat_alone()
     ensures binary { (job stream : List ℕ) (most : ℕ) → IsFate ProofBinary job stream most (Found Sat) → ⊥ }
 {}
 
-/// Where DRUP text is found to be a certificate, it begins with one, within the first `most` bytes.
-pub fn found_fate_begins_certificate()
-    ensures { (job stream : List ℕ) (most : ℕ) (answer : Answer) → IsFate Drup job stream most (Found answer)
-        → (n : ℕ) × (n ≤ length stream) × (n ≤ most) × IsCert job (take n stream) answer }
-{}
-
 /// A certificate in DRUP text, all of whose bytes are taken, is found to be one.
 pub fn certificate_is_found()
     ensures { (job stream : List ℕ) (most : ℕ) (answer : Answer) → IsCert job stream answer → length stream ≤ most
@@ -95,17 +90,19 @@ pub fn certificate_is_found_before_more()
         → length cert < most → IsFate Drup job (cert ++ b ∷ rest) most (Found answer) }
 {}
 
-/// A found fate stays where white space or a line feed follows.
-pub fn found_fate_stays_before_more()
-    ensures { (job stream rest : List ℕ) (b most : ℕ) (answer : Answer) → IsFate Drup job stream most (Found answer) → (is_blank b ≡ true) ⊎ (b ≡ 10)
-        → length stream < most → IsFateSoFar Drup job (stream ++ b ∷ rest) most (Some (Found answer)) }
-{}
-
 /// A binary proof and the text that spells it, all of whose bytes are taken, have the same fate but for byte numbers.
 #[tactic(auto, using(crate::proofs::FileSpelling::spelt_fates))]
 pub fn spelt_files_have_the_same_fate()
     ensures { (job b t : List ℕ) (most : ℕ) (f : FormulaOf) (x y : Fate) → IsDimacs job f → Spelt f.vars b t → length b ≤ most → length t ≤ most
         → IsFate ProofBinary job b most x → IsFate Proof job t most y → IsSameFate x y }
+{}
+
+/// A binary proof and its text, of literals of any variables and lines of any length, all of whose bytes are taken, have the same fate but for
+/// byte numbers. Only where a line has a literal of a greater variable after as many as there are variables it may be BadLiteral in the one and
+/// LineTooLong in the other.
+pub fn any_spelt_files_have_the_same_fate()
+    ensures { (job b t : List ℕ) (most : ℕ) (f : FormulaOf) (x y : Fate) → IsDimacs job f → (s : SpeltAny f.vars b t) → length b ≤ most → length t ≤ most
+        → IsFate ProofBinary job b most x → IsFate Proof job t most y → IsSameFate x y ⊎ (IsCrowded f.vars s.0 × IsLiteralFault x × IsLiteralFault y) }
 {}
 
 /// A text of whole lines that is found to be a proof begins, with a last line 0, with a certificate of a stream.

@@ -2,7 +2,7 @@
 #![tactic(auto)]
 
 mod certificate;
-mod hinted;
+mod certs;
 mod judging;
 mod laws;
 mod lines;
@@ -12,17 +12,17 @@ mod spot;
 mod stream;
 mod values;
 
-pub use hinted::{
-    found_fate_begins_hinted_certificate, found_hinted_fate_stays_before_more,
-    hinted_certificate_is_found, hinted_certificate_is_found_before_more,
+pub use certs::{
+    certificates_are_found, certificates_are_found_before_more, found_fates_stay_before_more,
+    outputs_hold_certificates,
 };
 pub use judging::Judge;
 pub use laws::{
-    certificate_is_found, certificate_is_found_before_more, certificate_is_found_proof,
-    fate_so_far_is_the_fate, fates_stay, found_fate_begins_certificate,
-    found_fate_stays_before_more, found_proof_begins_certificate, found_sat_is_satisfiable,
-    found_unsat_is_unsatisfiable, no_fate_within_most, one_fate, proof_files_show_unsat_alone,
-    some_fate, spelt_files_have_the_same_fate,
+    any_spelt_files_have_the_same_fate, certificate_is_found, certificate_is_found_before_more,
+    certificate_is_found_proof, fate_so_far_is_the_fate, fates_stay,
+    found_proof_begins_certificate, found_sat_is_satisfiable, found_unsat_is_unsatisfiable,
+    no_fate_within_most, one_fate, proof_files_show_unsat_alone, some_fate,
+    spelt_files_have_the_same_fate,
 };
 pub use output::OutputJudge;
 pub use outputs::{

@@ -157,7 +157,7 @@ module _ (vars : ℕ) where
       ∙ sym (append_assoc (heard_says kind l) (flat_map (heard_says kind) lits) (ended_says kind place ((front ++ l ∷ []) ++ lits) ∷ more))
       ∙ ap (λ x. (heard_says kind l ++ flat_map (heard_says kind) lits) ++ ended_says kind place x ∷ more) (append_assoc front (l ∷ []) lits)
 
-clause_byte : (b : ℕ) → (eqb b 45 || is_digit b) ≡ true → (eqb b 99 ≡ false) × (eqb b 118 ≡ false) × (eqb b 115 ≡ false) × (eqb b 100 ≡ false)
+pub clause_byte : (b : ℕ) → (eqb b 45 || is_digit b) ≡ true → (eqb b 99 ≡ false) × (eqb b 118 ≡ false) × (eqb b 115 ≡ false) × (eqb b 100 ≡ false)
 clause_byte b h =
     elim (cases_Bool (eqb b 45)) [
       | inl t ↦ let i : b ≡ 45 = eqb-true b 45 t in subst (λ z. (eqb z 99 ≡ false) × (eqb z 118 ≡ false) × (eqb z 115 ≡ false) × (eqb z 100 ≡ false)) (sym i) (refl, refl, refl, refl)
@@ -207,7 +207,7 @@ module _ (vars : ℕ) (counted : Bool) (broken going more : List Saying) (place 
       some w ws [] m = cc
       some w ws (l ∷ ls) m = let k : literal_of vars w.text ≡ Some l = cc in literal_byte vars w.text l k
 
-  clause_at : (first : Word) (others : List Word) → (eqb (slice_index first.text 0) 45 || is_digit (slice_index first.text 0)) ≡ true
+  pub clause_at : (first : Word) (others : List Word) → (eqb (slice_index first.text 0) 45 || is_digit (slice_index first.text 0)) ≡ true
       → visible_says vars counted false broken going more (slice_index first.text 0) first others ≡ list_says vars Clause counted broken more first.place [] (first ∷ others)
   clause_at first others b = let n = clause_byte (slice_index first.text 0) b in rw (n.0, n.1, n.2, n.3, b) refl
 

@@ -10,6 +10,7 @@ pub mod Speaking
 pub mod Wording
 pub mod Tails
 pub mod Listing
+pub mod Statuses
 pub mod Status
 pub mod Lining
 pub mod Streams

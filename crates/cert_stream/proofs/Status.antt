@@ -1,149 +1,63 @@
 -- The bytes of a status line say what its words say.
-use Rattle.std.proofs.Common.{◌≡◌, ℕ, ◌+◌, ◌-◌, Bool, true, false, cond, ◌&&◌, eqb, List, [], ◌∷◌, ◌++◌, length, codes, refl, ap, sym, ◌∙◌, inl, inr, subst, arith}
-use Rattle.std.proofs.lemmas.Bool.{cases_Bool, eqb-true}
-use Rattle.std.specs.Prelude.{bytes_eq}
+use Rattle.std.proofs.Common.{◌≡◌, ℕ, ◌+◌, Bool, false, cond, not, ◌&&◌, eqb, leb, List, [], ◌∷◌, ◌++◌, length, refl, ap, ◌∙◌, inl, inr, arith}
+use Rattle.std.proofs.lemmas.Bool.{cases_Bool}
 use Rattle.cnf_form.specs.Cnf.{LitOf}
-use Rattle.cert_stream.specs.Text.{Word, words_from, is_blank, NoFeed}
-use Rattle.cert_stream.specs.Machine.{DrupOf, Turn, counted as with_count, quiet, visible_spelled}
-use Rattle.cert_stream.specs.Telling.{Saying, IsUnknown, told_by}
+use Rattle.cert_stream.specs.Text.{is_blank, NoFeed}
+use Rattle.cert_stream.specs.Machine.{spelling}
+use Rattle.cert_stream.specs.Telling.{Saying, IsUnknown}
 use Rattle.cert_stream.specs.Stream.{status_says}
 use Rattle.cert_stream.specs.declared.mode.ParseFaultKind.TheVariants.{BadLine}
 use Rattle.cert_stream.specs.declared.mode.Mode.TheVariants.{Skip, StatusHead, StatusGap, Spelled, Whole}
-use Rattle.cert_stream.proofs.Turning.{parser, turn_visible}
-use Rattle.cert_stream.proofs.Wording.{has_word, words_visible, after_first}
+use Rattle.cert_stream.proofs.Turning.{parser}
+use Rattle.cert_stream.proofs.Wording.{after_first}
 use Rattle.cert_stream.proofs.Speaking.{speak, bad_ever}
+use Rattle.cert_stream.proofs.Statuses as status
+use Rattle.cert_stream.proofs.Statuses.{Spots, Steps, Tails}
 use Rattle.cert_stream.proofs.Tails.{Tail}
 
-abbrev unknown : List ℕ
-unknown = codes "UNKNOWN"
-
--- no such word is UNKNOWN
-abbrev Off : List ℕ → Type 0
-Off p = (x : List ℕ) → bytes_eq (p ++ x) unknown ≡ false
-
 module _ (vars : ℕ) (ended fed counted : Bool) (broken going more : List Saying) (feed : ℕ) (tail : List ℕ) (behind : Tail vars ended fed counted broken going more feed tail) where
+  abbrev spots : Spots Saying (List LitOf)
+  spots = record {
+    skip = λ amid place taken lits text. speak ended (parser vars taken place (Skip amid) lits) text;
+    gap = λ place taken lits text. speak ended (parser vars taken place StatusGap lits) text;
+    spelled = λ n place taken lits text. speak ended (parser vars taken place (Spelled n) lits) text;
+    whole = λ place taken lits text. speak ended (parser vars taken place Whole lits) text;
+  }
+
+  -- a letter of UNKNOWN or another, and the end of a word
+  after : (b : Bool) (n place taken : ℕ) (lits : (List LitOf)) (bs : List ℕ)
+      → speak ended (parser vars taken place (cond b (Spelled n) (Skip false)) lits) bs ≡ cond b (spots.spelled n place taken lits bs) (spots.skip false place taken lits bs)
+  after b n place taken lits bs = elim (cases_Bool b) [ inl t ↦ rw t refl | inr f ↦ rw f refl ]
+
+  parted : (b : Bool) (place taken : ℕ) (lits : (List LitOf)) (bs : List ℕ) → speak ended (parser vars taken place (cond b Whole (Skip false)) lits) bs ≡ cond b (spots.whole place taken lits bs) (spots.skip false place taken lits bs)
+  parted b place taken lits bs = elim (cases_Bool b) [ inl t ↦ rw t refl | inr f ↦ rw f refl ]
+
+  steps : Steps Saying (List LitOf) spots
+  steps = record {
+    skip = λ amid place taken lits b bs h. elim (cases_Bool (is_blank b)) [ inl t ↦ rw (h, t) refl | inr g ↦ rw (h, g) refl ];
+    gap_blank = λ place taken lits b bs h t. rw (h, t) refl;
+    gap_visible = λ place taken lits b bs h g. rw (h, g) (after (eqb b 85) 1 place (taken + 1) lits bs);
+    spelled_blank = λ n place taken lits b bs h t. rw (h, t) (parted (eqb n 7) place (taken + 1) lits bs);
+    spelled_visible = λ n place taken lits b bs h g. rw (h, g) (after (not (leb 7 n) && eqb b (spelling n)) (n + 1) place (taken + 1) lits bs);
+    whole_blank = λ place taken lits b bs h t. rw (h, t) refl;
+    whole_visible = λ place taken lits b bs h g. rw (h, g) refl;
+  }
+
+  tails : Tails Saying (List LitOf) spots IsUnknown counted going more feed tail
+  tails = record { skip = λ amid place lits. behind.skip place amid lits; gap = behind.status_gap; spelled = λ n place lits. behind.spelled place n lits; whole = behind.whole }
+
   -- after a comment's first byte
-  pub skip_text : (place : ℕ) (amid : Bool) (t : List ℕ) (taken : ℕ) (lits : List LitOf) → NoFeed t → taken + length t ≡ feed
+  pub skip_text : (place : ℕ) (amid : Bool) (t : List ℕ) (taken : ℕ) (lits : (List LitOf)) → NoFeed t → taken + length t ≡ feed
       → speak ended (parser vars taken place (Skip amid) lits) (t ++ tail) ≡ cond amid going more
-  skip_text place amid [] taken lits h e =
-      let k : taken ≡ feed = omega (arith, e) in ap (λ z. speak ended (parser vars z place (Skip amid) lits) tail) k ∙ behind.skip place amid lits
-  skip_text place amid (b ∷ bs) taken lits (h, hs) e =
-      elim (cases_Bool (is_blank b)) [
-        | inl t ↦ rw (h, t) (skip_text place amid bs (taken + 1) lits hs (omega (arith, e)))
-        | inr g ↦ rw (h, g) (skip_text place amid bs (taken + 1) lits hs (omega (arith, e)))
-      ]
-
-  not_alone : (w : Word) (ws : List Word) → bytes_eq w.text unknown ≡ false → status_says counted more (w ∷ ws) ≡ more
-  not_alone w [] e = rw e refl
-  not_alone w (v ∷ ws) e = refl
-
-  off_says : (at c : ℕ) (q bs : List ℕ) → Off (c ∷ q) → status_says counted more (words_from fed at (c ∷ q) bs) ≡ more
-  off_says at c q bs o =
-      let w = has_word fed at c q bs in
-      ap (status_says counted more) w.are ∙ not_alone w.word w.others (ap (λ t. bytes_eq t unknown) w.text ∙ o w.more)
-
-  two_words : (u : Word) (ws : List Word) (w : Word) (others : List Word) → ws ≡ w ∷ others → status_says counted more (u ∷ ws) ≡ more
-  two_words u ws w others e = ap (λ z. status_says counted more (u ∷ z)) e
-
-  -- after UNKNOWN and white space
-  whole_text : (place : ℕ) (u : Word) → bytes_eq u.text unknown ≡ true → (t : List ℕ) (taken : ℕ) (lits : List LitOf) → NoFeed t → taken + length t ≡ feed
-      → speak ended (parser vars taken place Whole lits) (t ++ tail) ≡ status_says counted more (u ∷ words_from fed taken [] t)
-  whole_text place u x [] taken lits h e =
-      let k : taken ≡ feed = omega (arith, e) in
-      ap (λ z. speak ended (parser vars z place Whole lits) tail) k ∙ behind.whole place lits ∙ sym (ap (λ z. cond (z && counted) (IsUnknown ∷ more) more) x)
-  whole_text place u x (b ∷ bs) taken lits (h, hs) e =
-      elim (cases_Bool (is_blank b)) [
-        | inl t ↦ rw (h, t) (whole_text place u x bs (taken + 1) lits hs (omega (arith, e)))
-        | inr g ↦
-            let w = has_word fed (taken + 1) b [] bs in
-            rw (h, g) (skip_text place false bs (taken + 1) lits hs (omega (arith, e)) ∙ sym (two_words u (words_from fed (taken + 1) (b ∷ []) bs) w.word w.others w.are))
-      ]
-
-  -- after the first bytes of a word, which are this many of UNKNOWN
-  abbrev Spells : ℕ → List ℕ → Type 0
-  Spells n p = (place : ℕ) (t : List ℕ) (taken : ℕ) (lits : List LitOf) → NoFeed t → taken + length t ≡ feed
-      → speak ended (parser vars taken place (Spelled n) lits) (t ++ tail) ≡ status_says counted more (words_from fed taken p t)
-
-  module _ (n m c d : ℕ) (q : List ℕ) (s : (w : DrupOf) (b : ℕ) → visible_spelled w n b ≡ quiet w (cond (eqb b c) (Spelled m) (Skip false))) (few : eqb n 7 ≡ false)
-      (short : bytes_eq (d ∷ q) unknown ≡ false) (off : (b : ℕ) → eqb b c ≡ false → Off (d ∷ q ++ b ∷ [])) (next : Spells m (d ∷ q ++ c ∷ [])) where
-    spells : Spells n (d ∷ q)
-    spells place [] taken lits h e =
-        let k : taken ≡ feed = omega (arith, e) in
-        let none : cond (eqb n 7 && counted) (IsUnknown ∷ more) more ≡ status_says counted more (words_from fed feed (d ∷ q) []) = rw (few, short) refl in
-        subst (λ z. speak ended (parser vars z place (Spelled n) lits) tail ≡ status_says counted more (words_from fed z (d ∷ q) [])) (sym k) (behind.spelled place n lits ∙ none)
-    spells place (b ∷ bs) taken lits (h, hs) e =
-        let w = parser vars taken place (Spelled n) lits in
-        let k : taken + 1 + length bs ≡ feed = omega (arith, e) in
-        let on : (x : Bool) → eqb b c ≡ x → (let z = with_count taken (quiet w (cond x (Spelled m) (Skip false))) in told_by z.to z.event ++ speak ended z.to (bs ++ tail))
-        ≡ status_says counted more (words_from fed (taken + 1) (d ∷ q ++ b ∷ []) bs) = λ x y. goes place b bs taken lits hs k x y in
-        elim (cases_Bool (is_blank b)) [
-          | inl t ↦ rw (h, t, few) (skip_text place false bs (taken + 1) lits hs k ∙ sym (not_alone (record { place = taken - length (d ∷ q); text = d ∷ q; done = true }) (words_from fed (taken + 1) [] bs) short))
-          | inr g ↦
-              ap (λ (z : Turn). told_by z.to z.event ++ speak ended z.to (bs ++ tail)) (turn_visible w b h g ∙ ap (with_count taken) (s w b))
-              ∙ on (eqb b c) refl
-              ∙ sym (ap (status_says counted more) (words_visible fed taken (d ∷ q) b bs g))
-        ]
-      where
-        goes : (place b : ℕ) (bs : List ℕ) (taken : ℕ) (lits : List LitOf) → NoFeed bs → taken + 1 + length bs ≡ feed → (x : Bool) → eqb b c ≡ x
-            → (let z = with_count taken (quiet (parser vars taken place (Spelled n) lits) (cond x (Spelled m) (Skip false))) in told_by z.to z.event ++ speak ended z.to (bs ++ tail))
-            ≡ status_says counted more (words_from fed (taken + 1) (d ∷ q ++ b ∷ []) bs)
-        goes place b bs taken lits hs k true y =
-            let i : b ≡ c = eqb-true b c y in
-            next place bs (taken + 1) lits hs k ∙ ap (λ z. status_says counted more (words_from fed (taken + 1) (d ∷ q ++ z ∷ []) bs)) (sym i)
-        goes place b bs taken lits hs k false y = skip_text place false bs (taken + 1) lits hs k ∙ sym (off_says (taken + 1) d (q ++ b ∷ []) bs (off b y))
-
-  seven : Spells 7 (codes "UNKNOWN")
-  seven place [] taken lits h e =
-      let k : taken ≡ feed = omega (arith, e) in
-      subst (λ z. speak ended (parser vars z place (Spelled 7) lits) tail ≡ status_says counted more (words_from fed z (codes "UNKNOWN") [])) (sym k) (behind.spelled place 7 lits)
-  seven place (b ∷ bs) taken lits (h, hs) e =
-      let k : taken + 1 + length bs ≡ feed = omega (arith, e) in
-      elim (cases_Bool (is_blank b)) [
-        | inl t ↦ rw (h, t) (whole_text place (record { place = taken - length (codes "UNKNOWN"); text = codes "UNKNOWN"; done = true }) refl bs (taken + 1) lits hs k)
-        | inr g ↦ rw (h, g) (skip_text place false bs (taken + 1) lits hs k ∙ sym (off_says (taken + 1) 85 (codes "NKNOWN" ++ b ∷ []) bs (λ x. refl)))
-      ]
-
-  six : Spells 6 (codes "UNKNOW")
-  six = spells 6 7 78 85 (codes "NKNOW") (λ w b. refl) refl refl (λ b f x. rw f refl) seven
-
-  five : Spells 5 (codes "UNKNO")
-  five = spells 5 6 87 85 (codes "NKNO") (λ w b. refl) refl refl (λ b f x. rw f refl) six
-
-  four : Spells 4 (codes "UNKN")
-  four = spells 4 5 79 85 (codes "NKN") (λ w b. refl) refl refl (λ b f x. rw f refl) five
-
-  three : Spells 3 (codes "UNK")
-  three = spells 3 4 78 85 (codes "NK") (λ w b. refl) refl refl (λ b f x. rw f refl) four
-
-  two : Spells 2 (codes "UN")
-  two = spells 2 3 75 85 (codes "N") (λ w b. refl) refl refl (λ b f x. rw f refl) three
-
-  one : Spells 1 (codes "U")
-  one = spells 1 2 78 85 [] (λ w b. refl) refl refl (λ b f x. rw f refl) two
-
-  -- after s and white space
-  gap_text : (place : ℕ) (t : List ℕ) (taken : ℕ) (lits : List LitOf) → NoFeed t → taken + length t ≡ feed
-      → speak ended (parser vars taken place StatusGap lits) (t ++ tail) ≡ status_says counted more (words_from fed taken [] t)
-  gap_text place [] taken lits h e = let k : taken ≡ feed = omega (arith, e) in ap (λ z. speak ended (parser vars z place StatusGap lits) tail) k ∙ behind.status_gap place lits
-  gap_text place (b ∷ bs) taken lits (h, hs) e =
-      let k : taken + 1 + length bs ≡ feed = omega (arith, e) in
-      elim (cases_Bool (is_blank b)) [
-        | inl t ↦ rw (h, t) (gap_text place bs (taken + 1) lits hs k)
-        | inr g ↦ elim (cases_Bool (eqb b 85)) [
-          | inl u ↦
-              let i : b ≡ 85 = eqb-true b 85 u in
-              rw (h, g, u) (one place bs (taken + 1) lits hs k ∙ ap (λ z. status_says counted more (words_from fed (taken + 1) (z ∷ []) bs)) (sym i))
-          | inr f ↦ rw (h, g, f) (skip_text place false bs (taken + 1) lits hs k ∙ sym (off_says (taken + 1) b [] bs (λ x. rw f refl)))
-        ]
-      ]
+  skip_text place amid t taken lits h e = status.skip_text Saying (List LitOf) spots steps IsUnknown fed counted going more feed tail tails amid place t taken lits h e
 
   -- after s
-  pub status_text : (place : ℕ) (t : List ℕ) (taken : ℕ) (lits : List LitOf) → NoFeed t → taken + length t ≡ feed
+  pub status_text : (place : ℕ) (t : List ℕ) (taken : ℕ) (lits : (List LitOf)) → NoFeed t → taken + length t ≡ feed
       → speak ended (parser vars taken place StatusHead lits) (t ++ tail) ≡ after_first (status_says counted more) fed taken t
   status_text place [] taken lits h e = let k : taken ≡ feed = omega (arith, e) in ap (λ z. speak ended (parser vars z place StatusHead lits) tail) k ∙ behind.status_head place lits
   status_text place (b ∷ bs) taken lits (h, hs) e =
       let k : taken + 1 + length bs ≡ feed = omega (arith, e) in
       elim (cases_Bool (is_blank b)) [
-        | inl t ↦ rw (h, t) (gap_text place bs (taken + 1) lits hs k)
+        | inl t ↦ rw (h, t) (status.gap_text Saying (List LitOf) spots steps IsUnknown fed counted going more feed tail tails place bs (taken + 1) lits hs k)
         | inr g ↦ rw (h, g) (bad_ever ended (record { kind = BadLine; byte = taken }) vars (taken + 1) place lits (bs ++ tail))
       ]

@@ -1,8 +1,8 @@
 -- A proof file says clauses, deletions and faults alone.
-use Rattle.std.proofs.Common.{◌≡◌, ℕ, Bool, true, false, cond, not, ◌&&◌, ◌||◌, eqb, leb, List, [], ◌∷◌, ◌++◌, length, Option, Some, None, refl, sym, subst, inl, inr}
+use Rattle.std.proofs.Common.{◌≡◌, ◌⊎◌, ap, ℕ, Bool, true, false, cond, not, ◌&&◌, ◌||◌, eqb, leb, List, [], ◌∷◌, ◌++◌, length, Option, Some, None, refl, sym, subst, inl, inr}
 use Rattle.std.proofs.lemmas.Bool.{cases_Bool, eqb-true}
 use Rattle.cert_stream.specs.Machine.{DrupOf, Turn, begins_literal, counted, emptied, end_word, goes_on, turn, visible, visible_digit, visible_first, visible_part, visible_start}
-use Rattle.cert_stream.specs.Telling.{Saying, IsClause, IsDelete, IsValue, IsValuesEnd, IsUnknown, IsFault, fault_said, told_by}
+use Rattle.cert_stream.specs.Telling.{Saying, IsClause, IsDelete, IsValue, IsValuesEnd, IsUnknown, IsFault, after as parser_after, fault_said, fresh as parser_fresh, told_by}
 use Rattle.cert_stream.specs.Text.{is_blank, is_digit}
 use Rattle.cert_stream.specs.declared.mode.ListKind.{ListKind}
 use Rattle.cert_stream.specs.declared.mode.ListKind.TheVariants.{Clause, Deletion, Values}
@@ -11,7 +11,9 @@ use Rattle.cert_stream.specs.declared.mode.Mode.TheVariants.{Start, Skip, Head, 
 use Rattle.cert_stream.specs.declared.mode.Part.{Part}
 use Rattle.cert_stream.specs.declared.mode.Part.TheVariants.{Gap, Minus, Zero, Digits}
 use Rattle.cert_stream.specs.declared.mode.ParseFault.{ParseFault}
+use Rattle.cert_stream.proofs.Apart.{kept}
 use Rattle.cert_stream.proofs.Faults.{with_mode}
+use Rattle.cert_stream.proofs.Going.{Going}
 use Rattle.cert_stream.proofs.Turning.{turn_blank, turn_visible}
 use Rattle.proof_stream.specs.Text.{is_claim, starts_behind, text_next, text_says}
 use Rattle.proof_stream.specs.Binary.{BinaryOf, binary_told, binary_turn}
@@ -22,7 +24,8 @@ use Rattle.proof_stream.specs.declared.spot.Form.TheVariants.{Text, Binary}
 use Rattle.proof_stream.specs.declared.spot.LineKind.{LineKind}
 use Rattle.proof_stream.specs.declared.spot.LineKind.TheVariants.{Clause as ClauseLine, Deletion as DeletionLine}
 use Rattle.proof_stream.proofs.Files.{file_once}
-use Rattle.proof_stream.proofs.Passing.{text}
+use Rattle.proof_stream.specs.Passing.{Passes, starts_after}
+use Rattle.proof_stream.proofs.Passing.{passes_snoc, starts_snoc, text}
 
 pub lines_append : (ss ts : List Saying) → AreProofLines ss → AreProofLines ts → AreProofLines (ss ++ ts)
 lines_append [] ts h k = k
@@ -175,6 +178,42 @@ turned w m s b h c =
     and_false : (s : Bool) → (s && false) ≡ false
     and_false true = refl
     and_false false = refl
+
+plain_after : (w : DrupOf) (s : Bool) (bytes : List ℕ) → IsPlain w.mode s → Passes s bytes → IsPlain (parser_after w bytes).mode (starts_after s bytes)
+plain_after w s [] h p = h
+plain_after w s (b ∷ bs) h (n, p) = plain_after (turn w b).to (starts_behind s b) bs (turned w w.mode s b h n).0 p
+
+plain_start : (m : Mode) → IsPlain m true → (m ≡ Start false) ⊎ ((f : ParseFault) × (m ≡ Bad f)) ⊎ (m ≡ Lost)
+plain_start (Start amid) h = inl (ap Start h.0)
+plain_start (Skip amid) h = absurd (let k = h.1 in cc)
+plain_start (Head kind) h = absurd (let k = h.1 in cc)
+plain_start StatusHead h = absurd h
+plain_start StatusGap h = absurd h
+plain_start (Spelled n) h = absurd h
+plain_start Whole h = absurd h
+plain_start (InList kind part) h = absurd (let k = h.1 in cc)
+plain_start Closed h = absurd (let k = h in cc)
+plain_start (Bad f) h = inr (inl (f, refl))
+plain_start Lost h = inr (inr refl)
+
+-- after a text without lines of s and v, and a line feed, a line starts that is not amid values, or there is a fault
+pub fed_starts : (vars : ℕ) (bytes : List ℕ) → Passes true bytes
+    → ((parser_after (parser_fresh vars) (bytes ++ 10 ∷ [])).mode ≡ Start false) ⊎ ((f : ParseFault) × ((parser_after (parser_fresh vars) (bytes ++ 10 ∷ [])).mode ≡ Bad f))
+fed_starts vars bytes p =
+    let w : DrupOf = parser_after (parser_fresh vars) (bytes ++ 10 ∷ []) in
+    let q = passes_snoc true bytes 10 p (no_claim (starts_after true bytes)) in
+    let k : IsPlain w.mode true = subst (IsPlain w.mode) (starts_snoc true bytes 10) (plain_after (parser_fresh vars) true (bytes ++ 10 ∷ []) (refl, refl) q) in
+    elim (kept (bytes ++ 10 ∷ []) (parser_fresh vars) tt) [
+      | inr b ↦ inr b
+      | inl g ↦ elim (plain_start w.mode k) [
+        | inl e ↦ inl e
+        | inr r ↦ elim r [ inl b ↦ inr b | inr e ↦ absurd (subst (Going vars) e g.1) ]
+      ]
+    ]
+  where
+    no_claim : (s : Bool) → (s && is_claim 10) ≡ false
+    no_claim true = refl
+    no_claim false = refl
 
 -- what is kept of a file
 abbrev HoldsBy : DrupOf → Bool → Option ParseFault → Type 0

@@ -12,3 +12,6 @@ pub mod Files
 pub mod Spelling
 pub mod Grouping
 pub mod Alone
+pub mod BinaryLines
+pub mod AnyText
+pub mod AnyLines

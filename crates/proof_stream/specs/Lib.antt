@@ -7,4 +7,5 @@ pub mod File
 pub mod Lines
 pub mod Reading
 pub mod Spelling
+pub mod AnyLines
 pub mod Grouping

@@ -1,10 +1,12 @@
 -- Binary proofs and their text.
-use Rattle.std.specs.Prelude.{◌≡◌, ℕ, ◌+◌, ◌*◌, ◌≤◌, true, false, leb, List, [], ◌∷◌, ◌++◌, length}
+use Rattle.std.specs.Prelude.{◌≡◌, ◌⊎◌, ℕ, ◌+◌, ◌*◌, ◌≤◌, Bool, true, false, leb, List, [], ◌∷◌, ◌++◌, length}
 use Rattle.cnf_form.specs.Cnf.{LitOf, LitWithin, index_of}
 use Rattle.cert_stream.specs.Text.{NoFeed, words_from}
 use Rattle.cert_stream.specs.Places.{IsList}
+use Rattle.cert_stream.specs.Stream.{bad}
 use Rattle.cert_stream.specs.Telling.{Saying}
 use Rattle.cert_stream.specs.declared.mode.ListKind.{ListKind}
+use Rattle.cert_stream.specs.declared.mode.ParseFaultKind.{ParseFaultKind}
 use Rattle.cert_stream.specs.declared.mode.ListKind.TheVariants.{Clause as ClauseList, Deletion as DeletionList}
 use Rattle.proof_stream.specs.Numbers.{seven}
 use Rattle.proof_stream.specs.Binary.{line_said}
@@ -65,3 +67,17 @@ Spelt vars b t = (lines : List ProofLine) × IsBinaryProof vars b lines × IsTex
 abbrev pub AreSaid : List ProofLine → List Saying → Type 0
 AreSaid [] ss = ss ≡ []
 AreSaid (l ∷ ls) ss = (place : ℕ) × (rest : List Saying) × (ss ≡ line_said l.kind place l.lits ∷ rest) × AreSaid ls rest
+
+-- What bytes say that begin with whole lines of a binary proof: these lines, and then one fault at most. A file that ends has a fault, but
+-- where its lines are all.
+pub record SaysLines (vars : ℕ) (ended : Bool) (bytes : List ℕ) (ss : List Saying) : Type 0 where
+  pub lines : List ProofLine
+  pub front : List ℕ
+  pub rest : List ℕ
+  pub said : List Saying
+  pub tail : List Saying
+  pub are : bytes ≡ front ++ rest
+  pub proof : IsBinaryProof vars front lines
+  pub says : ss ≡ said ++ tail
+  pub told : AreSaid lines said
+  pub ends : ((tail ≡ []) × (ended ≡ true → rest ≡ [])) ⊎ ((kind : ParseFaultKind) × (byte : ℕ) × (tail ≡ bad kind byte))

@@ -7,7 +7,8 @@ ghost use Rattle.proof_stream.specs.File.{FileOf, StandsFor, after, fault, fresh
 ghost use Rattle.proof_stream.specs.Lines.{AreProofLines, FileSays};
 ghost use Rattle.proof_stream.specs.Numbers.{groups_read};
 ghost use Rattle.proof_stream.specs.Grouping.{IsRead};
-ghost use Rattle.proof_stream.specs.Spelling.{AreSaid, ProofLine, Spelt};
+ghost use Rattle.proof_stream.specs.AnyLines.{AreSaidTo, SpeltAny};
+ghost use Rattle.proof_stream.specs.Spelling.{AreSaid, ProofLine, SaysLines, Spelt};
 ghost use Rattle.proof_stream.specs.declared.spot.Form.{Form};
 ghost use Rattle.proof_stream.specs.declared.spot.Form.TheVariants.{Text, Binary};
 
@@ -42,12 +43,27 @@ pub fn files_say_proof_lines()
     ensures { (form : Form) (vars : ℕ) (ended : Bool) (bytes : List ℕ) (ss : List Saying) → FileSays form vars ended bytes ss → AreProofLines ss }
 {}
 
+/// What a binary proof says is its whole lines, and then one fault at most.
+#[tactic(auto, using(crate::proofs::BinaryLines::binary_lines))]
+pub fn binary_files_say_whole_lines()
+    ensures { (vars : ℕ) (ended : Bool) (bytes : List ℕ) (ss : List Saying) → FileSays Binary vars ended bytes ss → SaysLines vars ended bytes ss }
+{}
+
 /// A binary proof and the text that spells it say the same lines, and nothing else, but for their places.
-#[tactic(auto, using(crate::proofs::Spelling::spelt_says))]
+#[tactic(auto, using(crate::proofs::AnyLines::spelt_says))]
 pub fn spelt_files_say_the_same()
     ensures { (vars : ℕ) (b t : List ℕ) → Spelt vars b t
         → (lines : List ProofLine) × ((ended : Bool) (ss : List Saying) → FileSays Binary vars ended b ss → AreSaid lines ss)
         × ((ended : Bool) (ss : List Saying) → FileSays Text vars ended t ss → AreSaid lines ss) }
+{}
+
+/// A binary proof and its text, of literals of any variables and lines of any length, say the same lines up to the first that does not fit, and
+/// then a fault that tells what is wrong with it.
+#[tactic(auto, using(crate::proofs::AnyLines::spelt_any_says))]
+pub fn any_spelt_files_say_the_same()
+    ensures { (vars : ℕ) (b t : List ℕ) → SpeltAny vars b t
+        → (lines : List ProofLine) × ((ended : Bool) (ss : List Saying) → FileSays Binary vars ended b ss → AreSaidTo vars lines ss)
+        × ((ended : Bool) (ss : List Saying) → FileSays Text vars ended t ss → AreSaidTo vars lines ss) }
 {}
 
 /// Groups, read one after the other, are read as what they are: a literal, the beginning of one, or none; in a full line none may

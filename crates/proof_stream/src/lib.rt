@@ -10,7 +10,8 @@ mod text;
 
 pub use file::ProofParser;
 pub use laws::{
-    faults_stay, files_say_lines, files_say_proof_lines, groups_are_read, pieces_join,
-    pieces_say_the_same, spelt_files_say_the_same,
+    any_spelt_files_say_the_same, binary_files_say_whole_lines, faults_stay, files_say_lines,
+    files_say_proof_lines, groups_are_read, pieces_join, pieces_say_the_same,
+    spelt_files_say_the_same,
 };
 pub use spot::{Form, Groups, LineKind, Spot};
