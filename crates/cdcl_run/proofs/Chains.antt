@@ -1,16 +1,15 @@
 -- What a log took, line by line.
 use Rattle.std.proofs.Common.{◌≡◌, ℕ, List, [], ◌∷◌, ◌++◌, ap, ◌∙◌, sym, subst, append-nil, append_assoc}
-use Rattle.std.specs.Prelude.{Result, Ok, Err, IfOk, OnOk}
+use Rattle.std.specs.Prelude.{Result, Ok, Err, IfOk, OnErr}
 use Rattle.std.specs.declared.alloc.AllocError.{AllocError}
 use Rattle.cnf_form.specs.Cnf.{FormulaOf, Line, Addition}
-use Rattle.sby_edge.specs.Cause.{Rose}
-use Rattle.cdcl_core.specs.Solving.{Takes, SolvedFits}
+use Rattle.cdcl_core.specs.Solving.{IsStopped, SolvedFits, Takes}
 use Rattle.cdcl_core.specs.declared.solver.Solved.{Solved}
 use Rattle.cdcl_core.specs.declared.solver.Solved.TheVariants.{Sat, Unsat, Budget, LogFailed}
-use Rattle.cdcl_run.specs.Searching.{Searches}
-use Rattle.cdcl_run.specs.Output.{OutputOf, Puts, Fails}
+use Rattle.cdcl_run.specs.Searching.{Searches, Stops}
+use Rattle.cdcl_run.specs.Output.{Breaks, OutputOf, Puts}
 use Rattle.cdcl_run.specs.Text.{proof_line, proof_text}
-use Rattle.cdcl_run.proofs.Putting.{puts_both, puts_none}
+use Rattle.cdcl_run.proofs.Putting.{puts_both, puts_breaks, puts_none}
 
 -- the same sink and the same piece, with a text more
 pub record Goes {A N M : Type 0} (sink : A → N) (piece : A → M) (out : A → OutputOf) (a b : A) (text : List ℕ) : Type 0 where
@@ -45,25 +44,26 @@ pub proof_text_push : (ls : List Line) (l : Line) → proof_text (ls ++ l ∷ []
 proof_text_push [] l = append-nil (proof_line l)
 proof_text_push (m ∷ ls) l = ap (λ z. proof_line m ++ z) (proof_text_push ls l) ∙ sym (append_assoc (proof_line m) (proof_text ls) (proof_line l))
 
--- the same sink and the same piece, of which a call failed
-pub record Breaks {A N M : Type 0} (sink : A → N) (piece : A → M) (out : A → OutputOf) (a b : A) : Type 0 where
+-- the same sink and the same piece, and a call failed before the text was put
+pub record GoesWrong {A N M : Type 0} (sink : A → N) (piece : A → M) (out : A → OutputOf) (a b : A) (text : List ℕ) : Type 0 where
   pub same_sink : sink b ≡ sink a
   pub same_piece : piece b ≡ piece a
-  pub fails : Fails (out a) (out b)
+  pub breaks : Breaks (out a) (out b) text
 
 -- a search as what was put
-pub record Searched {A N M : Type 0} (sink : A → N) (piece : A → M) (out : A → OutputOf) (f : FormulaOf) (budget : ℕ) (a b : A) (s : Solved) : Type 0 where
+pub record Searched {A N M : Type 0} (sink : A → N) (piece : A → M) (out : A → OutputOf) (f : FormulaOf) (budget : ℕ) (a b : A) (r : Result Solved AllocError) : Type 0 where
   pub same_sink : sink b ≡ sink a
   pub same_piece : piece b ≡ piece a
-  pub searches : Searches f budget (out a) (out b) s
+  pub searches : IfOk r (λ s. Searches f budget (out a) (out b) s)
+  pub stops : OnErr r (Stops f budget (out a) (out b))
 
 module _ {A N M : Type 0} (sink : A → N) (piece : A → M) (out : A → OutputOf) (takes : A → Line → A → Type 0) (fails : A → Line → A → Type 0)
-    (each : (a b : A) (l : Line) → takes a l b → Goes sink piece out a b (proof_line l)) (each_fail : (a b : A) (l : Line) → fails a l b → Breaks sink piece out a b) where
-  searched : (f : FormulaOf) (budget : ℕ) (a b : A) (s : Solved) → SolvedFits takes fails f budget a b s → Searched sink piece out f budget a b s
+    (each : (a b : A) (l : Line) → takes a l b → Goes sink piece out a b (proof_line l)) (each_fail : (a b : A) (l : Line) → fails a l b → GoesWrong sink piece out a b (proof_line l)) where
+  searched : (f : FormulaOf) (budget : ℕ) (a b : A) (s : Solved) → SolvedFits takes fails f budget a b s → Searched sink piece out f budget a b (Ok s)
   searched f budget a b (Sat values) w =
       let s = w.search in
       let h = chain sink piece out takes each s.lines a b s.taken in
-      record { same_sink = h.same_sink; same_piece = h.same_piece; searches = (s.lines, w.present, w.count, record { deletions = s.deletions; logged = s.logged; proper = s.proper }, w.in_time, h.puts, w.sized, w.satisfies) }
+      record { same_sink = h.same_sink; same_piece = h.same_piece; searches = (s.lines, w.present, w.count, record { deletions = s.deletions; logged = s.logged; proper = s.proper }, w.in_time, h.puts, w.sized, w.satisfies); stops = tt }
   searched f budget a b Unsat w =
       let s = w.search in
       let h = chain_end sink piece out takes each s.lines (Addition []) a w.last b s.taken w.empty in
@@ -71,31 +71,37 @@ module _ {A N M : Type 0} (sink : A → N) (piece : A → M) (out : A → Output
         same_sink = h.same_sink;
         same_piece = h.same_piece;
         searches = (s.lines, w.present, w.count, record { deletions = s.deletions; logged = s.logged; proper = s.proper }, w.in_time, subst (Puts (out a) (out b)) (sym (proof_text_push s.lines (Addition []))) h.puts, w.admitted);
+        stops = tt;
       }
   searched f budget a b Budget w =
       let s = w.search in
       let h = chain sink piece out takes each s.lines a b s.taken in
-      record { same_sink = h.same_sink; same_piece = h.same_piece; searches = (s.lines, w.present, record { deletions = s.deletions; logged = s.logged; proper = s.proper }, h.puts) }
+      record { same_sink = h.same_sink; same_piece = h.same_piece; searches = (s.lines, w.present, record { deletions = s.deletions; logged = s.logged; proper = s.proper }, h.puts); stops = tt }
   searched f budget a b LogFailed w =
       let s = w.search in
       let h = chain sink piece out takes each s.lines a w.last s.taken in
       let k = each_fail w.last b w.line w.failed in
-      let p = h.puts in
-      record { same_sink = k.same_sink ∙ h.same_sink; same_piece = k.same_piece ∙ h.same_piece; searches = subst (λ n. Rose n (out b).faults) p.still k.fails }
+      let broken = puts_breaks (out a) (out w.last) (out b) (proof_text s.lines) (proof_line w.line) h.puts k.breaks in
+      record {
+        same_sink = k.same_sink ∙ h.same_sink;
+        same_piece = k.same_piece ∙ h.same_piece;
+        searches = (
+          s.lines,
+          w.present,
+          w.count,
+          record { deletions = s.deletions; logged = s.logged; proper = s.proper },
+          w.in_time,
+          w.line,
+          w.follows,
+          w.proper,
+          subst (Breaks (out a) (out b)) (sym (proof_text_push s.lines w.line)) broken,
+        );
+        stops = tt;
+      }
 
-  pub answered : (f : FormulaOf) (budget : ℕ) (a b : A) (r : Result Solved AllocError) → IfOk r (λ s. SolvedFits takes fails f budget a b s) → IfOk r (λ s. Searched sink piece out f budget a b s)
-  answered f budget a b (Err e) w = tt
-  answered f budget a b (Ok s) w = searched f budget a b s w
-
-module _ {A N M : Type 0} (sink : A → N) (piece : A → M) (out : A → OutputOf) (f : FormulaOf) (budget : ℕ) (a b : A) where
-  pub answer_sink : (r : Result Solved AllocError) → IfOk r (λ s. Searched sink piece out f budget a b s) → OnOk r (sink b ≡ sink a)
-  answer_sink (Err e) w = tt
-  answer_sink (Ok s) w = w.same_sink
-
-  pub answer_piece : (r : Result Solved AllocError) → IfOk r (λ s. Searched sink piece out f budget a b s) → OnOk r (piece b ≡ piece a)
-  answer_piece (Err e) w = tt
-  answer_piece (Ok s) w = w.same_piece
-
-  pub answer_searches : (r : Result Solved AllocError) → IfOk r (λ s. Searched sink piece out f budget a b s) → IfOk r (λ s. Searches f budget (out a) (out b) s)
-  answer_searches (Err e) w = tt
-  answer_searches (Ok s) w = w.searches
+  pub answered : (f : FormulaOf) (budget : ℕ) (a b : A) (r : Result Solved AllocError) → IfOk r (λ s. SolvedFits takes fails f budget a b s) → OnErr r (IsStopped takes f budget a b) → Searched sink piece out f budget a b r
+  answered f budget a b (Err e) w v =
+      let s = v.search in
+      let h = chain sink piece out takes each s.lines a b s.taken in
+      record { same_sink = h.same_sink; same_piece = h.same_piece; searches = tt; stops = (s.lines, v.present, v.count, record { deletions = s.deletions; logged = s.logged; proper = s.proper }, v.within, h.puts) }
+  answered f budget a b (Ok s) w v = searched f budget a b s w

@@ -1,5 +1,6 @@
 pub mod Putting
 pub mod Chains
+pub mod Clauses
 pub mod Rows
 pub mod Words
 pub mod Proofs

@@ -3,15 +3,15 @@ use Rattle.std.proofs.Common.{◌≡◌, ◌≢◌, ℕ, suc, ◌+◌, ◌-◌, 
 use Rattle.std.specs.Prelude.{codes, flat_map, All}
 use Rattle.std.proofs.lemmas.Bool.{cases_Bool, cases_lt}
 use Rattle.std.proofs.lemmas.Bool.Decides.{nat_tests}
-use Rattle.std.proofs.lemmas.List.{take_more, take_all, length-take-le}
+use Rattle.std.proofs.lemmas.List.{take_more, take_all, length-take-le, take-append-drop}
 use Rattle.std.proofs.lemmas.List.Elements.{All-nil, All-push, All-head, All-tail}
 use Rattle.std.proofs.lemmas.List.Concat.{flat_map-append}
 use Rattle.cnf_form.specs.Cnf.{LitOf}
 use Rattle.cnf_form.specs.Dimacs.{literal_text}
 use Rattle.cdcl_run.specs.Answer.{literals_from}
-use Rattle.cdcl_run.specs.Output.{OutputOf, Puts}
-use Rattle.cdcl_run.specs.Text.{AreValueLines, spaced, value_line, last_value_line, break_text}
-use Rattle.cdcl_run.proofs.Putting.{puts_both}
+use Rattle.cdcl_run.specs.Output.{Breaks, OutputOf, Puts}
+use Rattle.cdcl_run.specs.Text.{AreValueLines, spaced, value_line, break_text}
+use Rattle.cdcl_run.proofs.Putting.{breaks_more, puts_both, puts_breaks}
 
 abbrev pub IsTen : List LitOf → Type 0
 IsTen c = length c ≡ 10
@@ -19,18 +19,24 @@ IsTen c = length c ≡ 10
 abbrev pub row_text : List (List LitOf) → List LitOf → List ℕ
 row_text rows last = flat_map value_line rows ++ (codes "v" ++ spaced last)
 
--- these literals were put
-pub record Rows (first now : OutputOf) (lits : List LitOf) : Type 0 where
+-- the literals of lines of values of which a text is the beginning
+pub record Rows (text : List ℕ) (lits : List LitOf) : Type 0 where
   pub rows : List (List LitOf)
   pub last : List LitOf
   pub all : flat_map (λ c. c) rows ++ last ≡ lits
   pub tens : All IsTen rows
   pub most : length last ≤ 10
   pub some : lits ≢ [] → 0 < length last
-  pub puts : Puts first now (row_text rows last)
+  pub is : text ≡ row_text rows last
 
-pub rows_begin : (a b : OutputOf) → Puts a b (codes "v") → Rows a b []
-rows_begin a b p = record { rows = []; last = []; all = refl; tens = All-nil IsTen; most = omega arith; some = λ n. absurd (n refl); puts = p }
+-- these literals were put
+pub record RowsPut (first now : OutputOf) (lits : List LitOf) : Type 0 where
+  pub text : List ℕ
+  pub rows : Rows text lits
+  pub puts : Puts first now text
+
+rows_begin : Rows (codes "v") []
+rows_begin = record { rows = []; last = []; all = refl; tens = All-nil IsTen; most = omega arith; some = λ n. absurd (n refl); is = refl }
 
 flat_tens : (rows : List (List LitOf)) → All IsTen rows → length (flat_map (λ c. c) rows) ≡ 10 * length rows
 flat_tens [] h = refl
@@ -64,12 +70,12 @@ new_text rows last l =
 and_cases : (v : ℕ) → ltb 1 v && eqb (v % 10) 1 ≡ false → 1 < v → v % 10 ≡ 1 → ⊥
 and_cases v h a b = grind (arith, nat_tests)
 
-module _ (a b c : OutputOf) (lits : List LitOf) (l : LitOf) (v : ℕ) (is : length lits + 1 ≡ v) (r : Rows a b lits) where
+module _ (text : List ℕ) (lits : List LitOf) (l : LitOf) (v : ℕ) (is : length lits + 1 ≡ v) (r : Rows text lits) where
   count : 10 * length r.rows + length r.last ≡ length lits
   count = let f = flat_tens r.rows r.tens in omega (arith, f, length-append (flat_map (λ c. c) r.rows) r.last, ap length r.all)
 
-  rows_same : ltb 1 v && eqb (v % 10) 1 ≡ false → Puts b c (32 ∷ literal_text l) → Rows a c (lits ++ l ∷ [])
-  rows_same h p = record {
+  rows_same : ltb 1 v && eqb (v % 10) 1 ≡ false → Rows (text ++ (32 ∷ literal_text l)) (lits ++ l ∷ [])
+  rows_same h = record {
     rows = r.rows;
     last = r.last ++ l ∷ [];
     all = sym (append_assoc (flat_map (λ c. c) r.rows) r.last (l ∷ [])) ∙ ap (λ z. z ++ l ∷ []) r.all;
@@ -79,11 +85,11 @@ module _ (a b c : OutputOf) (lits : List LitOf) (l : LitOf) (v : ℕ) (is : leng
       | inr s ↦ absurd (and_cases v h (omega (arith, count, s, is, r.most)) (omega (arith, count, s, is, r.most)))
     ];
     some = λ n. push_some r.last l;
-    puts = subst (Puts a c) (same_text r.rows r.last l) (puts_both a b c (row_text r.rows r.last) (32 ∷ literal_text l) r.puts p);
+    is = ap (λ z. z ++ (32 ∷ literal_text l)) r.is ∙ same_text r.rows r.last l;
   }
 
-  rows_new : ltb 1 v && eqb (v % 10) 1 ≡ true → Puts b c ((10 ∷ codes "v") ++ (32 ∷ literal_text l)) → Rows a c (lits ++ l ∷ [])
-  rows_new h p =
+  rows_new : ltb 1 v && eqb (v % 10) 1 ≡ true → Rows (text ++ ((10 ∷ codes "v") ++ (32 ∷ literal_text l))) (lits ++ l ∷ [])
+  rows_new h =
       let w : (1 < v) × (v % 10 ≡ 1) = and_both v h in
       let full : length r.last ≡ 10 = (let s = r.some (λ e. let n : length lits ≡ 0 = ap length e in omega (arith, n, is, w.0)) in omega (arith, count, s, is, r.most, w.1)) in
       record {
@@ -93,16 +99,16 @@ module _ (a b c : OutputOf) (lits : List LitOf) (l : LitOf) (v : ℕ) (is : leng
         tens = All-push IsTen r.rows r.last r.tens full;
         most = omega arith;
         some = λ n. omega arith;
-        puts = subst (Puts a c) (new_text r.rows r.last l) (puts_both a b c (row_text r.rows r.last) ((10 ∷ codes "v") ++ (32 ∷ literal_text l)) r.puts p);
+        is = ap (λ z. z ++ ((10 ∷ codes "v") ++ (32 ∷ literal_text l))) r.is ∙ new_text r.rows r.last l;
       }
     where
       and_both : (v : ℕ) → ltb 1 v && eqb (v % 10) 1 ≡ true → (1 < v) × (v % 10 ≡ 1)
       and_both v h = (grind (arith, nat_tests), grind (arith, nat_tests))
 
-  pub rows_more : Puts b c (break_text v ++ (32 ∷ literal_text l)) → Rows a c (lits ++ l ∷ [])
-  rows_more p = elim (cases_Bool (ltb 1 v && eqb (v % 10) 1)) [
-    | inl h ↦ rows_new h (subst (Puts b c) (by_true h) p)
-    | inr h ↦ rows_same h (subst (Puts b c) (by_false h) p)
+  rows_next : Rows (text ++ (break_text v ++ (32 ∷ literal_text l))) (lits ++ l ∷ [])
+  rows_next = elim (cases_Bool (ltb 1 v && eqb (v % 10) 1)) [
+    | inl h ↦ subst (λ z. Rows (text ++ z) (lits ++ l ∷ [])) (sym (by_true h)) (rows_new h)
+    | inr h ↦ subst (λ z. Rows (text ++ z) (lits ++ l ∷ [])) (sym (by_false h)) (rows_same h)
   ]
     where
       by_true : ltb 1 v && eqb (v % 10) 1 ≡ true → break_text v ++ (32 ∷ literal_text l) ≡ (10 ∷ codes "v") ++ (32 ∷ literal_text l)
@@ -112,14 +118,57 @@ module _ (a b c : OutputOf) (lits : List LitOf) (l : LitOf) (v : ℕ) (is : leng
       by_false h = rw h refl
 
 -- the last line has its 0
-pub rows_end : (a b c : OutputOf) (lits : List LitOf) → Rows a b lits → Puts b c (codes " 0" ++ 10 ∷ []) → (text : List ℕ) × AreValueLines lits text × Puts a c text
-rows_end a b c lits r p =
-    let text = flat_map value_line r.rows ++ last_value_line r.last in
-    let e : row_text r.rows r.last ++ (codes " 0" ++ 10 ∷ []) ≡ text = append_assoc (flat_map value_line r.rows) (codes "v" ++ spaced r.last) (codes " 0" ++ 10 ∷ []) in (
-      text,
-      record { rows = r.rows; last = r.last; all = r.all; tens = r.tens; most = r.most; some = r.some; text_is = refl },
-      subst (Puts a c) e (puts_both a b c (row_text r.rows r.last) (codes " 0" ++ 10 ∷ []) r.puts p),
-    )
+rows_end : (text : List ℕ) (lits : List LitOf) → Rows text lits → AreValueLines lits (text ++ (codes " 0" ++ 10 ∷ []))
+rows_end text lits r = record {
+  rows = r.rows;
+  last = r.last;
+  all = r.all;
+  tens = r.tens;
+  most = r.most;
+  some = r.some;
+  text_is = ap (λ z. z ++ (codes " 0" ++ 10 ∷ [])) r.is ∙ append_assoc (flat_map value_line r.rows) (codes "v" ++ spaced r.last) (codes " 0" ++ 10 ∷ []);
+}
+
+-- lines of more literals go on from a text of some
+rows_filled : (rest : List LitOf) (text : List ℕ) (lits : List LitOf) → Rows text lits → (tail : List ℕ) × AreValueLines (lits ++ rest) (text ++ tail)
+rows_filled [] text lits r = (codes " 0" ++ 10 ∷ [], subst (λ z. AreValueLines z (text ++ (codes " 0" ++ 10 ∷ []))) (sym (append-nil lits)) (rows_end text lits r))
+rows_filled (l ∷ rest) text lits r =
+    let more = break_text (length lits + 1) ++ (32 ∷ literal_text l) in
+    let w = rows_filled rest (text ++ more) (lits ++ l ∷ []) (rows_next text lits l (length lits + 1) refl r) in
+    (more ++ w.0, subst (λ z. AreValueLines z (text ++ (more ++ w.0))) (append_assoc lits (l ∷ []) rest) (subst (AreValueLines ((lits ++ l ∷ []) ++ rest)) (append_assoc text more w.0) w.1))
+
+-- all literals have lines
+pub some_lines : (lits : List LitOf) → (text : List ℕ) × AreValueLines lits text
+some_lines lits = let f = rows_filled lits (codes "v") [] rows_begin in (codes "v" ++ f.0, f.1)
+
+-- the first line was begun
+pub rows_put : (a b : OutputOf) → Puts a b (codes "v") → RowsPut a b []
+rows_put a b p = record { text = codes "v"; rows = rows_begin; puts = p }
+
+-- a literal more was put
+pub rows_more : (a b c : OutputOf) (lits : List LitOf) (l : LitOf) (v : ℕ) → length lits + 1 ≡ v → RowsPut a b lits → Puts b c (break_text v ++ (32 ∷ literal_text l)) → RowsPut a c (lits ++ l ∷ [])
+rows_more a b c lits l v is r p =
+    let more = break_text v ++ (32 ∷ literal_text l) in
+    record { text = r.text ++ more; rows = rows_next r.text lits l v is r.rows; puts = puts_both a b c r.text more r.puts p }
+
+-- all lines were put
+pub rows_ended : (a b c : OutputOf) (lits : List LitOf) → RowsPut a b lits → Puts b c (codes " 0" ++ 10 ∷ []) → (text : List ℕ) × AreValueLines lits text × Puts a c text
+rows_ended a b c lits r p = (r.text ++ (codes " 0" ++ 10 ∷ []), rows_end r.text lits r.rows, puts_both a b c r.text (codes " 0" ++ 10 ∷ []) r.puts p)
+
+-- a call failed before the lines of all literals were put: in what begins them, ..
+pub begin_broken : (a b : OutputOf) (lits : List LitOf) → Breaks a b (codes "v") → (text : List ℕ) × AreValueLines lits text × Breaks a b text
+begin_broken a b lits w = let f = rows_filled lits (codes "v") [] rows_begin in (codes "v" ++ f.0, f.1, breaks_more a b (codes "v") f.0 w)
+
+-- .. in a literal, ..
+pub next_broken : (a b c : OutputOf) (lits rest all : List LitOf) (l : LitOf) (v : ℕ) → length lits + 1 ≡ v → all ≡ (lits ++ l ∷ []) ++ rest → RowsPut a b lits → Breaks b c (break_text v ++ (32 ∷ literal_text l)) → (text : List ℕ) × AreValueLines all text × Breaks a c text
+next_broken a b c lits rest all l v is e r w =
+    let more = break_text v ++ (32 ∷ literal_text l) in
+    let f = rows_filled rest (r.text ++ more) (lits ++ l ∷ []) (rows_next r.text lits l v is r.rows) in
+    ((r.text ++ more) ++ f.0, subst (λ z. AreValueLines z ((r.text ++ more) ++ f.0)) (sym e) f.1, breaks_more a c (r.text ++ more) f.0 (puts_breaks a b c r.text more r.puts w))
+
+-- .. or at the end
+pub end_broken : (a b c : OutputOf) (lits : List LitOf) → RowsPut a b lits → Breaks b c (codes " 0" ++ 10 ∷ []) → (text : List ℕ) × AreValueLines lits text × Breaks a c text
+end_broken a b c lits r w = (r.text ++ (codes " 0" ++ 10 ∷ []), rows_end r.text lits r.rows, puts_breaks a b c r.text (codes " 0" ++ 10 ∷ []) r.puts w)
 
 -- the literals of one value more
 literals_push : (v : ℕ) (bs : List Bool) (b : Bool) → literals_from v (bs ++ b ∷ []) ≡ literals_from v bs ++ record { var = v + length bs; negated = not b } ∷ []
@@ -154,3 +203,16 @@ pub literals_all : (values : List Bool) (v : ℕ) → 1 ≤ v → length values 
 literals_all values v low past =
     let n : length (drop 1 values) ≡ length values - 1 = length-drop 1 values in
     ap (literals_from 1) (take_all (v - 1) (drop 1 values) (omega (arith, n, past, low)))
+
+-- literals of more values
+literals_append : (v : ℕ) (xs ys : List Bool) → (rest : List LitOf) × (literals_from v (xs ++ ys) ≡ literals_from v xs ++ rest)
+literals_append v [] ys = (literals_from v ys, refl)
+literals_append v (x ∷ xs) ys = let w = literals_append (v + 1) xs ys in (w.0, ap (λ z. record { var = v; negated = not x } ∷ z) w.1)
+
+pub literals_rest : (values : List Bool) (v : ℕ) → 1 ≤ v → v < length values
+    → (rest : List LitOf) × (literals_from 1 (drop 1 values) ≡ (literals_from 1 (take (v - 1) (drop 1 values)) ++ record { var = v; negated = not (get_or values v false) } ∷ []) ++ rest)
+literals_rest values v low room =
+    let i = v + 1 - 1 in
+    let bs = drop 1 values in
+    let w = literals_append 1 (take i bs) (drop i bs) in
+    (w.0, ap (literals_from 1) (sym (take-append-drop i bs)) ∙ w.1 ∙ ap (λ z. z ++ w.0) (sym (literals_more values v low room)))

@@ -1,5 +1,5 @@
 -- What the stream says of a formula.
-use Rattle.std.specs.Prelude.{◌≡◌, ◌⊎◌, ℕ, ◌^◌, ◌-◌, ◌+◌, ◌<◌, List, [], ◌∷◌, ◌++◌, Bool, not, length, Option, Some, None}
+use Rattle.std.specs.Prelude.{◌≡◌, ◌⊎◌, ℕ, ◌^◌, ◌-◌, ◌+◌, ◌<◌, ◌≤◌, List, [], ◌∷◌, ◌++◌, Bool, not, length, Option, Some, None}
 use Rattle.cnf_form.specs.Cnf.{LitOf, FormulaOf, Line, Addition, IsAdmitted}
 use Rattle.cnf_form.specs.Dimacs.{IsDimacs}
 use Rattle.cdcl_core.specs.Logged.{Logged, AreProper}
@@ -62,6 +62,14 @@ pub record IsUnknownStream (job : List ℕ) (budget : ℕ) (stream : List ℕ) :
   pub proof : List Line
   pub searched : IsSearched job proof budget
   pub is : stream ≡ proof_text proof ++ unknown_line
+
+-- a text of the lines of a search that adds at most as many clauses as the budget has
+pub record IsSearchText (job : List ℕ) (budget : ℕ) (text : List ℕ) : Type 0 where
+  pub proof : List Line
+  pub count : ℕ
+  pub searched : IsSearched job proof count
+  pub within : count ≤ budget
+  pub is : text ≡ proof_text proof
 
 -- the stream with which the program ends with an exit status
 abbrev pub IsAnswer : List ℕ → ℕ → List ℕ → ℕ → Type 0

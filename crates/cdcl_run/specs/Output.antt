@@ -10,21 +10,24 @@ grown before bytes = option_map (λ taken. taken ++ bytes) before
 abbrev pub GrownBySome : Option (List ℕ) → Option (List ℕ) → List ℕ → Type 0
 GrownBySome before now bytes = (count : ℕ) × (count < length bytes) × (now ≡ grown before (take count bytes))
 
+-- what is told has grown by a prefix of these bytes
+abbrev pub GrownByFirst : Option (List ℕ) → Option (List ℕ) → List ℕ → Type 0
+GrownByFirst before now bytes = (count : ℕ) × (now ≡ grown before (take count bytes))
+
 -- what a sink took and how often it failed, and what was gathered since
 pub record OutputOf : Type 0 where
   pub taken : Option (List ℕ)
   pub faults : ℕ
   pub gathered : List ℕ
 
--- all that was put
-abbrev pub all_of : OutputOf → Option (List ℕ)
-all_of o = grown o.taken o.gathered
-
--- the text was put, and no call failed
+-- the text was put: of what was gathered and the text a first part was written, and the rest is gathered; no call failed
 pub record Puts (old new : OutputOf) (text : List ℕ) : Type 0 where
-  pub whole : all_of new ≡ grown (all_of old) text
+  pub written : List ℕ
+  pub taken : new.taken ≡ grown old.taken written
+  pub split : old.gathered ++ text ≡ written ++ new.gathered
   pub still : new.faults ≡ old.faults
 
--- a call failed
-abbrev pub Fails : OutputOf → OutputOf → Type 0
-Fails old new = Rose old.faults new.faults
+-- a call failed: of what was gathered and the text a first part was written, and at least one byte is missing
+pub record Breaks (old new : OutputOf) (text : List ℕ) : Type 0 where
+  pub part : GrownBySome old.taken new.taken (old.gathered ++ text)
+  pub rose : Rose old.faults new.faults

@@ -7,9 +7,9 @@ use Rattle.cnf_form.specs.declared.reader.DimacsFaultKind.{DimacsFaultKind}
 use Rattle.sby_edge.specs.Cause.{Rose}
 use Rattle.sby_edge.specs.Files.{Store}
 use Rattle.cdcl_words.specs.Asking.{Asks}
-use Rattle.cdcl_run.specs.Output.{GrownBySome, grown}
+use Rattle.cdcl_run.specs.Output.{GrownByFirst, GrownBySome, grown}
 use Rattle.cdcl_run.specs.Text.{usage_line, file_line, long_line, fault_line}
-use Rattle.cdcl_run.specs.Answer.{IsAnswer, budget_of}
+use Rattle.cdcl_run.specs.Answer.{IsAnswer, IsSearchText, budget_of}
 
 -- What the file store and the sink tell, and how often each failed.
 pub record World : Type 0 where
@@ -41,11 +41,27 @@ pub record IsUngot (before after : World) (exit : ℕ) : Type 0 where
 abbrev pub IsContent : Option Store → List ℕ → List ℕ → Type 0
 IsContent told file bytes = IfSome told (λ store. store file ≡ Some bytes)
 
--- an answer for a formula, whole; or a call of the sink failed
+-- an answer for a formula was written whole
+abbrev pub IsWhole : World → World → List ℕ → ℕ → ℕ → Type 0
+IsWhole before after bytes budget exit =
+    (stream : List ℕ) × (after.taken ≡ grown before.taken stream) × (after.sink_faults ≡ before.sink_faults) × IsAnswer bytes budget stream exit
+
+-- A call of the sink failed, and what was written is a first part of the lines of a search within the budget, or of an answer. At
+-- least one byte is missing.
+abbrev pub IsCutShort : World → World → List ℕ → ℕ → Type 0
+IsCutShort before after bytes budget =
+    Rose before.sink_faults after.sink_faults
+    × ((text : List ℕ) × GrownBySome before.taken after.taken text × (IsSearchText bytes budget text ⊎ ((exit : ℕ) × IsAnswer bytes budget text exit)))
+
+-- memory ran out, and what was written is a first part of the lines of a search within the budget
+abbrev pub IsLeftOff : World → World → List ℕ → ℕ → Type 0
+IsLeftOff before after bytes budget =
+    (after.sink_faults ≡ before.sink_faults) × ((text : List ℕ) × GrownByFirst before.taken after.taken text × IsSearchText bytes budget text)
+
+-- an answer for a formula, whole or cut short; or memory ran out
 abbrev pub Answers : World → World → List ℕ → ℕ → ℕ → Type 0
 Answers before after bytes budget exit =
-    ((stream : List ℕ) × (after.taken ≡ grown before.taken stream) × (after.sink_faults ≡ before.sink_faults) × IsAnswer bytes budget stream exit)
-    ⊎ ((exit ≡ 1) × Rose before.sink_faults after.sink_faults)
+    IsWhole before after bytes budget exit ⊎ ((exit ≡ 1) × IsCutShort before after bytes budget) ⊎ ((exit ≡ 32) × IsLeftOff before after bytes budget)
 
 -- what is done with the bytes of a file
 abbrev pub IsServed : World → World → List ℕ → ℕ → ℕ → Type 0
@@ -54,10 +70,17 @@ IsServed before after bytes budget exit =
     ⊎ ((length bytes ≤ 2 ^ 32) × ((kind : DimacsFaultKind) × (byte : ℕ) × IsFault bytes kind byte × (exit ≡ 1) × Writes before after (fault_line kind byte)))
     ⊎ ((length bytes ≤ 2 ^ 32) × ((f : FormulaOf) × IsDimacs bytes f × Answers before after bytes budget exit))
 
--- What is done with a file: memory ran out; or the file can't be got; or its bytes are served.
+-- memory ran out before anything was written, and no call failed
+pub record IsOutOfMemory (before after : World) (exit : ℕ) : Type 0 where
+  pub exit_is : exit ≡ 32
+  pub taken : after.taken ≡ before.taken
+  pub sink_faults : after.sink_faults ≡ before.sink_faults
+  pub file_faults : after.file_faults ≡ before.file_faults
+
+-- What is done with a file: memory ran out at once; or the file can't be got; or its bytes are served.
 abbrev pub IsDone : World → World → Option ℕ → List ℕ → ℕ → Type 0
 IsDone before after conflicts file exit =
-    (exit ≡ 32)
+    IsOutOfMemory before after exit
     ⊎ IsUngot before after exit
     ⊎ ((bytes : List ℕ) × IsContent before.told file bytes × (after.file_faults ≡ before.file_faults) × IsServed before after bytes (budget_of conflicts) exit)
 

@@ -1,12 +1,12 @@
 -- What a search puts, and how its stream ends.
-use Rattle.std.specs.Prelude.{◌≡◌, ℕ, ◌^◌, ◌+◌, ◌<◌, ◌≤◌, drop, List, [], ◌∷◌, ◌++◌, length}
+use Rattle.std.specs.Prelude.{◌≡◌, ◌⊎◌, ℕ, ◌^◌, ◌+◌, ◌<◌, ◌≤◌, drop, List, [], ◌∷◌, ◌++◌, length}
 use Rattle.cnf_form.specs.Cnf.{LitOf, FormulaOf, Satisfies, IsAdmitted, Line, Addition}
-use Rattle.cdcl_core.specs.Logged.{Logged, AreProper}
+use Rattle.cdcl_core.specs.Logged.{Logged, AreProper, IsProper, MayFollow, clause_of}
 use Rattle.cdcl_core.specs.Solving.{valued}
 use Rattle.cdcl_core.specs.declared.solver.Solved.{Solved}
 use Rattle.cdcl_core.specs.declared.solver.Solved.TheVariants.{Sat, Unsat, Budget, LogFailed}
 use Rattle.cdcl_run.specs.Answer.{literals_from}
-use Rattle.cdcl_run.specs.Output.{OutputOf, Puts, Fails}
+use Rattle.cdcl_run.specs.Output.{OutputOf, Puts, Breaks}
 use Rattle.cdcl_run.specs.Text.{proof_text, satisfiable_line, unsatisfiable_line, unknown_line, AreValueLines}
 
 -- the lines of a search, this many of which add clauses, that lead to the present clauses
@@ -24,7 +24,13 @@ Searches f budget old new Unsat =
     (proof : List Line) × (present : List (List LitOf)) × (count : ℕ) × IsProof f proof present count × (count < budget)
     × Puts old new (proof_text (proof ++ Addition [] ∷ [])) × IsAdmitted present []
 Searches f budget old new Budget = (proof : List Line) × (present : List (List LitOf)) × IsProof f proof present budget × Puts old new (proof_text proof)
-Searches f budget old new LogFailed = Fails old new
+Searches f budget old new LogFailed =
+    (proof : List Line) × (present : List (List LitOf)) × (count : ℕ) × IsProof f proof present count × (count < budget)
+    × (line : Line) × MayFollow f.clauses proof present line × IsProper f.vars (clause_of line) × Breaks old new (proof_text (proof ++ line ∷ []))
+
+-- what a search put that was stopped by out of memory
+abbrev pub Stops : FormulaOf → ℕ → OutputOf → OutputOf → Type 0
+Stops f budget old new = (proof : List Line) × (present : List (List LitOf)) × (count : ℕ) × IsProof f proof present count × (count ≤ budget) × Puts old new (proof_text proof)
 
 -- how the stream of an answer ends, and with which exit status
 abbrev pub IsEnd : Solved → List ℕ → ℕ → Type 0
@@ -32,6 +38,12 @@ IsEnd (Sat values) text exit = (exit ≡ 10) × ((lines : List ℕ) × AreValueL
 IsEnd Unsat text exit = (exit ≡ 20) × (text ≡ unsatisfiable_line)
 IsEnd Budget text exit = (exit ≡ 0) × (text ≡ unknown_line)
 IsEnd LogFailed text exit = ⊥
+
+-- The end of an answer's stream was cut short: a search that ended by a fault put nothing more; after another a call failed.
+abbrev pub EndBreaks : OutputOf → OutputOf → Solved → Type 0
+EndBreaks old new s =
+    ((s ≡ LogFailed) × (new.taken ≡ old.taken) × (new.faults ≡ old.faults))
+    ⊎ ((text : List ℕ) × (exit : ℕ) × IsEnd s text exit × Breaks old new text)
 
 -- values of no more variables than a formula may have
 abbrev pub HasFew : Solved → Type 0

@@ -18,6 +18,10 @@ abbrev pub proof_text : List Line → List ℕ
 proof_text [] = []
 proof_text (l ∷ ls) = proof_line l ++ proof_text ls
 
+-- the sign of a literal
+abbrev pub sign_text : LitOf → List ℕ
+sign_text l = if l.negated then codes "-" else []
+
 -- literals, each with a space before it
 abbrev pub spaced : List LitOf → List ℕ
 spaced [] = []

@@ -4,14 +4,13 @@ ghost use Rattle.std.specs.Prelude.{◌≡◌, ◌≢◌, ◌⊎◌, ◌≤◌, 
 ghost use Rattle.cnf_form.specs.Cnf.{FormulaOf};
 ghost use Rattle.cnf_form.specs.Dimacs.{IsDimacs};
 ghost use Rattle.cdcl_words.specs.Asking.{Asks};
-ghost use Rattle.sby_edge.specs.Cause.{Rose};
 ghost use Rattle.sby_edge.specs.Files.{Store};
 ghost use Rattle.cdcl_run.specs.Answer.{IsAnswer, IsUnknownStream, budget_of};
 ghost use Rattle.cert_judge.specs.Fate.{Unknown};
 ghost use Rattle.cert_judge.specs.Kinds.{IsFate};
 ghost use Rattle.cert_judge.specs.declared.stream.StreamKind.TheVariants.{Drup};
 ghost use Rattle.cdcl_run.specs.Output.{grown};
-ghost use Rattle.cdcl_run.specs.Run.{Did, World};
+ghost use Rattle.cdcl_run.specs.Run.{Did, IsCutShort, IsLeftOff, IsUngot, World};
 
 use cnf_form::dimacs_faults_are_decided;
 
@@ -21,8 +20,10 @@ pub fn unknown_streams_are_unknown()
 {}
 
 /// Where a store tells a file of at most 2^32 bytes that is a formula, and words ask for it, a call of `run_engine` writes a
-/// whole stream with the answer of its exit status, unless that is 1 or 32; it is 1 only where a call of the store or of the
-/// sink failed.
+/// whole stream with the answer of its exit status, unless that is 1 or 32; what was written is then a first part of such a stream, of
+/// the lines of a search for values of the formula, or of the line that says that the file can't be got. The last comes only where a call
+/// of the store failed, and the exit status is 1; at 32 it is the lines of a search. Else it is 1 only where a call of the sink failed,
+/// and at least one byte is missing.
 pub fn promise_is_kept()
     ensures answer { (before after : World) (words : List (List ℕ)) (exit : ℕ) (conflicts : Option ℕ) (file job : List ℕ) (store : Store) (f : FormulaOf)
         → Did before after words exit → Asks words conflicts file → before.told ≡ Some store → store file ≡ Some job → length job ≤ 2 ^ 32 → IsDimacs job f
@@ -30,7 +31,10 @@ pub fn promise_is_kept()
         → (stream : List ℕ) × (after.taken ≡ grown before.taken stream) × IsAnswer job (budget_of conflicts) stream exit }
     ensures failed { (before after : World) (words : List (List ℕ)) (exit : ℕ) (conflicts : Option ℕ) (file job : List ℕ) (store : Store) (f : FormulaOf)
         → Did before after words exit → Asks words conflicts file → before.told ≡ Some store → store file ≡ Some job → length job ≤ 2 ^ 32 → IsDimacs job f
-        → exit ≡ 1 → Rose before.sink_faults after.sink_faults ⊎ Rose before.file_faults after.file_faults }
+        → exit ≡ 1 → IsCutShort before after job (budget_of conflicts) ⊎ IsUngot before after exit }
+    ensures memory { (before after : World) (words : List (List ℕ)) (exit : ℕ) (conflicts : Option ℕ) (file job : List ℕ) (store : Store) (f : FormulaOf)
+        → Did before after words exit → Asks words conflicts file → before.told ≡ Some store → store file ≡ Some job → length job ≤ 2 ^ 32 → IsDimacs job f
+        → exit ≡ 32 → IsLeftOff before after job (budget_of conflicts) }
 {
     dimacs_faults_are_decided();
 }

@@ -3,7 +3,8 @@
 ghost use Rattle.std.specs.Prelude.{◌≡◌, ◌≤◌, ◌++◌, ◌∷◌, [], OnErr, OnOk};
 ghost use Rattle.cnf_form.specs.Dimacs.{literal_text};
 ghost use Rattle.sby_edge.specs.Cause.{Rose, greatest};
-ghost use Rattle.cdcl_run.specs.Output.{GrownBySome, Puts, grown};
+ghost use Rattle.cdcl_run.specs.Output.{Breaks, GrownBySome, Puts, grown};
+ghost use Rattle.cdcl_run.specs.Text.{sign_text};
 
 use crate::piece::Piece;
 use cnf_form::Lit;
@@ -36,7 +37,9 @@ pub(crate) fn flush<S: Sink>(sink: &mut S, piece: &mut Piece) -> Result<(), Fail
         (record { taken = S.taken sink.old; faults = S.faults sink.old; gathered = piece.old })
         (record { taken = S.taken sink.new; faults = S.faults sink.new; gathered = piece.new }) []) }
     ensures empty { OnOk result (piece.new ≡ []) }
-    ensures failed { OnErr result (Rose (S.faults sink.old) (S.faults sink.new)) }
+    ensures failed { OnErr result (Breaks
+        (record { taken = S.taken sink.old; faults = S.faults sink.old; gathered = piece.old })
+        (record { taken = S.taken sink.new; faults = S.faults sink.new; gathered = piece.new }) []) }
     ensures later { S.faults sink.old ≤ S.faults sink.new }
     ensures stays { S.faults sink.old ≡ greatest → S.faults sink.new ≡ S.faults sink.old }
 {
@@ -50,7 +53,9 @@ pub(crate) fn put<S: Sink>(sink: &mut S, piece: &mut Piece, text: &[u8]) -> Resu
     ensures ok { OnOk result (Puts
         (record { taken = S.taken sink.old; faults = S.faults sink.old; gathered = piece.old })
         (record { taken = S.taken sink.new; faults = S.faults sink.new; gathered = piece.new }) text.now) }
-    ensures failed { OnErr result (Rose (S.faults sink.old) (S.faults sink.new)) }
+    ensures failed { OnErr result (Breaks
+        (record { taken = S.taken sink.old; faults = S.faults sink.old; gathered = piece.old })
+        (record { taken = S.taken sink.new; faults = S.faults sink.new; gathered = piece.new }) text.now) }
     ensures later { S.faults sink.old ≤ S.faults sink.new }
     ensures stays { S.faults sink.old ≡ greatest → S.faults sink.new ≡ S.faults sink.old }
 {
@@ -62,19 +67,36 @@ pub(crate) fn put<S: Sink>(sink: &mut S, piece: &mut Piece, text: &[u8]) -> Resu
     Ok(())
 }
 
+// Gathers the sign of a literal.
+fn put_sign<S: Sink>(sink: &mut S, piece: &mut Piece, l: Lit) -> Result<(), Failed>
+    ensures ok { OnOk result (Puts
+        (record { taken = S.taken sink.old; faults = S.faults sink.old; gathered = piece.old })
+        (record { taken = S.taken sink.new; faults = S.faults sink.new; gathered = piece.new }) (sign_text l)) }
+    ensures failed { OnErr result (Breaks
+        (record { taken = S.taken sink.old; faults = S.faults sink.old; gathered = piece.old })
+        (record { taken = S.taken sink.new; faults = S.faults sink.new; gathered = piece.new }) (sign_text l)) }
+    ensures later { S.faults sink.old ≤ S.faults sink.new }
+    ensures stays { S.faults sink.old ≡ greatest → S.faults sink.new ≡ S.faults sink.old }
+{
+    if l.is_negated() {
+        return put(sink, piece, b"-");
+    }
+    Ok(())
+}
+
 // Gathers a literal.
 pub(crate) fn put_literal<S: Sink>(sink: &mut S, piece: &mut Piece, l: Lit) -> Result<(), Failed>
     ensures ok { OnOk result (Puts
         (record { taken = S.taken sink.old; faults = S.faults sink.old; gathered = piece.old })
         (record { taken = S.taken sink.new; faults = S.faults sink.new; gathered = piece.new }) (literal_text l)) }
-    ensures failed { OnErr result (Rose (S.faults sink.old) (S.faults sink.new)) }
+    ensures failed { OnErr result (Breaks
+        (record { taken = S.taken sink.old; faults = S.faults sink.old; gathered = piece.old })
+        (record { taken = S.taken sink.new; faults = S.faults sink.new; gathered = piece.new }) (literal_text l)) }
     ensures later { S.faults sink.old ≤ S.faults sink.new }
     ensures stays { S.faults sink.old ≡ greatest → S.faults sink.new ≡ S.faults sink.old }
 {
     let mut digits = Buffer::new();
     let number = digits.format(l.var());
-    if l.is_negated() {
-        put(sink, piece, b"-")?;
-    }
+    put_sign(sink, piece, l)?;
     put(sink, piece, number.as_bytes())
 }

@@ -4,8 +4,8 @@ ghost use Rattle.std.specs.Prelude.{◌≡◌, ◌≤◌, ◌++◌, ◌∷◌, [
 ghost use Rattle.cnf_form.specs.Cnf.{Addition};
 ghost use Rattle.cnf_form.specs.Dimacs.{literal_text, clause_text};
 ghost use Rattle.sby_edge.specs.Cause.{Rose, greatest};
-ghost use Rattle.cdcl_run.specs.Searching.{Searches};
-ghost use Rattle.cdcl_run.specs.Output.{Puts};
+ghost use Rattle.cdcl_run.specs.Searching.{Searches, Stops};
+ghost use Rattle.cdcl_run.specs.Output.{Breaks, Puts};
 
 use crate::output::{put, put_literal};
 use crate::piece::Piece;
@@ -19,7 +19,9 @@ fn put_word<S: Sink>(sink: &mut S, piece: &mut Piece, l: Lit) -> Result<(), Fail
     ensures ok { OnOk result (Puts
         (record { taken = S.taken sink.old; faults = S.faults sink.old; gathered = piece.old })
         (record { taken = S.taken sink.new; faults = S.faults sink.new; gathered = piece.new }) (literal_text l ++ 32 ∷ [])) }
-    ensures failed { OnErr result (Rose (S.faults sink.old) (S.faults sink.new)) }
+    ensures failed { OnErr result (Breaks
+        (record { taken = S.taken sink.old; faults = S.faults sink.old; gathered = piece.old })
+        (record { taken = S.taken sink.new; faults = S.faults sink.new; gathered = piece.new }) (literal_text l ++ 32 ∷ [])) }
     ensures later { S.faults sink.old ≤ S.faults sink.new }
     ensures stays { S.faults sink.old ≡ greatest → S.faults sink.new ≡ S.faults sink.old }
 {
@@ -32,7 +34,9 @@ fn put_clause<S: Sink>(sink: &mut S, piece: &mut Piece, clause: &[Lit]) -> Resul
     ensures ok { OnOk result (Puts
         (record { taken = S.taken sink.old; faults = S.faults sink.old; gathered = piece.old })
         (record { taken = S.taken sink.new; faults = S.faults sink.new; gathered = piece.new }) (clause_text clause.now)) }
-    ensures failed { OnErr result (Rose (S.faults sink.old) (S.faults sink.new)) }
+    ensures failed { OnErr result (Breaks
+        (record { taken = S.taken sink.old; faults = S.faults sink.old; gathered = piece.old })
+        (record { taken = S.taken sink.new; faults = S.faults sink.new; gathered = piece.new }) (clause_text clause.now)) }
     ensures later { S.faults sink.old ≤ S.faults sink.new }
     ensures stays { S.faults sink.old ≡ greatest → S.faults sink.new ≡ S.faults sink.old }
 {
@@ -50,7 +54,7 @@ struct ProofLog<'a, S: Sink> {
 }
 
 impl<'a, S: Sink> Log for ProofLog<'a, S> {
-    ghost use Rattle.cdcl_run.specs.Output.{Puts};
+    ghost use Rattle.cdcl_run.specs.Output.{Breaks, Puts};
     ghost use Rattle.cdcl_run.specs.Text.{proof_line};
 
     ghost takes = { λ a l b. (b.sink.ghost_name ≡ a.sink.ghost_name) × (b.piece.ghost_name ≡ a.piece.ghost_name)
@@ -58,7 +62,8 @@ impl<'a, S: Sink> Log for ProofLog<'a, S> {
         (record { taken = S.taken b.sink.now; faults = S.faults b.sink.now; gathered = b.piece.now }) (proof_line l) };
 
     ghost fails = { λ a l b. (b.sink.ghost_name ≡ a.sink.ghost_name) × (b.piece.ghost_name ≡ a.piece.ghost_name)
-        × Rose (S.faults a.sink.now) (S.faults b.sink.now) };
+        × Breaks (record { taken = S.taken a.sink.now; faults = S.faults a.sink.now; gathered = a.piece.now })
+        (record { taken = S.taken b.sink.now; faults = S.faults b.sink.now; gathered = b.piece.now }) (proof_line l) };
 
     ghost faults = { λ a. S.faults a.sink.now };
 
@@ -79,11 +84,14 @@ fn solve_to<S: Sink>(
     budget: u64,
     log: &mut ProofLog<'_, S>,
 ) -> Result<Solved, AllocError>
-    ensures same_sink { OnOk result (log.new.sink.ghost_name ≡ log.old.sink.ghost_name) }
-    ensures same_piece { OnOk result (log.new.piece.ghost_name ≡ log.old.piece.ghost_name) }
+    ensures same_sink { log.new.sink.ghost_name ≡ log.old.sink.ghost_name }
+    ensures same_piece { log.new.piece.ghost_name ≡ log.old.piece.ghost_name }
     ensures searches { IfOk result (λ solved. Searches formula.now budget
         (record { taken = S.taken log.old.sink.now; faults = S.faults log.old.sink.now; gathered = log.old.piece.now })
         (record { taken = S.taken log.new.sink.now; faults = S.faults log.new.sink.now; gathered = log.new.piece.now }) solved) }
+    ensures stops { OnErr result (Stops formula.now budget
+        (record { taken = S.taken log.old.sink.now; faults = S.faults log.old.sink.now; gathered = log.old.piece.now })
+        (record { taken = S.taken log.new.sink.now; faults = S.faults log.new.sink.now; gathered = log.new.piece.now })) }
 {
     solve(alloc, formula, budget, log)
 }
@@ -96,9 +104,12 @@ pub(crate) fn search<S: Sink>(
     sink: &mut S,
     piece: &mut Piece,
 ) -> Result<Solved, AllocError>
-    ensures { IfOk result (λ solved. Searches formula.now budget
+    ensures searches { IfOk result (λ solved. Searches formula.now budget
         (record { taken = S.taken sink.old; faults = S.faults sink.old; gathered = piece.old })
         (record { taken = S.taken sink.new; faults = S.faults sink.new; gathered = piece.new }) solved) }
+    ensures stops { OnErr result (Stops formula.now budget
+        (record { taken = S.taken sink.old; faults = S.faults sink.old; gathered = piece.old })
+        (record { taken = S.taken sink.new; faults = S.faults sink.new; gathered = piece.new })) }
 {
     let mut log = ProofLog { sink, piece };
     solve_to(alloc, formula, budget, &mut log)

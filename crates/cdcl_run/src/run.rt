@@ -6,9 +6,9 @@ ghost use Rattle.cnf_form.specs.Dimacs.{IsDimacs};
 ghost use Rattle.cdcl_core.specs.declared.solver.Solved.TheVariants.{LogFailed};
 ghost use Rattle.sby_edge.specs.Cause.{Rose};
 ghost use Rattle.cdcl_run.specs.Answer.{budget_of};
-ghost use Rattle.cdcl_run.specs.Searching.{HasFew, IsEnd};
+ghost use Rattle.cdcl_run.specs.Searching.{EndBreaks, HasFew, IsEnd};
 ghost use Rattle.cdcl_run.specs.Output.{Puts};
-ghost use Rattle.cdcl_run.specs.Run.{Answers, Did, IsDone, IsServed, Writes};
+ghost use Rattle.cdcl_run.specs.Run.{Answers, Did, IsDone, IsOutOfMemory, IsServed, World, Writes};
 ghost use Rattle.cdcl_run.specs.Text.{fault_line, file_line, kind_text, long_line, usage_line};
 
 use crate::output::{flush, offer, put};
@@ -64,8 +64,9 @@ fn put_end<S: Sink>(sink: &mut S, piece: &mut Piece, solved: &Solved) -> Result<
     ensures end { IfOk result (λ exit. (text : List ℕ) × IsEnd solved.now text exit × Puts
         (record { taken = S.taken sink.old; faults = S.faults sink.old; gathered = piece.old })
         (record { taken = S.taken sink.new; faults = S.faults sink.new; gathered = piece.new }) text) }
-    ensures failed { OnErr result ((solved.now ≡ LogFailed) ⊎ Rose (S.faults sink.old) (S.faults sink.new)) }
-    ensures later { S.faults sink.old ≤ S.faults sink.new }
+    ensures failed { OnErr result (EndBreaks
+        (record { taken = S.taken sink.old; faults = S.faults sink.old; gathered = piece.old })
+        (record { taken = S.taken sink.new; faults = S.faults sink.new; gathered = piece.new }) solved.now) }
 {
     match solved {
         Solved::Unsat => {
@@ -91,8 +92,9 @@ fn finish<S: Sink>(sink: &mut S, piece: &mut Piece, solved: &Solved) -> Result<u
     ensures end { IfOk result (λ exit. (text : List ℕ) × IsEnd solved.now text exit × Puts
         (record { taken = S.taken sink.old; faults = S.faults sink.old; gathered = piece.old })
         (record { taken = S.taken sink.new; faults = S.faults sink.new; gathered = [] }) text) }
-    ensures failed { OnErr result ((solved.now ≡ LogFailed) ⊎ Rose (S.faults sink.old) (S.faults sink.new)) }
-    ensures later { S.faults sink.old ≤ S.faults sink.new }
+    ensures failed { OnErr result (EndBreaks
+        (record { taken = S.taken sink.old; faults = S.faults sink.old; gathered = piece.old })
+        (record { taken = S.taken sink.new; faults = S.faults sink.new; gathered = piece.new }) solved.now) }
 {
     let exit = put_end(sink, piece, solved)?;
     flush(sink, piece)?;
@@ -101,7 +103,7 @@ fn finish<S: Sink>(sink: &mut S, piece: &mut Piece, solved: &Solved) -> Result<u
 
 // Searches, and writes the stream with the answer.
 fn answer<S: Sink>(alloc: Global, formula: &Formula, budget: u64, sink: &mut S) -> u8
-    ensures { (told : _) (faults : ℕ) (job : List ℕ) → IsDimacs job formula.now → (result ≡ 32) ⊎ Answers
+    ensures { (told : _) (faults : ℕ) (job : List ℕ) → IsDimacs job formula.now → Answers
         (record { told = told; file_faults = faults; taken = S.taken sink.old; sink_faults = S.faults sink.old })
         (record { told = told; file_faults = faults; taken = S.taken sink.new; sink_faults = S.faults sink.new }) job budget result }
 {
@@ -122,9 +124,10 @@ fn answer<S: Sink>(alloc: Global, formula: &Formula, budget: u64, sink: &mut S) 
 
 // Tells a fault of the file's text.
 fn tell_fault<S: Sink>(alloc: Global, fault: DimacsFault, sink: &mut S) -> u8
-    ensures { (told : _) (faults : ℕ) → (result ≡ 32) ⊎ ((result ≡ 1) × Writes
-        (record { told = told; file_faults = faults; taken = S.taken sink.old; sink_faults = S.faults sink.old })
-        (record { told = told; file_faults = faults; taken = S.taken sink.new; sink_faults = S.faults sink.new }) (fault_line fault.kind fault.byte)) }
+    ensures { (told : _) (faults : ℕ) →
+        let before : World = record { told = told; file_faults = faults; taken = S.taken sink.old; sink_faults = S.faults sink.old } in
+        let after : World = record { told = told; file_faults = faults; taken = S.taken sink.new; sink_faults = S.faults sink.new } in
+        IsOutOfMemory before after result ⊎ ((result ≡ 1) × Writes before after (fault_line fault.kind fault.byte)) }
 {
     match fault_line(alloc, fault) {
         Ok(line) => refuse(sink, line.as_bytes()),
@@ -135,9 +138,10 @@ fn tell_fault<S: Sink>(alloc: Global, fault: DimacsFault, sink: &mut S) -> u8
 // Serves the bytes of a file, whose memory is given back before the search.
 fn serve<S: Sink>(alloc: Global, bytes: Vec<u8>, budget: u64, sink: &mut S) -> u8
     requires { length bytes.items ≤ 2 ^ 32 }
-    ensures { (told : _) (faults : ℕ) → (result ≡ 32) ⊎ IsServed
-        (record { told = told; file_faults = faults; taken = S.taken sink.old; sink_faults = S.faults sink.old })
-        (record { told = told; file_faults = faults; taken = S.taken sink.new; sink_faults = S.faults sink.new }) bytes.items budget result }
+    ensures { (told : _) (faults : ℕ) →
+        let before : World = record { told = told; file_faults = faults; taken = S.taken sink.old; sink_faults = S.faults sink.old } in
+        let after : World = record { told = told; file_faults = faults; taken = S.taken sink.new; sink_faults = S.faults sink.new } in
+        IsOutOfMemory before after result ⊎ IsServed before after bytes.items budget result }
 {
     let read = read_dimacs(alloc, &bytes);
     drop(bytes);
@@ -183,7 +187,8 @@ fn run_asked<F: Files, S: Sink>(
 /// Does all that the program `cdcl_program` does: `words` are its arguments, `files` and `sink` the file store and the output
 /// that it uses. It answers the exit status: 10, 20 or 0 after an answer (satisfiable, unsatisfiable, unknown), 1 where the
 /// words are refused, the file can't be got, has more than 2^32 bytes or isn't DIMACS, or where the output failed, and 32 at
-/// out of memory.
+/// out of memory. What was written by then is a first part of the line that was to be written, or of the lines of a search for
+/// values of the file's formula, or, where the output failed, of a whole answer.
 ///
 /// Words are a file, or `--conflicts`, a number of conflicts from 1 to 1,000,000,000 and a file; without a number there are
 /// 2^64 - 1 conflicts. Output is written in pieces of 64 KiB, while the solver searches, and what is left at the end.

@@ -5,7 +5,7 @@ ghost use Rattle.cnf_form.specs.declared.literal.TheConstants.{MAX_VARS};
 ghost use Rattle.cnf_form.specs.Dimacs.{literal_text};
 ghost use Rattle.sby_edge.specs.Cause.{Rose, greatest};
 ghost use Rattle.cdcl_run.specs.Answer.{literals_from};
-ghost use Rattle.cdcl_run.specs.Output.{Puts};
+ghost use Rattle.cdcl_run.specs.Output.{Breaks, Puts};
 ghost use Rattle.cdcl_run.specs.Text.{AreValueLines, break_text};
 
 use crate::output::{put, put_literal};
@@ -18,7 +18,9 @@ fn put_value<S: Sink>(sink: &mut S, piece: &mut Piece, l: Lit) -> Result<(), Fai
     ensures ok { OnOk result (Puts
         (record { taken = S.taken sink.old; faults = S.faults sink.old; gathered = piece.old })
         (record { taken = S.taken sink.new; faults = S.faults sink.new; gathered = piece.new }) (32 ∷ literal_text l)) }
-    ensures failed { OnErr result (Rose (S.faults sink.old) (S.faults sink.new)) }
+    ensures failed { OnErr result (Breaks
+        (record { taken = S.taken sink.old; faults = S.faults sink.old; gathered = piece.old })
+        (record { taken = S.taken sink.new; faults = S.faults sink.new; gathered = piece.new }) (32 ∷ literal_text l)) }
     ensures later { S.faults sink.old ≤ S.faults sink.new }
     ensures stays { S.faults sink.old ≡ greatest → S.faults sink.new ≡ S.faults sink.old }
 {
@@ -31,7 +33,9 @@ fn put_break<S: Sink>(sink: &mut S, piece: &mut Piece, var: u32) -> Result<(), F
     ensures ok { OnOk result (Puts
         (record { taken = S.taken sink.old; faults = S.faults sink.old; gathered = piece.old })
         (record { taken = S.taken sink.new; faults = S.faults sink.new; gathered = piece.new }) (break_text var)) }
-    ensures failed { OnErr result (Rose (S.faults sink.old) (S.faults sink.new)) }
+    ensures failed { OnErr result (Breaks
+        (record { taken = S.taken sink.old; faults = S.faults sink.old; gathered = piece.old })
+        (record { taken = S.taken sink.new; faults = S.faults sink.new; gathered = piece.new }) (break_text var)) }
     ensures later { S.faults sink.old ≤ S.faults sink.new }
 {
     if var > 1 && var % 10 == 1 {
@@ -48,7 +52,10 @@ fn put_next<S: Sink>(sink: &mut S, piece: &mut Piece, var: u32, value: bool) -> 
         (record { taken = S.taken sink.old; faults = S.faults sink.old; gathered = piece.old })
         (record { taken = S.taken sink.new; faults = S.faults sink.new; gathered = piece.new })
         (break_text var ++ 32 ∷ literal_text (record { var = var; negated = not value }))) }
-    ensures failed { OnErr result (Rose (S.faults sink.old) (S.faults sink.new)) }
+    ensures failed { OnErr result (Breaks
+        (record { taken = S.taken sink.old; faults = S.faults sink.old; gathered = piece.old })
+        (record { taken = S.taken sink.new; faults = S.faults sink.new; gathered = piece.new })
+        (break_text var ++ 32 ∷ literal_text (record { var = var; negated = not value }))) }
     ensures later { S.faults sink.old ≤ S.faults sink.new }
 {
     put_break(sink, piece, var)?;
@@ -65,7 +72,9 @@ pub(crate) fn put_values<S: Sink>(
     ensures ok { OnOk result ((text : List ℕ) × AreValueLines (literals_from 1 (drop 1 values.now)) text × Puts
         (record { taken = S.taken sink.old; faults = S.faults sink.old; gathered = piece.old })
         (record { taken = S.taken sink.new; faults = S.faults sink.new; gathered = piece.new }) text) }
-    ensures failed { OnErr result (Rose (S.faults sink.old) (S.faults sink.new)) }
+    ensures failed { OnErr result ((text : List ℕ) × AreValueLines (literals_from 1 (drop 1 values.now)) text × Breaks
+        (record { taken = S.taken sink.old; faults = S.faults sink.old; gathered = piece.old })
+        (record { taken = S.taken sink.new; faults = S.faults sink.new; gathered = piece.new }) text) }
     ensures later { S.faults sink.old ≤ S.faults sink.new }
 {
     put(sink, piece, b"v")?;

@@ -1,10 +1,8 @@
 use Rattle.std.proofs.Common.{◌≡◌}
-use Rattle.std.specs.Prelude.{IfOk}
-use Rattle.sby_edge.specs.Cause.{Rose}
-use Rattle.cdcl_run.specs.Output.{OutputOf, Puts}
+use Rattle.cdcl_run.specs.Output.{Breaks, OutputOf, Puts}
 use Rattle.cdcl_run.specs.Text.{proof_line}
 use Rattle.cdcl_run.specs.declared.proof.ProofLog.{ProofLog}
-use Rattle.cdcl_run.proofs.Chains.{Searched, answered, answer_sink, answer_piece, answer_searches}
+use Rattle.cdcl_run.proofs.Chains.{Searched, answered}
 use Rattle.cdcl_run.proofs.proof.solve_to.Given as given
 use Rattle.cdcl_run.proofs.proof.solve_to.Goals as goal
 
@@ -14,19 +12,22 @@ State g = ProofLog g.row.S.Denot
 abbrev out : (g : given.Over) → State g → OutputOf
 out g a = record { taken = g.S.Sink.taken a.sink.now; faults = g.S.Sink.faults a.sink.now; gathered = a.piece.now }
 
-whole : (g : given.Over) (c : goal.After-solve g) → IfOk c.solve.result (λ s. Searched (λ (a : State g). a.sink.ghost_name) (λ (a : State g). a.piece.ghost_name) (out g) c.args.formula.now c.args.budget c.args.log.now c.solve.new.log s)
+whole : (g : given.Over) (c : goal.After-solve g) → Searched (λ (a : State g). a.sink.ghost_name) (λ (a : State g). a.piece.ghost_name) (out g) c.args.formula.now c.args.budget c.args.log.now c.solve.new.log c.solve.result
 whole g c =
     answered (λ (a : State g). a.sink.ghost_name) (λ (a : State g). a.piece.ghost_name) (out g)
     (λ a l b. (b.sink.ghost_name ≡ a.sink.ghost_name) × (b.piece.ghost_name ≡ a.piece.ghost_name) × Puts (out g a) (out g b) (proof_line l))
-    (λ a l b. (b.sink.ghost_name ≡ a.sink.ghost_name) × (b.piece.ghost_name ≡ a.piece.ghost_name) × Rose (g.S.Sink.faults a.sink.now) (g.S.Sink.faults b.sink.now))
-    (λ a b l w. record { same_sink = w.0; same_piece = w.1; puts = w.2 }) (λ a b l w. record { same_sink = w.0; same_piece = w.1; fails = w.2 })
-    c.args.formula.now c.args.budget c.args.log.now c.solve.new.log c.solve.result c.solve.ensures.solved
+    (λ a l b. (b.sink.ghost_name ≡ a.sink.ghost_name) × (b.piece.ghost_name ≡ a.piece.ghost_name) × Breaks (out g a) (out g b) (proof_line l))
+    (λ a b l w. record { same_sink = w.0; same_piece = w.1; puts = w.2 }) (λ a b l w. record { same_sink = w.0; same_piece = w.1; breaks = w.2 })
+    c.args.formula.now c.args.budget c.args.log.now c.solve.new.log c.solve.result c.solve.ensures.solved c.solve.ensures.memory
 
 pub returns-clause-searches : goal.returns-clause-searches
-returns-clause-searches g c = answer_searches (λ (a : State g). a.sink.ghost_name) (λ (a : State g). a.piece.ghost_name) (out g) c.args.formula.now c.args.budget c.args.log.now c.solve.new.log c.solve.result (whole g c)
+returns-clause-searches g c = (whole g c).searches
+
+pub returns-clause-stops : goal.returns-clause-stops
+returns-clause-stops g c = (whole g c).stops
 
 pub returns-clause-same_sink : goal.returns-clause-same_sink
-returns-clause-same_sink g c = answer_sink (λ (a : State g). a.sink.ghost_name) (λ (a : State g). a.piece.ghost_name) (out g) c.args.formula.now c.args.budget c.args.log.now c.solve.new.log c.solve.result (whole g c)
+returns-clause-same_sink g c = (whole g c).same_sink
 
 pub returns-clause-same_piece : goal.returns-clause-same_piece
-returns-clause-same_piece g c = answer_piece (λ (a : State g). a.sink.ghost_name) (λ (a : State g). a.piece.ghost_name) (out g) c.args.formula.now c.args.budget c.args.log.now c.solve.new.log c.solve.result (whole g c)
+returns-clause-same_piece g c = (whole g c).same_piece

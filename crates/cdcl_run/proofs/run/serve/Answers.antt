@@ -6,7 +6,7 @@ use Rattle.cdcl_run.proofs.run.serve.Goals as goal
 pub returns-in-Ok-Ok : goal.returns-in-Ok-Ok
 returns-in-Ok-Ok g c = λ told faults.
     let d = subst (λ z. IsDimacs z c.in-Ok-Ok.formula) c.deref.ensures.value (rw c.in-Ok-Ok.field-0-is at c.in-Ok-Ok.ensures.formula) in
-    elim (c.answer.ensures told faults c.args.bytes.items d) [ inl e ↦ inl e | inr a ↦ inr (inr (inr (c.requires, (c.in-Ok-Ok.formula, d, a)))) ]
+    inr (inr (inr (c.requires, (c.in-Ok-Ok.formula, d, c.answer.ensures told faults c.args.bytes.items d))))
 
 pub returns-in-Ok-Err : goal.returns-in-Ok-Err
 returns-in-Ok-Err g c = λ told faults.

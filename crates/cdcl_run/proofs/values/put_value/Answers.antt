@@ -1,0 +1,26 @@
+use Rattle.std.proofs.lemmas.Result.{on_err_weaker, on_ok_weaker}
+use Rattle.cdcl_run.specs.Output.{OutputOf}
+use Rattle.cdcl_run.proofs.Putting.{breaks_more, on_err, puts_both, puts_breaks}
+use Rattle.cnf_form.specs.Dimacs.{literal_text}
+use Rattle.std.proofs.Common.{[], ◌∷◌}
+use Rattle.cdcl_run.proofs.values.put_value.Goals as goal
+
+pub returns-clause-ok : goal.returns-clause-ok
+returns-clause-ok g c =
+    let first : OutputOf = record { taken = g.S.Sink.taken c.args.sink.now; faults = g.S.Sink.faults c.args.sink.now; gathered = c.args.piece.now } in
+    let here : OutputOf = record { taken = g.S.Sink.taken c.put.new.sink; faults = g.S.Sink.faults c.put.new.sink; gathered = c.put.new.piece } in
+    let last : OutputOf = record { taken = g.S.Sink.taken c.put_literal.new.sink; faults = g.S.Sink.faults c.put_literal.new.sink; gathered = c.put_literal.new.piece } in
+    on_ok_weaker c.put_literal.result (puts_both first here last (32 ∷ []) (literal_text c.args.l) c.in_ok-put.ensures.ok) c.put_literal.ensures.ok
+
+pub returns-clause-failed : goal.returns-clause-failed
+returns-clause-failed g c =
+    let first : OutputOf = record { taken = g.S.Sink.taken c.args.sink.now; faults = g.S.Sink.faults c.args.sink.now; gathered = c.args.piece.now } in
+    let here : OutputOf = record { taken = g.S.Sink.taken c.put.new.sink; faults = g.S.Sink.faults c.put.new.sink; gathered = c.put.new.piece } in
+    let last : OutputOf = record { taken = g.S.Sink.taken c.put_literal.new.sink; faults = g.S.Sink.faults c.put_literal.new.sink; gathered = c.put_literal.new.piece } in
+    on_err_weaker c.put_literal.result (puts_breaks first here last (32 ∷ []) (literal_text c.args.l) c.in_ok-put.ensures.ok) c.put_literal.ensures.failed
+
+pub returns-in_err-put-clause-failed : goal.returns-in_err-put-clause-failed
+returns-in_err-put-clause-failed g c =
+    let first : OutputOf = record { taken = g.S.Sink.taken c.args.sink.now; faults = g.S.Sink.faults c.args.sink.now; gathered = c.args.piece.now } in
+    let last : OutputOf = record { taken = g.S.Sink.taken c.put.new.sink; faults = g.S.Sink.faults c.put.new.sink; gathered = c.put.new.piece } in
+    on_err c.from_residual.result (breaks_more first last (32 ∷ []) (literal_text c.args.l) c.in_err-put.ensures.failed)
