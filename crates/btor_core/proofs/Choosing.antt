@@ -118,7 +118,7 @@ record Extends (constants : List Bool) (rest : List Line) (vs choice us : Values
 later : (m : BtorOf) (before rest : List Line) (l : Line) → IsBtor m → m.lines ≡ before ++ l ∷ rest → All (λ x. l.nid < x.nid) rest
 later m before rest l fits e = all_cuts (λ (x : Line). l.nid < x.nid) [] rest (λ b more x cut.
     let whole : m.lines ≡ (before ++ l ∷ b) ++ x ∷ more = e ∙ ap (λ (ls : List Line). before ++ l ∷ ls) cut ∙ sym (append_assoc before (l ∷ b) (x ∷ more)) in
-    all_at (λ (k : Line). k.nid < x.nid) (before ++ l ∷ b) before b l refl (fits (before ++ l ∷ b) more x whole).rises)
+    all_at (λ (k : Line). k.nid < x.nid) (before ++ l ∷ b) before b l refl (fits.each (before ++ l ∷ b) more x whole).rises)
 
 module _ (m : BtorOf) (fits : IsBtor m) (choice : Values) where
   extend : (before rest : List Line) (vs : Values) → m.lines ≡ before ++ rest → AreChoices (open_words rest) choice → (us : Values) × Extends m.constants rest vs choice us
@@ -130,7 +130,7 @@ module _ (m : BtorOf) (fits : IsBtor m) (choice : Values) where
       let theirs : AreChoices (open_words rest) choice = all_back (λ (a : Word). length (choice a.nid) ≡ a.width) (open_words_of l.nid l.body) (open_words rest) c in
       let more = extend (before ++ l ∷ []) rest (put vs l.nid row) cut theirs in
       let us : Values = more.0 in
-      let line : LineFits m.constants before l = fits before rest l e in
+      let line : LineFits m.constants before l = fits.each before rest l e in
       let above : All (λ (x : Line). l.nid < x.nid) rest = later m before rest l fits e in
       let at_l : us l.nid ≡ row = more.1.same l.nid above ∙ put_there vs l.nid row in
       let below : (j : ℕ) → HasValue before j → us j ≡ vs j = λ j some.
@@ -161,7 +161,7 @@ bits_stay cs more w start h =
 node_stays : (cs more : List Bool) (before : List Line) (vs : Values) (w : ℕ) (r : Row) (n : Node) → NodeFits cs before w n → NodeHolds (cs ++ more) vs w r n → NodeHolds cs vs w r n
 node_stays cs more before vs w r node.Input f h = h
 node_stays cs more before vs w r node.State f h = h
-node_stays cs more before vs w r (node.Const start) f h = h ∙ bits_stay cs more w start f
+node_stays cs more before vs w r (node.Const start) f h = h ∙ bits_stay cs more w start f.1
 node_stays cs more before vs w r node.Zero f h = h
 node_stays cs more before vs w r node.One f h = h
 node_stays cs more before vs w r node.Ones f h = h
@@ -175,7 +175,7 @@ node_stays cs more before vs w r (node.Ite s a b) f h = h
 node_grows : (cs more : List Bool) (before : List Line) (vs : Values) (w : ℕ) (r : Row) (n : Node) → NodeFits cs before w n → NodeHolds cs vs w r n → NodeHolds (cs ++ more) vs w r n
 node_grows cs more before vs w r node.Input f h = h
 node_grows cs more before vs w r node.State f h = h
-node_grows cs more before vs w r (node.Const start) f h = h ∙ sym (bits_stay cs more w start f)
+node_grows cs more before vs w r (node.Const start) f h = h ∙ sym (bits_stay cs more w start f.1)
 node_grows cs more before vs w r node.Zero f h = h
 node_grows cs more before vs w r node.One f h = h
 node_grows cs more before vs w r node.Ones f h = h
@@ -208,7 +208,7 @@ pub front_holds : (m n : BtorOf) → IsBtor m → Grows m n → (vs : Values) �
 front_holds m n fits g vs h =
     let all : All (LineHolds (m.constants ++ g.bits) vs) (m.lines ++ g.more) = rw (g.lines, g.constants) at h in
     all_cuts (LineHolds m.constants vs) [] m.lines (λ b more l e.
-    body_stays m.constants g.bits b vs l.nid l.body (fits b more l e).body (all_at (LineHolds (m.constants ++ g.bits) vs) (m.lines ++ g.more) b (more ++ g.more) l (cut_front m.lines g.more b more l e) all))
+    body_stays m.constants g.bits b vs l.nid l.body (fits.each b more l e).body (all_at (LineHolds (m.constants ++ g.bits) vs) (m.lines ++ g.more) b (more ++ g.more) l (cut_front m.lines g.more b more l e) all))
 
 -- the numbers of a model's lines are below those of lines that were added
 added_above : (m n : BtorOf) → IsBtor n → (g : Grows m n) → (b more : List Line) (l : Line) → m.lines ≡ b ++ l ∷ more → All (λ x. l.nid < x.nid) g.more
@@ -226,13 +226,13 @@ values_go_on m n fits all_fits g vs choice holds c =
     let below : (j : ℕ) → HasValue m.lines j → us j ≡ vs j = λ j some.
     made.1.same j (all_cuts (λ (x : Line). j < x.nid) [] g.more (λ b more x e.
     let cut : n.lines ≡ (m.lines ++ b) ++ x ∷ more = g.lines ∙ ap (λ (ls : List Line). m.lines ++ ls) e ∙ sym (append_assoc m.lines b (x ∷ more)) in
-    values_below m.lines j x.nid some (all_front (λ (k : Line). k.nid < x.nid) m.lines b (all_fits (m.lines ++ b) more x cut).rises))) in
+    values_below m.lines j x.nid some (all_front (λ (k : Line). k.nid < x.nid) m.lines b (all_fits.each (m.lines ++ b) more x cut).rises))) in
     let first : All (LineHolds (m.constants ++ g.bits) us) m.lines = all_cuts (LineHolds (m.constants ++ g.bits) us) [] m.lines (λ b more l e.
     let mine : us l.nid ≡ vs l.nid = made.1.same l.nid (added_above m n all_fits g b more l e) in
     let before : (j : ℕ) → HasValue b j → us j ≡ vs j = λ j some.
-    let less : j < l.nid = at_below value_width b j l.nid (fits b more l e).rises some in
+    let less : j < l.nid = at_below value_width b j l.nid (fits.each b more l e).rises some in
     made.1.same j (All-weaker (λ (x : Line). l.nid < x.nid) (λ (x : Line). j < x.nid) (λ x h. omega arith) g.more (added_above m n all_fits g b more l e)) in
-    body_goes_on m.constants g.bits b vs us l.nid l.body before mine (fits b more l e).body (all_at (LineHolds m.constants vs) m.lines b more l e holds)) in
+    body_goes_on m.constants g.bits b vs us l.nid l.body before mine (fits.each b more l e).body (all_at (LineHolds m.constants vs) m.lines b more l e holds)) in
     let rest : All (LineHolds (m.constants ++ g.bits) us) g.more = subst (λ (cs : List Bool). All (LineHolds cs us) g.more) g.constants made.1.holds in
     let whole : All (LineHolds (m.constants ++ g.bits) us) (m.lines ++ g.more) = All-append (LineHolds (m.constants ++ g.bits) us) m.lines g.more first rest in
     let all : Holds n us = subst (λ (cs : List Bool). All (LineHolds cs us) n.lines) (sym g.constants) (subst (λ (ls : List Line). All (LineHolds (m.constants ++ g.bits) us) ls) (sym g.lines) whole) in

@@ -1,24 +1,22 @@
 -- Models as they grow: their lists, and what an added value says.
 use Rattle.std.proofs.Common.{◌≡◌, ℕ, suc, ◌<◌, ◌≤◌, Bool, true, false, cond, eqb, take, drop, List, [], ◌∷◌, ◌++◌, refl, sym, ap, ◌∙◌, subst, length, append_assoc}
-use Rattle.std.specs.Prelude.{All, IfOk}
+use Rattle.std.specs.Prelude.{All}
 use Rattle.std.specs.List.{flat_map}
 use Rattle.std.proofs.lemmas.List.{append-nil}
-use Rattle.std.proofs.Math.Seq.{drop-append_seam, take-append_seam}
-use Rattle.std.proofs.Common.{Result, Ok, Err}
+use Rattle.std.proofs.Math.Seq.{drop-append_seam, take-length}
 use Rattle.std.proofs.lemmas.Grind.{flat_map-append}
 use Rattle.btor_core.specs.declared.line.Word.{Word}
-use Rattle.btor_core.specs.declared.draft.DraftFault.{DraftFault}
 use Rattle.btor_core.specs.declared.line.Node.{Node}
 use Rattle.btor_core.specs.declared.line.Node.TheVariants as node
 use Rattle.btor_core.specs.declared.line.Body.{Body}
 use Rattle.btor_core.specs.declared.line.Body.TheVariants as body
 use Rattle.btor_core.specs.declared.line.Line.{Line}
-use Rattle.btor_core.specs.Shape.{BtorOf, bads, bads_of, constraints, constraints_of, inits, inits_of, nexts, nexts_of, open_nodes_of, open_words, open_words_of, sort_at, value_width, width_at}
+use Rattle.btor_core.specs.Shape.{BtorOf, constant_node_width, bads, bads_of, constraints, constraints_of, inits, inits_of, nexts, nexts_of, open_nodes_of, open_words, open_words_of, sort_at, value_width, width_at}
 use Rattle.btor_core.specs.Meaning.{Values, LineHolds, NodeHolds}
 use Rattle.btor_core.specs.Fits.{NodeFits, ValueFits, IsWidth, IsBtor}
-use Rattle.btor_core.specs.Growth.{Grows, IsNumbered, KeepsLists, Pushed, PushedBits, sort_nid, with_bits, with_body, with_sort, with_value}
+use Rattle.btor_core.specs.Growth.{Grows, IsNumbered, KeepsLists, Pushed, PushedBits, sort_nid, with_bits, with_body, with_constant, with_sort, with_value}
 use Rattle.btor_core.proofs.Cuts.{all_at}
-use Rattle.btor_core.proofs.Fitting.{node_later}
+use Rattle.btor_core.proofs.Fitting.{no_constant, node_later}
 use Rattle.btor_core.proofs.Numbering.{numbers_below, numbered_sort, sort_found, sort_some}
 use Rattle.btor_core.proofs.Reading.{at_new}
 
@@ -28,11 +26,8 @@ grows_same m = record { more = []; bits = []; lines = sym (append-nil m.lines); 
 pub keeps_same : (m : BtorOf) → KeepsLists m m
 keeps_same m = record { inits = refl; nexts = refl; constraints = refl; bads = refl }
 
-pub grows_bits : (m : BtorOf) (bits : List Bool) → Grows m (with_bits m bits)
-grows_bits m bits = record { more = []; bits = bits; lines = sym (append-nil m.lines); constants = refl }
-
-keeps_bits : (m : BtorOf) (bits : List Bool) → KeepsLists m (with_bits m bits)
-keeps_bits m bits = record { inits = refl; nexts = refl; constraints = refl; bads = refl }
+pub grows_bits : (m : BtorOf) (s : ℕ) (bits : List Bool) → Grows m (with_bits m s bits)
+grows_bits m s bits = record { more = record { nid = suc (length m.lines); body = body.Value s (length bits) (node.Const (length m.constants)) } ∷ []; bits = bits; lines = refl; constants = refl }
 
 pub grows_body : (m : BtorOf) (b : Body) → Grows m (with_body m b)
 grows_body m b = record { more = record { nid = suc (length m.lines); body = b } ∷ []; bits = []; lines = refl; constants = sym (append-nil m.constants) }
@@ -100,21 +95,21 @@ sort_constants m w = elim (eqb (sort_nid m.lines w) 0) as (λ b. (cond b (with_b
 pub sort_memory : (m n : BtorOf) (w : ℕ) → n ≡ with_sort m w → Grows m n × KeepsLists m n
 sort_memory m n w e = rw e (sort_grows m w, sort_keeps m w)
 
-pub node_sorted : (m : BtorOf) (w v : ℕ) (n : Node) → NodeFits m.constants m.lines v n → NodeFits (with_sort m w).constants (with_sort m w).lines v n
-node_sorted m w v n h =
+pub node_sorted : (m : BtorOf) (w v : ℕ) (n : Node) → 1 ≤ v → constant_node_width v n ≡ 0 → NodeFits m.constants m.lines v n → NodeFits (with_sort m w).constants (with_sort m w).lines v n
+node_sorted m w v n some plain h =
     elim (eqb (sort_nid m.lines w) 0) as (λ b. NodeFits (cond b (with_body m (body.Sort w)) m).constants (cond b (with_body m (body.Sort w)) m).lines v n) [
-      | true ↦ node_later m.constants m.lines (record { nid = suc (length m.lines); body = body.Sort w } ∷ []) v n h
+      | true ↦ node_later m.constants m.lines (record { nid = suc (length m.lines); body = body.Sort w } ∷ []) v n some plain h
       | false ↦ h
     ]
 
 -- a value fits after its sort
-pub value_fits : (m p : BtorOf) (s w : ℕ) (n : Node) → p ≡ with_sort m w → s ≡ sort_nid p.lines w → IsBtor p → IsNumbered m.lines → IsWidth w → NodeFits m.constants m.lines w n → ValueFits p.constants p.lines s w n
-value_fits m p s w n e k btor numbered width fits =
+pub value_fits : (m p : BtorOf) (s w : ℕ) (n : Node) → p ≡ with_sort m w → s ≡ sort_nid p.lines w → IsBtor m → IsBtor p → IsNumbered m.lines → IsWidth w → NodeFits m.constants m.lines w n → ValueFits p.constants p.lines s w n
+value_fits m p s w n e k old btor numbered width fits =
     let some : 1 ≤ sort_nid p.lines w = rw e (sort_some m w numbered) in
     record {
       width = width;
       sort = subst (λ (j : ℕ). sort_at p.lines j ≡ w) (sym k) (sort_found p w btor some);
-      node = rw e (node_sorted m w w n fits);
+      node = rw e (node_sorted m w w n width.0 (no_constant m.constants m.lines w n old.table width.0 fits) fits);
     }
 
 pub pushed : (m : BtorOf) (w : ℕ) (n : Node) (a : Word) → IsNumbered m.lines → a.nid ≡ suc (length (with_sort m w).lines) → a.width ≡ w → Pushed m (with_value m w n) w n a
@@ -133,23 +128,30 @@ pushed m w n a numbered nid size =
       holds = λ vs h. subst (λ (k : ℕ). P vs k) (sym nid) (all_at (LineHolds s.constants vs) (s.lines ++ l ∷ []) s.lines [] l refl h);
     }
 
+pub sort_fits : (m p : BtorOf) (s w : ℕ) → p ≡ with_sort m w → s ≡ sort_nid p.lines w → IsBtor p → IsNumbered m.lines → sort_at p.lines s ≡ w
+sort_fits m p s w e k btor numbered =
+    let some : 1 ≤ sort_nid p.lines w = rw e (sort_some m w numbered) in
+    subst (λ (j : ℕ). sort_at p.lines j ≡ w) (sym k) (sort_found p w btor some)
+
 -- a constant's bits are read where they were put
-constant_bits : (cs bits more all : List Bool) → all ≡ (cs ++ bits) ++ more → take (length bits) (drop (length cs) all) ≡ bits
-constant_bits cs bits more all e = rw (e, append_assoc cs bits more) (ap (λ (bs : List Bool). take (length bits) bs) (drop-append_seam cs (bits ++ more)) ∙ take-append_seam bits more)
+constant_read : (cs bits : List Bool) → take (length bits) (drop (length cs) (cs ++ bits)) ≡ bits
+constant_read cs bits = ap (λ (bs : List Bool). take (length bits) bs) (drop-append_seam cs bits) ∙ take-length bits
 
-bits_are : (m n : BtorOf) (bits : List Bool) (w start : ℕ) (a : Word) → w ≡ length bits → start ≡ length m.constants → Pushed (with_bits m bits) n w (node.Const start) a → PushedBits m n bits a
-bits_are m n bits w start a e s p = record {
-  grows = grows_on m (with_bits m bits) n (grows_bits m bits) p.grows;
-  lists = keeps_on m (with_bits m bits) n (keeps_bits m bits) p.lists;
-  opened = p.opened ∙ append-nil (open_words m.lines);
-  size = p.size ∙ e;
-  width = p.width ∙ e;
-  holds = λ vs h. p.holds vs h ∙ rw (e, s) (constant_bits m.constants bits p.grows.bits n.constants p.grows.constants);
-}
-
-pub pushed_bits : (m n : BtorOf) (bits : List Bool) (w start : ℕ) (r : Result Word DraftFault) → w ≡ length bits → start ≡ length m.constants → IfOk r (Pushed (with_bits m bits) n w (node.Const start)) → IfOk r (PushedBits m n bits)
-pushed_bits m n bits w start (Ok a) e s p = bits_are m n bits w start a e s p
-pushed_bits m n bits w start (Err f) e s p = p
-
-pub constant_memory : (m n : BtorOf) (bits : List Bool) → Grows (with_bits m bits) n × KeepsLists (with_bits m bits) n → Grows m n × KeepsLists m n
-constant_memory m n bits h = (grows_on m (with_bits m bits) n (grows_bits m bits) h.0, keeps_on m (with_bits m bits) n (keeps_bits m bits) h.1)
+pub pushed_bits : (m : BtorOf) (bits : List Bool) (a : Word) → IsNumbered m.lines → a.nid ≡ suc (length (with_sort m (length bits)).lines) → a.width ≡ length bits → PushedBits m (with_constant m bits) bits a
+pushed_bits m bits a numbered nid size =
+    let w : ℕ = length bits in
+    let s : BtorOf = with_sort m w in
+    let n : ℕ = sort_nid s.lines w in
+    let b : Body = body.Value n w (node.Const (length s.constants)) in
+    let l : Line = record { nid = suc (length s.lines); body = b } in
+    let all : BtorOf = with_bits s n bits in
+    let rises : All (λ (k : Line). k.nid < l.nid) s.lines = numbers_below s.lines (numbered_sort m w numbered) in
+    let keeps : KeepsLists s all = let k = value_line_keeps s n w (node.Const (length s.constants)) in record { inits = k.inits; nexts = k.nexts; constraints = k.constraints; bads = k.bads } in
+    record {
+      grows = grows_on m s all (sort_grows m w) (grows_bits s n bits);
+      lists = keeps_on m s all (sort_keeps m w) keeps;
+      opened = open_body s b ∙ append-nil (open_words s.lines) ∙ sort_opens m w;
+      size = size;
+      width = ap (λ (k : ℕ). width_at (s.lines ++ l ∷ []) k) nid ∙ at_new value_width s.lines [] l rises;
+      holds = λ vs h. ap (λ (k : ℕ). vs k) nid ∙ all_at (LineHolds all.constants vs) all.lines s.lines [] l refl h ∙ constant_read s.constants bits;
+    }

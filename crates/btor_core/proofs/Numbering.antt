@@ -14,7 +14,7 @@ use Rattle.btor_core.specs.declared.line.Word.{Word}
 use Rattle.btor_core.specs.declared.line.Node.{Node}
 use Rattle.btor_core.specs.declared.line.Node.TheVariants as node
 use Rattle.btor_core.specs.Shape.{BtorOf, at_nid, sort_at, sort_width, state_at, state_node_width, state_width}
-use Rattle.btor_core.specs.Growth.{IsNumbered, sort_nid, with_bits, with_body, with_sort}
+use Rattle.btor_core.specs.Growth.{IsNumbered, sort_nid, with_body, with_sort}
 use Rattle.btor_core.specs.Kept.{IsKept}
 use Rattle.btor_core.specs.Fits.{BodyFits, InitFits, IsBtor, IsWidth, LineFits, MayGoOn, MayStart, NextFits, ValueFits}
 use Rattle.btor_core.proofs.Cuts.{all_cuts, cut_front, push_cut}
@@ -96,7 +96,7 @@ found (l ∷ lines) w h =
 pub sort_found : (m : BtorOf) (w : ℕ) → IsBtor m → 1 ≤ sort_nid m.lines w → sort_at m.lines (sort_nid m.lines w) ≡ w
 sort_found m w h some =
     let f : IsFound m.lines w = found m.lines w some in
-    let fits : LineFits m.constants f.before f.line = h f.before f.more f.line f.cut in
+    let fits : LineFits m.constants f.before f.line = h.each f.before f.more f.line f.cut in
     let there : sort_at (f.before ++ f.line ∷ f.more) f.line.nid ≡ sort_width f.line.body = at_new sort_width f.before f.more f.line fits.rises in
     let P : List Line → ℕ → Type 0 = λ ls k. sort_at ls k ≡ w in
     subst (λ (k : ℕ). P m.lines k) f.nid (subst (λ (ls : List Line). P ls f.line.nid) (sym f.cut) (there ∙ f.sort))
@@ -120,8 +120,8 @@ kept_none n e = record {
 length_one : (lines : List Line) (x : Line) → length (lines ++ x ∷ []) ≡ suc (length lines)
 length_one lines x = let e = length-append lines (x ∷ []) in omega arith
 
-pub kept_body : (m : BtorOf) (ks : List ℕ) (b : Body) (k : ℕ) → IsKept m ks → suc (length m.lines) < 2 ^ 32 → k ≡ suc (length m.lines) → sort_width b ≡ 0 → IsKept (record { lines = m.lines ++ record { nid = k; body = b } ∷ []; constants = m.constants }) ks
-kept_body m ks b k h room e plain =
+pub kept_body : (m : BtorOf) (ks : List ℕ) (cs : List Bool) (b : Body) (k : ℕ) → IsKept m ks → suc (length m.lines) < 2 ^ 32 → k ≡ suc (length m.lines) → sort_width b ≡ 0 → IsKept (record { lines = m.lines ++ record { nid = k; body = b } ∷ []; constants = cs }) ks
+kept_body m ks cs b k h room e plain =
     let x : Line = record { nid = k; body = b } in
     record {
       numbered = numbered_push m.lines x h.numbered e;
@@ -149,9 +149,6 @@ kept_sort m ks w k h room e some most none =
                 get_or-set_other ks w v k 0 other ∙ h.entries v v_some v_most ∙ sym (sort_other m.lines x w v other (numbers_some m.lines h.numbered) refl)
           ];
     }
-
-pub kept_bits : (m : BtorOf) (ks : List ℕ) (bits : List Bool) → IsKept m ks → IsKept (with_bits m bits) ks
-kept_bits m ks bits h = record { numbered = h.numbered; limit = h.limit; table = h.table; entries = h.entries }
 
 -- a sort that was added, if there was none, has a number
 pub sort_some : (m : BtorOf) (w : ℕ) → IsNumbered m.lines → 1 ≤ sort_nid (with_sort m w).lines w
@@ -215,7 +212,7 @@ value_has_sort m before more l s w n btor e fits =
     let wide : 1 ≤ sort_at before s = let f = fits.sort in let some = fits.width.0 in omega arith in
     let r : IsRead sort_width before s = read_line sort_width before s wide in
     let cut : m.lines ≡ r.before ++ r.line ∷ (r.more ++ l ∷ more) = e ∙ cut_front before (l ∷ more) r.before r.more r.line r.cut in
-    let some : All (λ (k : Line). 1 ≤ k.nid) m.lines = all_cuts (λ (k : Line). 1 ≤ k.nid) [] m.lines (λ b x y c. (btor b x y c).some) in
+    let some : All (λ (k : Line). 1 ≤ k.nid) m.lines = all_cuts (λ (k : Line). 1 ≤ k.nid) [] m.lines (λ b x y c. (btor.each b x y c).some) in
     let there : 1 ≤ sort_nid m.lines w = rw cut (sort_there r.before (r.more ++ l ∷ more) r.line w (r.reads ∙ fits.sort) (subst (λ (ls : List Line). All (λ (k : Line). 1 ≤ k.nid) ls) cut some)) in
     record { width = fits.width; sort = sort_found m w btor there }
 
@@ -245,7 +242,7 @@ pub state_has_sort : (m : BtorOf) (q w : ℕ) → IsBtor m → 1 ≤ w → state
 state_has_sort m q w btor some e =
     let r : IsRead state_width m.lines q = read_line state_width m.lines q (subst (λ (v : ℕ). 1 ≤ v) (sym e) some) in
     let reads : state_width r.line.body ≡ w = r.reads ∙ e in
-    subst (λ (v : ℕ). HasSort m v) reads (body_has_sort m r.before r.more r.line r.line.body btor r.cut (btor r.before r.more r.line r.cut).body (subst (λ (v : ℕ). 1 ≤ v) (sym reads) some))
+    subst (λ (v : ℕ). HasSort m v) reads (body_has_sort m r.before r.more r.line r.line.body btor r.cut (btor.each r.before r.more r.line r.cut).body (subst (λ (v : ℕ). 1 ≤ v) (sym reads) some))
 
 pub may_start : (m : BtorOf) (q v : Word) → IsBtor m → MayStart m.lines q v → InitFits m.lines (sort_nid m.lines q.width) q.nid v.nid
 may_start m q v btor h =

@@ -66,7 +66,7 @@ node_width : (constants : List Bool) (before : List Line) (vs : Values) (w : ℕ
     → NodeFits constants before w n → NodeHolds constants vs w r n → length r ≡ w
 node_width constants before vs w r node.Input widths f h = h
 node_width constants before vs w r node.State widths f h = h
-node_width constants before vs w r (node.Const start) widths f h = rw h (length-part constants w start f)
+node_width constants before vs w r (node.Const start) widths f h = rw h (length-part constants w start f.1)
 node_width constants before vs w r node.Zero widths f h = rw h (length-fit w (pos 0))
 node_width constants before vs w r node.One widths f h = rw h (length-fit w (pos 1))
 node_width constants before vs w r node.Ones widths f h = rw h (length-fit w (negsuc 0))
@@ -105,7 +105,7 @@ module _ (m : BtorOf) (Q : ℕ → ℕ → Type 0) where
 
   at_line : Steps → IsBtor m → (before more : List Line) (k : ℕ) (b : Body) → m.lines ≡ before ++ record { nid = k; body = b } ∷ more → HoldsOf before → 1 ≤ value_width b → Q k (value_width b)
   at_line step fits before more k (body.Sort w) e h some = absurd (omega arith)
-  at_line step fits before more k (body.Value s w n) e h some = step before more k s w n e (fits before more (record { nid = k; body = body.Value s w n }) e).body h
+  at_line step fits before more k (body.Value s w n) e h some = step before more k s w n e (fits.each before more (record { nid = k; body = body.Value s w n }) e).body h
   at_line step fits before more k (body.Init s q v) e h some = absurd (omega arith)
   at_line step fits before more k (body.Next s q v) e h some = absurd (omega arith)
   at_line step fits before more k (body.Bad n) e h some = absurd (omega arith)

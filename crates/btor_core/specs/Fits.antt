@@ -10,7 +10,7 @@ use Rattle.btor_core.specs.declared.line.Body.{Body}
 use Rattle.btor_core.specs.declared.line.Body.TheVariants as body
 use Rattle.btor_core.specs.declared.line.Line.{Line}
 use Rattle.btor_core.specs.declared.line.Word.{Word}
-use Rattle.btor_core.specs.Shape.{BtorOf, TieOf, inits, nexts, sort_at, state_at, width_at}
+use Rattle.btor_core.specs.Shape.{BtorOf, TieOf, constant_bits, inits, nexts, sort_at, state_at, width_at}
 
 -- a bit-vector has from 1 to 4096 bits
 abbrev pub IsWidth : ℕ → Type 0
@@ -57,11 +57,11 @@ IteFits w s a b = (s ≡ 1) × (a ≡ w) × (b ≡ w)
 abbrev pub HasValue : List Line → ℕ → Type 0
 HasValue before a = 1 ≤ width_at before a
 
--- a constant's bits stand in the table; operands have values, whose widths fit
+-- a constant's bits stand in the table after those of the constants before it; operands have values, whose widths fit
 abbrev pub NodeFits : List Bool → List Line → ℕ → Node → Type 0
 NodeFits constants before w node.Input = Unit {0}
 NodeFits constants before w node.State = Unit {0}
-NodeFits constants before w (node.Const start) = start + w ≤ length constants
+NodeFits constants before w (node.Const start) = (start ≡ constant_bits before) × (start + w ≤ length constants)
 NodeFits constants before w node.Zero = Unit {0}
 NodeFits constants before w node.One = Unit {0}
 NodeFits constants before w node.Ones = Unit {0}
@@ -112,9 +112,10 @@ pub record LineFits (constants : List Bool) (before : List Line) (l : Line) : Ty
   pub rises : All (λ k. k.nid < l.nid) before
   pub body : BodyFits constants before l.body
 
--- each line fits those before it
-abbrev pub IsBtor : BtorOf → Type 0
-IsBtor m = (before more : List Line) (l : Line) → m.lines ≡ before ++ l ∷ more → LineFits m.constants before l
+-- each line fits those before it, and the table has the bits of the constants alone
+pub record IsBtor (m : BtorOf) : Type 0 where
+  pub each : (before more : List Line) (l : Line) → m.lines ≡ before ++ l ∷ more → LineFits m.constants before l
+  pub table : length m.constants ≡ constant_bits m.lines
 
 -- the state has no `init` and no `next` yet, or no `next`, and the value is as wide as it is
 pub record MayStart (lines : List Line) (q v : Word) : Type 0 where

@@ -6,6 +6,7 @@ use Rattle.btor_core.specs.Choices.{Agree}
 use Rattle.btor_core.specs.Fits.{HasValue}
 use Rattle.btor_core.specs.declared.line.Word.{Word}
 use Rattle.btor_core.specs.declared.line.Node.{Node}
+use Rattle.btor_core.specs.declared.line.Node.TheVariants as node
 use Rattle.btor_core.specs.declared.line.Body.{Body}
 use Rattle.btor_core.specs.declared.line.Body.TheVariants as body
 use Rattle.btor_core.specs.declared.line.Line.{Line}
@@ -41,9 +42,13 @@ with_sort m w = cond (eqb (sort_nid m.lines w) 0) (with_body m (body.Sort w)) m
 abbrev pub with_value : BtorOf → ℕ → Node → BtorOf
 with_value m w n = with_body (with_sort m w) (body.Value (sort_nid (with_sort m w).lines w) w n)
 
--- with these bits after those of the other constants
-abbrev pub with_bits : BtorOf → List Bool → BtorOf
-with_bits m bits = record { lines = m.lines; constants = m.constants ++ bits }
+-- with the line of a constant of this sort more, and its bits after those of the other constants
+abbrev pub with_bits : BtorOf → ℕ → List Bool → BtorOf
+with_bits m s bits = record { lines = m.lines ++ record { nid = suc (length m.lines); body = body.Value s (length bits) (node.Const (length m.constants)) } ∷ []; constants = m.constants ++ bits }
+
+-- with one constant more
+abbrev pub with_constant : BtorOf → List Bool → BtorOf
+with_constant m bits = with_bits (with_sort m (length bits)) (sort_nid (with_sort m (length bits)).lines (length bits)) bits
 
 -- numbers count from 1 without a gap
 abbrev pub IsNumbered : List Line → Type 0

@@ -1,5 +1,5 @@
 -- A model of BTOR2 as contracts see it, and what can be read off its lines.
-use Rattle.std.specs.Prelude.{ℕ, Bool, cond, eqb, List, [], ◌∷◌}
+use Rattle.std.specs.Prelude.{ℕ, Bool, cond, eqb, sum_by, List, [], ◌∷◌}
 use Rattle.std.specs.List.{flat_map}
 use Rattle.btor_core.specs.declared.line.Body.{Body}
 use Rattle.btor_core.specs.declared.line.Body.TheVariants as body
@@ -8,7 +8,7 @@ use Rattle.btor_core.specs.declared.line.Node.{Node}
 use Rattle.btor_core.specs.declared.line.Node.TheVariants as node
 use Rattle.btor_core.specs.declared.line.Word.{Word}
 
--- lines in file order, and the bits of all constants, of each the lowest first
+-- lines in file order, and the bits of all constants, in the order of their lines, of each the lowest first
 pub record BtorOf : Type 0 where
   pub lines : List Line
   pub constants : List Bool
@@ -71,6 +71,32 @@ width_at lines k = at_nid value_width lines k
 
 abbrev pub state_at : List Line → ℕ → ℕ
 state_at lines k = at_nid state_width lines k
+
+-- how many bits of the table of constants a line takes
+abbrev pub constant_node_width : ℕ → Node → ℕ
+constant_node_width w node.Input = 0
+constant_node_width w node.State = 0
+constant_node_width w (node.Const start) = w
+constant_node_width w node.Zero = 0
+constant_node_width w node.One = 0
+constant_node_width w node.Ones = 0
+constant_node_width w (node.Unary k a) = 0
+constant_node_width w (node.Binary k a b) = 0
+constant_node_width w (node.Slice a upper lower) = 0
+constant_node_width w (node.Uext a by) = 0
+constant_node_width w (node.Sext a by) = 0
+constant_node_width w (node.Ite s a b) = 0
+
+abbrev pub constant_width : Body → ℕ
+constant_width (body.Sort w) = 0
+constant_width (body.Value s w n) = constant_node_width w n
+constant_width (body.Init s q v) = 0
+constant_width (body.Next s q v) = 0
+constant_width (body.Bad n) = 0
+constant_width (body.Constraint n) = 0
+
+abbrev pub constant_bits : List Line → ℕ
+constant_bits lines = sum_by (λ l. constant_width l.body) lines
 
 -- what each line adds to the four lists of a model
 abbrev pub inits_of : Body → List TieOf

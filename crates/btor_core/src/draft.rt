@@ -3,9 +3,8 @@
 ghost use Rattle.std.specs.Prelude.{◌≡◌, ◌↔◌, ◌⊎◌, ◌<◌, ◌≤◌, ◌+◌, ◌^◌, suc, [], Err, length, IfOk, IsTrue, OnErr, OnOk};
 ghost use Rattle.btor_core.specs.declared.draft.DraftFault.TheVariants.{Full, Memory};
 ghost use Rattle.btor_core.specs.declared.line.Body.TheVariants.{Bad, Constraint, Init, Next, Sort};
-ghost use Rattle.btor_core.specs.declared.line.Node.TheVariants.{Const};
-ghost use Rattle.btor_core.specs.Growth.{Grows, IsNumbered, KeepsLists, Pushed, PushedBits, sort_nid, with_bits, with_body, with_sort, with_value};
-ghost use Rattle.btor_core.specs.Shape.{sort_width, width_at};
+ghost use Rattle.btor_core.specs.Growth.{Grows, IsNumbered, KeepsLists, Pushed, PushedBits, sort_nid, with_bits, with_body, with_constant, with_sort, with_value};
+ghost use Rattle.btor_core.specs.Shape.{sort_at, sort_width, width_at};
 ghost use Rattle.btor_core.specs.Fits.{BodyFits, IsBtor, IsWidth, MayGoOn, MayStart, NodeFits};
 
 use crate::line::{Body, Line, Node, Word};
@@ -18,7 +17,7 @@ use std::marker::Model;
 pub enum DraftFault {
     /// There would be 2^32 lines, or a constant past 2^32 bits of constants. The model is as it was.
     Full,
-    /// Memory ran out. The model may have a sort's line or a constant's bits more, of which no other line speaks.
+    /// Memory ran out. The model may have a sort's line more, of which no other line speaks.
     Memory,
 }
 
@@ -181,23 +180,39 @@ impl Draft {
         Ok(Word { nid, width })
     }
 
+    // Adds the line of a constant of this sort, with the next number, and its bits.
+    fn push_bits(&mut self, sort: u32, bits: &[bool]) -> Result<u32, AllocError>
+        requires room { length self.old.lines + 1 < 2 ^ 32 }
+        requires width { IsWidth (length bits.now) }
+        requires sort { sort_at self.old.lines sort ≡ length bits.now }
+        requires bits { length self.old.constants < 2 ^ 32 }
+        ensures ok { OnOk result (self.new ≡ with_bits self.old sort bits.now) }
+        ensures nid { IfOk result (λ nid. nid ≡ suc (length self.old.lines)) }
+        ensures err { OnErr result (self.new ≡ self.old) }
+    {
+        let nid = self.model.lines().len() as u32 + 1;
+        self.model.push_constant(nid, sort, bits)?;
+        Ok(nid)
+    }
+
     /// Adds a constant with these bits, the lowest first.
     pub fn constant(&mut self, bits: &[bool]) -> Result<Word, DraftFault>
         requires width { IsWidth (length bits.now) }
-        ensures ok { OnOk result (self.new ≡ with_value (with_bits self.old bits.now) (length bits.now) (Const (length self.old.constants))) }
+        ensures ok { OnOk result (self.new ≡ with_constant self.old bits.now) }
         ensures pushed { IfOk result (PushedBits self.old self.new bits.now) }
-        ensures full { (result ≡ Err Full)
-            ↔ ((2 ^ 32 ≤ length self.old.constants) ⊎ (2 ^ 32 ≤ length (with_value self.old (length bits.now) (Const (length self.old.constants))).lines)) }
+        ensures full { (result ≡ Err Full) ↔ ((2 ^ 32 ≤ length self.old.constants) ⊎ (2 ^ 32 ≤ length (with_constant self.old bits.now).lines)) }
         ensures unchanged { result ≡ Err Full → self.new ≡ self.old }
         ensures memory { result ≡ Err Memory → Grows self.old self.new × KeepsLists self.old self.new }
     {
-        let start = self.model.constants().len();
         let width = bits.len() as u32;
-        if start > u32::MAX as usize || !self.has_room_for(width) {
+        if self.model.constants().len() > u32::MAX as usize || !self.has_room_for(width) {
             return Err(DraftFault::Full);
         }
-        self.model.push_bits(bits)?;
-        self.push(width, Node::Const(start as u32))
+        self.promise();
+        let sort = self.sort(width)?;
+        self.promise();
+        let nid = self.push_bits(sort, bits)?;
+        Ok(Word { nid, width })
     }
 
     // Adds a line that isn't a sort or a value.

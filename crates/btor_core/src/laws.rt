@@ -4,7 +4,7 @@ ghost use Rattle.std.specs.Prelude.{◌≡◌, ◌≤◌, ◌++◌, ℕ, suc, le
 ghost use Rattle.btor_core.specs.Choices.{Agree, AreChoices};
 ghost use Rattle.btor_core.specs.Growth.{GoesFurther, Grows, with_body};
 ghost use Rattle.btor_core.specs.Meaning.{Holds, Values};
-ghost use Rattle.btor_core.specs.Shape.{BtorOf, bads, bads_of, constraints, constraints_of, inits, inits_of, nexts, nexts_of, open_words, open_words_of, sort_at, state_at, width_at};
+ghost use Rattle.btor_core.specs.Shape.{BtorOf, constant_node_width, bads, bads_of, constraints, constraints_of, inits, inits_of, nexts, nexts_of, open_words, open_words_of, sort_at, state_at, width_at};
 ghost use Rattle.btor_core.specs.Fits.{HasValue, IsBtor, NodeFits};
 ghost use Rattle.btor_core.specs.declared.line.Body.{Body};
 ghost use Rattle.btor_core.specs.declared.line.Node.{Node};
@@ -34,12 +34,14 @@ pub fn first_lines_keep_their_values()
         → AreChoices (open_words g.more) choice → (us : Values) × GoesFurther m n g.more vs choice us }
 {}
 
-/// Widths of values, sorts and states stay as lines and constants are added, and what fits goes on fitting.
+/// Widths of values, sorts and states stay as lines and constants are added, and a node that fits goes on fitting, but for a constant,
+/// whose place in the table is that of one line.
 pub fn widths_stay()
     ensures values { (m n : BtorOf) → Grows m n → (k : ℕ) → HasValue m.lines k → width_at n.lines k ≡ width_at m.lines k }
     ensures sorts { (m n : BtorOf) → Grows m n → (k w : ℕ) → sort_at m.lines k ≡ w → 1 ≤ w → sort_at n.lines k ≡ w }
     ensures states { (m n : BtorOf) → Grows m n → (k w : ℕ) → state_at m.lines k ≡ w → 1 ≤ w → state_at n.lines k ≡ w }
-    ensures nodes { (m n : BtorOf) → Grows m n → (w : ℕ) (x : Node) → NodeFits m.constants m.lines w x → NodeFits n.constants n.lines w x }
+    ensures nodes { (m n : BtorOf) → Grows m n → (w : ℕ) (x : Node) → 1 ≤ w → constant_node_width w x ≡ 0 → NodeFits m.constants m.lines w x
+        → NodeFits n.constants n.lines w x }
 {}
 
 /// What a line more adds to each of the lists.

@@ -1,10 +1,12 @@
 //! Models: lines in file order, and the bits of their constants.
 
-ghost use Rattle.std.specs.Prelude.{◌≡◌, [], ◌∷◌, ◌++◌, OnErr, OnOk};
-ghost use Rattle.btor_core.specs.Growth.{with_bits};
-ghost use Rattle.btor_core.specs.Fits.{IsBtor, LineFits};
+ghost use Rattle.std.specs.Prelude.{◌≡◌, ◌<◌, ◌≤◌, ◌^◌, [], ◌∷◌, ◌++◌, length, All, OnErr, OnOk};
+ghost use Rattle.btor_core.specs.Fits.{IsBtor, IsWidth, LineFits};
+ghost use Rattle.btor_core.specs.Shape.{sort_at};
+ghost use Rattle.btor_core.specs.declared.line.Body.TheVariants.{Value};
+ghost use Rattle.btor_core.specs.declared.line.Node.TheVariants.{Const};
 
-use crate::line::Line;
+use crate::line::{Body, Line, Node};
 use std::alloc::{AllocError, Global};
 use std::marker::Model;
 
@@ -58,7 +60,7 @@ impl BtorModel {
         let _ = &self.lines;
     }
 
-    /// Adds a line after the others. If memory runs out, the model is as it was.
+    /// Adds a line after the others, which is no constant's: there is no bit for one. If memory runs out, the model is as it was.
     pub fn push(&mut self, line: Line) -> Result<(), AllocError>
         requires { LineFits self.old.constants self.old.lines line }
         ensures ok { OnOk result (self.new ≡ record self.old { lines = self.old.lines ++ line ∷ [] }) }
@@ -68,12 +70,33 @@ impl BtorModel {
         Ok(())
     }
 
-    /// Adds bits to the table of constants, after the others. If memory runs out, the model is as it was.
-    pub fn push_bits(&mut self, bits: &[bool]) -> Result<(), AllocError>
-        ensures ok { OnOk result (self.new ≡ with_bits self.old bits.now) }
+    /// Adds a constant's line after the others, of a sort that is as wide, and its bits, the lowest first. If memory runs out, the model
+    /// is as it was.
+    pub fn push_constant(&mut self, nid: u32, sort: u32, bits: &[bool]) -> Result<(), AllocError>
+        requires some { 1 ≤ nid }
+        requires rises { All (λ k. k.nid < nid) self.old.lines }
+        requires width { IsWidth (length bits.now) }
+        requires sort { sort_at self.old.lines sort ≡ length bits.now }
+        requires room { length self.old.constants < 2 ^ 32 }
+        ensures ok { OnOk result (self.new ≡ record {
+          lines = self.old.lines ++ record { nid = nid; body = Value sort (length bits.now) (Const (length self.old.constants)) } ∷ [];
+          constants = self.old.constants ++ bits.now;
+        }) }
         ensures err { OnErr result (self.new ≡ self.old) }
     {
+        let start = self.constants.len();
         self.constants.extend_from_slice(bits)?;
-        Ok(())
+        let node = Node::Const(start as u32);
+        let line = Line {
+            nid,
+            body: Body::Value(sort, bits.len() as u32, node),
+        };
+        match self.lines.push(line) {
+            Ok(()) => Ok(()),
+            Err(_) => {
+                self.constants.truncate(start);
+                Err(AllocError)
+            }
+        }
     }
 }

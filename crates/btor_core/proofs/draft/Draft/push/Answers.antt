@@ -11,7 +11,7 @@ returns-in_err-sort-clause-memory c h = rw c.in_err-sort.ensures.err (grows_same
 
 pub push_body-requires-clause-fits : goal.push_body-requires-clause-fits
 push_body-requires-clause-fits c =
-    value_fits c.args.self.now c.sort.new.self c.in_ok-sort.sort c.args.width c.args.node c.in_ok-sort.ensures.ok c.in_ok-sort.ensures.nid c.promise-2.ensures.btor c.promise.ensures.numbered c.requires.width c.requires.fits
+    value_fits c.args.self.now c.sort.new.self c.in_ok-sort.sort c.args.width c.args.node c.in_ok-sort.ensures.ok c.in_ok-sort.ensures.nid c.promise.ensures.btor c.promise-2.ensures.btor c.promise.ensures.numbered c.requires.width c.requires.fits
 
 pub returns-in_err-nid-clause-memory : goal.returns-in_err-nid-clause-memory
 returns-in_err-nid-clause-memory c h = sort_memory c.args.self.now c.push_body.new.self c.args.width (c.in_err-nid.ensures.err ∙ c.in_ok-sort.ensures.ok)

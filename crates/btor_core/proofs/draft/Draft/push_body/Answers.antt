@@ -18,4 +18,4 @@ invariant_of-self-2 c =
     let m = c.self.inside.model in
     let room : suc (length m.lines) < 2 ^ 32 = subst (λ (n : BtorOf). suc (length n.lines) < 2 ^ 32) (sym c.self.view_is) (omega arith) in
     let e : length c.lines.result.now ≡ length m.lines = ap (λ (ls : List Line). length ls) c.lines.ensures in
-    rw c.in_ok-push.ensures.ok (kept_body m c.self.inside.sorts.items c.args.body (length c.lines.result.now + 1) c.self.invariant room (omega arith) c.requires.plain)
+    rw c.in_ok-push.ensures.ok (kept_body m c.self.inside.sorts.items m.constants c.args.body (length c.lines.result.now + 1) c.self.invariant room (omega arith) c.requires.plain)
