@@ -1,5 +1,5 @@
 -- What fits goes on fitting as lines and constants are added.
-use Rattle.std.proofs.Common.{◌≡◌, ℕ, ◌+◌, ◌<◌, ◌≤◌, ◌^◌, Bool, List, [], ◌∷◌, ◌++◌, refl, sym, ◌∙◌, inl, inr, length, subst, arith, length-append}
+use Rattle.std.proofs.Common.{◌≡◌, ℕ, ◌+◌, ◌<◌, ◌≤◌, ◌-◌, ◌^◌, Bool, List, [], ◌∷◌, ◌++◌, refl, sym, ◌∙◌, inl, inr, length, subst, arith, length-append}
 use Rattle.std.specs.Prelude.{All}
 use Rattle.std.proofs.lemmas.List.{append-nil}
 use Rattle.std.proofs.lemmas.List.Sums.{sum_by-append}
@@ -104,7 +104,7 @@ btor_push constants lines x h fits = record {
   table = (let none = body_no_constant constants lines x.body h.table fits.body in let e = bits_push lines x in let t = h.table in omega arith);
 }
 
-pub btor_push_constant : (constants bits : List Bool) (lines : List Line) (k s w start : ℕ) → IsBtor (record { lines = lines; constants = constants }) → 1 ≤ k → k < 2 ^ 32 → All (λ l. l.nid < k) lines → w ≡ length bits → IsWidth w → sort_at lines s ≡ w → start ≡ length constants
+pub btor_push_constant : (constants bits : List Bool) (lines : List Line) (k s w start : ℕ) → IsBtor (record { lines = lines; constants = constants }) → 1 ≤ k → k < 2 ^ 32 - 1 → All (λ l. l.nid < k) lines → w ≡ length bits → IsWidth w → sort_at lines s ≡ w → start ≡ length constants
     → IsBtor (record { lines = lines ++ record { nid = k; body = body.Value s w (node.Const start) } ∷ []; constants = constants ++ bits })
 btor_push_constant constants bits lines k s w start h some limit rises e width sort from =
     let x : Line = record { nid = k; body = body.Value s w (node.Const start) } in

@@ -1,5 +1,5 @@
 -- How a draft's lines are numbered, and its table of sorts.
-use Rattle.std.proofs.Common.{◌≡◌, ℕ, suc, ◌+◌, ◌<◌, ◌≤◌, ◌^◌, Bool, true, false, cond, eqb, get_or, List, [], ◌∷◌, ◌++◌, refl, sym, ap, ◌∙◌, inl, inr, subst, arith, length, length-append}
+use Rattle.std.proofs.Common.{◌≡◌, ℕ, suc, ◌+◌, ◌<◌, ◌≤◌, ◌-◌, ◌^◌, Bool, true, false, cond, eqb, get_or, List, [], ◌∷◌, ◌++◌, refl, sym, ap, ◌∙◌, inl, inr, subst, arith, length, length-append}
 use Rattle.std.specs.Prelude.{All, ◌≢◌, replicate}
 use Rattle.std.proofs.Common.{set, length-set}
 use Rattle.std.proofs.lemmas.Bool.{false≢true}
@@ -101,7 +101,7 @@ sort_found m w h some =
     let P : List Line → ℕ → Type 0 = λ ls k. sort_at ls k ≡ w in
     subst (λ (k : ℕ). P m.lines k) f.nid (subst (λ (ls : List Line). P ls f.line.nid) (sym f.cut) (there ∙ f.sort))
 
-pub line_fits : (m : BtorOf) (ks : List ℕ) (b : Body) (k : ℕ) → IsKept m ks → suc (length m.lines) < 2 ^ 32 → k ≡ suc (length m.lines) → BodyFits m.constants m.lines b → LineFits m.constants m.lines (record { nid = k; body = b })
+pub line_fits : (m : BtorOf) (ks : List ℕ) (b : Body) (k : ℕ) → IsKept m ks → suc (length m.lines) < 2 ^ 32 - 1 → k ≡ suc (length m.lines) → BodyFits m.constants m.lines b → LineFits m.constants m.lines (record { nid = k; body = b })
 line_fits m ks b k h room e fits = record {
   some = omega arith;
   limit = omega arith;
@@ -120,7 +120,7 @@ kept_none n e = record {
 length_one : (lines : List Line) (x : Line) → length (lines ++ x ∷ []) ≡ suc (length lines)
 length_one lines x = let e = length-append lines (x ∷ []) in omega arith
 
-pub kept_body : (m : BtorOf) (ks : List ℕ) (cs : List Bool) (b : Body) (k : ℕ) → IsKept m ks → suc (length m.lines) < 2 ^ 32 → k ≡ suc (length m.lines) → sort_width b ≡ 0 → IsKept (record { lines = m.lines ++ record { nid = k; body = b } ∷ []; constants = cs }) ks
+pub kept_body : (m : BtorOf) (ks : List ℕ) (cs : List Bool) (b : Body) (k : ℕ) → IsKept m ks → suc (length m.lines) < 2 ^ 32 - 1 → k ≡ suc (length m.lines) → sort_width b ≡ 0 → IsKept (record { lines = m.lines ++ record { nid = k; body = b } ∷ []; constants = cs }) ks
 kept_body m ks cs b k h room e plain =
     let x : Line = record { nid = k; body = b } in
     record {
@@ -130,7 +130,7 @@ kept_body m ks cs b k h room e plain =
       entries = λ w some most. h.entries w some most ∙ sym (sort_plain m.lines x w some (numbers_some m.lines h.numbered) plain);
     }
 
-pub kept_sort : (m : BtorOf) (ks : List ℕ) (w k : ℕ) → IsKept m ks → suc (length m.lines) < 2 ^ 32 → k ≡ suc (length m.lines) → 1 ≤ w → w ≤ 4096 → sort_nid m.lines w ≡ 0
+pub kept_sort : (m : BtorOf) (ks : List ℕ) (w k : ℕ) → IsKept m ks → suc (length m.lines) < 2 ^ 32 - 1 → k ≡ suc (length m.lines) → 1 ≤ w → w ≤ 4096 → sort_nid m.lines w ≡ 0
     → IsKept (record { lines = m.lines ++ record { nid = k; body = body.Sort w } ∷ []; constants = m.constants }) (set ks w k)
 kept_sort m ks w k h room e some most none =
     let x : Line = record { nid = k; body = body.Sort w } in

@@ -1,5 +1,5 @@
 -- What makes lines a model: their numbers rise, what they read stands before them, and widths are as each operator asks.
-use Rattle.std.specs.Prelude.{◌≡◌, ◌≢◌, ℕ, suc, ◌+◌, ◌^◌, ◌<◌, ◌≤◌, Bool, List, ◌∷◌, ◌++◌, length, All}
+use Rattle.std.specs.Prelude.{◌≡◌, ◌≢◌, ℕ, suc, ◌+◌, ◌-◌, ◌^◌, ◌<◌, ◌≤◌, Bool, List, ◌∷◌, ◌++◌, length, All}
 use Rattle.btor_core.specs.declared.line.Unary.{Unary}
 use Rattle.btor_core.specs.declared.line.Unary.TheVariants as unary
 use Rattle.btor_core.specs.declared.line.Binary.{Binary}
@@ -105,10 +105,10 @@ BodyFits constants before (body.Next s q v) = NextFits before s q v
 BodyFits constants before (body.Bad n) = width_at before n ≡ 1
 BodyFits constants before (body.Constraint n) = width_at before n ≡ 1
 
--- a line that may come after these: its number is greater, and of 32 bits
+-- a line that may come after these: its number is greater, and below the greatest of 32 bits, which stands for all that are past it
 pub record LineFits (constants : List Bool) (before : List Line) (l : Line) : Type 0 where
   pub some : 1 ≤ l.nid
-  pub limit : l.nid < 2 ^ 32
+  pub limit : l.nid < 2 ^ 32 - 1
   pub rises : All (λ k. k.nid < l.nid) before
   pub body : BodyFits constants before l.body
 

@@ -1,6 +1,6 @@
 //! A model while it is made: lines are numbered, and sorts are shared.
 
-ghost use Rattle.std.specs.Prelude.{◌≡◌, ◌↔◌, ◌⊎◌, ◌<◌, ◌≤◌, ◌+◌, ◌^◌, suc, [], Err, length, IfOk, IsTrue, OnErr, OnOk};
+ghost use Rattle.std.specs.Prelude.{◌≡◌, ◌↔◌, ◌⊎◌, ◌<◌, ◌≤◌, ◌+◌, ◌-◌, ◌^◌, suc, [], Err, length, IfOk, IsTrue, OnErr, OnOk};
 ghost use Rattle.btor_core.specs.declared.draft.DraftFault.TheVariants.{Full, Memory};
 ghost use Rattle.btor_core.specs.declared.line.Body.TheVariants.{Bad, Constraint, Init, Next, Sort};
 ghost use Rattle.btor_core.specs.Growth.{Grows, IsNumbered, KeepsLists, Pushed, PushedBits, sort_nid, with_bits, with_body, with_constant, with_sort, with_value};
@@ -15,7 +15,7 @@ use std::marker::Model;
 /// Why a call added nothing that counts.
 #[derive(Clone, Copy, Debug, PartialEq, Eq)]
 pub enum DraftFault {
-    /// There would be 2^32 lines, or a constant past 2^32 bits of constants. The model is as it was.
+    /// There would be 2^32 - 1 lines, or a constant past 2^32 bits of constants. The model is as it was.
     Full,
     /// Memory ran out. The model may have a sort's line more, of which no other line speaks.
     Memory,
@@ -82,7 +82,7 @@ impl Draft {
     pub fn promise(&self)
         ensures btor { IsBtor self.now }
         ensures numbered { IsNumbered self.now.lines }
-        ensures limit { length self.now.lines < 2 ^ 32 }
+        ensures limit { length self.now.lines < 2 ^ 32 - 1 }
     {
         self.model.promise();
     }
@@ -90,9 +90,9 @@ impl Draft {
     // Whether so many lines more have numbers.
     fn has_room(&self, lines: usize) -> bool
         requires { lines ≤ 2 }
-        ensures { IsTrue result ↔ (length self.now.lines + lines < 2 ^ 32) }
+        ensures { IsTrue result ↔ (length self.now.lines + lines < 2 ^ 32 - 1) }
     {
-        self.model.lines().len() + lines <= u32::MAX as usize
+        self.model.lines().len() + lines < u32::MAX as usize
     }
 
     // The nid of the sort of this width, 0 where there is none.
@@ -105,7 +105,7 @@ impl Draft {
 
     // Adds a line with the next number, which is no sort.
     fn push_body(&mut self, body: Body) -> Result<u32, AllocError>
-        requires room { length self.old.lines + 1 < 2 ^ 32 }
+        requires room { length self.old.lines + 1 < 2 ^ 32 - 1 }
         requires fits { BodyFits self.old.constants self.old.lines body }
         requires plain { sort_width body ≡ 0 }
         ensures ok { OnOk result (self.new ≡ with_body self.old body) }
@@ -119,7 +119,7 @@ impl Draft {
 
     // Adds the sort of this width, which isn't there.
     fn push_sort(&mut self, width: u32) -> Result<u32, AllocError>
-        requires room { length self.old.lines + 1 < 2 ^ 32 }
+        requires room { length self.old.lines + 1 < 2 ^ 32 - 1 }
         requires width { IsWidth width }
         requires new { sort_nid self.old.lines width ≡ 0 }
         ensures ok { OnOk result (self.new ≡ with_body self.old (Sort width)) }
@@ -135,7 +135,7 @@ impl Draft {
 
     // The nid of the sort of this width, which is added where there is none.
     fn sort(&mut self, width: u32) -> Result<u32, AllocError>
-        requires room { length (with_sort self.old width).lines < 2 ^ 32 }
+        requires room { length (with_sort self.old width).lines < 2 ^ 32 - 1 }
         requires width { IsWidth width }
         ensures ok { OnOk result (self.new ≡ with_sort self.old width) }
         ensures nid { IfOk result (λ nid. nid ≡ sort_nid self.new.lines width) }
@@ -151,7 +151,7 @@ impl Draft {
     // Whether a value of this width has a number, and its sort, if that isn't there.
     fn has_room_for(&self, width: u32) -> bool
         requires { IsWidth width }
-        ensures { IsTrue result ↔ (suc (length (with_sort self.now width).lines) < 2 ^ 32) }
+        ensures { IsTrue result ↔ (suc (length (with_sort self.now width).lines) < 2 ^ 32 - 1) }
     {
         if self.known_sort(width) > 0 {
             self.has_room(1)
@@ -166,7 +166,7 @@ impl Draft {
         requires fits { NodeFits self.old.constants self.old.lines width node }
         ensures ok { OnOk result (self.new ≡ with_value self.old width node) }
         ensures pushed { IfOk result (Pushed self.old self.new width node) }
-        ensures full { (result ≡ Err Full) ↔ (2 ^ 32 ≤ length (with_value self.old width node).lines) }
+        ensures full { (result ≡ Err Full) ↔ (2 ^ 32 - 1 ≤ length (with_value self.old width node).lines) }
         ensures unchanged { result ≡ Err Full → self.new ≡ self.old }
         ensures memory { result ≡ Err Memory → Grows self.old self.new × KeepsLists self.old self.new }
     {
@@ -182,7 +182,7 @@ impl Draft {
 
     // Adds the line of a constant of this sort, with the next number, and its bits.
     fn push_bits(&mut self, sort: u32, bits: &[bool]) -> Result<u32, AllocError>
-        requires room { length self.old.lines + 1 < 2 ^ 32 }
+        requires room { length self.old.lines + 1 < 2 ^ 32 - 1 }
         requires width { IsWidth (length bits.now) }
         requires sort { sort_at self.old.lines sort ≡ length bits.now }
         requires bits { length self.old.constants < 2 ^ 32 }
@@ -200,7 +200,7 @@ impl Draft {
         requires width { IsWidth (length bits.now) }
         ensures ok { OnOk result (self.new ≡ with_constant self.old bits.now) }
         ensures pushed { IfOk result (PushedBits self.old self.new bits.now) }
-        ensures full { (result ≡ Err Full) ↔ ((2 ^ 32 ≤ length self.old.constants) ⊎ (2 ^ 32 ≤ length (with_constant self.old bits.now).lines)) }
+        ensures full { (result ≡ Err Full) ↔ ((2 ^ 32 ≤ length self.old.constants) ⊎ (2 ^ 32 - 1 ≤ length (with_constant self.old bits.now).lines)) }
         ensures unchanged { result ≡ Err Full → self.new ≡ self.old }
         ensures memory { result ≡ Err Memory → Grows self.old self.new × KeepsLists self.old self.new }
     {
@@ -220,7 +220,7 @@ impl Draft {
         requires fits { BodyFits self.old.constants self.old.lines body }
         requires plain { sort_width body ≡ 0 }
         ensures ok { OnOk result (self.new ≡ with_body self.old body) }
-        ensures full { (result ≡ Err Full) ↔ (2 ^ 32 ≤ suc (length self.old.lines)) }
+        ensures full { (result ≡ Err Full) ↔ (2 ^ 32 - 1 ≤ suc (length self.old.lines)) }
         ensures err { OnErr result (self.new ≡ self.old) }
     {
         if !self.has_room(1) {
@@ -234,7 +234,7 @@ impl Draft {
     pub fn init(&mut self, state: Word, value: Word) -> Result<(), DraftFault>
         requires { MayStart self.old.lines state value }
         ensures ok { OnOk result (self.new ≡ with_body self.old (Init (sort_nid self.old.lines state.width) state.nid value.nid)) }
-        ensures full { (result ≡ Err Full) ↔ (2 ^ 32 ≤ suc (length self.old.lines)) }
+        ensures full { (result ≡ Err Full) ↔ (2 ^ 32 - 1 ≤ suc (length self.old.lines)) }
         ensures err { OnErr result (self.new ≡ self.old) }
     {
         self.promise();
@@ -246,7 +246,7 @@ impl Draft {
     pub fn next(&mut self, state: Word, value: Word) -> Result<(), DraftFault>
         requires { MayGoOn self.old.lines state value }
         ensures ok { OnOk result (self.new ≡ with_body self.old (Next (sort_nid self.old.lines state.width) state.nid value.nid)) }
-        ensures full { (result ≡ Err Full) ↔ (2 ^ 32 ≤ suc (length self.old.lines)) }
+        ensures full { (result ≡ Err Full) ↔ (2 ^ 32 - 1 ≤ suc (length self.old.lines)) }
         ensures err { OnErr result (self.new ≡ self.old) }
     {
         self.promise();
@@ -258,7 +258,7 @@ impl Draft {
     pub fn constraint(&mut self, word: Word) -> Result<(), DraftFault>
         requires { width_at self.old.lines word.nid ≡ 1 }
         ensures ok { OnOk result (self.new ≡ with_body self.old (Constraint word.nid)) }
-        ensures full { (result ≡ Err Full) ↔ (2 ^ 32 ≤ suc (length self.old.lines)) }
+        ensures full { (result ≡ Err Full) ↔ (2 ^ 32 - 1 ≤ suc (length self.old.lines)) }
         ensures err { OnErr result (self.new ≡ self.old) }
     {
         self.say(Body::Constraint(word.nid))
@@ -268,7 +268,7 @@ impl Draft {
     pub fn bad(&mut self, word: Word) -> Result<(), DraftFault>
         requires { width_at self.old.lines word.nid ≡ 1 }
         ensures ok { OnOk result (self.new ≡ with_body self.old (Bad word.nid)) }
-        ensures full { (result ≡ Err Full) ↔ (2 ^ 32 ≤ suc (length self.old.lines)) }
+        ensures full { (result ≡ Err Full) ↔ (2 ^ 32 - 1 ≤ suc (length self.old.lines)) }
         ensures err { OnErr result (self.new ≡ self.old) }
     {
         self.say(Body::Bad(word.nid))

@@ -1,6 +1,6 @@
 //! Models: lines in file order, and the bits of their constants.
 
-ghost use Rattle.std.specs.Prelude.{◌≡◌, ◌<◌, ◌≤◌, ◌^◌, [], ◌∷◌, ◌++◌, length, All, OnErr, OnOk};
+ghost use Rattle.std.specs.Prelude.{◌≡◌, ◌<◌, ◌≤◌, ◌-◌, ◌^◌, [], ◌∷◌, ◌++◌, length, All, OnErr, OnOk};
 ghost use Rattle.btor_core.specs.Fits.{IsBtor, IsWidth, LineFits};
 ghost use Rattle.btor_core.specs.Shape.{sort_at};
 ghost use Rattle.btor_core.specs.declared.line.Body.TheVariants.{Value};
@@ -74,6 +74,7 @@ impl BtorModel {
     /// is as it was.
     pub fn push_constant(&mut self, nid: u32, sort: u32, bits: &[bool]) -> Result<(), AllocError>
         requires some { 1 ≤ nid }
+        requires limit { nid < 2 ^ 32 - 1 }
         requires rises { All (λ k. k.nid < nid) self.old.lines }
         requires width { IsWidth (length bits.now) }
         requires sort { sort_at self.old.lines sort ≡ length bits.now }

@@ -1,4 +1,4 @@
-use Rattle.std.proofs.Common.{◌≡◌, ◌+◌, ◌<◌, ◌^◌, ℕ, suc, List, ◌++◌, arith, ap, refl, sym, subst, length}
+use Rattle.std.proofs.Common.{◌≡◌, ◌+◌, ◌<◌, ◌-◌, ◌^◌, ℕ, suc, List, ◌++◌, arith, ap, refl, sym, subst, length}
 use Rattle.std.specs.Prelude.{All}
 use Rattle.btor_core.specs.Shape.{BtorOf}
 use Rattle.btor_core.specs.declared.line.Line.{Line}
@@ -17,7 +17,7 @@ pub invariant_of-self-2 : goal.invariant_of-self-2
 invariant_of-self-2 c =
     let m = c.self.inside.model in
     let bits = c.args.bits.now in
-    let room : suc (length m.lines) < 2 ^ 32 = subst (λ (n : BtorOf). suc (length n.lines) < 2 ^ 32) (sym c.self.view_is) (omega arith) in
+    let room : suc (length m.lines) < 2 ^ 32 - 1 = subst (λ (n : BtorOf). suc (length n.lines) < 2 ^ 32 - 1) (sym c.self.view_is) (omega arith) in
     let e : length c.lines.result.now ≡ length m.lines = ap (λ (ls : List Line). length ls) c.lines.ensures in
     rw c.in_ok-push_constant.ensures.ok
     (kept_body m c.self.inside.sorts.items (m.constants ++ bits) (body.Value c.args.sort (length bits) (node.Const (length m.constants))) (length c.lines.result.now + 1) c.self.invariant room (omega arith) refl)

@@ -12,4 +12,4 @@ invariant_of-self-in-Ok c =
     let sort = subst (λ (m : BtorOf). sort_at m.lines c.args.sort ≡ length bits) (sym c.self.view_is) c.requires.sort in
     let start : c.len-start.result ≡ length c.self.inside.constants.items = (let ok = c.self.inside.constants.ok.0 in omega (arith, c.len-start.ensures)) in
     rw (c.in-Ok.ensures.items, c.in_ok-extend_from_slice.ensures.items)
-    (btor_push_constant c.self.inside.constants.items bits c.self.inside.lines.items c.args.nid c.args.sort (length bits) c.len-start.result c.self.invariant c.requires.some (omega arith) rises refl c.requires.width sort start)
+    (btor_push_constant c.self.inside.constants.items bits c.self.inside.lines.items c.args.nid c.args.sort (length bits) c.len-start.result c.self.invariant c.requires.some c.requires.limit rises refl c.requires.width sort start)
