@@ -11,7 +11,7 @@ use Rattle.btor_core.specs.Shape.{BtorOf, at_nid, sort_width, state_width, value
 use Rattle.btor_core.specs.Fits.{BodyFits, HasValue, IsBtor, LineFits, NodeFits, TieFits}
 use Rattle.btor_core.proofs.Reading.{at_below, at_kept}
 use Rattle.btor_core.proofs.Rows.{each_value}
-use Rattle.btor_text.specs.Grammar.{Part, bits, body_parts, key, line_parts, node_parts, number}
+use Rattle.btor_text.specs.Grammar.{Part, bits, body_bits, body_parts, key, line_parts, node_bits, node_parts, number}
 
 -- a number of 32 bits, bits of which there is one at least
 abbrev pub IsSmall : Part → Type 0
@@ -34,7 +34,7 @@ module _ (before : List Line) (k : ℕ) (rises : All (λ l. l.nid < k) before) (
   value_small : (a : ℕ) → HasValue before a → a < 2 ^ 32
   value_small a h = read_small value_width a h
 
-  node_small : (constants : List Bool) (s w : ℕ) (n : Node) → ((a : ℕ) → HasValue before a → width_at before a ≤ 4096) → 1 ≤ w → w ≤ 4096 → s < 2 ^ 32 → NodeFits constants before w n → AllByRecursion IsSmall (node_parts constants s w n)
+  node_small : (constants : List Bool) (s w : ℕ) (n : Node) → ((a : ℕ) → HasValue before a → width_at before a ≤ 4096) → 1 ≤ w → w ≤ 4096 → s < 2 ^ 32 → NodeFits constants before w n → AllByRecursion IsSmall (node_parts (node_bits constants w n) s n)
   node_small constants s w node.Input wide some most sort f = (tt, (sort, tt))
   node_small constants s w node.State wide some most sort f = (tt, (sort, tt))
   node_small constants s w (node.Const start) wide some most sort f = (tt, (sort, ((let d = length-drop start constants in let t = length-take w (drop start constants) in let g = f.1 in omega arith), tt)))
@@ -55,7 +55,7 @@ module _ (before : List Line) (k : ℕ) (rises : All (λ l. l.nid < k) before) (
       let c = f.value in
       (read_small sort_width s f.sort, read_small state_width q (omega arith), read_small value_width v (omega arith))
 
-  body_small : (constants : List Bool) (b : Body) → ((a : ℕ) → HasValue before a → width_at before a ≤ 4096) → BodyFits constants before b → AllByRecursion IsSmall (body_parts constants b)
+  body_small : (constants : List Bool) (b : Body) → ((a : ℕ) → HasValue before a → width_at before a ≤ 4096) → BodyFits constants before b → AllByRecursion IsSmall (body_parts (body_bits constants b) b)
   body_small constants (body.Sort w) wide f = (tt, (tt, ((let g = f.1 in omega arith), tt)))
   body_small constants (body.Value s w n) wide f = node_small constants s w n wide f.width.0 f.width.1 (read_small sort_width s (let g = f.sort in let h = f.width.0 in omega arith)) f.node
   body_small constants (body.Init s q v) wide f = let t = tie_small s q v f.fits in (tt, (t.0, (t.1, (t.2, tt))))

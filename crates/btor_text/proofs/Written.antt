@@ -20,7 +20,7 @@ use Rattle.btor_core.specs.declared.line.Line.{Line}
 use Rattle.btor_core.specs.Shape.{BtorOf}
 use Rattle.btor_core.specs.Fits.{IsBtor}
 use Rattle.btor_core.proofs.Cuts.{all_cuts}
-use Rattle.btor_text.specs.Grammar.{IsNumber, IsPart, IsText, Part, Spells, all_words, binary_name, bits, bits_text, body_parts, digit_of, is_blank, key, line_parts, line_words, lines_of, node_parts, number, put_first, put_words, unary_name, uncommented, words_of}
+use Rattle.btor_text.specs.Grammar.{IsNumber, IsPart, IsText, Part, Spells, all_words, binary_name, bits, bits_text, body_bits, body_parts, digit_of, is_blank, key, line_parts, line_words, lines_of, node_parts, number, put_first, put_words, unary_name, uncommented, words_of}
 use Rattle.btor_text.specs.Text.{line_text, part_text, spaced, text_of}
 use Rattle.btor_text.proofs.Small.{IsSmall, line_small}
 
@@ -215,27 +215,27 @@ IsKey (key k) = is_plain k ≡ true
 IsKey (number n) = Unit {0}
 IsKey (bits bs) = Unit {0}
 
-node_keys : (constants : List Bool) (s w : ℕ) (n : Node) → AllByRecursion IsKey (node_parts constants s w n)
-node_keys constants s w node.Input = (refl, (tt, tt))
-node_keys constants s w node.State = (refl, (tt, tt))
-node_keys constants s w (node.Const start) = (refl, (tt, (tt, tt)))
-node_keys constants s w node.Zero = (refl, (tt, tt))
-node_keys constants s w node.One = (refl, (tt, tt))
-node_keys constants s w node.Ones = (refl, (tt, tt))
-node_keys constants s w (node.Unary k a) = (unary_plain k, (tt, (tt, tt)))
-node_keys constants s w (node.Binary k a b) = (binary_plain k, (tt, (tt, (tt, tt))))
-node_keys constants s w (node.Slice a upper lower) = (refl, (tt, (tt, (tt, (tt, tt)))))
-node_keys constants s w (node.Uext a by) = (refl, (tt, (tt, (tt, tt))))
-node_keys constants s w (node.Sext a by) = (refl, (tt, (tt, (tt, tt))))
-node_keys constants s w (node.Ite t a b) = (refl, (tt, (tt, (tt, (tt, tt)))))
+node_keys : (bs : List Bool) (s : ℕ) (n : Node) → AllByRecursion IsKey (node_parts bs s n)
+node_keys bs s node.Input = (refl, (tt, tt))
+node_keys bs s node.State = (refl, (tt, tt))
+node_keys bs s (node.Const start) = (refl, (tt, (tt, tt)))
+node_keys bs s node.Zero = (refl, (tt, tt))
+node_keys bs s node.One = (refl, (tt, tt))
+node_keys bs s node.Ones = (refl, (tt, tt))
+node_keys bs s (node.Unary k a) = (unary_plain k, (tt, (tt, tt)))
+node_keys bs s (node.Binary k a b) = (binary_plain k, (tt, (tt, (tt, tt))))
+node_keys bs s (node.Slice a upper lower) = (refl, (tt, (tt, (tt, (tt, tt)))))
+node_keys bs s (node.Uext a by) = (refl, (tt, (tt, (tt, tt))))
+node_keys bs s (node.Sext a by) = (refl, (tt, (tt, (tt, tt))))
+node_keys bs s (node.Ite t a b) = (refl, (tt, (tt, (tt, (tt, tt)))))
 
-body_keys : (constants : List Bool) (b : Body) → AllByRecursion IsKey (body_parts constants b)
-body_keys constants (body.Sort w) = (refl, (refl, (tt, tt)))
-body_keys constants (body.Value s w n) = node_keys constants s w n
-body_keys constants (body.Init s q v) = (refl, (tt, (tt, (tt, tt))))
-body_keys constants (body.Next s q v) = (refl, (tt, (tt, (tt, tt))))
-body_keys constants (body.Bad n) = (refl, (tt, tt))
-body_keys constants (body.Constraint n) = (refl, (tt, tt))
+body_keys : (bs : List Bool) (b : Body) → AllByRecursion IsKey (body_parts bs b)
+body_keys bs (body.Sort w) = (refl, (refl, (tt, tt)))
+body_keys bs (body.Value s w n) = node_keys bs s n
+body_keys bs (body.Init s q v) = (refl, (tt, (tt, (tt, tt))))
+body_keys bs (body.Next s q v) = (refl, (tt, (tt, (tt, tt))))
+body_keys bs (body.Bad n) = (refl, (tt, tt))
+body_keys bs (body.Constraint n) = (refl, (tt, tt))
 
 -- what is known of numbers from another crate
 abbrev pub Law : Type 0
@@ -261,7 +261,7 @@ number_written law zero h =
 number_written law (suc n) h =
     let e : number_upto 4294967295 (decimal (suc n)) ≡ Some (suc n) = (law 4294967295 (suc n) (decimal (suc n)) (lit≤ tt)).1 (refl, omega arith, omega arith) in
     let p = some_of (is_number (decimal (suc n))) (leb (digits_value 10 (decimal (suc n))) 4294967295) (digits_value 10 (decimal (suc n))) (suc n) e in
-    record { number = record { digits = rw p.0 refl; value = p.1 }; plain = number_plain (decimal (suc n)) p.0 }
+    record { number = record { digits = rw p.0 refl; value = (let v = p.1 in omega arith) }; plain = number_plain (decimal (suc n)) p.0 }
 
 part_plain : Law → (p : Part) → IsSmall p → IsKey p → is_plain (part_text p) ≡ true
 part_plain law (key k) s h = h
@@ -285,9 +285,9 @@ lines_written : Law → (constants : List Bool) (lines : List Line) → AllByRec
 lines_written law constants [] s = tt
 lines_written law constants (l ∷ lines) s =
     let first : List ℕ = decimal l.nid in
-    let more : List (List ℕ) = map part_text (body_parts constants l.body) in
+    let more : List (List ℕ) = map part_text (body_parts (body_bits constants l.body) l.body) in
     let rest : List ℕ = flat_map (line_text constants) lines in
-    let plain : list_all is_plain (first ∷ more) ≡ true = parts_plain law (line_parts constants l) s.0 (tt, body_keys constants l.body) in
+    let plain : list_all is_plain (first ∷ more) ≡ true = parts_plain law (line_parts constants l) s.0 (tt, body_keys (body_bits constants l.body) l.body) in
     let is = line_is first more rest plain in
     let cut : all_words (lines_of (spaced (first ∷ more) ++ rest)) ≡ (first ∷ more) ∷ all_words (lines_of rest) =
     ap (λ (ts : List (List ℕ)). all_words ts) is.0 ∙ ap (λ (ws : List (List ℕ)). put_words ws (all_words (lines_of rest))) is.1 in

@@ -1,5 +1,5 @@
 -- The text of BTOR2: lines, the words of each, and which line of a model they are.
-use Rattle.std.specs.Prelude.{◌≡◌, ◌⊎◌, ℕ, Bool, true, false, cond, ◌||◌, eqb, IsTrue, List, [], ◌∷◌, ◌++◌, take, drop, codes, bytes_eq}
+use Rattle.std.specs.Prelude.{◌≡◌, ◌⊎◌, ℕ, Bool, true, false, cond, ◌||◌, eqb, IsTrue, List, [], ◌∷◌, ◌++◌, take, drop, min, ◌^◌, ◌-◌, codes, bytes_eq}
 use Rattle.std.specs.List.{AllZip}
 use Rattle.std.specs.Str.Parse.{digits_value}
 use Rattle.sby_terms.specs.Number.{is_number}
@@ -77,36 +77,59 @@ binary_name binary.Slt = codes "slt"
 binary_name binary.Slte = codes "slte"
 binary_name binary.Concat = codes "concat"
 
--- the words of a value's line after its nid: one line for each node
-abbrev pub node_parts : List Bool → ℕ → ℕ → Node → List Part
-node_parts constants s w node.Input = key (codes "input") ∷ number s ∷ []
-node_parts constants s w node.State = key (codes "state") ∷ number s ∷ []
-node_parts constants s w (node.Const start) = key (codes "const") ∷ number s ∷ bits (take w (drop start constants)) ∷ []
-node_parts constants s w node.Zero = key (codes "zero") ∷ number s ∷ []
-node_parts constants s w node.One = key (codes "one") ∷ number s ∷ []
-node_parts constants s w node.Ones = key (codes "ones") ∷ number s ∷ []
-node_parts constants s w (node.Unary k a) = key (unary_name k) ∷ number s ∷ number a ∷ []
-node_parts constants s w (node.Binary k a b) = key (binary_name k) ∷ number s ∷ number a ∷ number b ∷ []
-node_parts constants s w (node.Slice a upper lower) = key (codes "slice") ∷ number s ∷ number a ∷ number upper ∷ number lower ∷ []
-node_parts constants s w (node.Uext a by) = key (codes "uext") ∷ number s ∷ number a ∷ number by ∷ []
-node_parts constants s w (node.Sext a by) = key (codes "sext") ∷ number s ∷ number a ∷ number by ∷ []
-node_parts constants s w (node.Ite t a b) = key (codes "ite") ∷ number s ∷ number t ∷ number a ∷ number b ∷ []
+-- the words of a value's line after its nid, a constant having these bits: one line for each node
+abbrev pub node_parts : List Bool → ℕ → Node → List Part
+node_parts bs s node.Input = key (codes "input") ∷ number s ∷ []
+node_parts bs s node.State = key (codes "state") ∷ number s ∷ []
+node_parts bs s (node.Const start) = key (codes "const") ∷ number s ∷ bits bs ∷ []
+node_parts bs s node.Zero = key (codes "zero") ∷ number s ∷ []
+node_parts bs s node.One = key (codes "one") ∷ number s ∷ []
+node_parts bs s node.Ones = key (codes "ones") ∷ number s ∷ []
+node_parts bs s (node.Unary k a) = key (unary_name k) ∷ number s ∷ number a ∷ []
+node_parts bs s (node.Binary k a b) = key (binary_name k) ∷ number s ∷ number a ∷ number b ∷ []
+node_parts bs s (node.Slice a upper lower) = key (codes "slice") ∷ number s ∷ number a ∷ number upper ∷ number lower ∷ []
+node_parts bs s (node.Uext a by) = key (codes "uext") ∷ number s ∷ number a ∷ number by ∷ []
+node_parts bs s (node.Sext a by) = key (codes "sext") ∷ number s ∷ number a ∷ number by ∷ []
+node_parts bs s (node.Ite t a b) = key (codes "ite") ∷ number s ∷ number t ∷ number a ∷ number b ∷ []
 
 abbrev pub body_parts : List Bool → Body → List Part
-body_parts constants (body.Sort w) = key (codes "sort") ∷ key (codes "bitvec") ∷ number w ∷ []
-body_parts constants (body.Value s w n) = node_parts constants s w n
-body_parts constants (body.Init s q v) = key (codes "init") ∷ number s ∷ number q ∷ number v ∷ []
-body_parts constants (body.Next s q v) = key (codes "next") ∷ number s ∷ number q ∷ number v ∷ []
-body_parts constants (body.Bad n) = key (codes "bad") ∷ number n ∷ []
-body_parts constants (body.Constraint n) = key (codes "constraint") ∷ number n ∷ []
+body_parts bs (body.Sort w) = key (codes "sort") ∷ key (codes "bitvec") ∷ number w ∷ []
+body_parts bs (body.Value s w n) = node_parts bs s n
+body_parts bs (body.Init s q v) = key (codes "init") ∷ number s ∷ number q ∷ number v ∷ []
+body_parts bs (body.Next s q v) = key (codes "next") ∷ number s ∷ number q ∷ number v ∷ []
+body_parts bs (body.Bad n) = key (codes "bad") ∷ number n ∷ []
+body_parts bs (body.Constraint n) = key (codes "constraint") ∷ number n ∷ []
+
+-- the bits of a constant's line; none of another
+abbrev pub node_bits : List Bool → ℕ → Node → List Bool
+node_bits constants w node.Input = []
+node_bits constants w node.State = []
+node_bits constants w (node.Const start) = take w (drop start constants)
+node_bits constants w node.Zero = []
+node_bits constants w node.One = []
+node_bits constants w node.Ones = []
+node_bits constants w (node.Unary k a) = []
+node_bits constants w (node.Binary k a b) = []
+node_bits constants w (node.Slice a upper lower) = []
+node_bits constants w (node.Uext a by) = []
+node_bits constants w (node.Sext a by) = []
+node_bits constants w (node.Ite s a b) = []
+
+abbrev pub body_bits : List Bool → Body → List Bool
+body_bits constants (body.Sort w) = []
+body_bits constants (body.Value s w n) = node_bits constants w n
+body_bits constants (body.Init s q v) = []
+body_bits constants (body.Next s q v) = []
+body_bits constants (body.Bad n) = []
+body_bits constants (body.Constraint n) = []
 
 abbrev pub line_parts : List Bool → Line → List Part
-line_parts constants l = number l.nid ∷ body_parts constants l.body
+line_parts constants l = number l.nid ∷ body_parts (body_bits constants l.body) l.body
 
--- a decimal number: digits without a leading 0, or 0 itself
+-- a decimal number: digits without a leading 0, or 0 itself; the greatest number of 32 bits stands for all past it, as no line has it
 pub record IsNumber (word : List ℕ) (n : ℕ) : Type 0 where
   pub digits : IsTrue (is_number word || bytes_eq word (codes "0"))
-  pub value : digits_value 10 word ≡ n
+  pub value : min (digits_value 10 word) (2 ^ 32 - 1) ≡ n
 
 -- a digit for each bit
 abbrev pub digit_of : Bool → ℕ
