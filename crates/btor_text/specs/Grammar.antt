@@ -18,6 +18,13 @@ use Rattle.btor_core.specs.Shape.{BtorOf}
 abbrev pub is_blank : ℕ → Bool
 is_blank b = eqb b 32 || (eqb b 9 || eqb b 13)
 
+abbrev pub is_feed : ℕ → Bool
+is_feed b = eqb b 10
+
+-- a `;` begins a comment
+abbrev pub is_comment : ℕ → Bool
+is_comment b = eqb b 59
+
 abbrev pub put_first : ℕ → List (List ℕ) → List (List ℕ)
 put_first b [] = (b ∷ []) ∷ []
 put_first b (t ∷ ts) = (b ∷ t) ∷ ts
@@ -25,7 +32,7 @@ put_first b (t ∷ ts) = (b ∷ t) ∷ ts
 -- the lines of a text: each ends with a line feed or with the end of the text
 abbrev pub lines_of : List ℕ → List (List ℕ)
 lines_of [] = []
-lines_of (b ∷ bytes) = cond (eqb b 10) ([] ∷ lines_of bytes) (put_first b (lines_of bytes))
+lines_of (b ∷ bytes) = cond (is_feed b) ([] ∷ lines_of bytes) (put_first b (lines_of bytes))
 
 -- the longest runs of visible bytes
 abbrev pub words_of : List ℕ → List (List ℕ)
@@ -36,7 +43,7 @@ words_of (b ∷ c ∷ bytes) = cond (is_blank b) (words_of (c ∷ bytes)) (cond 
 -- a line without its comment, which runs from `;` to the line's end
 abbrev pub uncommented : List ℕ → List ℕ
 uncommented [] = []
-uncommented (b ∷ bytes) = cond (eqb b 59) [] (b ∷ uncommented bytes)
+uncommented (b ∷ bytes) = cond (is_comment b) [] (b ∷ uncommented bytes)
 
 abbrev pub line_words : List ℕ → List (List ℕ)
 line_words text = words_of (uncommented text)
