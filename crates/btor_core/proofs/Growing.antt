@@ -1,5 +1,5 @@
 -- Models as they grow: their lists, and what an added value says.
-use Rattle.std.proofs.Common.{◌≡◌, ℕ, suc, ◌<◌, ◌≤◌, Bool, true, false, cond, eqb, take, drop, List, [], ◌∷◌, ◌++◌, refl, sym, ap, ◌∙◌, subst, length, append_assoc}
+use Rattle.std.proofs.Common.{arith, length-append, ◌≡◌, ℕ, suc, ◌<◌, ◌≤◌, Bool, true, false, cond, eqb, take, drop, List, [], ◌∷◌, ◌++◌, refl, sym, ap, ◌∙◌, subst, length, append_assoc}
 use Rattle.std.specs.Prelude.{All}
 use Rattle.std.specs.List.{flat_map}
 use Rattle.std.proofs.lemmas.List.{append-nil}
@@ -19,6 +19,10 @@ use Rattle.btor_core.proofs.Cuts.{all_at}
 use Rattle.btor_core.proofs.Fitting.{no_constant, node_later}
 use Rattle.btor_core.proofs.Numbering.{numbers_below, numbered_sort, sort_found, sort_some}
 use Rattle.btor_core.proofs.Reading.{at_new}
+
+-- a word by its parts
+abbrev pub same_word : ℕ → ℕ → Word
+same_word k w = record { nid = k; width = w }
 
 pub grows_same : (m : BtorOf) → Grows m m
 grows_same m = record { more = []; bits = []; lines = sym (append-nil m.lines); constants = sym (append-nil m.constants) }
@@ -155,3 +159,9 @@ pushed_bits m bits a numbered nid size =
       width = ap (λ (k : ℕ). width_at (s.lines ++ l ∷ []) k) nid ∙ at_new value_width s.lines [] l rises;
       holds = λ vs h. ap (λ (k : ℕ). vs k) nid ∙ all_at (LineHolds all.constants vs) all.lines s.lines [] l refl h ∙ constant_read s.constants bits;
     }
+
+-- the last line's number is how many lines there are
+pub last_word : (m : BtorOf) (ls : List Line) (l : Line) (k w : ℕ) → m.lines ≡ ls ++ l ∷ [] → k ≡ suc (length ls) → same_word k w ≡ same_word (length m.lines) w
+last_word m ls l k w e n =
+    let long : length m.lines ≡ suc (length ls) = ap (λ (xs : List Line). length xs) e ∙ (let a = length-append ls (l ∷ []) in omega arith) in
+    ap (λ (j : ℕ). same_word j w) (n ∙ sym long)

@@ -165,6 +165,7 @@ impl Draft {
         requires width { IsWidth width }
         requires fits { NodeFits self.old.constants self.old.lines width node }
         ensures ok { OnOk result (self.new ≡ with_value self.old width node) }
+        ensures word { IfOk result (λ a. a ≡ record { nid = length self.new.lines; width = width }) }
         ensures pushed { IfOk result (Pushed self.old self.new width node) }
         ensures full { (result ≡ Err Full) ↔ (2 ^ 32 - 1 ≤ length (with_value self.old width node).lines) }
         ensures unchanged { result ≡ Err Full → self.new ≡ self.old }
@@ -199,6 +200,7 @@ impl Draft {
     pub fn constant(&mut self, bits: &[bool]) -> Result<Word, DraftFault>
         requires width { IsWidth (length bits.now) }
         ensures ok { OnOk result (self.new ≡ with_constant self.old bits.now) }
+        ensures word { IfOk result (λ a. a ≡ record { nid = length self.new.lines; width = length bits.now }) }
         ensures pushed { IfOk result (PushedBits self.old self.new bits.now) }
         ensures full { (result ≡ Err Full) ↔ ((2 ^ 32 ≤ length self.old.constants) ⊎ (2 ^ 32 - 1 ≤ length (with_constant self.old bits.now).lines)) }
         ensures unchanged { result ≡ Err Full → self.new ≡ self.old }

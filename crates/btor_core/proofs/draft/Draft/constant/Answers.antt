@@ -2,7 +2,10 @@ use Rattle.std.proofs.Common.{◌≡◌, ◌∙◌, ap, refl, suc, sym, subst, l
 use Rattle.btor_core.specs.Shape.{BtorOf}
 use Rattle.btor_core.specs.Growth.{PushedBits, sort_nid, with_bits, with_constant, with_sort}
 use Rattle.btor_core.specs.declared.line.Word.{Word}
-use Rattle.btor_core.proofs.Growing.{grows_same, keeps_same, pushed_bits, sort_fits, sort_memory}
+use Rattle.btor_core.specs.declared.line.Line.{Line}
+use Rattle.btor_core.specs.declared.line.Body.TheVariants as body
+use Rattle.btor_core.specs.declared.line.Node.TheVariants as node
+use Rattle.btor_core.proofs.Growing.{grows_same, keeps_same, last_word, pushed_bits, sort_fits, sort_memory}
 use Rattle.btor_core.proofs.draft.Draft.constant.Goals as goal
 
 pub returns-in_err-sort-clause-memory : goal.returns-in_err-sort-clause-memory
@@ -24,3 +27,8 @@ returns-clause-pushed c =
     c.in_ok-nid.ensures.ok ∙ ap (λ (k : _). with_bits c.sort.new.self k bits) c.in_ok-sort.ensures.nid ∙ ap (λ (n : BtorOf). with_bits n (sort_nid n.lines w) bits) c.in_ok-sort.ensures.ok in
     let nid : a.nid ≡ suc (length (with_sort m w).lines) = c.in_ok-nid.ensures.nid ∙ ap (λ (n : BtorOf). suc (length n.lines)) c.in_ok-sort.ensures.ok in
     subst (λ (n : BtorOf). PushedBits m n bits a) (sym all) (pushed_bits m bits a c.promise.ensures.numbered nid refl)
+
+pub returns-clause-word : goal.returns-clause-word
+returns-clause-word c =
+    let l : Line = record { nid = suc (length c.sort.new.self.lines); body = body.Value c.in_ok-sort.sort (length c.args.bits.now) (node.Const (length c.sort.new.self.constants)) } in
+    last_word c.push_bits.new.self c.sort.new.self.lines l c.in_ok-nid.nid (length c.args.bits.now) (ap (λ (n : BtorOf). n.lines) c.in_ok-nid.ensures.ok) c.in_ok-nid.ensures.nid
