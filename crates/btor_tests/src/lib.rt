@@ -1,0 +1,5 @@
+//! Tests of BTOR2 models and their text.
+#![tactic(auto)]
+
+#[cfg(test)]
+mod tests;

@@ -1,0 +1,4 @@
+pub mod Written
+pub mod Small
+pub mod Back
+pub mod OneModel
