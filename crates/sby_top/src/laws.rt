@@ -2,12 +2,10 @@
 // the judge that it cites.
 
 ghost use Rattle.std.specs.Prelude.{◌≡◌, ◌≢◌, ◌⊎◌, ◌+◌, ◌<◌, ◌≤◌, [], ◌∷◌, ◌++◌, ℕ, true, List, IsSome, None, Option, length, map, slice_get, take, Some};
-ghost use Rattle.cert_stream.specs.Text.{is_blank};
-ghost use Rattle.cert_judge.specs.DrupCert.{IsCert};
+ghost use Rattle.cert_judge.specs.KindCert.{HoldsCert};
 ghost use Rattle.cert_judge.specs.Kinds.{IsFate};
 ghost use Rattle.cert_judge.specs.Fate.{Fate, Found};
 ghost use Rattle.cert_judge.specs.declared.stream.StreamKind.{StreamKind};
-ghost use Rattle.cert_judge.specs.declared.stream.StreamKind.TheVariants.{Drup};
 ghost use Rattle.design_core.specs.Shape.{DesignOf};
 ghost use Rattle.design_reader.specs.Grammar.{Reads};
 ghost use Rattle.judge.specs.Fault.{IsProblemFault};
@@ -44,7 +42,7 @@ ghost use Rattle.sby_top.specs.declared.outcome.Done.{Done};
 ghost use Rattle.sby_top.specs.declared.outcome.TaskEnd.{TaskEnd};
 ghost use Rattle.task_race.specs.Ends.{IsFateOf, script_of};
 
-use cert_judge::{certificate_is_found, certificate_is_found_before_more, one_fate, some_fate};
+use cert_judge::{held_certificates_are_found, one_fate, some_fate};
 use judge::{files_tell_what_jobs_ask, findings_tell_what_can_be_solved, one_file};
 use sby_edge::Clock;
 
@@ -85,22 +83,17 @@ pub fn valid_certificates_give_their_verdict<C: Clock>(clock: &C)
     one_file();
 }
 
-/// A stored certificate in DRUP text gives its verdict: of `--judge` in bmc, where memory did not run out, and the one stream, whose path
-/// names no other kind, is a certificate of the job's file, of at most 2^32 bytes, as both stand when the task is judged; or where it goes on
-/// after one, with white space or a line feed within these bytes and whatever comes then.
+/// A stored certificate of any kind gives its verdict: of `--judge` in bmc, where memory did not run out, and the one stream, of the kind that
+/// its path names, begins with a certificate of the job's file that counts within 2^32 bytes, whatever comes then, or is a proof file that
+/// its end completes, as both stand when the task is judged.
 pub fn stored_certificate_gives_its_verdict<C: Clock>(clock: &C)
-    ensures alone { (before after : World) (m : Moments) (words : List (List ℕ)) (done : Done) (j : JudgeRequest) (end : TaskEnd) (now : Store) (path cert file : List ℕ) (answer : Answer)
+    ensures { (before after : World) (m : Moments) (words : List (List ℕ)) (done : Done) (j : JudgeRequest) (end : TaskEnd) (now : Store) (path stream file : List ℕ) (kind : StreamKind) (answer : Answer)
         → (is : IsTaskOf (C.may_read clock.now) before after words done m (judge_task j) end) → IsJudgedAt (C.may_read clock.now) is.place m (judge_task j) end now → j.mode ≡ Bmc → end.status ≢ Memory
-        → j.streams ≡ path ∷ [] → IsKindNamed path Drup → now path ≡ Some cert → now (job_path j.folder 1 (Base 0)) ≡ Some file → IsCert file cert answer → length cert ≤ most_stream → end.status ≡ status_for answer }
-    ensures followed { (before after : World) (m : Moments) (words : List (List ℕ)) (done : Done) (j : JudgeRequest) (end : TaskEnd) (now : Store) (path cert rest file : List ℕ) (b : ℕ) (answer : Answer)
-        → (is : IsTaskOf (C.may_read clock.now) before after words done m (judge_task j) end) → IsJudgedAt (C.may_read clock.now) is.place m (judge_task j) end now → j.mode ≡ Bmc → end.status ≢ Memory
-        → j.streams ≡ path ∷ [] → IsKindNamed path Drup → now path ≡ Some (cert ++ b ∷ rest) → now (job_path j.folder 1 (Base 0)) ≡ Some file
-        → IsCert file cert answer → (is_blank b ≡ true) ⊎ (b ≡ 10) → length cert < most_stream → end.status ≡ status_for answer }
+        → j.streams ≡ path ∷ [] → IsKindNamed path kind → now path ≡ Some stream → now (job_path j.folder 1 (Base 0)) ≡ Some file → HoldsCert kind file stream most_stream answer → end.status ≡ status_for answer }
 {
     one_fate();
     one_file();
-    certificate_is_found();
-    certificate_is_found_before_more();
+    held_certificates_are_found();
 }
 
 /// A valid certificate of a child, judged in time, gives its verdict, PASS for Unsat and FAIL for Sat: of bmc of one slice, where the script
