@@ -1,9 +1,11 @@
 -- What the lanes of a race have done.
-use Rattle.std.specs.Prelude.{◌≡◌, ℕ, List, [], Some, length, replicate, slice_get}
+use Rattle.std.specs.Prelude.{◌≡◌, ℕ, ◌<◌, ◌≤◌, All, List, [], Some, length, map, replicate, slice_get, slice_index_or, vec_capacity}
 use Rattle.race_cells.specs.Notes.{NoteOf, AreNotesOf}
 use Rattle.race_core.specs.Parts.{Terms}
 use Rattle.race_core.specs.Report.{ReportOf, no_events}
 use Rattle.lane_run.specs.Done.{LaneSoFar}
+use Rattle.lane_run.specs.declared.prepare.FreshLanes.{FreshLanes}
+use Rattle.lane_run.specs.declared.racing.Lane.{Lane}
 
 -- Each lane, one report of each in their order, has done all its jobs, and one note knows what their events say.
 pub record LanesDone {T : Type 0} (For : ℕ → T → Type 0) (serves : ℕ → ℕ → Type 0) (terms : ℕ → Terms T) (may_read : ℕ → Type 0) (jobs : ℕ)
@@ -19,3 +21,15 @@ IsReady cells r notes = (r.jobs ≡ length cells) × (r.ends ≡ []) × (r.event
 abbrev pub HasDone : {T : Type 0} → (ℕ → T → Type 0) → (ℕ → ℕ → Type 0) → (ℕ → Terms T) → (ℕ → Type 0) → List ℕ → ReportOf T → List (NoteOf T) → Type 0
 HasDone For serves terms may_read cells r notes =
     LaneSoFar For (serves r.lane) terms may_read (length cells) notes r × (r.jobs ≡ length cells) × AreNotesOf cells notes
+
+-- the bays of lanes, in their order
+abbrev pub bays_of : {L T : Type 0} → FreshLanes L T → List L
+bays_of fresh = map (λ l. l.bay) fresh.lanes.items
+
+-- Lanes that can run, counted from 0 in their order; what they leave has room, and a note of the cells that knows nothing yet of theirs.
+pub record AreReady {L T : Type 0} (cells : List ℕ) (fresh : FreshLanes L T) : Type 0 where
+  pub each : All (λ l. IsReady cells l.report l.notes) fresh.lanes.items
+  pub places : (i : ℕ) (d : Lane L T) → i < length fresh.lanes.items → (slice_index_or fresh.lanes.items i d).report.lane ≡ i
+  pub bays : (fresh.raced.bays.items ≡ []) × (length fresh.lanes.items ≤ vec_capacity fresh.raced.bays)
+  pub reports : (fresh.raced.reports.items ≡ []) × (length fresh.lanes.items ≤ vec_capacity fresh.raced.reports)
+  pub notes : AreNotesOf cells fresh.raced.notes

@@ -1,10 +1,10 @@
 // What a race needs before its lanes run. All memory is taken before the first bay is moved.
 
-ghost use Rattle.std.specs.Prelude.{◌≡◌, ◌<◌, ◌≤◌, ◌^◌, ℕ, [], All, IfErr, IfOk, length, map, slice_index_or, vec_capacity};
+ghost use Rattle.std.specs.Prelude.{◌≡◌, ◌<◌, ◌≤◌, ◌^◌, ℕ, List, [], All, IfErr, IfOk, length, map, slice_index_or, vec_capacity};
 ghost use Rattle.race_cells.specs.Notes.{AreNotesOf};
-ghost use Rattle.lane_run.specs.Raced.{IsReady};
+ghost use Rattle.lane_run.specs.Raced.{AreReady, IsReady, bays_of};
 
-use crate::gather::Raced;
+use crate::gather::{Raced, gather};
 use crate::racing::Lane;
 use race_cells::{Cells, Notes};
 use race_core::Report;
@@ -25,8 +25,8 @@ struct Room<L, T> {
     raced: Raced<L, T>,
 }
 
-// Lanes that have done nothing yet, and the room for what they leave.
-pub(crate) struct Fresh<L, T> {
+/// Lanes that have done nothing yet, in their bays, and the room for what they leave.
+pub struct FreshLanes<L, T> {
     pub(crate) lanes: Vec<Lane<L, T>>,
     pub(crate) raced: Raced<L, T>,
 }
@@ -132,22 +132,19 @@ fn take_seats<L, T: Drop>(seats: Vec<Seat<T>>, bays: Vec<L>, lanes: &mut Vec<Lan
     left.destroy_empty();
 }
 
-// A lane that has done nothing yet for each bay. Where memory runs out, the bays come back.
-pub(crate) fn fresh_lanes<L, T: Settled + Drop>(
+/// A lane that can run for each bay, and all memory that their race takes before its first child. Where memory runs out, the bays come
+/// back.
+pub fn fresh_lanes<L, T: Settled + Drop>(
     alloc: Global,
     cells: &Cells<T>,
     jobs: u32,
     bays: Vec<L>,
-) -> Result<Fresh<L, T>, Vec<L>>
+) -> Result<FreshLanes<L, T>, Vec<L>>
     requires jobs { jobs ≡ length cells.now }
     requires few { length bays.items < 2 ^ 32 }
     ensures given_back { IfErr result (λ given. given.items ≡ bays.items) }
-    ensures ready { IfOk result (λ f. All (λ l. IsReady cells.now l.report l.notes) f.lanes.items) }
-    ensures places { IfOk result (λ f. (i : ℕ) (d : Lane L T) → i < length f.lanes.items → (slice_index_or f.lanes.items i d).report.lane ≡ i) }
-    ensures bays { IfOk result (λ f. map (λ l. l.bay) f.lanes.items ≡ bays.items) }
-    ensures fresh { IfOk result (λ f. (f.raced.bays.items ≡ []) × (f.raced.reports.items ≡ [])) }
-    ensures notes { IfOk result (λ f. AreNotesOf cells.now f.raced.notes) }
-    ensures room { IfOk result (λ f. (length bays.items ≤ vec_capacity f.raced.bays) × (length bays.items ≤ vec_capacity f.raced.reports)) }
+    ensures ready { IfOk result (λ f. AreReady cells.now f) }
+    ensures bays { IfOk result (λ f. bays_of f ≡ bays.items) }
 {
     let Ok(room) = fresh_room(alloc, cells, jobs, bays.len() as u32) else {
         return Err(bays);
@@ -158,5 +155,20 @@ pub(crate) fn fresh_lanes<L, T: Settled + Drop>(
         raced,
     } = room;
     take_seats(seats, bays, &mut lanes);
-    Ok(Fresh { lanes, raced })
+    Ok(FreshLanes { lanes, raced })
+}
+
+/// The bays of lanes that aren't run after all, as they were.
+pub fn spare_lanes<L, T: Drop>(fresh: FreshLanes<L, T>) -> Vec<L>
+    requires { (cells : List ℕ) × AreReady cells fresh }
+    ensures { result.items ≡ bays_of fresh }
+{
+    let FreshLanes { lanes, mut raced } = fresh;
+    gather(lanes, &mut raced);
+    let Raced {
+        bays,
+        reports: _,
+        notes: _,
+    } = raced;
+    bays
 }

@@ -6,13 +6,13 @@ ghost use Rattle.lane_run.specs.Asked.{IsFor, terms_at};
 ghost use Rattle.race_core.specs.Consistent.{Consistent};
 ghost use Rattle.race_core.specs.Report.{ReportOf};
 ghost use Rattle.lane_run.specs.Done.{LaneFaults, LaneStops};
-ghost use Rattle.lane_run.specs.Raced.{HasDone, IsReady, LanesDone};
+ghost use Rattle.lane_run.specs.Raced.{AreReady, HasDone, IsReady, LanesDone, bays_of};
 ghost use Rattle.lane_run.specs.Started.{LaneStarts};
 
 use crate::Makes;
 use crate::gather::{Raced, gather};
 use crate::lane::run_lane;
-use crate::prepare::{Fresh, fresh_lanes};
+use crate::prepare::{FreshLanes, fresh_lanes};
 use crate::task::Task;
 use race_cells::Notes;
 use race_core::Report;
@@ -95,6 +95,38 @@ pub fn run_lanes<
     thread::for_each_mut(rt, lanes, count, &run);
 }
 
+/// Runs lanes that have done nothing yet beside each other, and gathers what they leave. Lanes are counted from 0, in the order of their
+/// bays; a lane's ends tell of failed calls only where the counts of the bay at its place rose, and its starts are those that this bay
+/// tells. Where there is a limit, its start is a reading that the clock may give.
+pub fn race_fresh<
+    R: Threads + Wait + Sync,
+    L: Launch + Send,
+    M: Makes<T> + Sync,
+    T: Settled + Drop + Send + Sync,
+    C: Clock,
+>(rt: &R, alloc: Global, task: &Task<'_, M, T, C>, fresh: FreshLanes<L, T>) -> Raced<L, T>
+    requires ready { AreReady task.now.cells.now fresh }
+    requires start { IfSome task.now.limit.millis (λ millis. C.may_read task.now.clock.now task.now.limit.start) }
+    ensures consistent { Consistent (IsFor T.problem T.job (M.problem task.now.makes.now) task.now.mode) (λ i k. M.is_served task.now.makes.now i (name_at task.now.mode k))
+        (λ k. terms_of T.job T.answer (terms_at task.now.mode task.now.limit k)) (length (bays_of fresh)) (length task.now.cells.now) result.reports.items }
+    ensures done { LanesDone (IsFor T.problem T.job (M.problem task.now.makes.now) task.now.mode) (λ i k. M.is_served task.now.makes.now i (name_at task.now.mode k))
+        (λ k. terms_of T.job T.answer (terms_at task.now.mode task.now.limit k)) (C.may_read task.now.clock.now) (length task.now.cells.now) result.notes result.reports.items }
+    ensures bays { length result.bays.items ≡ length (bays_of fresh) }
+    ensures faults { (i : ℕ) (b d : L) (q : ReportOf T) → slice_get (bays_of fresh) i ≡ Some b → slice_get result.bays.items i ≡ Some d → slice_get result.reports.items i ≡ Some q
+        → LaneFaults (record { starts = L.start_faults b; reads = L.read_faults b; holds = L.hold_faults b }) (record { starts = L.start_faults d; reads = L.read_faults d; holds = L.hold_faults d }) (length task.now.cells.now) q }
+    ensures starts { (i : ℕ) (b d : L) (q : ReportOf T) → slice_get (bays_of fresh) i ≡ Some b → slice_get result.bays.items i ≡ Some d → slice_get result.reports.items i ≡ Some q
+        → LaneStarts (M.words task.now.makes.now i) (M.file task.now.makes.now) (M.stands task.now.makes.now i) (M.ends task.now.makes.now i) (M.proves task.now.makes.now i) (M.most task.now.makes.now) (M.most_output task.now.makes.now i) task.now.mode (L.told b) (L.told d) (length task.now.cells.now) q }
+    ensures stopped { All (λ q. LaneStops (C.may_read task.now.clock.now) task.now.limit (length task.now.cells.now) q) result.reports.items }
+{
+    let FreshLanes {
+        mut lanes,
+        mut raced,
+    } = fresh;
+    run_lanes(rt, alloc, task, lanes.as_mut_slice());
+    gather(lanes, &mut raced);
+    raced
+}
+
 /// Races the lanes of a task, one for each bay, beside each other. Where memory runs out, it gives back the bays as they were, and no
 /// child was started. Lanes are counted from 0, in the order of the bays; a lane's ends tell of failed calls only where the counts of
 /// the bay at its place rose, and its starts are those that this bay tells. Where there is a limit, its start is a reading that the
@@ -127,11 +159,6 @@ pub fn race<
         → LaneStarts (M.words task.now.makes.now i) (M.file task.now.makes.now) (M.stands task.now.makes.now i) (M.ends task.now.makes.now i) (M.proves task.now.makes.now i) (M.most task.now.makes.now) (M.most_output task.now.makes.now i) task.now.mode (L.told b) (L.told d) (length task.now.cells.now) q) }
     ensures stopped { IfOk result (λ r. All (λ q. LaneStops (C.may_read task.now.clock.now) task.now.limit (length task.now.cells.now) q) r.reports.items) }
 {
-    let Fresh {
-        mut lanes,
-        mut raced,
-    } = fresh_lanes(alloc, task.cells, jobs, bays)?;
-    run_lanes(rt, alloc, task, lanes.as_mut_slice());
-    gather(lanes, &mut raced);
-    Ok(raced)
+    let fresh = fresh_lanes(alloc, task.cells, jobs, bays)?;
+    Ok(race_fresh(rt, alloc, task, fresh))
 }

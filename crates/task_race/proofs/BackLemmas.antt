@@ -5,8 +5,12 @@ use Rattle.std.proofs.lemmas.List.Elements.{All-append, Contains-append_left, Co
 use Rattle.sby_edge.specs.Cause.{CountsOf}
 use Rattle.sby_edge.specs.Child.{BayOf, IsLogged, LaneOf, StartOf, YardOf, left_by, new_bay}
 use Rattle.lane_run.specs.Starting.{with_starts}
-use Rattle.task_race.specs.Bays.{AreCountsOf, BackOf, CameBack, IsToldSince, YardAt, counts_in, left_all, none_failed}
-use Rattle.task_race.proofs.PlaceLemmas.{first_or_later}
+use Rattle.task_race.specs.Bays.{AreCountsOf, BackOf, CameBack, IsToldSince, NoneStarted, YardAt, counts_in, left_all, none_failed}
+use Rattle.task_race.specs.Prepared.{AreNew}
+use Rattle.std.proofs.lemmas.List.{length-map}
+use Rattle.std.proofs.lemmas.Option.{slice_get_within}
+use Rattle.task_race.proofs.CountLemmas.{all_fresh}
+use Rattle.task_race.proofs.PlaceLemmas.{at_map, contains_at, first_or_later, stands_at}
 
 -- ---- lists that yards tell
 
@@ -76,3 +80,32 @@ counts_told (Some scripts) (Some earlier) (Some lanes) task lane backs back star
 pub counts_left : {B : Type 0} (view : B → BackOf) (counts : B → CountsOf) (bays : List B) → ((b : B) → (view b).counts ≡ counts b) → map counts_in (map view bays) ≡ map counts bays
 counts_left view counts [] same = refl
 counts_left view counts (b ∷ bays) same = ap (λ (l : List CountsOf). (view b).counts ∷ l) (counts_left view counts bays same) ∙ ap (λ (c : CountsOf). c ∷ map counts bays) (same b)
+
+-- ---- new bays
+
+some_same : {X : Type 0} (x y : X) → ◌≡◌ {A = Option X} (Some x) (Some y) → x ≡ y
+some_same x y h = cc
+
+module _ {B : Type 0} (counts : B → CountsOf) (tells : B → Option BayOf) (task : ℕ) (bays : List B) where
+  -- bays are new where each of them is
+  pub new_bays : (scripts : Option YardOf)
+      → ((lane : ℕ) (b : B) → slice_get bays lane ≡ Some b → (tells b ≡ new_bay scripts task lane) × (counts b ≡ none_failed))
+      → AreNew scripts task (map (λ b. record { told = tells b; counts = counts b }) bays)
+  new_bays scripts fresh = λ lane back at.
+      let view : B → BackOf = λ b. record { told = tells b; counts = counts b } in
+      let b = stands_at bays lane (omega (slice_get_within (map view bays) lane back at, length-map bays view, arith)) in
+      subst (λ (x : BackOf). (x.told ≡ new_bay scripts task lane) × (x.counts ≡ none_failed)) (some_same (view b.0) back (sym (at_map view bays lane b.0 b.1) ∙ at)) (fresh lane b.0 b.1)
+
+  -- new bays that came back leave no start
+  pub none_started : (before now : YardAt) → AreNew before.scripts task (map (λ b. record { told = tells b; counts = counts b }) bays) → now.scripts ≡ before.scripts
+      → CameBack (map counts bays) before.counts now.counts
+      → IsLogged (left_all (map (λ b. record { told = tells b; counts = counts b }) bays)) before.started now.started → NoneStarted before now
+  none_started before now new same back logged =
+      let view : B → BackOf = λ b. record { told = tells b; counts = counts b } in
+      record {
+        scripts = same;
+        counts = back.stood (all_fresh counts bays (λ lane b at. (new lane (view b) (at_map view bays lane b at)).1));
+        lanes = left_all (map view bays);
+        logged = logged;
+        unstarted = unstarted_all view before.scripts task bays (λ b among. (among.0, (new among.0 (view b) (at_map view bays among.0 b (contains_at bays b among))).0));
+      }

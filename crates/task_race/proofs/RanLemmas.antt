@@ -1,9 +1,9 @@
 -- What the lanes of a task leave, by what each of them left its bay.
 use Rattle.std.proofs.Common.{◌≡◌, ℕ, ◌<◌, List, length, map, refl, sym, subst, ◌∙◌, arith}
-use Rattle.std.specs.Prelude.{Option, Some, None, Result, Ok, Err, All, Contains, IfOk, IfSome, slice_get, unwrap_or}
+use Rattle.std.specs.Prelude.{Option, Some, None, All, Contains, IfSome, slice_get, unwrap_or}
 use Rattle.std.proofs.lemmas.Option.{slice_get_within}
 use Rattle.sby_edge.specs.Cause.{CountsOf}
-use Rattle.sby_edge.specs.Child.{BayOf, IsLogged, new_bay}
+use Rattle.sby_edge.specs.Child.{BayOf, IsLogged, YardOf, new_bay}
 use Rattle.judge.specs.Finding.{FindingOf, IsTrueFinding}
 use Rattle.race_core.specs.Carrying.{Carries}
 use Rattle.race_cells.specs.Notes.{NoteOf}
@@ -21,7 +21,8 @@ use Rattle.task_race.specs.Fates.{Ends, Proves, Stands, most_bytes, most_output}
 use Rattle.task_race.specs.Serving.{IsServed, file_of}
 use Rattle.sby_terms.specs.declared.names.Mode.{Mode}
 use Rattle.task_race.specs.Bays.{BackOf, CameBack, YardAt, left_all, none_failed}
-use Rattle.task_race.specs.Ran.{RacingOf, AreConsistent, AreDone, AreStarts, EachBack, EachLane, IsStart, LanesRan, Serves, WinnersFind, answer_in, evidence_in, job_count, job_in, limit_from, name_in, problem_in, terms_in, words_in}
+use Rattle.task_race.specs.Ran.{RacingOf, AreConsistent, AreDone, AreStarts, EachBack, EachLane, HaveRaced, IsStart, LanesRan, Serves, WinnersFind, answer_in, evidence_in, job_count, job_in, limit_from, name_in, problem_in, terms_in, words_in}
+use Rattle.task_race.specs.Prepared.{AreNew}
 use Rattle.task_race.proofs.BackLemmas.{counts_left}
 use Rattle.task_race.proofs.PlaceLemmas.{all_at, at_contains, at_map, contains_at, stands_at}
 use Rattle.task_race.proofs.WonLemmas.{winner_finds}
@@ -98,12 +99,25 @@ module _ {B : Type 0} (counts : B → CountsOf) (tells : B → Option BayOf) (ra
     stopped = λ lane r at. all_at (λ (q : ReportOf FindingOf). LaneStops may_read (limit_from racing start) (job_count racing) q) reports lane r stopped at;
   }
 
--- ---- what a race of bays leaves
+-- what lanes leave that were raced in new bays of these scripts, wherever the bays come back
+pub have_raced : {B : Type 0} (counts : B → CountsOf) (tells : B → Option BayOf) (racing : RacingOf) (may_read : ℕ → Type 0) (scripts : Option YardOf) (start : Option ℕ)
+    (bays backs : List B) (reports : List (ReportOf FindingOf))
+    → AreNew scripts racing.task (map (λ b. record { told = tells b; counts = counts b }) bays)
+    → AreConsistent racing start reports → length bays ≡ length racing.engines → length backs ≡ length bays
+    → IsStart may_read racing.limit start → (notes : List (NoteOf FindingOf)) → AreDone racing may_read start notes reports
+    → ((r : ReportOf FindingOf) (f : FindingOf) → Contains reports r → CarriedIn r.ends f → IsTrueFinding f)
+    → ((i : ℕ) (b d : B) (q : ReportOf FindingOf) → slice_get bays i ≡ Some b → slice_get backs i ≡ Some d → slice_get reports i ≡ Some q → LaneFaults (counts b) (counts d) (job_count racing) q)
+    → ((i : ℕ) (b d : B) (q : ReportOf FindingOf) → slice_get bays i ≡ Some b → slice_get backs i ≡ Some d → slice_get reports i ≡ Some q → AreStarts racing (tells b) (tells d) i q)
+    → All (λ q. LaneStops may_read (limit_from racing start) (job_count racing) q) reports
+    → HaveRaced racing may_read scripts start reports (map (λ b. record { told = tells b; counts = counts b }) backs)
+have_raced {B} counts tells racing may_read scripts start bays backs reports new consistent many same began notes done are_true faults starts stopped = λ before now is back logged.
+    let view : B → BackOf = λ b. record { told = tells b; counts = counts b } in
+    lanes_ran counts tells racing may_read before now start bays backs reports consistent many same
+    (λ lane b at. subst (λ (s : Option YardOf). (tells b ≡ new_bay s racing.task lane) × (counts b ≡ none_failed)) (sym is) (new lane (view b) (at_map view bays lane b at)))
+    began notes done are_true faults starts stopped
+    (subst (λ (parts : List CountsOf). CameBack parts before.counts now.counts) (counts_left view counts backs (λ b. refl)) back) logged
 
--- what holds of an answer's value holds by what it says
-pub if_ok : {T E : Type 0} (P Q : T → Type 0) (r : Result T E) → ((x : T) → P x → Q x) → IfOk r P → IfOk r Q
-if_ok P Q (Ok x) h is = h x is
-if_ok P Q (Err e) h is = tt
+-- ---- what a race of bays leaves
 
 -- the start that lanes are asked under is a reading that the clock may give
 pub start_read : (may_read : ℕ → Type 0) (limit start : Option ℕ) (begun : ℕ) → begun ≡ unwrap_or start 0 → IsStart may_read limit start → IfSome limit (λ millis. may_read begun)

@@ -6,3 +6,4 @@ pub mod Watching
 pub mod Bays
 pub mod Ends
 pub mod Ran
+pub mod Prepared

@@ -1,6 +1,6 @@
 -- What the lanes of a task leave.
 use Rattle.std.specs.Prelude.{◌≡◌, ℕ, Bool, List, Option, None, Some, length, map, slice_get, unwrap_or}
-use Rattle.sby_edge.specs.Child.{BayOf, IsLogged, new_bay}
+use Rattle.sby_edge.specs.Child.{BayOf, IsLogged, YardOf, new_bay}
 use Rattle.sby_edge.specs.Files.{Store}
 use Rattle.sby_terms.specs.Path.{job_path}
 use Rattle.sby_terms.specs.Problem.{ProblemOf}
@@ -137,3 +137,10 @@ pub record LanesRan (racing : RacingOf) (may_read : ℕ → Type 0) (before now 
 -- the store has the file of each job, at its path in the work folder
 abbrev pub HasJobFiles : RacingOf → Store → Type 0
 HasJobFiles racing store = (job : JobName) (file : List ℕ) → IsJobFile racing.problem job file → store (job_path racing.folder (slices_of racing.problem.problem.span) job) ≡ Some file
+
+-- Lanes were raced in bays of these scripts, and left these reports and these bays: wherever the bays come back to their yard, that is what
+-- lanes leave that ran.
+abbrev pub HaveRaced : RacingOf → (ℕ → Type 0) → Option YardOf → Option ℕ → List (ReportOf FindingOf) → List BackOf → Type 0
+HaveRaced racing may_read scripts start reports backs =
+    (before now : YardAt) → before.scripts ≡ scripts → CameBack (map counts_in backs) before.counts now.counts → IsLogged (left_all backs) before.started now.started
+    → LanesRan racing may_read before now start reports

@@ -7,7 +7,9 @@ mod evidence;
 mod lanes;
 mod laws;
 mod output;
+mod prepare;
 mod racing;
+mod run;
 mod subject;
 mod truth;
 mod words;
@@ -19,5 +21,7 @@ pub use laws::{
     winners_carry_findings,
 };
 pub use output::{Output, Told};
+pub use prepare::{PreparedRace, cancel_race, prepare_race};
 pub use racing::{Racing, RanLanes, race_task};
+pub use run::{RacedLanes, finish_race, run_race};
 pub use subject::JobJudge;

@@ -1,20 +1,25 @@
-use Rattle.std.proofs.Common.{◌≡◌, ℕ, List, sym}
+use Rattle.std.proofs.Common.{◌≡◌, ℕ, List, length, sym, ap, ◌∙◌, arith}
 use Rattle.race_cells.specs.Notes.{NoteOf}
 use Rattle.race_core.specs.Report.{ReportOf}
 use Rattle.lane_run.specs.Raced.{IsReady}
 use Rattle.lane_run.specs.declared.prepare.Seat.{Seat}
 use Rattle.lane_run.specs.declared.racing.Lane.{Lane}
+use Rattle.lane_run.proofs.Joins.{map_length}
 use Rattle.lane_run.proofs.Seats.{each_seated}
 use Rattle.lane_run.proofs.prepare.fresh_lanes.Goals as goal
 
 pub returns-clause-ready : goal.returns-clause-ready
 returns-clause-ready g c =
-    each_seated (λ (s : Seat g.row.T.Denot). s.report) (λ (s : Seat g.row.T.Denot). s.notes) (λ (l : Lane g.row.L.Denot g.row.T.Denot). l.report) (λ (l : Lane g.row.L.Denot g.row.T.Denot). l.notes)
-    (λ (k : ℕ) (r : ReportOf g.row.T.Denot) (n : List (NoteOf g.row.T.Denot)). IsReady c.args.cells.now r n) c.in-Ok.room.seats.items c.take_seats.new.lanes.items
-    (sym c.take_seats.ensures.reports) (sym c.take_seats.ensures.notes) c.in-Ok.ensures.ready
-
-pub returns-clause-places : goal.returns-clause-places
-returns-clause-places g c =
-    each_seated (λ (s : Seat g.row.T.Denot). s.report) (λ (s : Seat g.row.T.Denot). s.notes) (λ (l : Lane g.row.L.Denot g.row.T.Denot). l.report) (λ (l : Lane g.row.L.Denot g.row.T.Denot). l.notes)
-    (λ (k : ℕ) (r : ReportOf g.row.T.Denot) (n : List (NoteOf g.row.T.Denot)). r.lane ≡ k) c.in-Ok.room.seats.items c.take_seats.new.lanes.items
-    (sym c.take_seats.ensures.reports) (sym c.take_seats.ensures.notes) c.in-Ok.ensures.places
+    let many : length c.take_seats.new.lanes.items ≡ length c.args.bays.items =
+    sym (map_length (λ (l : Lane g.row.L.Denot g.row.T.Denot). l.bay) c.take_seats.new.lanes.items) ∙ ap length c.take_seats.ensures.bays in
+    record {
+      each = each_seated (λ (s : Seat g.row.T.Denot). s.report) (λ (s : Seat g.row.T.Denot). s.notes) (λ (l : Lane g.row.L.Denot g.row.T.Denot). l.report) (λ (l : Lane g.row.L.Denot g.row.T.Denot). l.notes)
+          (λ (k : ℕ) (r : ReportOf g.row.T.Denot) (n : List (NoteOf g.row.T.Denot)). IsReady c.args.cells.now r n) c.in-Ok.room.seats.items c.take_seats.new.lanes.items
+          (sym c.take_seats.ensures.reports) (sym c.take_seats.ensures.notes) c.in-Ok.ensures.ready;
+      places = each_seated (λ (s : Seat g.row.T.Denot). s.report) (λ (s : Seat g.row.T.Denot). s.notes) (λ (l : Lane g.row.L.Denot g.row.T.Denot). l.report) (λ (l : Lane g.row.L.Denot g.row.T.Denot). l.notes)
+          (λ (k : ℕ) (r : ReportOf g.row.T.Denot) (n : List (NoteOf g.row.T.Denot)). r.lane ≡ k) c.in-Ok.room.seats.items c.take_seats.new.lanes.items
+          (sym c.take_seats.ensures.reports) (sym c.take_seats.ensures.notes) c.in-Ok.ensures.places;
+      bays = (c.in-Ok.ensures.fresh.0, omega (arith, many, c.in-Ok.ensures.room.0));
+      reports = (c.in-Ok.ensures.fresh.1, omega (arith, many, c.in-Ok.ensures.room.1));
+      notes = c.in-Ok.ensures.notes;
+    }
