@@ -104,12 +104,7 @@ pub fn race_fresh<
     M: Makes<T> + Sync,
     T: Settled + Drop + Send + Sync,
     C: Clock,
->(
-    rt: &R,
-    alloc: Global,
-    task: &Task<'_, M, T, C>,
-    fresh: FreshLanes<L, T>,
-) -> Raced<L, T>
+>(rt: &R, alloc: Global, task: &Task<'_, M, T, C>, fresh: FreshLanes<L, T>) -> Raced<L, T>
     requires ready { AreReady task.now.cells.now fresh }
     requires start { IfSome task.now.limit.millis (λ millis. C.may_read task.now.clock.now task.now.limit.start) }
     ensures consistent { Consistent (IsFor T.problem T.job (M.problem task.now.makes.now) task.now.mode) (λ i k. M.is_served task.now.makes.now i (name_at task.now.mode k))
