@@ -42,7 +42,7 @@ ghost use Rattle.sby_top.specs.declared.outcome.Done.{Done};
 ghost use Rattle.sby_top.specs.declared.outcome.TaskEnd.{TaskEnd};
 ghost use Rattle.task_race.specs.Ends.{IsFateOf, script_of};
 
-use cert_judge::{held_certificates_are_found, one_fate, some_fate};
+use cert_judge::{certificates_are_found, one_fate, some_fate};
 use judge::{files_tell_what_jobs_ask, findings_tell_what_can_be_solved, one_file};
 use sby_edge::Clock;
 
@@ -93,7 +93,7 @@ pub fn stored_certificate_gives_its_verdict<C: Clock>(clock: &C)
 {
     one_fate();
     one_file();
-    held_certificates_are_found();
+    certificates_are_found();
 }
 
 /// A valid certificate of a child, judged in time, gives its verdict, PASS for Unsat and FAIL for Sat: of bmc of one slice, where the script
