@@ -5,7 +5,7 @@ use Rattle.sby_edge.specs.Child.{BayOf}
 use Rattle.sby_terms.specs.declared.names.JobName.{JobName}
 use Rattle.std.specs.Option.{MatchOption}
 use Rattle.race_core.specs.Ends.{EndIs}
-use Rattle.race_core.specs.Parts.{RightKeeper, Terms}
+use Rattle.race_core.specs.Parts.{RightKeeper, RightReader, Terms}
 use Rattle.race_core.specs.declared.end.JobEnd.{JobEnd}
 use Rattle.race_core.specs.declared.end.JobEnd.TheVariants as end
 use Rattle.race_core.specs.declared.event.Judged.{Judged}
@@ -20,7 +20,7 @@ use Rattle.race_core.specs.declared.part.By.{By}
 use Rattle.race_core.specs.declared.part.By.TheVariants as by
 use Rattle.race_core.specs.declared.part.Reader.{Reader}
 use Rattle.race_core.specs.declared.part.Reader.TheVariants as reader
-use Rattle.lane_run.specs.Reading.{Comes, HasRead, IsFound, IsProof, NotByFile, Proves, Settles, TookProof}
+use Rattle.lane_run.specs.Reading.{Comes, HasRead, IsFound, IsHolding, IsOver, IsProof, NotByFile, Proves, Settles, TookProof}
 
 -- a reader that hasn't found anything
 pub not_found : {T : Type 0} {X : Type 0} (part : Reader T) → ((f : T) (b : By) (won : Bool) → part ≡ reader.Found f b won → ⊥) → IsFound part ⊎ X → X
@@ -181,3 +181,44 @@ proof_finished {T} bay bay' job most proof part between now A B C same read (inl
     inr (none, settled_unfiled between now (subst (λ (r : Reader T). NotByFile r) (sym is) (read_unfiled part read)) settles)
 proof_finished bay bay' job most proof part between now A B C same read (inr (b, c, inl got)) settles = inl (subst (λ (b : Option BayOf). IsProof b job most proof) (sym same) got)
 proof_finished bay bay' job most proof part between now A B C same read (inr (b, c, inr (none, unfiled))) settles = inr (none, settled_unfiled between now unfiled settles)
+
+-- a reader that is over, or holds what it settles then, is over once it has settled
+pub settled_over : {T : Type 0} (part now : Reader T) (k : Keeper T) → IsOver part k ⊎ IsHolding part → Settles part now → IsOver now k
+settled_over (reader.Holding f b) now k (inl over) is = absurd over
+settled_over {T} (reader.Holding f b) now k (inr held) (inl is) = subst (λ (r : Reader T). IsOver r k) (sym is) tt
+settled_over {T} (reader.Holding f b) now k (inr held) (inr (inl is)) = subst (λ (r : Reader T). IsOver r k) (sym is) tt
+settled_over {T} (reader.Holding f b) now k (inr held) (inr (inr is)) = subst (λ (r : Reader T). IsOver r k) (sym is) tt
+settled_over {T} (reader.Found f b won) now k (inl over) is = subst (λ (r : Reader T). IsOver r k) (sym is) over
+settled_over (reader.Found f b won) now k (inr held) is = absurd held
+settled_over {T} (reader.Unknown b) now k (inl over) is = subst (λ (r : Reader T). IsOver r k) (sym is) over
+settled_over (reader.Unknown b) now k (inr held) is = absurd held
+settled_over {T} (reader.Bad number at b) now k (inl over) is = subst (λ (r : Reader T). IsOver r k) (sym is) over
+settled_over (reader.Bad number at b) now k (inr held) is = absurd held
+settled_over {T} reader.Failed now k (inl over) is = subst (λ (r : Reader T). IsOver r k) (sym is) over
+settled_over reader.Failed now k (inr held) is = absurd held
+settled_over {T} reader.Asking now k (inl over) is = subst (λ (r : Reader T). IsOver r k) (sym is) over
+settled_over reader.Asking now k (inr held) is = absurd held
+settled_over {T} reader.Short now k (inl over) is = subst (λ (r : Reader T). IsOver r k) (sym is) over
+settled_over reader.Short now k (inr held) is = absurd held
+settled_over {T} reader.Fresh now k (inl over) is = subst (λ (r : Reader T). IsOver r k) (sym is) over
+settled_over reader.Fresh now k (inr held) is = absurd held
+settled_over {T} reader.Reading now k (inl over) is = subst (λ (r : Reader T). IsOver r k) (sym is) over
+settled_over reader.Reading now k (inr held) is = absurd held
+settled_over {T} reader.Unjudged now k (inl over) is = subst (λ (r : Reader T). IsOver r k) (sym is) over
+settled_over reader.Unjudged now k (inr held) is = absurd held
+settled_over {T} reader.Wrong now k (inl over) is = subst (λ (r : Reader T). IsOver r k) (sym is) over
+settled_over reader.Wrong now k (inr held) is = absurd held
+
+-- and no event came that can't come
+pub over_right : {T : Type 0} (part : Reader T) (k : Keeper T) → IsOver part k → RightReader part
+over_right (reader.Found f b won) k over = tt
+over_right (reader.Unknown b) k over = tt
+over_right (reader.Bad number at b) k over = tt
+over_right reader.Failed k over = tt
+over_right reader.Asking k over = tt
+over_right reader.Short k over = tt
+over_right (reader.Holding f b) k over = tt
+over_right reader.Fresh k over = tt
+over_right reader.Reading k over = tt
+over_right reader.Unjudged k over = tt
+over_right reader.Wrong k over = absurd over

@@ -1,6 +1,7 @@
 -- A keeper that killed the child has the kill in its list.
 use Rattle.std.proofs.Common.{◌≡◌, ◌⊎◌, inl, inr, Bool, true, false, cond, List, [], ◌∷◌, Option, None, Some, ℕ, ◌==◌, subst, sym}
 use Rattle.std.specs.Option.{MatchOption}
+use Rattle.std.specs.Prelude.{IfSome}
 use Rattle.race_core.specs.Ends.{IsKilled}
 use Rattle.race_core.specs.Parts.{Terms, after_kill, after_look, comes_due, ending, keeper_after, keeper_from, shows_limit, tells_ending, turns}
 use Rattle.race_core.specs.declared.event.LaneEvent.{LaneEvent}
@@ -117,3 +118,11 @@ killed_for a (Some why) es pipe killed kept by =
       | inl none ↦ absurd none
       | inr has ↦ inr has
     ]
+
+-- so it is where the list goes on after a child that its keeper didn't kill
+pub killed_then : {T : Type 0} (a : Terms T) (why : Option (Reason T)) (es es' : List (LaneEvent T)) (pipe : Option PipeOf) (killed : Option ℕ)
+    → MatchOption why (TakesTurns (keeper_from a keeper.Fresh es)) (λ why. keeper_from a keeper.Fresh es ≡ keeper.Killed why) → KilledBy why pipe killed → IfSome why (λ _. es' ≡ es)
+    → KilledLast pipe killed ⊎ HasKill es'
+killed_then a None es es' pipe killed kept by still = inl by
+killed_then {T} a (Some why) es es' pipe killed kept by still =
+    subst (λ (l : List (LaneEvent T)). KilledLast pipe killed ⊎ HasKill l) (sym still) (killed_for a (Some why) es pipe killed kept by)

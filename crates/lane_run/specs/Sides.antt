@@ -1,5 +1,5 @@
 -- What the two sides of a child leave: its reader and its keeper.
-use Rattle.std.specs.Prelude.{◌≡◌, ◌⊎◌, ℕ, ◌+◌, ◌<◌, ◌≤◌, ◌^◌, Bool, true, List, [], ◌∷◌, ◌++◌, length, Option, None, Some, IfSome, option_map}
+use Rattle.std.specs.Prelude.{◌≡◌, ◌≢◌, ◌⊎◌, ℕ, ◌+◌, ◌<◌, ◌≤◌, ◌^◌, Bool, true, List, [], ◌∷◌, ◌++◌, length, Option, None, Some, IfSome, option_map}
 use Rattle.std.specs.Option.{MatchOption}
 use Rattle.sby_edge.specs.Child.{BayOf, PipeOf, finished, pipe_of}
 use Rattle.sby_terms.specs.declared.names.JobName.{JobName}
@@ -8,6 +8,7 @@ use Rattle.race_core.specs.declared.part.Keeper.{Keeper}
 use Rattle.race_cells.specs.Notes.{NoteOf}
 use Rattle.race_core.specs.Parts.{Terms, keeper_from, place_from, reader_from, reader_of}
 use Rattle.race_core.specs.declared.event.Judged.{Judged}
+use Rattle.race_core.specs.declared.event.Judged.TheVariants as judged
 use Rattle.race_core.specs.declared.event.LaneEvent.{LaneEvent}
 use Rattle.race_core.specs.declared.part.Keeper.TheVariants as keeper
 use Rattle.race_core.specs.declared.part.Place.TheVariants.{Away}
@@ -15,7 +16,7 @@ use Rattle.race_core.specs.declared.part.Reader.{Reader}
 use Rattle.race_core.specs.declared.part.Reader.TheVariants as reader
 use Rattle.race_core.specs.declared.part.Reason.{Reason}
 use Rattle.race_core.specs.declared.part.Reason.TheVariants as reason
-use Rattle.lane_run.specs.Judging.{Within}
+use Rattle.lane_run.specs.Judging.{Says, Within}
 use Rattle.lane_run.specs.Keeping.{EndsChild, HasKill, Keeps, TakesTurns}
 use Rattle.lane_run.specs.Reading.{Comes, HasRead, NoneLeft, Proves, ReadSoFar, Settles, Took, TookProof, bytes_filed, bytes_read, empty_reads}
 
@@ -90,3 +91,15 @@ RanFrom stands ends proves job most most_output bay bay' pipe events kept =
     × Comes stands ends proves (NoneLeft now) output proof (reader_from reader.Fresh events)
     × (0 < empty_reads events → NoneLeft now)
     × (length output ≤ most_output + 2 ^ 16)
+
+-- A judging of a proof file went on: it says what the whole file, which begins with what was taken before, comes to; or it was asked to stop,
+-- and what was taken and what is left are the same file.
+abbrev pub JudgedOn : {T : Type 0} → (proves proves' : List ℕ → Judged T → Type 0) → Type 0 → (whole whole' : List ℕ) → Option (Judged T) → Type 0
+JudgedOn proves proves' proving whole whole' said =
+    MatchOption said (proving × (whole' ≡ whole) × Within proves' proves) (λ p. (p ≢ judged.More) × Says proves whole p)
+
+-- A proof file was judged, and as many bytes are entered; or its keeper ended that first, or memory ran out, and none are.
+abbrev pub JudgedFile : {T : Type 0} → (List ℕ → Judged T → Type 0) → List ℕ → ℕ → ℕ → Reader T → Option (Reason T) → Type 0
+JudgedFile proves proof filed filed' part why =
+    (Proves proves proof part × (filed' ≡ filed + length proof))
+    ⊎ (((part ≡ reader.Asking) × IsKilled (kept_by why)) ⊎ (part ≡ reader.Short)) × (filed' ≡ filed)

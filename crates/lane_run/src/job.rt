@@ -1,14 +1,16 @@
 // A job of a lane that has a child.
 
-ghost use Rattle.std.specs.Prelude.{◌≡◌, ◌≢◌, ◌⊎◌, ℕ, ◌+◌, ◌<◌, ◌≤◌, [], Option, Some, IfSome, length, map, option_map, string_bytes, false, true};
-ghost use Rattle.lane_run.specs.Keeping.{EndsChild, HasKept, IsOfCell, Keeps, Remember, TakesTurns};
+ghost use Rattle.std.specs.Prelude.{◌≡◌, ◌≢◌, ◌⊎◌, ◌<◌, ◌≤◌, [], None, Option, IfNone, IfSome, length, true};
+ghost use Rattle.std.specs.Option.{MatchOption};
+ghost use Rattle.lane_run.specs.Keeping.{HasKept, IsOfCell, Keeps, TakesTurns};
 ghost use Rattle.lane_run.specs.Reading.{HasRead, IfWon, IsHolding, IsOver, bytes_filed, bytes_read, empty_reads};
 ghost use Rattle.lane_run.specs.Starting.{HasRun};
 ghost use Rattle.lane_run.specs.Sides.{Asks, Finishes, RanFrom, kept_by};
 ghost use Rattle.race_cells.specs.Notes.{AreNotesOf, known_at};
 ghost use Rattle.race_core.specs.Asking.{terms_of};
 ghost use Rattle.race_core.specs.Ends.{EndIs};
-ghost use Rattle.race_core.specs.Parts.{RightKeeper, RightReader, Terms, keeper_from, place_from, reader_from};
+ghost use Rattle.race_core.specs.Parts.{RightKeeper, RightReader, keeper_from, place_from, reader_from};
+ghost use Rattle.race_core.specs.declared.part.Reason.{Reason};
 ghost use Rattle.race_core.specs.declared.end.JobEnd.TheVariants as end;
 ghost use Rattle.race_core.specs.declared.part.Keeper.TheVariants as keeper;
 ghost use Rattle.race_core.specs.declared.part.Place.TheVariants.{Away};
@@ -19,9 +21,10 @@ ghost use Rattle.sby_edge.specs.Cause.{Rose};
 use crate::ending::job_end;
 use crate::keeper::Watch;
 use crate::life::{Lived, live};
-use crate::over::{Asked, read_proof, settle};
+use crate::over::{Asked, settle};
+use crate::proof::{Filed, read_proof};
 use crate::subject::{Asks, Subject};
-use race_cells::{Cells, Notes};
+use race_cells::Notes;
 use race_core::{EventList, JobEnd, Keeper, Reader, Reason};
 use sby_edge::{Clock, Launch};
 use sby_terms::Settled;
@@ -46,113 +49,107 @@ fn kept<T: Drop>(why: Option<Reason<T>>) -> Keeper<T>
 }
 
 // Asks for the proof file, where the output left the end to it and no kill came.
-fn ask_proof<L: Launch, S: Subject<T>, T: Settled + Drop>(
+fn ask_proof<
+    R: Threads + Wait + Sync,
+    L: Launch,
+    S: Subject<T> + Drop,
+    J: Asks<T> + Sync,
+    T: Settled + Drop + Send + Sync,
+    C: Clock,
+>(
+    rt: &R,
     alloc: Global,
     bay: &mut L,
     asked: &Asked<'_>,
-    why: &Option<Reason<T>>,
-    part: Reader<T>,
-    subject: &mut S,
+    watch: &Watch<'_, J, T, C>,
+    came: Filed<T>,
+    subject: S,
+    notes: &mut Notes<T>,
     events: &mut EventList<T>,
-) -> Reader<T>
-    requires part { part ≡ reader_from reader.Fresh events.old.events }
-    requires has_read { HasRead part }
-    requires room { (part ≡ reader.Short) ⊎ (1 ≤ events.old.room) }
-    requires awaits { part ≡ reader.Asking → S.awaits subject.old }
+    keeper_events: &mut EventList<T>,
+) -> Filed<T>
+    requires part { came.part ≡ reader_from reader.Fresh events.old.events }
+    requires has_read { HasRead came.part }
+    requires room { (came.part ≡ reader.Short) ⊎ (1 ≤ events.old.room) }
+    requires awaits { came.part ≡ reader.Asking → S.awaits subject }
     requires unfiled { bytes_filed events.old.events ≡ 0 }
-    ensures part { result ≡ reader_from reader.Fresh events.new.events }
-    ensures over { IsOver result (kept_by why.now) ⊎ IsHolding result }
-    ensures room { IsHolding result → 1 ≤ events.new.room }
-    ensures asks { Asks (S.proves subject.old) (L.told bay.old) asked.now.job asked.now.most why.now part result (bytes_filed events.new.events) }
+    requires cell { watch.now.terms.now.cell < length watch.now.cells.now }
+    requires other { IfSome watch.now.other (λ o. o.0 < length watch.now.cells.now) }
+    requires notes { AreNotesOf watch.now.cells.now notes.old }
+    requires keeper_room { IfNone came.why (2 ≤ keeper_events.old.room) }
+    requires kept { MatchOption came.why (TakesTurns (keeper_from (terms_of T.job T.answer watch.now.terms.now) keeper.Fresh keeper_events.old.events)) (λ why. keeper_from (terms_of T.job T.answer watch.now.terms.now) keeper.Fresh keeper_events.old.events ≡ keeper.Killed why) }
+    requires ends { HasKept (kept_by came.why) }
+    ensures part { result.part ≡ reader_from reader.Fresh events.new.events }
+    ensures over { IsOver result.part (kept_by result.why) ⊎ IsHolding result.part }
+    ensures room { IsHolding result.part → 1 ≤ events.new.room }
+    ensures asks { Asks (S.proves subject) (L.told bay.old) asked.now.job asked.now.most result.why came.part result.part (bytes_filed events.new.events) }
     ensures read { bytes_read events.new.events ≡ bytes_read events.old.events }
     ensures empty { empty_reads events.new.events ≡ empty_reads events.old.events }
-    ensures failed { result ≡ reader.Failed → (part ≡ reader.Failed) ⊎ Rose (L.read_faults bay.old) (L.read_faults bay.new) }
+    ensures failed { result.part ≡ reader.Failed → (came.part ≡ reader.Failed) ⊎ Rose (L.read_faults bay.old) (L.read_faults bay.new) }
     ensures told { L.told bay.new ≡ L.told bay.old }
     ensures starts { L.start_faults bay.new ≡ L.start_faults bay.old }
     ensures holds { L.hold_faults bay.new ≡ L.hold_faults bay.old }
     ensures reads { L.read_faults bay.old ≤ L.read_faults bay.new }
-    ensures unsettled { IfWon result (λ f. ⊥) }
+    ensures unsettled { IfWon result.part (λ f. ⊥) }
+    ensures kept { MatchOption result.why (TakesTurns (keeper_from (terms_of T.job T.answer watch.now.terms.now) keeper.Fresh keeper_events.new.events)) (λ why. keeper_from (terms_of T.job T.answer watch.now.terms.now) keeper.Fresh keeper_events.new.events ≡ keeper.Killed why) }
+    ensures ends { HasKept (kept_by result.why) }
+    ensures still { IfSome came.why (λ _. keeper_events.new.events ≡ keeper_events.old.events) }
+    ensures fault { kept_by result.why ≡ keeper.Killed reason.Fault → kept_by came.why ≡ keeper.Killed reason.Fault }
+    ensures place { place_from Away keeper_events.new.events ≡ place_from Away keeper_events.old.events }
+    ensures keeps { Keeps (IsOfCell T.problem T.job (J.problem watch.now.asks.now) watch.now.terms.now watch.now.other) (C.may_read watch.now.clock.now) notes.old notes.new keeper_events.old.events keeper_events.new.events }
 {
-    match part {
-        Reader::Asking if why.is_none() => read_proof(alloc, bay, asked, subject, events),
-        part => part,
+    match (came.part, came.why) {
+        (Reader::Asking, None) => read_proof(
+            rt,
+            alloc,
+            bay,
+            asked,
+            watch,
+            subject,
+            notes,
+            events,
+            keeper_events,
+        ),
+        (part, why) => Filed { part, why },
     }
 }
 
-// The reader's last steps: the proof file, where the output left the end to it and no kill came, and the settle.
-fn finish_reader<L: Launch, S: Subject<T>, T: Settled + Drop>(
+// The end of a job whose child is over: the proof file, where the output left the end to it and no kill came, and the settle.
+fn conclude<
+    R: Threads + Wait + Sync,
+    L: Launch,
+    S: Subject<T> + Drop,
+    J: Asks<T> + Sync,
+    T: Settled + Drop + Send + Sync,
+    C: Clock,
+>(
+    rt: &R,
     alloc: Global,
     bay: &mut L,
     asked: &Asked<'_>,
-    cells: &Cells<T>,
-    place: u32,
+    watch: &Watch<'_, J, T, C>,
     lived: Lived<S, T>,
     notes: &mut Notes<T>,
-) -> Lived<S, T>
-    requires place { place < length cells.now }
-    requires notes { AreNotesOf cells.now notes.old }
-    requires part { lived.part ≡ reader_from reader.Fresh lived.events.events }
-    requires has_read { HasRead lived.part }
-    requires room { (lived.part ≡ reader.Short) ⊎ (1 ≤ lived.events.room) }
-    requires awaits { lived.part ≡ reader.Asking → S.awaits lived.subject }
-    requires unfiled { bytes_filed lived.events.events ≡ 0 }
-    ensures part { result.part ≡ reader_from reader.Fresh result.events.events }
-    ensures over { IsOver result.part (kept_by lived.why) }
-    ensures finishes { Finishes (S.proves lived.subject) (L.told bay.old) asked.now.job asked.now.most lived.why lived.part result.part (bytes_filed result.events.events) }
-    ensures read { bytes_read result.events.events ≡ bytes_read lived.events.events }
-    ensures empty { empty_reads result.events.events ≡ empty_reads lived.events.events }
-    ensures remember { Remember notes.old notes.new }
-    ensures won { IfWon result.part (λ f. known_at notes.new place ≡ Some f) }
-    ensures failed { result.part ≡ reader.Failed → (lived.part ≡ reader.Failed) ⊎ Rose (L.read_faults bay.old) (L.read_faults bay.new) }
-    ensures told { L.told bay.new ≡ L.told bay.old }
-    ensures starts { L.start_faults bay.new ≡ L.start_faults bay.old }
-    ensures holds { L.hold_faults bay.new ≡ L.hold_faults bay.old }
-    ensures reads { L.read_faults bay.old ≤ L.read_faults bay.new }
-    ensures same { (result.why ≡ lived.why) × (result.is_failed ≡ lived.is_failed) }
-{
-    let Lived {
-        mut subject,
-        mut events,
-        part,
-        why,
-        is_failed,
-    } = lived;
-    let part = ask_proof(alloc, bay, asked, &why, part, &mut subject, &mut events);
-    let part = settle(alloc, cells, place, part, notes, &mut events);
-    Lived {
-        subject,
-        events,
-        part,
-        why,
-        is_failed,
-    }
-}
-
-// The end of a job whose child is over.
-fn conclude<L: Launch, S: Subject<T> + Drop, T: Settled + Drop>(
-    alloc: Global,
-    bay: &mut L,
-    asked: &Asked<'_>,
-    cells: &Cells<T>,
-    place: u32,
-    lived: Lived<S, T>,
-    notes: &mut Notes<T>,
+    keeper_events: &mut EventList<T>,
 ) -> Ran<T>
-    requires place { place < length cells.now }
-    requires notes { AreNotesOf cells.now notes.old }
     requires part { lived.part ≡ reader_from reader.Fresh lived.events.events }
     requires has_read { HasRead lived.part }
     requires room { (lived.part ≡ reader.Short) ⊎ (1 ≤ lived.events.room) }
     requires awaits { lived.part ≡ reader.Asking → S.awaits lived.subject }
     requires unfiled { bytes_filed lived.events.events ≡ 0 }
-    requires why { HasKept (kept_by lived.why) }
-    ensures end { (a : Terms T) → EndIs a (λ _. ⊥) (reader_from reader.Fresh result.events.events) (kept_by lived.why) result.end }
-    ensures right { RightReader (reader_from reader.Fresh result.events.events) }
-    ensures finishes { Finishes (S.proves lived.subject) (L.told bay.old) asked.now.job asked.now.most lived.why lived.part (reader_from reader.Fresh result.events.events) (bytes_filed result.events.events) }
+    requires cell { watch.now.terms.now.cell < length watch.now.cells.now }
+    requires other { IfSome watch.now.other (λ o. o.0 < length watch.now.cells.now) }
+    requires notes { AreNotesOf watch.now.cells.now notes.old }
+    requires keeper_room { IfNone lived.why (2 ≤ keeper_events.old.room) }
+    requires kept { MatchOption lived.why (TakesTurns (keeper_from (terms_of T.job T.answer watch.now.terms.now) keeper.Fresh keeper_events.old.events)) (λ why. keeper_from (terms_of T.job T.answer watch.now.terms.now) keeper.Fresh keeper_events.old.events ≡ keeper.Killed why) }
+    requires ends { HasKept (kept_by lived.why) }
+    ensures end { EndIs (terms_of T.job T.answer watch.now.terms.now) (λ _. ⊥) (reader_from reader.Fresh result.events.events) (keeper_from (terms_of T.job T.answer watch.now.terms.now) keeper.Fresh keeper_events.new.events) result.end }
+    ensures right { RightReader (reader_from reader.Fresh result.events.events) × RightKeeper (keeper_from (terms_of T.job T.answer watch.now.terms.now) keeper.Fresh keeper_events.new.events) }
+    ensures looked { keeper_from (terms_of T.job T.answer watch.now.terms.now) keeper.Fresh keeper_events.new.events ≢ keeper.Fresh }
+    ensures finishes { (why : Option (Reason T)) × Finishes (S.proves lived.subject) (L.told bay.old) asked.now.job asked.now.most why lived.part (reader_from reader.Fresh result.events.events) (bytes_filed result.events.events) }
     ensures read { bytes_read result.events.events ≡ bytes_read lived.events.events }
     ensures empty { empty_reads result.events.events ≡ empty_reads lived.events.events }
-    ensures remember { Remember notes.old notes.new }
-    ensures won { IfWon (reader_from reader.Fresh result.events.events) (λ f. known_at notes.new place ≡ Some f) }
+    ensures won { IfWon (reader_from reader.Fresh result.events.events) (λ f. known_at notes.new watch.now.terms.now.cell ≡ Some f) }
     ensures started { HasRun result.end }
     ensures read_failed { result.end ≡ end.ReadFailed → (lived.part ≡ reader.Failed) ⊎ Rose (L.read_faults bay.old) (L.read_faults bay.new) }
     ensures hold_failed { result.end ≡ end.HoldFailed → (lived.is_failed ≡ true) ⊎ (kept_by lived.why ≡ keeper.Killed reason.Fault) }
@@ -160,15 +157,33 @@ fn conclude<L: Launch, S: Subject<T> + Drop, T: Settled + Drop>(
     ensures starts { L.start_faults bay.new ≡ L.start_faults bay.old }
     ensures holds { L.hold_faults bay.new ≡ L.hold_faults bay.old }
     ensures reads { L.read_faults bay.old ≤ L.read_faults bay.new }
+    ensures still { IfSome lived.why (λ _. keeper_events.new.events ≡ keeper_events.old.events) }
+    ensures place { place_from Away keeper_events.new.events ≡ place_from Away keeper_events.old.events }
+    ensures keeps { Keeps (IsOfCell T.problem T.job (J.problem watch.now.asks.now) watch.now.terms.now watch.now.other) (C.may_read watch.now.clock.now) notes.old notes.new keeper_events.old.events keeper_events.new.events }
 {
     let Lived {
         subject,
-        events,
+        mut events,
         part,
         why,
         is_failed,
-    } = finish_reader(alloc, bay, asked, cells, place, lived, notes);
-    drop(subject);
+    } = lived;
+    let came = Filed { part, why };
+    let Filed { part, why } = ask_proof(
+        rt,
+        alloc,
+        bay,
+        asked,
+        watch,
+        came,
+        subject,
+        notes,
+        &mut events,
+        keeper_events,
+    );
+    let cells = watch.cells;
+    let place = watch.terms.cell;
+    let part = settle(alloc, cells, place, part, notes, &mut events);
     Ran {
         end: job_end(part, kept(why), is_failed),
         events,
@@ -176,7 +191,7 @@ fn conclude<L: Launch, S: Subject<T> + Drop, T: Settled + Drop>(
 }
 
 /// Runs a job whose child was started, and not killed since: its reader and its keeper beside each other, a kill where none came, the reap in every case, and
-/// the end. Until its reader has ended, the child is killed only by a kill of its keeper's list, for which that has a reason. Then the proof file, where the output leaves the end to it, and the settle of what was found. Waits for the child.
+/// the end. Until its reader has ended, the child is killed only by a kill of its keeper's list, for which that has a reason. Then the proof file, where the output leaves the end to it and no kill came, judged with the keeper beside it; and the settle of what was found. Waits for the child.
 #[tactic(auto, using(crate::proofs::Endings::rose_later, crate::proofs::Endings::rose_earlier))]
 pub fn run_started<
     R: Threads + Wait + Sync,
@@ -232,13 +247,5 @@ pub fn run_started<
         reader_events,
         keeper_events,
     );
-    conclude(
-        alloc,
-        bay,
-        asked,
-        watch.cells,
-        watch.terms.cell,
-        lived,
-        notes,
-    )
+    conclude(rt, alloc, bay, asked, watch, lived, notes, keeper_events)
 }

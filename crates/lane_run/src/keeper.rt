@@ -300,6 +300,7 @@ pub(crate) fn keep<R: Wait, J: Asks<T>, T: Settled + Drop, C: Clock, H: Hold>(
     ensures hold { (H.is_reaped hold.new ≡ H.is_reaped hold.old) × (H.faults hold.old ≤ H.faults hold.new) }
     ensures fault { IfSome result.why (λ why. EndsChild why × (why ≡ reason.Fault → 0 < H.faults hold.new)) }
     ensures failed { result.is_failed ≡ true → 0 < H.faults hold.new }
+    ensures room { IfNone result.why (2 ≤ events.new.room) }
 {
     let mut has_ended = false;
     for _ in rt.forever() {

@@ -15,6 +15,7 @@ mod making;
 mod over;
 mod passing;
 mod prepare;
+mod proof;
 mod racing;
 mod reader;
 mod start;

@@ -41,9 +41,9 @@ pub(crate) trait Side {
         ensures { runs self.old result self.new };
 }
 
-// The reader's side and the keeper beside each other. Where no thread can be made, `join_mut` calls its second closure first. That has to be
+// The reader's side and the keeper beside each other. The flag tells that one of them has ended. Where no thread can be made, `join_mut` calls its second closure first. That has to be
 // the reader's side: it needs nothing of the keeper to come to its end, and a keeper without it would wait for ever.
-fn run_beside<
+pub(crate) fn run_beside<
     R: Threads + Wait + Sync,
     A: Side<Output = X>,
     J: Asks<T> + Sync,
@@ -61,7 +61,6 @@ fn run_beside<
     events: &mut EventList<T>,
 ) -> (X, Kept<T>)
     requires reader { A.can_run reader.old }
-    requires alive { H.killed hold.old ≡ None }
     requires cell { watch.now.terms.now.cell < length watch.now.cells.now }
     requires other { IfSome watch.now.other (λ o. o.0 < length watch.now.cells.now) }
     requires notes { AreNotesOf watch.now.cells.now notes.old }
@@ -70,7 +69,8 @@ fn run_beside<
     ensures reader { A.runs reader.old result.0 reader.new }
     ensures kept { KeptOut (terms_of T.job T.answer watch.now.terms.now) (IsOfCell T.problem T.job (J.problem watch.now.asks.now) watch.now.terms.now watch.now.other) (C.may_read watch.now.clock.now) notes.old notes.new events.old.events events.new.events
         (H.faults hold.new) result.1.why result.1.is_failed }
-    ensures killed { IfNone result.1.why (H.killed hold.new ≡ None) }
+    ensures room { IfNone result.1.why (2 ≤ events.new.room) }
+    ensures killed { IfNone result.1.why (H.killed hold.new ≡ H.killed hold.old) }
     ensures reaped { H.is_reaped hold.new ≡ H.is_reaped hold.old }
 {
     let (kept, given) = join_mut(
@@ -81,7 +81,11 @@ fn run_beside<
             requires notes { AreNotesOf watch.now.cells.now notes.now }
             requires room { 2 ≤ events.now.room }
             requires turns { TakesTurns (keeper_from (terms_of T.job T.answer watch.now.terms.now) keeper.Fresh events.now.events) }
-        { keep(rt, watch, has_ended, hold, notes, events) },
+        {
+            let kept = keep(rt, watch, has_ended, hold, notes, events);
+            has_ended.store(true, Ordering::SeqCst);
+            kept
+        },
         &mut || -> X
             requires { A.can_run reader.now }
         { reader.run() },
@@ -203,6 +207,7 @@ pub(crate) fn live<
         × Comes (S.stands subject) (S.ends subject) (S.proves subject) (NoneLeft now) (S.taken result.subject) [] result.part }
     ensures read_failed { result.part ≡ reader.Failed → Rose (L.read_faults bay.old) (L.read_faults bay.new) }
     ensures kept { MatchOption result.why (TakesTurns (keeper_from (terms_of T.job T.answer watch.now.terms.now) keeper.Fresh keeper_events.new.events)) (λ why. keeper_from (terms_of T.job T.answer watch.now.terms.now) keeper.Fresh keeper_events.new.events ≡ keeper.Killed why) }
+    ensures keeper_room { IfNone result.why (2 ≤ keeper_events.new.room) }
     ensures place { place_from Away keeper_events.new.events ≡ place_from Away keeper_events.old.events }
     ensures keeps { Keeps (IsOfCell T.problem T.job (J.problem watch.now.asks.now) watch.now.terms.now watch.now.other) (C.may_read watch.now.clock.now) notes.old notes.new keeper_events.old.events keeper_events.new.events }
     ensures fault { IfSome result.why (λ why. EndsChild why × (why ≡ reason.Fault → Rose (L.hold_faults bay.old) (L.hold_faults bay.new))) }

@@ -1,6 +1,6 @@
 // What a lane asks of whoever judges.
 
-ghost use Rattle.std.specs.Prelude.{◌≡◌, ◌≢◌, ◌⊎◌, ℕ, ◌≤◌, List, ◌++◌, Bool, true, length};
+ghost use Rattle.std.specs.Prelude.{◌≡◌, ◌≢◌, ◌⊎◌, ℕ, ◌≤◌, List, [], ◌++◌, Bool, IfOk, true, length};
 ghost use Rattle.lane_run.specs.Judging.{Says, Within};
 ghost use Rattle.race_core.specs.declared.event.Judged.{Judged};
 ghost use Rattle.race_core.specs.declared.event.Judged.TheVariants.{Found, More};
@@ -9,7 +9,7 @@ ghost use Rattle.sby_terms.specs.declared.names.JobName.{JobName};
 
 use race_core::Judged;
 use sby_terms::{JobName, Settled};
-use std::alloc::Global;
+use std::alloc::{AllocError, Global};
 
 /// Who judges the output of one child, piece by piece, and the proof file after it where the output leaves it to that.
 pub trait Subject<T: Settled> {
@@ -29,6 +29,12 @@ pub trait Subject<T: Settled> {
 
     /// The output ended and decided nothing: the proof file is due.
     ghost awaits: { Self → Type 0 };
+
+    /// What was taken of the proof file.
+    ghost proved: { Self → List ℕ };
+
+    /// The proof file is being judged, and it takes more: nothing stands in what was taken of it.
+    ghost proving: { Self → Type 0 };
 
     /// What an output that begins with these bytes comes to, whatever follows; More where nothing stands yet.
     ghost stands: { Self → List ℕ → Judged T → Type 0 };
@@ -57,10 +63,24 @@ pub trait Subject<T: Settled> {
         ensures more { result ≡ More → awaits self.new }
         ensures same { Within (proves self.new) (proves self.old) };
 
-    /// Judges the proof file.
-    fn prove(&mut self, alloc: Global, proof: &[u8]) -> Judged<T>
+    /// Begins to judge the proof file.
+    fn open_proof(&mut self, alloc: Global) -> Result<(), AllocError>
         requires { awaits self.old }
-        ensures says { Says (proves self.old) proof.now result }
+        ensures opened { IfOk result (λ _. proving self.new × (proved self.new ≡ [])) }
+        ensures same { Within (proves self.new) (proves self.old) };
+
+    /// Takes the next piece of the proof file. What is said of it, unless it is More, is said of the file whatever follows.
+    fn feed_proof(&mut self, alloc: Global, piece: &[u8]) -> Judged<T>
+        requires { proving self.old }
+        ensures proved { proved self.new ≡ proved self.old ++ piece.now }
+        ensures says { result ≢ More → (more : List ℕ) → Says (proves self.old) (proved self.new ++ more) result }
+        ensures more { result ≡ More → proving self.new }
+        ensures same { Within (proves self.new) (proves self.old) };
+
+    /// The proof file ends.
+    fn end_proof(&mut self, alloc: Global) -> Judged<T>
+        requires { proving self.old }
+        ensures says { Says (proves self.old) (proved self.old) result }
         ensures whole { result ≢ More };
 
     // What stands, stays, also where the output ends there.

@@ -114,6 +114,10 @@ impl<'a> Subject<Finding> for ShortJudge<'a> {
 
     ghost awaits = { λ s. Unit {0} };
 
+    ghost proved = { λ s. s.output.bytes };
+
+    ghost proving = { λ s. Unit {0} };
+
     ghost stands = { λ s. IsOurs s.problem.now.problem s.job };
 
     ghost ends = { λ s. IsOurs s.problem.now.problem s.job };
@@ -130,7 +134,17 @@ impl<'a> Subject<Finding> for ShortJudge<'a> {
         told_of_end(&mut self.judge)
     }
 
-    fn prove(&mut self, _alloc: Global, _proof: &[u8]) -> Judged<Finding> {
+    fn open_proof(&mut self, _alloc: Global) -> Result<(), AllocError> {
+        self.output = Output::of(&Nothing);
+        Ok(())
+    }
+
+    fn feed_proof(&mut self, _alloc: Global, piece: &[u8]) -> Judged<Finding> {
+        self.output = with_piece(&self.output, piece);
+        Judged::More
+    }
+
+    fn end_proof(&mut self, _alloc: Global) -> Judged<Finding> {
         Judged::Unjudged
     }
 

@@ -1,6 +1,5 @@
 -- What the judge of a child's output, as a lane asks for it, says.
-use Rattle.std.proofs.Common.{◌≡◌, ◌≢◌, ℕ, true, List, [], ◌++◌, refl, sym, subst, ◌∙◌}
-use Rattle.std.proofs.lemmas.List.{append-nil}
+use Rattle.std.proofs.Common.{◌≡◌, ◌≢◌, ℕ, true, List, ◌++◌, refl, sym, ◌∙◌}
 use Rattle.judge.specs.Finding.{FindingOf}
 use Rattle.judge.specs.Judging.{JudgeOf}
 use Rattle.judge.specs.Problem.{AskedOf, IsJob, IsJobFile}
@@ -12,8 +11,8 @@ use Rattle.race_core.specs.declared.event.Judged.TheVariants as judged
 use Rattle.sby_terms.specs.declared.names.JobName.{JobName}
 use Rattle.cert_judge.specs.declared.stream.StreamKind.{StreamKind}
 use Rattle.std.specs.Prelude.{None, Some}
-use Rattle.task_race.specs.Fates.{Ends, GoesOn, ProvesAs, SolverGoesOn, Stands, stays_law}
-use Rattle.task_race.specs.Watching.{Awaits, EndedSo, FedSo, IsReading, Watches}
+use Rattle.task_race.specs.Fates.{Ends, GoesOn, Proves, ProvesAs, SolverGoesOn, Stands, stays_law}
+use Rattle.task_race.specs.Watching.{Awaits, EndedSo, FedSo, IsReading, Proving, Watches}
 use Rattle.task_race.specs.declared.evidence.Evidence.{Evidence}
 use Rattle.task_race.specs.declared.evidence.Evidence.TheVariants.{Output, ProofFile}
 use Rattle.task_race.specs.declared.subject.Watch.{Watch}
@@ -78,7 +77,7 @@ told_whole : (p : AskedOf) (job : JobName) (kind : StreamKind) (bytes file : Lis
 told_whole p job kind bytes file said at (None, tells, whole) = absurd (whole file at)
 told_whole p job kind bytes file said at (Some fate, tells, whole) = (fate, tells, whole)
 
-pub file_says : (p : AskedOf) (job : JobName) (kind : StreamKind) (bytes file : List ℕ) (said : Judged FindingOf) → IsJobFile p job file → Says (Ends p job (Output kind)) bytes said → Says (ProvesAs p job kind) bytes said
+file_says : (p : AskedOf) (job : JobName) (kind : StreamKind) (bytes file : List ℕ) (said : Judged FindingOf) → IsJobFile p job file → Says (Ends p job (Output kind)) bytes said → Says (ProvesAs p job kind) bytes said
 file_says p job kind bytes file judged.More at says = told_whole p job kind bytes file judged.More at says
 file_says p job kind bytes file (judged.Found f) at says = told_whole p job kind bytes file (judged.Found f) at says
 file_says p job kind bytes file judged.Unknown at says = told_whole p job kind bytes file judged.Unknown at says
@@ -86,7 +85,7 @@ file_says p job kind bytes file (judged.Bad number place) at says = told_whole p
 file_says p job kind bytes file judged.Failed at says = says
 file_says p job kind bytes file judged.Unjudged at says = tt
 
-pub file_never_more : (p : AskedOf) (job : JobName) (kind : StreamKind) (bytes : List ℕ) (said : Judged FindingOf) → Says (ProvesAs p job kind) bytes said → said ≢ judged.More
+file_never_more : (p : AskedOf) (job : JobName) (kind : StreamKind) (bytes : List ℕ) (said : Judged FindingOf) → Says (ProvesAs p job kind) bytes said → said ≢ judged.More
 file_never_more p job kind bytes judged.More (fate, tells, whole) same = absurd (let e = tells in cc)
 file_never_more p job kind bytes (judged.Found f) says same = absurd (let e = same in cc)
 file_never_more p job kind bytes judged.Unknown says same = absurd (let e = same in cc)
@@ -94,15 +93,33 @@ file_never_more p job kind bytes (judged.Bad number place) says same = absurd (l
 file_never_more p job kind bytes judged.Failed says same = absurd (let e = same in cc)
 file_never_more p job kind bytes judged.Unjudged says same = absurd (let e = same in cc)
 
--- a fate that stands in a stream's first bytes is its own, where it isn't More
-ended_same : (p : AskedOf) (job : JobName) (kind : StreamKind) (bytes : List ℕ) (said : Judged FindingOf) → said ≢ judged.More → Stands p job (Output kind) bytes said → Ends p job (Output kind) bytes said
-ended_same p job kind bytes said some stands =
-    subst (λ (b : List ℕ). Ends p job (Output kind) b said) (append-nil bytes) (stays_law p job (Output kind) bytes [] said some stands)
+-- what is said of a stream's first bytes is said of the whole, where it isn't More
+stood_on : (p : AskedOf) (job : JobName) (kind : StreamKind) (bytes more : List ℕ) (said : Judged FindingOf) → said ≢ judged.More → Says (Stands p job (Output kind)) bytes said → Says (Ends p job (Output kind)) (bytes ++ more) said
+stood_on p job kind bytes more judged.More some says = absurd (some refl)
+stood_on p job kind bytes more (judged.Found f) some says = stays_law p job (Output kind) bytes more (judged.Found f) some says
+stood_on p job kind bytes more judged.Unknown some says = stays_law p job (Output kind) bytes more judged.Unknown some says
+stood_on p job kind bytes more (judged.Bad number place) some says = stays_law p job (Output kind) bytes more (judged.Bad number place) some says
+stood_on p job kind bytes more judged.Failed some says = says
+stood_on p job kind bytes more judged.Unjudged some says = tt
 
-pub stood_whole : (p : AskedOf) (job : JobName) (kind : StreamKind) (bytes : List ℕ) (said : Judged FindingOf) → said ≢ judged.More → Says (Stands p job (Output kind)) bytes said → Says (Ends p job (Output kind)) bytes said
-stood_whole p job kind bytes judged.More some says = absurd (some refl)
-stood_whole p job kind bytes (judged.Found f) some says = ended_same p job kind bytes (judged.Found f) some says
-stood_whole p job kind bytes judged.Unknown some says = ended_same p job kind bytes judged.Unknown some says
-stood_whole p job kind bytes (judged.Bad number place) some says = ended_same p job kind bytes (judged.Bad number place) some says
-stood_whole p job kind bytes judged.Failed some says = says
-stood_whole p job kind bytes judged.Unjudged some says = tt
+-- a proof file that is judged has a kind, and its judge may take more
+pub proving_reading : (p : AskedOf) (job : JobName) (by : Evidence) (j : JudgeOf) (bytes : List ℕ) → Proving p job by (Some j) bytes → IsReading j
+proving_reading p job (Output kind) j bytes h = absurd h
+proving_reading p job (ProofFile kind) j bytes h = λ e. apart (sym h.took.state ∙ e)
+
+-- what is said of its next piece, and of its end
+pub file_fed : (p : AskedOf) (job : JobName) (by : Evidence) (old new : JudgeOf) (bytes piece file : List ℕ) (said : Judged FindingOf) → IsJobFile p job file → Proving p job by (Some old) bytes
+    → ((q : AskedOf) (k : JobName) (kind : StreamKind) (b : List ℕ) → GoesOn q k kind old b → FedSo q k (Output kind) (GoesOn q k kind new (b ++ piece)) (b ++ piece) said)
+    → (said ≢ judged.More → (more : List ℕ) → Says (Proves p job by) ((bytes ++ piece) ++ more) said) × (said ≡ judged.More → Proving p job by (Some new) (bytes ++ piece))
+file_fed p job (Output kind) old new bytes piece file said at h fed = absurd h
+file_fed p job (ProofFile kind) old new bytes piece file said at h fed =
+    let f = fed p job kind bytes h in
+    ((λ some more. file_says p job kind ((bytes ++ piece) ++ more) file said at (stood_on p job kind (bytes ++ piece) more said some (f.says file at))), (λ is. (f.more file at is).0))
+
+pub file_ended : (p : AskedOf) (job : JobName) (by : Evidence) (old : JudgeOf) (bytes file : List ℕ) (said : Judged FindingOf) → IsJobFile p job file → Proving p job by (Some old) bytes
+    → ((q : AskedOf) (k : JobName) (kind : StreamKind) (b : List ℕ) → GoesOn q k kind old b → EndedSo q k (Output kind) b said)
+    → Says (Proves p job by) bytes said × (said ≢ judged.More)
+file_ended p job (Output kind) old bytes file said at h over = absurd h
+file_ended p job (ProofFile kind) old bytes file said at h over =
+    let says = file_says p job kind bytes file said at (over p job kind bytes h file at) in
+    (says, file_never_more p job kind bytes said says)

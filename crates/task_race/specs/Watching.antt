@@ -1,5 +1,5 @@
 -- Who judges the output of a child, and how it stands.
-use Rattle.std.specs.Prelude.{◌≡◌, ◌≢◌, ◌≤◌, ℕ, List, length, Result, Ok, Err}
+use Rattle.std.specs.Prelude.{◌≡◌, ◌≢◌, ◌≤◌, ℕ, List, length, Option, None, Some, Result, Ok, Err}
 use Rattle.std.specs.declared.alloc.AllocError.{AllocError}
 use Rattle.sby_terms.specs.declared.names.JobName.{JobName}
 use Rattle.race_core.specs.declared.event.Judged.{Judged}
@@ -28,6 +28,12 @@ Watches p job (ProofFile kind) (Solver j) bytes = SolverGoesOn p job j bytes
 abbrev pub Awaits : AskedOf → JobName → Evidence → Type 0
 Awaits p job (Output kind) = ⊥
 Awaits p job (ProofFile kind) = IsJob p job
+
+-- the proof file of a kind is judged by a judge of such a stream that goes on and has taken these bytes
+abbrev pub Proving : AskedOf → JobName → Evidence → Option JudgeOf → List ℕ → Type 0
+Proving p job (Output kind) file bytes = ⊥
+Proving p job (ProofFile kind) None bytes = ⊥
+Proving p job (ProofFile kind) (Some j) bytes = GoesOn p job kind j bytes
 
 -- an answer as a lane's list has it; out of memory isn't judged
 abbrev pub told_as : Result (Result Progress BadCert) AllocError → Judged FindingOf

@@ -10,7 +10,7 @@ ghost use Rattle.sby_terms.specs.Path.{job_path};
 ghost use Rattle.sby_terms.specs.Span.{slices_of};
 
 use crate::evidence::Evidence;
-use crate::output::{Output, Told};
+use crate::output::{Nothing, Output};
 use crate::subject::{JobJudge, Watch};
 use crate::words::{proof_path, words_of};
 use cert_judge::StreamKind;
@@ -126,16 +126,6 @@ impl<'a> Asks<Finding> for ProblemLanes<'a> {
     }
 }
 
-// No bytes.
-#[derive(Drop)]
-struct Nothing;
-
-impl Told for Nothing {
-    ghost use Rattle.std.specs.Prelude.{[]};
-
-    ghost bytes = { λ _. [] };
-}
-
 impl<'a> Makes<Finding> for ProblemLanes<'a> {
     ghost use Rattle.task_race.specs.Fates.{stays_law};
 
@@ -183,6 +173,8 @@ impl<'a> Makes<Finding> for ProblemLanes<'a> {
             evidence,
             watch,
             output: Output::of(&Nothing),
+            file: None,
+            proof: Output::of(&Nothing),
         };
         Ok(Child {
             subject,

@@ -11,6 +11,16 @@ pub trait Told {
     ghost bytes: { Self → List ℕ };
 }
 
+// No bytes.
+#[derive(Drop)]
+pub(crate) struct Nothing;
+
+impl Told for Nothing {
+    ghost use Rattle.std.specs.Prelude.{[]};
+
+    ghost bytes = { λ _. [] };
+}
+
 /// Bytes that only clauses read. It has none itself, so only a fact beside it ties them.
 pub struct Output {
     marker: PhantomData<u8>,

@@ -1,17 +1,15 @@
 // The judge of a child's output, as a lane asks for it.
 
-ghost use Rattle.std.specs.Prelude.{◌≡◌, ◌≢◌, ℕ, ◌++◌, List, true};
-ghost use Rattle.judge.specs.Problem.{AskedOf, IsJob};
-ghost use Rattle.lane_run.specs.Judging.{Says};
-ghost use Rattle.task_race.specs.Fates.{Ends, GoesOn, Proves, ProvesAs, SolverGoesOn, Stands, judged_as, most_output};
-ghost use Rattle.task_race.specs.Watching.{Awaits, EndedSo, FedSo, IsReading, Watches, told_as};
+ghost use Rattle.std.specs.Prelude.{◌≡◌, ℕ, ◌++◌, List, true};
+ghost use Rattle.judge.specs.Problem.{AskedOf};
+ghost use Rattle.task_race.specs.Fates.{Ends, GoesOn, Proves, SolverGoesOn, Stands, judged_as, most_output};
+ghost use Rattle.task_race.specs.Watching.{Awaits, EndedSo, FedSo, IsReading, Proving, Watches, told_as};
 ghost use Rattle.task_race.specs.declared.evidence.Evidence.TheVariants as evidence;
-ghost use Rattle.race_core.specs.declared.event.Judged.TheVariants as judged;
 ghost use Rattle.sby_terms.specs.declared.names.JobName.{JobName};
 ghost use Rattle.cert_judge.specs.declared.stream.StreamKind.{StreamKind};
 
 use crate::evidence::Evidence;
-use crate::output::{Output, Told};
+use crate::output::{Nothing, Output, Told};
 use cert_judge::{BadCert, StreamKind};
 use judge::{Finding, Judge, Problem, Progress, SolverJudge};
 use lane_run::Subject;
@@ -35,6 +33,9 @@ pub struct JobJudge<'a> {
     pub(crate) evidence: Evidence,
     pub(crate) watch: Watch<'a>,
     pub(crate) output: Output,
+    // Who judges the proof file, once that is due.
+    pub(crate) file: Option<Judge<'a>>,
+    pub(crate) proof: Output,
 }
 
 // An output with its next piece.
@@ -114,28 +115,6 @@ fn end_solver(judge: &mut SolverJudge) -> Judged<Finding>
     judged(judge.end())
 }
 
-// Judges a proof file of a kind.
-fn judge_file(
-    alloc: Global,
-    problem: &Problem,
-    job: JobName,
-    kind: StreamKind,
-    proof: &[u8],
-) -> Judged<Finding>
-    requires { IsJob problem.now job }
-    ensures says { Says (ProvesAs problem.now job kind) proof.now result }
-    ensures whole { result ≢ judged.More }
-{
-    let _file = problem.job_bytes(job);
-    let Ok(mut judge) = Judge::new(alloc, problem, job, kind, MAX_STREAM) else {
-        return Judged::Unjudged;
-    };
-    match feed_stream(&mut judge, proof) {
-        Judged::More => end_stream(&mut judge),
-        told => told,
-    }
-}
-
 impl<'a> Subject<Finding> for JobJudge<'a> {
     ghost use Rattle.task_race.specs.Fates.{for_law, stays_law};
 
@@ -150,6 +129,10 @@ impl<'a> Subject<Finding> for JobJudge<'a> {
     ghost goes_on = { λ s. Watches s.problem.now s.job s.evidence s.watch s.output.bytes };
 
     ghost awaits = { λ s. Awaits s.problem.now s.job s.evidence };
+
+    ghost proved = { λ s. s.proof.bytes };
+
+    ghost proving = { λ s. Proving s.problem.now s.job s.evidence s.file s.proof.bytes };
 
     ghost stands = { λ s. Stands s.problem.now s.job s.evidence };
 
@@ -174,10 +157,30 @@ impl<'a> Subject<Finding> for JobJudge<'a> {
         }
     }
 
-    fn prove(&mut self, alloc: Global, proof: &[u8]) -> Judged<Finding> {
-        match self.evidence {
-            Evidence::ProofFile(kind) => judge_file(alloc, self.problem, self.job, kind, proof),
-            Evidence::Output(_) => unreachable!(),
+    fn open_proof(&mut self, alloc: Global) -> Result<(), AllocError> {
+        let Evidence::ProofFile(kind) = self.evidence else {
+            unreachable!()
+        };
+        let judge = Judge::new(alloc, self.problem, self.job, kind, MAX_STREAM)?;
+        self.file = Some(judge);
+        self.proof = Output::of(&Nothing);
+        Ok(())
+    }
+
+    fn feed_proof(&mut self, _alloc: Global, piece: &[u8]) -> Judged<Finding> {
+        let _file = self.problem.job_bytes(self.job);
+        self.proof = with_piece(&self.proof, piece);
+        match &mut self.file {
+            Some(judge) => feed_stream(judge, piece),
+            None => unreachable!(),
+        }
+    }
+
+    fn end_proof(&mut self, _alloc: Global) -> Judged<Finding> {
+        let _file = self.problem.job_bytes(self.job);
+        match &mut self.file {
+            Some(judge) => end_stream(judge),
+            None => unreachable!(),
         }
     }
 
