@@ -12,6 +12,20 @@ use unit_propagation::Propagator;
 // A shorter last clause isn't taken for a goal.
 const LEAST_GOAL: usize = 4;
 
+// The literal of the open variable that comes first in focused mode.
+fn open_by_queue(core: &Propagator, order: &mut Order) -> Option<Lit>
+    ensures { IfSome result (λ l. LitWithin core.now.vars l × IsOpen core.now.trail l) }
+{
+    let var = order.front(core);
+    if 0 < var && var <= core.vars() {
+        let l = Lit::new(var, order.sign(var));
+        if is_open(core, l) {
+            return Some(l);
+        }
+    }
+    None
+}
+
 // The literal of an open variable, with the sign that it had last.
 fn open_by_order(core: &Propagator, order: &mut Order) -> Option<Lit>
     ensures { IfSome result (λ l. LitWithin core.now.vars l × IsOpen core.now.trail l) }
@@ -80,6 +94,9 @@ pub(crate) fn choose(core: &Propagator, order: &mut Order, formula: &Formula) ->
         if let Some(l) = order.goals.next(core, goals) {
             return Some(l);
         }
+    }
+    if let Some(l) = open_by_queue(core, order) {
+        return Some(l);
     }
     if let Some(l) = open_by_order(core, order) {
         return Some(l);

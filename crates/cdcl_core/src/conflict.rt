@@ -20,19 +20,20 @@ use decision_order::Order;
 use std::alloc::AllocError;
 use unit_propagation::Propagator;
 
-// Makes the variables that a conflict rested on more active, unless it came of a lucky guess.
-fn bump_all(analysis: &Analysis, order: &mut Order) {
+// The variables that a conflict rested on come earlier from now on, unless it came of a lucky guess.
+fn bump_all(analysis: &Analysis, order: &mut Order) -> Result<(), AllocError> {
     if order.lucky.is_left() {
-        return;
+        return Ok(());
     }
     for l in analysis.current() {
-        order.bump(l.var());
+        order.bump(l.var())?;
     }
     for l in analysis.lower() {
-        order.bump(l.var());
+        order.bump(l.var())?;
     }
     order.decay();
     order.goals.count();
+    Ok(())
 }
 
 // The clause of the first unique implication point, where there is one, without the literals that follow from its others. Its first
@@ -85,7 +86,7 @@ impl Solver {
         self.order.set_stable(self.restarts.is_stable());
         self.order.save_target(&core.trail()[..base]);
         let point = self.analysis.first_uip(core, k, root, base)?;
-        bump_all(&self.analysis, &mut self.order);
+        bump_all(&self.analysis, &mut self.order)?;
         let learnt = minimize(
             core,
             &mut self.analysis,

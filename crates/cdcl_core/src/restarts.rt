@@ -6,8 +6,11 @@ use cnf_form::Lit;
 use std::alloc::{AllocError, Global};
 use unit_propagation::Propagator;
 
-// In focused mode, this many conflicts come at least between one restart and the next.
+// In focused mode, this many conflicts come at least between one restart and the next, ..
 const LEAST: u64 = 50;
+
+// .. and where the formula is that of a job over several cycles, this many.
+const LEAST_OF_JOB: u64 = 10;
 
 // In stable mode, the conflicts between one restart and the next are a multiple of this.
 const STABLE_UNIT: u64 = 1024;
@@ -47,6 +50,7 @@ pub(crate) struct Restarts {
     clock: u64,
     counted: u64,
     since: u64,
+    least: u64,
     fast: u64,
     slow: u64,
     stable: bool,
@@ -91,13 +95,14 @@ fn moved(average: u64, value: u64, count: u64) -> u64 {
 }
 
 impl Restarts {
-    pub fn new(alloc: Global, vars: u32) -> Result<Self, AllocError> {
+    pub fn new(alloc: Global, vars: u32, has_goal: bool) -> Result<Self, AllocError> {
         let stamps = vec![in alloc; 0; vars as usize + 1]?;
         Ok(Restarts {
             stamps,
             clock: 0,
             counted: 0,
             since: 0,
+            least: if has_goal { LEAST_OF_JOB } else { LEAST },
             fast: 0,
             slow: 0,
             stable: false,
@@ -170,7 +175,7 @@ impl Restarts {
         let due = if self.stable {
             self.since >= self.waits.wait.saturating_mul(STABLE_UNIT)
         } else {
-            self.since >= LEAST && self.fast / 10 * 9 > self.slow
+            self.since >= self.least && self.fast / 10 * 9 > self.slow
         };
         if due {
             self.since = 0;

@@ -114,8 +114,9 @@ impl Solver {
     {
         let vars = formula.vars();
         let analysis = Analysis::new(alloc, vars)?;
-        let order = Order::new(alloc, vars, has_goal(formula))?;
-        let restarts = Restarts::new(alloc, vars)?;
+        let has_goal = has_goal(formula);
+        let order = Order::new(alloc, vars, has_goal)?;
+        let restarts = Restarts::new(alloc, vars, has_goal)?;
         let minimizer = Minimizer::new(alloc, vars)?;
         let frozen = Frozen::new(alloc, vars)?;
         Ok(Solver {

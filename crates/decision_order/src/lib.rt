@@ -6,6 +6,7 @@ mod goals;
 mod lucky;
 mod open;
 mod order;
+mod queue;
 mod walk;
 mod walks;
 mod weights;

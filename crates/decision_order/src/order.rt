@@ -1,13 +1,16 @@
-// The order in which variables are decided: those that conflicts rested on lately come first, by activities that fade (VSIDS: Moskewicz
-// and others, 2001; Eén and Sörensson, 2003). Nothing is promised of it.
+// The order in which variables are decided: in focused mode of a job those come first that a conflict rested on last, else those that
+// conflicts rested on lately, by activities that fade (VSIDS: Moskewicz and others, 2001; Eén and Sörensson, 2003). Nothing is promised of
+// it.
 
 ghost use Rattle.std.specs.Prelude.{◌<◌};
 
 use crate::goals::Goals;
 use crate::lucky::Lucky;
+use crate::queue::Queue;
 use crate::walks::Walks;
 use cnf_form::Lit;
 use std::alloc::{AllocError, Global};
+use unit_propagation::Propagator;
 
 // Where an activity is halved with all others.
 const MAX_ACTIVITY: u64 = 1 << 60;
@@ -24,6 +27,8 @@ pub struct Order {
     places: Vec<u32>,
     activities: Vec<u64>,
     signs: Vec<bool>,
+    queue: Queue,
+    has_queue: bool,
     step: u64,
     pub goals: Goals,
     pub lucky: Lucky,
@@ -53,6 +58,8 @@ impl Order {
             places,
             activities,
             signs,
+            queue: Queue::new(alloc, vars)?,
+            has_queue: has_goal,
             step: 1 << 20,
             goals: Goals::new(has_goal),
             lucky: Lucky::new(has_goal),
@@ -231,6 +238,7 @@ impl Order {
     pub fn unassign(&mut self, var: u32, sign: bool) -> Result<(), AllocError> {
         let index = var as usize;
         self.walks.open();
+        self.queue.unassign(var);
         if index < self.signs.len() && !self.lucky.is_left() {
             self.signs[index] = sign;
         }
@@ -243,8 +251,31 @@ impl Order {
         Ok(())
     }
 
-    /// Makes a variable more active.
-    pub fn bump(&mut self, var: u32) {
+    // Whether variables are decided by the queue: in focused mode, where the formula is that of a job over several cycles. Others are
+    // solved sooner by activities.
+    fn is_by_queue(&self) -> bool {
+        self.has_queue && !self.stable
+    }
+
+    /// The open variable that comes first, where the queue decides, else 0.
+    pub fn front(&mut self, core: &Propagator) -> u32 {
+        if !self.is_by_queue() {
+            return 0;
+        }
+        self.queue.front(core)
+    }
+
+    /// A conflict rested on a variable, which has a value.
+    pub fn bump(&mut self, var: u32) -> Result<(), AllocError> {
+        if self.is_by_queue() {
+            return self.queue.push(var);
+        }
+        self.activate(var);
+        Ok(())
+    }
+
+    // Makes a variable more active.
+    fn activate(&mut self, var: u32) {
         let index = var as usize;
         if index < self.activities.len() {
             self.activities[index] = self.activities[index].saturating_add(self.step);
@@ -260,8 +291,12 @@ impl Order {
         }
     }
 
-    /// Makes later conflicts count more.
+    /// Later conflicts count more than this one.
     pub fn decay(&mut self) {
+        if self.is_by_queue() {
+            self.queue.move_all();
+            return;
+        }
         self.step = self.step.saturating_add(self.step / 20);
     }
 
