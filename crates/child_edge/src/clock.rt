@@ -39,7 +39,7 @@ impl<'a, R: SystemClock + Sync> Clock for RealClock<'a, R> {
         }
     }
 
-    fn pause(&self) {
-        thread::sleep(self.rt, Duration::from_millis(1));
+    fn pause(&self, millis: u32) {
+        thread::sleep(self.rt, Duration::from_millis(u64::from(millis)));
     }
 }

@@ -305,7 +305,7 @@ fn a_kill_ends_what_a_child_has_started(rt: HostRuntime) -> Result<(), Failure> 
     let line = "echo 1; (sleep 1; echo > live) | cat";
     assert_eq!(rt; dies(&mut yard, &clock, alloc, line, 2), Ok(true));
     for _ in 0..1500 {
-        clock.pause();
+        clock.pause(1);
     }
     assert!(rt; matches!(std::fs::exists(&rt, LIVE), Ok(false)));
     Ok(())
@@ -346,7 +346,7 @@ fn programs_are_looked_for(rt: HostRuntime) -> Result<(), Failure> {
 
 fn passes<C: Clock>(clock: &C) -> bool {
     let before = clock.now();
-    clock.pause();
+    clock.pause(1);
     before < clock.now()
 }
 

@@ -3,7 +3,7 @@ use Rattle.std.proofs.Common.{◌≡◌, ◌⊎◌, inl, inr, Bool, true, false,
 use Rattle.std.specs.Option.{MatchOption}
 use Rattle.std.specs.Prelude.{IfSome}
 use Rattle.race_core.specs.Ends.{IsKilled}
-use Rattle.race_core.specs.Parts.{Terms, after_kill, after_look, comes_due, ending, keeper_after, keeper_from, shows_limit, tells_ending, turns}
+use Rattle.race_core.specs.Parts.{Terms, after_look, comes_due, ending, keeper_after, keeper_from, shows_limit, tells_ending, turns}
 use Rattle.race_core.specs.declared.event.LaneEvent.{LaneEvent}
 use Rattle.race_core.specs.declared.event.LaneEvent.TheVariants as event
 use Rattle.race_core.specs.declared.event.Polled.TheVariants as polled

@@ -279,6 +279,15 @@ fn kill<J: Asks<T>, T: Settled + Drop, C: Clock, H: Hold>(
     }
 }
 
+// How long a keeper pauses, in milliseconds, that has paused this long: a sixteenth of that, so that what comes meanwhile is seen soon by
+// comparison, and a long job costs next to no processor time; at most 20.
+fn pause_after(paused: u32) -> u32
+    ensures least { 1 ≤ result }
+    ensures most { result ≤ 20 }
+{
+    (paused / 16).clamp(1, 20)
+}
+
 // Takes turns until the reader has ended, or there is a reason to end the child.
 pub(crate) fn keep<R: Wait, J: Asks<T>, T: Settled + Drop, C: Clock, H: Hold>(
     rt: &R,
@@ -303,6 +312,7 @@ pub(crate) fn keep<R: Wait, J: Asks<T>, T: Settled + Drop, C: Clock, H: Hold>(
     ensures room { IfNone result.why (2 ≤ events.new.room) }
 {
     let mut has_ended = false;
+    let mut paused: u32 = 0;
     for _ in rt.forever() {
         if reader_ended.load(Ordering::SeqCst) {
             return Kept {
@@ -313,7 +323,9 @@ pub(crate) fn keep<R: Wait, J: Asks<T>, T: Settled + Drop, C: Clock, H: Hold>(
         if let Some(why) = turn(watch, hold, &mut has_ended, notes, events) {
             return kill(watch, hold, notes, events, why);
         }
-        watch.clock.pause();
+        let millis = pause_after(paused);
+        watch.clock.pause(millis);
+        paused = paused.saturating_add(millis);
     }
     unreachable!()
 }

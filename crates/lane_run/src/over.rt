@@ -1,21 +1,16 @@
-// What is left to the reader once the child is over: the proof file, where the output left the end to it, and the settling of what it
-// found.
+// A job as its lane's child is asked it, and what is left to the reader once the child is over: the settling of what it found.
 
-ghost use Rattle.std.specs.Prelude.{◌≡◌, ◌≢◌, ◌⊎◌, ℕ, ◌+◌, ◌<◌, ◌≤◌, List, [], Some, IfOk, length, true};
+ghost use Rattle.std.specs.Prelude.{◌≡◌, ◌⊎◌, ◌+◌, ◌<◌, ◌≤◌, Some, length, true};
 ghost use Rattle.lane_run.specs.Keeping.{Remember};
-ghost use Rattle.lane_run.specs.Reading.{FiledAs, IfWon, IsHolding, Proves, Settles, TookProof, got_bytes, bytes_filed, bytes_read, empty_reads};
+ghost use Rattle.lane_run.specs.Reading.{IfWon, IsHolding, Settles, bytes_filed, bytes_read, empty_reads};
 ghost use Rattle.race_cells.specs.Notes.{AreNotesOf, known_at};
 ghost use Rattle.race_core.specs.Parts.{reader_from};
 ghost use Rattle.race_core.specs.declared.event.Judged.TheVariants as judged;
 ghost use Rattle.race_core.specs.declared.part.Reader.TheVariants as reader;
-ghost use Rattle.sby_edge.specs.Cause.{HasCause, Rose};
-ghost use Rattle.sby_edge.specs.Child.{ProofFrom};
 
 use crate::entering::enter;
-use crate::subject::Subject;
 use race_cells::{Cells, Notes, Settling};
-use race_core::{By, EventList, Judged, LaneEvent, Reader};
-use sby_edge::{Fail, Got, Launch};
+use race_core::{EventList, LaneEvent, Reader};
 use sby_terms::{JobName, Settled};
 use std::alloc::Global;
 

@@ -175,6 +175,6 @@ pub trait Clock: Sync {
     fn now(&self) -> u64
         ensures { may_read self.now result };
 
-    /// Gives others a turn.
-    fn pause(&self);
+    /// Gives others a turn, for about this many milliseconds.
+    fn pause(&self, millis: u32);
 }

@@ -36,7 +36,7 @@ impl Clock for ListClock {
         self.readings[place]
     }
 
-    fn pause(&self) {
+    fn pause(&self, _millis: u32) {
         thread::yield_now();
     }
 }

@@ -251,5 +251,5 @@ impl Clock for StillClock {
         self.0
     }
 
-    fn pause(&self) {}
+    fn pause(&self, _millis: u32) {}
 }

@@ -1,11 +1,11 @@
 -- What bays leave to their yard.
-use Rattle.std.proofs.Common.{◌≡◌, ℕ, ◌≤◌, inl, inr, ◌⊎◌, List, [], ◌∷◌, ◌++◌, length, map, option_map, refl, sym, ap, subst, ◌∙◌, arith, append_assoc, append-nil, rules}
+use Rattle.std.proofs.Common.{◌≡◌, ℕ, inl, inr, List, [], ◌∷◌, ◌++◌, map, option_map, refl, sym, ap, subst, ◌∙◌, arith, append_assoc, append-nil, rules}
 use Rattle.std.specs.Prelude.{Option, Some, None, All, Contains, IfSome, slice_get}
 use Rattle.std.proofs.lemmas.List.Elements.{All-append, Contains-append_left, Contains-append_right}
 use Rattle.sby_edge.specs.Cause.{CountsOf}
 use Rattle.sby_edge.specs.Child.{BayOf, IsLogged, LaneOf, StartOf, YardOf, left_by, new_bay}
 use Rattle.lane_run.specs.Starting.{with_starts}
-use Rattle.task_race.specs.Bays.{AreCountsOf, BackOf, CameBack, IsToldSince, NoneStarted, YardAt, counts_in, left_all, none_failed}
+use Rattle.task_race.specs.Bays.{BackOf, CameBack, IsToldSince, NoneStarted, YardAt, counts_in, left_all, none_failed}
 use Rattle.task_race.specs.Prepared.{AreNew}
 use Rattle.std.proofs.lemmas.List.{length-map}
 use Rattle.std.proofs.lemmas.Option.{slice_get_within}

@@ -14,17 +14,17 @@ use Rattle.race_core.specs.Report.{ReportOf}
 use Rattle.race_core.specs.declared.end.JobEnd.{JobEnd}
 use Rattle.race_core.specs.declared.end.JobEnd.TheVariants as end
 use Rattle.lane_run.specs.Asked.{IsFor, terms_at}
-use Rattle.lane_run.specs.Done.{JobFaults, LaneFaults, LaneStops}
+use Rattle.lane_run.specs.Done.{LaneFaults, LaneStops}
 use Rattle.lane_run.specs.Raced.{LanesDone}
 use Rattle.lane_run.specs.Started.{LaneStarts}
 use Rattle.task_race.specs.Fates.{Ends, Proves, Stands, most_bytes, most_output}
 use Rattle.task_race.specs.Serving.{IsServed, file_of}
 use Rattle.sby_terms.specs.declared.names.Mode.{Mode}
 use Rattle.task_race.specs.Bays.{BackOf, CameBack, YardAt, left_all, none_failed}
-use Rattle.task_race.specs.Ran.{RacingOf, AreConsistent, AreDone, AreStarts, EachBack, EachLane, HaveRaced, IsStart, LanesRan, Serves, WinnersFind, answer_in, evidence_in, job_count, job_in, limit_from, name_in, problem_in, terms_in, words_in}
+use Rattle.task_race.specs.Ran.{RacingOf, AreConsistent, AreDone, AreStarts, EachBack, HaveRaced, IsStart, LanesRan, Serves, WinnersFind, answer_in, evidence_in, job_count, job_in, limit_from, name_in, problem_in, terms_in, words_in}
 use Rattle.task_race.specs.Prepared.{AreNew}
 use Rattle.task_race.proofs.BackLemmas.{counts_left}
-use Rattle.task_race.proofs.PlaceLemmas.{all_at, at_contains, at_map, contains_at, stands_at}
+use Rattle.task_race.proofs.PlaceLemmas.{all_at, at_map, contains_at, stands_at}
 use Rattle.task_race.proofs.WonLemmas.{winner_finds}
 use Rattle.std.proofs.lemmas.List.{get_or_default, length-map}
 

@@ -113,7 +113,7 @@ fn no_yard_starts_a_child(rt: HostRuntime) {
 }
 
 fn reading<C: Clock>(clock: &C) -> u64 {
-    clock.pause();
+    clock.pause(1);
     clock.now()
 }
 

@@ -247,7 +247,7 @@ fn bays_keep_starts_and_get_proofs(rt: HostRuntime) -> Result<(), TestFail> {
 }
 
 fn reading<C: Clock>(clock: &C) -> u64 {
-    clock.pause();
+    clock.pause(1);
     clock.now()
 }
 

@@ -1,4 +1,4 @@
-use Rattle.std.proofs.Common.{◌≡◌, ◌∙◌, ap, subst, sym}
+use Rattle.std.proofs.Common.{◌∙◌, subst, sym}
 use Rattle.race_core.specs.Asking.{terms_of}
 use Rattle.race_core.specs.Ends.{EndIs}
 use Rattle.race_core.specs.Parts.{RightReader, keeper_from}

@@ -1,7 +1,6 @@
 use Rattle.std.proofs.Common.{◌≡◌, ℕ, ◌<◌, subst, ◌∙◌}
 use Rattle.race_core.specs.Asking.{terms_of}
-use Rattle.race_core.specs.Parts.{keeper_from, reader_from}
-use Rattle.race_core.specs.declared.part.Keeper.TheVariants as keeper
+use Rattle.race_core.specs.Parts.{reader_from}
 use Rattle.race_core.specs.declared.part.Reader.TheVariants as reader
 use Rattle.lane_run.specs.Keeping.{IsOfCell}
 use Rattle.lane_run.specs.Reading.{NoneLeft, Proves, TookProof}

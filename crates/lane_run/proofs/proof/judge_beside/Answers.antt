@@ -1,9 +1,6 @@
-use Rattle.std.proofs.Common.{◌≡◌, ◌++◌, ◌≤◌, false, sym, ◌∙◌}
+use Rattle.std.proofs.Common.{◌≡◌, false, sym, ◌∙◌}
 use Rattle.std.specs.Option.{is_some}
-use Rattle.race_core.specs.Asking.{terms_of}
-use Rattle.race_core.specs.Parts.{keeper_from}
-use Rattle.race_core.specs.declared.part.Keeper.TheVariants as keeper
-use Rattle.lane_run.specs.Keeping.{IsOfCell, TakesTurns}
+use Rattle.lane_run.specs.Keeping.{IsOfCell}
 use Rattle.lane_run.proofs.Keepers.{keeps_then}
 use Rattle.lane_run.proofs.Proving.{if_none, where_none}
 use Rattle.lane_run.proofs.proof.judge_beside.Goals as goal

@@ -1,6 +1,5 @@
 use Rattle.std.proofs.Common.{List, map, sym, subst}
-use Rattle.sby_edge.specs.Child.{IsLogged}
-use Rattle.task_race.specs.Bays.{BackOf, CameBack, counts_at, left_all, yard_at}
+use Rattle.task_race.specs.Bays.{BackOf, counts_at, yard_at}
 use Rattle.task_race.specs.Prepared.{AreNew}
 use Rattle.task_race.proofs.BackLemmas.{none_started}
 use Rattle.task_race.proofs.prepare.cancel_race.Goals as goal

@@ -2,7 +2,7 @@ use Rattle.std.proofs.Common.{List, map, sym, subst, ◌∙◌}
 use Rattle.std.specs.Prelude.{Option}
 use Rattle.sby_edge.specs.Cause.{CountsOf}
 use Rattle.sby_edge.specs.Child.{IsLogged, LaneOf}
-use Rattle.task_race.specs.Bays.{BackOf, CameBack, NoneStarted, counts_at, left_all, yard_at}
+use Rattle.task_race.specs.Bays.{BackOf, CameBack, counts_at, left_all, yard_at}
 use Rattle.task_race.specs.Prepared.{AreNew}
 use Rattle.task_race.proofs.BackLemmas.{new_bays, none_started}
 use Rattle.task_race.proofs.prepare.prepare_race.Goals as goal

@@ -1,4 +1,4 @@
-use Rattle.std.proofs.Common.{List, map, sym, subst, refl, ◌∙◌}
+use Rattle.std.proofs.Common.{List, map, sym, subst, refl}
 use Rattle.std.specs.Prelude.{Option}
 use Rattle.sby_edge.specs.Cause.{CountsOf}
 use Rattle.sby_edge.specs.Child.{IsLogged, LaneOf}

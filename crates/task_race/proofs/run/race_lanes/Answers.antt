@@ -1,6 +1,4 @@
 use Rattle.std.proofs.Common.{subst}
-use Rattle.race_core.specs.Report.{ReportOf}
-use Rattle.judge.specs.Finding.{FindingOf}
 use Rattle.lane_run.specs.Done.{LaneFaults}
 use Rattle.std.proofs.Common.{ℕ}
 use Rattle.task_race.specs.Bays.{counts_at}
