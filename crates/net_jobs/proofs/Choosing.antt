@@ -18,7 +18,7 @@ use Rattle.net_unroll.specs.Promises.{cycles_told, told_by}
 use Rattle.net_unroll.specs.declared.asking.Cycles.{Cycles}
 use Rattle.net_jobs.specs.Jobs.{decoded, start_bits}
 
-start_long : (ps : List ℕ) (digits : List (Option Bool)) (k : ℕ) (f : ℕ → Bool) → length digits ≡ length ps → length (start_bits digits k f) ≡ length (without_digit ps digits)
+pub start_long : (ps : List ℕ) (digits : List (Option Bool)) (k : ℕ) (f : ℕ → Bool) → length digits ≡ length ps → length (start_bits digits k f) ≡ length (without_digit ps digits)
 start_long [] [] k f e = refl
 start_long [] (d ∷ digits) k f e = absurd (omega arith)
 start_long (p ∷ ps) [] k f e = absurd (omega arith)

@@ -18,6 +18,7 @@ ghost use Rattle.net_unroll.specs.declared.encoded.Free.{Free};
 ghost use Rattle.job_cnf.specs.Encoding.{IsDecoded, empty_job};
 ghost use Rattle.job_cnf.specs.Jobs.{AsksNothing, IsJob, Solvable};
 ghost use Rattle.net_jobs.specs.Jobs.{StandsFor, cycles_of, decoded, job_encoding, job_made};
+ghost use Rattle.net_jobs.specs.Reading.{IsEncoded, encoded_of};
 
 /// The formula of a job can be satisfied exactly where the job can be solved.
 pub fn jobs_tell_what_can_be_solved()
@@ -51,4 +52,9 @@ pub fn free_variables_stand_for_bits()
         → (x : Assignment) (cs : ℕ → Cycle) → Plays m (decoded m n (cycles_of job span) (job_encoding n job span) x) cs
         → (t v p : ℕ) → StandsFor m n true t v p → t < length (decoded m n (cycles_of job span) (job_encoding n job span) x).inputs
         → ((f : Free) → Contains (job_encoding n job span).free f → f.cycle ≡ t → f.place ≡ v → ⊥) → cs t p ≡ false }
+{}
+
+/// A job of a net in the terms of all jobs has what is promised of an encoded job.
+pub fn jobs_are_encoded()
+    ensures { (m : ModelOf) (n : NetOf) (job : JobName) (span : Span) → IsModel m → IsNet n → IsNetOf m n → job_made n job span ≤ 2 ^ 27 → IsEncoded m job span (encoded_of n job span) }
 {}

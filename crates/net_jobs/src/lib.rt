@@ -6,6 +6,6 @@ mod laws;
 
 pub use encoding::{encode, encode_again};
 pub use laws::{
-    assignments_tell_runs, free_variables_stand_for_bits, jobs_ask_nothing,
+    assignments_tell_runs, free_variables_stand_for_bits, jobs_are_encoded, jobs_ask_nothing,
     jobs_tell_what_can_be_solved,
 };
