@@ -25,9 +25,11 @@ encoded m n name span is served of few =
     record {
       speaks = solvable_law m n is served of name span few;
       vars = (vars.0, omega arith);
-      propagates = record { rule = λ more fixed. (propagates_law n (asked_of name) (cycles_of name span) served few).rule more (λ f d.
-          (let i = place_of_contained (job_encoding n name span).free f d in
-          fixed f.var (contained_at (encoded_of n name span).free_vars f.var i.0 (map_at (λ (g : Free). g.var) (job_encoding n name span).free i.0 f i.1)))) };
+      propagates = record {
+        rule = λ more fixed. (propagates_law n (asked_of name) (cycles_of name span) served few).rule more (λ f d.
+            (let i = place_of_contained (job_encoding n name span).free f d in
+            fixed f.var (contained_at (encoded_of n name span).free_vars f.var i.0 (map_at (λ (g : Free). g.var) (job_encoding n name span).free i.0 f i.1))));
+      };
       origins = has_origins m n is served of name span few;
       empty = λ none. nothing_law m n name span of none;
       choices = λ other x. fit_choices m n is of name span x;

@@ -206,13 +206,13 @@ module _ (m : ModelOf) (n : NetOf) (is : IsModel m) (served : IsNet n) (of : IsN
         let w2 = many in
         none_at m n is served of name span few starts x cs plays 0 (state_var r.0) q (inr (r.0, r.1, refl, refl, λ _. r.2)) (omega arith)
         (λ f d c v. out (let i = place_of_contained free f d in
-            contained_at (map origin free) (First q) i.0 (map_at origin free i.0 f i.1 ∙ ap Some (ap (λ (u : ℕ). origin_at m n f.cycle u) v ∙ state-origin m n f.cycle (state_var r.0) r.0 q (omega arith) r.1 refl))))
+        contained_at (map origin free) (First q) i.0 (map_at origin free i.0 f i.1 ∙ ap Some (ap (λ (u : ℕ). origin_at m n f.cycle u) v ∙ state-origin m n f.cycle (state_var r.0) r.0 q (omega arith) r.1 refl))))
     value_out (Input t q) h out = λ (l : t < long).
         let r = place_of_contained m.inputs q h.1 in
         let w2 = many in
         none_at m n is served of name span few starts x cs plays t (input_var n r.0) q (inl (r.0, r.1, refl)) (omega arith)
         (λ f d c v. out (let i = place_of_contained free f d in
-            contained_at (map origin free) (Input t q) i.0 (map_at origin free i.0 f i.1 ∙ ap Some (ap (λ (u : ℕ). origin_at m n f.cycle u) v ∙ input-origin m n f.cycle (input_var n r.0) r.0 q r.1 refl ∙ ap (λ (u : ℕ). Input u q) c))))
+        contained_at (map origin free) (Input t q) i.0 (map_at origin free i.0 f i.1 ∙ ap Some (ap (λ (u : ℕ). origin_at m n f.cycle u) v ∙ input-origin m n f.cycle (input_var n r.0) r.0 q r.1 refl ∙ ap (λ (u : ℕ). Input u q) c))))
 
   pub has_origins : HasOrigins m name span (encoded_of n name span)
   has_origins =
