@@ -56,35 +56,35 @@ impl ProofChecker for Hinted {
 
 /// The clauses that are present and the values so far, for a formula, and the outcome once there is one.
 #[derive(Drop)]
-pub(crate) struct Certificate<'a, C: ProofChecker> {
-    formula: &'a Formula,
+pub(crate) struct Certificate<C: ProofChecker> {
+    formula: Formula,
     alloc: Global,
     checker: C,
     values: Values,
     outcome: Option<Outcome>,
 }
 
-impl<'a, C: ProofChecker> Model for Certificate<'a, C> {
+impl<C: ProofChecker> Model for Certificate<C> {
     ghost use Rattle.std.specs.Prelude.{◌≡◌, ◌+◌, length};
     ghost use Rattle.cert_judge.specs.Certificate.{CertificateOf};
 
     ghost Value = { CertificateOf C };
 
-    ghost view = { λ a. record { formula = a.formula.now; checker = a.checker; bits = a.values; outcome = a.outcome } };
+    ghost view = { λ a. record { formula = a.formula; checker = a.checker; bits = a.values; outcome = a.outcome } };
 
-    ghost invariant = { λ a. (C.vars a.checker ≡ a.formula.now.vars) × (length a.values ≡ a.formula.now.vars + 1) };
+    ghost invariant = { λ a. (C.vars a.checker ≡ a.formula.vars) × (length a.values ≡ a.formula.vars + 1) };
 }
 
-impl<'a, C: ProofChecker> Certificate<'a, C> {
+impl<C: ProofChecker> Certificate<C> {
     /// Before anything is said.
-    pub(crate) fn new(alloc: Global, formula: &'a Formula) -> Result<Self, AllocError>
-        ensures formula { IfOk result (λ c. c.formula ≡ formula.now) }
-        ensures checker { IfOk result (λ c. C.starts formula.now c.checker) }
-        ensures size { IfOk result (λ c. length c.bits ≡ formula.now.vars + 1) }
+    pub(crate) fn new(alloc: Global, formula: Formula) -> Result<Self, AllocError>
+        ensures formula { IfOk result (λ c. c.formula ≡ formula) }
+        ensures checker { IfOk result (λ c. C.starts formula c.checker) }
+        ensures size { IfOk result (λ c. length c.bits ≡ formula.vars + 1) }
         ensures unnamed { IfOk result (λ c. (v : ℕ) → values_of c.bits v ≡ false) }
         ensures undecided { IfOk result (λ c. c.outcome ≡ None) }
     {
-        let checker = C::start(alloc, formula)?;
+        let checker = C::start(alloc, &formula)?;
         let values = Values::new(alloc, formula.vars())?;
         Ok(Certificate {
             formula,
@@ -143,7 +143,7 @@ impl<'a, C: ProofChecker> Certificate<'a, C> {
     }
 }
 
-impl<'a> Receiver for Certificate<'a, Checker> {
+impl Receiver for Certificate<Checker> {
     ghost vars = { λ a. a.formula.vars };
 
     ghost gets = { Hears drup_meaning };
@@ -170,7 +170,7 @@ impl<'a> Receiver for Certificate<'a, Checker> {
     }
 
     fn values_end(&mut self) -> Result<bool, AllocError> {
-        match self.values.first_unsatisfied(self.formula) {
+        match self.values.first_unsatisfied(&self.formula) {
             None => self.settle(Outcome::Satisfied),
             Some(clause) => self.refuse(CertKind::NotSatisfying, clause),
         }
@@ -183,7 +183,7 @@ impl<'a> Receiver for Certificate<'a, Checker> {
     }
 }
 
-impl<'a> Certificate<'a, Checker> {
+impl Certificate<Checker> {
     /// Takes an empty clause where there is no outcome yet.
     pub(crate) fn try_empty(&mut self, place: u64) -> Result<(), AllocError>
         ensures tries { IfOk result (λ _. Tries self.old self.old.outcome place self.new) }
@@ -211,7 +211,7 @@ impl<'a> Certificate<'a, Checker> {
     }
 }
 
-impl<'a> LratReceiver for Certificate<'a, Hinted> {
+impl LratReceiver for Certificate<Hinted> {
     ghost vars = { λ a. a.formula.vars };
 
     ghost gets = { Hears lrat_meaning };
@@ -254,7 +254,7 @@ impl<'a> LratReceiver for Certificate<'a, Hinted> {
     }
 
     fn values_end(&mut self) -> Result<bool, AllocError> {
-        match self.values.first_unsatisfied(self.formula) {
+        match self.values.first_unsatisfied(&self.formula) {
             None => self.settle(Outcome::Satisfied),
             Some(clause) => self.refuse(CertKind::NotSatisfying, clause),
         }

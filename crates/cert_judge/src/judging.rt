@@ -13,14 +13,14 @@ use std::marker::Model;
 
 /// A judge of one stream, of any kind, as a certificate for a formula. It keeps no earlier bytes: a clause goes to the checker as it ends.
 #[derive(Drop)]
-pub struct Judge<'a> {
+pub struct Judge {
     most: u64,
-    lines: Lines<'a>,
+    lines: Lines,
     // Memory ran out; every later call answers that.
     wanting: bool,
 }
 
-impl<'a> Model for Judge<'a> {
+impl Model for Judge {
     ghost use Rattle.std.specs.Prelude.{◌≡◌, ◌≤◌, ◌^◌, false, None};
     ghost use Rattle.cert_judge.specs.Judging.{JudgeOf};
     ghost use Rattle.cert_judge.specs.Lines.{Fits, lines_outcome, lines_taken};
@@ -32,17 +32,17 @@ impl<'a> Model for Judge<'a> {
     ghost invariant = { λ a. (a.most ≤ 2 ^ 32) × (a.wanting ≡ false → Fits a.lines) × (a.wanting ≡ false → lines_outcome a.lines ≡ None → lines_taken a.lines ≤ a.most) };
 }
 
-impl<'a> Judge<'a> {
+impl Judge {
     /// A judge that has taken nothing yet, and takes at most `most` bytes, from 1 to 2^32.
     pub fn new(
         alloc: Global,
-        formula: &'a Formula,
+        formula: Formula,
         kind: StreamKind,
         most: u64,
     ) -> Result<Self, AllocError>
         requires least { 1 ≤ most }
         requires limit { most ≤ 2 ^ 32 }
-        ensures formula { IfOk result (λ j. formula_of j ≡ formula.now) }
+        ensures formula { IfOk result (λ j. formula_of j ≡ formula) }
         ensures kind { IfOk result (λ j. kind_of j ≡ kind) }
         ensures most { IfOk result (λ j. j.most ≡ most) }
         ensures stands { IfOk result (λ j. Stands j []) }

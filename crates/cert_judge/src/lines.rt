@@ -21,12 +21,12 @@ use std::marker::Model;
 
 /// What is kept of a stream: its parser, and the certificate that hears what it reads.
 #[derive(Drop)]
-pub(crate) struct Line<'a, P: Drop, C: ProofChecker> {
+pub(crate) struct Line<P: Drop, C: ProofChecker> {
     parser: P,
-    certificate: Certificate<'a, C>,
+    certificate: Certificate<C>,
 }
 
-impl<'a, P: Drop, C: ProofChecker> Model for Line<'a, P, C> {
+impl<P: Drop, C: ProofChecker> Model for Line<P, C> {
     ghost use Rattle.cert_judge.specs.Certificate.{LineOf};
 
     ghost Value = { LineOf P C };
@@ -38,51 +38,51 @@ impl<'a, P: Drop, C: ProofChecker> Model for Line<'a, P, C> {
 
 /// The table of kinds: each has its parser and its checker.
 #[derive(Drop)]
-pub(crate) enum Lines<'a> {
-    Drup(Line<'a, DrupParser, Checker>),
-    Lrat(Line<'a, LratParser, Hinted>),
-    Proof(Line<'a, ProofParser, Checker>),
-    ProofBinary(Line<'a, ProofParser, Checker>),
+pub(crate) enum Lines {
+    Drup(Line<DrupParser, Checker>),
+    Lrat(Line<LratParser, Hinted>),
+    Proof(Line<ProofParser, Checker>),
+    ProofBinary(Line<ProofParser, Checker>),
 }
 
-fn new_drup<'a>(alloc: Global, formula: &'a Formula) -> Result<Lines<'a>, AllocError>
-    ensures { IfOk result (Starts formula.now Drup) }
+fn new_drup(alloc: Global, formula: Formula) -> Result<Lines, AllocError>
+    ensures { IfOk result (Starts formula Drup) }
 {
-    let certificate = Certificate::new(alloc, formula)?;
     let parser = DrupParser::new(alloc, formula.vars());
+    let certificate = Certificate::new(alloc, formula)?;
     Ok(Lines::Drup(Line {
         parser,
         certificate,
     }))
 }
 
-fn new_lrat<'a>(alloc: Global, formula: &'a Formula) -> Result<Lines<'a>, AllocError>
-    ensures { IfOk result (Starts formula.now Lrat) }
+fn new_lrat(alloc: Global, formula: Formula) -> Result<Lines, AllocError>
+    ensures { IfOk result (Starts formula Lrat) }
 {
-    let certificate = Certificate::new(alloc, formula)?;
     let parser = LratParser::new(alloc, formula.vars());
+    let certificate = Certificate::new(alloc, formula)?;
     Ok(Lines::Lrat(Line {
         parser,
         certificate,
     }))
 }
 
-fn new_proof<'a>(alloc: Global, formula: &'a Formula) -> Result<Lines<'a>, AllocError>
-    ensures { IfOk result (Starts formula.now Proof) }
+fn new_proof(alloc: Global, formula: Formula) -> Result<Lines, AllocError>
+    ensures { IfOk result (Starts formula Proof) }
 {
-    let certificate = Certificate::new(alloc, formula)?;
     let parser = ProofParser::new(alloc, formula.vars(), Form::Text);
+    let certificate = Certificate::new(alloc, formula)?;
     Ok(Lines::Proof(Line {
         parser,
         certificate,
     }))
 }
 
-fn new_binary<'a>(alloc: Global, formula: &'a Formula) -> Result<Lines<'a>, AllocError>
-    ensures { IfOk result (Starts formula.now ProofBinary) }
+fn new_binary(alloc: Global, formula: Formula) -> Result<Lines, AllocError>
+    ensures { IfOk result (Starts formula ProofBinary) }
 {
-    let certificate = Certificate::new(alloc, formula)?;
     let parser = ProofParser::new(alloc, formula.vars(), Form::Binary);
+    let certificate = Certificate::new(alloc, formula)?;
     Ok(Lines::ProofBinary(Line {
         parser,
         certificate,
@@ -178,14 +178,10 @@ fn end_file(line: &mut Line<ProofParser, Checker>) -> Result<(), AllocError>
     Ok(())
 }
 
-impl<'a> Lines<'a> {
+impl Lines {
     /// Before the first byte.
-    pub(crate) fn new(
-        alloc: Global,
-        formula: &'a Formula,
-        kind: StreamKind,
-    ) -> Result<Self, AllocError>
-        ensures { IfOk result (Starts formula.now kind) }
+    pub(crate) fn new(alloc: Global, formula: Formula, kind: StreamKind) -> Result<Self, AllocError>
+        ensures { IfOk result (Starts formula kind) }
     {
         match kind {
             StreamKind::Drup => new_drup(alloc, formula),

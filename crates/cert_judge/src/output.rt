@@ -24,14 +24,14 @@ use std::marker::Model;
 /// A judge of the standard output of a solver that leaves a proof file. It keeps no earlier bytes, and passes over every line that is
 /// neither one of values nor s UNKNOWN.
 #[derive(Drop)]
-pub struct OutputJudge<'a> {
-    judge: Judge<'a>,
+pub struct OutputJudge {
+    judge: Judge,
     spot: Spot,
     // A line of values was read.
     values: bool,
 }
 
-impl<'a> Model for OutputJudge<'a> {
+impl Model for OutputJudge {
     ghost use Rattle.cert_judge.specs.OutputJudging.{OutputOf};
 
     ghost Value = { OutputOf };
@@ -139,12 +139,12 @@ fn own_outcome(values: bool, outcome: Outcome) -> Option<Outcome>
     }
 }
 
-impl<'a> OutputJudge<'a> {
+impl OutputJudge {
     /// A judge that has taken nothing yet, and takes at most `most` bytes, from 1 to 2^32.
-    pub fn new(alloc: Global, formula: &'a Formula, most: u64) -> Result<Self, AllocError>
+    pub fn new(alloc: Global, formula: Formula, most: u64) -> Result<Self, AllocError>
         requires least { 1 ≤ most }
         requires limit { most ≤ 2 ^ 32 }
-        ensures formula { IfOk result (λ o. formula_of o.judge ≡ formula.now) }
+        ensures formula { IfOk result (λ o. formula_of o.judge ≡ formula) }
         ensures most { IfOk result (λ o. o.judge.most ≡ most) }
         ensures stands { IfOk result (λ o. Stands o []) }
         ensures open { IfOk result (λ o. outcome_of o.judge ≡ None) }

@@ -1,11 +1,12 @@
 // Files and output. They tell no content; they count each error, and files tell the path of the last.
 
-ghost use Rattle.std.specs.Prelude.{◌≡◌, ◌+◌, ◌≤◌, None, IfOk, IfSome, length, option_map, string_bytes};
+ghost use Rattle.std.specs.Prelude.{◌≡◌, ◌+◌, ◌<◌, ◌≤◌, ◌++◌, [], None, IfOk, IfSome, OnOk, length, option_map, string_bytes, take};
+ghost use Rattle.std.specs.Io.KnownBytes.{Appends};
 ghost use Rattle.sby_edge.specs.Cause.{Rose, greatest};
 ghost use Rattle.sby_edge.specs.Files.{GotFits};
 
 use crate::log::Log;
-use sby_edge::{Fail, Failed, Files, Got, Sink};
+use sby_edge::{Bytes, Fail, Failed, Files, Got, Sink, Source, fill};
 use std::alloc::Global;
 use std::fs;
 use std::io::{ErrorKind, Read, Seek, SeekFrom, Write};
@@ -14,6 +15,9 @@ use std::time::Clock as SystemClock;
 
 // What the name of a file has after it while the file is written.
 const PART: &str = ".part";
+
+// How many bytes of a file are written at a time, and stand in memory.
+const PIECE: usize = 65536;
 
 // A file that is read piece by piece.
 #[derive(Drop)]
@@ -96,6 +100,45 @@ impl<'a, R: SystemFiles> RealFiles<'a, R> {
         Ok(piece)
     }
 
+    // Writes all that a source gives as a file, and tells the log.
+    fn write_file<S: Source>(
+        &mut self,
+        alloc: Global,
+        path: &str,
+        source: &mut S,
+    ) -> Result<(), Fail>
+    where
+        R: SystemClock,
+        ensures spent { OnOk result (S.rest source.new ≡ []) }
+        ensures faults { self.new.faults ≡ self.old.faults }
+        ensures blamed { self.new.blamed ≡ self.old.blamed }
+    {
+        self.reading = None;
+        let mut buffer = vec![in alloc; 0u8; PIECE]?;
+        let first = fill(source, &mut buffer);
+        let header = String::from_str(alloc, header(&buffer[..first])).ok();
+        let written = make_and_write(self.rt, alloc, path, source, &mut buffer, first);
+        self.say(alloc, path, &written, header.as_deref().unwrap_or(""));
+        match written {
+            Ok(_) => Ok(()),
+            Err(fail) => Err(fail),
+        }
+    }
+
+    // Tells the log of a file that was put, how many bytes it has, and the first line of a formula.
+    fn say(&self, alloc: Global, path: &str, written: &Result<u64, Fail>, header: &str)
+    where
+        R: SystemClock,
+    {
+        let Some(log) = self.log else {
+            return;
+        };
+        match written {
+            Ok(count) => log.say(alloc, &format_args!("{path}: put, {count} bytes {header}")),
+            Err(_) => log.say(alloc, &format_args!("{path}: not put {header}")),
+        }
+    }
+
     // A call at this path failed.
     fn fail(&mut self, alloc: Global, path: &str)
         ensures rose { Rose self.old.faults self.new.faults }
@@ -168,23 +211,76 @@ fn open_at<R: SystemFiles>(
     Ok(Reading { file, path, place })
 }
 
+// Writes the first bytes of a buffer, and then what a source still gives, a full buffer at a time. Answers how many bytes these were.
+fn write_from<W: Write, S: Source>(
+    writer: &mut W,
+    source: &mut S,
+    buffer: &mut [u8],
+    first: usize,
+) -> Result<u64, Failed>
+    requires room { 0 < length buffer.old }
+    requires fits { first ≤ length buffer.old }
+    requires ends { first < length buffer.old → S.rest source.old ≡ [] }
+    ensures written { OnOk result (Appends (W.contents writer.old) (W.contents writer.new) (take first buffer.old ++ S.rest source.old)) }
+    ensures spent { OnOk result (S.rest source.new ≡ []) }
+{
+    let mut count = 0u64;
+    let mut filled = first;
+    while filled > 0 {
+        match writer.write_all(&buffer[..filled]) {
+            Ok(()) => {}
+            Err(_) => return Err(Failed),
+        }
+        count = count.saturating_add(filled as u64);
+        filled = fill(source, buffer);
+    }
+    Ok(count)
+}
+
+// Makes a file and writes it.
+fn write_part<R: SystemFiles, S: Source>(
+    rt: &R,
+    path: &str,
+    source: &mut S,
+    buffer: &mut [u8],
+    first: usize,
+) -> Result<u64, Failed>
+    requires room { 0 < length buffer.old }
+    requires fits { first ≤ length buffer.old }
+    requires ends { first < length buffer.old → S.rest source.old ≡ [] }
+    ensures { OnOk result (S.rest source.new ≡ []) }
+{
+    match fs::create(rt, path) {
+        Ok(mut file) => write_from(&mut file, source, buffer, first),
+        Err(_) => Err(Failed),
+    }
+}
+
 // Writes a file beside its place, and then puts it there: what stands at the path is the old content or the new one, whole.
-fn make_and_write<R: SystemFiles>(
+fn make_and_write<R: SystemFiles, S: Source>(
     rt: &R,
     alloc: Global,
     path: &str,
-    bytes: &[u8],
-) -> Result<(), Fail> {
+    source: &mut S,
+    buffer: &mut [u8],
+    first: usize,
+) -> Result<u64, Fail>
+    requires room { 0 < length buffer.old }
+    requires fits { first ≤ length buffer.old }
+    requires ends { first < length buffer.old → S.rest source.old ≡ [] }
+    ensures { OnOk result (S.rest source.new ≡ []) }
+{
     if let Some((folder, _)) = path.rsplit_once('/') {
         if fs::create_dir_all(rt, folder).is_err() {
             return Err(Fail::Failed);
         }
     }
     let part = format!(in alloc; "{path}{PART}")?;
-    let is_put = fs::write(rt, part.as_str(), bytes).is_ok()
-        && fs::rename(rt, part.as_str(), path).is_ok();
-    if is_put {
-        return Ok(());
+    let written = write_part(rt, part.as_str(), source, buffer, first);
+    if let Ok(count) = written {
+        if fs::rename(rt, part.as_str(), path).is_ok() {
+            return Ok(count);
+        }
     }
     let _removed = fs::remove_file(rt, part.as_str());
     Err(Fail::Failed)
@@ -227,18 +323,19 @@ impl<'a, R: SystemFiles + SystemClock> Files for RealFiles<'a, R> {
     }
 
     fn put(&mut self, alloc: Global, path: &str, bytes: &[u8]) -> Result<(), Fail> {
-        self.reading = None;
-        let answer = make_and_write(self.rt, alloc, path, bytes);
+        let mut source = Bytes::new(bytes);
+        self.put_from(alloc, path, &mut source)
+    }
+
+    fn put_from<S: Source>(
+        &mut self,
+        alloc: Global,
+        path: &str,
+        source: &mut S,
+    ) -> Result<(), Fail> {
+        let answer = self.write_file(alloc, path, source);
         if matches!(answer, Err(Fail::Failed)) {
             self.fail(alloc, path);
-        }
-        if let Some(log) = self.log {
-            let (count, header) = (bytes.len(), header(bytes));
-            let done = if answer.is_ok() { "put" } else { "not put" };
-            log.say(
-                alloc,
-                &format_args!("{path}: {done}, {count} bytes {header}"),
-            );
         }
         answer
     }

@@ -1,11 +1,16 @@
 // The real outside: what stands in files, an output that nobody reads, and children.
 
 use super::*;
-use sby_edge::{Clock, Exit, Fail, Failed, Files, Got, Hold, Launch, Pipe, Sink, Yard};
+use sby_edge::{
+    Clock, Exit, Fail, Failed, Files, Got, Hold, Launch, Nothing, Pipe, Sink, Source, ToldBytes,
+    Yard,
+};
 use sby_terms::JobName;
 use std::alloc::{AllocError, Global};
 use std::io;
+use std::io::PipeReader;
 use std::os::fd::AsRawFd;
+use std::os::unix::fs::symlink;
 use std::test::Fail as Failure;
 
 #[test]
@@ -55,6 +60,99 @@ fn a_failed_put_leaves_what_stood_there(rt: HostRuntime) -> Result<(), Failure> 
         Ok(Got::All(bytes)) => assert_eq!(rt; bytes.as_slice(), b"whole".as_slice()),
         _ => assert!(rt; false),
     }
+    Ok(())
+}
+
+// Gives its bytes a few at a time, and closes a pipe after the first of them.
+#[derive(Drop)]
+struct Pieces<'a> {
+    left: &'a [u8],
+    most: usize,
+    reader: Option<PipeReader>,
+    has_begun: bool,
+}
+
+impl<'a> Source for Pieces<'a> {
+    ghost rest = { λ p. p.left.now };
+
+    fn next(&mut self, buffer: &mut [u8]) -> usize {
+        if self.has_begun {
+            self.reader = None;
+        }
+        self.has_begun = true;
+        let count = self.left.len().min(buffer.len()).min(self.most.max(1));
+        let (piece, left) = self.left.split_at(count);
+        buffer[..count].copy_from_slice(piece);
+        self.left = left;
+        count
+    }
+}
+
+impl<'a> Pieces<'a> {
+    fn new(bytes: &'a [u8], most: usize, reader: Option<PipeReader>) -> Self {
+        Pieces {
+            left: bytes,
+            most,
+            reader,
+            has_begun: false,
+        }
+    }
+}
+
+#[test]
+fn files_are_put_by_pieces(rt: HostRuntime) -> Result<(), Failure> {
+    let alloc = rt.alloc();
+    let mut files = RealFiles::new(&rt);
+    for (length, most) in [
+        (0usize, 1usize),
+        (5, 1),
+        (65536, 70000),
+        (65537, 1),
+        (200_000, 999),
+    ] {
+        let mut bytes = Vec::new(alloc);
+        for place in 0..length {
+            bytes.push((place % 251) as u8)?;
+        }
+        let mut source = Pieces::new(&bytes, most, None);
+        assert!(rt; files.put_from(alloc, "pieces", &mut source).is_ok());
+        match &files.get(alloc, "pieces", 200_000) {
+            Ok(Got::All(got)) => assert!(rt; got.as_slice() == bytes.as_slice(), "{length}"),
+            _ => assert!(rt; false, "{length}"),
+        }
+    }
+    Ok(())
+}
+
+#[test]
+fn a_put_that_fails_at_its_second_piece_leaves_what_stood_there(
+    rt: HostRuntime,
+) -> Result<(), Failure> {
+    let alloc = rt.alloc();
+    let mut files = RealFiles::new(&rt);
+    assert!(rt; files.put(alloc, "model.cnf", b"whole").is_ok());
+    let Ok((reader, writer)) = io::pipe(&rt) else {
+        assert!(rt; false);
+        return Ok(());
+    };
+    // Where the new content is written first, there is a pipe, which has room for one piece and no reader at the next.
+    let pipe = format!(in alloc; "/dev/fd/{}", writer.as_raw_fd())?;
+    assert!(rt; symlink(&rt, pipe.as_str(), "model.cnf.part").is_ok());
+    let bytes = vec![in alloc; 48u8; 65537]?;
+    let mut source = Pieces::new(&bytes, 65536, Some(reader));
+    assert!(rt;
+        matches!(
+            files.put_from(alloc, "model.cnf", &mut source),
+            Err(Fail::Failed)
+        )
+    );
+    assert!(rt; source.left.is_empty());
+    drop(writer);
+    match &files.get(alloc, "model.cnf", 100) {
+        Ok(Got::All(bytes)) => assert_eq!(rt; bytes.as_slice(), b"whole".as_slice()),
+        _ => assert!(rt; false),
+    }
+    assert!(rt; matches!(std::fs::exists(&rt, "model.cnf.part"), Ok(false)));
     Ok(())
 }
 
@@ -158,7 +256,7 @@ fn watched<L: Launch>(
     most: usize,
     kills: bool,
 ) -> Result<(usize, bool, Exit), Fail> {
-    let (mut pipe, mut hold) = bay.start(alloc, JobName::Step, words, b"")?;
+    let (mut pipe, mut hold) = bay.start(alloc, JobName::Step, words, &ToldBytes::of(&Nothing))?;
     let mut buffer = [0u8; 64];
     let mut taken = 0usize;
     for _ in 0..1000 {
@@ -235,7 +333,7 @@ fn dies<Y: Yard, C: Clock>(
 ) -> Result<bool, Fail> {
     let words = shell(alloc, line)?;
     let mut bay = yard.bay(alloc, 0, 0)?;
-    let started = bay.start(alloc, JobName::Step, &words, b"");
+    let started = bay.start(alloc, JobName::Step, &words, &ToldBytes::of(&Nothing));
     let ended = match started {
         Ok((mut pipe, mut hold)) => {
             let mut buffer = [0u8; 4096];

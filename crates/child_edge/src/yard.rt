@@ -7,7 +7,7 @@ use crate::child::{Errors, RealHold, RealPipe};
 use crate::command::{find_program, guarded_command, plain_command};
 use crate::files::open_and_read;
 use crate::log::Log;
-use sby_edge::{Fail, Failed, Got, Hold, Launch, Memory, Yard};
+use sby_edge::{Fail, Failed, Got, Hold, Launch, Memory, ToldBytes, Yard};
 use sby_terms::JobName;
 use std::alloc::{AllocError, Global};
 use std::env::Env;
@@ -182,7 +182,7 @@ where
         alloc: Global,
         _job: JobName,
         words: &[String],
-        _bytes: &[u8],
+        _bytes: &ToldBytes,
     ) -> Result<(RealPipe<'a, R>, RealHold<'a, R>), Fail> {
         let answer = start(self.rt, self.log, alloc, words);
         self.say_start(alloc, words, &answer);

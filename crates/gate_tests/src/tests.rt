@@ -1,7 +1,6 @@
 // The tests, by subject.
 
 mod closing;
-mod cone;
 mod gates;
 mod rows;
 mod tables;

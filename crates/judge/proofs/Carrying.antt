@@ -2,7 +2,7 @@
 use Rattle.std.proofs.Common.{◌≡◌, ℕ, suc, ◌<◌, List, [], ◌∷◌, length, refl, sym, ap, arith}
 use Rattle.design_core.specs.Shape.{DesignOf, IsDesign}
 use Rattle.design_meaning.specs.Meaning.{Valuation, asserts, covers}
-use Rattle.job_cnf.specs.Jobs.{AsksNothing as AsksNothingOf, Solvable as SolvableOf}
+use Rattle.job_terms.specs.Jobs.{AsksNothing as AsksNothingOf, Solvable as SolvableOf}
 use Rattle.model_core.specs.Claims.{StepShows as StepShowsOf}
 use Rattle.model_core.specs.Meaning.{Cycle, Frame}
 use Rattle.model_core.specs.Shape.{ModelOf}

@@ -1,23 +1,21 @@
 -- The model of a design, and its jobs as they are encoded.
-use Rattle.std.proofs.Common.{◌≡◌, ℕ, zero, suc, ◌+◌, ◌-◌, ◌^◌, ◌<◌, ◌≤◌, List, [], ◌∷◌, ◌++◌, length, map, take, All, Some, get_or, refl, sym, ap, subst, ◌∙◌, arith}
-use Rattle.std.specs.Prelude.{◌↔◌, slice_get}
-use Rattle.std.proofs.lemmas.List.{length-map, map-append, take_more}
-use Rattle.std.proofs.lemmas.List.Elements.{All-contains, All-nil, All-push}
+use Rattle.std.proofs.Common.{◌≡◌, ◌⊎◌, inl, inr, ℕ, zero, suc, ◌+◌, ◌-◌, ◌^◌, ◌<◌, ◌≤◌, List, [], ◌∷◌, length, map, Some, refl, sym, ap, subst, arith}
+use Rattle.std.specs.Prelude.{slice_get}
 use Rattle.std.proofs.lemmas.List.FromFn.{length-map-range_with_len}
 use Rattle.std.proofs.lemmas.List.Sums.{count_by-le-length, length-filter}
 use Rattle.std.proofs.lemmas.Option.{slice_get_within}
 use Rattle.std.specs.List.{range_with_len}
-use Rattle.cnf_form.specs.Cnf.{Assignment, Satisfies}
 use Rattle.design_check.specs.Faults.{IsFlat}
-use Rattle.design_core.proofs.Lists.{Contains-from_place}
-use Rattle.design_core.specs.Shape.{CellOf, DesignOf}
+use Rattle.design_core.specs.Shape.{CellOf, DesignOf, IsDesign}
 use Rattle.design_meaning.specs.Meaning.{covers, is_cover}
 use Rattle.design_reader.specs.Grammar.{Reads}
-use Rattle.cone_cnf.specs.Asking.{HasOriginsInBits, IsTooMany as IsTooManyOf}
-use Rattle.job_cnf.specs.Encoding.{CanBeSatisfied, EncodedOf, IsDecoded, Propagates, decoded, empty_job}
-use Rattle.job_cnf.specs.Jobs.{AsksNothing as AsksNothingOf, IsJob as IsJobOf, Solvable as SolvableOf}
-use Rattle.model_core.specs.Choices.{AreChoicesFor}
+use Rattle.job_terms.specs.Encoding.{EncodedOf}
+use Rattle.job_terms.specs.Jobs.{IsJob as IsJobOf}
+use Rattle.model_cone.specs.declared.asked.Asked.{Asked}
+use Rattle.model_core.specs.Served.{IsModel}
 use Rattle.model_core.specs.Shape.{ModelOf}
+use Rattle.net_jobs.specs.Jobs.{IsOfSpan, job_made}
+use Rattle.word_model.specs.Model.{IsModelOf}
 use Rattle.sby_terms.specs.Problem.{ProblemOf}
 use Rattle.sby_terms.specs.Span.{IsSpan, slices_of}
 use Rattle.sby_terms.specs.declared.names.JobName.{JobName}
@@ -25,14 +23,19 @@ use Rattle.sby_terms.specs.declared.names.JobName.TheVariants.{Base, Step, Cover
 use Rattle.sby_terms.specs.declared.names.Mode.{Mode}
 use Rattle.sby_terms.specs.declared.names.Mode.TheVariants.{Bmc, Prove, Cover as CoverMode}
 use Rattle.sby_terms.specs.declared.span.Span.{Span}
+use Rattle.task_net.proofs.Encoded.{task-encoded}
+use Rattle.task_net.proofs.Refusing.{refused-asks}
+use Rattle.task_net.specs.Asking.{asked_of}
+use Rattle.task_net.specs.Net.{HasNone, IsEncodedJob as IsEncodedOver, IsTaskNet, IsTooLarge, TaskNetOf, task_encoded}
+use Rattle.task_net.specs.Net.IsTooMany.{Large, Long}
 use Rattle.judge.proofs.Carrying.{asks-from, solvable-from, solvable-to}
 use Rattle.judge.proofs.Problems.{numbered}
 use Rattle.judge.proofs.Refusing.{earlier_at, past_cost}
 use Rattle.judge.proofs.Slices.{slices-some}
 use Rattle.judge.specs.Fault.{IsProblemFault, IsTooMany}
 use Rattle.judge.specs.Jobs.{IsSpanFor, jobs_in, jobs_of, span_of}
-use Rattle.judge.specs.Problem.{IsEncodedJob}
-use Rattle.judge.specs.Stored.{AreEncoded, IsBuiltFor, IsRefusedAmong, IsStored, JobOf, asked_by, names_in}
+use Rattle.judge.specs.Problem.{AskedOf, IsEncodedJob, IsEncodedOf, IsProblem, asked_in}
+use Rattle.judge.specs.Stored.{FitUpTo, IsBuiltFor, IsRefusedAmong, IsStored, asked_by}
 use Rattle.judge.specs.declared.problem.ProblemFault.TheVariants.{TooMany}
 
 module _ (d : DesignOf) (m : ModelOf) (built : IsBuiltFor d m) where
@@ -41,17 +44,17 @@ module _ (d : DesignOf) (m : ModelOf) (built : IsBuiltFor d m) where
       omega
       (arith, built.model.covers, built.design.few_cells, length-filter (λ (c : CellOf). is_cover c.kind) d.cells, count_by-le-length (λ (c : CellOf). is_cover c.kind) d.cells)
 
-  pub encoded_job : (job : JobName) (span : Span) (e : EncodedOf) → CanBeSatisfied e.formula ↔ SolvableOf m job span → (1 ≤ e.formula.vars) × (e.formula.vars ≤ 2 ^ 27) → Propagates e → HasOriginsInBits m job span e
-      → (AsksNothingOf m job → e.formula ≡ empty_job) → ((job ≡ Step → ⊥) → (x : Assignment) → AreChoicesFor m (decoded e x))
-      → ((job ≡ Step → ⊥) → (x : Assignment) → Satisfies x e.formula.clauses → IsDecoded m job span (decoded e x)) → IsEncodedJob d m job span e
-  encoded_job job span e speaks vars propagates origins empty choices decodes = record {
-    speaks = (λ s. solvable-to d m built.model job span (speaks.0 s), λ s. speaks.1 (solvable-from d m built.model built.design job span s));
-    vars = vars;
-    propagates = propagates;
-    origins = origins;
-    empty = λ none. empty (asks-from d m built.model job none);
-    choices = choices;
-    decodes = decodes;
+module _ (d : DesignOf) (m : ModelOf) (design : IsDesign d) (model : IsModelOf d m) where
+  -- what is promised of a job of the model is promised of the design's
+  pub encoded_job : (job : JobName) (span : Span) (e : EncodedOf) → IsEncodedOver m job span e → IsEncodedJob d m job span e
+  encoded_job job span e h = record {
+    speaks = (λ s. solvable-to d m model job span (h.speaks.0 s), λ s. h.speaks.1 (solvable-from d m model design job span s));
+    vars = h.vars;
+    propagates = h.propagates;
+    origins = h.origins;
+    empty = λ none. h.empty (asks-from d m model job none);
+    choices = h.choices;
+    decodes = h.decodes;
   }
 
   -- a job of a mode is one of the model, over the span
@@ -67,70 +70,115 @@ module _ (d : DesignOf) (m : ModelOf) (built : IsBuiltFor d m) where
   job_fits CoverMode span i job at =
       let h : job ≡ Cover (0 + i) = numbered Cover (length (covers d)) 0 i job at in
       let room : i < length (map Cover (range_with_len 0 (length (covers d)))) = slice_get_within (map Cover (range_with_len 0 (length (covers d)))) i job at in
-      let below : 0 + i < length m.covers = omega (arith, room, length-map-range_with_len Cover 0 (length (covers d)), built.model.covers) in
+      let below : 0 + i < length m.covers = omega (arith, room, length-map-range_with_len Cover 0 (length (covers d)), model.covers) in
       subst (λ (j : JobName). IsJobOf m j span) (sym h) below
 
-  -- a job that is refused is a fault of the problem
-  pub too_many : (p : ProblemOf) (job : JobName) → IsSpan (span_of p) → Reads p.text d → IsFlat d → IsRefusedAmong d m (span_of p) (jobs_of p d) job → IsProblemFault p (TooMany job)
-  too_many p job is reads flat h =
-      let refused : IsTooMany d job (span_of p) = record {
-        asks = λ none. h.refused.asks (asks-from d m built.model job none);
-        order = built.built.0;
-        model = m;
-        ordered = built.built.1;
-        built = built.built.2;
-        refused = h.refused;
-        before = λ earlier is_earlier.
-            let w = earlier_at p.mode (span_of p) d h.place job earlier h.at is_earlier in
-            h.before w.0 earlier w.1 w.2;
-      } in
-      (d, reads, flat, (h.place, h.at), refused, past_cost d job (span_of p) built.design flat is refused)
+  pub job_of_span : (mode : Mode) (span : Span) (i : ℕ) (job : JobName) → slice_get (jobs_in mode span d) i ≡ Some job → IsOfSpan job span
+  job_of_span mode span i job at = by job (job_fits mode span i job at)
+    where
+      by : (job : JobName) → IsJobOf m job span → IsOfSpan job span
+      by (Base k) h = h
+      by Step h = tt
+      by (Cover k) h = tt
 
-module _ (d : DesignOf) (m : ModelOf) (span : Span) (names : List JobName) where
-  pub encoded_none : AreEncoded d m span (take 0 names) []
-  encoded_none = record { named = refl; each = All-nil (λ (j : JobOf). IsEncodedJob d m j.name span j.encoded) }
+  -- a job asks what its mode asks
+  pub asks_alike : (mode : Mode) (span : Span) (i : ℕ) (job : JobName) → slice_get (jobs_in mode span d) i ≡ Some job → asked_in mode ≡ asked_of job
+  asks_alike Bmc span i job at = ap asked_of (sym (numbered Base (slices_of span) 0 i job at))
+  asks_alike Prove span zero job at = let h : Base 0 ≡ job = cc in ap asked_of h
+  asks_alike Prove span (suc zero) job at = let h : Step ≡ job = cc in ap asked_of h
+  asks_alike Prove span (suc (suc i)) job at = absurd cc
+  asks_alike CoverMode span i job at = ap asked_of (sym (numbered Cover (length (covers d)) 0 i job at))
 
-  -- one more job is encoded
-  pub encoded_more : (jobs new : List JobOf) (i : ℕ) (name other : JobName) (j : JobOf) → i < length names → AreEncoded d m span (take i names) jobs → name ≡ get_or names i other → j.name ≡ name
-      → IsEncodedJob d m name span j.encoded → new ≡ jobs ++ j ∷ [] → AreEncoded d m span (take (i + 1) names) new
-  encoded_more jobs new i name other j lt h at named is more =
-      let all : names_in new ≡ names_in jobs ++ j.name ∷ [] = ap (λ (js : List JobOf). names_in js) more ∙ map-append (λ (k : JobOf). k.name) jobs (j ∷ []) in
-      let next : take (i + 1) names ≡ take i names ++ name ∷ [] = take_more names i other lt ∙ ap (λ (n : JobName). take i names ++ n ∷ []) (sym at) in
-      record {
-        named = all ∙ (ap (λ (ns : List JobName). ns ++ j.name ∷ []) h.named ∙ (ap (λ (n : JobName). take i names ++ n ∷ []) named ∙ sym next));
-        each = subst (λ (js : List JobOf). All (λ (k : JobOf). IsEncodedJob d m k.name span k.encoded) js) (sym more)
-            (All-push (λ (k : JobOf). IsEncodedJob d m k.name span k.encoded) jobs j h.each (subst (λ (n : JobName). IsEncodedJob d m n span j.encoded) (sym named) is));
-      }
+  -- each job that fits is encoded
+  module _ (is : IsModel m) (mode : Mode) (span : Span) (t : TaskNetOf) (net : IsTaskNet m (asked_in mode) t) (i : ℕ) (job : JobName) (at : slice_get (jobs_in mode span d) i ≡ Some job) where
+    pub net_of_job : IsTaskNet m (asked_of job) t
+    net_of_job = subst (λ (a : Asked). IsTaskNet m a t) (asks_alike mode span i job at) net
 
--- what is mapped to a value at a place
-mapped_at : {X Y : Type 0} (f : X → Y) (xs : List X) (i : ℕ) (y : Y) → slice_get (map f xs) i ≡ Some y → (x : X) × (slice_get xs i ≡ Some x) × (f x ≡ y)
-mapped_at f [] i y at = absurd cc
-mapped_at f (x ∷ xs) zero y at = (x, refl, cc)
-mapped_at f (x ∷ xs) (suc i) y at = mapped_at f xs i y at
+    pub job_encoded : job_made t.net job span ≤ 2 ^ 27 → IsEncodedJob d m job span (task_encoded t job span)
+    job_encoded few = encoded_job job span (task_encoded t job span) (task-encoded m t job span is net_of_job (job_fits mode span i job at) few)
 
-at-take : {X : Type 0} (xs : List X) (i j : ℕ) → j < i → slice_get (take i xs) j ≡ slice_get xs j
-at-take xs zero j lt = absurd (omega (arith, lt))
-at-take [] (suc i) j lt = refl
-at-take (x ∷ xs) (suc i) zero lt = refl
-at-take (x ∷ xs) (suc i) (suc j) lt = at-take xs i j (omega (arith, lt))
+  -- where something is asked there is a job
+  pub some_jobs : (mode : Mode) (span : Span) → (HasNone m (asked_in mode) → ⊥) → 0 < length (jobs_in mode span d)
+  some_jobs Bmc span asks = omega (arith, length-map-range_with_len Base 0 (slices_of span), slices-some (span.depth - span.skip) span.stride)
+  some_jobs Prove span asks = omega arith
+  some_jobs CoverMode span asks = omega (arith, length-map-range_with_len Cover 0 (length (covers d)), model.covers, some m.covers asks)
+    where
+      some : {A : Type 0} (xs : List A) → (xs ≡ [] → ⊥) → 0 < length xs
+      some [] none = absurd (none refl)
+      some (x ∷ xs) none = omega arith
 
--- jobs of which all so far are encoded, and the next has too many variables
-pub refused_next : (d : DesignOf) (m : ModelOf) (span : Span) (names : List JobName) (i : ℕ) (job : JobName) (jobs : List JobOf) → slice_get names i ≡ Some job → IsTooManyOf m job span
-    → AreEncoded d m span (take i names) jobs → IsRefusedAmong d m span names job
-refused_next d m span names i job jobs at refused h = record { place = i; at = at; refused = refused; before = earlier }
+-- each job of a problem is encoded
+pub encodes : (p : AskedOf) → IsProblem p → (job : JobName) (e : EncodedOf) → IsEncodedOf p job e → IsEncodedJob p.design p.model job (span_of p.problem) e
+encodes p h job e (w, same) =
+    subst (λ (z : EncodedOf). IsEncodedJob p.design p.model job (span_of p.problem) z) (sym same)
+    (job_encoded p.design p.model h.design h.model h.is_model p.problem.mode (span_of p.problem) p.net h.net w.0 job w.1 (h.fits job w))
+
+-- a job that is refused is a fault of the problem
+pub too_many : (d : DesignOf) (m : ModelOf) → IsBuiltFor d m → (p : ProblemOf) (job : JobName) → IsSpan (span_of p) → Reads p.text d → IsFlat d → IsRefusedAmong d m (span_of p) (jobs_of p d) job
+    → IsProblemFault p (TooMany job)
+too_many d m built p job is reads flat h =
+    let refused : IsTooMany d job (span_of p) = record {
+      asks = λ none. refused-asks m job (span_of p) h.refused (asks-from d m built.model job none);
+      order = built.built.0;
+      model = m;
+      ordered = built.built.1;
+      built = built.built.2;
+      refused = h.refused;
+      before = λ earlier is_earlier.
+          let w = earlier_at p.mode (span_of p) d h.place job earlier h.at is_earlier in
+          h.before w.0 earlier w.1 w.2;
+    } in
+    (d, reads, flat, (h.place, h.at), refused, past_cost d job (span_of p) built.design flat is refused)
+
+module _ (d : DesignOf) (m : ModelOf) (built : IsBuiltFor d m) (mode : Mode) (span : Span) where
+  -- the first job doesn't fit where one cycle is too large
+  pub refused_first : (job : JobName) → slice_get (jobs_in mode span d) 0 ≡ Some job → IsTooLarge m (asked_in mode) → IsRefusedAmong d m span (jobs_in mode span d) job
+  refused_first job at large = record {
+    place = 0;
+    at = at;
+    refused = Large (subst (λ (a : Asked). IsTooLarge m a) (asks_alike d m built.design built.model mode span 0 job at) large);
+    before = λ i earlier lt. absurd (omega (arith, lt));
+  }
+
+  -- the next doesn't fit, and all before it do
+  pub refused_next : (t : TaskNetOf) → IsTaskNet m (asked_in mode) t → (i : ℕ) (job : JobName) → slice_get (jobs_in mode span d) i ≡ Some job → 2 ^ 27 < job_made t.net job span → FitUpTo t span (jobs_in mode span d) i
+      → IsRefusedAmong d m span (jobs_in mode span d) job
+  refused_next t net i job at past fit = record {
+    place = i;
+    at = at;
+    refused = Long t (net_of_job d m built.design built.model built.is_model mode span t net i job at) past;
+    before = λ j earlier lt here. (
+      task_encoded t earlier span,
+      job_encoded d m built.design built.model built.is_model mode span t net j earlier here (fit j earlier lt here),
+    );
+  }
+
+pub fit_none : (t : TaskNetOf) (span : Span) (names : List JobName) → FitUpTo t span names 0
+fit_none t span names i job lt at = absurd (omega (arith, lt))
+
+pub fit_more : (t : TaskNetOf) (span : Span) (names : List JobName) (k : ℕ) (job : JobName) → slice_get names k ≡ Some job → job_made t.net job span ≤ 2 ^ 27 → FitUpTo t span names k → FitUpTo t span names (k + 1)
+fit_more t span names k job at few fit i other lt here = by (nat_case i k (omega (arith, lt)))
   where
-    earlier : (j : ℕ) (name : JobName) → j < i → slice_get names j ≡ Some name → (e : EncodedOf) × IsEncodedJob d m name span e
-    earlier j name lt here =
-        let taken : slice_get (take i names) j ≡ Some name = at-take names i j lt ∙ here in
-        let named : slice_get (names_in jobs) j ≡ Some name = subst (λ (ns : List JobName). slice_get ns j ≡ Some name) (sym h.named) taken in
-        let r = mapped_at (λ (k : JobOf). k.name) jobs j name named in
-        let is = All-contains (λ (k : JobOf). IsEncodedJob d m k.name span k.encoded) jobs r.0 h.each (Contains-from_place jobs j r.0 r.1) in
-        (r.0.encoded, subst (λ (n : JobName). IsEncodedJob d m n span r.0.encoded) r.2 is)
+    nat_case : (i k : ℕ) → i ≤ k → (i < k) ⊎ (i ≡ k)
+    nat_case zero zero l = inr refl
+    nat_case zero (suc k) l = inl (omega arith)
+    nat_case (suc i) zero l = absurd (omega (arith, l))
+    nat_case (suc i) (suc k) l = elim (nat_case i k (omega (arith, l))) as (λ _. (suc i < suc k) ⊎ (suc i ≡ suc k)) [
+      | inl h ↦ inl (omega (arith, h))
+      | inr e ↦ inr (ap suc e)
+    ]
 
--- the problem of a design that is read and flat, whose jobs are all encoded
-pub stored : (text : List ℕ) (mode : Mode) (span : Span) (d : DesignOf) (m : ModelOf) (jobs : List JobOf) → IsSpanFor mode span → Reads text d → ((e : DesignOf) → Reads text e → e ≡ d) → IsFlat d
-    → IsBuiltFor d m → AreEncoded d m span (jobs_in mode span d) jobs → IsStored (asked_by text mode span d m jobs) jobs
-stored text mode span d m jobs fits reads only flat built h = record {
+    by : (i < k) ⊎ (i ≡ k) → job_made t.net other span ≤ 2 ^ 27
+    by (inl l) = fit i other l here
+    by (inr e) =
+        let there : slice_get names k ≡ Some other = subst (λ (n : ℕ). slice_get names n ≡ Some other) e here in
+        let same : job ≡ other = let a = at in let b = there in cc in
+        subst (λ (j : JobName). job_made t.net j span ≤ 2 ^ 27) same few
+
+-- the problem of a design that is read and flat, whose jobs all fit
+pub stored : (text : List ℕ) (mode : Mode) (span : Span) (d : DesignOf) (m : ModelOf) (t : TaskNetOf) (names : List JobName) → IsSpanFor mode span → Reads text d → ((e : DesignOf) → Reads text e → e ≡ d) → IsFlat d
+    → IsBuiltFor d m → names ≡ jobs_in mode span d → IsTaskNet m (asked_in mode) t → FitUpTo t span names (length names) → IsStored (asked_by text mode span d m t) names
+stored text mode span d m t names fits reads only flat built named net fit = record {
   problem = record {
     span = fits;
     reads = reads;
@@ -140,15 +188,10 @@ stored text mode span d m jobs fits reads only flat built h = record {
     is_model = built.is_model;
     built = built.built;
     model = built.model;
-    each = length-map jobs (λ (j : JobOf). j.encoded) ∙ (sym (length-map jobs (λ (j : JobOf). j.name)) ∙ ap length h.named);
-    encodes = λ job e w.
-        let r = mapped_at (λ (j : JobOf). j.encoded) jobs w.0 e w.2 in
-        let at : slice_get (names_in jobs) w.0 ≡ Some job = subst (λ (names : List JobName). slice_get names w.0 ≡ Some job) (sym h.named) w.1 in
-        let s = mapped_at (λ (j : JobOf). j.name) jobs w.0 job at in
-        let same : s.0 ≡ r.0 = let a = s.1 in let b = r.1 in cc in
-        let name : r.0.name ≡ job = ap (λ (j : JobOf). j.name) (sym same) ∙ s.2 in
-        let is = All-contains (λ (j : JobOf). IsEncodedJob d m j.name span j.encoded) jobs r.0 h.each (Contains-from_place jobs w.0 r.0 r.1) in
-        subst (λ (k : EncodedOf). IsEncodedJob d m job span k) r.2 (subst (λ (n : JobName). IsEncodedJob d m n span r.0.encoded) name is);
+    net = net;
+    fits = λ job w.
+        let at : slice_get names w.0 ≡ Some job = subst (λ (ns : List JobName). slice_get ns w.0 ≡ Some job) (sym named) w.1 in
+        fit w.0 job (slice_get_within names w.0 job at) at;
   };
-  names = h.named;
+  names = named;
 }

@@ -2,17 +2,13 @@
 use Rattle.std.proofs.Common.{◌≡◌, ℕ, zero, suc, ◌+◌, ◌*◌, ◌^◌, ◌<◌, ◌≤◌, [], ◌∷◌, length, map, Some, refl, sym, ap, subst, arith}
 use Rattle.std.specs.Prelude.{◌↔◌, slice_get}
 use Rattle.std.specs.List.{range_with_len}
-use Rattle.std.proofs.Math.Nat.{mul-le-mul_left}
 use Rattle.std.proofs.lemmas.List.FromFn.{length-map-range_with_len}
 use Rattle.std.proofs.lemmas.Option.{slice_get_within}
-use Rattle.cone_cnf.proofs.Refusing.{pass-whole}
+use Rattle.task_net.proofs.Refusing.{past-frames}
 use Rattle.design_check.specs.Faults.{IsFlat}
 use Rattle.design_core.specs.Shape.{DesignOf, IsDesign}
 use Rattle.design_meaning.specs.Meaning.{covers}
-use Rattle.job_cnf.proofs.Costing.{frames_some}
-use Rattle.job_cnf.specs.Encoding.{CanPass, frame_cost}
-use Rattle.job_cnf.specs.Jobs.{frames}
-use Rattle.model_core.specs.Shape.{ModelOf, states}
+use Rattle.job_terms.specs.Jobs.{frames}
 use Rattle.model_laws.proofs.Costs.{variables-within}
 use Rattle.model_laws.specs.Cost.{cost}
 use Rattle.word_model.proofs.Models.{modelled}
@@ -26,21 +22,11 @@ use Rattle.judge.proofs.Problems.{numbered, numbered-at}
 use Rattle.judge.specs.Fault.{IsTooMany}
 use Rattle.judge.specs.Jobs.{IsEarlier, jobs_in}
 
--- this many frames that the variables of a model can pass the bound pass it by a cost that each frame is within
-past_each : (m : ModelOf) (most n : ℕ) → 1 + length (states m) + frame_cost m ≤ most → 0 < n → CanPass m n → 2 ^ 27 < n * most
-past_each m most zero within lt past = absurd (omega arith)
-past_each m most (suc n) within lt past =
-    let each : suc n * (1 + length (states m) + frame_cost m) ≤ suc n * most = mul-le-mul_left (suc n) within in
-    let more : 1 + length (states m) + suc n * frame_cost m ≤ suc n * (1 + length (states m) + frame_cost m) = spread (length (states m)) (frame_cost m) n in
-    omega (arith, each, more, past)
-  where
-    spread : (s f n : ℕ) → 1 + s + suc n * f ≤ suc n * (1 + s + f)
-    spread s f n = omega arith
-
+-- the frames of a job that is refused pass the bound by the design's cost
 pub past_cost : (d : DesignOf) (job : JobName) (span : Span) → IsDesign d → IsFlat d → IsSpan span → IsTooMany d job span → 2 ^ 27 < frames job span * cost d
 past_cost d job span shape flat is h =
-    let past = pass-whole h.model (modelled d shape flat h.order h.ordered h.model h.built) job span h.refused in
-    past_each h.model (cost d) (frames job span) (variables-within d shape flat h.order h.ordered h.model h.built) (frames_some job span is) past
+    let within = variables-within d shape flat h.order h.ordered h.model h.built in
+    past-frames h.model (modelled d shape flat h.order h.ordered h.model h.built) job span is (cost d) (omega (arith, within)) h.refused
 
 -- a job that comes before another stands at a lower place
 pub earlier_at : (mode : Mode) (span : Span) (d : DesignOf) (i : ℕ) (job earlier : JobName) → slice_get (jobs_in mode span d) i ≡ Some job → IsEarlier earlier job

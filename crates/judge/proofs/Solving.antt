@@ -4,8 +4,8 @@ use Rattle.std.specs.Prelude.{IfOk, Option, Result, Ok, Err}
 use Rattle.std.specs.declared.alloc.AllocError.{AllocError}
 use Rattle.cnf_form.specs.Cnf.{FormulaOf, IsUnsatisfiable}
 use Rattle.cnf_form.specs.Dimacs.{IsDimacs}
-use Rattle.job_cnf.specs.Decoding.{values_of}
-use Rattle.job_cnf.specs.Encoding.{EncodedOf}
+use Rattle.job_terms.specs.Decoding.{values_of}
+use Rattle.job_terms.specs.Encoding.{EncodedOf}
 use Rattle.cert_judge.proofs.OutputFates.{output_refuted}
 use Rattle.cert_judge.specs.OutputFate.{IsOutputFate, IsOutputFateSoFar}
 use Rattle.cert_judge.specs.OutputJudging.{Ends as OutputEnds, Feeds as OutputFeeds, OutputOf, Stands}
@@ -32,7 +32,7 @@ use Rattle.judge.specs.declared.judging.Progress.{Progress}
 use Rattle.judge.specs.declared.judging.Progress.TheVariants.{More, Done, Unknown}
 
 pub job_asked : (p : AskedOf) (job : JobName) (f : FormulaOf) → IsFormulaOf p job f → IsJob p job
-job_asked p job f (e, (i, at, coded), is) = (i, at)
+job_asked p job f (e, (asked, coded), is) = asked
 
 -- what an output's judge answers is true of its formula
 true_so_far : (old new : OutputOf) (bytes : List ℕ) (o : Option Outcome) → (formula_of new.judge) ≡ (formula_of old.judge) → OutputFeeds old new bytes o → IsTrueOutcome (formula_of old.judge) (bits_of new.judge) o

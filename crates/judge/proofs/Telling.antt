@@ -4,8 +4,8 @@ use Rattle.std.specs.Prelude.{IfOk, MatchOption, Option, Result, Ok, Err}
 use Rattle.std.specs.declared.alloc.AllocError.{AllocError}
 use Rattle.cnf_form.specs.Cnf.{Assignment, FormulaOf}
 use Rattle.cnf_form.specs.Dimacs.{IsDimacs}
-use Rattle.job_cnf.specs.Decoding.{values_of}
-use Rattle.job_cnf.specs.Encoding.{EncodedOf}
+use Rattle.job_terms.specs.Decoding.{values_of}
+use Rattle.job_terms.specs.Encoding.{EncodedOf}
 use Rattle.cert_judge.specs.Kinds.{IsFate, IsFateSoFar, stream_values}
 use Rattle.cert_judge.specs.Judging.{Feeds as StreamFeeds, IsOver, IsSameJudge as IsSameStream, JudgeOf as StreamOf, Stands, bits_of, formula_of, kind_of, outcome_of}
 use Rattle.sby_terms.specs.declared.names.Answer.{Answer}

@@ -8,8 +8,8 @@ use Rattle.design_meaning.specs.Claims.{ReachRun, Shows}
 use Rattle.design_meaning.specs.Meaning.{Broken, Reached, Run, Valuation}
 use Rattle.design_meaning.specs.Runs.{CycleOf, kept_bits, valuations}
 use Rattle.design_reader.specs.Grammar.{Reads}
-use Rattle.job_cnf.specs.Encoding.{EncodedOf, IsDecoded, ShowsGoal, decoded}
-use Rattle.job_cnf.specs.Jobs.{MayEnd}
+use Rattle.job_terms.specs.Encoding.{EncodedOf, IsDecoded, ShowsGoal, decoded}
+use Rattle.job_terms.specs.Jobs.{MayEnd}
 use Rattle.model_core.proofs.Runs.{runs_same}
 use Rattle.model_core.specs.Choices.{AreChoicesFor, ChoicesOf, Plays}
 use Rattle.model_core.specs.Meaning.{Cycle}
@@ -25,6 +25,7 @@ use Rattle.sby_terms.specs.declared.span.Span.{Span}
 use Rattle.word_model.proofs.Alike.{alike-turned, assumed-alike, broken-alike, follows-alike, frame-alike, reached-alike, starts-alike}
 use Rattle.word_model.proofs.Runs.{reach-to, shows-to}
 use Rattle.word_model.specs.Layout.{HasConstants, IsAlike, valued}
+use Rattle.judge.proofs.Encodes.{encodes}
 use Rattle.judge.proofs.Carrying.{constants}
 use Rattle.cert_judge.specs.Kinds.{stream_values}
 use Rattle.cert_judge.specs.declared.stream.StreamKind.{StreamKind}
@@ -73,7 +74,7 @@ unsat_found p job text mode span h w e f g = claimed p (unsat (problem text mode
     unsolved : Solvable p.design job (span_of p.problem) → ⊥
     unsolved s =
         let b = w.1 in
-        let x = (h.encodes job b.0 b.1).speaks.1 s in
+        let x = (encodes p h job b.0 b.1).speaks.1 s in
         w.2 x.0 (subst (λ (z : FormulaOf). Satisfies x.0 z.clauses) (sym b.2) x.1)
 
 -- and of one for which what is shown bears the claim out
@@ -83,7 +84,7 @@ sat_found p job run text mode span h c e f g = claimed p (sat (problem text mode
 
 -- Step can be solved where values satisfy its formula
 step_shown : (p : AskedOf) (e : EncodedOf) (x : Assignment) → IsProblem p → IsEncodedOf p Step e → Satisfies x e.formula.clauses → Claim p.design (span_of p.problem) Step Sat None
-step_shown p e x h is holds = ((h.encodes Step e is).speaks.0 (x, holds), refl)
+step_shown p e x h is holds = ((encodes p h Step e is).speaks.0 (x, holds), refl)
 
 pub step_claim : (p : AskedOf) (job : JobName) (e : EncodedOf) (x : Assignment) → job ≡ Step → IsProblem p → IsEncodedOf p job e → Satisfies x e.formula.clauses → Claim p.design (span_of p.problem) job Sat None
 step_claim p job e x same h is holds =
@@ -92,12 +93,12 @@ step_claim p job e x same h is holds =
 -- the values of Base or Cover tell choices for a run, of one cycle at least
 module _ (p : AskedOf) (h : IsProblem p) (job : JobName) (apart : job ≡ Step → ⊥) (e : EncodedOf) (is : IsEncodedOf p job e) (x : Assignment) (c : ChoicesOf) (told : c ≡ decoded e x) where
   pub choices_fit : AreChoicesFor p.model c
-  choices_fit = subst (λ (z : ChoicesOf). AreChoicesFor p.model z) (sym told) ((h.encodes job e is).choices apart x)
+  choices_fit = subst (λ (z : ChoicesOf). AreChoicesFor p.model z) (sym told) ((encodes p h job e is).choices apart x)
 
   module _ (holds : Satisfies x e.formula.clauses) where
     pub some_choices : 0 < length c.inputs
     some_choices =
-        let plays = ((h.encodes job e is).decodes apart x holds).plays in
+        let plays = ((encodes p h job e is).decodes apart x holds).plays in
         subst (λ (z : ChoicesOf). 0 < length z.inputs) (sym told) plays.1.run.window.some
 
     -- the rows that are played for them are a run that is played from the values
@@ -169,7 +170,7 @@ module _ (p : AskedOf) (h : IsProblem p) (e : EncodedOf) (x : Assignment) (run :
   known t lt = constants p.design p.model h.model (cycles t) (plays.run.window.frames t (subst (λ (n : ℕ). t < n) played.cycles lt))
 
   decoded-as : (job : JobName) → (job ≡ Step → ⊥) → IsEncodedOf p job e → IsDecoded p.model job (span_of p.problem) (decoded e x)
-  decoded-as job apart is = (h.encodes job e is).decodes apart x played.satisfies
+  decoded-as job apart is = (encodes p h job e is).decodes apart x played.satisfies
 
   goal : (job : JobName) → (job ≡ Step → ⊥) → IsEncodedOf p job e → ShowsGoal p.model job (length run) cycles
   goal job apart is = subst (λ (n : ℕ). ShowsGoal p.model job n cycles) (sym played.cycles) ((decoded-as job apart is).shows cycles plays)

@@ -6,7 +6,7 @@ use Rattle.std.proofs.lemmas.List.{length-map, map-append}
 use Rattle.std.proofs.lemmas.List.Elements.{All-contains, Contains-append_left, Contains-append_right}
 use Rattle.std.proofs.lemmas.Option.{slice_get-get_or, slice_get_within}
 use Rattle.cnf_form.specs.Cnf.{Assignment}
-use Rattle.cone_cnf.specs.Asking.{HasOriginsInBits, asked_of, place_of as origin_place}
+use Rattle.task_net.specs.Asking.{HasOriginsInBits, asked_of, place_of as origin_place}
 use Rattle.design_core.specs.Asked.{output_of}
 use Rattle.design_core.specs.Places.{place_of}
 use Rattle.design_core.specs.Shape.{CellOf, DesignOf, IsDesign}
@@ -20,8 +20,8 @@ use Rattle.design_meaning.specs.Runs.{CycleOf, kept_by_role, kept_width, valuati
 use Rattle.design_meaning.specs.States.{Kept, Signal, StateBit, input_bits, state_bits, state_in, state_of, state_of_role}
 use Rattle.design_signals.specs.declared.sig_bit.SigBit.{SigBit}
 use Rattle.design_states.proofs.Giving.{in-lists}
-use Rattle.job_cnf.specs.Encoding.{EncodedOf, HasValue, IsOpenIn, Origin, decoded}
-use Rattle.job_cnf.specs.Encoding.Origin.{First, Input}
+use Rattle.job_terms.specs.Encoding.{EncodedOf, HasValue, IsOpenIn, Origin, decoded}
+use Rattle.job_terms.specs.Encoding.Origin.{First, Input}
 use Rattle.model_cone.specs.Cone.{IsInCone}
 use Rattle.model_core.specs.Choices.{Plays, open_states, without_digit}
 use Rattle.model_core.specs.Meaning.{Cycle}
@@ -38,6 +38,7 @@ use Rattle.word_model.proofs.Following.{enumerated}
 use Rattle.word_model.proofs.Owning.{in-range, input-declared, map-member}
 use Rattle.word_model.proofs.Reading.{bit-read}
 use Rattle.word_model.proofs.Stating.{mapped-at}
+use Rattle.judge.proofs.Encodes.{encodes}
 use Rattle.judge.proofs.Carrying.{constants}
 use Rattle.judge.specs.Jobs.{span_of}
 use Rattle.judge.specs.Played.{IsPlayed}
@@ -164,7 +165,7 @@ module _ (p : AskedOf) (h : IsProblem p) (job : JobName) (apart : job ≡ Step �
   -- what is open and isn't in the cone of what the job asks is 0
   open-zero : (o : Origin) → IsOpenIn p.model (length (decoded e x).inputs) o → (IsInCone (split_model p.model) (asked_of job) (origin_place o) → ⊥) → HasValue cycles (length (decoded e x).inputs) o false
   open-zero o free outside =
-      let origins : HasOriginsInBits p.model job (span_of p.problem) e = (h.encodes job e is).origins in
+      let origins : HasOriginsInBits p.model job (span_of p.problem) e = (encodes p h job e is).origins in
       origins.has.rest apart x played.satisfies cycles plays o free
       (λ c. outside (All-contains (λ (a : Origin). IsInCone (split_model p.model) (asked_of job) (origin_place a)) origins.has.origins o origins.cone c))
 

@@ -1,14 +1,14 @@
 -- Where a problem is refused.
 use Rattle.std.specs.Prelude.{◌≡◌, ℕ, ◌*◌, ◌<◌, ◌^◌, List, Some, slice_get}
-use Rattle.cone_cnf.specs.Asking.{IsTooMany as IsTooManyOf}
+use Rattle.task_net.specs.Net.{IsTooMany as IsTooManyOf}
 use Rattle.design_check.specs.Faults.{IsFault, IsFlat}
 use Rattle.design_core.specs.Shape.{DesignOf}
 use Rattle.design_graph.specs.Order.{IsOrder}
 use Rattle.design_graph.specs.declared.driver.Driver.{Driver}
 use Rattle.design_reader.specs.Faults.{IsReadFault}
 use Rattle.design_reader.specs.Grammar.{Reads}
-use Rattle.job_cnf.specs.Encoding.{EncodedOf}
-use Rattle.job_cnf.specs.Jobs.{frames}
+use Rattle.job_terms.specs.Encoding.{EncodedOf}
+use Rattle.job_terms.specs.Jobs.{frames}
 use Rattle.model_core.specs.Shape.{ModelOf}
 use Rattle.model_laws.specs.Cost.{cost}
 use Rattle.word_model.specs.Built.{IsBuilt}

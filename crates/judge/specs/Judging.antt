@@ -3,7 +3,7 @@ use Rattle.std.specs.Prelude.{◌≡◌, ◌⊎◌, ℕ, Bool, true, false, List
 use Rattle.std.specs.declared.alloc.AllocError.{AllocError}
 use Rattle.cnf_form.specs.Cnf.{Assignment, FormulaOf, IsUnsatisfiable, Satisfies}
 use Rattle.design_meaning.specs.Runs.{CycleOf}
-use Rattle.job_cnf.specs.Decoding.{values_of}
+use Rattle.job_terms.specs.Decoding.{values_of}
 use Rattle.sby_terms.specs.declared.names.Answer.TheVariants.{Sat}
 use Rattle.sby_terms.specs.declared.names.JobName.{JobName}
 use Rattle.sby_terms.specs.declared.names.JobName.TheVariants.{Step}

@@ -6,7 +6,6 @@ pub mod Fault
 pub mod Finding
 pub mod Agree
 pub mod Rows
-pub mod Places
 pub mod Stored
 pub mod Played
 pub mod Judging

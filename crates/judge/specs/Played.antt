@@ -2,7 +2,7 @@
 use Rattle.std.specs.Prelude.{◌≡◌, ℕ, ◌<◌, Bool, List, length, Option, Some}
 use Rattle.cnf_form.specs.Cnf.{Assignment, Satisfies}
 use Rattle.design_meaning.specs.Runs.{CycleOf, IsRunOf, valuations}
-use Rattle.job_cnf.specs.Encoding.{EncodedOf, decoded}
+use Rattle.job_terms.specs.Encoding.{EncodedOf, decoded}
 use Rattle.model_core.specs.Choices.{Plays}
 use Rattle.model_core.specs.Meaning.{Cycle}
 use Rattle.cert_judge.specs.Kinds.{stream_values}

@@ -1,12 +1,15 @@
--- A problem: a text, the design that it reads, its model, and each of its jobs as a formula.
-use Rattle.std.specs.Prelude.{◌≡◌, ◌↔◌, ◌≤◌, ◌^◌, ℕ, List, length, Some, slice_get}
+-- A problem: a text, the design that it reads, its model, and the net from which each of its jobs is made as a formula.
+use Rattle.std.specs.Prelude.{◌≡◌, ◌↔◌, ◌≤◌, ◌^◌, ℕ, List, Some, slice_get}
 use Rattle.cnf_form.specs.Cnf.{Assignment, FormulaOf, Satisfies}
 use Rattle.cnf_form.specs.Dimacs.{IsDimacs, dimacs_text}
-use Rattle.cone_cnf.specs.Asking.{HasOriginsInBits}
-use Rattle.job_cnf.specs.Encoding.{CanBeSatisfied, EncodedOf, IsDecoded, Propagates, decoded, empty_job}
+use Rattle.task_net.specs.Asking.{HasOriginsInBits}
+use Rattle.task_net.specs.Net.{IsTaskNet, TaskNetOf, task_encoded}
+use Rattle.job_terms.specs.Encoding.{CanBeSatisfied, EncodedOf, IsDecoded, Propagates, decoded, empty_job}
 use Rattle.design_core.specs.Shape.{DesignOf, IsDesign}
 use Rattle.design_check.specs.Faults.{IsFlat}
 use Rattle.design_reader.specs.Grammar.{Reads}
+use Rattle.model_cone.specs.declared.asked.Asked.{Asked}
+use Rattle.model_cone.specs.declared.asked.Asked.TheVariants as ask
 use Rattle.model_core.specs.Choices.{AreChoicesFor}
 use Rattle.model_core.specs.Served.{IsModel}
 use Rattle.model_core.specs.Shape.{ModelOf}
@@ -17,15 +20,18 @@ use Rattle.word_model.specs.Model.{IsModelOf}
 use Rattle.sby_terms.specs.Problem.{ProblemOf}
 use Rattle.sby_terms.specs.declared.names.JobName.{JobName}
 use Rattle.sby_terms.specs.declared.names.JobName.TheVariants.{Step}
+use Rattle.sby_terms.specs.declared.names.Mode.{Mode}
+use Rattle.sby_terms.specs.declared.names.Mode.TheVariants.{Bmc, Prove, Cover}
 use Rattle.sby_terms.specs.declared.span.Span.{Span}
+use Rattle.net_jobs.specs.Jobs.{job_made}
 use Rattle.judge.specs.Jobs.{AsksNothing, IsSpanFor, Solvable, jobs_of, span_of}
 
--- what is asked, the design, its model, and each job as it is encoded, in the order of the jobs
+-- what is asked, the design, its model, and the net of what the mode asks
 pub record AskedOf : Type 0 where
   pub problem : ProblemOf
   pub design : DesignOf
   pub model : ModelOf
-  pub encoded : List EncodedOf
+  pub net : TaskNetOf
 
 -- the job at place i
 abbrev pub IsJobAt : AskedOf → ℕ → JobName → Type 0
@@ -35,9 +41,15 @@ IsJobAt p i job = slice_get (jobs_of p.problem p.design) i ≡ Some job
 abbrev pub IsJob : AskedOf → JobName → Type 0
 IsJob p job = (i : ℕ) × IsJobAt p i job
 
--- the job as it is encoded
+-- what the jobs of a mode ask
+abbrev pub asked_in : Mode → Asked
+asked_in Bmc = ask.Asserts
+asked_in Prove = ask.Asserts
+asked_in Cover = ask.Covers
+
+-- the job as it is encoded, made from the net
 abbrev pub IsEncodedOf : AskedOf → JobName → EncodedOf → Type 0
-IsEncodedOf p job e = (i : ℕ) × IsJobAt p i job × (slice_get p.encoded i ≡ Some e)
+IsEncodedOf p job e = IsJob p job × (e ≡ task_encoded p.net job (span_of p.problem))
 
 -- and its formula
 abbrev pub IsFormulaOf : AskedOf → JobName → FormulaOf → Type 0
@@ -61,7 +73,7 @@ pub record IsEncodedJob (d : DesignOf) (m : ModelOf) (job : JobName) (span : Spa
   pub decodes : (job ≡ Step → ⊥) → (x : Assignment) → Satisfies x e.formula.clauses → IsDecoded m job span (decoded e x)
 
 -- the span is one that the mode may have; the text reads the design and no other, which is flat; the model is the design's, made of its
--- parts; and each job is encoded
+-- parts; the net is that of what the mode asks, and each job fits
 pub record IsProblem (p : AskedOf) : Type 0 where
   pub span : IsSpanFor p.problem.mode (span_of p.problem)
   pub reads : Reads p.problem.text p.design
@@ -71,5 +83,5 @@ pub record IsProblem (p : AskedOf) : Type 0 where
   pub is_model : IsModel p.model
   pub model : IsModelOf p.design p.model
   pub built : (order : List Driver) × IsOrder p.design order × IsBuilt p.design order p.model
-  pub each : length p.encoded ≡ length (jobs_of p.problem p.design)
-  pub encodes : (job : JobName) (e : EncodedOf) → IsEncodedOf p job e → IsEncodedJob p.design p.model job (span_of p.problem) e
+  pub net : IsTaskNet p.model (asked_in p.problem.mode) p.net
+  pub fits : (job : JobName) → IsJob p job → job_made p.net.net job (span_of p.problem) ≤ 2 ^ 27

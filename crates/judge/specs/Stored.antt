@@ -1,8 +1,9 @@
--- How a problem is kept: its model with what is known of it, and its jobs by their names.
-use Rattle.std.specs.Prelude.{◌≡◌, ℕ, ◌+◌, ◌<◌, ◌≤◌, List, All, length, map, Some, slice_get}
-use Rattle.cone_cnf.specs.Asking.{IsTooMany as IsTooManyOf}
+-- How a problem is kept: its model with what is known of it, and the names of its jobs.
+use Rattle.std.specs.Prelude.{◌≡◌, ℕ, ◌+◌, ◌<◌, ◌≤◌, ◌^◌, List, length, Some, slice_get}
+use Rattle.task_net.specs.Net.{IsTooMany as IsTooManyOf, TaskNetOf}
+use Rattle.net_jobs.specs.Jobs.{job_made}
 use Rattle.design_core.specs.Shape.{DesignOf, IsDesign}
-use Rattle.job_cnf.specs.Encoding.{EncodedOf, frame_cost}
+use Rattle.job_terms.specs.Encoding.{EncodedOf}
 use Rattle.model_core.specs.Served.{IsModel}
 use Rattle.model_core.specs.Shape.{ModelOf, states}
 use Rattle.model_laws.specs.Cost.{cost}
@@ -16,35 +17,25 @@ use Rattle.sby_terms.specs.declared.span.Span.{Span}
 use Rattle.judge.specs.Jobs.{jobs_of}
 use Rattle.judge.specs.Problem.{AskedOf, IsEncodedJob, IsProblem}
 
--- an encoded job by its name
-pub record JobOf : Type 0 where
-  pub name : JobName
-  pub encoded : EncodedOf
-
-abbrev pub names_in : List JobOf → List JobName
-names_in jobs = map (λ (j : JobOf). j.name) jobs
-
 -- what is asked, from what is kept
-abbrev pub asked_by : List ℕ → Mode → Span → DesignOf → ModelOf → List JobOf → AskedOf
-asked_by text mode span d m jobs = record { problem = record { text = text; mode = mode; span = span }; design = d; model = m; encoded = map (λ (j : JobOf). j.encoded) jobs }
+abbrev pub asked_by : List ℕ → Mode → Span → DesignOf → ModelOf → TaskNetOf → AskedOf
+asked_by text mode span d m net = record { problem = record { text = text; mode = mode; span = span }; design = d; model = m; net = net }
 
--- it is a problem, and the jobs have their names
-pub record IsStored (p : AskedOf) (jobs : List JobOf) : Type 0 where
+-- it is a problem, and these are its jobs
+pub record IsStored (p : AskedOf) (kept : List JobName) : Type 0 where
   pub problem : IsProblem p
-  pub names : names_in jobs ≡ jobs_of p.problem p.design
+  pub names : kept ≡ jobs_of p.problem p.design
 
--- the design's model, by its parts in some order of the drivers; what a frame of it takes is within the design's cost
+-- the design's model, by its parts in some order of the drivers
 pub record IsBuiltFor (d : DesignOf) (m : ModelOf) : Type 0 where
   pub design : IsDesign d
   pub is_model : IsModel m
   pub model : IsModelOf d m
-  pub within : 1 + length (states m) + frame_cost m ≤ cost d
   pub built : (order : List Driver) × IsOrder d order × IsBuilt d order m
 
--- each job has its name, and is encoded
-pub record AreEncoded (d : DesignOf) (m : ModelOf) (span : Span) (names : List JobName) (jobs : List JobOf) : Type 0 where
-  pub named : names_in jobs ≡ names
-  pub each : All (λ (j : JobOf). IsEncodedJob d m j.name span j.encoded) jobs
+-- the variables that the first k of these jobs make come to no more than 2 ^ 27 each
+abbrev pub FitUpTo : TaskNetOf → Span → List JobName → ℕ → Type 0
+FitUpTo t span names k = (i : ℕ) (job : JobName) → i < k → slice_get names i ≡ Some job → job_made t.net job span ≤ 2 ^ 27
 
 -- one of these jobs has too many variables; each before it is encoded
 pub record IsRefusedAmong (d : DesignOf) (m : ModelOf) (span : Span) (names : List JobName) (job : JobName) : Type 0 where

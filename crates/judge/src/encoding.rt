@@ -1,83 +1,28 @@
-// The model of a problem, and its jobs as they are encoded.
+// The model of a problem, and the net from which its jobs are made.
 
-ghost use Rattle.std.specs.Prelude.{◌≡◌, ◌≤◌, ℕ, IfErr, IfOk, length};
-ghost use Rattle.cnf_form.specs.Dimacs.{IsDimacs, dimacs_text};
-ghost use Rattle.cone_cnf.specs.Asking.{IsTooMany};
+ghost use Rattle.std.specs.Prelude.{◌≡◌, ◌<◌, ◌≤◌, ◌^◌, IfErr, IfNone, IfOk, IfSome, IsFalse, IsTrue, length};
 ghost use Rattle.design_core.specs.Shape.{DesignOf};
 ghost use Rattle.design_meaning.specs.Meaning.{covers as covers_in};
-ghost use Rattle.job_cnf.specs.Jobs.{IsJob};
 ghost use Rattle.judge.specs.Jobs.{jobs_in};
-ghost use Rattle.judge.specs.Problem.{IsEncodedJob};
-ghost use Rattle.judge.specs.Stored.{AreEncoded, IsBuiltFor, IsRefusedAmong};
+ghost use Rattle.judge.specs.Problem.{asked_in as asked_by_mode};
+ghost use Rattle.judge.specs.Stored.{FitUpTo, IsBuiltFor, IsRefusedAmong};
+ghost use Rattle.net_jobs.specs.Jobs.{IsOfSpan, job_made};
 ghost use Rattle.sby_terms.specs.Span.{IsSpan};
+ghost use Rattle.task_net.specs.Net.{IsTaskNet};
 
-use cnf_form::write_dimacs;
-use cone_cnf::{Encoded, TooMany, encode};
 use design_check::flat::Flat;
+use model_cone::asked::Asked;
 use model_core::model::WordModel;
-use model_laws::laws::variables_are_within_cost;
+use net_jobs::{encode, surely_fits};
 use sby_terms::{JobName, Mode, Span};
 use std::alloc::{AllocError, Global};
-use std::marker::Model;
+use task_net::TaskNet;
 use word_model::build::build;
-
-// An encoded job by its name, and its file.
-#[derive(Drop)]
-pub(crate) struct Job {
-    name: JobName,
-    encoded: Encoded,
-    file: Vec<u8>,
-}
-
-impl Model for Job {
-    ghost use Rattle.std.specs.Prelude.{◌≡◌};
-    ghost use Rattle.cnf_form.specs.Dimacs.{IsDimacs, dimacs_text};
-    ghost use Rattle.judge.specs.Stored.{JobOf};
-
-    ghost Value = { JobOf };
-
-    ghost view = { λ a. record { name = a.name; encoded = a.encoded } };
-
-    ghost invariant = { λ a. (a.file.items ≡ dimacs_text a.encoded.formula) × IsDimacs a.file.items a.encoded.formula };
-}
-
-impl Job {
-    fn new(alloc: Global, name: JobName, encoded: Encoded) -> Result<Job, AllocError>
-        ensures { IfOk result (λ job. job ≡ record { name = name; encoded = encoded }) }
-    {
-        let file = write_dimacs(alloc, encoded.formula())?;
-        Ok(Job {
-            name,
-            encoded,
-            file,
-        })
-    }
-
-    pub(crate) fn name(&self) -> JobName
-        ensures { result ≡ self.now.name }
-    {
-        self.name
-    }
-
-    pub(crate) fn encoded(&self) -> &Encoded
-        ensures { result.now ≡ self.now.encoded }
-    {
-        &self.encoded
-    }
-
-    pub(crate) fn file(&self) -> &[u8]
-        ensures text { result.now ≡ dimacs_text self.now.encoded.formula }
-        ensures grammar { IsDimacs result.now self.now.encoded.formula }
-    {
-        self.file.as_slice()
-    }
-}
 
 // The design's model.
 pub(crate) fn model_of(alloc: Global, flat: &Flat) -> Result<WordModel, AllocError>
     ensures { IfOk result (λ m. IsBuiltFor flat.now m) }
 {
-    variables_are_within_cost();
     let _places = flat.design().places();
     let model = build(alloc, flat)?;
     let _size = model.size();
@@ -111,53 +56,97 @@ fn names_of(alloc: Global, mode: Mode, span: Span, covers: u32) -> Result<Vec<Jo
     }
 }
 
-// A job, encoded; refused where it has too many variables.
-fn encode_job(
-    alloc: Global,
-    flat: &Flat,
-    model: &WordModel,
-    name: JobName,
-    span: Span,
-) -> Result<Result<Job, TooMany>, AllocError>
-    requires built { IsBuiltFor flat.now model.now }
-    requires span { IsSpan span }
-    requires most { span.depth ≤ 100000 }
-    requires job { IsJob model.now name span }
-    ensures name { IfOk result (λ r. IfOk r (λ job. job.name ≡ name)) }
-    ensures encoded { IfOk result (λ r. IfOk r (λ job. IsEncodedJob flat.now model.now name span job.encoded)) }
-    ensures too_many { IfOk result (λ r. IfErr r (λ _. IsTooMany model.now name span)) }
-{
-    match encode(alloc, model, name, span)? {
-        Ok(encoded) => {
-            let job = Job::new(alloc, name, encoded)?;
-            Ok(Ok(job))
-        }
-        Err(TooMany) => Ok(Err(TooMany)),
-    }
-}
-
-// All jobs, encoded in their order; or the first that has too many variables.
-pub(crate) fn encode_all(
+// The jobs of a problem, in order.
+pub(crate) fn names_for(
     alloc: Global,
     flat: &Flat,
     model: &WordModel,
     mode: Mode,
     span: Span,
-) -> Result<Result<Vec<Job>, JobName>, AllocError>
+) -> Result<Vec<JobName>, AllocError>
     requires built { IsBuiltFor flat.now model.now }
     requires span { IsSpan span }
-    requires most { span.depth ≤ 100000 }
-    ensures jobs { IfOk result (λ r. IfOk r (λ jobs. AreEncoded flat.now model.now span (jobs_in mode span flat.now) jobs.items)) }
-    ensures refused { IfOk result (λ r. IfErr r (λ job. IsRefusedAmong flat.now model.now span (jobs_in mode span flat.now) job)) }
+    ensures { IfOk result (λ names. names.items ≡ jobs_in mode span flat.now) }
 {
     let covers = model.covers().len() as u32;
     let names = names_of(alloc, mode, span, covers)?;
-    let mut jobs = Vec::new(alloc);
-    for name in &names {
-        match encode_job(alloc, flat, model, *name, span)? {
-            Ok(job) => jobs.push(job)?,
-            Err(TooMany) => return Ok(Err(*name)),
+    Ok(names)
+}
+
+// What the jobs of a mode ask.
+fn asked_in(mode: Mode) -> Asked
+    ensures { result ≡ asked_by_mode mode }
+{
+    match mode {
+        Mode::Bmc | Mode::Prove => Asked::Asserts,
+        Mode::Cover => Asked::Covers,
+    }
+}
+
+// Whether a job fits: by counting, or else by making it.
+fn fits(alloc: Global, net: &TaskNet, job: JobName, span: Span) -> Result<bool, AllocError>
+    requires span { IsSpan span }
+    requires most { span.depth ≤ 100000 }
+    requires job { IsOfSpan job span }
+    ensures yes { IfOk result (λ b. IsTrue b → job_made net.now.net job span ≤ 2 ^ 27) }
+    ensures no { IfOk result (λ b. IsFalse b → 2 ^ 27 < job_made net.now.net job span) }
+{
+    if surely_fits(net.net(), job, span) {
+        return Ok(true);
+    }
+    let encoded = encode(alloc, net.net(), job, span)?;
+    Ok(encoded.is_ok())
+}
+
+// The first of the jobs that has too many variables, if one has.
+fn first_unfit(
+    alloc: Global,
+    flat: &Flat,
+    model: &WordModel,
+    net: &TaskNet,
+    mode: Mode,
+    span: Span,
+    names: &[JobName],
+) -> Result<Option<JobName>, AllocError>
+    requires built { IsBuiltFor flat.now model.now }
+    requires span { IsSpan span }
+    requires most { span.depth ≤ 100000 }
+    requires net { IsTaskNet model.now (asked_by_mode mode) net.now }
+    requires names { names.now ≡ jobs_in mode span flat.now }
+    ensures none { IfOk result (λ r. IfNone r (FitUpTo net.now span names.now (length names.now))) }
+    ensures some { IfOk result (λ r. IfSome r (λ job. IsRefusedAmong flat.now model.now span names.now job)) }
+{
+    for name in names {
+        if !fits(alloc, net, *name, span)? {
+            return Ok(Some(*name));
         }
     }
-    Ok(Ok(jobs))
+    Ok(None)
+}
+
+// The net of what a mode asks, over which each of its jobs fits; or the first job that has too many variables.
+pub(crate) fn net_for(
+    alloc: Global,
+    flat: &Flat,
+    model: &WordModel,
+    mode: Mode,
+    span: Span,
+    names: &[JobName],
+) -> Result<Result<TaskNet, JobName>, AllocError>
+    requires built { IsBuiltFor flat.now model.now }
+    requires span { IsSpan span }
+    requires most { span.depth ≤ 100000 }
+    requires names { names.now ≡ jobs_in mode span flat.now }
+    ensures net { IfOk result (λ r. IfOk r (λ t. IsTaskNet model.now (asked_by_mode mode) t)) }
+    ensures fits { IfOk result (λ r. IfOk r (λ t. FitUpTo t span names.now (length names.now))) }
+    ensures refused { IfOk result (λ r. IfErr r (λ job. IsRefusedAmong flat.now model.now span names.now job)) }
+{
+    let net = match TaskNet::new(alloc, model, asked_in(mode))? {
+        Ok(net) => net,
+        Err(_) => return Ok(Err(names[0])),
+    };
+    match first_unfit(alloc, flat, model, &net, mode, span, names)? {
+        Some(job) => Ok(Err(job)),
+        None => Ok(Ok(net)),
+    }
 }

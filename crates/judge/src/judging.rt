@@ -1,8 +1,8 @@
 // The judge of one stream.
 
 ghost use Rattle.std.specs.Prelude.{◌≡◌, ◌≢◌, ◌≤◌, ◌^◌, ◌++◌, List, ℕ, [], IfOk, IsErr, OnErr, Ok, Err};
-ghost use Rattle.job_cnf.specs.Decoding.{values_of};
-ghost use Rattle.job_cnf.specs.Encoding.{EncodedOf};
+ghost use Rattle.job_terms.specs.Decoding.{values_of};
+ghost use Rattle.job_terms.specs.Encoding.{EncodedOf};
 ghost use Rattle.judge.specs.Judging.{Ends, Feeds, Finds, FindsPlayed, IsTrueOutcome, Took, TookAll, fate_told, state_told};
 ghost use Rattle.judge.specs.Problem.{IsEncodedOf, IsJob};
 ghost use Rattle.cert_judge.specs.Outcomes.{fate_told as outcome_told};
@@ -47,7 +47,7 @@ pub struct Judge<'a> {
     job: JobName,
     kind: StreamKind,
     most: u64,
-    stream: StreamJudge<'a>,
+    stream: StreamJudge,
     state: State,
 }
 
@@ -81,7 +81,7 @@ impl<'a> Judge<'a> {
         ensures most { IfOk result (λ j. j.most ≡ most) }
         ensures took { IfOk result (λ j. Took j []) }
     {
-        let formula = problem.encoded(job).formula();
+        let formula = problem.formula(alloc, job)?;
         let stream = StreamJudge::new(alloc, formula, kind, most)?;
         Ok(Judge {
             alloc,

@@ -3,6 +3,7 @@
 
 mod encoding;
 mod finding;
+mod job_file;
 mod judging;
 mod laws;
 mod problem;
@@ -11,6 +12,7 @@ mod solver;
 mod text;
 
 pub use finding::Finding;
+pub use job_file::JobFile;
 pub use judging::{Judge, Progress, State};
 pub use laws::{
     base_and_step_show_that_nothing_breaks, every_choice_has_a_run_of_the_design,

@@ -1,32 +1,35 @@
-// A problem: a text, its design and model, and its jobs as formulas.
+// A problem: a text, its design and model, and the net from which its jobs are made.
 
-ghost use Rattle.std.specs.Prelude.{◌≡◌, ◌≢◌, ◌+◌, ◌<◌, ◌≤◌, ℕ, IfErr, IfOk, MatchResult, Some, length, slice_get};
+ghost use Rattle.std.specs.Prelude.{◌≡◌, ◌≢◌, ◌+◌, ◌<◌, ◌≤◌, ℕ, List, IfOk, MatchResult, Some, length, slice_get};
 ghost use Rattle.cnf_form.specs.Cnf.{Satisfies};
-ghost use Rattle.job_cnf.specs.Decoding.{values_of};
-ghost use Rattle.job_cnf.specs.Encoding.{EncodedOf};
+ghost use Rattle.job_terms.specs.Decoding.{values_of};
+ghost use Rattle.job_terms.specs.Encoding.{EncodedOf};
 ghost use Rattle.judge.specs.Fault.{IsProblemFault};
-ghost use Rattle.judge.specs.Jobs.{jobs_in, jobs_of};
-ghost use Rattle.judge.specs.Places.{place_of};
+ghost use Rattle.judge.specs.Jobs.{jobs_of, span_of};
+ghost use Rattle.net_jobs.specs.Jobs.{job_encoding};
 ghost use Rattle.judge.specs.Played.{IsPlayed};
-ghost use Rattle.judge.specs.Problem.{AskedOf, IsEncodedOf, IsJob, IsJobFile, IsProblem};
-ghost use Rattle.judge.specs.Stored.{AreEncoded, IsBuiltFor, IsRefusedAmong};
+ghost use Rattle.judge.specs.Problem.{AskedOf, IsEncodedOf, IsFormulaOf, IsJob, IsJobFile, IsProblem};
 ghost use Rattle.sby_terms.specs.Span.{IsSpan, whole};
 
-use crate::encoding::{Job, encode_all, model_of};
+use crate::encoding::{model_of, names_for, net_for};
+use crate::job_file::JobFile;
 use crate::run::PlayedRun;
 use crate::text::Text;
-use cone_cnf::Encoded;
+use cnf_form::Formula;
 use design_check::check::{DesignFault, check};
 use design_check::flat::Flat;
 use design_reader::{ReadFault, read};
 use model_core::model::WordModel;
 use model_play::whole::play;
+use net_jobs::encode_again;
+use net_unroll::Encoded;
 use sby_terms::{JobName, Mode, Span};
 use std::alloc::{AllocError, Global};
 use std::marker::Model;
+use task_net::TaskNet;
 
-/// What is asked: a design's text, a mode and the cycles to look at; with the design that the text reads, its model, and its jobs as
-/// they are encoded.
+/// What is asked: a design's text, a mode and the cycles to look at; with the design that the text reads, its model, and the net of
+/// what the mode asks. No job is kept: each is made from the net when it is wanted.
 #[derive(Drop)]
 pub struct Problem {
     text: Text,
@@ -34,7 +37,8 @@ pub struct Problem {
     span: Span,
     flat: Flat,
     model: WordModel,
-    jobs: Vec<Job>,
+    net: TaskNet,
+    names: Vec<JobName>,
 }
 
 impl Model for Problem {
@@ -44,9 +48,9 @@ impl Model for Problem {
 
     ghost use Rattle.judge.specs.Stored.{IsStored, asked_by};
 
-    ghost view = { λ a. asked_by a.text a.mode a.span a.flat a.model a.jobs.items };
+    ghost view = { λ a. asked_by a.text a.mode a.span a.flat a.model a.net };
 
-    ghost invariant = { λ a. IsStored (asked_by a.text a.mode a.span a.flat a.model a.jobs.items) a.jobs.items };
+    ghost invariant = { λ a. IsStored (asked_by a.text a.mode a.span a.flat a.model a.net) a.names.items };
 }
 
 /// Why a problem is refused: the text reads no design, the design has a fault, or a job has too many variables.
@@ -58,9 +62,9 @@ pub enum ProblemFault {
 }
 
 impl Problem {
-    /// The problem of a design's text, over a span of at most 100,000 cycles; only bmc may skip cycles and have several slices. All
-    /// jobs of the mode are encoded, in their order, of bmc one for each slice. A refusal is that of the earliest stage, and drops the
-    /// text.
+    /// The problem of a design's text, over a span of at most 100,000 cycles; only bmc may skip cycles and have several slices. Each
+    /// job of the mode, of bmc one for each slice, is made once, in their order, and dropped, so that each fits. A refusal is that of the
+    /// earliest stage, and drops the text.
     pub fn new(
         alloc: Global,
         text: Vec<u8>,
@@ -83,8 +87,9 @@ impl Problem {
             Err(fault) => return Ok(Err(ProblemFault::Design(fault))),
         };
         let model = model_of(alloc, &flat)?;
-        let jobs = match encode_all(alloc, &flat, &model, mode, span)? {
-            Ok(jobs) => jobs,
+        let names = names_for(alloc, &flat, &model, mode, span)?;
+        let net = match net_for(alloc, &flat, &model, mode, span, names.as_slice())? {
+            Ok(net) => net,
             Err(job) => return Ok(Err(ProblemFault::TooMany(job))),
         };
         let text = Text::new(alloc, text)?;
@@ -94,7 +99,8 @@ impl Problem {
             span,
             flat,
             model,
-            jobs,
+            net,
+            names,
         };
         let _ = problem.flat();
         Ok(Ok(problem))
@@ -148,7 +154,7 @@ impl Problem {
     pub fn jobs(&self) -> usize
         ensures { result ≡ length (jobs_of self.now.problem self.now.design) }
     {
-        self.jobs.len()
+        self.names.len()
     }
 
     /// The job at a place, in the order of the jobs.
@@ -156,31 +162,43 @@ impl Problem {
         requires { place < length (jobs_of self.now.problem self.now.design) }
         ensures { slice_get (jobs_of self.now.problem self.now.design) place ≡ Some result }
     {
-        self.jobs[place].name()
+        self.names[place]
     }
 
-    /// What is put as the job's file: its formula in DIMACS.
-    pub fn job_bytes(&self, job: JobName) -> &[u8]
+    /// What is put as the job's file: its formula in DIMACS, made for it.
+    pub fn job_file(&self, alloc: Global, job: JobName) -> Result<JobFile, AllocError>
         requires { IsJob self.now job }
-        ensures { IsJobFile self.now job result.now }
+        ensures { IfOk result (λ file. IsJobFile self.now job file) }
     {
-        self.named(job).file()
+        let _flat = self.flat();
+        let encoded = self.encoded(alloc, job)?;
+        Ok(JobFile::new(encoded))
     }
 
-    // The job as it is encoded.
-    pub(crate) fn encoded(&self, job: JobName) -> &Encoded
+    /// Each job has a file.
+    pub fn has_file(&self, job: JobName)
         requires { IsJob self.now job }
-        ensures { IsEncodedOf self.now job result.now }
+        ensures { (bytes : List ℕ) × IsJobFile self.now job bytes }
     {
-        self.named(job).encoded()
+        let _flat = self.flat();
     }
 
-    fn named(&self, job: JobName) -> &Job
+    // The job as it is encoded, made from the net.
+    fn encoded(&self, alloc: Global, job: JobName) -> Result<Encoded, AllocError>
         requires { IsJob self.now job }
-        ensures { IsEncodedOf self.now job result.now.encoded }
+        ensures { IfOk result (λ e. e ≡ job_encoding self.now.net.net job (span_of self.now.problem)) }
     {
-        let jobs = self.jobs.as_slice();
-        &jobs[place_of(job)]
+        let _flat = self.flat();
+        encode_again(alloc, self.net.net(), job, self.span)
+    }
+
+    // The job's formula.
+    pub(crate) fn formula(&self, alloc: Global, job: JobName) -> Result<Formula, AllocError>
+        requires { IsJob self.now job }
+        ensures { IfOk result (λ f. IsFormulaOf self.now job f) }
+    {
+        let encoded = self.encoded(alloc, job)?;
+        encoded.formula(alloc)
     }
 
     // The run for which values that satisfy the formula of Base or Cover stand.
@@ -194,7 +212,8 @@ impl Problem {
         requires satisfying { (e : EncodedOf) × IsEncodedOf self.now job e × Satisfies (values_of values.now) e.formula.clauses }
         ensures { IfOk result (λ run. (e : EncodedOf) × IsEncodedOf self.now job e × IsPlayed self.now e (values_of values.now) run) }
     {
-        let choices = self.encoded(job).decode(alloc, values)?;
+        let encoded = self.encoded(alloc, job)?;
+        let choices = self.net.decode(alloc, job, self.span, &encoded, values)?;
         let model = &self.model;
         let rows = play(alloc, model, &choices)?;
         let design = self.flat.design();
@@ -203,15 +222,5 @@ impl Problem {
         let kept = model.size() - (wires + free + 2);
         let run = PlayedRun::new(alloc, rows, wires, free, kept)?;
         Ok(run)
-    }
-}
-
-fn place_of(job: JobName) -> usize
-    ensures { result ≡ place_of job }
-{
-    match job {
-        JobName::Base(j) => j as usize,
-        JobName::Step => 1,
-        JobName::Cover(k) => k as usize,
     }
 }

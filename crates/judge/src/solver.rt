@@ -20,7 +20,7 @@ pub struct SolverJudge<'a> {
     problem: &'a Problem,
     job: JobName,
     most: u64,
-    output: OutputJudge<'a>,
+    output: OutputJudge,
     // Nothing but More was answered yet.
     reading: bool,
 }
@@ -57,7 +57,7 @@ impl<'a> SolverJudge<'a> {
         ensures most { IfOk result (λ j. j.most ≡ most) }
         ensures took { IfOk result (λ j. Took j []) }
     {
-        let formula = problem.encoded(job).formula();
+        let formula = problem.formula(alloc, job)?;
         let output = OutputJudge::new(alloc, formula, most)?;
         Ok(SolverJudge {
             alloc,
@@ -92,7 +92,7 @@ impl<'a> SolverJudge<'a> {
         ensures over { self.new.reading ≡ false }
     {
         self.reading = false;
-        let _file = self.problem.job_bytes(self.job);
+        self.problem.has_file(self.job);
         let outcome = self.output.end()?;
         let values = self.output.values();
         answer(self.alloc, self.problem, self.job, values, outcome)

@@ -7,6 +7,7 @@ ghost use Rattle.race_core.specs.declared.event.Judged.TheVariants.{More};
 ghost use Rattle.sby_terms.specs.declared.names.JobName.{JobName};
 
 use crate::subject::{Asks, Subject};
+use sby_edge::ToldBytes;
 use sby_terms::{JobName, Settled};
 use std::alloc::{AllocError, Global};
 
@@ -68,9 +69,9 @@ pub trait Makes<T: Settled>: Asks<T> {
         ensures judges { IfOk result (λ c. Within (Self.Subject.stands c.subject) (stands self.now lane job) × Within (Self.Subject.ends c.subject) (ends self.now lane job)
             × Within (Self.Subject.proves c.subject) (proves self.now lane job)) };
 
-    /// The job's file.
-    fn bytes(&self, job: JobName) -> &[u8]
-        ensures { result.now ≡ file self.now job };
+    /// What tells the job's file.
+    fn bytes(&self, job: JobName) -> ToldBytes
+        ensures { result.bytes ≡ file self.now job };
 
     fn most(&self) -> u64
         ensures { result ≡ most self.now };

@@ -25,7 +25,7 @@ use crate::over::Asked;
 use crate::subject::{Asks, Subject};
 use race_cells::Notes;
 use race_core::{EventList, JobEnd, LaneEvent};
-use sby_edge::{Clock, Fail, Launch};
+use sby_edge::{Clock, Fail, Launch, ToldBytes};
 use sby_terms::{JobName, Settled};
 use std::alloc::{AllocError, Global};
 use std::sync::Wait;
@@ -221,7 +221,7 @@ fn start_child<
     bay: &mut L,
     watch: &Watch<'_, J, T, C>,
     child: Child<S>,
-    bytes: &[u8],
+    bytes: &ToldBytes,
     most: u64,
     notes: &mut Notes<T>,
     reader_events: EventList<T>,
@@ -244,7 +244,7 @@ fn start_child<
     ensures won { IfWon (reader_from reader.Fresh result.events.events) (λ f. known_at notes.new watch.now.terms.now.cell ≡ Some f) }
     ensures found { (f : T) → HasEnd (reader_from reader.Fresh result.events.events) (end.Found f) → (T.problem f ≡ J.problem watch.now.asks.now) × (T.job f ≡ watch.now.terms.now.job) }
     ensures starts { (starts : List StartOf) × (L.told bay.new ≡ option_map (with_starts starts) (L.told bay.old))
-        × Starts watch.now.terms.now.job (map string_bytes child.words.items) bytes.now
+        × Starts watch.now.terms.now.job (map string_bytes child.words.items) bytes.now.bytes
         (ReadsScript (S.stands child.subject) (S.ends child.subject) (S.proves child.subject) (L.told bay.old) watch.now.terms.now.job most (S.most child.subject) result.events.events)
         result.events.events keeper_events.new.events result.end starts }
     ensures start_failed { result.end ≡ end.StartFailed → Rose (L.start_faults bay.old) (L.start_faults bay.new) }
@@ -353,7 +353,7 @@ pub fn run_child<
         bay,
         watch,
         child,
-        makes.bytes(job),
+        &makes.bytes(job),
         makes.most(),
         notes,
         reader_events,

@@ -19,29 +19,19 @@ use judge::{Finding, Judge, Problem, Progress, State};
 use lane_run::{Asks, Child, Makes, Subject};
 use race_cells::Cells;
 use race_core::Judged;
-use sby_edge::Scripted;
+use sby_edge::{Nothing, Scripted, Told, ToldBytes};
 use sby_terms::{Answer, JobName, MAX_STREAM, Verdict};
 use std::alloc::{AllocError, Global};
 use std::sync::Wait;
 use std::test::Fail;
 use std::thread::Threads;
 use std::time::Clock as SystemClock;
-use task_race::{Output, ProblemLanes, Told};
-
-// No bytes.
-#[derive(Drop)]
-struct Nothing;
-
-impl Told for Nothing {
-    ghost use Rattle.std.specs.Prelude.{[]};
-
-    ghost bytes = { λ _. [] };
-}
+use task_race::ProblemLanes;
 
 // An output with its next piece.
 #[derive(Drop)]
 struct Longer<'o, 'p> {
-    output: &'o Output,
+    output: &'o ToldBytes,
     piece: &'p [u8],
 }
 
@@ -51,10 +41,10 @@ impl<'o, 'p> Told for Longer<'o, 'p> {
     ghost bytes = { λ l. l.output.now.bytes ++ l.piece.now };
 }
 
-fn with_piece(output: &Output, piece: &[u8]) -> Output
+fn with_piece(output: &ToldBytes, piece: &[u8]) -> ToldBytes
     ensures { result.bytes ≡ output.now.bytes ++ piece.now }
 {
-    Output::of(&Longer { output, piece })
+    ToldBytes::of(&Longer { output, piece })
 }
 
 // A judge's answer, as a lane's list has it.
@@ -96,7 +86,7 @@ struct ShortJudge<'a> {
     job: JobName,
     most: u64,
     judge: Judge<'a>,
-    output: Output,
+    output: ToldBytes,
 }
 
 impl<'a> Subject<Finding> for ShortJudge<'a> {
@@ -125,7 +115,7 @@ impl<'a> Subject<Finding> for ShortJudge<'a> {
     ghost proves = { λ s. IsOurs s.problem.now.problem s.job };
 
     fn feed(&mut self, _alloc: Global, piece: &[u8]) -> Judged<Finding> {
-        let _file = self.problem.job_bytes(self.job);
+        self.problem.has_file(self.job);
         self.output = with_piece(&self.output, piece);
         told_of_piece(&mut self.judge, piece)
     }
@@ -135,7 +125,7 @@ impl<'a> Subject<Finding> for ShortJudge<'a> {
     }
 
     fn open_proof(&mut self, _alloc: Global) -> Result<(), AllocError> {
-        self.output = Output::of(&Nothing);
+        self.output = ToldBytes::of(&Nothing);
         Ok(())
     }
 
@@ -214,7 +204,7 @@ impl<'a> Makes<Finding> for ShortLanes<'a> {
             job,
             most: self.most,
             judge,
-            output: Output::of(&Nothing),
+            output: ToldBytes::of(&Nothing),
         };
         Ok(Child {
             subject,
@@ -223,7 +213,7 @@ impl<'a> Makes<Finding> for ShortLanes<'a> {
         })
     }
 
-    fn bytes(&self, job: JobName) -> &[u8] {
+    fn bytes(&self, job: JobName) -> ToldBytes {
         self.lanes.bytes(job)
     }
 

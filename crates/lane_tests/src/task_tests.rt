@@ -7,7 +7,7 @@ use judge::{Finding, Problem};
 use race_core::Report;
 use sby_edge::{
     Call, CallFault, Clock, Fail as EdgeFail, Files, Got, ListClock, Script, ScriptYard, Scripted,
-    Stage, Yard,
+    Source, Stage, Yard,
 };
 use sby_terms::{Answer, Engine, JobName};
 use std::alloc::{AllocError, Global};
@@ -108,6 +108,16 @@ impl Files for NoFiles {
     }
 
     fn put(&mut self, _alloc: Global, _path: &str, _bytes: &[u8]) -> Result<(), EdgeFail> {
+        self.faults = self.faults.saturating_add(1);
+        Err(EdgeFail::Failed)
+    }
+
+    fn put_from<S: Source>(
+        &mut self,
+        _alloc: Global,
+        _path: &str,
+        _source: &mut S,
+    ) -> Result<(), EdgeFail> {
         self.faults = self.faults.saturating_add(1);
         Err(EdgeFail::Failed)
     }

@@ -5,7 +5,7 @@ use Rattle.model_core.specs.Shape.{ModelOf}
 use Rattle.model_core.specs.declared.model.Statement.{Statement}
 use Rattle.model_core.proofs.Lists.{contained_at}
 use Rattle.model_cone.specs.declared.asked.Asked.{Asked}
-use Rattle.model_cone.specs.declared.asked.Asked.TheVariants.{Asserts, Cover}
+use Rattle.model_cone.specs.declared.asked.Asked.TheVariants.{Asserts, Covers}
 use Rattle.model_cone.specs.Cone.{AgreeInCone, Counts}
 
 module _ (m : ModelOf) (asked : Asked) (c e : Cycle) (h : AgreeInCone m asked c e) where
@@ -38,9 +38,9 @@ module _ (m : ModelOf) (c e : Cycle) (h : AgreeInCone m Asserts c e) (k : ℕ) w
       let i = inl (contained_at m.asserts s k at) in
       (s, at, at-en m Asserts c e h s i ∙ en, at-a m Asserts c e h s i ∙ a)
 
-module _ (m : ModelOf) (k : ℕ) (c e : Cycle) (h : AgreeInCone m (Cover k) c e) where
+module _ (m : ModelOf) (k : ℕ) (c e : Cycle) (h : AgreeInCone m Covers c e) where
   pub reached-to : Reached m c k → Reached m e k
-  reached-to (s, at, en, a) = (s, at, sym (at-en m (Cover k) c e h s (inl at)) ∙ en, sym (at-a m (Cover k) c e h s (inl at)) ∙ a)
+  reached-to (s, at, en, a) = (s, at, sym (at-en m Covers c e h s (inl (contained_at m.covers s k at))) ∙ en, sym (at-a m Covers c e h s (inl (contained_at m.covers s k at))) ∙ a)
 
   pub reached-from : Reached m e k → Reached m c k
-  reached-from (s, at, en, a) = (s, at, at-en m (Cover k) c e h s (inl at) ∙ en, at-a m (Cover k) c e h s (inl at) ∙ a)
+  reached-from (s, at, en, a) = (s, at, at-en m Covers c e h s (inl (contained_at m.covers s k at)) ∙ en, at-a m Covers c e h s (inl (contained_at m.covers s k at)) ∙ a)

@@ -10,7 +10,6 @@ use Rattle.model_core.specs.declared.model.Statement.{Statement}
 use Rattle.model_core.proofs.Frames.{gives_below, open_source, reads_below, source_below}
 use Rattle.model_core.proofs.Lists.{all_at, all_from, contained_at}
 use Rattle.model_cone.specs.declared.asked.Asked.{Asked}
-use Rattle.model_cone.specs.declared.asked.Asked.TheVariants.{Cover}
 use Rattle.model_cone.specs.declared.givers.Giver.TheVariants.{Node, Register}
 use Rattle.model_cone.specs.Cone.{IsRoot, register_reads}
 use Rattle.model_cone.specs.Marking.{IsAskedPlace, IsPlaceOf, IsReadBy, Spreads}
@@ -158,15 +157,6 @@ statements-spread xs i x l e a b c s t u before here =
       | inl f ↦ inl (g.0, f, g.2)
       | inr q ↦ inr (subst (λ (z : Statement). (p ≡ z.a) ⊎ (p ≡ z.en)) q g.2)
     ]
-
--- what is asked
-pub cover-spread : (m : ModelOf) (k : ℕ) (x : Statement) → slice_get m.covers k ≡ Some x → (a b : List Bool) (s t : List ℕ) → Spreads (λ p. (p ≡ x.a) ⊎ (p ≡ x.en)) a s b t → Spreads (IsAskedPlace m (Cover k)) a s b t
-cover-spread m k x e a b s t h =
-    spread-as (λ p. (p ≡ x.a) ⊎ (p ≡ x.en)) (IsAskedPlace m (Cover k)) a b s t (λ p g. (x, e, g))
-    (λ p g. let same : g.0 ≡ x = same_Some g.0 x (sym g.1 ∙ e) in subst (λ (z : Statement). (p ≡ z.a) ⊎ (p ≡ z.en)) same g.2) h
-
-pub no-cover : (m : ModelOf) (k : ℕ) → length m.covers ≤ k → (p : ℕ) → IsAskedPlace m (Cover k) p → ⊥
-no-cover m k l p g = let w = slice_get_within m.covers k g.0 g.1 in omega arith
 
 -- where the cone begins
 pub roots-spread : (m : ModelOf) (asked : Asked) (a b : List Bool) (s t : List ℕ)

@@ -15,7 +15,7 @@ use Rattle.model_core.proofs.Lists.{all_at, app_left, app_right, at_place, conta
 use Rattle.model_core.proofs.Runs.{next_states_wide, open_distinct, row_follows}
 use Rattle.model_core.proofs.Writing.{bit_same, known, known_more, row_same, written, written_other, written_row}
 use Rattle.model_cone.specs.declared.asked.Asked.{Asked}
-use Rattle.model_cone.specs.declared.asked.Asked.TheVariants.{Asserts, Cover}
+use Rattle.model_cone.specs.declared.asked.Asked.TheVariants.{Asserts, Covers}
 use Rattle.model_cone.specs.Cone.{AgreeInCone, IsCone, IsInCone, IsRoot, RestsIn, RestsOn, register_reads}
 use Rattle.model_cone.specs.Slice.{has_kept, sliced}
 use Rattle.model_cone.proofs.Closing.{constants-kept, node-closed, register-closed, whole-cone}
@@ -67,7 +67,7 @@ module _ (m : ModelOf) (is : IsModel m) (asked : Asked) (keep : ℕ → Bool) (c
   root-below asked p (inr (inr e)) = subst (λ (k : ℕ). k < m.size) (sym e) (source_below m is (suc m.zero) (contained_at (sources m) (suc m.zero) 1 refl))
   root-below asked p (inl (s, inr c, e)) = statement-below s (All-contains (IsStatement m.size) m.assumes s is.assumes c) p e
   root-below Asserts p (inl (s, inl c, e)) = statement-below s (All-contains (IsStatement m.size) m.asserts s is.asserts c) p e
-  root-below (Cover k) p (inl (s, inl c, e)) = statement-below s (all_at (IsStatement m.size) m.covers k s is.covers c) p e
+  root-below Covers p (inl (s, inl c, e)) = statement-below s (All-contains (IsStatement m.size) m.covers s is.covers c) p e
 
   rests-below : (p q : ℕ) → RestsOn m p q → q < m.size
   rests-below p q (inl r) = reads_below m is r.0 r.1 r.2 q r.4

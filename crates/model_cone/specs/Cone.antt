@@ -4,7 +4,7 @@ use Rattle.model_core.specs.Shape.{ModelOf, NodeOf, RegisterOf, reads}
 use Rattle.model_core.specs.Meaning.{Cycle}
 use Rattle.model_core.specs.declared.model.Statement.{Statement}
 use Rattle.model_cone.specs.declared.asked.Asked.{Asked}
-use Rattle.model_cone.specs.declared.asked.Asked.TheVariants.{Asserts, Cover}
+use Rattle.model_cone.specs.declared.asked.Asked.TheVariants.{Asserts, Covers}
 
 -- what decides a register's next row: that row and what it takes, resets to, and is controlled by; a register is kept whole
 abbrev pub register_reads : RegisterOf → List ℕ
@@ -25,10 +25,10 @@ abbrev pub RestsIn : ModelOf → ℕ → ℕ → ℕ → Type 0
 RestsIn m zero p q = p ≡ q
 RestsIn m (suc n) p q = (r : ℕ) × RestsIn m n p r × RestsOn m r q
 
--- all assertions are asked, or one cover statement
+-- all assertions are asked, or all cover statements
 abbrev pub IsAsked : ModelOf → Asked → Statement → Type 0
 IsAsked m Asserts s = Contains m.asserts s
-IsAsked m (Cover k) s = slice_get m.covers k ≡ Some s
+IsAsked m Covers s = Contains m.covers s
 
 -- assumptions count always
 abbrev pub Counts : ModelOf → Asked → Statement → Type 0

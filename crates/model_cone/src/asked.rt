@@ -5,6 +5,6 @@
 pub enum Asked {
     /// All assertions.
     Asserts,
-    /// One cover statement, by its number.
-    Cover(u32),
+    /// All cover statements.
+    Covers,
 }

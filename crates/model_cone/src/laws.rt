@@ -34,5 +34,5 @@ pub fn windows_of_slices()
 pub fn slices_say_the_same()
     ensures assumed { (m : ModelOf) (asked : Asked) (s : ModelOf) → IsSliceOf m asked s → (c e : Cycle) → AgreeInCone m asked c e → Assumed m c ↔ Assumed s e }
     ensures broken { (m s : ModelOf) → IsSliceOf m Asked.Asserts s → (c e : Cycle) → AgreeInCone m Asked.Asserts c e → (k : ℕ) → Broken m c k ↔ Broken s e k }
-    ensures reached { (m s : ModelOf) (k : ℕ) → IsSliceOf m (Asked.Cover k) s → (c e : Cycle) → AgreeInCone m (Asked.Cover k) c e → Reached m c k ↔ Reached s e k }
+    ensures reached { (m s : ModelOf) (k : ℕ) → IsSliceOf m Asked.Covers s → (c e : Cycle) → AgreeInCone m Asked.Covers c e → Reached m c k ↔ Reached s e k }
 {}

@@ -73,12 +73,8 @@ fn mark_asked(marking: &mut Marking, model: &WordModel, asked: Asked) -> Result<
             mark_statements(marking, model.asserts())?;
             Ok(())
         }
-        Asked::Cover(number) => {
-            let covers = model.covers();
-            if number as usize >= covers.len() {
-                return Ok(());
-            }
-            mark_statement(marking, covers[number as usize])?;
+        Asked::Covers => {
+            mark_statements(marking, model.covers())?;
             Ok(())
         }
     }

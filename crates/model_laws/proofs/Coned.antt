@@ -32,7 +32,7 @@ use Rattle.design_signals.specs.declared.sig_bit.SigBit.TheVariants.{Wire, Const
 use Rattle.design_states.proofs.Giving.{from-lists}
 use Rattle.model_cone.specs.Cone.{IsAsked, IsInCone, IsRoot, RestsIn, RestsOn}
 use Rattle.model_cone.specs.declared.asked.Asked.{Asked}
-use Rattle.model_cone.specs.declared.asked.Asked.TheVariants.{Asserts, Cover}
+use Rattle.model_cone.specs.declared.asked.Asked.TheVariants.{Asserts, Covers}
 use Rattle.model_core.specs.Shape.{ModelOf}
 use Rattle.model_core.specs.declared.model.Statement.{Statement as StatementOf}
 use Rattle.model_split.specs.Split.{split_model}
@@ -191,7 +191,7 @@ module _ (d : DesignOf) (shape : IsDesign d) (flat : IsFlat d) where
 
     asked-known : (a : Asked) (s : StatementOf) → IsAsked (split_model m) a s → (p : ℕ) → (p ≡ s.a) ⊎ (p ≡ s.en) → IsKnown d p
     asked-known Asserts s h p is = statement-step d order m built (λ (c : CellOf). is_assert c.kind) m.asserts built.asserts s h p is
-    asked-known (Cover k) s h p is = statement-step d order m built (λ (c : CellOf). is_cover c.kind) m.covers built.covers s (Contains-from_place m.covers k s h) p is
+    asked-known Covers s h p is = statement-step d order m built (λ (c : CellOf). is_cover c.kind) m.covers built.covers s h p is
 
     root-known : (p : ℕ) → IsRoot (split_model m) asked p → IsKnown d p
     root-known p (inl h) = elim h.1 as (λ _. IsKnown d p) [

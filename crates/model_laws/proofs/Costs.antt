@@ -23,7 +23,7 @@ use Rattle.design_core.proofs.Lists.{Contains-from_place}
 use Rattle.design_graph.specs.Order.{IsOrder}
 use Rattle.design_graph.specs.declared.driver.Driver.{Driver}
 use Rattle.design_graph.specs.declared.driver.Driver.TheVariants.{Cell, Connect}
-use Rattle.design_meaning.specs.Meaning.{IsCell, is_assert, is_assume, is_register}
+use Rattle.design_meaning.specs.Meaning.{IsCell, is_assert, is_assume, is_cover, is_register}
 use Rattle.design_meaning.specs.States.{Kept, Signal, given, input_bits, is_wire_bit, open_bits, state_bits, state_of, state_of_role}
 use Rattle.design_signals.specs.declared.sig_bit.SigBit.{SigBit}
 use Rattle.design_signals.specs.declared.sig_bit.SigBit.TheVariants.{Free, Wire}
@@ -202,7 +202,7 @@ module _ (d : DesignOf) (shape : IsDesign d) (flat : IsFlat d) where
       by Unsupported e h = absurd h
   node-within (Connect i k) n is = omega (arith, ap node_gates is.6)
 
-  cell-within : (k : ℕ) (c : CellOf) → IsCell d k c → 3 * held c + gates c + 2 * one_if (is_assert c.kind) + 2 * one_if (is_assume c.kind) ≤ cell_cost c
+  cell-within : (k : ℕ) (c : CellOf) → IsCell d k c → 3 * held c + gates c + 2 * one_if (is_assert c.kind) + 2 * one_if (is_assume c.kind) + one_if (is_cover c.kind) ≤ cell_cost c
   cell-within k c at =
       kind-most c.kind (length (output_of c)) (port_bits c) (output-most c)
       (λ role.
@@ -252,8 +252,12 @@ module _ (d : DesignOf) (shape : IsDesign d) (flat : IsFlat d) where
     assumes-long =
         ap length built.assumes ∙ (length-map (filter (λ (c : CellOf). is_assume c.kind) d.cells) (statement_of d) ∙ length-filter (λ (c : CellOf). is_assume c.kind) d.cells)
 
-    pub variables-within : 1 + length (states m) + (next_gates m + frame_vars m + 2 * length m.assumes + 2 * length m.asserts + 8) ≤ cost d
+    covers-long : length m.covers ≡ sum_by (λ c. one_if (is_cover c.kind)) d.cells
+    covers-long =
+        ap length built.covers ∙ (length-map (filter (λ (c : CellOf). is_cover c.kind) d.cells) (statement_of d) ∙ length-filter (λ (c : CellOf). is_cover c.kind) d.cells)
+
+    pub variables-within : 1 + length (states m) + (next_gates m + frame_vars m + 2 * length m.assumes + 2 * length m.asserts + length m.covers + 8) ≤ cost d
     variables-within =
         let ins = ap length built.inputs ∙ length-map (input_bits d) (place_of d) in
-        let parts = sum-parts held gates (λ (c : CellOf). one_if (is_assert c.kind)) (λ (c : CellOf). one_if (is_assume c.kind)) cell_cost d.cells cell-within in
-        omega (arith, ins, inputs-few d, states-long, next-long, nodes-most, asserts-long, assumes-long, parts)
+        let parts = sum-parts held gates (λ (c : CellOf). one_if (is_assert c.kind)) (λ (c : CellOf). one_if (is_assume c.kind)) (λ (c : CellOf). one_if (is_cover c.kind)) cell_cost d.cells cell-within in
+        omega (arith, ins, inputs-few d, states-long, next-long, nodes-most, asserts-long, assumes-long, covers-long, parts)

@@ -17,7 +17,7 @@ use Rattle.design_core.specs.declared.names.PortName.TheVariants.{A, B, S, En, Y
 use Rattle.design_core.specs.declared.parts.Port.{Port}
 use Rattle.design_core.specs.declared.table.Role.{Role}
 use Rattle.design_core.specs.declared.table.Role.TheVariants.{Combinational, Register, ResetRegister, Constant, Initial, Source, Statement, Unsupported}
-use Rattle.design_meaning.specs.Meaning.{is_assert, is_assume}
+use Rattle.design_meaning.specs.Meaning.{is_assert, is_assume, is_cover}
 use Rattle.frame_gates.specs.Costs.{op_gates}
 use Rattle.model_laws.specs.Cost.{is_square, port_bits}
 use Rattle.word_model.specs.Kinds.{op_of_kind}
@@ -132,7 +132,7 @@ one_if b = cond b 1 0
 
 -- what a cell of a type adds
 pub kind-most : (k : Kind) (out bits : ℕ) → out ≤ bits → (role_of k ≡ Statement → 1 ≤ bits)
-    → 3 * state_width (role_of k) out + gates_within (role_of k) (cond (is_square k) (16 * (bits * bits)) (16 * bits)) out + 2 * one_if (is_assert k) + 2 * one_if (is_assume k)
+    → 3 * state_width (role_of k) out + gates_within (role_of k) (cond (is_square k) (16 * (bits * bits)) (16 * bits)) out + 2 * one_if (is_assert k) + 2 * one_if (is_assume k) + one_if (is_cover k)
     ≤ cond (is_square k) (16 * (bits * bits)) (16 * bits)
 kind-most (UnaryCell Not) out bits h some = omega (arith, h)
 kind-most (UnaryCell Pos) out bits h some = omega (arith, h)

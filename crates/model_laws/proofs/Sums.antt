@@ -61,11 +61,11 @@ module _ {X Y : Type 0} (f : X → ℕ) (g : Y → ℕ) (StandsFor : X → Y →
           ]
 
 -- sums of parts that are at most a whole, element by element
-pub sum-parts : {X : Type 0} (h g a s c : X → ℕ) (xs : List X) → ((k : ℕ) (x : X) → slice_get xs k ≡ Some x → 3 * h x + g x + 2 * a x + 2 * s x ≤ c x)
-    → 3 * sum_by h xs + sum_by g xs + 2 * sum_by a xs + 2 * sum_by s xs ≤ sum_by c xs
-sum-parts h g a s c [] each = omega arith
-sum-parts h g a s c (x ∷ xs) each =
-    omega (arith, each 0 x refl, sum-parts h g a s c xs (λ k y at. each (suc k) y at), sum_by-cons h x xs, sum_by-cons g x xs, sum_by-cons a x xs, sum_by-cons s x xs, sum_by-cons c x xs)
+pub sum-parts : {X : Type 0} (h g a s v c : X → ℕ) (xs : List X) → ((k : ℕ) (x : X) → slice_get xs k ≡ Some x → 3 * h x + g x + 2 * a x + 2 * s x + v x ≤ c x)
+    → 3 * sum_by h xs + sum_by g xs + 2 * sum_by a xs + 2 * sum_by s xs + sum_by v xs ≤ sum_by c xs
+sum-parts h g a s v c [] each = omega arith
+sum-parts h g a s v c (x ∷ xs) each =
+    omega (arith, each 0 x refl, sum-parts h g a s v c xs (λ k y at. each (suc k) y at), sum_by-cons h x xs, sum_by-cons g x xs, sum_by-cons a x xs, sum_by-cons s x xs, sum_by-cons v x xs, sum_by-cons c x xs)
 
 -- sums of two lists, element by element
 pub sum-beside : {X Y : Type 0} (f : X → ℕ) (g : Y → ℕ) (xs : List X) (ys : List Y) → length xs ≡ length ys

@@ -22,7 +22,7 @@ ghost use Rattle.model_laws.specs.Reads.{IsReadOtherwise, IsStateRead};
 /// design costs.
 pub fn variables_are_within_cost()
     ensures { (d : DesignOf) (order : List Driver) (m : ModelOf) → IsDesign d → IsFlat d → IsOrder d order → IsBuilt d order m
-        → 1 + length (states m) + (next_gates m + frame_vars m + 2 * length m.assumes + 2 * length m.asserts + 8) ≤ cost d }
+        → 1 + length (states m) + (next_gates m + frame_vars m + 2 * length m.assumes + 2 * length m.asserts + length m.covers + 8) ≤ cost d }
 {}
 
 /// What stands in the cone of what is asked, in the model with one register for each state bit, is read in the design: each input bit and

@@ -10,7 +10,7 @@ use Rattle.model_core.specs.Shape.{ModelOf}
 use Rattle.bit_net.specs.Net.{IsNet, NetOf}
 use Rattle.frame_gates.proofs.Lists.{contained_at, map_at, place_of_contained}
 use Rattle.frame_net.specs.NetOf.{IsNetOf}
-use Rattle.job_cnf.specs.Encoding as job
+use Rattle.job_terms.specs.Encoding as job
 use Rattle.net_unroll.specs.declared.encoded.Free.{Free}
 use Rattle.net_unroll.proofs.Tightening.{propagates_law, vars_law}
 use Rattle.net_jobs.specs.Jobs.{asked_of, cycles_of, job_encoding, job_made}

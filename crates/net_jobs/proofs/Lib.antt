@@ -4,3 +4,4 @@ pub mod Telling
 pub mod Reading
 pub mod Origins
 pub mod Encoded
+mod Scattering

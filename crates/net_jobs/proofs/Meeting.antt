@@ -15,7 +15,7 @@ use Rattle.bit_net.specs.Net.{Frame, IsNet, NetOf}
 use Rattle.bit_net.specs.Net as net
 use Rattle.frame_gates.proofs.Lists.{at_place}
 use Rattle.frame_net.specs.NetOf.{IsAlike, IsNetOf}
-use Rattle.job_cnf.specs.Jobs.{IsGoal}
+use Rattle.job_terms.specs.Jobs.{IsGoal}
 use Rattle.net_unroll.specs.Asking.{AreCycles, Meets, Solvable as CanSolve}
 use Rattle.net_unroll.specs.declared.asking.Asked.{Asked}
 use Rattle.net_unroll.specs.declared.asking.Asked.TheVariants as ask

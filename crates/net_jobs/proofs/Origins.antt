@@ -17,10 +17,10 @@ use Rattle.bit_net.proofs.Extending.{not_less}
 use Rattle.frame_gates.specs.Frames.{open_at}
 use Rattle.frame_gates.proofs.Lists.{all_of, contained_at, distinct_left, distinct_right, length_map, map_at, one_at, place_of_contained}
 use Rattle.frame_net.specs.NetOf.{IsNetOf}
-use Rattle.job_cnf.specs.Encoding as job
-use Rattle.job_cnf.specs.Encoding.{AreDistinct, HasOrigins, HasValue, IsOpenIn, IsOrigin, Origin}
-use Rattle.job_cnf.specs.Encoding.Origin.{First, Input}
-use Rattle.job_cnf.specs.Jobs.{first, frames}
+use Rattle.job_terms.specs.Encoding as job
+use Rattle.job_terms.specs.Encoding.{AreDistinct, HasOrigins, HasValue, IsOpenIn, IsOrigin, Origin}
+use Rattle.job_terms.specs.Encoding.Origin.{First, Input}
+use Rattle.job_terms.specs.Jobs.{first, frames}
 use Rattle.net_unroll.specs.Promises.{cycles_told}
 use Rattle.net_unroll.specs.declared.encoded.Free.{Free}
 use Rattle.net_unroll.proofs.Tightening.{origins_law}

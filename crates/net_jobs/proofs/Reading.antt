@@ -16,8 +16,8 @@ use Rattle.bit_net.specs.declared.node.State.{State}
 use Rattle.frame_gates.proofs.Lists.{all_from, contained_at, contained_left, contained_right, length_map, map_map, map_same, place_of_contained}
 use Rattle.frame_net.specs.NetOf.{IsNetOf}
 use Rattle.frame_net.proofs.Rows.{length-numbers, numbers_append}
-use Rattle.job_cnf.specs.Decoding.{FrameOf, bit_of, rows_until}
-use Rattle.job_cnf.specs.Encoding as job
+use Rattle.job_terms.specs.Decoding.{FrameOf, bit_of, rows_until}
+use Rattle.job_terms.specs.Encoding as job
 use Rattle.net_unroll.specs.Encoding.{EncodedOf, formula_of}
 use Rattle.net_unroll.specs.Promises.{cycles_told, first_true, told_by}
 use Rattle.net_unroll.specs.declared.asking.Cycles.{Cycles}
@@ -36,7 +36,7 @@ bit_told x (f ∷ fs) t v = by (eqb f.cycle t && eqb f.place v) (bit_told x fs t
     by true e = refl
     by false e = e
 
-starts_told : (x : Assignment) (digits : List (Option Bool)) (k : ℕ) (free : List Free) → map (bit_of x) (start_vars digits k free) ≡ start_bits digits k (λ j. told_by x free 0 (state_var j))
+pub starts_told : (x : Assignment) (digits : List (Option Bool)) (k : ℕ) (free : List Free) → map (bit_of x) (start_vars digits k free) ≡ start_bits digits k (λ j. told_by x free 0 (state_var j))
 starts_told x [] k free = refl
 starts_told x (Some d ∷ digits) k free = starts_told x digits (suc k) free
 starts_told x (None ∷ digits) k free = by (bit_told x free 0 (state_var k)) (starts_told x digits (suc k) free)
@@ -45,23 +45,23 @@ starts_told x (None ∷ digits) k free = by (bit_told x free 0 (state_var k)) (s
     by e f = rw (e, f) refl
 
 -- the row of cycle t
-abbrev row_of : NetOf → List Free → Assignment → ℕ → Row
+abbrev pub row_of : NetOf → List Free → Assignment → ℕ → Row
 row_of n free x t = map (λ k. told_by x free t (input_var n k)) (numbers 0 n.inputs)
 
-frame_told : (n : NetOf) (free : List Free) (x : Assignment) (t : ℕ) (l : LitOf) → map (bit_of x) (frame_of n free t l).inputs ≡ row_of n free x t
+pub frame_told : (n : NetOf) (free : List Free) (x : Assignment) (t : ℕ) (l : LitOf) → map (bit_of x) (frame_of n free t l).inputs ≡ row_of n free x t
 frame_told n free x t l =
     map_map (bit_of x) (λ k. var_at free t (input_var n k)) (numbers 0 n.inputs)
     ∙ map_same (λ k. bit_of x (var_at free t (input_var n k))) (λ k. told_by x free t (input_var n k)) (numbers 0 n.inputs) (λ k i. bit_told x free t (input_var n k))
 
 -- ---- rows
 
-next_row : (x : Assignment) (f : FrameOf) (fs : List FrameOf) (b : Bool) → lit_in x f.goal ≡ b → rows_until x (f ∷ fs) ≡ map (bit_of x) f.inputs ∷ cond b [] (rows_until x fs)
+pub next_row : (x : Assignment) (f : FrameOf) (fs : List FrameOf) (b : Bool) → lit_in x f.goal ≡ b → rows_until x (f ∷ fs) ≡ map (bit_of x) f.inputs ∷ cond b [] (rows_until x fs)
 next_row x f fs b e = ap (λ (c : Bool). map (bit_of x) f.inputs ∷ cond c [] (rows_until x fs)) e
 
-row-and : {a b : Row} {r s : List Row} → a ≡ b → r ≡ s → a ∷ r ≡ b ∷ s
+pub row-and : {a b : Row} {r s : List Row} → a ≡ b → r ≡ s → a ∷ r ≡ b ∷ s
 row-and e f = rw (e, f) refl
 
-early_rows : (n : NetOf) (free : List Free) (x : Assignment) → x 1 ≡ true → (ts : List ℕ) (rest : List FrameOf) → rows_until x (map (λ t. frame_of n free t (lit_of 1 false)) ts ++ rest) ≡ map (row_of n free x) ts ++ rows_until x rest
+pub early_rows : (n : NetOf) (free : List Free) (x : Assignment) → x 1 ≡ true → (ts : List ℕ) (rest : List FrameOf) → rows_until x (map (λ t. frame_of n free t (lit_of 1 false)) ts ++ rest) ≡ map (row_of n free x) ts ++ rows_until x rest
 early_rows n free x one [] rest = refl
 early_rows n free x one (t ∷ ts) rest =
     let low : lit_in x (lit_of 1 false) ≡ false = ap not one in

@@ -20,8 +20,8 @@ use Rattle.bit_net.specs.declared.node.State.{State}
 use Rattle.frame_gates.proofs.Lists.{at_place, length_map, map_at, one_at}
 use Rattle.frame_net.specs.NetOf.{AreAlike, IsNetOf}
 use Rattle.frame_net.proofs.Running.{near, near_back, run, run_back, window, window_back}
-use Rattle.job_cnf.specs.Encoding.{IsDecoded, ShowsGoal, empty_job}
-use Rattle.job_cnf.specs.Jobs.{AsksNothing, IsGoal, MayEnd, Solvable}
+use Rattle.job_terms.specs.Encoding.{IsDecoded, ShowsGoal, empty_job}
+use Rattle.job_terms.specs.Jobs.{AsksNothing, IsGoal, MayEnd, Solvable}
 use Rattle.net_unroll.specs.Asking.{AreCycles, Solvable as CanSolve, Solves, goal_of}
 use Rattle.net_unroll.specs.Encoding.{EncodedOf, encoding_for, formula_of}
 use Rattle.net_unroll.specs.Promises.{CanBeSatisfied, IsOpenAt, IsTold, cycles_told, told_by}

@@ -7,9 +7,9 @@ use Rattle.sby_terms.specs.declared.names.JobName.TheVariants.{Step}
 use Rattle.sby_terms.specs.declared.span.Span.{Span}
 use Rattle.model_core.specs.Choices.{AreChoicesFor}
 use Rattle.model_core.specs.Shape.{ModelOf}
-use Rattle.job_cnf.specs.Decoding.{DecodingOf, FrameOf}
-use Rattle.job_cnf.specs.Encoding as job
-use Rattle.job_cnf.specs.Jobs.{AsksNothing, Solvable}
+use Rattle.job_terms.specs.Decoding.{DecodingOf, FrameOf}
+use Rattle.job_terms.specs.Encoding as job
+use Rattle.job_terms.specs.Jobs.{AsksNothing, Solvable}
 use Rattle.bit_net.specs.Net.{NetOf, input_var, state_var}
 use Rattle.bit_net.specs.Reaching.{numbers}
 use Rattle.net_unroll.specs.Encoding.{EncodedOf, formula_of}

@@ -1,7 +1,8 @@
 //! Jobs as encodings.
 
-ghost use Rattle.std.specs.Prelude.{◌≡◌, ◌^◌, ◌<◌, ◌≤◌, IfErr, IfOk};
+ghost use Rattle.std.specs.Prelude.{◌≡◌, ◌↔◌, ◌^◌, ◌<◌, ◌≤◌, IfErr, IfOk, true};
 ghost use Rattle.sby_terms.specs.Span.{IsSpan};
+ghost use Rattle.net_unroll.specs.Counting.{most_made};
 ghost use Rattle.net_jobs.specs.Jobs.{IsOfSpan, asked_of as job_asked, cycles_of as job_cycles, job_encoding, job_made};
 
 use bit_net::Net;
@@ -19,8 +20,8 @@ fn asked_of(job: JobName) -> Asked
     }
 }
 
-// Over which cycles a job asks it.
-fn cycles_of(job: JobName, span: Span) -> Cycles
+/// Over which cycles a job asks a net.
+pub fn cycles_of(job: JobName, span: Span) -> Cycles
     requires span { IsSpan span }
     requires job { IsOfSpan job span }
     requires high { span.depth ≤ 100000 }
@@ -46,6 +47,18 @@ fn cycles_of(job: JobName, span: Span) -> Cycles
             count: span.depth,
         },
     }
+}
+
+/// Whether counting alone tells that a job takes no more than 2^27 variables. Where it doesn't, a job may fit all the same: `encode` tells.
+pub fn surely_fits(net: &Net, job: JobName, span: Span) -> bool
+    requires span { IsSpan span }
+    requires job { IsOfSpan job span }
+    requires high { span.depth ≤ 100000 }
+    ensures counted { (result ≡ true) ↔ (most_made net.now (job_cycles job span).count ≤ 2 ^ 27) }
+    ensures fits { result ≡ true → job_made net.now job span ≤ 2 ^ 27 }
+{
+    net_unroll::what_is_made_is_counted();
+    net_unroll::bound(net, cycles_of(job, span).count) <= 1 << 27
 }
 
 /// A job of a net, encoded: the value of a function of the net, the job and the span. Refused exactly where the gates of all cycles, shared

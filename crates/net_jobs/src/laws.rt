@@ -15,8 +15,8 @@ ghost use Rattle.frame_net.specs.NetOf.{IsNetOf};
 ghost use Rattle.net_unroll.specs.Encoding.{formula_of};
 ghost use Rattle.net_unroll.specs.Promises.{CanBeSatisfied};
 ghost use Rattle.net_unroll.specs.declared.encoded.Free.{Free};
-ghost use Rattle.job_cnf.specs.Encoding.{IsDecoded, empty_job};
-ghost use Rattle.job_cnf.specs.Jobs.{AsksNothing, IsJob, Solvable};
+ghost use Rattle.job_terms.specs.Encoding.{IsDecoded, empty_job};
+ghost use Rattle.job_terms.specs.Jobs.{AsksNothing, IsJob, Solvable};
 ghost use Rattle.net_jobs.specs.Jobs.{StandsFor, cycles_of, decoded, job_encoding, job_made};
 ghost use Rattle.net_jobs.specs.Reading.{IsEncoded, encoded_of};
 

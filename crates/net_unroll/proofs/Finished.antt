@@ -67,7 +67,7 @@ number_of f (suc v) w p h = by (f (suc v)) refl h (λ k. number_of f v w p k)
     by false t h rest = up (rest h)
 
 -- what is kept by a number
-abbrev back : (ℕ → Bool) → ℕ → ℕ → ℕ
+abbrev pub back : (ℕ → Bool) → ℕ → ℕ → ℕ
 back f zero w = zero
 back f (suc v) w = cond (f (suc v) && eqb (number f (suc v)) w) (suc v) (back f v w)
 
@@ -93,7 +93,7 @@ pub gate_says : (v : ℕ) (g : Gate) (n : ℕ) (x : Assignment) → OthersWithin
 gate_says v g n x w s = let t = gate_table n g w in table_says n v (bit g) x (rows_of (operands g) (lines g)) t.sound (t.covers x) (subst (Satisfies x) (gate_clauses v g) s)
 
 -- gates over other numbers
-renumbered_within : (f : ℕ → Bool) (n m : ℕ) (g : Gate) → ((v : ℕ) → 0 < v → v ≤ n → (0 < number f v) × (number f v ≤ m)) → OthersWithin n (operands g) → OthersWithin m (operands (renumbered_gate f g))
+pub renumbered_within : (f : ℕ → Bool) (n m : ℕ) (g : Gate) → ((v : ℕ) → 0 < v → v ≤ n → (0 < number f v) × (number f v ≤ m)) → OthersWithin n (operands g) → OthersWithin m (operands (renumbered_gate f g))
 renumbered_within f n m g h = by g
   where
     one : (l : LitOf) → LitWithin n l → LitWithin m (renumbered f l)

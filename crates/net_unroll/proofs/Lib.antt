@@ -11,3 +11,8 @@ pub mod Opening
 pub mod Solving
 pub mod Deciding
 pub mod Tightening
+pub mod Enclosing
+pub mod Counting
+pub mod Forming
+pub mod Folding
+pub mod Sharing

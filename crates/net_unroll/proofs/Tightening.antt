@@ -36,7 +36,7 @@ use Rattle.net_unroll.proofs.Opening.{AreApart, pair, program_opened, told_is}
 use Rattle.net_unroll.proofs.Solving.{pairs, well}
 
 -- each stands once, by places
-apart_places : {A : Type 0} (xs : List A) → AreApart xs → AreDistinct xs
+pub apart_places : {A : Type 0} (xs : List A) → AreApart xs → AreDistinct xs
 apart_places [] a i j x p q = absurd (let z : None ≡ Some x = p in cc)
 apart_places (y ∷ xs) a zero zero x p q = refl
 apart_places (y ∷ xs) a zero (suc j) x p q = absurd (let z : Some y ≡ Some x = p in let w : y ≡ x = cc in a.0 (subst (Contains xs) (sym w) (get_in xs j x q)))
@@ -67,7 +67,7 @@ rising_few : (low n : ℕ) (xs : List ℕ) → IsRisingFrom low xs → low ≤ n
 rising_few low n [] r l h = omega arith
 rising_few low n (x ∷ xs) r l h = let a = h x (head_in x xs) in let b = r.0 in let c = rising_few (suc x) n xs r.1 (omega arith) (λ v d. h v (tail_in x v xs d)) in omega arith
 
-filter_rising : (k : ℕ → Bool) (es : List (Gate × LitOf)) (low : ℕ) → IsRisingFrom low (gate_vars es) → 0 < low → IsRisingFrom (suc (number k (low - 1))) (gate_vars (map (renumbered_entry k) (filter (λ e. k e.1.var) es)))
+pub filter_rising : (k : ℕ → Bool) (es : List (Gate × LitOf)) (low : ℕ) → IsRisingFrom low (gate_vars es) → 0 < low → IsRisingFrom (suc (number k (low - 1))) (gate_vars (map (renumbered_entry k) (filter (λ e. k e.1.var) es)))
 filter_rising k [] low r lo = tt
 filter_rising k (e ∷ es) low r lo = by (k e.1.var) refl (filter_rising k es (suc e.1.var) r.1 (omega arith))
   where
@@ -217,7 +217,7 @@ reads_two y (Maj a b c) o i = elim (cases_in a (b ∷ c ∷ []) o i) as (λ _. R
 ]
 
 -- what a gate over new numbers reads
-new_operands : (k : ℕ → Bool) (g : Gate) → operands (renumbered_gate k g) ≡ map (renumbered k) (operands g)
+pub new_operands : (k : ℕ → Bool) (g : Gate) → operands (renumbered_gate k g) ≡ map (renumbered k) (operands g)
 new_operands k (And a b) = refl
 new_operands k (Xor a b) = refl
 new_operands k (Mux s a b) = refl
@@ -231,7 +231,7 @@ module _ (long : ℕ) (m : MadeOf) (w : IsWell long m) where
   abbrev keeps : ℕ → Bool
   keeps = is_kept m
 
-  one_is : number keeps 1 ≡ 1
+  pub one_is : number keeps 1 ≡ 1
   one_is = ap (λ (b : Bool). cond b (suc (number keeps 0)) (number keeps 0)) (truth_kept long m w)
 
   -- a gate that is kept, over new numbers, reads lower ones

@@ -4,3 +4,5 @@ pub mod Making
 pub mod Encoding
 pub mod Finishing
 pub mod Promises
+pub mod Clauses
+pub mod Counting

@@ -1,9 +1,12 @@
 -- What is promised of encodings.
-use Rattle.std.specs.Prelude.{◌≡◌, ◌⊎◌, ℕ, suc, ◌+◌, ◌*◌, ◌<◌, ◌≤◌, max, Bool, true, false, cond, List, [], ◌∷◌, ◌++◌, length, Some, None, slice_get, Contains, map, eqb, ◌&&◌}
+use Rattle.std.specs.Prelude.{◌≡◌, ◌≢◌, ◌⊎◌, ℕ, suc, ◌+◌, ◌*◌, ◌<◌, ◌≤◌, max, Bool, true, false, cond, List, [], ◌∷◌, ◌++◌, length, Some, None, slice_get, Contains, map, eqb, ◌&&◌}
 use Rattle.cnf_form.specs.Cnf.{Assignment, Conflict, FormulaOf, LitOf, Satisfies, lit_in}
 use Rattle.bit_net.specs.Net.{NetOf, input_var, state_var}
 use Rattle.bit_net.specs.declared.node.State.{State}
+use Rattle.gate_graph.specs.declared.gate.Gate.{Gate}
+use Rattle.gate_graph.specs.declared.gate.Gate.TheVariants.{And, Xor, Mux, Maj}
 use Rattle.gate_graph.specs.Circuit.{IsFixed}
+use Rattle.gate_graph.specs.Folding.{majority}
 use Rattle.net_unroll.specs.Asking.{goal_of}
 use Rattle.net_unroll.specs.Encoding.{EncodedOf, formula_of}
 use Rattle.net_unroll.specs.Program.{needed}
@@ -75,3 +78,20 @@ pub record Tight (f : FormulaOf) : Type 0 where
   pub least : (test : ℕ → Bool) → ((l : LitOf) → Contains goal l → test l.var ≡ true) → ((v w : ℕ) → test v ≡ true → IsBelow gates v w → test w ≡ true)
       → (v : ℕ) → 1 < v → v ≤ f.vars → test v ≡ true
   pub few : length f.clauses ≤ 6 * f.vars + 2
+
+-- No gate is kept twice, and no variable is that of two gates.
+pub record Shared (e : EncodedOf) : Type 0 where
+  pub gates : AreDistinct (map (λ (d : Gate × LitOf). d.0) e.gates)
+  pub vars : AreDistinct (map (λ (d : Gate × LitOf). d.1.var) e.gates)
+
+-- In normal form: no operand is constant, as variable 1 is, no two are of one variable, operands whose order is free rise, and no sign
+-- stands that the gate's literal can take.
+abbrev pub IsFolded : Gate → Type 0
+IsFolded (And a b) = (1 < a.var) × (a.var < b.var)
+IsFolded (Xor a b) = (1 < a.var) × (a.var < b.var) × (a.negated ≡ false) × (b.negated ≡ false)
+IsFolded (Mux s a b) = (1 < s.var) × (1 < a.var) × (1 < b.var) × (s.var ≢ a.var) × (s.var ≢ b.var) × (a.var ≢ b.var) × (s.negated ≡ false) × (a.negated ≡ false)
+IsFolded (Maj a b c) = (1 < a.var) × (a.var < b.var) × (b.var < c.var) × (majority a.negated b.negated c.negated ≡ false)
+
+-- each gate is folded
+abbrev pub Folded : EncodedOf → Type 0
+Folded e = (d : Gate × LitOf) → Contains e.gates d → IsFolded d.0

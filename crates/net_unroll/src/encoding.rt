@@ -4,16 +4,19 @@ ghost use Rattle.std.specs.Prelude.{◌≡◌, ◌^◌, ◌<◌, ◌≤◌, IfEr
 ghost use Rattle.cnf_form.specs.Cnf.{LitWithin};
 ghost use Rattle.bit_net.specs.Net.{vars};
 ghost use Rattle.net_unroll.specs.Asking.{goal_of as asked_goal};
+ghost use Rattle.net_unroll.specs.Clauses.{IsEncoding};
+ghost use Rattle.net_unroll.specs.Counting.{most_made};
 ghost use Rattle.net_unroll.specs.Encoding.{empty_encoding, encoding, finished, formula_of, made};
 ghost use Rattle.net_unroll.specs.Making.{IsMaking, made_of};
 
 use crate::asking::{Asked, Cycles};
+use crate::clauses::push_clauses;
 use crate::cycles::add_cycles;
 use crate::encoded::Free;
 use crate::finishing::{Finished, finish};
 use crate::making::Making;
 use bit_net::Net;
-use cnf_form::Lit;
+use cnf_form::{Formula, Lit};
 use gate_graph::{Gate, GateFault};
 use std::alloc::{AllocError, Global};
 use std::marker::Model;
@@ -34,14 +37,31 @@ pub struct Encoded {
 }
 
 impl Model for Encoded {
+    ghost use Rattle.net_unroll.specs.Clauses.{IsEncoding};
     ghost use Rattle.net_unroll.specs.Encoding.{EncodedOf};
 
     ghost Value = { EncodedOf };
 
     ghost view = { λ e. record { asks = e.asks; vars = e.vars; gates = e.gates.items; free = e.free.items; goals = e.goals.items } };
+
+    ghost invariant = { λ e. IsEncoding (record { asks = e.asks; vars = e.vars; gates = e.gates.items; free = e.free.items; goals = e.goals.items }) };
 }
 
 impl Encoded {
+    /// What holds of every encoding.
+    pub fn promise(&self)
+        ensures { IsEncoding self.now }
+    {
+        let _ = &self.gates;
+    }
+
+    /// Whether there is something to ask for.
+    pub fn asks(&self) -> bool
+        ensures { result ≡ self.now.asks }
+    {
+        self.asks
+    }
+
     /// How many variables there are, numbered from 1.
     pub fn vars(&self) -> u32
         ensures { result ≡ self.now.vars }
@@ -68,6 +88,24 @@ impl Encoded {
         ensures { result.now ≡ self.now.goals }
     {
         self.goals.as_slice()
+    }
+
+    /// The formula: that variable 1 is true, the clauses of the gates, and that one of the goals is true; where there is nothing to ask for,
+    /// the empty clause. It fails only where memory runs out.
+    pub fn formula(&self, alloc: Global) -> Result<Formula, AllocError>
+        ensures { IfOk result (λ f. f ≡ formula_of self.now) }
+    {
+        let mut formula = Formula::new(alloc, self.vars);
+        if !self.asks {
+            formula.push(&[])?;
+            return Ok(formula);
+        }
+        formula.push(&[Lit::new(1, false)])?;
+        for entry in self.gates.as_slice() {
+            push_clauses(&mut formula, &entry.0, entry.1)?;
+        }
+        formula.push(self.goals.as_slice())?;
+        Ok(formula)
     }
 }
 
@@ -114,6 +152,15 @@ fn finished_of(alloc: Global, made: Making) -> Result<Encoded, AllocError>
         free,
         goals,
     })
+}
+
+/// How many variables what is asked of a net over this many cycles can take at most, by counting alone.
+pub fn bound(net: &Net, count: u32) -> u64
+    ensures { result ≡ most_made net.now count }
+{
+    net.promise();
+    let open = u64::from(net.inputs()) + net.gates().len() as u64 + 4;
+    1 + net.states().len() as u64 + u64::from(count) * open
 }
 
 /// What is asked of a net over some cycles, encoded: the value of a function of the net, of what is asked, and of the cycles. Refused

@@ -8,6 +8,7 @@ ghost use Rattle.gate_graph.specs.declared.gate.Gate.{Gate as GateOf};
 ghost use Rattle.gate_graph.specs.Folding.{operands};
 ghost use Rattle.gate_graph.specs.Kept.{OthersWithin};
 ghost use Rattle.bit_net.specs.Reaching.{is_one_of, spread};
+ghost use Rattle.net_unroll.specs.Clauses.{IsEncoding};
 ghost use Rattle.net_unroll.specs.Encoding.{finished, renumbered as renumbered_lit, renumbered_entry, renumbered_free, renumbered_gate as renumbered_node};
 ghost use Rattle.net_unroll.specs.Making.{IsMaking, made_of};
 ghost use Rattle.net_unroll.specs.Finishing.{AreNumbers, HasMarks, HasNumbers, begins};
@@ -261,6 +262,7 @@ pub fn finish(alloc: Global, made: Making) -> Result<Finished, AllocError>
     ensures gates { IfOk result (λ f. f.gates.items ≡ (finished (made_of made)).gates) }
     ensures free { IfOk result (λ f. f.free.items ≡ (finished (made_of made)).free) }
     ensures goals { IfOk result (λ f. f.goals.items ≡ (finished (made_of made)).goals) }
+    ensures within { IfOk result (λ f. IsEncoding (record { asks = true; vars = f.vars; gates = f.gates.items; free = f.free.items; goals = f.goals.items })) }
 {
     let Making {
         gates,

@@ -1,11 +1,17 @@
 //! Laws of the definitions: each function's contract is a law, and its body is empty.
 
-ghost use Rattle.std.specs.Prelude.{◌≡◌, ◌↔◌, ◌^◌, ◌≤◌, ◌∷◌, [], None, ℕ};
+ghost use Rattle.std.specs.Prelude.{◌≡◌, ◌↔◌, ◌^◌, ◌≤◌, ◌∷◌, [], None, false, ℕ};
 ghost use Rattle.cnf_form.specs.Cnf.{Assignment, Satisfies};
+ghost use Rattle.cnf_form.specs.Dimacs.{IsDimacs, dimacs_text};
 ghost use Rattle.bit_net.specs.Net.{IsNet, NetOf};
+ghost use Rattle.gate_graph.specs.declared.gate.Gate.{Gate};
+ghost use Rattle.gate_graph.specs.declared.gate.Asked.TheVariants.{Make};
+ghost use Rattle.gate_graph.specs.Folding.{asked, operands};
+ghost use Rattle.gate_graph.specs.Kept.{OthersWithin};
 ghost use Rattle.net_unroll.specs.Asking.{AreCycles, Solvable, Solves, goal_of};
+ghost use Rattle.net_unroll.specs.Counting.{most_made};
 ghost use Rattle.net_unroll.specs.Encoding.{bound, encoding, formula_of, made};
-ghost use Rattle.net_unroll.specs.Promises.{CanBeSatisfied, HasOrigins, IsTold, Propagates, Tight, cycles_told};
+ghost use Rattle.net_unroll.specs.Promises.{CanBeSatisfied, Folded, HasOrigins, IsFolded, IsTold, Propagates, Shared, Tight, cycles_told};
 
 use crate::asking::{Asked, Cycles};
 
@@ -17,6 +23,16 @@ pub fn nothing_asked_is_empty()
 /// No more variables are made than there are inputs and gates in the cycles' parts, and gates that watch what is asked.
 pub fn what_is_made_is_bounded()
     ensures { (n : NetOf) (a : Asked) (c : Cycles) → made n a c ≤ bound n a c }
+{}
+
+/// No more variables are made than counting tells: that which is true, the states, and for each cycle the inputs, the gates, and four.
+pub fn what_is_made_is_counted()
+    ensures { (n : NetOf) (a : Asked) (c : Cycles) → made n a c ≤ most_made n c.count }
+{}
+
+/// The text of the formula is one of it in DIMACS.
+pub fn formulas_have_texts()
+    ensures { (n : NetOf) (a : Asked) (c : Cycles) → IsNet n → made n a c ≤ 2 ^ 27 → IsDimacs (dimacs_text (formula_of (encoding n a c))) (formula_of (encoding n a c)) }
 {}
 
 /// The formula can be satisfied exactly where what is asked can be solved.
@@ -48,4 +64,16 @@ pub fn free_variables_fix_all()
 pub fn formulas_are_tight()
     ensures vars { (n : NetOf) (a : Asked) (c : Cycles) → IsNet n → made n a c ≤ 2 ^ 27 → (1 ≤ (formula_of (encoding n a c)).vars) × ((formula_of (encoding n a c)).vars ≤ made n a c) }
     ensures tight { (n : NetOf) (a : Asked) (c : Cycles) → IsNet n → made n a c ≤ 2 ^ 27 → Tight (formula_of (encoding n a c)) }
+{}
+
+/// No gate is there twice, and none that folds: no operand is constant, no two are of one variable, and their order and signs are in normal
+/// form.
+pub fn encodings_are_shared_and_folded()
+    ensures shared { (n : NetOf) (a : Asked) (c : Cycles) → IsNet n → made n a c ≤ 2 ^ 27 → Shared (encoding n a c) }
+    ensures folded { (n : NetOf) (a : Asked) (c : Cycles) → IsNet n → made n a c ≤ 2 ^ 27 → Folded (encoding n a c) }
+{}
+
+/// A gate is in normal form exactly where a call for it makes it as it is.
+pub fn folded_gates_are_made()
+    ensures { (v : ℕ) (g : Gate) → OthersWithin v (operands g) → IsFolded g ↔ (asked g ≡ Make g false) }
 {}

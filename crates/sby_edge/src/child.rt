@@ -6,6 +6,7 @@ ghost use Rattle.sby_edge.specs.Child.{BayOf, IsLogged, Kills, KillsAt, LaneOf, 
 ghost use Rattle.sby_edge.specs.Files.{GotFits};
 ghost use Rattle.sby_edge.specs.declared.script.Exit.{Exit};
 
+use crate::told::ToldBytes;
 use crate::{Exit, Fail, Failed, Got, Memory};
 use sby_terms::JobName;
 use std::alloc::Global;
@@ -82,16 +83,15 @@ pub trait Launch {
     /// How many finished children had a hold with a fault.
     ghost hold_faults: { Self → ℕ };
 
-    /// Starts the job's child with these words. `bytes` is the job's file; a child takes no notice of it, since its path stands among
-    /// the words.
+    /// Starts the job's child with these words. `bytes` tells the job's file, of which nothing is kept: its path stands among the words.
     fn start(
         &mut self,
         alloc: Global,
         job: JobName,
         words: &[String],
-        bytes: &[u8],
+        bytes: &ToldBytes,
     ) -> Result<(Self::Pipe, Self::Hold), Fail>
-        ensures told { told self.new ≡ option_map (started result job (map string_bytes words.now) bytes.now) (told self.old) }
+        ensures told { told self.new ≡ option_map (started result job (map string_bytes words.now) bytes.now.bytes) (told self.old) }
         ensures pipe { IfOk result (λ child. Self.Pipe.told child.0
             ≡ option_map (λ bay. pipe_of (bay.scripts job) (length bay.starts)) (told self.old)) }
         ensures exit { IfOk result (λ child. Self.Hold.exit child.1 ≡ option_map (λ bay. (bay.scripts job).exit) (told self.old)) }

@@ -42,11 +42,10 @@ impl Contents {
         }
     }
 
-    pub fn put(&mut self, alloc: Global, path: &str, bytes: &[u8]) -> Result<(), AllocError>
-        ensures ok { OnOk result (store_of self.new ≡ put_at path.now bytes.now (store_of self.old)) }
+    pub fn put(&mut self, alloc: Global, path: &str, content: Vec<u8>) -> Result<(), AllocError>
+        ensures ok { OnOk result (store_of self.new ≡ put_at path.now content.items (store_of self.old)) }
         ensures err { OnErr result (self.new ≡ self.old) }
     {
-        let content = Vec::from_slice(alloc, bytes)?;
         let key = String::from_str(alloc, path)?;
         self.by_path.insert(key, content)?;
         Ok(())

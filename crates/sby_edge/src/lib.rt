@@ -12,7 +12,9 @@ mod script;
 mod script_child;
 mod script_yard;
 mod scripted;
+mod source;
 mod stage;
+mod told;
 
 pub use child::{Clock, Hold, Launch, Pipe, Yard};
 pub use list_clock::ListClock;
@@ -23,4 +25,6 @@ pub use script::{Call, CallFault, Exit, Gate, Script};
 pub use script_child::{ScriptHold, ScriptPipe};
 pub use script_yard::{LaneStarts, ScriptBay, ScriptYard, Started};
 pub use scripted::Scripted;
+pub use source::{Bytes, Source, fill};
 pub use stage::Stage;
+pub use told::{Nothing, Told, ToldBytes};

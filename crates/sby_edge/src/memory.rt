@@ -9,7 +9,8 @@ ghost use Rattle.sby_edge.specs.Memory.{IsFull, store_of};
 
 use crate::calls::Calls;
 use crate::contents::Contents;
-use crate::{Fail, Failed, Files, Got, Sink};
+use crate::source::gather;
+use crate::{Fail, Failed, Files, Got, Sink, Source};
 use std::alloc::{AllocError, Global};
 use std::marker::Model;
 
@@ -34,7 +35,7 @@ impl Model for MemFiles {
 }
 
 impl MemFiles {
-    /// An empty store. The listed calls of `get`, `get_piece` and `put` fail, counted together from 1.
+    /// An empty store. The listed calls of `get`, `get_piece`, `put` and `put_from` fail, counted together from 1.
     pub fn new(alloc: Global, failing: Vec<u64>) -> Self
         ensures empty { result.contents ≡ map.empty }
         ensures calls { result.calls ≡ uncalled failing.items }
@@ -174,7 +175,28 @@ impl Files for MemFiles {
             self.fail(alloc, path);
             return Err(Fail::Failed);
         }
-        self.contents.put(alloc, path, bytes)?;
+        let content = Vec::from_slice(alloc, bytes)?;
+        self.contents.put(alloc, path, content)?;
+        self.calls.serve();
+        Ok(())
+    }
+
+    // The content is gathered first, so that want of memory leaves the old one. A listed call reads nothing of the source.
+    fn put_from<S: Source>(&mut self, alloc: Global, path: &str, source: &mut S) -> Result<(), Fail>
+        ensures ok { OnOk result (store_of self.new.contents ≡ put_at path.now (S.rest source.old) (store_of self.old.contents)) }
+        ensures spent { OnOk result (S.rest source.new ≡ []) }
+        ensures err { OnErr result (self.new.contents ≡ self.old.contents) }
+        ensures fails { (result ≡ Err Fail.Failed) ↔ NextFails self.old.calls }
+        ensures called { Called self.old.calls self.new.calls result }
+        ensures cause { HasCause self.old.calls.faults self.new.calls.faults result }
+        ensures blames { Blames self.old.blamed self.new.blamed path.now result }
+    {
+        if self.calls.next_fails() {
+            self.fail(alloc, path);
+            return Err(Fail::Failed);
+        }
+        let content = gather(alloc, source)?;
+        self.contents.put(alloc, path, content)?;
         self.calls.serve();
         Ok(())
     }

@@ -3,6 +3,7 @@
 ghost use Rattle.std.specs.Prelude.{◌≡◌, ℕ, ◌<◌, None, Some, true, cond, IsErr};
 ghost use Rattle.sby_edge.specs.Cause.{HasCause, HasPlainCause, RisesBy, counted};
 
+use crate::told::ToldBytes;
 use crate::{Clock, Exit, Fail, Failed, Got, Hold, Launch, Memory, Pipe, Yard};
 use sby_terms::JobName;
 use std::alloc::Global;
@@ -124,7 +125,7 @@ impl Launch for NoBay {
         _alloc: Global,
         _job: JobName,
         _words: &[String],
-        _bytes: &[u8],
+        _bytes: &ToldBytes,
     ) -> Result<(NoPipe, NoHold), Fail>
         ensures fails { result ≡ Err Fail.Failed }
         ensures counts { self.new ≡ record self.old { starts = counted self.old.starts } }

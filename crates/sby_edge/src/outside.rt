@@ -1,11 +1,12 @@
 // Files and output.
 
-ghost use Rattle.std.specs.Prelude.{◌≡◌, ℕ, ◌<◌, ◌≤◌, ◌⊎◌, List, Option, IfOk, OnOk, OnErr, length, option_map};
+ghost use Rattle.std.specs.Prelude.{◌≡◌, ℕ, ◌<◌, ◌≤◌, ◌⊎◌, [], List, Option, IfOk, OnOk, OnErr, length, option_map};
 ghost use Rattle.sby_edge.specs.declared.outside.Fail.TheVariants.{Memory as FailMemory};
 ghost use Rattle.sby_edge.specs.Cause.{HasCause, HasPlainCause, Rose};
 ghost use Rattle.sby_edge.specs.Files.{Blames, GotFits, GotFrom, PieceFrom, Store, put_at};
 ghost use Rattle.sby_edge.specs.Sink.{EndsAt, Takes};
 
+use crate::Source;
 use std::alloc::{AllocError, AllocFailed, Global};
 
 /// A call of the outside failed; the object's count of faults rose.
@@ -107,6 +108,15 @@ pub trait Files {
     /// Replaces the content of one path.
     fn put(&mut self, alloc: Global, path: &str, bytes: &[u8]) -> Result<(), Fail>
         ensures ok { OnOk result (told self.new ≡ option_map (put_at path.now bytes.now) (told self.old)) }
+        ensures err { OnErr result (told self.new ≡ told self.old) }
+        ensures cause { HasCause (faults self.old) (faults self.new) result }
+        ensures blames { Blames (blamed self.old) (blamed self.new) path.now result };
+
+    /// Replaces the content of one path by all that the source gives, which never stands in memory as a whole where the store is a
+    /// real one. After a failure the old content stands, and the source may have given some of its bytes.
+    fn put_from<S: Source>(&mut self, alloc: Global, path: &str, source: &mut S) -> Result<(), Fail>
+        ensures ok { OnOk result (told self.new ≡ option_map (put_at path.now (S.rest source.old)) (told self.old)) }
+        ensures spent { OnOk result (S.rest source.new ≡ []) }
         ensures err { OnErr result (told self.new ≡ told self.old) }
         ensures cause { HasCause (faults self.old) (faults self.new) result }
         ensures blames { Blames (blamed self.old) (blamed self.new) path.now result };

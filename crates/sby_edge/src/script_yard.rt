@@ -11,6 +11,7 @@ use crate::script::{Call, Script};
 use crate::script_child::{ScriptHold, ScriptPipe};
 use crate::scripted::{Scripted, script_for};
 use crate::stage::{Role, Stage};
+use crate::told::ToldBytes;
 use crate::{Fail, Failed, Got, Launch, Memory, Yard};
 use sby_terms::JobName;
 use std::alloc::{AllocError, Global};
@@ -24,7 +25,7 @@ use std::time::Clock as SystemClock;
 pub struct Started {
     pub job: JobName,
     pub words: Vec<String>,
-    pub bytes: Vec<u8>,
+    pub bytes: ToldBytes,
     pub given: Option<usize>,
     pub killed: Option<usize>,
 }
@@ -35,12 +36,17 @@ impl Model for Started {
 
     ghost Value = { StartOf };
 
-    ghost view = { λ s. record { job = s.job; words = map string_bytes s.words.items; bytes = s.bytes.items; given = s.given; killed = s.killed } };
+    ghost view = { λ s. record { job = s.job; words = map string_bytes s.words.items; bytes = s.bytes.bytes; given = s.given; killed = s.killed } };
 }
 
 impl Started {
-    fn new(alloc: Global, job: JobName, words: &[String], bytes: &[u8]) -> Result<Self, AllocError>
-        ensures { IfOk result (λ started. started ≡ record { job = job; words = map string_bytes words.now; bytes = bytes.now; given = None; killed = None }) }
+    fn new(
+        alloc: Global,
+        job: JobName,
+        words: &[String],
+        bytes: &ToldBytes,
+    ) -> Result<Self, AllocError>
+        ensures { IfOk result (λ started. started ≡ record { job = job; words = map string_bytes words.now; bytes = bytes.now.bytes; given = None; killed = None }) }
     {
         let mut copied = Vec::with_capacity(alloc, words.len())?;
         for word in words {
@@ -49,7 +55,7 @@ impl Started {
         Ok(Started {
             job,
             words: copied,
-            bytes: Vec::from_slice(alloc, bytes)?,
+            bytes: ToldBytes::of(bytes),
             given: None,
             killed: None,
         })
@@ -126,7 +132,7 @@ impl<'a, R: Wait + SystemClock + Sync> Launch for ScriptBay<'a, R> {
         alloc: Global,
         job: JobName,
         words: &[String],
-        bytes: &[u8],
+        bytes: &ToldBytes,
     ) -> Result<(ScriptPipe<'a, R>, ScriptHold<'a, R>), Fail> {
         let script = script_for(self.scripts, self.other, self.task, self.lane, job);
         let times = self.times(job);

@@ -5,7 +5,7 @@ use Rattle.cnf_form.specs.Cnf.{Assignment, FormulaOf, IsUnsatisfiable, Satisfies
 use Rattle.cnf_form.specs.Dimacs.{IsDimacs}
 use Rattle.design_core.specs.Shape.{DesignOf}
 use Rattle.design_reader.specs.Grammar.{Reads}
-use Rattle.job_cnf.specs.Encoding.{CanBeSatisfied}
+use Rattle.job_terms.specs.Encoding.{CanBeSatisfied}
 use Rattle.sby_edge.specs.Child.{YardOf, up_to}
 use Rattle.sby_edge.specs.Script.{GateOf, ScriptOf}
 use Rattle.cert_judge.specs.Fate.{Fate, Found as FoundFate, Unknown as UnknownFate, Bad as BadFate}

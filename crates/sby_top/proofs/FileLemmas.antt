@@ -41,7 +41,7 @@ some_same x y h = cc
 
 -- a job that has a file is one of the problem's
 job_at : (p : AskedOf) (job : JobName) (file : List ℕ) → IsJobFile p job file → (i : ℕ) × (slice_get (jobs_in p) i ≡ Some job)
-job_at p job file is = (is.1.1.0, is.1.1.1)
+job_at p job file is = is.1.1.0
 
 numbered : (p : AskedOf) → IsProblem p → (job : JobName) (file : List ℕ) → IsJobFile p job file → IsNumbered (slices_in p) job
 numbered p is job file has =

@@ -217,7 +217,9 @@ same_still j mid new first then = (then.0 ∙ first.0, then.1 ∙ first.1, then.
 pub same_judge : (told : Option Store) (path : List ℕ) (j mid : JudgeOf) (end : JobEnd FindingOf) → IsSameJudge j mid → PathEnds mid told path end → PathEnds j told path end
 same_judge told path j mid end same ends = record {
   of = rw (← same.0, ← same.1) ends.of;
-  fate = λ file is. rw (← same.3) (ends.fate file (rw (same.0, same.1) is));
+  fate = λ file is.
+      let its : IsJobFile mid.asked j.job file = subst (λ (a : AskedOf). IsJobFile a j.job file) (sym same.0) is in
+      rw (← same.3) (ends.fate file (subst (λ (k : JobName). IsJobFile mid.asked k file) (sym same.1) its));
   run = rw (← same.0, ← same.1, ← same.3) ends.run;
 }
 

@@ -130,7 +130,6 @@ pub fn judge_stored<F: Files>(
     let Ok(mut judge) = Judge::new(alloc, problem, job, kind, MAX_STREAM) else {
         return Ok(JobEnd::Memory);
     };
-    // The job has a file.
-    let _ = problem.job_bytes(job);
+    problem.has_file(job);
     feed_all(alloc, files, path, &mut judge, first)
 }

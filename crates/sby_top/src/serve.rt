@@ -27,8 +27,9 @@ use crate::host::{Host, Outside};
 use crate::judge_stream::judge_stored;
 use crate::task::{DesignAt, Service, Task};
 use judge::{Finding, Problem, ProblemFault, one_file};
+use net_text::Text;
 use race_core::{JobEnd, Report, Room};
-use sby_edge::{Clock, Fail, Files, Got, Sink, Yard};
+use sby_edge::{Clock, Fail, Files, Got, Sink, Source, Yard};
 use sby_lines::{Collected, Early};
 use sby_terms::{Engine, JobName, job_path};
 use std::alloc::Global;
@@ -119,15 +120,21 @@ pub fn get_piece<F: Files>(
     }
 }
 
-fn put<F: Files>(alloc: Global, files: &mut F, path: &str, bytes: &[u8]) -> Result<(), Early>
-    ensures ok { OnOk result (F.told files.new ≡ option_map (put_at path.now bytes.now) (F.told files.old)) }
+// Puts all that a source gives.
+fn put_from<F: Files, S: Source>(
+    alloc: Global,
+    files: &mut F,
+    path: &str,
+    source: &mut S,
+) -> Result<(), Early>
+    ensures ok { OnOk result (F.told files.new ≡ option_map (put_at path.now (S.rest source.old)) (F.told files.old)) }
     ensures failed { IfErr result (IsFailedCall (files_at (F.told files.old) (F.faults files.old) (F.blamed files.old)) (files_at (F.told files.new) (F.faults files.new) (F.blamed files.new)) path.now) }
     ensures told { OnErr result (F.told files.new ≡ F.told files.old) }
     ensures still { OnOk result (F.faults files.new ≡ F.faults files.old) }
     ensures blamed { OnOk result (F.blamed files.new ≡ F.blamed files.old) }
     ensures later { F.faults files.old ≤ F.faults files.new }
 {
-    match files.put(alloc, path, bytes) {
+    match files.put_from(alloc, path, source) {
         Ok(()) => Ok(()),
         Err(Fail::Failed) => Err(file_fault(alloc, path)),
         Err(Fail::Memory) => Err(Early::Memory),
@@ -212,6 +219,20 @@ fn job_count(problem: &Problem) -> u32
     problem.jobs() as u32
 }
 
+// The text of a job's file, which is put by pieces.
+#[derive(Drop)]
+struct FileText<'a> {
+    text: Text<'a>,
+}
+
+impl<'a> Source for FileText<'a> {
+    ghost rest = { λ t. t.text };
+
+    fn next(&mut self, buffer: &mut [u8]) -> usize {
+        self.text.next(buffer)
+    }
+}
+
 // Puts the file of a job.
 fn put_job<F: Files>(
     alloc: Global,
@@ -233,7 +254,11 @@ fn put_job<F: Files>(
         Ok(path) => path,
         Err(_) => return Err(Early::Memory),
     };
-    put(alloc, files, path.as_str(), problem.job_bytes(job))
+    let Ok(file) = problem.job_file(alloc, job) else {
+        return Err(Early::Memory);
+    };
+    let mut text = FileText { text: file.text() };
+    put_from(alloc, files, path.as_str(), &mut text)
 }
 
 // How many slices there are.

@@ -1,4 +1,3 @@
-mod Files
 mod Answering
 mod Marking
 mod Subjects

@@ -10,12 +10,12 @@ ghost use Rattle.sby_terms.specs.Path.{job_path};
 ghost use Rattle.sby_terms.specs.Span.{slices_of};
 
 use crate::evidence::Evidence;
-use crate::output::{Nothing, Output};
 use crate::subject::{JobJudge, Watch};
 use crate::words::{proof_path, words_of};
 use cert_judge::StreamKind;
-use judge::{Finding, Judge, Problem, SolverJudge, one_file};
+use judge::{Finding, Judge, Problem, SolverJudge};
 use lane_run::{Asks, Child, Makes};
+use sby_edge::{Nothing, Told, ToldBytes};
 use sby_terms::{Engine, JobName, MAX_STREAM, job_path};
 use std::alloc::{AllocError, Global};
 
@@ -89,6 +89,19 @@ fn is_job(problem: &Problem, job: JobName) -> bool
         }
     }
     false
+}
+
+// A job's file, which is spoken of alone.
+#[derive(Drop)]
+struct JobFile<'a> {
+    problem: &'a Problem,
+    job: JobName,
+}
+
+impl<'a> Told for JobFile<'a> {
+    ghost use Rattle.task_race.specs.Serving.{file_of};
+
+    ghost bytes = { λ f. file_of f.problem.now f.job };
 }
 
 // The path of a job's file.
@@ -172,9 +185,9 @@ impl<'a> Makes<Finding> for ProblemLanes<'a> {
             job,
             evidence,
             watch,
-            output: Output::of(&Nothing),
+            output: ToldBytes::of(&Nothing),
             file: None,
-            proof: Output::of(&Nothing),
+            proof: ToldBytes::of(&Nothing),
         };
         Ok(Child {
             subject,
@@ -183,14 +196,11 @@ impl<'a> Makes<Finding> for ProblemLanes<'a> {
         })
     }
 
-    #[tactic(auto, using(crate::proofs::Files::none_without_job))]
-    fn bytes(&self, job: JobName) -> &[u8] {
-        one_file();
-        if is_job(self.problem, job) {
-            self.problem.job_bytes(job)
-        } else {
-            &[]
-        }
+    fn bytes(&self, job: JobName) -> ToldBytes {
+        ToldBytes::of(&JobFile {
+            problem: self.problem,
+            job,
+        })
     }
 
     fn most(&self) -> u64 {

@@ -6,7 +6,6 @@ mod bays;
 mod evidence;
 mod lanes;
 mod laws;
-mod output;
 mod prepare;
 mod racing;
 mod run;
@@ -20,7 +19,6 @@ pub use laws::{
     each_lane_reports, ends_have_causes, lanes_stop_under_a_limit, streams_give_their_fates,
     winners_carry_findings,
 };
-pub use output::{Output, Told};
 pub use prepare::{PreparedRace, cancel_race, prepare_race};
 pub use racing::{Racing, RanLanes, race_task};
 pub use run::{RacedLanes, finish_race, run_race};

@@ -9,11 +9,11 @@ ghost use Rattle.sby_terms.specs.declared.names.JobName.{JobName};
 ghost use Rattle.cert_judge.specs.declared.stream.StreamKind.{StreamKind};
 
 use crate::evidence::Evidence;
-use crate::output::{Nothing, Output, Told};
 use cert_judge::{BadCert, StreamKind};
 use judge::{Finding, Judge, Problem, Progress, SolverJudge};
 use lane_run::Subject;
 use race_core::Judged;
+use sby_edge::{Nothing, Told, ToldBytes};
 use sby_terms::{JobName, MAX_STREAM};
 use std::alloc::{AllocError, Global};
 
@@ -32,16 +32,16 @@ pub struct JobJudge<'a> {
     pub(crate) job: JobName,
     pub(crate) evidence: Evidence,
     pub(crate) watch: Watch<'a>,
-    pub(crate) output: Output,
+    pub(crate) output: ToldBytes,
     // Who judges the proof file, once that is due.
     pub(crate) file: Option<Judge<'a>>,
-    pub(crate) proof: Output,
+    pub(crate) proof: ToldBytes,
 }
 
 // An output with its next piece.
 #[derive(Drop)]
 struct Longer<'o, 'p> {
-    output: &'o Output,
+    output: &'o ToldBytes,
     piece: &'p [u8],
 }
 
@@ -51,10 +51,10 @@ impl<'o, 'p> Told for Longer<'o, 'p> {
     ghost bytes = { λ l. l.output.now.bytes ++ l.piece.now };
 }
 
-fn with_piece(output: &Output, piece: &[u8]) -> Output
+fn with_piece(output: &ToldBytes, piece: &[u8]) -> ToldBytes
     ensures { result.bytes ≡ output.now.bytes ++ piece.now }
 {
-    Output::of(&Longer { output, piece })
+    ToldBytes::of(&Longer { output, piece })
 }
 
 // An answer of a judge, as a lane's list has it.
@@ -141,7 +141,7 @@ impl<'a> Subject<Finding> for JobJudge<'a> {
     ghost proves = { λ s. Proves s.problem.now s.job s.evidence };
 
     fn feed(&mut self, _alloc: Global, piece: &[u8]) -> Judged<Finding> {
-        let _file = self.problem.job_bytes(self.job);
+        self.problem.has_file(self.job);
         self.output = with_piece(&self.output, piece);
         match &mut self.watch {
             Watch::Stream(judge) => feed_stream(judge, piece),
@@ -150,7 +150,7 @@ impl<'a> Subject<Finding> for JobJudge<'a> {
     }
 
     fn end(&mut self, _alloc: Global) -> Judged<Finding> {
-        let _file = self.problem.job_bytes(self.job);
+        self.problem.has_file(self.job);
         match &mut self.watch {
             Watch::Stream(judge) => end_stream(judge),
             Watch::Solver(judge) => end_solver(judge),
@@ -163,12 +163,12 @@ impl<'a> Subject<Finding> for JobJudge<'a> {
         };
         let judge = Judge::new(alloc, self.problem, self.job, kind, MAX_STREAM)?;
         self.file = Some(judge);
-        self.proof = Output::of(&Nothing);
+        self.proof = ToldBytes::of(&Nothing);
         Ok(())
     }
 
     fn feed_proof(&mut self, _alloc: Global, piece: &[u8]) -> Judged<Finding> {
-        let _file = self.problem.job_bytes(self.job);
+        self.problem.has_file(self.job);
         self.proof = with_piece(&self.proof, piece);
         match &mut self.file {
             Some(judge) => feed_stream(judge, piece),
@@ -177,7 +177,7 @@ impl<'a> Subject<Finding> for JobJudge<'a> {
     }
 
     fn end_proof(&mut self, _alloc: Global) -> Judged<Finding> {
-        let _file = self.problem.job_bytes(self.job);
+        self.problem.has_file(self.job);
         match &mut self.file {
             Some(judge) => end_stream(judge),
             None => unreachable!(),

@@ -4,8 +4,8 @@ ghost use Rattle.std.specs.Prelude.{◌≡◌, IfOk, IsErrOf};
 ghost use Rattle.sby_edge.specs.declared.outside.Fail.TheVariants.{Failed as FailFailed};
 
 use sby_edge::{
-    Clock, Exit, Fail, Failed, Files, Got, Hold, Launch, MemFiles, MemSink, Memory, NoYard, Sink,
-    StillClock, Yard,
+    Bytes, Clock, Exit, Fail, Failed, Files, Got, Hold, Launch, MemFiles, MemSink, Memory, NoYard,
+    Nothing, Sink, Source, StillClock, ToldBytes, Yard, fill,
 };
 use sby_terms::JobName;
 use std::alloc::{AllocError, Global};
@@ -66,6 +66,76 @@ fn files_fail_at_listed_calls(rt: HostRuntime) -> Result<(), TestFail> {
     Ok(())
 }
 
+// Gives its bytes one by one.
+#[derive(Drop)]
+struct Single<'a> {
+    left: &'a [u8],
+}
+
+impl<'a> Source for Single<'a> {
+    ghost rest = { λ s. s.left.now };
+
+    fn next(&mut self, buffer: &mut [u8]) -> usize {
+        let count = self.left.len().min(buffer.len()).min(1);
+        let (piece, left) = self.left.split_at(count);
+        buffer[..count].copy_from_slice(piece);
+        self.left = left;
+        count
+    }
+}
+
+// Puts bytes by pieces: as many as there is room for, or one by one.
+fn put_pieces<F: Files>(
+    files: &mut F,
+    alloc: Global,
+    path: &str,
+    bytes: &[u8],
+    single: bool,
+) -> Result<(), Fail> {
+    if single {
+        let mut source = Single { left: bytes };
+        files.put_from(alloc, path, &mut source)
+    } else {
+        let mut source = Bytes::new(bytes);
+        files.put_from(alloc, path, &mut source)
+    }
+}
+
+#[test]
+fn files_are_put_by_pieces(rt: HostRuntime) -> Result<(), TestFail> {
+    let alloc = rt.alloc();
+    let mut files = MemFiles::new(alloc, vec![in alloc; 7]?);
+    for (length, single) in [
+        (0, false),
+        (0, true),
+        (9, true),
+        (4096, false),
+        (5000, true),
+        (10_000, false),
+    ] {
+        let bytes = vec![in alloc; 48u8; length]?;
+        assert_eq!(rt; put_pieces(&mut files, alloc, "a", &bytes, single), Ok(()));
+        assert_eq!(rt; files.content("a"), Some(bytes.as_slice()), "{length}");
+    }
+    // The call that is listed to fail leaves the last one's.
+    assert_eq!(rt;
+        put_pieces(&mut files, alloc, "a", b"new", true),
+        Err(Fail::Failed)
+    );
+    assert_eq!(rt; files.content("a").map(|bytes| bytes.len()), Some(10_000));
+    Ok(())
+}
+
+#[test]
+fn buffers_are_filled(rt: HostRuntime) {
+    let mut source = Single { left: b"abcde" };
+    for (room, wanted) in [(3, "abc"), (0, ""), (3, "de"), (2, "")] {
+        let mut buffer = [0u8; 3];
+        let count = fill(&mut source, &mut buffer[..room]);
+        assert_eq!(rt; &buffer[..count], wanted.as_bytes());
+    }
+}
+
 fn wrote<S: Sink>(sink: &mut S, piece: &[u8]) -> Result<usize, Failed> {
     sink.write(piece)
 }
@@ -95,7 +165,7 @@ fn one_child<Y: Yard>(yard: &mut Y, alloc: Global, words: &[String]) -> Result<E
 }
 
 fn in_bay<L: Launch>(bay: &mut L, alloc: Global, words: &[String]) -> Result<Exit, Fail> {
-    let (pipe, mut hold) = bay.start(alloc, JobName::Base(0), words, b"")?;
+    let (pipe, mut hold) = bay.start(alloc, JobName::Base(0), words, &ToldBytes::of(&Nothing))?;
     let killed = hold.kill();
     let reaped = hold.reap();
     bay.finish(pipe, hold);

@@ -3,8 +3,8 @@
 ghost use Rattle.std.specs.Prelude.{◌≡◌, ◌<◌, true, length};
 
 use sby_edge::{
-    Call, CallFault, Clock, Exit, Fail, Gate, Got, Hold, Launch, ListClock, Memory, Pipe, Script,
-    ScriptYard, Scripted, Stage, Yard,
+    Call, CallFault, Clock, Exit, Fail, Gate, Got, Hold, Launch, ListClock, Memory, Nothing, Pipe,
+    Script, ScriptYard, Scripted, Stage, ToldBytes, Yard,
 };
 use sby_terms::JobName;
 use std::alloc::{AllocError, Global};
@@ -27,7 +27,12 @@ fn script_of(alloc: Global, bytes: &[u8]) -> Result<Script, AllocError> {
 // What two reads gave, and the exit; a failed call ends the child.
 fn play<L: Launch>(bay: &mut L, alloc: Global) -> Result<(usize, usize, Exit), Fail> {
     let words = Vec::<String>::new(alloc);
-    let (mut pipe, mut hold) = bay.start(alloc, JobName::Base(0), &words, b"")?;
+    let (mut pipe, mut hold) = bay.start(
+        alloc,
+        JobName::Base(0),
+        &words,
+        &ToldBytes::of(&Nothing),
+    )?;
     let mut buffer = [0u8; 8];
     let _polled = hold.poll();
     let killed = hold.kill();
@@ -138,14 +143,14 @@ fn first_bytes<L: Launch>(
     beside: bool,
 ) -> Result<[usize; 2], Fail> {
     let words = Vec::<String>::new(alloc);
-    let (mut pipe, mut hold) = one.start(alloc, JobName::Step, &words, b"")?;
+    let (mut pipe, mut hold) = one.start(alloc, JobName::Step, &words, &ToldBytes::of(&Nothing))?;
     let mut buffer = [0u8; 8];
     let mut counts = [0, 0];
     if !beside {
         counts[0] = pipe.read(&mut buffer).unwrap_or(0);
         let _reaped = hold.reap();
     }
-    let started = two.start(alloc, JobName::Step, &words, b"");
+    let started = two.start(alloc, JobName::Step, &words, &ToldBytes::of(&Nothing));
     if beside {
         counts[0] = pipe.read(&mut buffer).unwrap_or(0);
     }

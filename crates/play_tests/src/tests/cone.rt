@@ -2,10 +2,12 @@
 
 use crate::tests::played::flat_of;
 use cnf_form::write_dimacs;
-use cone_cnf::encode;
+use model_cone::asked::Asked;
+use net_jobs::encode;
 use sby_terms::{JobName, Span};
 use std::alloc::Global;
 use std::test::Fail;
+use task_net::TaskNet;
 use word_model::build::build;
 
 // A register that turns over in each cycle, with an assertion on what it takes next.
@@ -81,10 +83,14 @@ fn base_of(alloc: Global, parts: &[&str]) -> Result<Vec<u8>, Fail> {
     }
     let flat = flat_of(alloc, text.as_str())?;
     let model = build(alloc, &flat)?;
-    let Ok(encoded) = encode(alloc, &model, JobName::Base(0), Span::whole(2))? else {
+    let Ok(net) = TaskNet::new(alloc, &model, Asked::Asserts)? else {
         return Err(Fail::from("too many variables"));
     };
-    Ok(write_dimacs(alloc, encoded.formula())?)
+    let Ok(encoded) = encode(alloc, net.net(), JobName::Base(0), Span::whole(2))? else {
+        return Err(Fail::from("too many variables"));
+    };
+    let formula = encoded.formula(alloc)?;
+    Ok(write_dimacs(alloc, &formula)?)
 }
 
 #[test]

@@ -119,7 +119,7 @@ pub fn stream_told(
     requires least { 1 ≤ most }
     requires limit { most ≤ 2 ^ 32 }
 {
-    let mut judge = Judge::new(alloc, formula, kind, most)?;
+    let mut judge = Judge::new(alloc, formula.copy(alloc)?, kind, most)?;
     let outcome = outcome_of(&mut judge, pieces.0, pieces.1)?;
     told(alloc, Some(outcome), judge.values())
 }
@@ -144,7 +144,7 @@ fn output_told(
     requires least { 1 ≤ most }
     requires limit { most ≤ 2 ^ 32 }
 {
-    let mut judge = OutputJudge::new(alloc, formula, most)?;
+    let mut judge = OutputJudge::new(alloc, formula.copy(alloc)?, most)?;
     let outcome = end_of(&mut judge, pieces.0, pieces.1)?;
     told(alloc, outcome, judge.values())
 }

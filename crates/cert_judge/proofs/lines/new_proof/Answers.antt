@@ -4,4 +4,4 @@ use Rattle.cert_judge.proofs.lines.new_proof.Goals as goal
 pub returns : goal.returns
 returns c =
     let e = c.in_ok-certificate.ensures in
-    proof_starts c.args.formula.now c.vars.result c.vars.ensures.vars c.new-parser.result c.in_ok-certificate.certificate e.formula e.checker e.size e.unnamed e.undecided c.new-parser.ensures
+    proof_starts c.args.formula c.vars.result c.vars.ensures.vars c.new-parser.result c.in_ok-certificate.certificate e.formula e.checker e.size e.unnamed e.undecided c.new-parser.ensures

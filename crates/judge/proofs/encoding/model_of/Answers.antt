@@ -11,5 +11,4 @@ returns c =
       is_model = c.size-size.ensures.model;
       model = c.in_ok-model.ensures.model;
       built = built;
-      within = c.variables_are_within_cost.ensures c.args.flat.now built.0 c.in_ok-model.model shape c.design.ensures.flat built.1 built.2;
     }

@@ -1,8 +1,8 @@
 use Rattle.std.proofs.lemmas.List.Elements.{All-contains}
-use Rattle.cone_cnf.specs.Asking.{asked_of, place_of as origin_place}
+use Rattle.task_net.specs.Asking.{asked_of, place_of as origin_place}
 use Rattle.design_core.specs.Places.{place_of}
-use Rattle.job_cnf.specs.Encoding.{Origin}
-use Rattle.job_cnf.specs.Encoding.Origin.{First, Input}
+use Rattle.job_terms.specs.Encoding.{Origin}
+use Rattle.job_terms.specs.Encoding.Origin.{First, Input}
 use Rattle.model_cone.specs.Cone.{IsInCone}
 use Rattle.model_laws.proofs.Coned.{input-read, state-read}
 use Rattle.model_split.specs.Split.{split_model}

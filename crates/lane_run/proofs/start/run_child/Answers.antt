@@ -45,7 +45,7 @@ returns-clause-starts g c =
     let w = c.in-Ok.ensures.judges in (
       h.0,
       h.1,
-      starts_within job (map string_bytes c.in-Ok.child.words.items) (g.M.Makes.words m c.args.lane job) c.bytes.result.now (g.M.Makes.file m job)
+      starts_within job (map string_bytes c.in-Ok.child.words.items) (g.M.Makes.words m c.args.lane job) c.bytes.result.bytes (g.M.Makes.file m job)
           (ReadsScript (g.M.Subject.Subject.stands s) (g.M.Subject.Subject.ends s) (g.M.Subject.Subject.proves s) bay job (g.M.Makes.most m) (g.M.Subject.Subject.most s) events)
           (ReadsScript (g.M.Makes.stands m c.args.lane job) (g.M.Makes.ends m c.args.lane job) (g.M.Makes.proves m c.args.lane job) bay job (g.M.Makes.most m) (g.M.Makes.most_output m c.args.lane) events)
           events c.start_child.new.keeper_events.events c.start_child.result.end h.0 c.in-Ok.ensures.words c.bytes.ensures

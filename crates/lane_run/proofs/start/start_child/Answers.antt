@@ -9,15 +9,15 @@ use Rattle.lane_run.proofs.start.start_child.Goals as goal
 pub returns-in-Err-Failed-clause-starts : goal.returns-in-Err-Failed-clause-starts
 returns-in-Err-Failed-clause-starts g c =
     let told = rw (c.in-Err-Failed.field-0-is, c.as_slice.ensures.value) at c.in-Err-Failed.ensures.told in
-    (start_of c.args.watch.now.terms.now.job (map string_bytes c.args.child.words.items) c.args.bytes.now None None ∷ [], told, inr (inl (refl, c.requires.fresh.1, refl)))
+    (start_of c.args.watch.now.terms.now.job (map string_bytes c.args.child.words.items) c.args.bytes.now.bytes None None ∷ [], told, inr (inl (refl, c.requires.fresh.1, refl)))
 
 pub returns-in-Err-Memory-clause-starts : goal.returns-in-Err-Memory-clause-starts
 returns-in-Err-Memory-clause-starts g c =
     let told = rw c.as_slice.ensures.value at c.start.ensures.told in
     let bay = g.L.Launch.told c.args.bay.now in (
       [],
-      none_started c.start.result c.in-Err-Memory.field-0 c.args.watch.now.terms.now.job (map string_bytes c.args.child.words.items) c.args.bytes.now bay (g.L.Launch.told c.start.new.self) c.in-Err-Memory.is c.in-Err-Memory.field-0-is told,
-      none_for_want c.args.watch.now.terms.now.job (map string_bytes c.args.child.words.items) c.args.bytes.now
+      none_started c.start.result c.in-Err-Memory.field-0 c.args.watch.now.terms.now.job (map string_bytes c.args.child.words.items) c.args.bytes.now.bytes bay (g.L.Launch.told c.start.new.self) c.in-Err-Memory.is c.in-Err-Memory.field-0-is told,
+      none_for_want c.args.watch.now.terms.now.job (map string_bytes c.args.child.words.items) c.args.bytes.now.bytes
           (ReadsScript (g.S.Subject.stands c.args.child.subject) (g.S.Subject.ends c.args.child.subject) (g.S.Subject.proves c.args.child.subject) bay c.args.watch.now.terms.now.job c.args.most (g.S.Subject.most c.args.child.subject) c.args.reader_events.events)
           c.args.reader_events.events c.want.new.events.events c.want.result c.want.ensures.is c.requires.fresh.1,
     )
@@ -39,7 +39,7 @@ returns-clause-starts g c =
     let words = map string_bytes c.args.child.words.items in
     let events = c.run_started.result.events.events in
     let told = rw c.as_slice.ensures.value at c.in-Ok.ensures.told in
-    let l = life (g.S.Subject.stands s) (g.S.Subject.ends s) (g.S.Subject.proves s) job words c.args.bytes.now c.args.most (g.S.Subject.most s) events c.run_started.new.keeper_events.events
+    let l = life (g.S.Subject.stands s) (g.S.Subject.ends s) (g.S.Subject.proves s) job words c.args.bytes.now.bytes c.args.most (g.S.Subject.most s) events c.run_started.new.keeper_events.events
     (g.L.Launch.told c.args.bay.now) (g.L.Launch.told c.start.new.self) (g.L.Launch.told c.run_started.new.bay) (g.L.Pipe.Pipe.told c.in-Ok.started.0)
     c.in-Ok.started told c.in-Ok.ensures.pipe c.run_started.ensures.ran in
-    (start_of job words c.args.bytes.now (Some (bytes_read events)) l.killed ∷ [], l.told, inr (inr (c.run_started.ensures.started, l.reads, (l.killed, l.for, refl))))
+    (start_of job words c.args.bytes.now.bytes (Some (bytes_read events)) l.killed ∷ [], l.told, inr (inr (c.run_started.ensures.started, l.reads, (l.killed, l.for, refl))))

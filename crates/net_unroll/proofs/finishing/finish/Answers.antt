@@ -1,4 +1,4 @@
-use Rattle.std.proofs.Common.{◌≡◌, ◌+◌, ◌-◌, ◌<◌, ◌≤◌, ℕ, Bool, false, List, All, ap, sym, subst, ◌∙◌, arith, length, map}
+use Rattle.std.proofs.Common.{◌≡◌, ◌+◌, ◌-◌, ◌<◌, ◌≤◌, ℕ, Bool, true, false, List, All, ap, sym, subst, ◌∙◌, arith, length, map}
 use Rattle.std.specs.List.{filter}
 use Rattle.net_unroll.specs.declared.encoded.Free.{Free}
 use Rattle.std.specs.Prelude.{slice_index_or}
@@ -8,9 +8,11 @@ use Rattle.gate_graph.specs.declared.gate.Gate.{Gate}
 use Rattle.gate_graph.specs.Folding.{operands}
 use Rattle.gate_graph.specs.Kept.{OthersWithin}
 use Rattle.bit_net.specs.Reaching.{spread}
-use Rattle.net_unroll.specs.Encoding.{is_kept, number, renumbered, renumbered_entry, renumbered_free}
+use Rattle.net_unroll.specs.Clauses.{IsEncoding}
+use Rattle.net_unroll.specs.Encoding.{EncodedOf, finished, is_kept, number, renumbered, renumbered_entry, renumbered_free}
 use Rattle.net_unroll.specs.Making.{made_of}
 use Rattle.net_unroll.specs.Finishing.{HasMarks, HasNumbers, begins}
+use Rattle.net_unroll.proofs.Enclosing.{by_fields, finished_within}
 use Rattle.net_unroll.proofs.Numbering.{are_numbers, kept_inside, kept_within, lent, numbers_same, truth_kept}
 use Rattle.net_unroll.proofs.finishing.finish.Goals as goal
 
@@ -84,3 +86,10 @@ returns-clause-goals c =
     (c.as_slice.ensures.value ∙ c.into_kept-kept.ensures) c.as_slice-2.ensures.value c.as_slice-3.ensures.value c.as_slice-7.ensures.value c.as_slice-8.ensures.value c.in_ok-marks.ensures.marks c.in_ok-numbers.ensures.size c.in_ok-numbers.ensures.numbers in
     let t = is_kept (made_of c.args.made) in
     c.in_ok-finished.ensures.goals t n ∙ ap (map (renumbered t)) c.as_slice-6.ensures.value
+
+pub returns-clause-within : goal.returns-clause-within
+returns-clause-within c =
+    let f = c.in_ok-finished.finished in
+    let same : (let e : EncodedOf = record { asks = true; vars = f.vars; gates = f.gates.items; free = f.free.items; goals = f.goals.items } in e) ≡ finished (made_of c.args.made) =
+    by_fields (returns-clause-vars c) (returns-clause-gates c) (returns-clause-free c) (returns-clause-goals c) in
+    subst IsEncoding (sym same) (finished_within c.args.made c.requires.making c.promise.ensures.kept c.promise.ensures.room)

@@ -10,11 +10,11 @@ use Rattle.cert_judge.proofs.certificate.Certificate+Checker.try_empty.Goals as 
 pub returns-in-NotRup-clause-tries : goal.returns-in-NotRup-clause-tries
 returns-in-NotRup-clause-tries c =
     let n : c.args.self.now.outcome ≡ None = ap (λ (z : CertificateOf CheckerOf). z.outcome) (sym c.self.view_is) ∙ no_outcome _ (sym c.is_some.ensures ∙ c.if-is_some.false) in
-    tries_open c.args.self.now c.refuse.new.self c.args.place n (Bad (record { kind = NotRup; at = c.args.place })) (certificate c.self.inside.formula.now c.add.new.self c.self.inside.values c.self.inside.outcome) c.refuse.ensures
+    tries_open c.args.self.now c.refuse.new.self c.args.place n (Bad (record { kind = NotRup; at = c.args.place })) (certificate c.self.inside.formula c.add.new.self c.self.inside.values c.self.inside.outcome) c.refuse.ensures
     (heard_not_rup _ _ _ _ _ c.self.view_is n c.add.new.self [] c.args.place (λ a. let k = c.in_ok-add.ensures.exact.1 a in let q = c.in-NotRup.is in cc))
 
 pub returns-in-Admitted-clause-tries : goal.returns-in-Admitted-clause-tries
 returns-in-Admitted-clause-tries c =
     let n : c.args.self.now.outcome ≡ None = ap (λ (z : CertificateOf CheckerOf). z.outcome) (sym c.self.view_is) ∙ no_outcome _ (sym c.is_some.ensures ∙ c.if-is_some.false) in
-    tries_open c.args.self.now c.settle.new.self c.args.place n Refuted (certificate c.self.inside.formula.now c.add.new.self c.self.inside.values c.self.inside.outcome) c.settle.ensures
+    tries_open c.args.self.now c.settle.new.self c.args.place n Refuted (certificate c.self.inside.formula c.add.new.self c.self.inside.values c.self.inside.outcome) c.settle.ensures
     (heard_empty _ _ _ _ _ c.self.view_is n c.add.new.self [] c.args.place (c.in_ok-add.ensures.exact.0 c.in-Admitted.is) refl)

@@ -4,14 +4,14 @@ use Rattle.judge.proofs.Solving.{ends_outcome, ends_told, job_asked}
 use Rattle.judge.specs.Solver.{Ends, SolverOf, Took}
 use Rattle.judge.proofs.solver.SolverJudge.end.Goals as goal
 
-pub job_bytes-file-requires : goal.job_bytes-file-requires
-job_bytes-file-requires c = let is = c.self.invariant (ap (λ (j : SolverOf). j.reading) c.self.view_is ∙ c.requires) in job_asked c.self.inside.problem.now c.self.inside.job _ is.0.formula
+pub has_file-requires : goal.has_file-requires
+has_file-requires c = let is = c.self.invariant (ap (λ (j : SolverOf). j.reading) c.self.view_is ∙ c.requires) in job_asked c.self.inside.problem.now c.self.inside.job _ is.0.formula
 
 pub answer-requires : goal.answer-requires
 answer-requires c =
     let is = c.self.invariant (ap (λ (j : SolverOf). j.reading) c.self.view_is ∙ c.requires) in
     let taken = is.1 in
-    ends_outcome _ is.0 c.end.new.self _ c.in_ok-outcome.outcome (c.in_ok-outcome.ensures.ends taken.0 taken.1) c.job_bytes-file.result.now c.job_bytes-file.ensures c.values-values.result.now c.values-values.ensures
+    ends_outcome _ is.0 c.end.new.self _ c.in_ok-outcome.outcome (c.in_ok-outcome.ensures.ends taken.0 taken.1) c.has_file.ensures.0 c.has_file.ensures.1 c.values-values.result.now c.values-values.ensures
 
 pub returns-clause-ends : goal.returns-clause-ends
 returns-clause-ends c =

@@ -17,3 +17,7 @@ returns-clause-ready g c = record {
   serving = c.in_ok-serving.ensures.serving;
   room = rw (← c.job_count.ensures, ← c.report_count.ensures) c.in-Ok.ensures;
 }
+
+pub returns-in_err-serving-clause-spared : goal.returns-in_err-serving-clause-spared
+returns-in_err-serving-clause-spared g c = let p = err_from_is_err_and c.from_residual-in_err-serving.result c.from_residual-in_err-serving.ensures.1 in
+    rw (p.1, p.2) c.in_err-serving.ensures.spared

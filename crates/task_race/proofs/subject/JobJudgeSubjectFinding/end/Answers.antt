@@ -9,16 +9,16 @@ pub returns-in-Stream-clause-says : goal.returns-in-Stream-clause-says
 returns-in-Stream-clause-says c =
     let s = c.args.self.now in
     let watches : Watches s.problem.now s.job s.evidence (Stream c.in-Stream.judge) s.output.bytes = subst (λ (w : Watch). Watches s.problem.now s.job s.evidence w s.output.bytes) c.in-Stream.is c.requires in
-    stream_says_ended s.problem.now s.job s.evidence c.in-Stream.judge s.output.bytes c.end_stream.result watches c.end_stream.ensures c.job_bytes-file.result.now c.job_bytes-file.ensures
+    stream_says_ended s.problem.now s.job s.evidence c.in-Stream.judge s.output.bytes c.end_stream.result watches c.end_stream.ensures c.has_file.ensures.0 c.has_file.ensures.1
 
 pub returns-in-Stream-clause-more : goal.returns-in-Stream-clause-more
 returns-in-Stream-clause-more c =
     let s = c.args.self.now in
-    ended_awaits s.problem.now s.job s.evidence s.output.bytes c.job_bytes-file.result.now c.end_stream.result (watches_job s.problem.now s.job s.evidence s.watch s.output.bytes c.requires) c.job_bytes-file.ensures
+    ended_awaits s.problem.now s.job s.evidence s.output.bytes c.has_file.ensures.0 c.end_stream.result (watches_job s.problem.now s.job s.evidence s.watch s.output.bytes c.requires) c.has_file.ensures.1
     (returns-in-Stream-clause-says c)
 
 pub returns-in-Solver-clause-says : goal.returns-in-Solver-clause-says
 returns-in-Solver-clause-says c =
     let s = c.args.self.now in
     let watches : Watches s.problem.now s.job s.evidence (Solver c.in-Solver.judge) s.output.bytes = subst (λ (w : Watch). Watches s.problem.now s.job s.evidence w s.output.bytes) c.in-Solver.is c.requires in
-    solver_says_ended s.problem.now s.job s.evidence c.in-Solver.judge s.output.bytes c.end_solver.result watches c.end_solver.ensures c.job_bytes-file.result.now c.job_bytes-file.ensures
+    solver_says_ended s.problem.now s.job s.evidence c.in-Solver.judge s.output.bytes c.end_solver.result watches c.end_solver.ensures c.has_file.ensures.0 c.has_file.ensures.1

@@ -9,5 +9,5 @@ pub returns : goal.returns
 returns c =
     let s = c.args.self.now in
     let proving : Proving s.problem.now s.job s.evidence (Some c.in-Some.judge) s.proof.bytes = subst (λ (file : Option JudgeOf). Proving s.problem.now s.job s.evidence file s.proof.bytes) c.in-Some.is c.requires in
-    let over = file_ended s.problem.now s.job s.evidence c.in-Some.judge s.proof.bytes c.job_bytes-file.result.now c.end_stream.result c.job_bytes-file.ensures proving c.end_stream.ensures in
+    let over = file_ended s.problem.now s.job s.evidence c.in-Some.judge s.proof.bytes c.has_file.ensures.0 c.end_stream.result c.has_file.ensures.1 proving c.end_stream.ensures in
     record { says = over.0; whole = over.1 }

@@ -1,0 +1,84 @@
+"""Jobs of large tasks up to their first lane: what making and putting all of them takes, by a task whose one engine line serves none."""
+import argparse
+import os
+import subprocess
+import sys
+import tempfile
+
+from measure import last_line, program, run
+from rtlil import Module
+
+HERE = os.path.dirname(os.path.abspath(__file__))
+
+
+def ring(size):
+    """One-bit registers, each the xor of its neighbours, all asserted."""
+    m = Module()
+    states = [m.wire(init=i == 0) for i in range(size)]
+    for i, q in enumerate(states):
+        m.dff(m.op("xor", states[i - 1], states[(i + 1) % size]), q)
+        m.claim("assert", q)
+    return m
+
+
+def bank(size, kind, count):
+    """Registers of four gates each, of which some are claimed."""
+    m = Module()
+    enable = m.wire(1, "enable", 2)
+    states = [m.wire(init=i % 3 == 0) for i in range(size)]
+    for i, q in enumerate(states):
+        left, right, far = states[i - 1], states[(i + 1) % size], states[(i * 7 + 3) % size]
+        m.dff(m.mux(enable, q, m.op("and", m.op("xor", left, right), far)), q)
+    for i in range(count):
+        m.claim(kind, states[i * size // count])
+    return m
+
+
+# the design, and the options of its task
+TASKS = {
+    "ring_stride": ((ring, 10_000), "mode bmc\ndepth 200\nstride 10\n"),
+    "covers_200": ((bank, 100_000, "cover", 200), "mode cover\ndepth 50\n"),
+    "bmc_1000": ((bank, 20_000, "assert", 1), "mode bmc\ndepth 1000\n"),
+}
+
+
+def files_in(folder):
+    sizes = [os.path.getsize(os.path.join(at, name)) for at, _, names in os.walk(folder) for name in names if name.endswith(".cnf")]
+    return len(sizes), sum(sizes) / 1e6
+
+
+def main():
+    words = argparse.ArgumentParser(description=__doc__)
+    words.add_argument("--sby", help="path of the program sby")
+    words.add_argument("--only", default="", help="tasks whose name has this in it")
+    words.add_argument("--seconds", type=int, default=600, help="limit of CPU seconds of each run")
+    words.add_argument("--make", nargs=2, metavar=("NAME", "FILE"), help="write one task's design and end")
+    words = words.parse_args()
+    if words.make:
+        (make, *sizes), _ = TASKS[words.make[0]]
+        make(*sizes).write(words.make[1])
+        return
+    if not words.sby:
+        raise SystemExit("--sby PATH is missing")
+    sby, wrong = program(words.sby), []
+    print(f"{'task':13}{'design MB':>10}{'model s':>9}{'MB':>7}{'jobs s':>8}{'MB':>7}{'wall s':>8}{'files':>7}{'MB':>8}  status line")
+    for name, (_, options) in TASKS.items():
+        if words.only not in name:
+            continue
+        with tempfile.TemporaryDirectory() as folder:
+            text, said = (os.path.join(folder, x) for x in ("x.il", "said"))
+            # another process makes the text: a child's peak memory is at least that of the process that starts it
+            subprocess.run([sys.executable, "-B", os.path.join(HERE, "jobs.py"), "--make", name, text], check=True)
+            with open(os.path.join(folder, "t.sby"), "w") as file:
+                file.write(f"[options]\n{options}[engines]\nbtor true\n[script]\nread_rtlil x.il\n[files]\nx.il\n")
+            alone = run([sby, "--judge", "x.il", "bmc", "1"], words.seconds, said, folder)
+            whole = run([sby, "t.sby"], words.seconds, said, folder)
+            count, put = files_in(folder)
+            print(f"{name:13}{os.path.getsize(text) / 1e6:10.1f}{alone.user:9.2f}{alone.mb:7.0f}{whole.user:8.2f}{whole.mb:7.0f}{whole.wall:8.1f}{count:7}{put:8.0f}  {last_line(said)}", flush=True)
+            if whole.over or "UNKNOWN" not in last_line(said):
+                wrong.append(name)
+    if wrong:
+        raise SystemExit(f"not ended: {' '.join(wrong)}")
+
+
+main()

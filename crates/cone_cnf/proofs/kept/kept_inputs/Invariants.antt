@@ -1,6 +1,0 @@
-use Rattle.std.proofs.Common.{◌≡◌, map, take}
-use Rattle.model_cone.specs.Slice.{kept_by}
-use Rattle.cone_cnf.proofs.kept.kept_inputs.Given as goal
-
-abbrev pub invariant-loop-k : goal.invariant-loop-k
-invariant-loop-k l = l.kept.items ≡ map (kept_by l.marks) (take l.k l.places)

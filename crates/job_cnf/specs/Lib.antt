@@ -1,5 +1,0 @@
-pub mod Jobs
-pub mod Decoding
-pub mod Encoding
-pub mod Unrolling
-pub mod Renaming

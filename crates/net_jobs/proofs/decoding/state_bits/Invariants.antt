@@ -1,0 +1,10 @@
+use Rattle.std.proofs.Common.{◌≡◌, drop, length}
+use Rattle.job_terms.specs.Decoding.{values_of}
+use Rattle.net_jobs.specs.Decoding.{TellStates}
+use Rattle.net_jobs.proofs.decoding.state_bits.Given as goal
+
+abbrev pub invariant-loop-place : goal.invariant-loop-place
+invariant-loop-place l = record {
+  size : length l.bits.items ≡ l.count;
+  tell : TellStates (values_of l.values) (drop l.place l.free) l.bits.items;
+}

@@ -1,0 +1,3 @@
+pub mod Asking
+pub mod Net
+pub mod Spreading
