@@ -12,33 +12,34 @@ HERE = os.path.dirname(os.path.abspath(__file__))
 
 
 def ring(size):
-    """One-bit registers, each the xor of its neighbours, all asserted."""
+    """One-bit registers with any start, each the xor of its neighbours, all asserted."""
     m = Module()
-    states = [m.wire(init=i == 0) for i in range(size)]
+    states = [m.wire() for i in range(size)]
     for i, q in enumerate(states):
         m.dff(m.op("xor", states[i - 1], states[(i + 1) % size]), q)
         m.claim("assert", q)
     return m
 
 
-def bank(size, kind, count):
-    """Registers of four gates each, of which some are claimed."""
+def bank(size, width, kind, count):
+    """Registers with any start and four gates a bit, of which some have a bit claimed."""
     m = Module()
     enable = m.wire(1, "enable", 2)
-    states = [m.wire(init=i % 3 == 0) for i in range(size)]
+    states = [m.wire(width) for i in range(size)]
     for i, q in enumerate(states):
-        left, right, far = states[i - 1], states[(i + 1) % size], states[(i * 7 + 3) % size]
-        m.dff(m.mux(enable, q, m.op("and", m.op("xor", left, right), far)), q)
+        left, right, far = states[i - 1], states[(i + 1) % size], states[(i + 2) % size]
+        turned = f"{{ {left} [0] {left} [{width - 1}:1] }}"
+        m.dff(m.mux(enable, q, m.op("and", m.op("xor", turned, right, width), far, width), width), q, width)
     for i in range(count):
-        m.claim(kind, states[i * size // count])
+        m.claim(kind, f"{states[i * size // count]} [0]")
     return m
 
 
 # the design, and the options of its task
 TASKS = {
     "ring_stride": ((ring, 10_000), "mode bmc\ndepth 200\nstride 10\n"),
-    "covers_200": ((bank, 100_000, "cover", 200), "mode cover\ndepth 50\n"),
-    "bmc_1000": ((bank, 20_000, "assert", 1), "mode bmc\ndepth 1000\n"),
+    "covers_200": ((bank, 2_000, 50, "cover", 200), "mode cover\ndepth 50\n"),
+    "bmc_1000": ((bank, 400, 50, "assert", 1), "mode bmc\ndepth 1000\n"),
 }
 
 
@@ -72,7 +73,7 @@ def main():
             with open(os.path.join(folder, "t.sby"), "w") as file:
                 file.write(f"[options]\n{options}[engines]\nbtor true\n[script]\nread_rtlil x.il\n[files]\nx.il\n")
             alone = run([sby, "--judge", "x.il", "bmc", "1"], words.seconds, said, folder)
-            whole = run([sby, "t.sby"], words.seconds, said, folder)
+            whole = run([sby, "t.sby"], words.seconds, said, folder, file_limit=32 << 30)
             count, put = files_in(folder)
             print(f"{name:13}{os.path.getsize(text) / 1e6:10.1f}{alone.user:9.2f}{alone.mb:7.0f}{whole.user:8.2f}{whole.mb:7.0f}{whole.wall:8.1f}{count:7}{put:8.0f}  {last_line(said)}", flush=True)
             if whole.over or "UNKNOWN" not in last_line(said):
