@@ -2,7 +2,7 @@
 use Rattle.std.proofs.Common.{◌≡◌, ◌⊎◌, inl, inr, ℕ, zero, suc, ◌+◌, ◌<◌, ◌≤◌, ◌≢◌, List, [], ◌∷◌, ◌++◌, Some, length, get_or, set, take, replicate, refl, sym, ap, subst, ◌∙◌, arith}
 use Rattle.std.specs.Prelude.{Contains, slice_get}
 use Rattle.std.proofs.lemmas.Bool.{cases_eq, cases_lt}
-use Rattle.std.proofs.lemmas.List.{length-append, length-set}
+use Rattle.std.proofs.lemmas.List.{length-append}
 use Rattle.std.proofs.lemmas.Option.{get_or_from_slice_get, slice_get-get_or, slice_get_read, slice_get_within}
 use Rattle.cnf_form.specs.Cnf.{LitOf}
 use Rattle.gate_graph.specs.declared.gate.Gate.{Gate}
@@ -96,26 +96,6 @@ module _ (place : Gate → ℕ) where
             let s = same_gate entries n i k j l o x at e in
             rw (x, v, sym s) (old.at_heads (place k) link head)
 
-    -- the last entry is taken back: the last at its place is the one before it
-    pub linked_back : slice_get links n ≡ Some link → AreLinked place heads links entries (n + 1) → AreLinked place (set heads (place k) link) links entries n
-    linked_back chain old = record { at_heads = λ p m h. by_place p m h (cases_eq p (place k)); at_links = λ i m j o h e f. old.at_links i m j o (omega arith) e f }
-      where
-        by_place : (p m : ℕ) → slice_get (set heads (place k) link) p ≡ Some m → (p ≡ place k) ⊎ (p ≢ place k) → IsLink place entries n p m
-        by_place p m h (inl q) =
-            let v = written heads (place k) p link m inside q h in
-            rw (q, v) (old.at_links n link k l (omega arith) at chain)
-        by_place p m h (inr ne) =
-            let was = old.at_heads p m (sym (set_beside heads (place k) p link ne) ∙ h) in
-            let b = was.below in
-            record {
-              below = elim (cases_lt n m) as (λ _. m ≤ n) [
-                | inl x ↦ absurd (ne (sym (was.same n k l (omega arith) at)))
-                | inr x ↦ omega arith
-              ];
-              last = λ i j o c f g. was.last i j o (omega arith) f g;
-              same = was.same;
-            }
-
 -- the entries that have the gate stand before the link, and what the link names has its place
 pub record IsAhead (place : Gate → ℕ) (entries : List (Gate × LitOf)) (k : Gate) (link : ℕ) : Type 0 where
   pub below : link ≤ length entries
@@ -167,14 +147,29 @@ push_at : {A : Type 0} (xs : List A) (x : A) → slice_get (xs ++ x ∷ []) (len
 push_at [] x = refl
 push_at (y ∷ xs) x = push_at xs x
 
+linked_more : (place : Gate → ℕ) (heads links : List ℕ) (entries : List (Gate × LitOf)) (link n : ℕ) → n ≤ length links → AreLinked place heads links entries n → AreLinked place heads (links ++ link ∷ []) entries n
+linked_more place heads links entries link n long old = record {
+  at_heads = old.at_heads;
+  at_links = λ i m k l h e at. old.at_links i m k l h e (sym (push_before links link i (omega arith)) ∙ at);
+}
+
 module _ (heads links : List ℕ) (entries : List (Gate × LitOf)) (table : IsTable heads links entries) where
   -- the link at an entry
   pub chain_at : (number next : ℕ) (e : Gate × LitOf) → number < length entries → slice_get entries number ≡ Some e → next ≡ get_or links number next →
       IsLink (place_of (length heads)) entries number (place_of (length heads) e.0) next
   chain_at number next e h at is =
-      let m = table.places.as_many in
-      let r = table.places.room in
+      let m = table.places.many in
       table.linked.at_links number next e.0 e.1 h at (slice_get_read links (length links) number next refl (omega arith) is)
+
+  -- a link more than there are entries
+  pub table_more : (link : ℕ) → IsTable heads (links ++ link ∷ []) entries
+  table_more link =
+      let n = length-append links (link ∷ []) in
+      let m = table.places.many in
+      record {
+        places = record { some = table.places.some; few = table.places.few; room = table.places.room; many = omega arith };
+        linked = linked_more (place_of (length heads)) heads links entries link (length entries) m table.linked;
+      }
 
   pub table_push : (hs ls : List ℕ) (k : Gate) (l : LitOf) → HasPlaces hs ls (length entries + 1) → length hs ≡ length heads →
       ((es : List (Gate × LitOf)) (m : LitOf) → slice_get es (length entries) ≡ Some (k, m) → AreLinked (place_of (length heads)) heads links es (length entries)
@@ -187,24 +182,3 @@ module _ (heads links : List ℕ) (entries : List (Gate × LitOf)) (table : IsTa
         places = rw n places;
         linked = rw (n, size) (step es l (push_at entries (k, l)) before);
       }
-
-  pub table_back : (before : List (Gate × LitOf)) (k : Gate) (l : LitOf) (link : ℕ) → entries ≡ before ++ (k, l) ∷ [] → link ≡ get_or links (length before) link →
-      IsTable (set heads (place_of (length heads) k) link) links before
-  table_back before k l link e is =
-      let n : length entries ≡ length before + 1 = ap (λ (es : List (Gate × LitOf)). length es) e ∙ length-append before ((k, l) ∷ []) in
-      let m = table.places.as_many in
-      let r = table.places.room in
-      let s = table.places.some in
-      let at : slice_get entries (length before) ≡ Some (k, l) = ap (λ (es : List (Gate × LitOf)). slice_get es (length before)) e ∙ push_at before (k, l) in
-      let size = length-set heads (place_of (length heads) k) link in
-      let linked = subst (λ (c : ℕ). AreLinked (place_of (length heads)) heads links entries c) n table.linked in
-      let back = linked_back (place_of (length heads)) heads links entries (length before) k l link (place_inside heads k s) at (slice_get_read links (length links) (length before) link refl (omega arith) is) linked in
-      record {
-        places = record { some = rw size s; few = rw size table.places.few; as_many = m ∙ sym size; room = rw size (omega arith) };
-        linked = rw size
-            (linked_front (place_of (length heads)) entries before (length before) (λ i h. sym (push_before before (k, l) i h) ∙ ap (λ (es : List (Gate × LitOf)). slice_get es i) (sym e))
-            (set heads (place_of (length heads) k) link) links back);
-      }
-    where
-      place_inside : (hs : List ℕ) (j : Gate) → 1 ≤ length hs → place_of (length hs) j < length hs
-      place_inside hs j some = omega arith

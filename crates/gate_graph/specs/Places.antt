@@ -30,12 +30,12 @@ pub record AreLinked (place_of : Gate → ℕ) (heads links : List ℕ) (entries
   pub at_heads : (p link : ℕ) → slice_get heads p ≡ Some link → IsLink place_of entries n p link
   pub at_links : (i link : ℕ) (k : Gate) (l : LitOf) → i < n → slice_get entries i ≡ Some (k, l) → slice_get links i ≡ Some link → IsLink place_of entries i (place_of k) link
 
--- at least one place, and no more entries than places
+-- at least one place, at most two entries for each, and a link for each entry
 pub record HasPlaces (heads links : List ℕ) (count : ℕ) : Type 0 where
   pub some : 1 ≤ length heads
-  pub few : length heads ≤ 2 ^ 31
-  pub as_many : length links ≡ length heads
-  pub room : count ≤ length heads
+  pub few : length heads ≤ 2 ^ 30
+  pub room : count ≤ 2 * length heads
+  pub many : count ≤ length links
 
 pub record IsTable (heads links : List ℕ) (entries : List (Gate × LitOf)) : Type 0 where
   pub places : HasPlaces heads links (length entries)

@@ -9,10 +9,10 @@ use cnf_form::Lit;
 use std::alloc::{AllocError, Global};
 use std::marker::Model;
 
-// The places of a table at first, and at most.
+// The places of a table at first, and at most. There are at most two entries for each place.
 const FIRST_PLACES: usize = 16;
 
-const MOST_PLACES: usize = 1 << 31;
+const MOST_PLACES: usize = 1 << 30;
 
 // Gates with their literals, which are found by the gate.
 #[derive(Drop)]
@@ -80,6 +80,7 @@ fn link(heads: &mut [u32], links: &mut [u32], count: usize, gate: &Gate)
     requires places { HasPlaces heads.old links.old (count + 1) }
     ensures places { HasPlaces heads.new links.new (count + 1) }
     ensures size { length heads.new ≡ length heads.old }
+    ensures chains { length links.new ≡ length links.old }
     ensures linked { (entries : List (Gate × LitOf)) (l : LitOf) → slice_get entries count ≡ Some (gate.now, l) → AreLinked (place_of (length heads.old)) heads.old links.old entries count
         → AreLinked (place_of (length heads.old)) heads.new links.new entries (count + 1) }
 {
@@ -92,7 +93,8 @@ fn link(heads: &mut [u32], links: &mut [u32], count: usize, gate: &Gate)
 fn link_all(heads: &mut [u32], links: &mut [u32], entries: &[(Gate, Lit)])
     requires places { HasPlaces heads.old links.old (length entries.now) }
     requires empty { heads.old ≡ replicate (length heads.old) 0 }
-    ensures { IsTable heads.new links.new entries.now }
+    ensures chains { length links.new ≡ length links.old }
+    ensures table { IsTable heads.new links.new entries.now }
 {
     for (count, entry) in entries.iter().enumerate() {
         link(heads, links, count, &entry.0);
@@ -105,12 +107,11 @@ impl Kept {
         ensures { IfOk result (λ kept. kept ≡ []) }
     {
         let heads = zeros(alloc, FIRST_PLACES)?;
-        let links = zeros(alloc, FIRST_PLACES)?;
         Ok(Kept {
             alloc,
             entries: Vec::new(alloc),
             heads,
-            links,
+            links: Vec::new(alloc),
         })
     }
 
@@ -131,7 +132,7 @@ impl Kept {
         None
     }
 
-    // Twice the places, if there may be this many.
+    // Twice the places, if there may be this many. The entries are linked again in the same lists, so that no second table is held.
     fn grow(&mut self) -> Result<(), AllocError>
         ensures same { self.new ≡ self.old }
     {
@@ -139,11 +140,9 @@ impl Kept {
         if places > MOST_PLACES {
             return Ok(());
         }
-        let mut heads = zeros(self.alloc, places)?;
-        let mut links = zeros(self.alloc, places)?;
-        link_all(&mut heads, &mut links, &self.entries);
-        self.heads = heads;
-        self.links = links;
+        self.heads.resize(places, 0)?;
+        self.heads.fill(0);
+        link_all(&mut self.heads, &mut self.links, &self.entries);
         Ok(())
     }
 
@@ -152,13 +151,14 @@ impl Kept {
         ensures ok { OnOk result (self.new ≡ self.old ++ (gate, l) ∷ []) }
         ensures err { OnErr result (self.new ≡ self.old) }
     {
-        if self.entries.len() == self.heads.len() {
+        if self.entries.len() == 2 * self.heads.len() {
             self.grow()?;
         }
         let count = self.entries.len();
-        if count >= self.heads.len() {
+        if count >= 2 * self.heads.len() {
             return Err(AllocError);
         }
+        self.links.push(0)?;
         self.entries.push((gate, l))?;
         link(&mut self.heads, &mut self.links, count, &gate);
         Ok(())

@@ -1,3 +1,4 @@
+pub mod Compacting
 pub mod Settling
 pub mod Stepping
 pub mod Numbering

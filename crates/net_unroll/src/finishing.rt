@@ -143,43 +143,22 @@ fn renumbered_gate(numbers: &[u32], gate: Gate) -> Gate
     }
 }
 
-// The marked gates by their variables' numbers.
-fn renumbered_gates(
-    alloc: Global,
-    kept: &[(Gate, Lit)],
-    marks: &[bool],
-    numbers: &[u32],
-) -> Result<Vec<(Gate, Lit)>, AllocError>
+// Leaves the marked gates, by their variables' numbers. Each is written where it stands or before, so no second list is needed.
+fn renumber_gates(kept: &mut Vec<(Gate, Lit)>, marks: &[bool], numbers: &[u32])
     requires size { length marks.now ≡ length numbers.now }
-    requires kept { All (λ e. OthersWithin (length numbers.now - 1) (operands e.0) × LitWithin (length numbers.now - 1) e.1) kept.now }
+    requires kept { All (λ e. OthersWithin (length numbers.now - 1) (operands e.0) × LitWithin (length numbers.now - 1) e.1) kept.old.items }
     requires numbers { AreNumbers numbers.now }
-    ensures { IfOk result (λ gates. (test : ℕ → Bool) → HasNumbers numbers.now test → HasMarks marks.now test → gates.items ≡ map (renumbered_entry test) (filter (λ e. test e.1.var) kept.now)) }
+    ensures { (test : ℕ → Bool) → HasNumbers numbers.now test → HasMarks marks.now test → kept.new.items ≡ map (renumbered_entry test) (filter (λ e. test e.1.var) kept.old.items) }
 {
-    let mut gates = Vec::new(alloc);
-    for entry in kept {
-        push_gate(&mut gates, entry, marks, numbers)?;
+    let mut count = 0;
+    for place in 0..kept.len() {
+        let (gate, lit) = kept[place];
+        if marks[lit.var() as usize] {
+            kept[count] = (renumbered_gate(numbers, gate), renumbered(numbers, lit));
+            count += 1;
+        }
     }
-    Ok(gates)
-}
-
-// Puts a gate after the others, if it has a mark.
-fn push_gate(
-    gates: &mut Vec<(Gate, Lit)>,
-    entry: &(Gate, Lit),
-    marks: &[bool],
-    numbers: &[u32],
-) -> Result<(), AllocError>
-    requires size { length marks.now ≡ length numbers.now }
-    requires gate { OthersWithin (length numbers.now - 1) (operands entry.now.0) }
-    requires literal { LitWithin (length numbers.now - 1) entry.now.1 }
-    requires numbers { AreNumbers numbers.now }
-    ensures { OnOk result ((test : ℕ → Bool) → HasNumbers numbers.now test → HasMarks marks.now test → gates.new.items ≡ gates.old.items ++ map (renumbered_entry test) (filter (λ e. test e.1.var) (entry.now ∷ []))) }
-{
-    if marks[entry.1.var() as usize] {
-        let gate = renumbered_gate(numbers, entry.0);
-        gates.push((gate, renumbered(numbers, entry.1)))?;
-    }
-    Ok(())
+    kept.truncate(count);
 }
 
 // The marked free variables by their numbers.
@@ -277,7 +256,7 @@ pub fn finish(alloc: Global, made: Making) -> Result<Finished, AllocError>
     let numbers = numbers_of(alloc, marks.as_slice())?;
     let finished = renumber(
         alloc,
-        kept.as_slice(),
+        kept,
         free.as_slice(),
         goals.as_slice(),
         marks.as_slice(),
@@ -289,7 +268,7 @@ pub fn finish(alloc: Global, made: Making) -> Result<Finished, AllocError>
 // What has a mark, by numbers.
 fn renumber(
     alloc: Global,
-    kept: &[(Gate, Lit)],
+    kept: Vec<(Gate, Lit)>,
     free: &[Free],
     goals: &[Lit],
     marks: &[bool],
@@ -297,16 +276,17 @@ fn renumber(
 ) -> Result<Finished, AllocError>
     requires some { 1 ≤ length numbers.now }
     requires size { length marks.now ≡ length numbers.now }
-    requires kept { All (λ e. OthersWithin (length numbers.now - 1) (operands e.0) × LitWithin (length numbers.now - 1) e.1) kept.now }
+    requires kept { All (λ e. OthersWithin (length numbers.now - 1) (operands e.0) × LitWithin (length numbers.now - 1) e.1) kept.items }
     requires free { All (λ f. (0 < f.var) × (f.var < length numbers.now)) free.now }
     requires goals { All (LitWithin (length numbers.now - 1)) goals.now }
     requires numbers { AreNumbers numbers.now }
     ensures vars { IfOk result (λ f. f.vars ≡ slice_index numbers.now (length numbers.now - 1)) }
-    ensures gates { IfOk result (λ f. (test : ℕ → Bool) → HasNumbers numbers.now test → HasMarks marks.now test → f.gates.items ≡ map (renumbered_entry test) (filter (λ e. test e.1.var) kept.now)) }
+    ensures gates { IfOk result (λ f. (test : ℕ → Bool) → HasNumbers numbers.now test → HasMarks marks.now test → f.gates.items ≡ map (renumbered_entry test) (filter (λ e. test e.1.var) kept.items)) }
     ensures free { IfOk result (λ f. (test : ℕ → Bool) → HasNumbers numbers.now test → HasMarks marks.now test → f.free.items ≡ map (renumbered_free test) (filter (λ g. test g.var) free.now)) }
     ensures goals { IfOk result (λ f. (test : ℕ → Bool) → HasNumbers numbers.now test → f.goals.items ≡ map (renumbered_lit test) goals.now) }
 {
-    let gates = renumbered_gates(alloc, kept, marks, numbers)?;
+    let mut gates = kept;
+    renumber_gates(&mut gates, marks, numbers);
     let free = renumbered_frees(alloc, free, marks, numbers)?;
     let goals = renumbered_lits(alloc, goals, numbers)?;
     Ok(Finished {

@@ -8,7 +8,6 @@ pub returns-clause-linked : goal.returns-clause-linked
 returns-clause-linked c = λ entries l at old.
     let p = c.place_of-place.ensures.place in
     let i = c.place_of-place.ensures.inside in
-    let r = c.requires.places.room in
-    let m = c.requires.places.as_many in
+    let m = c.requires.places.many in
     rw p (linked_next (place_of (length c.args.heads.now)) c.args.heads.now c.args.links.now entries c.args.count c.args.gate.now l _ (rw p at i) at (omega arith)
     (slice_get-get_or c.args.heads.now (place_of (length c.args.heads.now) c.args.gate.now) 0 (rw p at i)) old)

@@ -6,19 +6,17 @@ use Rattle.gate_graph.proofs.Linking.{linked_none}
 use Rattle.gate_graph.proofs.kept.link_all.Goals as goal
 
 pub link-requires : goal.link-requires
-link-requires c = let p = c.loop-count.invariant.places in record {
-  places = record {
-    some = p.some;
-    few = p.few;
-    as_many = p.as_many;
-    room = let r = p.room in let h = c.loop-count-test.true in omega arith;
-  };
-}
+link-requires c = let p = c.loop-count.invariant.places in
+    let h = c.loop-count-test.true in
+    let m = p.many in
+    let r = p.room in
+    record { places = record { some = p.some; few = p.few; room = omega arith; many = omega arith } }
 
 pub loop-count-init : goal.loop-count-init
 loop-count-init c = record {
   places = c.requires.places;
   size = refl;
+  chains = refl;
   linked = let n = length c.args.heads.now in
       subst (λ (hs : List ℕ). AreLinked (place_of n) hs c.args.links.now c.args.entries.now 0) (sym c.requires.empty) (linked_none (place_of n) n c.args.links.now c.args.entries.now);
 }
@@ -34,9 +32,10 @@ loop-count-preserved c =
       places = record {
         some = new.places.some;
         few = new.places.few;
-        as_many = new.places.as_many;
         room = let r = old.places.room in let s = new.size in omega arith;
+        many = let m = old.places.many in let s = new.chains in omega arith;
       };
       size = new.size ∙ old.size;
+      chains = new.chains ∙ old.chains;
       linked = (rw old.size at step) old.linked;
     }

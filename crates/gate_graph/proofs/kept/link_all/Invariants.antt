@@ -6,5 +6,6 @@ abbrev pub invariant-loop-count : goal.invariant-loop-count
 invariant-loop-count l = record {
   places : HasPlaces l.heads l.links (length l.entries);
   size : length l.heads ≡ length l.fn.heads;
+  chains : length l.links ≡ length l.fn.links;
   linked : AreLinked (place_of (length l.fn.heads)) l.heads l.links l.entries l.count;
 }

@@ -26,66 +26,66 @@ marks_of-requires-clause-kept c =
 pub renumber-requires-clause-kept : goal.renumber-requires-clause-kept
 renumber-requires-clause-kept c =
     let g = c.args.made.gates in
-    let s : c.as_slice-4.result.now ≡ c.args.made.gates.kept = c.as_slice-4.ensures.value ∙ c.into_kept-kept.ensures in
-    let a = ap length c.as_slice-8.ensures.value in
+    let s : c.into_kept-kept.result.items ≡ c.args.made.gates.kept = c.into_kept-kept.ensures in
+    let a = ap length c.as_slice-7.ensures.value in
     let b = c.in_ok-numbers.ensures.size in
     let d = ap length c.as_slice-3.ensures.value in
     let e = c.in_ok-marks.ensures.size in
     let f = c.vars-vars.ensures in
-    let size : c.args.made.gates.formula.vars ≡ length c.as_slice-8.result.now - 1 = omega arith in
-    subst (λ (n : ℕ). All (λ (e : Gate × LitOf). OthersWithin n (operands e.0) × LitWithin n e.1) c.as_slice-4.result.now) size
+    let size : c.args.made.gates.formula.vars ≡ length c.as_slice-7.result.now - 1 = omega arith in
+    subst (λ (n : ℕ). All (λ (e : Gate × LitOf). OthersWithin n (operands e.0) × LitWithin n e.1) c.into_kept-kept.result.items) size
     (subst (λ (es : List (Gate × LitOf)). All (λ (e : Gate × LitOf). OthersWithin g.formula.vars (operands e.0) × LitWithin g.formula.vars e.1) es) (sym s) (kept_within g c.promise.ensures.kept))
 
 pub renumber-requires-clause-numbers : goal.renumber-requires-clause-numbers
 renumber-requires-clause-numbers c =
     let g = c.args.made.gates in
-    let a = ap length c.as_slice-8.ensures.value in
+    let a = ap length c.as_slice-7.ensures.value in
     let b = c.in_ok-numbers.ensures.size in
     let d = ap length c.as_slice-3.ensures.value in
     let e = c.in_ok-marks.ensures.size in
     let f = c.vars-vars.ensures in
     let low = c.promise.ensures.room.below in
     let limit = c.promise.ensures.room.limit in
-    let few : length c.as_slice-8.result.now ≤ MAX_VARS + 1 = omega arith in
-    let long : length c.as_slice-8.result.now ≡ length c.as_slice-3.result.now = a ∙ b in
+    let few : length c.as_slice-7.result.now ≤ MAX_VARS + 1 = omega arith in
+    let long : length c.as_slice-7.result.now ≡ length c.as_slice-3.result.now = a ∙ b in
     let marks : HasMarks c.as_slice-3.result.now (spread c.as_slice.result.now (begins c.as_slice-2.result.now)) = subst (λ (ms : List Bool). HasMarks ms (spread c.as_slice.result.now (begins c.as_slice-2.result.now))) (sym c.as_slice-3.ensures.value) c.in_ok-marks.ensures.marks in
-    let numbers : HasNumbers c.as_slice-8.result.now (λ v. slice_index_or c.as_slice-3.result.now v false) = subst (λ (ns : List ℕ). HasNumbers ns (λ v. slice_index_or c.as_slice-3.result.now v false)) (sym c.as_slice-8.ensures.value) c.in_ok-numbers.ensures.numbers in
-    are_numbers c.as_slice-8.result.now (spread c.as_slice.result.now (begins c.as_slice-2.result.now)) (truth_kept c.as_slice.result.now c.as_slice-2.result.now) few
-    (numbers_same c.as_slice-8.result.now c.as_slice-3.result.now (spread c.as_slice.result.now (begins c.as_slice-2.result.now)) long numbers marks)
+    let numbers : HasNumbers c.as_slice-7.result.now (λ v. slice_index_or c.as_slice-3.result.now v false) = subst (λ (ns : List ℕ). HasNumbers ns (λ v. slice_index_or c.as_slice-3.result.now v false)) (sym c.as_slice-7.ensures.value) c.in_ok-numbers.ensures.numbers in
+    are_numbers c.as_slice-7.result.now (spread c.as_slice.result.now (begins c.as_slice-2.result.now)) (truth_kept c.as_slice.result.now c.as_slice-2.result.now) few
+    (numbers_same c.as_slice-7.result.now c.as_slice-3.result.now (spread c.as_slice.result.now (begins c.as_slice-2.result.now)) long numbers marks)
 
 pub returns-clause-vars : goal.returns-clause-vars
 returns-clause-vars c =
-    let (m, n) = lent c.args.made.gates.kept c.as_slice.result.now c.args.made.goals.items c.as_slice-2.result.now c.in_ok-marks.marks.items c.as_slice-3.result.now c.as_slice-7.result.now c.in_ok-numbers.numbers.items c.as_slice-8.result.now
-    (c.as_slice.ensures.value ∙ c.into_kept-kept.ensures) c.as_slice-2.ensures.value c.as_slice-3.ensures.value c.as_slice-7.ensures.value c.as_slice-8.ensures.value c.in_ok-marks.ensures.marks c.in_ok-numbers.ensures.size c.in_ok-numbers.ensures.numbers in
-    let a = ap length c.as_slice-8.ensures.value in
+    let (m, n) = lent c.args.made.gates.kept c.as_slice.result.now c.args.made.goals.items c.as_slice-2.result.now c.in_ok-marks.marks.items c.as_slice-3.result.now c.as_slice-6.result.now c.in_ok-numbers.numbers.items c.as_slice-7.result.now
+    (c.as_slice.ensures.value ∙ c.into_kept-kept.ensures) c.as_slice-2.ensures.value c.as_slice-3.ensures.value c.as_slice-6.ensures.value c.as_slice-7.ensures.value c.in_ok-marks.ensures.marks c.in_ok-numbers.ensures.size c.in_ok-numbers.ensures.numbers in
+    let a = ap length c.as_slice-7.ensures.value in
     let b = c.in_ok-numbers.ensures.size in
     let d = ap length c.as_slice-3.ensures.value in
     let e = c.in_ok-marks.ensures.size in
     let f = c.vars-vars.ensures in
-    let size : length c.as_slice-8.result.now - 1 ≡ c.args.made.gates.formula.vars = omega arith in
-    let inside : length c.as_slice-8.result.now - 1 < length c.as_slice-8.result.now = omega arith in
-    c.in_ok-finished.ensures.vars ∙ n.each (length c.as_slice-8.result.now - 1) inside ∙ ap (number (is_kept (made_of c.args.made))) size
+    let size : length c.as_slice-7.result.now - 1 ≡ c.args.made.gates.formula.vars = omega arith in
+    let inside : length c.as_slice-7.result.now - 1 < length c.as_slice-7.result.now = omega arith in
+    c.in_ok-finished.ensures.vars ∙ n.each (length c.as_slice-7.result.now - 1) inside ∙ ap (number (is_kept (made_of c.args.made))) size
 
 pub returns-clause-gates : goal.returns-clause-gates
 returns-clause-gates c =
-    let (m, n) = lent c.args.made.gates.kept c.as_slice.result.now c.args.made.goals.items c.as_slice-2.result.now c.in_ok-marks.marks.items c.as_slice-3.result.now c.as_slice-7.result.now c.in_ok-numbers.numbers.items c.as_slice-8.result.now
-    (c.as_slice.ensures.value ∙ c.into_kept-kept.ensures) c.as_slice-2.ensures.value c.as_slice-3.ensures.value c.as_slice-7.ensures.value c.as_slice-8.ensures.value c.in_ok-marks.ensures.marks c.in_ok-numbers.ensures.size c.in_ok-numbers.ensures.numbers in
+    let (m, n) = lent c.args.made.gates.kept c.as_slice.result.now c.args.made.goals.items c.as_slice-2.result.now c.in_ok-marks.marks.items c.as_slice-3.result.now c.as_slice-6.result.now c.in_ok-numbers.numbers.items c.as_slice-7.result.now
+    (c.as_slice.ensures.value ∙ c.into_kept-kept.ensures) c.as_slice-2.ensures.value c.as_slice-3.ensures.value c.as_slice-6.ensures.value c.as_slice-7.ensures.value c.in_ok-marks.ensures.marks c.in_ok-numbers.ensures.size c.in_ok-numbers.ensures.numbers in
     let t = is_kept (made_of c.args.made) in
-    c.in_ok-finished.ensures.gates t n m ∙ ap (λ (es : List (Gate × LitOf)). map (renumbered_entry t) (filter (λ e. t e.1.var) es)) (c.as_slice-4.ensures.value ∙ c.into_kept-kept.ensures)
+    c.in_ok-finished.ensures.gates t n m ∙ ap (λ (es : List (Gate × LitOf)). map (renumbered_entry t) (filter (λ e. t e.1.var) es)) c.into_kept-kept.ensures
 
 pub returns-clause-free : goal.returns-clause-free
 returns-clause-free c =
-    let (m, n) = lent c.args.made.gates.kept c.as_slice.result.now c.args.made.goals.items c.as_slice-2.result.now c.in_ok-marks.marks.items c.as_slice-3.result.now c.as_slice-7.result.now c.in_ok-numbers.numbers.items c.as_slice-8.result.now
-    (c.as_slice.ensures.value ∙ c.into_kept-kept.ensures) c.as_slice-2.ensures.value c.as_slice-3.ensures.value c.as_slice-7.ensures.value c.as_slice-8.ensures.value c.in_ok-marks.ensures.marks c.in_ok-numbers.ensures.size c.in_ok-numbers.ensures.numbers in
+    let (m, n) = lent c.args.made.gates.kept c.as_slice.result.now c.args.made.goals.items c.as_slice-2.result.now c.in_ok-marks.marks.items c.as_slice-3.result.now c.as_slice-6.result.now c.in_ok-numbers.numbers.items c.as_slice-7.result.now
+    (c.as_slice.ensures.value ∙ c.into_kept-kept.ensures) c.as_slice-2.ensures.value c.as_slice-3.ensures.value c.as_slice-6.ensures.value c.as_slice-7.ensures.value c.in_ok-marks.ensures.marks c.in_ok-numbers.ensures.size c.in_ok-numbers.ensures.numbers in
     let t = is_kept (made_of c.args.made) in
-    c.in_ok-finished.ensures.free t n m ∙ ap (λ (fs : List Free). map (renumbered_free t) (filter (λ f. t f.var) fs)) c.as_slice-5.ensures.value
+    c.in_ok-finished.ensures.free t n m ∙ ap (λ (fs : List Free). map (renumbered_free t) (filter (λ f. t f.var) fs)) c.as_slice-4.ensures.value
 
 pub returns-clause-goals : goal.returns-clause-goals
 returns-clause-goals c =
-    let (m, n) = lent c.args.made.gates.kept c.as_slice.result.now c.args.made.goals.items c.as_slice-2.result.now c.in_ok-marks.marks.items c.as_slice-3.result.now c.as_slice-7.result.now c.in_ok-numbers.numbers.items c.as_slice-8.result.now
-    (c.as_slice.ensures.value ∙ c.into_kept-kept.ensures) c.as_slice-2.ensures.value c.as_slice-3.ensures.value c.as_slice-7.ensures.value c.as_slice-8.ensures.value c.in_ok-marks.ensures.marks c.in_ok-numbers.ensures.size c.in_ok-numbers.ensures.numbers in
+    let (m, n) = lent c.args.made.gates.kept c.as_slice.result.now c.args.made.goals.items c.as_slice-2.result.now c.in_ok-marks.marks.items c.as_slice-3.result.now c.as_slice-6.result.now c.in_ok-numbers.numbers.items c.as_slice-7.result.now
+    (c.as_slice.ensures.value ∙ c.into_kept-kept.ensures) c.as_slice-2.ensures.value c.as_slice-3.ensures.value c.as_slice-6.ensures.value c.as_slice-7.ensures.value c.in_ok-marks.ensures.marks c.in_ok-numbers.ensures.size c.in_ok-numbers.ensures.numbers in
     let t = is_kept (made_of c.args.made) in
-    c.in_ok-finished.ensures.goals t n ∙ ap (map (renumbered t)) c.as_slice-6.ensures.value
+    c.in_ok-finished.ensures.goals t n ∙ ap (map (renumbered t)) c.as_slice-5.ensures.value
 
 pub returns-clause-within : goal.returns-clause-within
 returns-clause-within c =
