@@ -117,14 +117,14 @@ same_formula w c d g =
     let e = ended (taken_of w) g.tried k.1.0 k.1.1 in
     ap (λ (z : CertOf). z.formula) (g.ended ∙ ap (ended_at (taken_of w) g.tried) k.1.1) ∙ e.3 ∙ k.0.formula
 
-pub proof_took_end : (l k : LineOf FileOf CheckerOf) → HasEnded l.parser l.certificate k.certificate → TookEnd (Proof l) (Proof k)
-proof_took_end l k g = (
+pub proof_took_end : (S : Type 0) (l k : LineOf FileOf CheckerOf) → HasEnded l.parser l.certificate k.certificate → TookEnd {S = S} (Proof l) (Proof k)
+proof_took_end S l k g = (
   record { formula = same_formula l.parser l.certificate k.certificate g; kind = refl },
   λ bytes (h, n). record { comes = file_end_comes Text l k.certificate bytes h n g; values = file_end_values Text l k.certificate bytes h n g },
 )
 
-pub binary_took_end : (l k : LineOf FileOf CheckerOf) → HasEnded l.parser l.certificate k.certificate → TookEnd (ProofBinary l) (ProofBinary k)
-binary_took_end l k g = (
+pub binary_took_end : (S : Type 0) (l k : LineOf FileOf CheckerOf) → HasEnded l.parser l.certificate k.certificate → TookEnd {S = S} (ProofBinary l) (ProofBinary k)
+binary_took_end S l k g = (
   record { formula = same_formula l.parser l.certificate k.certificate g; kind = refl },
   λ bytes (h, n). record { comes = file_end_comes Binary l k.certificate bytes h n g; values = file_end_values Binary l k.certificate bytes h n g },
 )

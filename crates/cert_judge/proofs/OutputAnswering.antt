@@ -24,7 +24,7 @@ if_both P Q R (Ok a) f h k = f a h k
 if_both P Q R (Err e) f h k = tt
 
 -- what is told of one judge is told of another with the same formula, kind and number of bytes
-module _ (i j : JudgeOf) (same : IsSameJudge i j) (drup : kind_of i ≡ Drup) (text : List ℕ) where
+module _ {S : Type 0} (i j : JudgeOf S) (same : IsSameJudge i j) (drup : kind_of i ≡ Drup) (text : List ℕ) where
   pub kind_drup : kind_of j ≡ Drup
   kind_drup = same.kind ∙ drup
 
@@ -43,7 +43,7 @@ module _ (i j : JudgeOf) (same : IsSameJudge i j) (drup : kind_of i ≡ Drup) (t
       (subst (λ k. AreValuesTold (formula_of j) (stream_values k (formula_of j).vars ended text j.most) bits x) kind_drup h))
 
 -- bytes after those that the judge took
-stands_goes : (x y : OutputOf) (bytes piece : List ℕ) → Goes x piece y → Stands x bytes → Stands y (bytes ++ piece)
+stands_goes : {S : Type 0} (x y : OutputOf S) (bytes piece : List ℕ) → Goes x piece y → Stands x bytes → Stands y (bytes ++ piece)
 stands_goes x y bytes piece g s = record {
   kind = g.gave.same.kind ∙ s.kind;
   judge =
@@ -52,7 +52,7 @@ stands_goes x y bytes piece g s = record {
   values = g.values ∙ ap (λ z. values_after z x.values piece) s.spot ∙ ap (λ v. values_after (spot_after Start bytes) v piece) s.values ∙ sym (values_append Start false bytes piece);
 }
 
-feeds_read : (x y : OutputOf) (k : JudgeOf) (bytes piece : List ℕ) (o : Option Outcome) → Goes x piece y → Stands x bytes → IsSameJudge y.judge k
+feeds_read : {S : Type 0} (x y : OutputOf S) (k : JudgeOf S) (bytes piece : List ℕ) (o : Option Outcome) → Goes x piece y → Stands x bytes → IsSameJudge y.judge k
     → StreamFeeds y.judge k (given Start (bytes ++ piece) ++ []) o → Feeds x (output k y.spot y.values) (bytes ++ piece) o
 feeds_read x y k bytes piece o g s same h =
     let w = stands_goes x y bytes piece g s in
@@ -70,7 +70,7 @@ feeds_read x y k bytes piece o g s same h =
           (values_same x.judge y.judge g.gave.same s.kind text false (bits_of k) o h.values);
     }
 
-pub feeds_output : {E : Type 0} (x : OutputOf) (j k : JudgeOf) (spot : Spot) (values : Bool) (piece : List ℕ) (r : Result (Option Outcome) E) → Goes x piece (output j spot values)
+pub feeds_output : {E S : Type 0} (x : OutputOf S) (j k : JudgeOf S) (spot : Spot) (values : Bool) (piece : List ℕ) (r : Result (Option Outcome) E) → Goes x piece (output j spot values)
     → IfOk r (λ o. IsSameJudge j k) → ((text : List ℕ) → StreamStands j text → IfOk r (λ o. StreamFeeds j k (text ++ []) o)) → (bytes : List ℕ) → Stands x bytes
     → IfOk r (λ o. Feeds x (output k spot values) (bytes ++ piece) o)
 feeds_output x j k spot values piece r g same f bytes s =
@@ -81,13 +81,13 @@ told_of : (f : FormulaOf) (x : Assignment) (bits : List Bool) (o : Outcome) (ans
 told_of f x bits o None n h = tt
 told_of f x bits o (Some p) n h = subst (AreValuesOf f x bits) (sym (n p refl)) h
 
-both_same : (i j k : JudgeOf) → IsSameJudge i j → IsSameJudge j k → IsSameJudge i k
+both_same : {S : Type 0} (i j k : JudgeOf S) → IsSameJudge i j → IsSameJudge j k → IsSameJudge i k
 both_same i j k a b = record { formula = b.formula ∙ a.formula; kind = b.kind ∙ a.kind; most = b.most ∙ a.most }
 
-pub ends_output : (i : JudgeOf) (spot : Spot) (values : Bool) (j k : JudgeOf) (new : OutputOf) (o : Outcome) (answer : Option Outcome) → Gave i (given_at_end spot) j → IsSameJudge j k
+pub ends_output : {S : Type 0} (i : JudgeOf S) (spot : Spot) (values : Bool) (j k : JudgeOf S) (new : OutputOf S) (o : Outcome) (answer : Option Outcome) → Gave i (given_at_end spot) j → IsSameJudge j k
     → ((text : List ℕ) → StreamStands j text → IsOver k text o) → new.judge ≡ k → fate_told answer ≡ own_fate (values_at_end spot values) (fate_of o)
     → ((p : Outcome) → answer ≡ Some p → p ≡ o) → (bytes : List ℕ) → Stands (output i spot values) bytes → Ends (output i spot values) new bytes answer
-ends_output i spot values j k new o answer g same f is told n bytes s =
+ends_output {S} i spot values j k new o answer g same f is told n bytes s =
     let text : List ℕ = given Start bytes ++ given_at_end spot in
     let e : text ≡ stream_of true bytes = ap (λ z. given Start bytes ++ given_at_end z) s.spot ∙ given_whole bytes in
     let h = f text (g.stands (given Start bytes) s.judge) in
@@ -101,7 +101,7 @@ ends_output i spot values j k new o answer g same f is told n bytes s =
         told ∙ ap (λ w. own_fate w (fate_of o)) v,
       );
       values =
-          subst (λ (z : JudgeOf). AreValuesTold (formula_of i) (stream_values Drup (formula_of i).vars true (stream_of true bytes) i.most) (bits_of z) answer) (sym is)
+          subst (λ (z : JudgeOf S). AreValuesTold (formula_of i) (stream_values Drup (formula_of i).vars true (stream_of true bytes) i.most) (bits_of z) answer) (sym is)
           (subst (λ t. AreValuesTold (formula_of i) (stream_values Drup (formula_of i).vars true t i.most) (bits_of k) answer) e
           (told_of (formula_of i) (stream_values Drup (formula_of i).vars true text i.most) (bits_of k) o answer n (values_same i k all s.kind text true (bits_of k) (Some o) h.values)));
     }

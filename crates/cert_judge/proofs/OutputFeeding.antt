@@ -39,16 +39,16 @@ within_given (Amid (Spelled n)) (b ∷ bs) i h = absurd i
 within_given (Amid Whole) (b ∷ bs) i h = absurd i
 within_given (Amid Passed) (b ∷ bs) i h = absurd i
 
-abbrev pub output : JudgeOf → Spot → Bool → OutputOf
+abbrev pub output : {S : Type 0} → JudgeOf S → Spot → Bool → OutputOf S
 output j spot values = record { judge = j; spot = spot; values = values }
 
-pub goes_within : (j k : JudgeOf) (spot : Spot) (values : Bool) (t : List ℕ) → IsWithin spot → NoFeed t → Gave j t k → Goes (output j spot values) t (output k spot values)
+pub goes_within : {S : Type 0} (j k : JudgeOf S) (spot : Spot) (values : Bool) (t : List ℕ) → IsWithin spot → NoFeed t → Gave j t k → Goes (output j spot values) t (output k spot values)
 goes_within j k spot values t i h g =
     let w = within_given spot t i h in
     record { gave = subst (λ z. Gave j z k) (sym w.0) g; spot = sym w.1; values = sym (w.2 values) }
 
 -- nothing
-pub gave_nothing : (j : JudgeOf) → Gave j [] j
+pub gave_nothing : {S : Type 0} (j : JudgeOf S) → Gave j [] j
 gave_nothing j = record {
   same = record { formula = refl; kind = refl; most = refl };
   stands = λ text s. subst (StreamStands j) (sym (append-nil text)) s;
@@ -56,21 +56,21 @@ gave_nothing j = record {
   wanting = λ w. w;
 }
 
-pub goes_nothing : (x : OutputOf) → Goes x [] x
+pub goes_nothing : {S : Type 0} (x : OutputOf S) → Goes x [] x
 goes_nothing x = record { gave = gave_nothing x.judge; spot = refl; values = refl }
 
 -- one piece and then another
-gave_append : (j k l : JudgeOf) (a b : List ℕ) → Gave j a k → Gave k b l → Gave j (a ++ b) l
-gave_append j k l a b g h = record {
+gave_append : {S : Type 0} (j k l : JudgeOf S) (a b : List ℕ) → Gave j a k → Gave k b l → Gave j (a ++ b) l
+gave_append {S} j k l a b g h = record {
   same = record { formula = h.same.formula ∙ g.same.formula; kind = h.same.kind ∙ g.same.kind; most = h.same.most ∙ g.same.most };
   stands = λ text s. subst (StreamStands l) (append_assoc text a b) (h.stands (text ++ a) (g.stands text s));
   again = λ o w e.
       let i : k ≡ j = g.again o w e in
-      h.again o (ap (λ (z : JudgeOf). z.wanting) i ∙ w) (ap outcome_of i ∙ e) ∙ i;
+      h.again o (ap (λ (z : JudgeOf S). z.wanting) i ∙ w) (ap outcome_of i ∙ e) ∙ i;
   wanting = λ w. h.wanting (g.wanting w);
 }
 
-pub goes_append : (x y z : OutputOf) (a b : List ℕ) → Goes x a y → Goes y b z → Goes x (a ++ b) z
+pub goes_append : {S : Type 0} (x y z : OutputOf S) (a b : List ℕ) → Goes x a y → Goes y b z → Goes x (a ++ b) z
 goes_append x y z a b g h = record {
   gave = subst (λ t. Gave x.judge t z.judge) (ap (λ s. given x.spot a ++ given s b) g.spot ∙ sym (given_append x.spot a b)) (gave_append x.judge y.judge z.judge (given x.spot a) (given y.spot b) g.gave h.gave);
   spot = h.spot ∙ ap (λ s. spot_after s b) g.spot ∙ sym (spot_append x.spot a b);
@@ -95,7 +95,7 @@ take_whole [] (suc i) l = refl
 take_whole (x ∷ xs) zero l = absurd (omega (arith, l))
 take_whole (x ∷ xs) (suc i) l = ap (λ z. x ∷ z) (take_whole xs i (omega (arith, l)))
 
-module _ (x y z : OutputOf) (piece : List ℕ) (i : ℕ) (g : Goes x (take i piece) y) where
+module _ {S : Type 0} (x y z : OutputOf S) (piece : List ℕ) (i : ℕ) (g : Goes x (take i piece) y) where
   goes_more : (n : ℕ) → Goes y (take n (drop i piece)) z → Goes x (take (i + n) piece) z
   goes_more n h = subst (λ t. Goes x t z) (take_add piece i n) (goes_append x y z (take i piece) (take n (drop i piece)) g h)
 
@@ -105,5 +105,5 @@ module _ (x y z : OutputOf) (piece : List ℕ) (i : ℕ) (g : Goes x (take i pie
   pub goes_next : i < length piece → Goes y (get_or piece i 0 ∷ []) z → Goes x (take (i + 1) piece) z
   goes_next l h = subst (λ t. Goes x t z) (take_next piece i l) (goes_append x y z (take i piece) (get_or piece i 0 ∷ []) g h)
 
-pub goes_all : (x y : OutputOf) (piece : List ℕ) (i : ℕ) → Goes x (take i piece) y → length piece ≤ i → Goes x piece y
+pub goes_all : {S : Type 0} (x y : OutputOf S) (piece : List ℕ) (i : ℕ) → Goes x (take i piece) y → length piece ≤ i → Goes x piece y
 goes_all x y piece i g l = subst (λ t. Goes x t y) (take_whole piece i l) g

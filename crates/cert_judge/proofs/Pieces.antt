@@ -25,7 +25,7 @@ if_ok P Q (Ok a) f h = f a h
 if_ok P Q (Err e) f h = tt
 
 -- this many bytes were taken as there are
-pub at_taken : (l : Lines) (bytes : List ℕ) → At l bytes → lines_taken l ≡ length bytes
+pub at_taken : {S : Type 0} (l : Lines S) (bytes : List ℕ) → At l bytes → lines_taken l ≡ length bytes
 at_taken (Drup l) bytes (h, n) = n
 at_taken (Lrat l) bytes (h, n) = n
 at_taken (Proof l) bytes (h, n) = n
@@ -48,31 +48,31 @@ or_outcome : {C : Type 0} (c : CertificateOf C) (o : Option Outcome) (x : Outcom
 or_outcome c None x e = refl
 or_outcome c (Some w) x e = e
 
-lines_or_formula : (l : Lines) (x : Outcome) → lines_formula (lines_or l x) ≡ lines_formula l
+lines_or_formula : {S : Type 0} (l : Lines S) (x : Outcome) → lines_formula (lines_or l x) ≡ lines_formula l
 lines_or_formula (Drup l) x = or_formula l.certificate l.certificate.outcome x
 lines_or_formula (Lrat l) x = or_formula l.certificate l.certificate.outcome x
 lines_or_formula (Proof l) x = or_formula l.certificate l.certificate.outcome x
 lines_or_formula (ProofBinary l) x = or_formula l.certificate l.certificate.outcome x
 
-lines_or_kind : (l : Lines) (x : Outcome) → lines_kind (lines_or l x) ≡ lines_kind l
+lines_or_kind : {S : Type 0} (l : Lines S) (x : Outcome) → lines_kind (lines_or l x) ≡ lines_kind l
 lines_or_kind (Drup l) x = refl
 lines_or_kind (Lrat l) x = refl
 lines_or_kind (Proof l) x = refl
 lines_or_kind (ProofBinary l) x = refl
 
-lines_or_bits : (l : Lines) (x : Outcome) → lines_bits (lines_or l x) ≡ lines_bits l
+lines_or_bits : {S : Type 0} (l : Lines S) (x : Outcome) → lines_bits (lines_or l x) ≡ lines_bits l
 lines_or_bits (Drup l) x = or_bits l.certificate l.certificate.outcome x
 lines_or_bits (Lrat l) x = or_bits l.certificate l.certificate.outcome x
 lines_or_bits (Proof l) x = or_bits l.certificate l.certificate.outcome x
 lines_or_bits (ProofBinary l) x = or_bits l.certificate l.certificate.outcome x
 
-lines_or_outcome : (l : Lines) (x : Outcome) → lines_outcome (lines_or l x) ≡ some_or (lines_outcome l) x
+lines_or_outcome : {S : Type 0} (l : Lines S) (x : Outcome) → lines_outcome (lines_or l x) ≡ some_or (lines_outcome l) x
 lines_or_outcome (Drup l) x = or_outcome l.certificate l.certificate.outcome x refl
 lines_or_outcome (Lrat l) x = or_outcome l.certificate l.certificate.outcome x refl
 lines_or_outcome (Proof l) x = or_outcome l.certificate l.certificate.outcome x refl
 lines_or_outcome (ProofBinary l) x = or_outcome l.certificate l.certificate.outcome x refl
 
-abbrev pub judge : Lines → ℕ → Bool → JudgeOf
+abbrev pub judge : {S : Type 0} → Lines S → ℕ → Bool → JudgeOf S
 judge l most wanting = record { lines = l; most = most; wanting = wanting }
 
 -- what an outcome is told with
@@ -98,7 +98,7 @@ module _ (kind : StreamKind) (f : FormulaOf) (most : ℕ) where
   refuted_whole bytes o h e = refuted_at_end kind f most bytes (subst (λ (z : Outcome). FateOf kind f bytes most (fate_of z)) e h)
 
 -- an answer from what is known of the new judge
-module _ (old new : JudgeOf) (same : IsSameJudge old new) (bytes : List ℕ) where
+module _ {S : Type 0} (old new : JudgeOf S) (same : IsSameJudge old new) (bytes : List ℕ) where
   pub feeds_of : (o : Option Outcome) → outcome_of new ≡ o → Stands new bytes → FateSoFar (kind_of new) (formula_of new) bytes new.most (fate_told o)
       → AreValuesTold (formula_of new) (stream_values (kind_of new) (formula_of new).vars false bytes new.most) (bits_of new) o → Feeds old new bytes o
   feeds_of o e s h v =
@@ -116,16 +116,16 @@ module _ (old new : JudgeOf) (same : IsSameJudge old new) (bytes : List ℕ) whe
         refuted = refuted_here (kind_of old) (formula_of old) old.most bytes o fate;
       }
 
-pub over_of : (j : JudgeOf) (bytes : List ℕ) (o : Outcome) → outcome_of j ≡ Some o → FateOf (kind_of j) (formula_of j) bytes j.most (fate_of o)
+pub over_of : {S : Type 0} (j : JudgeOf S) (bytes : List ℕ) (o : Outcome) → outcome_of j ≡ Some o → FateOf (kind_of j) (formula_of j) bytes j.most (fate_of o)
     → AreValuesOf (formula_of j) (stream_values (kind_of j) (formula_of j).vars true bytes j.most) (bits_of j) o → IsOver j bytes o
 over_of j bytes o e h v =
     record { outcome = e; whole = h; fate = λ file d. (formula_of j, d, h); values = v; refuted = refuted_whole (kind_of j) (formula_of j) j.most bytes o h }
 
-same_judge : (j : JudgeOf) → IsSameJudge j j
+same_judge : {S : Type 0} (j : JudgeOf S) → IsSameJudge j j
 same_judge j = record { formula = refl; kind = refl; most = refl }
 
 -- a judge with an outcome
-module _ (j : JudgeOf) (o : Outcome) (e : outcome_of j ≡ Some o) (bytes : List ℕ) (s : Stands j bytes) where
+module _ {S : Type 0} (j : JudgeOf S) (o : Outcome) (e : outcome_of j ≡ Some o) (bytes : List ℕ) (s : Stands j bytes) where
   had : HasOutcome j bytes o
   had = subst (StandsBy j bytes) e s
 
@@ -141,7 +141,7 @@ module _ (j : JudgeOf) (o : Outcome) (e : outcome_of j ≡ Some o) (bytes : List
       (told_at_end (kind_of j) (formula_of j) j.most bytes (bits_of j) o had.fate had.values)
 
 -- a judge without one
-module _ (most : ℕ) (l : Lines) (wanting : Bool) (e : lines_outcome l ≡ None) (bytes : List ℕ) (s : Stands (judge l most wanting) bytes) where
+module _ {S : Type 0} (most : ℕ) (l : Lines S) (wanting : Bool) (e : lines_outcome l ≡ None) (bytes : List ℕ) (s : Stands (judge l most wanting) bytes) where
   at : At l bytes × (length bytes ≤ most)
   at = subst (StandsBy (judge l most wanting) bytes) e s
 
@@ -149,7 +149,7 @@ module _ (most : ℕ) (l : Lines) (wanting : Bool) (e : lines_outcome l ≡ None
   count = at_taken l bytes at.0
 
   -- a piece for which there is room
-  module _ (k : Lines) (piece : List ℕ) (t : Took l piece k) (fits : length (bytes ++ piece) ≤ most) where
+  module _ (k : Lines S) (piece : List ℕ) (t : Took l piece k) (fits : length (bytes ++ piece) ≤ most) where
     took : Takes k (bytes ++ piece)
     took = t.1 bytes at.0
 
@@ -177,8 +177,8 @@ module _ (most : ℕ) (l : Lines) (wanting : Bool) (e : lines_outcome l ≡ None
   abbrev too_long : Outcome
   too_long = Bad (record { kind = TooLong; at = most })
 
-  module _ (k : Lines) (piece : List ℕ) (room : ℕ) (all : lines_taken l + room ≡ most) (more : room < length piece) (t : Took l (take room piece) k) where
-    abbrev n : Lines
+  module _ (k : Lines S) (piece : List ℕ) (room : ℕ) (all : lines_taken l + room ≡ most) (more : room < length piece) (t : Took l (take room piece) k) where
+    abbrev n : Lines S
     n = lines_or k too_long
 
     first_most : take most (bytes ++ piece) ≡ bytes ++ take room piece
@@ -245,19 +245,19 @@ module _ (most : ℕ) (l : Lines) (wanting : Bool) (e : lines_outcome l ≡ None
         (record { formula = lines_or_formula k too_long ∙ t.0.formula; kind = lines_or_kind k too_long ∙ t.0.kind; most = refl }) (bytes ++ piece) (lines_outcome n) refl
         (subst (StandsBy (judge n most wanting) (bytes ++ piece)) (sym (lines_or_outcome k too_long)) (past_stands (lines_outcome k) refl)) fate_now values_now
 
-  pub feeds_piece : (k : Lines) (piece : List ℕ) (room : ℕ) → lines_taken l ≤ most → room ≡ most - lines_taken l → TakesPiece (lines_taken l + room) room l piece k
+  pub feeds_piece : (k : Lines S) (piece : List ℕ) (room : ℕ) → lines_taken l ≤ most → room ≡ most - lines_taken l → TakesPiece (lines_taken l + room) room l piece k
       → Feeds (judge l most wanting) (judge k most wanting) (bytes ++ piece) (lines_outcome k)
   feeds_piece k piece room m r (inl (f, t)) = feeds_within k piece t (let n = length-append bytes piece in omega (arith, n, count, f, m, r))
   feeds_piece k piece room m r (inr (i, f, t, q)) =
       let all : lines_taken l + room ≡ most = omega (arith, m, r) in
       let q' : k ≡ lines_or i too_long = subst (λ n. k ≡ lines_or i (Bad (record { kind = TooLong; at = n }))) all q in
-      subst (λ (z : Lines). Feeds (judge l most wanting) (judge z most wanting) (bytes ++ piece) (lines_outcome z)) (sym q') (feeds_past i piece room all f t)
+      subst (λ (z : Lines S). Feeds (judge l most wanting) (judge z most wanting) (bytes ++ piece) (lines_outcome z)) (sym q') (feeds_past i piece room all f t)
 
   -- the stream's end
   abbrev early_end : Outcome
   early_end = Bad (record { kind = EarlyEnd; at = lines_taken l })
 
-  module _ (k : Lines) (t : TookEnd l k) where
+  module _ (k : Lines S) (t : TookEnd l k) where
     tells : Tells true k bytes
     tells = t.1 bytes at.0
 
@@ -298,12 +298,12 @@ module _ (most : ℕ) (l : Lines) (wanting : Bool) (e : lines_outcome l ≡ None
         (subst (λ (z : FormulaOf). AreValuesOf z (stream_values (lines_kind k) z.vars true bytes most) (lines_bits (lines_or k early_end)) x) (sym (lines_or_formula k early_end))
         (subst (λ z. AreValuesOf (lines_formula k) (stream_values (lines_kind k) (lines_formula k).vars true bytes most) z x) (sym (lines_or_bits k early_end)) (end_values (lines_outcome k) refl x i))))
 
-  pub ends_piece : (k : Lines) (o : Outcome) → TakesEnd l k → lines_outcome k ≡ Some o → IsOver (judge k most wanting) bytes o
+  pub ends_piece : (k : Lines S) (o : Outcome) → TakesEnd l k → lines_outcome k ≡ Some o → IsOver (judge k most wanting) bytes o
   ends_piece k o (i, t, q) r =
-      subst (λ (z : Lines). IsOver (judge z most wanting) bytes o) (sym q) (over i t o (ap lines_outcome (sym q) ∙ r))
+      subst (λ (z : Lines S). IsOver (judge z most wanting) bytes o) (sym q) (over i t o (ap lines_outcome (sym q) ∙ r))
 
 -- a call keeps the formula, the kind and the number of bytes
-pub same_piece : (most room : ℕ) (l k : Lines) (piece : List ℕ) (total : ℕ) (wanting : Bool) → TakesPiece total room l piece k → IsSameJudge (judge l most wanting) (judge k most wanting)
+pub same_piece : {S : Type 0} (most room : ℕ) (l k : Lines S) (piece : List ℕ) (total : ℕ) (wanting : Bool) → TakesPiece total room l piece k → IsSameJudge (judge l most wanting) (judge k most wanting)
 same_piece most room l k piece total wanting (inl (f, t)) = record { formula = t.0.formula; kind = t.0.kind; most = refl }
 same_piece most room l k piece total wanting (inr (i, f, t, q)) = record {
   formula = ap lines_formula q ∙ lines_or_formula i _ ∙ t.0.formula;
@@ -311,7 +311,7 @@ same_piece most room l k piece total wanting (inr (i, f, t, q)) = record {
   most = refl;
 }
 
-pub same_end : (most : ℕ) (l k : Lines) (wanting : Bool) → TakesEnd l k → IsSameJudge (judge l most wanting) (judge k most wanting)
+pub same_end : {S : Type 0} (most : ℕ) (l k : Lines S) (wanting : Bool) → TakesEnd l k → IsSameJudge (judge l most wanting) (judge k most wanting)
 same_end most l k wanting (i, t, q) = record {
   formula = ap lines_formula q ∙ lines_or_formula i _ ∙ t.0.formula;
   kind = ap lines_kind q ∙ lines_or_kind i _ ∙ t.0.kind;

@@ -41,7 +41,7 @@ module _ {W S C : Type 0} (p : Parsing W S) (m : Meaning S C) (first : W) (c : C
         values = λ rest. ap (λ x. named_from x (m.lits rest)) none_named ∙ ap (λ (z : List S). named_from unnamed (m.lits (z ++ rest))) (sym q);
       }
 
-module _ (f : FormulaOf) (vars : ℕ) (v : vars ≡ f.vars) where
+module _ (S : Type 0) (f : FormulaOf) (vars : ℕ) (v : vars ≡ f.vars) where
   -- DRUP text
   module _ (w : DrupOf) (c : CertificateOf CheckerOf) (e : w ≡ drup_telling.fresh vars) (g : c.formula ≡ f) (s : c.checker ≡ start f) (l : length c.bits ≡ f.vars + 1)
       (u : (v : ℕ) → values_of c.bits v ≡ false) (n : c.outcome ≡ None) where
@@ -55,7 +55,7 @@ module _ (f : FormulaOf) (vars : ℕ) (v : vars ≡ f.vars) where
     at = first_at drup_parsing drup_meaning (drup_telling.fresh c.formula.vars) c u refl refl refl n (l ∙ ap (λ (z : FormulaOf). z.vars + 1) (sym g))
         (λ rest fate h. subst (λ z. drup.ComesTo c.formula.clauses z unnamed rest fate) same h)
 
-    pub drup_starts : Starts f DrupKind (Drup (record { parser = w; certificate = c }))
+    pub drup_starts : Starts {S = S} f DrupKind (Drup (record { parser = w; certificate = c }))
     drup_starts =
         record {
           formula = g;
@@ -79,7 +79,7 @@ module _ (f : FormulaOf) (vars : ℕ) (v : vars ≡ f.vars) where
     lrat_at = first_at lrat_parsing lrat_meaning (lrat_telling.fresh c.formula.vars) c u refl refl refl n (l ∙ ap (λ (z : FormulaOf). z.vars + 1) (sym g))
         (λ rest fate h. subst (λ z. lrat.ComesTo c.formula.clauses z unnamed rest fate) lrat_same h)
 
-    pub lrat_starts : Starts f LratKind (Lrat (record { parser = w; certificate = c }))
+    pub lrat_starts : Starts {S = S} f LratKind (Lrat (record { parser = w; certificate = c }))
     lrat_starts =
         record {
           formula = g;
@@ -106,7 +106,7 @@ module _ (f : FormulaOf) (vars : ℕ) (v : vars ≡ f.vars) where
     file_at form = first_at file_parsing drup_meaning (file.fresh form c.formula.vars) c u refl (sound form) refl n (l ∙ ap (λ (z : FormulaOf). z.vars + 1) (sym g))
         (λ rest fate h. subst (λ z. drup.ComesTo c.formula.clauses z unnamed rest fate) file_same h)
 
-    pub proof_starts : w ≡ file.fresh Text vars → Starts f ProofKind (Proof (record { parser = w; certificate = c }))
+    pub proof_starts : w ≡ file.fresh Text vars → Starts {S = S} f ProofKind (Proof (record { parser = w; certificate = c }))
     proof_starts e =
         record {
           formula = g;
@@ -117,7 +117,7 @@ module _ (f : FormulaOf) (vars : ℕ) (v : vars ≡ f.vars) where
           taken = ap file.taken_of (file_is Text e);
         }
 
-    pub binary_starts : w ≡ file.fresh Binary vars → Starts f ProofBinaryKind (ProofBinary (record { parser = w; certificate = c }))
+    pub binary_starts : w ≡ file.fresh Binary vars → Starts {S = S} f ProofBinaryKind (ProofBinary (record { parser = w; certificate = c }))
     binary_starts e =
         record {
           formula = g;

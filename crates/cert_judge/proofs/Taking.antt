@@ -104,8 +104,8 @@ counted : (taken : ℕ) (n : ℕ) (bytes piece : List ℕ) → n ≡ length byte
 counted taken n bytes piece e k = let q = length-append bytes piece in omega (arith, e, k, q)
 
 -- DRUP text
-pub drup_took : (l k : LineOf DrupOf CheckerOf) (piece : List ℕ) → Heard drup_parsing drup_meaning l.parser l.certificate piece k.parser k.certificate → Took (Drup l) piece (Drup k)
-drup_took l k piece g = (
+pub drup_took : (S : Type 0) (l k : LineOf DrupOf CheckerOf) (piece : List ℕ) → Heard drup_parsing drup_meaning l.parser l.certificate piece k.parser k.certificate → Took {S = S} (Drup l) piece (Drup k)
+drup_took S l k piece g = (
   record { formula = g.leads.formula; kind = refl },
   λ bytes (h, n). record {
     tells = record {
@@ -129,8 +129,8 @@ drup_took l k piece g = (
         → AreValuesTold f (drup.values_said (drup_telling.spoken false (drup_telling.fresh f.vars) bytes)) bits o → AreValuesTold f (drup.values_named f.vars false bytes) bits o
     values f bytes bits o k v = subst (λ (z : List Saying). AreValuesTold f (drup.values_said z) bits o) (drup_streams.stream_spoken f.vars false bytes) v
 
-pub drup_took_end : (l k : LineOf DrupOf CheckerOf) → Leads drup_meaning l.certificate (drup_ending l.parser) k.certificate → TookEnd (Drup l) (Drup k)
-drup_took_end l k g = (
+pub drup_took_end : (S : Type 0) (l k : LineOf DrupOf CheckerOf) → Leads drup_meaning l.certificate (drup_ending l.parser) k.certificate → TookEnd {S = S} (Drup l) (Drup k)
+drup_took_end S l k g = (
   record { formula = g.formula; kind = refl },
   λ bytes (h, n). record {
     comes = end_comes drup_parsing drup_meaning drup_telling.fresh drup.BytesCome drup.values_named (λ f e x. refl) drup_ending come values l.parser l.certificate k.certificate bytes h g;
@@ -149,8 +149,8 @@ lrat_taken : (w : LratOf) (bytes : List ℕ) → (lrat_telling.after w bytes).ta
 lrat_taken w [] = omega arith
 lrat_taken w (b ∷ bytes) = let e : (lrat_telling.after (lrat_machine.turn w b).to bytes).taken ≡ (w.taken + 1) + length bytes = lrat_taken (lrat_machine.turn w b).to bytes in omega (arith, e)
 
-pub lrat_took : (l k : LineOf LratOf HintedOf) (piece : List ℕ) → Heard lrat_parsing lrat_meaning l.parser l.certificate piece k.parser k.certificate → Took (Lrat l) piece (Lrat k)
-lrat_took l k piece g = (
+pub lrat_took : (S : Type 0) (l k : LineOf LratOf HintedOf) (piece : List ℕ) → Heard lrat_parsing lrat_meaning l.parser l.certificate piece k.parser k.certificate → Took {S = S} (Lrat l) piece (Lrat k)
+lrat_took S l k piece g = (
   record { formula = g.leads.formula; kind = refl },
   λ bytes (h, n). record {
     tells = record {
@@ -174,8 +174,8 @@ lrat_took l k piece g = (
         → AreValuesTold f (lrat.values_said (lrat_telling.spoken false (lrat_telling.fresh f.vars) bytes)) bits o → AreValuesTold f (lrat.values_named f.vars false bytes) bits o
     values f bytes bits o k v = subst (λ (z : List LratSaying). AreValuesTold f (lrat.values_said z) bits o) (lrat_streams.stream_spoken f.vars false bytes) v
 
-pub lrat_took_end : (l k : LineOf LratOf HintedOf) → Leads lrat_meaning l.certificate (lrat_ending l.parser) k.certificate → TookEnd (Lrat l) (Lrat k)
-lrat_took_end l k g = (
+pub lrat_took_end : (S : Type 0) (l k : LineOf LratOf HintedOf) → Leads lrat_meaning l.certificate (lrat_ending l.parser) k.certificate → TookEnd {S = S} (Lrat l) (Lrat k)
+lrat_took_end S l k g = (
   record { formula = g.formula; kind = refl },
   λ bytes (h, n). record {
     comes = end_comes lrat_parsing lrat_meaning lrat_telling.fresh lrat.BytesCome lrat.values_named (λ f e x. refl) lrat_ending come values l.parser l.certificate k.certificate bytes h g;
@@ -251,8 +251,8 @@ module _ (form : Form) where
     pub file_took_count : k.certificate.outcome ≡ None → file.taken_of l.parser ≡ length bytes → file.taken_of k.parser ≡ length (bytes ++ piece)
     file_took_count e n = counted (file.taken_of k.parser) (file.taken_of l.parser) bytes piece n (ap file.taken_of (g.kept e) ∙ after_taken l.parser piece (g.whole e))
 
-pub proof_took : (l k : LineOf FileOf CheckerOf) (piece : List ℕ) → Heard file_parsing drup_meaning l.parser l.certificate piece k.parser k.certificate → Took (Proof l) piece (Proof k)
-proof_took l k piece g = (
+pub proof_took : (S : Type 0) (l k : LineOf FileOf CheckerOf) (piece : List ℕ) → Heard file_parsing drup_meaning l.parser l.certificate piece k.parser k.certificate → Took {S = S} (Proof l) piece (Proof k)
+proof_took S l k piece g = (
   record { formula = g.leads.formula; kind = refl },
   λ bytes (h, n). record {
     tells = record { comes = file_took_comes Text l k piece bytes g h; values = file_took_values Text l k piece bytes g h };
@@ -260,8 +260,8 @@ proof_took l k piece g = (
   },
 )
 
-pub binary_took : (l k : LineOf FileOf CheckerOf) (piece : List ℕ) → Heard file_parsing drup_meaning l.parser l.certificate piece k.parser k.certificate → Took (ProofBinary l) piece (ProofBinary k)
-binary_took l k piece g = (
+pub binary_took : (S : Type 0) (l k : LineOf FileOf CheckerOf) (piece : List ℕ) → Heard file_parsing drup_meaning l.parser l.certificate piece k.parser k.certificate → Took {S = S} (ProofBinary l) piece (ProofBinary k)
+binary_took S l k piece g = (
   record { formula = g.leads.formula; kind = refl },
   λ bytes (h, n). record {
     tells = record { comes = file_took_comes Binary l k piece bytes g h; values = file_took_values Binary l k piece bytes g h };

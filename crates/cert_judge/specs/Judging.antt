@@ -11,47 +11,47 @@ use Rattle.cert_judge.specs.declared.stream.Outcome.TheVariants.{Refuted}
 use Rattle.cert_judge.specs.declared.stream.StreamKind.{StreamKind}
 
 -- what is kept of the bytes so far, the greatest number of bytes, and whether memory ran out
-pub record JudgeOf : Type 0 where
-  pub lines : Lines
+pub record JudgeOf (S : Type 0) : Type 0 where
+  pub lines : Lines S
   pub most : ℕ
   pub wanting : Bool
 
 -- the kind that is judged, the formula, the outcome once there is one, and the values so far
-abbrev pub kind_of : JudgeOf → StreamKind
+abbrev pub kind_of : {S : Type 0} → JudgeOf S → StreamKind
 kind_of j = lines_kind j.lines
 
-abbrev pub formula_of : JudgeOf → FormulaOf
+abbrev pub formula_of : {S : Type 0} → JudgeOf S → FormulaOf
 formula_of j = lines_formula j.lines
 
-abbrev pub outcome_of : JudgeOf → Option Outcome
+abbrev pub outcome_of : {S : Type 0} → JudgeOf S → Option Outcome
 outcome_of j = lines_outcome j.lines
 
-abbrev pub bits_of : JudgeOf → List Bool
+abbrev pub bits_of : {S : Type 0} → JudgeOf S → List Bool
 bits_of j = lines_bits j.lines
 
 -- the outcome is the fate so far of the bytes, with the values that they name
-pub record HasOutcome (j : JudgeOf) (bytes : List ℕ) (o : Outcome) : Type 0 where
+pub record HasOutcome {S : Type 0} (j : JudgeOf S) (bytes : List ℕ) (o : Outcome) : Type 0 where
   pub fate : FateSoFar (kind_of j) (formula_of j) bytes j.most (Some (fate_of o))
   pub values : AreValuesOf (formula_of j) (stream_values (kind_of j) (formula_of j).vars false bytes j.most) (bits_of j) o
 
 -- without an outcome, the bytes, `most` at most, came to nothing yet
-abbrev pub StandsBy : JudgeOf → List ℕ → Option Outcome → Type 0
+abbrev pub StandsBy : {S : Type 0} → JudgeOf S → List ℕ → Option Outcome → Type 0
 StandsBy j bytes None = At j.lines bytes × (length bytes ≤ j.most)
 StandsBy j bytes (Some o) = HasOutcome j bytes o
 
 -- the judge took the bytes of a stream
-abbrev pub Stands : JudgeOf → List ℕ → Type 0
+abbrev pub Stands : {S : Type 0} → JudgeOf S → List ℕ → Type 0
 Stands j bytes = StandsBy j bytes (outcome_of j)
 
 -- the same formula and kind, and the same number of bytes at most
-pub record IsSameJudge (old new : JudgeOf) : Type 0 where
+pub record IsSameJudge {S : Type 0} (old new : JudgeOf S) : Type 0 where
   pub formula : formula_of new ≡ formula_of old
   pub kind : kind_of new ≡ kind_of old
   pub most : new.most ≡ old.most
 
 -- The judge took the bytes, and answers their fate so far for each file of its formula, with the values that they name. Where they refute the
 -- formula, it can't be satisfied.
-pub record Feeds (old new : JudgeOf) (bytes : List ℕ) (o : Option Outcome) : Type 0 where
+pub record Feeds {S : Type 0} (old new : JudgeOf S) (bytes : List ℕ) (o : Option Outcome) : Type 0 where
   pub stands : Stands new bytes
   pub outcome : outcome_of new ≡ o
   pub fate : (file : List ℕ) → IsDimacs file (formula_of old) → IsFateSoFar (kind_of old) file bytes old.most (fate_told o)
@@ -59,7 +59,7 @@ pub record Feeds (old new : JudgeOf) (bytes : List ℕ) (o : Option Outcome) : T
   pub refuted : o ≡ Some Refuted → IsUnsatisfiable (formula_of old).clauses
 
 -- The judge answered the fate of the bytes as the whole stream.
-pub record IsOver (j : JudgeOf) (bytes : List ℕ) (o : Outcome) : Type 0 where
+pub record IsOver {S : Type 0} (j : JudgeOf S) (bytes : List ℕ) (o : Outcome) : Type 0 where
   pub outcome : outcome_of j ≡ Some o
   pub whole : FateOf (kind_of j) (formula_of j) bytes j.most (fate_of o)
   pub fate : (file : List ℕ) → IsDimacs file (formula_of j) → IsFate (kind_of j) file bytes j.most (fate_of o)

@@ -19,39 +19,39 @@ use Rattle.cert_judge.specs.declared.stream.Outcome.TheVariants.{Refuted, Satisf
 use Rattle.cert_judge.specs.declared.stream.StreamKind.{StreamKind}
 use Rattle.cert_judge.specs.declared.stream.StreamKind.TheVariants.{Drup as DrupKind, Lrat as LratKind, Proof as ProofKind, ProofBinary as ProofBinaryKind}
 
-abbrev pub lines_kind : Lines → StreamKind
+abbrev pub lines_kind : {S : Type 0} → Lines S → StreamKind
 lines_kind (Drup l) = DrupKind
 lines_kind (Lrat l) = LratKind
 lines_kind (Proof l) = ProofKind
 lines_kind (ProofBinary l) = ProofBinaryKind
 
-abbrev pub lines_formula : Lines → FormulaOf
+abbrev pub lines_formula : {S : Type 0} → Lines S → FormulaOf
 lines_formula (Drup l) = l.certificate.formula
 lines_formula (Lrat l) = l.certificate.formula
 lines_formula (Proof l) = l.certificate.formula
 lines_formula (ProofBinary l) = l.certificate.formula
 
-abbrev pub lines_outcome : Lines → Option Outcome
+abbrev pub lines_outcome : {S : Type 0} → Lines S → Option Outcome
 lines_outcome (Drup l) = l.certificate.outcome
 lines_outcome (Lrat l) = l.certificate.outcome
 lines_outcome (Proof l) = l.certificate.outcome
 lines_outcome (ProofBinary l) = l.certificate.outcome
 
-abbrev pub lines_bits : Lines → List Bool
+abbrev pub lines_bits : {S : Type 0} → Lines S → List Bool
 lines_bits (Drup l) = l.certificate.bits
 lines_bits (Lrat l) = l.certificate.bits
 lines_bits (Proof l) = l.certificate.bits
 lines_bits (ProofBinary l) = l.certificate.bits
 
 -- how many bytes the parser took
-abbrev pub lines_taken : Lines → ℕ
+abbrev pub lines_taken : {S : Type 0} → Lines S → ℕ
 lines_taken (Drup l) = l.parser.taken
 lines_taken (Lrat l) = l.parser.taken
 lines_taken (Proof l) = file.taken_of l.parser
 lines_taken (ProofBinary l) = file.taken_of l.parser
 
 -- the parser reads literals of the formula's variables
-abbrev pub Fits : Lines → Type 0
+abbrev pub Fits : {S : Type 0} → Lines S → Type 0
 Fits (Drup l) = l.certificate.formula.vars ≡ l.parser.vars
 Fits (Lrat l) = l.certificate.formula.vars ≡ l.parser.vars
 Fits (Proof l) = l.certificate.formula.vars ≡ file.vars_of l.parser
@@ -61,14 +61,14 @@ Fits (ProofBinary l) = l.certificate.formula.vars ≡ file.vars_of l.parser
 abbrev pub line_or : {W C : Type 0} → LineOf W C → Outcome → LineOf W C
 line_or l o = record { parser = l.parser; certificate = outcome_or l.certificate l.certificate.outcome o }
 
-abbrev pub lines_or : Lines → Outcome → Lines
+abbrev pub lines_or : {S : Type 0} → Lines S → Outcome → Lines S
 lines_or (Drup l) o = Drup (line_or l o)
 lines_or (Lrat l) o = Lrat (line_or l o)
 lines_or (Proof l) o = Proof (line_or l o)
 lines_or (ProofBinary l) o = ProofBinary (line_or l o)
 
 -- the same formula and kind
-pub record IsSameLines (old new : Lines) : Type 0 where
+pub record IsSameLines {S : Type 0} (old new : Lines S) : Type 0 where
   pub formula : lines_formula new ≡ lines_formula old
   pub kind : lines_kind new ≡ lines_kind old
 
@@ -84,14 +84,14 @@ AreValuesTold f x bits None = Unit {0}
 AreValuesTold f x bits (Some o) = AreValuesOf f x bits o
 
 -- the bytes, all of which were taken, came to nothing yet, and no fault is in them
-abbrev pub At : Lines → List ℕ → Type 0
+abbrev pub At : {S : Type 0} → Lines S → List ℕ → Type 0
 At (Drup l) bytes = IsAt drup_parsing drup_meaning (drup_telling.fresh l.certificate.formula.vars) l.parser l.certificate bytes × (l.parser.taken ≡ length bytes)
 At (Lrat l) bytes = IsAt lrat_parsing lrat_meaning (lrat_telling.fresh l.certificate.formula.vars) l.parser l.certificate bytes × (l.parser.taken ≡ length bytes)
 At (Proof l) bytes = IsAt file_parsing drup_meaning (file.fresh Text l.certificate.formula.vars) l.parser l.certificate bytes × (file.taken_of l.parser ≡ length bytes)
 At (ProofBinary l) bytes = IsAt file_parsing drup_meaning (file.fresh Binary l.certificate.formula.vars) l.parser l.certificate bytes × (file.taken_of l.parser ≡ length bytes)
 
 -- before the first byte
-pub record Starts (f : FormulaOf) (k : StreamKind) (lines : Lines) : Type 0 where
+pub record Starts {S : Type 0} (f : FormulaOf) (k : StreamKind) (lines : Lines S) : Type 0 where
   pub formula : lines_formula lines ≡ f
   pub kind : lines_kind lines ≡ k
   pub at : At lines []
@@ -100,28 +100,28 @@ pub record Starts (f : FormulaOf) (k : StreamKind) (lines : Lines) : Type 0 wher
   pub taken : lines_taken lines ≡ 0
 
 -- The outcome is what the bytes come to, with the values that they name; they are all where they ended.
-pub record Tells (ended : Bool) (lines : Lines) (bytes : List ℕ) : Type 0 where
+pub record Tells {S : Type 0} (ended : Bool) (lines : Lines S) (bytes : List ℕ) : Type 0 where
   pub comes : BytesCome (lines_kind lines) (lines_formula lines) ended bytes (fate_told (lines_outcome lines))
   pub values : AreValuesTold (lines_formula lines) (values_named (lines_kind lines) (lines_formula lines).vars ended bytes) (lines_bits lines) (lines_outcome lines)
 
 -- bytes were taken after others
-pub record Takes (lines : Lines) (bytes : List ℕ) : Type 0 where
+pub record Takes {S : Type 0} (lines : Lines S) (bytes : List ℕ) : Type 0 where
   pub tells : Tells false lines bytes
   pub at : lines_outcome lines ≡ None → At lines bytes
 
-abbrev pub Took : Lines → List ℕ → Lines → Type 0
+abbrev pub Took : {S : Type 0} → Lines S → List ℕ → Lines S → Type 0
 Took old piece new = IsSameLines old new × ((bytes : List ℕ) → At old bytes → Takes new (bytes ++ piece))
 
 -- a piece is taken as far as there is room for it; what is too much is an outcome where there is no other
-abbrev pub TakesPiece : ℕ → ℕ → Lines → List ℕ → Lines → Type 0
-TakesPiece most room old piece new =
+abbrev pub TakesPiece : {S : Type 0} → ℕ → ℕ → Lines S → List ℕ → Lines S → Type 0
+TakesPiece {S} most room old piece new =
     ((length piece ≤ room) × Took old piece new)
-    ⊎ ((lines : Lines) × (room < length piece) × Took old (take room piece) lines × (new ≡ lines_or lines (IsBad (record { kind = TooLong; at = most }))))
+    ⊎ ((lines : Lines S) × (room < length piece) × Took old (take room piece) lines × (new ≡ lines_or lines (IsBad (record { kind = TooLong; at = most }))))
 
 -- the stream's end was taken
-abbrev pub TookEnd : Lines → Lines → Type 0
+abbrev pub TookEnd : {S : Type 0} → Lines S → Lines S → Type 0
 TookEnd old new = IsSameLines old new × ((bytes : List ℕ) → At old bytes → Tells true new bytes)
 
 -- without an outcome it is too early
-abbrev pub TakesEnd : Lines → Lines → Type 0
-TakesEnd old new = (lines : Lines) × TookEnd old lines × (new ≡ lines_or lines (IsBad (record { kind = EarlyEnd; at = lines_taken old })))
+abbrev pub TakesEnd : {S : Type 0} → Lines S → Lines S → Type 0
+TakesEnd {S} old new = (lines : Lines S) × TookEnd old lines × (new ≡ lines_or lines (IsBad (record { kind = EarlyEnd; at = lines_taken old })))

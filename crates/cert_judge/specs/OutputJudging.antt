@@ -14,33 +14,33 @@ use Rattle.cert_judge.specs.declared.stream.Outcome.{Outcome}
 use Rattle.cert_judge.specs.declared.stream.StreamKind.TheVariants.{Drup}
 
 -- the judge of the stream as which the output is read, where the bytes end in their line, and whether a line of values was read
-pub record OutputOf : Type 0 where
-  pub judge : JudgeOf
+pub record OutputOf (S : Type 0) : Type 0 where
+  pub judge : JudgeOf S
   pub spot : Spot
   pub values : Bool
 
 -- the judge took the bytes of an output
-pub record Stands (o : OutputOf) (bytes : List ℕ) : Type 0 where
+pub record Stands {S : Type 0} (o : OutputOf S) (bytes : List ℕ) : Type 0 where
   pub kind : kind_of o.judge ≡ Drup
   pub judge : StreamStands o.judge (given Start bytes)
   pub spot : o.spot ≡ spot_after Start bytes
   pub values : o.values ≡ values_after Start false bytes
 
 -- a judge of a stream took bytes; its outcome, once there is one, and out of memory stay
-pub record Gave (old : JudgeOf) (bytes : List ℕ) (new : JudgeOf) : Type 0 where
+pub record Gave {S : Type 0} (old : JudgeOf S) (bytes : List ℕ) (new : JudgeOf S) : Type 0 where
   pub same : IsSameJudge old new
   pub stands : (text : List ℕ) → StreamStands old text → StreamStands new (text ++ bytes)
   pub again : (o : Outcome) → old.wanting ≡ false → outcome_of old ≡ Some o → new ≡ old
   pub wanting : old.wanting ≡ true → new.wanting ≡ true
 
 -- a judge of an output took bytes
-pub record Goes (old : OutputOf) (bytes : List ℕ) (new : OutputOf) : Type 0 where
+pub record Goes {S : Type 0} (old : OutputOf S) (bytes : List ℕ) (new : OutputOf S) : Type 0 where
   pub gave : Gave old.judge (given old.spot bytes) new.judge
   pub spot : new.spot ≡ spot_after old.spot bytes
   pub values : new.values ≡ values_after old.spot old.values bytes
 
 -- The judge took the bytes, and answers their fate so far for each file of its formula, with the values that they name.
-pub record Feeds (old new : OutputOf) (bytes : List ℕ) (o : Option Outcome) : Type 0 where
+pub record Feeds {S : Type 0} (old new : OutputOf S) (bytes : List ℕ) (o : Option Outcome) : Type 0 where
   pub stands : Stands new bytes
   pub outcome : outcome_of new.judge ≡ o
   pub fate : (file : List ℕ) → IsDimacs file (formula_of old.judge) → IsOutputFateSoFar file bytes old.judge.most (fate_told o)
@@ -48,7 +48,7 @@ pub record Feeds (old new : OutputOf) (bytes : List ℕ) (o : Option Outcome) : 
 
 -- The judge answers the fate of the bytes as the whole output, None where the proof file decides, with the values that they name, and keeps
 -- the outcome that this is the fate of.
-pub record Ends (old new : OutputOf) (bytes : List ℕ) (o : Option Outcome) : Type 0 where
+pub record Ends {S : Type 0} (old new : OutputOf S) (bytes : List ℕ) (o : Option Outcome) : Type 0 where
   pub outcome : (x : Outcome) × (outcome_of new.judge ≡ Some x) × (fate_told o ≡ own_fate (has_values bytes) (fate_of x))
   pub fate : (file : List ℕ) → IsDimacs file (formula_of old.judge) → IsOutputFate file bytes old.judge.most (fate_told o)
   pub values : AreValuesTold (formula_of old.judge) (stream_values Drup (formula_of old.judge).vars true (stream_of true bytes) old.judge.most) (bits_of new.judge) o

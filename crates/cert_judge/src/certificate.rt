@@ -15,7 +15,8 @@ use crate::stream::{BadCert, CertKind, Outcome, cert_kind};
 use crate::values::Values;
 use cert_stream::lrat::{Hint, LratReceiver};
 use cert_stream::{Fed, ParseFault, Receiver};
-use cnf_form::{Formula, Lit};
+use clause_source::ClauseSource;
+use cnf_form::Lit;
 use drup_check::{Added, Checker};
 use lrat_check::Hinted;
 use std::alloc::{AllocError, Global};
@@ -29,9 +30,9 @@ pub(crate) trait ProofChecker: Drop {
     /// It has the clauses of the formula alone.
     ghost starts: { FormulaOf → Self → Type 0 };
 
-    fn start(alloc: Global, formula: &Formula) -> Result<Self, AllocError>
-        ensures vars { IfOk result (λ c. vars c ≡ formula.now.vars) }
-        ensures starts { IfOk result (starts formula.now) };
+    fn start<S: ClauseSource>(alloc: Global, source: &S) -> Result<Self, AllocError>
+        ensures vars { IfOk result (λ c. vars c ≡ (S.formula source.now).vars) }
+        ensures starts { IfOk result (starts (S.formula source.now)) };
 }
 
 impl ProofChecker for Checker {
@@ -39,8 +40,8 @@ impl ProofChecker for Checker {
 
     ghost starts = { λ f c. c ≡ start f };
 
-    fn start(alloc: Global, formula: &Formula) -> Result<Self, AllocError> {
-        Checker::new(alloc, formula)
+    fn start<S: ClauseSource>(alloc: Global, source: &S) -> Result<Self, AllocError> {
+        Checker::new(alloc, source)
     }
 }
 
@@ -49,45 +50,45 @@ impl ProofChecker for Hinted {
 
     ghost starts = { Starts };
 
-    fn start(alloc: Global, formula: &Formula) -> Result<Self, AllocError> {
-        Hinted::new(alloc, formula)
+    fn start<S: ClauseSource>(alloc: Global, source: &S) -> Result<Self, AllocError> {
+        Hinted::new(alloc, source)
     }
 }
 
-/// The clauses that are present and the values so far, for a formula, and the outcome once there is one.
+/// The clauses that are present and the values so far, for a source's formula, and the outcome once there is one.
 #[derive(Drop)]
-pub(crate) struct Certificate<C: ProofChecker> {
-    formula: Formula,
+pub(crate) struct Certificate<C: ProofChecker, S: ClauseSource> {
+    source: S,
     alloc: Global,
     checker: C,
     values: Values,
     outcome: Option<Outcome>,
 }
 
-impl<C: ProofChecker> Model for Certificate<C> {
+impl<C: ProofChecker, S: ClauseSource> Model for Certificate<C, S> {
     ghost use Rattle.std.specs.Prelude.{◌≡◌, ◌+◌, length};
     ghost use Rattle.cert_judge.specs.Certificate.{CertificateOf};
 
     ghost Value = { CertificateOf C };
 
-    ghost view = { λ a. record { formula = a.formula; checker = a.checker; bits = a.values; outcome = a.outcome } };
+    ghost view = { λ a. record { formula = S.formula a.source; checker = a.checker; bits = a.values; outcome = a.outcome } };
 
-    ghost invariant = { λ a. (C.vars a.checker ≡ a.formula.vars) × (length a.values ≡ a.formula.vars + 1) };
+    ghost invariant = { λ a. (C.vars a.checker ≡ (S.formula a.source).vars) × (length a.values ≡ (S.formula a.source).vars + 1) };
 }
 
-impl<C: ProofChecker> Certificate<C> {
+impl<C: ProofChecker, S: ClauseSource> Certificate<C, S> {
     /// Before anything is said.
-    pub(crate) fn new(alloc: Global, formula: Formula) -> Result<Self, AllocError>
-        ensures formula { IfOk result (λ c. c.formula ≡ formula) }
-        ensures checker { IfOk result (λ c. C.starts formula c.checker) }
-        ensures size { IfOk result (λ c. length c.bits ≡ formula.vars + 1) }
+    pub(crate) fn new(alloc: Global, source: S) -> Result<Self, AllocError>
+        ensures formula { IfOk result (λ c. c.formula ≡ S.formula source) }
+        ensures checker { IfOk result (λ c. C.starts (S.formula source) c.checker) }
+        ensures size { IfOk result (λ c. length c.bits ≡ (S.formula source).vars + 1) }
         ensures unnamed { IfOk result (λ c. (v : ℕ) → values_of c.bits v ≡ false) }
         ensures undecided { IfOk result (λ c. c.outcome ≡ None) }
     {
-        let checker = C::start(alloc, &formula)?;
-        let values = Values::new(alloc, formula.vars())?;
+        let checker = C::start(alloc, &source)?;
+        let values = Values::new(alloc, source.vars())?;
         Ok(Certificate {
-            formula,
+            source,
             alloc,
             checker,
             values,
@@ -143,7 +144,7 @@ impl<C: ProofChecker> Certificate<C> {
     }
 }
 
-impl Receiver for Certificate<Checker> {
+impl<S: ClauseSource> Receiver for Certificate<Checker, S> {
     ghost vars = { λ a. a.formula.vars };
 
     ghost gets = { Hears drup_meaning };
@@ -170,7 +171,7 @@ impl Receiver for Certificate<Checker> {
     }
 
     fn values_end(&mut self) -> Result<bool, AllocError> {
-        match self.values.first_unsatisfied(&self.formula) {
+        match self.values.first_unsatisfied(&self.source) {
             None => self.settle(Outcome::Satisfied),
             Some(clause) => self.refuse(CertKind::NotSatisfying, clause),
         }
@@ -183,7 +184,7 @@ impl Receiver for Certificate<Checker> {
     }
 }
 
-impl Certificate<Checker> {
+impl<S: ClauseSource> Certificate<Checker, S> {
     /// Takes an empty clause where there is no outcome yet.
     pub(crate) fn try_empty(&mut self, place: u64) -> Result<(), AllocError>
         ensures tries { IfOk result (λ _. Tries self.old self.old.outcome place self.new) }
@@ -211,7 +212,7 @@ impl Certificate<Checker> {
     }
 }
 
-impl LratReceiver for Certificate<Hinted> {
+impl<S: ClauseSource> LratReceiver for Certificate<Hinted, S> {
     ghost vars = { λ a. a.formula.vars };
 
     ghost gets = { Hears lrat_meaning };
@@ -254,7 +255,7 @@ impl LratReceiver for Certificate<Hinted> {
     }
 
     fn values_end(&mut self) -> Result<bool, AllocError> {
-        match self.values.first_unsatisfied(&self.formula) {
+        match self.values.first_unsatisfied(&self.source) {
             None => self.settle(Outcome::Satisfied),
             Some(clause) => self.refuse(CertKind::NotSatisfying, clause),
         }

@@ -7,42 +7,37 @@ ghost use Rattle.cert_judge.specs.declared.stream.Outcome.{Outcome};
 
 use crate::lines::Lines;
 use crate::stream::{CertKind, Outcome, StreamKind};
-use cnf_form::Formula;
+use clause_source::ClauseSource;
 use std::alloc::{AllocError, Global};
 use std::marker::Model;
 
-/// A judge of one stream, of any kind, as a certificate for a formula. It keeps no earlier bytes: a clause goes to the checker as it ends.
+/// A judge of one stream, of any kind, as a certificate for a source's formula. It keeps no earlier bytes: a clause goes to the checker as it ends.
 #[derive(Drop)]
-pub struct Judge {
+pub struct Judge<S: ClauseSource> {
     most: u64,
-    lines: Lines,
+    lines: Lines<S>,
     // Memory ran out; every later call answers that.
     wanting: bool,
 }
 
-impl Model for Judge {
+impl<S: ClauseSource> Model for Judge<S> {
     ghost use Rattle.std.specs.Prelude.{◌≡◌, ◌≤◌, ◌^◌, false, None};
     ghost use Rattle.cert_judge.specs.Judging.{JudgeOf};
     ghost use Rattle.cert_judge.specs.Lines.{Fits, lines_outcome, lines_taken};
 
-    ghost Value = { JudgeOf };
+    ghost Value = { JudgeOf S };
 
     ghost view = { λ a. record { lines = a.lines; most = a.most; wanting = a.wanting } };
 
     ghost invariant = { λ a. (a.most ≤ 2 ^ 32) × (a.wanting ≡ false → Fits a.lines) × (a.wanting ≡ false → lines_outcome a.lines ≡ None → lines_taken a.lines ≤ a.most) };
 }
 
-impl Judge {
+impl<S: ClauseSource> Judge<S> {
     /// A judge that has taken nothing yet, and takes at most `most` bytes, from 1 to 2^32.
-    pub fn new(
-        alloc: Global,
-        formula: Formula,
-        kind: StreamKind,
-        most: u64,
-    ) -> Result<Self, AllocError>
+    pub fn new(alloc: Global, source: S, kind: StreamKind, most: u64) -> Result<Self, AllocError>
         requires least { 1 ≤ most }
         requires limit { most ≤ 2 ^ 32 }
-        ensures formula { IfOk result (λ j. formula_of j ≡ formula) }
+        ensures formula { IfOk result (λ j. formula_of j ≡ S.formula source) }
         ensures kind { IfOk result (λ j. kind_of j ≡ kind) }
         ensures most { IfOk result (λ j. j.most ≡ most) }
         ensures stands { IfOk result (λ j. Stands j []) }
@@ -50,7 +45,7 @@ impl Judge {
     {
         Ok(Judge {
             most,
-            lines: Lines::new(alloc, formula, kind)?,
+            lines: Lines::new(alloc, source, kind)?,
             wanting: false,
         })
     }
@@ -110,7 +105,11 @@ impl Judge {
 }
 
 // Takes a piece, of which there is room for this many bytes.
-fn take_piece(lines: &mut Lines, piece: &[u8], room: u64) -> Result<(), AllocError>
+fn take_piece<S: ClauseSource>(
+    lines: &mut Lines<S>,
+    piece: &[u8],
+    room: u64,
+) -> Result<(), AllocError>
     requires fits { Fits lines.old }
     requires open { lines_outcome lines.old ≡ None }
     requires limit { lines_taken lines.old + room ≤ 2 ^ 32 }
@@ -128,7 +127,7 @@ fn take_piece(lines: &mut Lines, piece: &[u8], room: u64) -> Result<(), AllocErr
 }
 
 // Takes the stream's end, and answers the outcome.
-fn take_end(lines: &mut Lines) -> Result<Outcome, AllocError>
+fn take_end<S: ClauseSource>(lines: &mut Lines<S>) -> Result<Outcome, AllocError>
     requires fits { Fits lines.old }
     requires open { lines_outcome lines.old ≡ None }
     requires limit { lines_taken lines.old ≤ 2 ^ 32 }

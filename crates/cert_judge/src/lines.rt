@@ -12,7 +12,7 @@ use crate::certificate::{Certificate, ProofChecker};
 use crate::stream::{CertKind, Outcome, StreamKind};
 use cert_stream::DrupParser;
 use cert_stream::lrat::LratParser;
-use cnf_form::Formula;
+use clause_source::ClauseSource;
 use drup_check::Checker;
 use lrat_check::Hinted;
 use proof_stream::{Form, ProofParser};
@@ -21,12 +21,12 @@ use std::marker::Model;
 
 /// What is kept of a stream: its parser, and the certificate that hears what it reads.
 #[derive(Drop)]
-pub(crate) struct Line<P: Drop, C: ProofChecker> {
+pub(crate) struct Line<P: Drop, C: ProofChecker, S: ClauseSource> {
     parser: P,
-    certificate: Certificate<C>,
+    certificate: Certificate<C, S>,
 }
 
-impl<P: Drop, C: ProofChecker> Model for Line<P, C> {
+impl<P: Drop, C: ProofChecker, S: ClauseSource> Model for Line<P, C, S> {
     ghost use Rattle.cert_judge.specs.Certificate.{LineOf};
 
     ghost Value = { LineOf P C };
@@ -38,58 +38,61 @@ impl<P: Drop, C: ProofChecker> Model for Line<P, C> {
 
 /// The table of kinds: each has its parser and its checker.
 #[derive(Drop)]
-pub(crate) enum Lines {
-    Drup(Line<DrupParser, Checker>),
-    Lrat(Line<LratParser, Hinted>),
-    Proof(Line<ProofParser, Checker>),
-    ProofBinary(Line<ProofParser, Checker>),
+pub(crate) enum Lines<S: ClauseSource> {
+    Drup(Line<DrupParser, Checker, S>),
+    Lrat(Line<LratParser, Hinted, S>),
+    Proof(Line<ProofParser, Checker, S>),
+    ProofBinary(Line<ProofParser, Checker, S>),
 }
 
-fn new_drup(alloc: Global, formula: Formula) -> Result<Lines, AllocError>
-    ensures { IfOk result (Starts formula Drup) }
+fn new_drup<S: ClauseSource>(alloc: Global, source: S) -> Result<Lines<S>, AllocError>
+    ensures { IfOk result (Starts (S.formula source) Drup) }
 {
-    let parser = DrupParser::new(alloc, formula.vars());
-    let certificate = Certificate::new(alloc, formula)?;
+    let parser = DrupParser::new(alloc, source.vars());
+    let certificate = Certificate::new(alloc, source)?;
     Ok(Lines::Drup(Line {
         parser,
         certificate,
     }))
 }
 
-fn new_lrat(alloc: Global, formula: Formula) -> Result<Lines, AllocError>
-    ensures { IfOk result (Starts formula Lrat) }
+fn new_lrat<S: ClauseSource>(alloc: Global, source: S) -> Result<Lines<S>, AllocError>
+    ensures { IfOk result (Starts (S.formula source) Lrat) }
 {
-    let parser = LratParser::new(alloc, formula.vars());
-    let certificate = Certificate::new(alloc, formula)?;
+    let parser = LratParser::new(alloc, source.vars());
+    let certificate = Certificate::new(alloc, source)?;
     Ok(Lines::Lrat(Line {
         parser,
         certificate,
     }))
 }
 
-fn new_proof(alloc: Global, formula: Formula) -> Result<Lines, AllocError>
-    ensures { IfOk result (Starts formula Proof) }
+fn new_proof<S: ClauseSource>(alloc: Global, source: S) -> Result<Lines<S>, AllocError>
+    ensures { IfOk result (Starts (S.formula source) Proof) }
 {
-    let parser = ProofParser::new(alloc, formula.vars(), Form::Text);
-    let certificate = Certificate::new(alloc, formula)?;
+    let parser = ProofParser::new(alloc, source.vars(), Form::Text);
+    let certificate = Certificate::new(alloc, source)?;
     Ok(Lines::Proof(Line {
         parser,
         certificate,
     }))
 }
 
-fn new_binary(alloc: Global, formula: Formula) -> Result<Lines, AllocError>
-    ensures { IfOk result (Starts formula ProofBinary) }
+fn new_binary<S: ClauseSource>(alloc: Global, source: S) -> Result<Lines<S>, AllocError>
+    ensures { IfOk result (Starts (S.formula source) ProofBinary) }
 {
-    let parser = ProofParser::new(alloc, formula.vars(), Form::Binary);
-    let certificate = Certificate::new(alloc, formula)?;
+    let parser = ProofParser::new(alloc, source.vars(), Form::Binary);
+    let certificate = Certificate::new(alloc, source)?;
     Ok(Lines::ProofBinary(Line {
         parser,
         certificate,
     }))
 }
 
-fn take_drup(line: &mut Line<DrupParser, Checker>, piece: &[u8]) -> Result<(), AllocError>
+fn take_drup<S: ClauseSource>(
+    line: &mut Line<DrupParser, Checker, S>,
+    piece: &[u8],
+) -> Result<(), AllocError>
     requires vars { line.old.certificate.formula.vars ≡ line.old.parser.vars }
     requires open { line.old.certificate.outcome ≡ None }
     requires count { line.old.parser.taken + length piece.now < 2 ^ 64 }
@@ -102,7 +105,10 @@ fn take_drup(line: &mut Line<DrupParser, Checker>, piece: &[u8]) -> Result<(), A
     Ok(())
 }
 
-fn take_lrat(line: &mut Line<LratParser, Hinted>, piece: &[u8]) -> Result<(), AllocError>
+fn take_lrat<S: ClauseSource>(
+    line: &mut Line<LratParser, Hinted, S>,
+    piece: &[u8],
+) -> Result<(), AllocError>
     requires vars { line.old.certificate.formula.vars ≡ line.old.parser.vars }
     requires open { line.old.certificate.outcome ≡ None }
     requires count { line.old.parser.taken + length piece.now < 2 ^ 64 }
@@ -115,7 +121,10 @@ fn take_lrat(line: &mut Line<LratParser, Hinted>, piece: &[u8]) -> Result<(), Al
     Ok(())
 }
 
-fn take_file(line: &mut Line<ProofParser, Checker>, piece: &[u8]) -> Result<(), AllocError>
+fn take_file<S: ClauseSource>(
+    line: &mut Line<ProofParser, Checker, S>,
+    piece: &[u8],
+) -> Result<(), AllocError>
     requires vars { line.old.certificate.formula.vars ≡ vars_of line.old.parser }
     requires open { line.old.certificate.outcome ≡ None }
     requires count { taken_of line.old.parser + length piece.now < 2 ^ 64 }
@@ -128,7 +137,7 @@ fn take_file(line: &mut Line<ProofParser, Checker>, piece: &[u8]) -> Result<(), 
     Ok(())
 }
 
-fn end_drup(line: &mut Line<DrupParser, Checker>) -> Result<(), AllocError>
+fn end_drup<S: ClauseSource>(line: &mut Line<DrupParser, Checker, S>) -> Result<(), AllocError>
     requires vars { line.old.certificate.formula.vars ≡ line.old.parser.vars }
     requires open { line.old.certificate.outcome ≡ None }
     ensures leads { IfOk result (λ _. Leads drup_meaning line.old.certificate (drup_ending line.old.parser) line.new.certificate) }
@@ -139,7 +148,7 @@ fn end_drup(line: &mut Line<DrupParser, Checker>) -> Result<(), AllocError>
     Ok(())
 }
 
-fn end_lrat(line: &mut Line<LratParser, Hinted>) -> Result<(), AllocError>
+fn end_lrat<S: ClauseSource>(line: &mut Line<LratParser, Hinted, S>) -> Result<(), AllocError>
     requires vars { line.old.certificate.formula.vars ≡ line.old.parser.vars }
     requires open { line.old.certificate.outcome ≡ None }
     ensures leads { IfOk result (λ _. Leads lrat_meaning line.old.certificate (lrat_ending line.old.parser) line.new.certificate) }
@@ -151,7 +160,9 @@ fn end_lrat(line: &mut Line<LratParser, Hinted>) -> Result<(), AllocError>
 }
 
 // Ends the lines of a file.
-fn end_file_lines(line: &mut Line<ProofParser, Checker>) -> Result<(), AllocError>
+fn end_file_lines<S: ClauseSource>(
+    line: &mut Line<ProofParser, Checker, S>,
+) -> Result<(), AllocError>
     requires vars { line.old.certificate.formula.vars ≡ vars_of line.old.parser }
     requires open { line.old.certificate.outcome ≡ None }
     requires count { taken_of line.old.parser + 1 < 2 ^ 64 }
@@ -164,7 +175,7 @@ fn end_file_lines(line: &mut Line<ProofParser, Checker>) -> Result<(), AllocErro
 }
 
 // A file's end tries a last empty clause.
-fn end_file(line: &mut Line<ProofParser, Checker>) -> Result<(), AllocError>
+fn end_file<S: ClauseSource>(line: &mut Line<ProofParser, Checker, S>) -> Result<(), AllocError>
     requires vars { line.old.certificate.formula.vars ≡ vars_of line.old.parser }
     requires open { line.old.certificate.outcome ≡ None }
     requires count { taken_of line.old.parser + 1 < 2 ^ 64 }
@@ -178,16 +189,16 @@ fn end_file(line: &mut Line<ProofParser, Checker>) -> Result<(), AllocError>
     Ok(())
 }
 
-impl Lines {
+impl<S: ClauseSource> Lines<S> {
     /// Before the first byte.
-    pub(crate) fn new(alloc: Global, formula: Formula, kind: StreamKind) -> Result<Self, AllocError>
-        ensures { IfOk result (Starts formula kind) }
+    pub(crate) fn new(alloc: Global, source: S, kind: StreamKind) -> Result<Self, AllocError>
+        ensures { IfOk result (Starts (S.formula source) kind) }
     {
         match kind {
-            StreamKind::Drup => new_drup(alloc, formula),
-            StreamKind::Lrat => new_lrat(alloc, formula),
-            StreamKind::Proof => new_proof(alloc, formula),
-            StreamKind::ProofBinary => new_binary(alloc, formula),
+            StreamKind::Drup => new_drup(alloc, source),
+            StreamKind::Lrat => new_lrat(alloc, source),
+            StreamKind::Proof => new_proof(alloc, source),
+            StreamKind::ProofBinary => new_binary(alloc, source),
         }
     }
 

@@ -16,7 +16,7 @@ use crate::spot::{
     next_spot, values_at_end, values_behind,
 };
 use crate::stream::{CertKind, Outcome, StreamKind};
-use cnf_form::Formula;
+use clause_source::ClauseSource;
 use memchr::memchr;
 use std::alloc::{AllocError, Global};
 use std::marker::Model;
@@ -24,17 +24,17 @@ use std::marker::Model;
 /// A judge of the standard output of a solver that leaves a proof file. It keeps no earlier bytes, and passes over every line that is
 /// neither one of values nor s UNKNOWN.
 #[derive(Drop)]
-pub struct OutputJudge {
-    judge: Judge,
+pub struct OutputJudge<S: ClauseSource> {
+    judge: Judge<S>,
     spot: Spot,
     // A line of values was read.
     values: bool,
 }
 
-impl Model for OutputJudge {
+impl<S: ClauseSource> Model for OutputJudge<S> {
     ghost use Rattle.cert_judge.specs.OutputJudging.{OutputOf};
 
-    ghost Value = { OutputOf };
+    ghost Value = { OutputOf S };
 
     ghost view = { λ a. record { judge = a.judge; spot = a.spot; values = a.values } };
 
@@ -54,7 +54,7 @@ fn before_feed(bytes: &[u8]) -> usize
 }
 
 // Hands bytes on as a stream's.
-fn give(judge: &mut Judge, bytes: &[u8]) -> Result<(), AllocError>
+fn give<S: ClauseSource>(judge: &mut Judge<S>, bytes: &[u8]) -> Result<(), AllocError>
     ensures gave { IfOk result (λ _. Gave judge.old bytes.now judge.new) }
     ensures err { OnErr result (judge.new.wanting ≡ true) }
 {
@@ -63,7 +63,7 @@ fn give(judge: &mut Judge, bytes: &[u8]) -> Result<(), AllocError>
 }
 
 // Hands on what a byte in a line's beginning gives.
-fn give_start(judge: &mut Judge, b: u8) -> Result<(), AllocError>
+fn give_start<S: ClauseSource>(judge: &mut Judge<S>, b: u8) -> Result<(), AllocError>
     ensures gave { IfOk result (λ _. Gave judge.old (given_by Start b) judge.new) }
     ensures err { OnErr result (judge.new.wanting ≡ true) }
 {
@@ -77,7 +77,7 @@ fn give_start(judge: &mut Judge, b: u8) -> Result<(), AllocError>
 }
 
 // Amid values, hands on what a line feed gives.
-fn give_amid_feed(judge: &mut Judge, spot: AmidSpot) -> Result<(), AllocError>
+fn give_amid_feed<S: ClauseSource>(judge: &mut Judge<S>, spot: AmidSpot) -> Result<(), AllocError>
     ensures gave { IfOk result (λ _. Gave judge.old (given_by (Amid spot) 10) judge.new) }
     ensures err { OnErr result (judge.new.wanting ≡ true) }
 {
@@ -88,7 +88,7 @@ fn give_amid_feed(judge: &mut Judge, spot: AmidSpot) -> Result<(), AllocError>
 }
 
 // And what another byte gives.
-fn give_amid(judge: &mut Judge, spot: AmidSpot, b: u8) -> Result<(), AllocError>
+fn give_amid<S: ClauseSource>(judge: &mut Judge<S>, spot: AmidSpot, b: u8) -> Result<(), AllocError>
     ensures gave { IfOk result (λ _. Gave judge.old (amid_given spot b) judge.new) }
     ensures err { OnErr result (judge.new.wanting ≡ true) }
 {
@@ -104,7 +104,7 @@ fn give_amid(judge: &mut Judge, spot: AmidSpot, b: u8) -> Result<(), AllocError>
 }
 
 // Hands on what a byte gives.
-fn give_byte(judge: &mut Judge, spot: Spot, b: u8) -> Result<(), AllocError>
+fn give_byte<S: ClauseSource>(judge: &mut Judge<S>, spot: Spot, b: u8) -> Result<(), AllocError>
     ensures gave { IfOk result (λ _. Gave judge.old (given_by spot b) judge.new) }
     ensures err { OnErr result (judge.new.wanting ≡ true) }
 {
@@ -118,7 +118,7 @@ fn give_byte(judge: &mut Judge, spot: Spot, b: u8) -> Result<(), AllocError>
 }
 
 // Hands on what the output's end gives.
-fn give_end(judge: &mut Judge, spot: Spot) -> Result<(), AllocError>
+fn give_end<S: ClauseSource>(judge: &mut Judge<S>, spot: Spot) -> Result<(), AllocError>
     ensures gave { IfOk result (λ _. Gave judge.old (given_at_end spot) judge.new) }
     ensures err { OnErr result (judge.new.wanting ≡ true) }
 {
@@ -139,18 +139,18 @@ fn own_outcome(values: bool, outcome: Outcome) -> Option<Outcome>
     }
 }
 
-impl OutputJudge {
+impl<S: ClauseSource> OutputJudge<S> {
     /// A judge that has taken nothing yet, and takes at most `most` bytes, from 1 to 2^32.
-    pub fn new(alloc: Global, formula: Formula, most: u64) -> Result<Self, AllocError>
+    pub fn new(alloc: Global, source: S, most: u64) -> Result<Self, AllocError>
         requires least { 1 ≤ most }
         requires limit { most ≤ 2 ^ 32 }
-        ensures formula { IfOk result (λ o. formula_of o.judge ≡ formula) }
+        ensures formula { IfOk result (λ o. formula_of o.judge ≡ S.formula source) }
         ensures most { IfOk result (λ o. o.judge.most ≡ most) }
         ensures stands { IfOk result (λ o. Stands o []) }
         ensures open { IfOk result (λ o. outcome_of o.judge ≡ None) }
     {
         Ok(OutputJudge {
-            judge: Judge::new(alloc, formula, StreamKind::Drup, most)?,
+            judge: Judge::new(alloc, source, StreamKind::Drup, most)?,
             spot: Spot::Start,
             values: false,
         })

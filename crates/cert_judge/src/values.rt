@@ -1,10 +1,12 @@
 // The values that a stream names, in a table with a place for each variable.
 
 ghost use Rattle.std.specs.Prelude.{◌≡◌, ◌↔◌, ℕ, ◌+◌, ◌<◌, false, All, length, IfNone, IfOk, IfSome, IsTrue};
+ghost use Rattle.clause_source.specs.Given.{lits_of};
 ghost use Rattle.cnf_form.specs.Cnf.{ClauseWithin, LitOf, Satisfies, SatisfiesClause, lit_in};
 ghost use Rattle.cert_judge.specs.Values.{IsFirstUnsatisfied, named, values_of};
 
-use cnf_form::{Formula, Lit};
+use clause_source::{ClauseSource, Given};
+use cnf_form::Lit;
 use std::alloc::{AllocError, Global};
 use std::marker::Model;
 
@@ -28,16 +30,28 @@ fn satisfies_clause(values: &[bool], clause: &[Lit]) -> bool
     false
 }
 
-// The number of the first clause, from 1, that the values don't satisfy.
-fn first_unsatisfied(values: &[bool], formula: &Formula) -> Option<u64>
-    requires { length values.now ≡ formula.now.vars + 1 }
-    ensures some { IfSome result (IsFirstUnsatisfied (values_of values.now) formula.now.clauses) }
-    ensures none { IfNone result (Satisfies (values_of values.now) formula.now.clauses) }
+fn satisfies_given(values: &[bool], given: Given<'_>) -> bool
+    requires { All (λ l. l.var < length values.now) (lits_of given) }
+    ensures { IsTrue result ↔ SatisfiesClause (values_of values.now) (lits_of given.entry) }
 {
-    let clauses = formula.clauses();
-    for place in 0..clauses.len() {
-        if !satisfies_clause(values, clauses.get(place)) {
-            return Some(place as u64 + 1);
+    match given {
+        Given::One(a) => satisfies_clause(values, &[a]),
+        Given::Two(a, b) => satisfies_clause(values, &[a, b]),
+        Given::Three(a, b, c) => satisfies_clause(values, &[a, b, c]),
+        Given::All(clause) => satisfies_clause(values, clause),
+    }
+}
+
+// The number of the first clause, from 1, that the values don't satisfy.
+fn first_unsatisfied<S: ClauseSource>(values: &[bool], source: &S) -> Option<u64>
+    requires { length values.now ≡ (S.formula source.now).vars + 1 }
+    ensures some { IfSome result (IsFirstUnsatisfied (values_of values.now) (S.formula source.now).clauses) }
+    ensures none { IfNone result (Satisfies (values_of values.now) (S.formula source.now).clauses) }
+{
+    let mut place = source.first();
+    for number in 0..source.count() {
+        if !satisfies_given(values, source.next(&mut place)) {
+            return Some(number as u64 + 1);
         }
     }
     None
@@ -83,12 +97,12 @@ impl Values {
         self.bits[l.var() as usize] = !l.is_negated();
     }
 
-    /// The number of the formula's first clause, from 1, that they don't satisfy.
-    pub fn first_unsatisfied(&self, formula: &Formula) -> Option<u64>
-        requires { length self.now ≡ formula.now.vars + 1 }
-        ensures some { IfSome result (IsFirstUnsatisfied (values_of self.now) formula.now.clauses) }
-        ensures none { IfNone result (Satisfies (values_of self.now) formula.now.clauses) }
+    /// The number of the first clause, from 1, of a source's formula that they don't satisfy.
+    pub fn first_unsatisfied<S: ClauseSource>(&self, source: &S) -> Option<u64>
+        requires { length self.now ≡ (S.formula source.now).vars + 1 }
+        ensures some { IfSome result (IsFirstUnsatisfied (values_of self.now) (S.formula source.now).clauses) }
+        ensures none { IfNone result (Satisfies (values_of self.now) (S.formula source.now).clauses) }
     {
-        first_unsatisfied(self.bits.as_slice(), formula)
+        first_unsatisfied(self.bits.as_slice(), source)
     }
 }

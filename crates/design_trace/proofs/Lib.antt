@@ -4,3 +4,4 @@ pub mod Faults
 pub mod Readings
 pub mod Printing
 pub mod Pieces
+pub mod Coming

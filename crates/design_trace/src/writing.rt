@@ -19,7 +19,7 @@ pub(crate) fn put(text: &mut Vec<u8>, piece: &[u8]) -> Result<(), AllocError>
     Ok(())
 }
 
-fn digit(bit: bool) -> u8
+pub(crate) fn digit(bit: bool) -> u8
     ensures { result ≡ digit bit }
 {
     if bit { b'1' } else { b'0' }

@@ -1,21 +1,21 @@
 -- The clauses that are present, after one came or went.
-use Rattle.std.proofs.Common.{◌≡◌, ℕ, ◌+◌, ◌*◌, ◌<◌, ◌≤◌, Bool, true, false, List, [], ◌∷◌, ◌++◌, length, get_or, set, take, replicate, refl, sym, ◌∙◌, ap, subst, inl, inr, arith, zero, suc}
+use Rattle.std.proofs.Common.{◌≡◌, ℕ, ◌+◌, ◌<◌, ◌≤◌, Bool, true, false, List, [], ◌∷◌, ◌++◌, length, set, take, refl, sym, ◌∙◌, ap, subst, inl, inr, arith, zero, suc}
 use Rattle.std.specs.Prelude.{Contains, Option, Some, None}
 use Rattle.std.proofs.lemmas.Bool.{cases_Bool, cases_eq, cases_lt}
-use Rattle.std.proofs.lemmas.List.{get_or-set_same, get_or-set_other, get_or_past, get_or_default, get_or_append_left, get_or_push, length_push, length-set, length-replicate, get_or-replicate}
+use Rattle.std.proofs.lemmas.List.{get_or-set_same, get_or-set_other, get_or_past, get_or_default, get_or_append_left, get_or_push, length_push, length-set}
 use Rattle.std.proofs.lemmas.List.Elements.{Contains-append_left}
-use Rattle.cnf_form.specs.Cnf.{LitOf, index_of, SameClause, Conflict, IsReason, Removes, first, later, Deletes}
+use Rattle.cnf_form.specs.Cnf.{LitOf, SameClause, Conflict, IsReason, Removes, first, later, Deletes}
 use Rattle.cnf_form.proofs.Members.{take_one_more, Contains-empty}
 use Rattle.cnf_form.proofs.Removal.{Closure-monotone, Closure-without, Removes-cases}
 use Rattle.unit_propagation.specs.Propagation.{HasFalsified, IsDerived}
 use Rattle.unit_propagation.specs.Propagator.{PropagatorOf, clauses_of, present, slot_at, IsPut, IsWanting}
-use Rattle.drup_check.specs.Marks.{Weighs, weight}
+use Rattle.drup_check.specs.Marks.{HasPlaces, Weighs, weight}
 use Rattle.drup_check.specs.Copies.{CopiesOf, Holds, beginning, after}
 use Rattle.drup_check.specs.Inside.{IsRoot, IsFree, IsFiled, Keeps}
 use Rattle.drup_check.specs.Checking.{CheckerOf}
 use Rattle.unit_propagation.specs.Marks.{Shows}
-use Rattle.unit_propagation.proofs.Slots.{clauses_of-slot}
-use Rattle.drup_check.proofs.Weights.{weighs_same}
+use Rattle.unit_propagation.proofs.Slots.{clauses_of-slot, clauses_of-contains}
+use Rattle.drup_check.proofs.Weights.{weighs_same, free_push}
 
 pub clauses_push : (slots : List (Option (List LitOf))) (c : List LitOf) → clauses_of (slots ++ Some c ∷ []) ≡ clauses_of slots ++ c ∷ []
 clauses_push [] c = refl
@@ -68,22 +68,22 @@ module _ (p q : PropagatorOf) (c : List LitOf) (r : IsRoot p) (w : IsPut p c q) 
       ]
 
   pub filed_put : (t t' : CopiesOf) (h n : ℕ) → IsFiled p t → ((a k : ℕ) → Holds t a k → Holds t' a k) → n ≡ length p.slots
-      → t'.count ≡ n + 1 → n < length t'.nexts → Weighs p.vars c h → Holds t' h n → IsFiled q t'
+      → t'.count ≡ n + 1 → n < length t'.nexts → Weighs c h → Holds t' h n → IsFiled q t'
   filed_put t t' h n f keeps size count place weighs held = record { each = each; counted = omega (arith, size, count, grown); placed = omega (arith, size, place, grown) }
     where
       grown : length q.slots ≡ length p.slots + 1
       grown = ap length w.slots ∙ length_push p.slots (Some c)
 
-      each : (k : ℕ) (d : List LitOf) → slot_at q.slots k ≡ Some d → (a : ℕ) × Weighs q.vars d a × Holds t' a k
+      each : (k : ℕ) (d : List LitOf) → slot_at q.slots k ≡ Some d → (a : ℕ) × Weighs d a × Holds t' a k
       each k d e =
           let e' : slot_at (p.slots ++ Some c ∷ []) k ≡ Some d = subst (λ z. slot_at z k ≡ Some d) w.slots e in
           elim (cases_eq k (length p.slots)) [
             | inl s ↦ let g : Some c ≡ Some d = sym (get_or_push p.slots (Some c) None k (sym s)) ∙ e' in
                 let same : c ≡ d = cc in
-                (h, subst (λ v. Weighs v d h) (sym w.vars) (subst (λ z. Weighs p.vars z h) same weighs), subst (Holds t' h) (size ∙ sym s) held)
+                (h, subst (λ z. Weighs z h) same weighs, subst (Holds t' h) (size ∙ sym s) held)
             | inr ne ↦ let inside : k < length p.slots = omega (arith, slot_room (p.slots ++ Some c ∷ []) k d e', length_push p.slots (Some c), ne) in
                 let v = f.each k d (sym (get_or_append_left p.slots (Some c ∷ []) None k inside) ∙ e') in
-                (v.0, subst (λ u. Weighs u d v.0) (sym w.vars) v.1, keeps v.0 k v.2)
+                (v.0, v.1, keeps v.0 k v.2)
           ]
 
 module _ (p q : PropagatorOf) (w : IsWanting p q) where
@@ -122,11 +122,10 @@ module _ (p q : PropagatorOf) (w : IsWanting p q) where
             ]
       ]
 
-      each : (k : ℕ) (d : List LitOf) → slot_at q.slots k ≡ Some d → (a : ℕ) × Weighs q.vars d a × Holds t' a k
+      each : (k : ℕ) (d : List LitOf) → slot_at q.slots k ≡ Some d → (a : ℕ) × Weighs d a × Holds t' a k
       each k d e =
-          let s = slots_of_wanting q w.1 in
           let v = f.each k d (back k d e) in
-          (v.0, subst (λ u. Weighs u d v.0) (sym s.0) v.1, keeps v.0 k v.2)
+          (v.0, v.1, keeps v.0 k v.2)
 
 -- the slots up to one of them, as a loop reads it
 module _ (slots : List (Option (List LitOf))) (k : ℕ) (room : k < length slots) where
@@ -157,12 +156,20 @@ module _ (p : PropagatorOf) (k : ℕ) (c d : List LitOf) (at : slot_at p.slots k
       same_size : length (set p.slots k None) ≡ length p.slots
       same_size = length-set p.slots k None
 
-      each : (j : ℕ) (x : List LitOf) → slot_at (set p.slots k None) j ≡ Some x → (a : ℕ) × Weighs p.vars x a × Holds t a j
+      each : (j : ℕ) (x : List LitOf) → slot_at (set p.slots k None) j ≡ Some x → (a : ℕ) × Weighs x a × Holds t a j
       each j x e =
           elim (cases_eq j k) [
             | inl s ↦ absurd (let g : None ≡ Some x = sym (get_or-set_same p.slots k None None (slot_room p.slots k d at)) ∙ subst (λ n. slot_at (set p.slots k None) n ≡ Some x) s e in cc)
             | inr ne ↦ let v = f.each j x (sym (get_or-set_other p.slots k j None None ne) ∙ e) in (v.0, v.1, v.2)
           ]
+
+  pub less_without : (x : List LitOf) → Contains (clauses_of (set p.slots k None)) x → Contains (clauses_of p.slots) x
+  less_without x h =
+      let j = clauses_of-slot (set p.slots k None) x h in
+      elim (cases_eq j.0 k) [
+        | inl s ↦ absurd (let g : None ≡ Some x = sym (get_or-set_same p.slots k None None (slot_room p.slots k d at)) ∙ subst (λ n. slot_at (set p.slots k None) n ≡ Some x) s j.2 in cc)
+        | inr ne ↦ clauses_of-contains p.slots j.0 x (sym (get_or-set_other p.slots k j.0 None None ne) ∙ j.2)
+      ]
 
   pub deletes_without : IsRoot p → p.conflict ≡ false → (Conflict (clauses_of p.slots) → ⊥) → (IsReason (clauses_of p.slots) c → ⊥) → Deletes (clauses_of p.slots) c (clauses_of (set p.slots k None))
   deletes_without r free calm kept = inl (removes_at p.slots k c d at same, calm, kept)
@@ -177,15 +184,15 @@ filed_kept p t t' k f = record {
 
 -- the clauses below a number are on their chains
 abbrev pub IsFiledTo : PropagatorOf → CopiesOf → ℕ → Type 0
-IsFiledTo p t k = (j : ℕ) (d : List LitOf) → j < k → slot_at p.slots j ≡ Some d → (h : ℕ) × Weighs p.vars d h × Holds t h j
+IsFiledTo p t k = (j : ℕ) (d : List LitOf) → j < k → slot_at p.slots j ≡ Some d → (h : ℕ) × Weighs d h × Holds t h j
 
-pub filed_more : (p : PropagatorOf) (t t' : CopiesOf) (k h : ℕ) (c : List LitOf) → slot_at p.slots k ≡ Some c → Weighs p.vars c h → Holds t' h k → ((a j : ℕ) → Holds t a j → Holds t' a j)
+pub filed_more : (p : PropagatorOf) (t t' : CopiesOf) (k h : ℕ) (c : List LitOf) → slot_at p.slots k ≡ Some c → Weighs c h → Holds t' h k → ((a j : ℕ) → Holds t a j → Holds t' a j)
     → IsFiledTo p t k → IsFiledTo p t' (k + 1)
 filed_more p t t' k h c at weighs held keeps f j d b e =
     elim (cases_eq j k) [
       | inl q ↦ let g : Some c ≡ Some d = sym at ∙ subst (λ z. slot_at p.slots z ≡ Some d) q e in
           let same : c ≡ d = cc in
-          (h, subst (λ z. Weighs p.vars z h) same weighs, subst (Holds t' h) (sym q) held)
+          (h, subst (λ z. Weighs z h) same weighs, subst (Holds t' h) (sym q) held)
       | inr ne ↦ let v = f j d (omega (arith, b, ne)) e in (v.0, v.1, keeps v.0 j v.2)
     ]
 
@@ -197,19 +204,22 @@ filed_none p t k at f j d b e =
     ]
 
 pub checker_wanting : (p q : PropagatorOf) (t t' : CopiesOf) (marks others : List Bool) → IsWanting p q → ((a k : ℕ) → Holds t a k → Holds t' a k)
-    → t'.count ≡ t.count → length t'.nexts ≡ length t.nexts + 1 → IsRoot p → IsFree p.vars marks → IsFree p.vars others → IsFiled p t → IsRoot q × IsFree q.vars marks × IsFree q.vars others × IsFiled q t'
+    → t'.count ≡ t.count → length t'.nexts ≡ length t.nexts + 1 → IsRoot p → IsFree (clauses_of p.slots) marks → IsFree (clauses_of p.slots) others → IsFiled p t
+    → IsRoot q × IsFree (clauses_of q.slots) marks × IsFree (clauses_of q.slots) others × IsFiled q t'
 checker_wanting p q t t' marks others w keeps count place r m o f =
-    let e : q.vars ≡ p.vars = ap (λ (z : PropagatorOf). z.vars) w.1 in
-    (root_wanting p q w r, subst (λ v. IsFree v marks) (sym e) m, subst (λ v. IsFree v others) (sym e) o, filed_wanting p q w t t' keeps count place f)
+    let e = sym (clauses_wanting p q w) in
+    (root_wanting p q w r, subst (λ F. IsFree F marks) e m, subst (λ F. IsFree F others) e o, filed_wanting p q w t t' keeps count place f)
 
 pub checker_put : (p q : PropagatorOf) (c : List LitOf) (t t' : CopiesOf) (marks others : List Bool) (h n : ℕ) → IsPut p c q → ((a k : ℕ) → Holds t a k → Holds t' a k)
-    → n ≡ length p.slots → t'.count ≡ n + 1 → n < length t'.nexts → Weighs p.vars c h → Holds t' h n → IsRoot p → IsFree p.vars marks → IsFree p.vars others → IsFiled p t → IsRoot q × IsFree q.vars marks × IsFree q.vars others × IsFiled q t'
-checker_put p q c t t' marks others h n w keeps size count place weighs held r m o f = (
-  root_put p q c r w,
-  subst (λ v. IsFree v marks) (sym w.vars) m,
-  subst (λ v. IsFree v others) (sym w.vars) o,
-  filed_put p q c r w t t' h n f keeps size count place weighs held,
-)
+    → n ≡ length p.slots → t'.count ≡ n + 1 → n < length t'.nexts → Weighs c h → Holds t' h n → IsRoot p → HasPlaces marks c → HasPlaces others c
+    → IsFree (clauses_of p.slots) marks → IsFree (clauses_of p.slots) others → IsFiled p t → IsRoot q × IsFree (clauses_of q.slots) marks × IsFree (clauses_of q.slots) others × IsFiled q t'
+checker_put p q c t t' marks others h n w keeps size count place weighs held r in_marks in_others m o f =
+    let e = sym (ap clauses_of w.slots ∙ clauses_push p.slots c) in (
+      root_put p q c r w,
+      subst (λ F. IsFree F marks) e (free_push (clauses_of p.slots) c marks in_marks m),
+      subst (λ F. IsFree F others) e (free_push (clauses_of p.slots) c others in_others o),
+      filed_put p q c r w t t' h n f keeps size count place weighs held,
+    )
 
 pub checker_of : (v v' : ℕ) (F G : List (List LitOf)) (r o : Bool) → v ≡ v' → F ≡ G → (let k : CheckerOf = record { vars = v; clauses = F; refuted = r; out_of_memory = o } in k) ≡ record { vars = v'; clauses = G; refuted = r; out_of_memory = o }
 checker_of v v' F G r o e f =
@@ -217,12 +227,12 @@ checker_of v v' F G r o e f =
     ap (λ a. mk a F) e ∙ ap (mk v') f
 
 -- no copy is found where its chain has none
-pub not_present : (p : PropagatorOf) (t : CopiesOf) (marks : List Bool) (c : List LitOf) (w : ℕ) → w ≡ weight marks → length marks ≡ 2 * p.vars + 2 → Shows marks c
+pub not_present : (p : PropagatorOf) (t : CopiesOf) (marks : List Bool) (c : List LitOf) (w : ℕ) → w ≡ weight marks → Shows marks c
     → ((n k : ℕ) (d : List LitOf) → after t.nexts (beginning t.firsts w) n ≡ k + 1 → slot_at p.slots k ≡ Some d → SameClause c d → ⊥) → IsFiled p t → (d : List LitOf) → Contains (clauses_of p.slots) d → SameClause c d → ⊥
-not_present p t marks c w e size shows none f d h s =
+not_present p t marks c w e shows none f d h s =
     let k = clauses_of-slot p.slots d h in
     let v = f.each k.0 d k.2 in
-    let same : w ≡ v.0 = e ∙ weighs_same p.vars v.0 marks c d v.1 size shows s in
+    let same : w ≡ v.0 = e ∙ weighs_same v.0 marks c d v.1 shows s in
     let held = v.2 in
     none held.steps k.0 d (ap (λ a. after t.nexts (beginning t.firsts a) held.steps) same ∙ held.there) k.2 s
 
@@ -258,22 +268,6 @@ root_fresh p s t l c = record {
   derived = record { each = λ m h. absurd (Contains-empty m (subst (λ z. Contains z m) t h)) };
   falsified = λ g. absurd (let f : false ≡ true = sym c ∙ g in cc);
 }
-
-pub free_fresh : (vars : ℕ) (marks : List Bool) → marks ≡ replicate (2 * vars + 2) false → IsFree vars marks
-free_fresh vars marks e = record {
-  sized = ap length e ∙ length-replicate (2 * vars + 2) false;
-  clear = record {
-    on = λ l h. absurd (Contains-empty l h);
-    off = λ l h. absurd (let f : false ≡ true = sym (unmarked (index_of l)) ∙ sym (ap (λ z. get_or z (index_of l) false) e) ∙ h in cc);
-  };
-}
-  where
-    unmarked : (i : ℕ) → get_or (replicate (2 * vars + 2) false) i false ≡ false
-    unmarked i =
-        elim (cases_lt i (2 * vars + 2)) [
-          | inl h ↦ get_or-replicate (2 * vars + 2) i false false h
-          | inr h ↦ get_or_past (replicate (2 * vars + 2) false) i false (omega (arith, length-replicate (2 * vars + 2) false, h))
-        ]
 
 pub filed_fresh : (p : PropagatorOf) (t : CopiesOf) → p.slots ≡ [] → t.count ≡ 0 → IsFiled p t
 filed_fresh p t s n = record {

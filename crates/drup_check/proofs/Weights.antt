@@ -1,15 +1,15 @@
 -- Tables of marks, and what they weigh.
-use Rattle.std.proofs.Common.{◌≡◌, ◌≢◌, ℕ, ◌+◌, ◌*◌, ◌%◌, ◌^◌, ◌<◌, Bool, true, false, cond, List, [], ◌∷◌, ◌++◌, length, get_or, set, take, drop, refl, sym, ◌∙◌, ap, subst, inl, inr, arith, zero, suc}
+use Rattle.std.proofs.Common.{◌≡◌, ◌≢◌, ℕ, ◌+◌, ◌*◌, ◌%◌, ◌^◌, ◌-◌, ◌<◌, ◌≤◌, replicate, Bool, true, false, cond, List, [], ◌∷◌, ◌++◌, length, get_or, set, take, drop, refl, sym, ◌∙◌, ap, subst, inl, inr, arith, zero, suc}
 use Rattle.std.specs.Prelude.{Contains, All, IsTrue, ◌↔◌}
-use Rattle.std.proofs.lemmas.Bool.{both_ways, cases_Bool}
-use Rattle.std.proofs.lemmas.List.{ext_get_or, get_or-set_same, get_or-set_other, take_all, take_at}
+use Rattle.std.proofs.lemmas.Bool.{both_ways, cases_Bool, cases_lt}
+use Rattle.std.proofs.lemmas.List.{get_or_past, get_or_append_left, get_or-append_right, get_or-replicate, length-replicate, get_or-set_same, get_or-set_other, take_all, take_at}
 use Rattle.std.proofs.lemmas.List.Elements.{All-contains, All-push, Contains-append_left, Contains-get_or, Contains-push, Contains-push_cases}
 use Rattle.cnf_form.specs.Cnf.{LitOf, index_of, SameClause}
 use Rattle.cnf_form.specs.Coding.{lit_from, index_of-lit_from}
 use Rattle.cnf_form.proofs.Literals.{index_of-injective, lit_cases}
 use Rattle.cnf_form.proofs.Members.{Contains-empty, take_one_more}
 use Rattle.unit_propagation.specs.Marks.{is_marked, Shows}
-use Rattle.drup_check.specs.Marks.{scattered, sum_from, weight, Weighs}
+use Rattle.drup_check.specs.Marks.{HasPlaces, scattered, sum_from, weight, Weighs}
 use Rattle.drup_check.specs.Inside.{IsFree}
 
 pub sum_set : (k : ℕ) (marks : List Bool) (i : ℕ) → i < length marks → get_or marks i false ≡ false → sum_from k (set marks i true) ≡ sum_from k marks + scattered (k + i)
@@ -54,16 +54,23 @@ at_same a b c s r i =
       ]
     ]
 
-pub weighs_of : (vars : ℕ) (marks : List Bool) (c : List LitOf) → length marks ≡ 2 * vars + 2 → Shows marks c → Weighs vars c (weight marks)
-weighs_of vars marks c e s = record {
-  each = λ m f r. ap weight (ext_get_or false m marks (f ∙ sym e) (λ i h. at_same m marks c r s i));
-}
+-- tables that tell the same have the same sum, of whatever length
+sum_same : (k : ℕ) (a b : List Bool) → ((i : ℕ) → get_or a i false ≡ get_or b i false) → sum_from k a ≡ sum_from k b
+sum_same k [] b f = sym (sum_clear k b (λ i. sym (f i) ∙ get_or_past [] i false (omega arith)))
+sum_same k (x ∷ a) [] f = sum_clear k (x ∷ a) (λ i. f i ∙ get_or_past [] i false (omega arith))
+sum_same k (x ∷ a) (y ∷ b) f =
+    let p : cond x (scattered k) 0 ≡ cond y (scattered k) 0 = ap (λ z. cond z (scattered k) 0) (f zero) in
+    let q : sum_from (k + 1) a ≡ sum_from (k + 1) b = sum_same (k + 1) a b (λ i. f (suc i)) in
+    omega (arith, p, q)
+
+pub weighs_of : (marks : List Bool) (c : List LitOf) → Shows marks c → Weighs c (weight marks)
+weighs_of marks c s = record { each = λ m r. ap (λ n. n % 2 ^ 32) (sum_same 0 m marks (λ i. at_same m marks c r s i)) }
 
 pub shows_same : (marks : List Bool) (c d : List LitOf) → Shows marks c → SameClause c d → Shows marks d
 shows_same marks c d s q = record { on = λ l h. s.on l (q.back l h); off = λ l h. q.forth l (s.off l h) }
 
-pub weighs_same : (vars h : ℕ) (marks : List Bool) (c d : List LitOf) → Weighs vars d h → length marks ≡ 2 * vars + 2 → Shows marks c → SameClause c d → weight marks ≡ h
-weighs_same vars h marks c d w e s q = w.each marks e (shows_same marks c d s q)
+pub weighs_same : (h : ℕ) (marks : List Bool) (c d : List LitOf) → Weighs d h → Shows marks c → SameClause c d → weight marks ≡ h
+weighs_same h marks c d w s q = w.each marks (shows_same marks c d s q)
 
 sign_room : (v n : ℕ) (a : Bool) → 2 * v + 1 < n → 2 * v + cond a 1 0 < n
 sign_room v n true h = omega arith
@@ -186,8 +193,55 @@ same_iff am bm a b r s t w i = (
 pub slice_back : (old new : List Bool) (n : ℕ) → n ≡ length old → length new ≡ length old → take n (new ++ drop (length new) old) ≡ new
 slice_back old new n e f = take_at new (drop (length new) old) n (f ∙ sym e)
 
-pub free_back : (vars : ℕ) (old new : List Bool) (n : ℕ) → n ≡ length old → length new ≡ length old → IsFree vars old → Shows new [] → IsFree vars (take n (new ++ drop (length new) old))
-free_back vars old new n e f i s = rw (slice_back old new n e f) (record { sized = f ∙ i.sized; clear = s })
+-- a table that is as long has the same places, and a longer one has them too
+pub places_up : (old new : List Bool) (c : List LitOf) → length old ≤ length new → HasPlaces old c → HasPlaces new c
+places_up old new c le h k d i = omega (arith, h k d i, le)
 
-pub freed_back : (vars : ℕ) (old new : List Bool) (n : ℕ) → n ≡ length old → length new ≡ length old → IsFree vars new → IsFree vars (take n (new ++ drop (length new) old))
-freed_back vars old new n e f i = rw (slice_back old new n e f) i
+pub free_same : (F : List (List LitOf)) (old new : List Bool) → length old ≤ length new → IsFree F old → Shows new [] → IsFree F new
+free_same F old new le i s = record { places = λ c h. places_up old new c le (i.places c h); clear = s }
+
+pub free_back : (F : List (List LitOf)) (old new : List Bool) (n : ℕ) → n ≡ length old → length new ≡ length old → IsFree F old → Shows new [] → IsFree F (take n (new ++ drop (length new) old))
+free_back F old new n e f i s = rw (slice_back old new n e f) (free_same F old new (omega (arith, f)) i s)
+
+pub freed_back : (F : List (List LitOf)) (old new : List Bool) (n : ℕ) → n ≡ length old → length new ≡ length old → IsFree F new → IsFree F (take n (new ++ drop (length new) old))
+freed_back F old new n e f i = rw (slice_back old new n e f) i
+
+pub places_back : (old new : List Bool) (n : ℕ) (c : List LitOf) → n ≡ length old → length new ≡ length old → HasPlaces old c → HasPlaces (take n (new ++ drop (length new) old)) c
+places_back old new n c e f h = rw (slice_back old new n e f) (places_up old new c (omega (arith, f)) h)
+
+-- of fewer clauses
+pub free_less : (F G : List (List LitOf)) (marks : List Bool) → ((c : List LitOf) → Contains G c → Contains F c) → IsFree F marks → IsFree G marks
+free_less F G marks less i = record { places = λ c h. i.places c (less c h); clear = i.clear }
+
+-- of one clause more, for which there are places
+pub free_push : (F : List (List LitOf)) (c : List LitOf) (marks : List Bool) → HasPlaces marks c → IsFree F marks → IsFree (F ++ c ∷ []) marks
+free_push F c marks room i = record {
+  places = λ d h. elim (Contains-push_cases F c d h) [ inl k ↦ i.places d k | inr e ↦ subst (HasPlaces marks) e room ];
+  clear = i.clear;
+}
+
+pub free_none : IsFree [] []
+free_none = record {
+  places = λ c h. absurd (Contains-empty c h);
+  clear = record { on = λ l h. absurd (Contains-empty l h); off = λ l h. absurd (both_ways _ (get_or_past [] (index_of l) false (omega arith)) h) };
+}
+
+-- marks that are added are off
+pub clear_longer : (marks : List Bool) (n : ℕ) → Shows marks [] → Shows (marks ++ replicate n false) []
+clear_longer marks n s = record {
+  on = λ l h. absurd (Contains-empty l h);
+  off = λ l h. absurd (both_ways _ (off (index_of l)) h);
+}
+  where
+    off : (i : ℕ) → get_or (marks ++ replicate n false) i false ≡ false
+    off i = elim (cases_lt i (length marks)) [
+      | inl h ↦ get_or_append_left marks (replicate n false) false i h ∙ clear_at marks s i
+      | inr h ↦ get_or-append_right marks (replicate n false) (length marks) i false refl h ∙ elim (cases_lt (i - length marks) n) [
+        | inl k ↦ get_or-replicate n (i - length marks) false false k
+        | inr k ↦ get_or_past (replicate n false) (i - length marks) false (omega (arith, length-replicate n false, k))
+      ]
+    ]
+
+-- a clause without places is the same as none that has them
+pub same_places : (marks : List Bool) (c d : List LitOf) → SameClause c d → HasPlaces marks d → HasPlaces marks c
+same_places marks c d q h k e i = All-contains (λ (l : LitOf). 2 * l.var + 1 < length marks) d (get_or c k e) h (q.forth (get_or c k e) (Contains-get_or c k e i))

@@ -1,10 +1,10 @@
 -- What holds of a checker's fields.
-use Rattle.std.specs.Prelude.{◌≡◌, ℕ, ◌+◌, ◌*◌, ◌≤◌, Bool, true, List, [], length, Option, Some}
+use Rattle.std.specs.Prelude.{◌≡◌, ℕ, ◌≤◌, Bool, true, List, [], length, Contains, Option, Some}
 use Rattle.cnf_form.specs.Cnf.{LitOf}
 use Rattle.unit_propagation.specs.Marks.{Shows}
 use Rattle.unit_propagation.specs.Propagation.{HasFalsified, IsDerived}
 use Rattle.unit_propagation.specs.Propagator.{PropagatorOf, clauses_of, slot_at}
-use Rattle.drup_check.specs.Marks.{Weighs}
+use Rattle.drup_check.specs.Marks.{HasPlaces, Weighs}
 use Rattle.drup_check.specs.Copies.{CopiesOf, Holds}
 
 -- no level is open, what is true is in the closure, and a conflict is one of the clauses
@@ -13,14 +13,14 @@ pub record IsRoot (p : PropagatorOf) : Type 0 where
   pub derived : IsDerived (clauses_of p.slots) p.trail
   pub falsified : p.conflict ≡ true → HasFalsified p.trail (clauses_of p.slots)
 
--- nothing is marked, for each literal of the variables
-pub record IsFree (vars : ℕ) (marks : List Bool) : Type 0 where
-  pub sized : length marks ≡ 2 * vars + 2
+-- nothing is marked, and there are places for the literals of the clauses
+pub record IsFree (F : List (List LitOf)) (marks : List Bool) : Type 0 where
+  pub places : (c : List LitOf) → Contains F c → HasPlaces marks c
   pub clear : Shows marks []
 
 -- the chains have each clause that is present, and there is a place for each number
 pub record IsFiled (p : PropagatorOf) (t : CopiesOf) : Type 0 where
-  pub each : (k : ℕ) (c : List LitOf) → slot_at p.slots k ≡ Some c → (h : ℕ) × Weighs p.vars c h × Holds t h k
+  pub each : (k : ℕ) (c : List LitOf) → slot_at p.slots k ≡ Some c → (h : ℕ) × Weighs c h × Holds t h k
   pub counted : t.count ≤ length p.slots
   pub placed : length p.slots ≤ length t.nexts
 

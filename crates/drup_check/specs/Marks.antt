@@ -22,5 +22,5 @@ abbrev pub weight : List Bool → ℕ
 weight marks = sum_from 0 marks % 2 ^ 32
 
 -- each table of the literals of the clause weighs so much
-pub record Weighs (vars : ℕ) (c : List LitOf) (h : ℕ) : Type 0 where
-  pub each : (marks : List Bool) → length marks ≡ 2 * vars + 2 → Shows marks c → weight marks ≡ h
+pub record Weighs (c : List LitOf) (h : ℕ) : Type 0 where
+  pub each : (marks : List Bool) → Shows marks c → weight marks ≡ h

@@ -2,6 +2,7 @@
 #![tactic(auto)]
 
 ghost use Rattle.std.specs.Prelude.{◌≡◌, ◌↔◌, ◌≤◌, ◌++◌, ◌∷◌, [], true, false, IfOk, OnOk, OnErr, IsErr, IsTrue, Ok};
+ghost use Rattle.clause_source.specs.Given.{lits_of};
 ghost use Rattle.cnf_form.specs.Cnf.{ClauseWithin, IsAdmitted, Deletes};
 ghost use Rattle.cnf_form.specs.declared.literal.TheConstants.{MAX_VARS};
 ghost use Rattle.drup_check.specs.Checking.{CheckerOf, start, with_clause};
@@ -12,10 +13,11 @@ mod lookup;
 mod marks;
 
 use admission::{is_reason, reaches_conflict};
-use cnf_form::{Formula, Lit, MAX_VARS};
+use clause_source::{ClauseSource, Given};
+use cnf_form::{Lit, MAX_VARS};
 use copies::Copies;
 use lookup::{file_all, file_present, find_clause};
-use marks::weigh;
+use marks::{reach_both, weigh};
 use std::alloc::{AllocError, Global};
 use std::marker::Model;
 use unit_propagation::Propagator;
@@ -47,6 +49,7 @@ pub struct Checker {
     alloc: Global,
     core: Propagator,
     copies: Copies,
+    // They reach as far as the highest variable of a clause that was kept.
     marks: Vec<bool>,
     others: Vec<bool>,
     negated: Vec<Lit>,
@@ -67,7 +70,7 @@ impl Model for Checker {
 
     ghost view = { λ k. record { vars = k.core.vars; clauses = clauses_of k.core.slots; refuted = k.refuted; out_of_memory = k.out_of_memory } };
 
-    ghost invariant = { λ k. IsRoot k.core × IsFree k.core.vars k.marks.items × IsFree k.core.vars k.others.items
+    ghost invariant = { λ k. IsRoot k.core × IsFree (clauses_of k.core.slots) k.marks.items × IsFree (clauses_of k.core.slots) k.others.items
         × IsFiled k.core k.copies };
 }
 
@@ -78,14 +81,12 @@ impl Checker {
         ensures { IfOk result (λ k. k ≡ record { vars = vars; clauses = []; refuted = false; out_of_memory = false }) }
     {
         let core = Propagator::new(alloc, vars)?;
-        let marks = vec![in alloc; false; 2 * vars as usize + 2]?;
-        let others = vec![in alloc; false; 2 * vars as usize + 2]?;
         Ok(Checker {
             alloc,
             core,
             copies: Copies::new(alloc, CHAINS, 0)?,
-            marks,
-            others,
+            marks: Vec::new(alloc),
+            others: Vec::new(alloc),
             negated: Vec::new(alloc),
             live: 0,
             dead: 0,
@@ -94,14 +95,14 @@ impl Checker {
         })
     }
 
-    /// A checker that has the clauses of the formula.
-    pub fn new(alloc: Global, formula: &Formula) -> Result<Self, AllocError>
-        ensures { IfOk result (λ k. k ≡ start formula.now) }
+    /// A checker that has the clauses of a source's formula.
+    pub fn new<S: ClauseSource>(alloc: Global, source: &S) -> Result<Self, AllocError>
+        ensures { IfOk result (λ k. k ≡ start (S.formula source.now)) }
     {
-        let mut checker = Checker::empty(alloc, formula.vars())?;
-        let clauses = formula.clauses();
-        for place in 0..clauses.len() {
-            checker.keep(clauses.get(place))?;
+        let mut checker = Checker::empty(alloc, source.vars())?;
+        let mut place = source.first();
+        for number in 0..source.count() {
+            checker.keep_given(source.next(&mut place))?;
         }
         Ok(checker)
     }
@@ -125,6 +126,7 @@ impl Checker {
         ensures err { OnErr result (self.new ≡ self.old) }
     {
         self.make_room()?;
+        reach_both(&mut self.marks, &mut self.others, clause)?;
         let weight = weigh(clause, &mut self.marks);
         self.copies.make_place()?;
         let k = self.core.len() as u32;
@@ -132,6 +134,19 @@ impl Checker {
         self.copies.enter(weight, k);
         self.live = self.live.saturating_add(clause.len());
         Ok(())
+    }
+
+    // Keeps a clause that a source gives.
+    fn keep_given(&mut self, given: Given<'_>) -> Result<(), AllocError>
+        requires { ClauseWithin self.old.vars (lits_of given) }
+        ensures { OnOk result (self.new ≡ record self.old { clauses = self.old.clauses ++ lits_of given.entry ∷ [] }) }
+    {
+        match given {
+            Given::One(a) => self.keep(&[a]),
+            Given::Two(a, b) => self.keep(&[a, b]),
+            Given::Three(a, b, c) => self.keep(&[a, b, c]),
+            Given::All(clause) => self.keep(clause),
+        }
     }
 
     // Whether the present clauses admit a clause.

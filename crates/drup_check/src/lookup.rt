@@ -1,25 +1,23 @@
 // The search for a copy of a clause.
 
 ghost use Rattle.std.specs.Prelude.{◌≡◌, ◌↔◌, ℕ, ◌+◌, ◌*◌, ◌<◌, ◌≤◌, [], List, length, IsTrue, IfOk, IfSome, IfNone, Some, None, Contains, true};
-ghost use Rattle.cnf_form.specs.Cnf.{LitOf, ClauseWithin, SameClause};
+ghost use Rattle.cnf_form.specs.Cnf.{LitOf, SameClause};
 ghost use Rattle.unit_propagation.specs.Marks.{Shows};
 ghost use Rattle.unit_propagation.specs.Propagator.{clauses_of, slot_at};
 ghost use Rattle.drup_check.specs.Inside.{IsFree, IsFiled, Keeps};
 ghost use Rattle.drup_check.specs.Copies.{after, beginning};
 
 use crate::copies::Copies;
-use crate::marks::{is_same, mark_all, unmark_all, weigh};
+use crate::marks::{has_places, is_same, mark_all, unmark_all, weigh};
 use cnf_form::Lit;
 use std::alloc::{AllocError, Global};
 use unit_propagation::Propagator;
 
 // Whether the clause with a number is the same set.
 fn is_copy(core: &Propagator, k: u32, clause: &[Lit], marks: &[bool], other: &mut [bool]) -> bool
-    requires within { ClauseWithin core.now.vars clause.now }
-    requires sized { length marks.now ≡ 2 * core.now.vars + 2 }
     requires shows { Shows marks.now clause.now }
-    requires free { IsFree core.now.vars other.old }
-    ensures free { IsFree core.now.vars other.new }
+    requires free { IsFree (clauses_of core.now.slots) other.old }
+    ensures free { IsFree (clauses_of core.now.slots) other.new }
     ensures yes { IsTrue result → (d : List LitOf) × (slot_at core.now.slots k ≡ Some d) × SameClause clause.now d }
     ensures no { (d : List LitOf) → slot_at core.now.slots k ≡ Some d → SameClause clause.now d → IsTrue result }
 {
@@ -52,11 +50,9 @@ fn find(
     marks: &[bool],
     other: &mut [bool],
 ) -> Option<u32>
-    requires within { ClauseWithin core.now.vars clause.now }
-    requires sized { length marks.now ≡ 2 * core.now.vars + 2 }
     requires shows { Shows marks.now clause.now }
-    requires free { IsFree core.now.vars other.old }
-    ensures free { IsFree core.now.vars other.new }
+    requires free { IsFree (clauses_of core.now.slots) other.old }
+    ensures free { IsFree (clauses_of core.now.slots) other.new }
     ensures keeps { Keeps core.now.slots copies.old copies.new }
     ensures found { IfSome result (λ k. (d : List LitOf) × (slot_at core.now.slots k ≡ Some d) × SameClause clause.now d) }
     ensures none { IfNone result ((n k : ℕ) (d : List LitOf) → after copies.old.nexts (beginning copies.old.firsts weight) n ≡ k + 1
@@ -87,17 +83,20 @@ pub(crate) fn find_clause(
     marks: &mut [bool],
     others: &mut [bool],
 ) -> Option<u32>
-    requires within { ClauseWithin core.now.vars clause.now }
-    requires free { IsFree core.now.vars marks.old }
-    requires others_free { IsFree core.now.vars others.old }
-    ensures free { IsFree core.now.vars marks.new }
-    ensures others_free { IsFree core.now.vars others.new }
+    requires free { IsFree (clauses_of core.now.slots) marks.old }
+    requires others_free { IsFree (clauses_of core.now.slots) others.old }
+    ensures free { IsFree (clauses_of core.now.slots) marks.new }
+    ensures others_free { IsFree (clauses_of core.now.slots) others.new }
     ensures filed { IsFiled core.now copies.old → IsFiled core.now copies.new }
     ensures found { IfSome result (λ k. (k < length core.now.slots)
         × ((d : List LitOf) × (slot_at core.now.slots k ≡ Some d) × SameClause clause.now d)) }
     ensures none { IfNone result (IsFiled core.now copies.old
         → (d : List LitOf) → Contains (clauses_of core.now.slots) d → SameClause clause.now d → ⊥) }
 {
+    // Each present clause has places.
+    if !has_places(clause, marks) {
+        return None;
+    }
     let weight = mark_all(clause, marks);
     let found = find(core, copies, weight, clause, marks, others);
     unmark_all(clause, marks);
@@ -106,10 +105,10 @@ pub(crate) fn find_clause(
 
 // Files the clauses that are present in chains that are empty.
 pub(crate) fn file_present(core: &Propagator, copies: &mut Copies, marks: &mut [bool])
-    requires free { IsFree core.now.vars marks.old }
+    requires free { IsFree (clauses_of core.now.slots) marks.old }
     requires empty { copies.old.count ≡ 0 }
     requires places { length copies.old.nexts ≡ length core.now.slots }
-    ensures free { IsFree core.now.vars marks.new }
+    ensures free { IsFree (clauses_of core.now.slots) marks.new }
     ensures filed { IsFiled core.now copies.new }
 {
     for k in 0..core.len() {
@@ -128,8 +127,8 @@ pub(crate) fn file_all(
     marks: &mut [bool],
 ) -> Result<Copies, AllocError>
     requires chains { 0 < chains }
-    requires free { IsFree core.now.vars marks.old }
-    ensures free { IsFree core.now.vars marks.new }
+    requires free { IsFree (clauses_of core.now.slots) marks.old }
+    ensures free { IsFree (clauses_of core.now.slots) marks.new }
     ensures filed { IfOk result (λ t. IsFiled core.now t) }
 {
     let mut copies = Copies::new(alloc, chains, core.len())?;

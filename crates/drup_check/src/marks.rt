@@ -1,11 +1,12 @@
-// Sets of literals as tables of marks, which have two places for each variable.
+// Sets of literals as tables of marks, which have two places for each variable up to some one.
 
-ghost use Rattle.std.specs.Prelude.{◌≡◌, ◌↔◌, ℕ, ◌+◌, ◌*◌, ◌<◌, [], true, length, All, IsTrue, Contains};
+ghost use Rattle.std.specs.Prelude.{◌≡◌, ◌↔◌, ℕ, ◌+◌, ◌*◌, ◌<◌, ◌≤◌, ◌++◌, [], true, false, length, replicate, All, OnOk, IsTrue, Contains};
 ghost use Rattle.cnf_form.specs.Cnf.{LitOf, SameClause};
 ghost use Rattle.unit_propagation.specs.Marks.{is_marked, Shows};
 ghost use Rattle.drup_check.specs.Marks.{HasPlaces, Weighs, scattered, weight};
 
 use cnf_form::Lit;
+use std::alloc::AllocError;
 
 // 2^64 divided by the golden ratio.
 const SCATTER: u64 = 0x9e37_79b9_7f4a_7c15;
@@ -17,6 +18,58 @@ fn scattered(place: usize) -> u32
 {
     let high = (place as u64).wrapping_mul(SCATTER) / (1 << 32);
     (high.wrapping_mul(high) / (1 << 16) % (1 << 32)) as u32
+}
+
+// Whether a table has places for the literals of a clause.
+pub(crate) fn has_places(clause: &[Lit], marks: &[bool]) -> bool
+    ensures { IsTrue result ↔ HasPlaces marks.now clause.now }
+{
+    for l in clause {
+        if 2 * l.var() as usize + 1 >= marks.len() {
+            return false;
+        }
+    }
+    true
+}
+
+// Makes places in a table for a literal.
+fn reach_one(marks: &mut Vec<bool>, l: Lit) -> Result<(), AllocError>
+    ensures more { (n : ℕ) × (marks.new.items ≡ marks.old.items ++ replicate n false) }
+    ensures place { OnOk result (2 * l.var + 1 < length marks.new.items) }
+{
+    let count = 2 * l.var() as usize + 2;
+    if marks.len() < count {
+        marks.resize(count, false)?;
+    }
+    Ok(())
+}
+
+// Makes places in a table for the literals of a clause.
+fn reach(marks: &mut Vec<bool>, clause: &[Lit]) -> Result<(), AllocError>
+    ensures clear { Shows marks.old.items [] → Shows marks.new.items [] }
+    ensures longer { length marks.old.items ≤ length marks.new.items }
+    ensures places { OnOk result (HasPlaces marks.new.items clause.now) }
+{
+    for l in clause {
+        reach_one(marks, *l)?;
+    }
+    Ok(())
+}
+
+// The same in two tables.
+pub(crate) fn reach_both(
+    marks: &mut Vec<bool>,
+    others: &mut Vec<bool>,
+    clause: &[Lit],
+) -> Result<(), AllocError>
+    ensures clear { Shows marks.old.items [] → Shows marks.new.items [] }
+    ensures others_clear { Shows others.old.items [] → Shows others.new.items [] }
+    ensures longer { length marks.old.items ≤ length marks.new.items }
+    ensures others_longer { length others.old.items ≤ length others.new.items }
+    ensures places { OnOk result (HasPlaces marks.new.items clause.now × HasPlaces others.new.items clause.now) }
+{
+    reach(marks, clause)?;
+    reach(others, clause)
 }
 
 // Marks the literals of a clause. What their set weighs.
@@ -53,20 +106,29 @@ pub(crate) fn weigh(clause: &[Lit], marks: &mut [bool]) -> u32
     requires places { HasPlaces marks.old clause.now }
     requires clear { Shows marks.old [] }
     ensures clear { Shows marks.new [] }
-    ensures weighs { (vars : ℕ) → length marks.old ≡ 2 * vars + 2 → Weighs vars clause.now result }
+    ensures weighs { Weighs clause.now result }
 {
     let weight = mark_all(clause, marks);
     unmark_all(clause, marks);
     weight
 }
 
+// Whether a literal is marked in a table, which has no mark past its end.
+fn is_marked(marks: &[bool], l: Lit) -> bool
+    ensures { result ≡ is_marked marks.now l }
+{
+    match marks.get(l.index()) {
+        Some(mark) => *mark,
+        None => false,
+    }
+}
+
 // Whether each literal of the clause is marked.
 fn is_within(clause: &[Lit], marks: &[bool]) -> bool
-    requires { HasPlaces marks.now clause.now }
     ensures { IsTrue result ↔ All (λ l. is_marked marks.now l ≡ true) clause.now }
 {
     for l in clause {
-        if !marks[l.index()] {
+        if !is_marked(marks, *l) {
             return false;
         }
     }
@@ -75,9 +137,7 @@ fn is_within(clause: &[Lit], marks: &[bool]) -> bool
 
 // Whether two clauses are the same set, of which the first is marked in a table of its own.
 pub(crate) fn is_same(a: &[Lit], a_marks: &[bool], b: &[Lit], b_marks: &mut [bool]) -> bool
-    requires places { HasPlaces a_marks.now b.now }
-    requires a_places { HasPlaces b_marks.old a.now }
-    requires b_places { HasPlaces b_marks.old b.now }
+    requires places { HasPlaces b_marks.old b.now }
     requires shows { Shows a_marks.now a.now }
     requires clear { Shows b_marks.old [] }
     ensures same { IsTrue result ↔ SameClause a.now b.now }

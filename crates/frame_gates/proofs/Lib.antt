@@ -4,7 +4,6 @@ pub mod Opening
 pub mod Places
 pub mod Giving
 pub mod Following
-pub mod Framing
 pub mod Saying
 pub mod Choosing
 pub mod Filling

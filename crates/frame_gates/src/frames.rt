@@ -1,6 +1,6 @@
-//! Frames, one after the other.
+//! Frames over literals that are there.
 
-ghost use Rattle.std.specs.Prelude.{◌≡◌, ◌+◌, ◌*◌, ◌<◌, ◌++◌, ◌∷◌, [], true, false, All, IfOk, List, OnOk, length, ℕ};
+ghost use Rattle.std.specs.Prelude.{◌≡◌, ◌+◌, ◌*◌, ◌<◌, true, false, All, IfOk, OnOk, length, ℕ};
 ghost use Rattle.cnf_form.specs.Cnf.{LitOf, LitWithin};
 ghost use Rattle.gate_graph.specs.Circuit.{Means};
 ghost use Rattle.std.specs.List.{sum_by};
@@ -8,13 +8,11 @@ ghost use Rattle.gate_rows.specs.Literals.{Builds, IsFull, MeansRow};
 ghost use Rattle.model_core.specs.Meaning.{Assumed, Broken, Reached, next_states as states_after};
 ghost use Rattle.model_core.specs.Served.{IsModel};
 ghost use Rattle.model_core.specs.Shape.{states};
-ghost use Rattle.frame_gates.specs.Costs.{frame_vars, next_gates, node_gates};
-ghost use Rattle.frame_gates.specs.Frames.{Adds, AreFrames, IsFrameOver, IsTable, Opens, Tells, cycle_of, lit_at, lits_at, open_at};
-ghost use Rattle.frame_gates.specs.Steps.{IsFilled, IsFirstTable, IsFrame, IsOpen, MakesInputs, digits_of, without};
+ghost use Rattle.frame_gates.specs.Costs.{next_gates, node_gates};
+ghost use Rattle.frame_gates.specs.Frames.{IsFrameOver, IsTable, Tells, cycle_of};
+ghost use Rattle.frame_gates.specs.Steps.{IsFilled, IsFirstTable};
 
-use crate::first::First;
 use crate::nodes::run_nodes;
-use crate::open::open_row;
 use crate::registers::next_states;
 use crate::rows::{Words, push, write_row};
 use crate::statements::{all_hold, speaks, statement_at};
@@ -24,7 +22,7 @@ use model_core::model::WordModel;
 use std::alloc::{AllocError, Global};
 use std::marker::Model;
 
-/// The literals of the frame at hand, one for each place of a model. Earlier frames are kept in the gates alone.
+/// The literals of a frame, one for each place of a model.
 ///
 /// Of the frame after an error nothing is said; the gates say of their variables what they said before.
 #[derive(Drop)]
@@ -65,54 +63,6 @@ fn new_table(alloc: Global, gates: &Gates, model: &WordModel) -> Result<Vec<Lit>
         push(&mut table, constant_at(gates, place, low))?;
     }
     Ok(table)
-}
-
-// The literals of the state bits in the first frame.
-fn start_row(
-    alloc: Global,
-    gates: &mut Gates,
-    model: &WordModel,
-    first: First,
-) -> Result<Vec<Lit>, GateFault>
-    ensures bits { IfOk result (λ row. IsOpen gates.old gates.new (digits_of first model.now) (length (states model.now)) row.items) }
-    ensures inputs { IfOk result (λ row. MakesInputs gates.old gates.new (without row.items (digits_of first model.now))) }
-    ensures adds { IfOk result (λ _. Adds gates.old gates.new (length (states model.now))) }
-    ensures too_many { result ≡ Err GateFault.TooMany → IsFull gates.old gates.new (length (states model.now)) }
-{
-    let count = model.states().len();
-    match first {
-        First::Start => open_row(alloc, gates, model.starts(), count),
-        First::Any => open_row(alloc, gates, &[], count),
-    }
-}
-
-// Gives the state bits the literals of a row, each input a new variable, and the nodes' outputs what the nodes give.
-fn fill(
-    alloc: Global,
-    gates: &mut Gates,
-    model: &WordModel,
-    row: &[Lit],
-    words: &mut Words,
-    table: &mut [Lit],
-) -> Result<(), GateFault>
-    requires model { IsModel model.now }
-    requires table { IsTable model.now gates.old table.old }
-    requires row { All (LitWithin gates.old.formula.vars) row.now }
-    requires as_many { length row.now ≡ length (states model.now) }
-    ensures frame { OnOk result (IsFrame model.now gates.old gates.new row.now table.old table.new) }
-    ensures inputs { OnOk result (MakesInputs gates.old gates.new (lits_at table.new model.now.inputs)) }
-    ensures adds { OnOk result (Adds gates.old gates.new (frame_vars model.now)) }
-    ensures too_many { result ≡ Err GateFault.TooMany → IsFull gates.old gates.new (frame_vars model.now) }
-{
-    let bits = model.states();
-    write_row(table, bits, row);
-    let places = model.inputs();
-    let inputs = open_row(alloc, gates, &[], places.len())?;
-    gates.promise();
-    write_row(table, places, inputs.as_slice());
-    run_nodes(alloc, gates, model, words, table)?;
-    gates.promise();
-    Ok(())
 }
 
 // Gives the state bits and the inputs the literals of two rows, and the nodes' outputs what the nodes give.
@@ -182,63 +132,6 @@ impl Frames {
         let _ = model.size();
         let held = self.table.as_slice();
         next_states(alloc, gates, model, &mut self.words, held)
-    }
-
-    /// The first frame: one cycle from a start, or from any state.
-    pub fn first(
-        alloc: Global,
-        gates: &mut Gates,
-        model: &WordModel,
-        first: First,
-    ) -> Result<Frames, GateFault>
-        ensures frames { IfOk result (λ table. AreFrames model.now first (table ∷ []) gates.new) }
-        ensures opens { IfOk result (λ table. Opens gates.old gates.new table (open_at first model.now ++ model.now.inputs)) }
-        ensures adds { IfOk result (λ _. Adds gates.old gates.new (length (states model.now) + frame_vars model.now)) }
-        ensures too_many { result ≡ Err GateFault.TooMany → IsFull gates.old gates.new (length (states model.now) + frame_vars model.now) }
-    {
-        let _ = model.size();
-        gates.promise();
-        let row = start_row(alloc, gates, model, first)?;
-        let mut table = new_table(alloc, gates, model)?;
-        let mut words = Words::new(alloc);
-        let start = row.as_slice();
-        let lits = table.as_mut_slice();
-        fill(alloc, gates, model, start, &mut words, lits)?;
-        Ok(Frames { table, words })
-    }
-
-    /// One more frame: the cycle after the frame at hand, which is from now on this one.
-    pub fn advance(
-        &mut self,
-        alloc: Global,
-        gates: &mut Gates,
-        model: &WordModel,
-    ) -> Result<(), GateFault>
-        requires table { IsTable model.now gates.old self.old }
-        ensures frames { OnOk result ((first : First) (before : List (List LitOf)) →
-            AreFrames model.now first (before ++ self.old ∷ []) gates.old → AreFrames model.now first (before ++ self.old ∷ self.new ∷ []) gates.new) }
-        ensures table { OnOk result (IsTable model.now gates.new self.new) }
-        ensures opens { OnOk result (Opens gates.old gates.new self.new model.now.inputs) }
-        ensures adds { OnOk result (Adds gates.old gates.new (next_gates model.now + frame_vars model.now)) }
-        ensures too_many { result ≡ Err GateFault.TooMany → IsFull gates.old gates.new (next_gates model.now + frame_vars model.now) }
-    {
-        let _ = model.size();
-        gates.promise();
-        let held = self.table.as_slice();
-        let row = next_states(alloc, gates, model, &mut self.words, held)?;
-        gates.promise();
-        let next = row.as_slice();
-        let lits = self.table.as_mut_slice();
-        fill(alloc, gates, model, next, &mut self.words, lits)?;
-        Ok(())
-    }
-
-    /// The literal of a place in the frame at hand.
-    pub fn literal(&self, place: u32) -> Lit
-        requires { place < length self.now }
-        ensures { result ≡ lit_at self.now place }
-    {
-        self.table[place as usize]
     }
 
     /// The literal that each assumption holds in the frame at hand.

@@ -8,7 +8,7 @@ use Rattle.model_core.specs.Choices.{ChoicesOf, Plays, open_states}
 use Rattle.sby_terms.specs.declared.names.JobName.{JobName}
 use Rattle.sby_terms.specs.declared.names.JobName.TheVariants.{Base, Step, Cover}
 use Rattle.sby_terms.specs.declared.span.Span.{Span}
-use Rattle.frame_gates.specs.Frames.{open_at}
+use Rattle.job_terms.specs.First.{open_at}
 use Rattle.job_terms.specs.Decoding.{DecodingOf, decoded_by}
 use Rattle.job_terms.specs.Jobs.{IsGoal, MayEnd, first, frames}
 

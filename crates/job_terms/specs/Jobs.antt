@@ -7,8 +7,8 @@ use Rattle.sby_terms.specs.Span.{first_of, last_of, slices_of}
 use Rattle.sby_terms.specs.declared.names.JobName.{JobName}
 use Rattle.sby_terms.specs.declared.names.JobName.TheVariants.{Base, Step, Cover}
 use Rattle.sby_terms.specs.declared.span.Span.{Span}
-use Rattle.frame_gates.specs.declared.first.First.{First}
-use Rattle.frame_gates.specs.declared.first.First.TheVariants.{Start, Any}
+use Rattle.job_terms.specs.First.{First}
+use Rattle.job_terms.specs.First.First.{Start, Any}
 
 -- Base(i): a run whose last cycle is of slice i breaks an assertion there. Step: depth + 1 cycles from any state do, in the last alone.
 -- Cover(k): a run of at most depth cycles reaches cover statement k.

@@ -1,3 +1,4 @@
+pub mod First
 pub mod Jobs
 pub mod Decoding
 pub mod Encoding

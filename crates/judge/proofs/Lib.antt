@@ -11,3 +11,4 @@ pub mod Zeros
 pub mod Files
 pub mod Claims
 pub mod Solving
+pub mod WireRows

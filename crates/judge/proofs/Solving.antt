@@ -8,7 +8,7 @@ use Rattle.job_terms.specs.Decoding.{values_of}
 use Rattle.job_terms.specs.Encoding.{EncodedOf}
 use Rattle.cert_judge.proofs.OutputFates.{output_refuted}
 use Rattle.cert_judge.specs.OutputFate.{IsOutputFate, IsOutputFateSoFar}
-use Rattle.cert_judge.specs.OutputJudging.{Ends as OutputEnds, Feeds as OutputFeeds, OutputOf, Stands}
+use Rattle.cert_judge.specs.OutputJudging.{Ends as OutputEnds, Feeds as OutputFeeds, Stands}
 use Rattle.cert_judge.specs.Output.{stream_of}
 use Rattle.cert_judge.specs.Spots.{given}
 use Rattle.cert_judge.specs.declared.spot.Spot.TheVariants.{Start}
@@ -27,7 +27,7 @@ use Rattle.judge.proofs.Problems.{one_formula}
 use Rattle.judge.proofs.Telling.{finds_run}
 use Rattle.judge.specs.Judging.{Finds, FindsPlayed, IsTrueOutcome, fate_told}
 use Rattle.judge.specs.Problem.{AskedOf, IsEncodedOf, IsFormulaOf, IsJob, IsJobFile}
-use Rattle.judge.specs.Solver.{Ends, Feeds, IsForJob, IsSolver, SolverOf, is_more, is_open}
+use Rattle.judge.specs.Solver.{Ends, Feeds, IsForJob, IsSolver, OutputOf, SolverOf, is_more, is_open}
 use Rattle.judge.specs.declared.judging.Progress.{Progress}
 use Rattle.judge.specs.declared.judging.Progress.TheVariants.{More, Done, Unknown}
 

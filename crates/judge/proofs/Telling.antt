@@ -7,7 +7,7 @@ use Rattle.cnf_form.specs.Dimacs.{IsDimacs}
 use Rattle.job_terms.specs.Decoding.{values_of}
 use Rattle.job_terms.specs.Encoding.{EncodedOf}
 use Rattle.cert_judge.specs.Kinds.{IsFate, IsFateSoFar, stream_values}
-use Rattle.cert_judge.specs.Judging.{Feeds as StreamFeeds, IsOver, IsSameJudge as IsSameStream, JudgeOf as StreamOf, Stands, bits_of, formula_of, kind_of, outcome_of}
+use Rattle.cert_judge.specs.Judging.{Feeds as StreamFeeds, IsOver, IsSameJudge as IsSameStream, Stands, bits_of, formula_of, kind_of, outcome_of}
 use Rattle.sby_terms.specs.declared.names.Answer.{Answer}
 use Rattle.sby_terms.specs.declared.names.Answer.TheVariants.{Sat}
 use Rattle.sby_terms.specs.declared.names.JobName.{JobName}
@@ -19,7 +19,7 @@ use Rattle.cert_judge.specs.declared.stream.Outcome.{Outcome}
 use Rattle.cert_judge.specs.declared.stream.Outcome.TheVariants.{Refuted, Satisfied, Unknown as UnknownOutcome, Bad as BadOutcome}
 use Rattle.cert_judge.specs.declared.stream.StreamKind.{StreamKind}
 use Rattle.judge.proofs.Problems.{one_formula}
-use Rattle.judge.specs.Judging.{Ends, Feeds, Finds, FindsPlayed, FindsRunOf, Heard, IsForJob, IsJudge, IsTrueOutcome, JudgeOf, fate_told, state_behind, state_told}
+use Rattle.judge.specs.Judging.{Ends, Feeds, Finds, FindsPlayed, FindsRunOf, Heard, IsForJob, IsJudge, IsTrueOutcome, JudgeOf, StreamOf, fate_told, state_behind, state_told}
 use Rattle.judge.specs.Played.{IsPlayed}
 use Rattle.judge.specs.Problem.{AskedOf, IsEncodedOf, IsFormulaOf}
 use Rattle.judge.specs.declared.judging.Progress.{Progress}

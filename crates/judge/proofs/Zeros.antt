@@ -6,7 +6,7 @@ use Rattle.std.proofs.lemmas.List.{length-map, map-append}
 use Rattle.std.proofs.lemmas.List.Elements.{All-contains, Contains-append_left, Contains-append_right}
 use Rattle.std.proofs.lemmas.Option.{slice_get-get_or, slice_get_within}
 use Rattle.cnf_form.specs.Cnf.{Assignment}
-use Rattle.task_net.specs.Asking.{HasOriginsInBits, asked_of, place_of as origin_place}
+use Rattle.task_net.specs.Asking.{HasOriginsInCone, asked_of, place_of as origin_place}
 use Rattle.design_core.specs.Asked.{output_of}
 use Rattle.design_core.specs.Places.{place_of}
 use Rattle.design_core.specs.Shape.{CellOf, DesignOf, IsDesign}
@@ -28,7 +28,6 @@ use Rattle.model_core.specs.Meaning.{Cycle}
 use Rattle.model_core.specs.Shape.{ModelOf}
 use Rattle.model_laws.specs.Reads.{IsReadOtherwise, IsStateRead}
 use Rattle.model_laws.proofs.Coned.{input-read, state-read}
-use Rattle.model_split.specs.Split.{split_model}
 use Rattle.sby_terms.specs.declared.names.JobName.{JobName}
 use Rattle.sby_terms.specs.declared.names.JobName.TheVariants.{Step}
 use Rattle.word_model.specs.Layout.{IsAlike, state_place, valued, zero_place}
@@ -163,11 +162,11 @@ module _ (p : AskedOf) (h : IsProblem p) (job : JobName) (apart : job ≡ Step �
   plays = played.plays.1
 
   -- what is open and isn't in the cone of what the job asks is 0
-  open-zero : (o : Origin) → IsOpenIn p.model (length (decoded e x).inputs) o → (IsInCone (split_model p.model) (asked_of job) (origin_place o) → ⊥) → HasValue cycles (length (decoded e x).inputs) o false
+  open-zero : (o : Origin) → IsOpenIn p.model (length (decoded e x).inputs) o → (IsInCone p.model (asked_of job) (origin_place o) → ⊥) → HasValue cycles (length (decoded e x).inputs) o false
   open-zero o free outside =
-      let origins : HasOriginsInBits p.model job (span_of p.problem) e = (encodes p h job e is).origins in
+      let origins : HasOriginsInCone p.model job (span_of p.problem) e = (encodes p h job e is).origins in
       origins.has.rest apart x played.satisfies cycles plays o free
-      (λ c. outside (All-contains (λ (a : Origin). IsInCone (split_model p.model) (asked_of job) (origin_place a)) origins.has.origins o origins.cone c))
+      (λ c. outside (All-contains (λ (a : Origin). IsInCone p.model (asked_of job) (origin_place a)) origins.has.origins o origins.cone c))
 
   pub input-zero : (t : ℕ) (b : SigBit) → t < length run → Contains (input_bits p.design) b → ¬ IsReadOtherwise p.design b → bit_in (valuations p.design run t) b ≡ false
   input-zero t b lt has unread =

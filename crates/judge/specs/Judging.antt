@@ -8,12 +8,13 @@ use Rattle.sby_terms.specs.declared.names.Answer.TheVariants.{Sat}
 use Rattle.sby_terms.specs.declared.names.JobName.{JobName}
 use Rattle.sby_terms.specs.declared.names.JobName.TheVariants.{Step}
 use Rattle.cert_judge.specs.Kinds.{IsFate, IsFateSoFar}
-use Rattle.cert_judge.specs.Judging.{IsOver, JudgeOf as StreamOf, Stands, formula_of, kind_of}
+use Rattle.cert_judge.specs.Judging.{IsOver, JudgeOf as StreamJudgeOf, Stands, formula_of, kind_of}
 use Rattle.cert_judge.specs.Fate.{Fate, Found, Unknown, Bad}
 use Rattle.cert_judge.specs.declared.stream.BadCert.{BadCert}
 use Rattle.cert_judge.specs.declared.stream.Outcome.{Outcome}
 use Rattle.cert_judge.specs.declared.stream.Outcome.TheVariants.{Refuted, Satisfied, Unknown as UnknownOutcome, Bad as BadOutcome}
 use Rattle.cert_judge.specs.declared.stream.StreamKind.{StreamKind}
+use Rattle.net_unroll.specs.Encoding.{EncodedOf}
 use Rattle.judge.specs.Finding.{FindingOf}
 use Rattle.judge.specs.Played.{IsStreamsRun, ShowsPlayed}
 use Rattle.judge.specs.Problem.{AskedOf, IsFormulaOf, IsJobFile}
@@ -21,6 +22,10 @@ use Rattle.judge.specs.declared.judging.Progress.{Progress}
 use Rattle.judge.specs.declared.judging.Progress.TheVariants.{More, Done, Unknown as IsUnknown}
 use Rattle.judge.specs.declared.judging.State.{State}
 use Rattle.judge.specs.declared.judging.State.TheVariants.{Reading, Refused, Over, Wanting}
+
+-- what is kept of a stream so far; its clauses come from an encoding
+abbrev pub StreamOf : Type 0
+StreamOf = StreamJudgeOf EncodedOf
 
 -- the problem and its job, the stream's kind, the greatest number of bytes, what is kept of the stream so far, and how the judge stands
 pub record JudgeOf : Type 0 where

@@ -2,7 +2,7 @@
 use Rattle.std.specs.Prelude.{◌≡◌, ◌↔◌, ◌≤◌, ◌^◌, ℕ, List, Some, slice_get}
 use Rattle.cnf_form.specs.Cnf.{Assignment, FormulaOf, Satisfies}
 use Rattle.cnf_form.specs.Dimacs.{IsDimacs, dimacs_text}
-use Rattle.task_net.specs.Asking.{HasOriginsInBits}
+use Rattle.task_net.specs.Asking.{HasOriginsInCone}
 use Rattle.task_net.specs.Net.{IsTaskNet, TaskNetOf, task_encoded}
 use Rattle.job_terms.specs.Encoding.{CanBeSatisfied, EncodedOf, IsDecoded, Propagates, decoded, empty_job}
 use Rattle.design_core.specs.Shape.{DesignOf, IsDesign}
@@ -67,7 +67,7 @@ pub record IsEncodedJob (d : DesignOf) (m : ModelOf) (job : JobName) (span : Spa
   pub speaks : CanBeSatisfied e.formula ↔ Solvable d job span
   pub vars : (1 ≤ e.formula.vars) × (e.formula.vars ≤ 2 ^ 27)
   pub propagates : Propagates e
-  pub origins : HasOriginsInBits m job span e
+  pub origins : HasOriginsInCone m job span e
   pub empty : AsksNothing d job → e.formula ≡ empty_job
   pub choices : (job ≡ Step → ⊥) → (x : Assignment) → AreChoicesFor m (decoded e x)
   pub decodes : (job ≡ Step → ⊥) → (x : Assignment) → Satisfies x e.formula.clauses → IsDecoded m job span (decoded e x)

@@ -3,15 +3,20 @@ use Rattle.std.specs.Prelude.{◌≡◌, ℕ, Bool, true, false, List, Option, R
 use Rattle.std.specs.declared.alloc.AllocError.{AllocError}
 use Rattle.cert_judge.specs.Judging.{formula_of}
 use Rattle.cert_judge.specs.OutputFate.{IsOutputFate, IsOutputFateSoFar}
-use Rattle.cert_judge.specs.OutputJudging.{OutputOf, Stands}
+use Rattle.cert_judge.specs.OutputJudging.{OutputOf as OutputJudgeOf, Stands}
 use Rattle.cert_judge.specs.Output.{stream_of}
 use Rattle.sby_terms.specs.declared.names.JobName.{JobName}
 use Rattle.cert_judge.specs.declared.stream.BadCert.{BadCert}
 use Rattle.cert_judge.specs.declared.stream.StreamKind.TheVariants.{Drup}
+use Rattle.net_unroll.specs.Encoding.{EncodedOf}
 use Rattle.judge.specs.Judging.{Finds, FindsRunOf, fate_told}
 use Rattle.judge.specs.Problem.{AskedOf, IsFormulaOf, IsJobFile}
 use Rattle.judge.specs.declared.judging.Progress.{Progress}
 use Rattle.judge.specs.declared.judging.Progress.TheVariants.{More, Done, Unknown}
+
+-- what is kept of an output so far; its clauses come from an encoding
+abbrev pub OutputOf : Type 0
+OutputOf = OutputJudgeOf EncodedOf
 
 -- the problem and its job, the greatest number of bytes, what is kept of the output so far, and whether more may come
 pub record SolverOf : Type 0 where

@@ -11,6 +11,7 @@ ghost use Rattle.cert_judge.specs.declared.stream.BadCert.{BadCert};
 use crate::finding::{Finding, sat, unsat};
 use crate::problem::Problem;
 use cert_judge::{BadCert, Judge as StreamJudge, Outcome, StreamKind};
+use net_text::EncodedClauses;
 use sby_terms::JobName;
 use std::alloc::{AllocError, Global};
 use std::marker::Model;
@@ -47,7 +48,7 @@ pub struct Judge<'a> {
     job: JobName,
     kind: StreamKind,
     most: u64,
-    stream: StreamJudge,
+    stream: StreamJudge<EncodedClauses>,
     state: State,
 }
 
@@ -81,8 +82,8 @@ impl<'a> Judge<'a> {
         ensures most { IfOk result (λ j. j.most ≡ most) }
         ensures took { IfOk result (λ j. Took j []) }
     {
-        let formula = problem.formula(alloc, job)?;
-        let stream = StreamJudge::new(alloc, formula, kind, most)?;
+        let clauses = problem.clauses(alloc, job)?;
+        let stream = StreamJudge::new(alloc, clauses, kind, most)?;
         Ok(Judge {
             alloc,
             problem,

@@ -3,7 +3,7 @@
 ghost use Rattle.std.specs.Prelude.{◌≡◌, ◌↔◌, ◌<◌, ◌≤◌, ◌*◌, ◌^◌, ◌++◌, ◌∷◌, [], ℕ, suc, Bool, false, Contains, List, codes, length, Some, slice_get};
 ghost use Rattle.cnf_form.specs.Cnf.{FormulaOf};
 ghost use Rattle.cnf_form.specs.Dimacs.{IsDimacs};
-ghost use Rattle.task_net.specs.Asking.{HasOriginsInBits};
+ghost use Rattle.task_net.specs.Asking.{HasOriginsInCone};
 ghost use Rattle.design_check.specs.Faults.{IsFlat};
 ghost use Rattle.design_core.specs.Places.{place_of};
 ghost use Rattle.design_core.specs.Shape.{CellOf, DesignOf, IsDesign};
@@ -36,7 +36,7 @@ ghost use Rattle.judge.specs.Fault.{IsTooMany};
 ghost use Rattle.judge.specs.Finding.{FindingOf, IsTrueFinding};
 ghost use Rattle.judge.specs.Jobs.{AsksNothing, IsEarlier, Solvable, jobs_in, span_of};
 ghost use Rattle.judge.specs.Played.{IsStreamsRun};
-ghost use Rattle.judge.specs.Problem.{AskedOf, IsEncodedOf, IsFormulaOf, IsJobFile, IsProblem};
+ghost use Rattle.judge.specs.Problem.{AskedOf, IsEncodedJob, IsEncodedOf, IsFormulaOf, IsJobFile, IsProblem};
 
 /// A job of a problem has one formula, and one file.
 pub fn one_file()
@@ -51,6 +51,11 @@ pub fn files_tell_what_jobs_ask()
         → CanBeSatisfied f ↔ Solvable p.design job (span_of p.problem) }
     ensures empty { (p : AskedOf) (job : JobName) (bytes : List ℕ) → IsProblem p → IsJobFile p job bytes → AsksNothing p.design job
         → bytes ≡ codes "p cnf 1 1" ++ 10 ∷ 48 ∷ 10 ∷ [] }
+{}
+
+/// Each job of a problem has what is promised of an encoded job of its design.
+pub fn jobs_of_problems_are_encoded()
+    ensures { (p : AskedOf) (job : JobName) (e : EncodedOf) → IsProblem p → IsEncodedOf p job e → IsEncodedJob p.design p.model job (span_of p.problem) e }
 {}
 
 /// A job has too many variables only where its frames come to more than 2^27 by the design's cost.
@@ -103,9 +108,9 @@ pub fn every_choice_has_a_run_of_the_design()
 /// A job has a free variable only for what the design reads otherwise than as a clock: an input in a cycle, or a state bit in the first. A
 /// kept row is read where some bit of its register's output is.
 pub fn free_variables_are_read()
-    ensures inputs { (p : AskedOf) (job : JobName) (e : EncodedOf) → IsProblem p → IsEncodedOf p job e → (o : HasOriginsInBits p.model job (span_of p.problem) e)
+    ensures inputs { (p : AskedOf) (job : JobName) (e : EncodedOf) → IsProblem p → IsEncodedOf p job e → (o : HasOriginsInCone p.model job (span_of p.problem) e)
         → (t : ℕ) (b : SigBit) → Contains (input_bits p.design) b → Contains o.has.origins (Input t (place_of p.design b)) → IsReadOtherwise p.design b }
-    ensures starts { (p : AskedOf) (job : JobName) (e : EncodedOf) → IsProblem p → IsEncodedOf p job e → (o : HasOriginsInBits p.model job (span_of p.problem) e)
+    ensures starts { (p : AskedOf) (job : JobName) (e : EncodedOf) → IsProblem p → IsEncodedOf p job e → (o : HasOriginsInCone p.model job (span_of p.problem) e)
         → (s : StateBit) → Contains (state_bits p.design) s → Contains o.has.origins (First (state_place p.design s)) → IsStateRead p.design s }
 {}
 

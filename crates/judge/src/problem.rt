@@ -7,6 +7,7 @@ ghost use Rattle.job_terms.specs.Encoding.{EncodedOf};
 ghost use Rattle.judge.specs.Fault.{IsProblemFault};
 ghost use Rattle.judge.specs.Jobs.{jobs_of, span_of};
 ghost use Rattle.net_jobs.specs.Jobs.{job_encoding};
+ghost use Rattle.net_unroll.specs.Encoding.{formula_of};
 ghost use Rattle.judge.specs.Played.{IsPlayed};
 ghost use Rattle.judge.specs.Problem.{AskedOf, IsEncodedOf, IsFormulaOf, IsJob, IsJobFile, IsProblem};
 ghost use Rattle.sby_terms.specs.Span.{IsSpan, whole};
@@ -15,13 +16,13 @@ use crate::encoding::{model_of, names_for, net_for};
 use crate::job_file::JobFile;
 use crate::run::PlayedRun;
 use crate::text::Text;
-use cnf_form::Formula;
 use design_check::check::{DesignFault, check};
 use design_check::flat::Flat;
 use design_reader::{ReadFault, read};
 use model_core::model::WordModel;
 use model_play::whole::play;
 use net_jobs::encode_again;
+use net_text::EncodedClauses;
 use net_unroll::Encoded;
 use sby_terms::{JobName, Mode, Span};
 use std::alloc::{AllocError, Global};
@@ -192,13 +193,13 @@ impl Problem {
         encode_again(alloc, self.net.net(), job, self.span)
     }
 
-    // The job's formula.
-    pub(crate) fn formula(&self, alloc: Global, job: JobName) -> Result<Formula, AllocError>
+    // The job's formula, which gives its clauses as they are asked for.
+    pub(crate) fn clauses(&self, alloc: Global, job: JobName) -> Result<EncodedClauses, AllocError>
         requires { IsJob self.now job }
-        ensures { IfOk result (λ f. IsFormulaOf self.now job f) }
+        ensures { IfOk result (λ e. IsFormulaOf self.now job (formula_of e)) }
     {
         let encoded = self.encoded(alloc, job)?;
-        encoded.formula(alloc)
+        EncodedClauses::new(encoded)
     }
 
     // The run for which values that satisfy the formula of Base or Cover stand.

@@ -1,6 +1,7 @@
 // A played run, kept in few bytes and shared.
 
-ghost use Rattle.std.specs.Prelude.{◌≡◌, ◌+◌, ◌<◌, ◌≤◌, ◌^◌, [], IfOk, Some, drop, length, slice_get, slice_index_or, take};
+ghost use Rattle.std.specs.Prelude.{◌≡◌, ◌+◌, ◌<◌, ◌≤◌, ◌^◌, [], IfOk, Some, drop, false, length, slice_get, slice_index_or, take};
+ghost use Rattle.design_meaning.specs.Runs.{shown_of};
 ghost use Rattle.judge.specs.Rows.{AreRowsOf, cycles_in};
 
 use design_meaning::run::{Cycle, Row};
@@ -93,6 +94,15 @@ impl PlayedRun {
         let free = part(alloc, rows, number, self.wires, self.free)?;
         let kept = part(alloc, rows, number, self.wires + self.free + 2, self.kept)?;
         Ok(Cycle::new(wires, free, kept))
+    }
+
+    /// The bit at a place of the wires' row of a cycle, both counted from 0.
+    pub fn wire_bit(&self, number: usize, place: u32) -> bool
+        requires number { number < length self.now }
+        requires place { place < length (slice_index_or (shown_of self.now) number []) }
+        ensures { result ≡ slice_index_or (slice_index_or (shown_of self.now) number []) place false }
+    {
+        self.rows.get(number, place)
     }
 
     /// Another owner.

@@ -8,6 +8,7 @@ use crate::finding::Finding;
 use crate::judging::{Progress, answer};
 use crate::problem::Problem;
 use cert_judge::{BadCert, OutputJudge};
+use net_text::EncodedClauses;
 use sby_terms::JobName;
 use std::alloc::{AllocError, Global};
 use std::marker::Model;
@@ -20,7 +21,7 @@ pub struct SolverJudge<'a> {
     problem: &'a Problem,
     job: JobName,
     most: u64,
-    output: OutputJudge,
+    output: OutputJudge<EncodedClauses>,
     // Nothing but More was answered yet.
     reading: bool,
 }
@@ -57,8 +58,8 @@ impl<'a> SolverJudge<'a> {
         ensures most { IfOk result (λ j. j.most ≡ most) }
         ensures took { IfOk result (λ j. Took j []) }
     {
-        let formula = problem.formula(alloc, job)?;
-        let output = OutputJudge::new(alloc, formula, most)?;
+        let clauses = problem.clauses(alloc, job)?;
+        let output = OutputJudge::new(alloc, clauses, most)?;
         Ok(SolverJudge {
             alloc,
             problem,

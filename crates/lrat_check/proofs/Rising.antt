@@ -1,21 +1,16 @@
 -- Tables of clauses whose ids rise.
-use Rattle.std.proofs.Common.{◌≡◌, ◌⊎◌, ◌≢◌, ℕ, zero, suc, ◌<◌, ◌≤◌, Option, Some, None, Bool, true, false, eqb, List, [], ◌∷◌, ◌++◌, length, get_or, set, refl, sym, ◌∙◌, ap, subst, inl, inr, arith, Ok, Err, nat_eq}
+use Rattle.std.proofs.Common.{◌≡◌, ◌⊎◌, ◌≢◌, ℕ, zero, suc, ◌<◌, ◌≤◌, ◌+◌, take, Option, Some, None, Bool, true, false, eqb, List, [], ◌∷◌, ◌++◌, length, get_or, set, refl, sym, ◌∙◌, ap, subst, inl, inr, arith, nat_eq}
 use Rattle.std.specs.Prelude.{Contains, is_some, cond}
 use Rattle.std.specs.List.{filter}
 use Rattle.std.specs.Map.{lookup}
-use Rattle.std.specs.List.Sorted.{IsBinarySearchResult, IsNonDecreasingBy}
-use Rattle.std.specs.Ordering.{nat_cmp, ordering_index}
 use Rattle.std.proofs.lemmas.Bool.{cases_Bool, cases_eq, eqb-true, eq-eqb}
-use Rattle.std.proofs.lemmas.Bool.Decides.{nat_tests}
-use Rattle.std.proofs.lemmas.Cmp.{ranked}
-use Rattle.std.proofs.lemmas.List.Sorted.{IsNonDecreasingBy-from_default}
-use Rattle.std.proofs.lemmas.List.{get_or_default}
-use Rattle.std.proofs.lemmas.List.Elements.{Contains-get_or, Contains-push_cases}
+use Rattle.std.proofs.lemmas.List.{get_or_default, get_or-take, length-take, append-nil}
+use Rattle.cnf_form.proofs.Members.{take_one_more}
+use Rattle.std.proofs.lemmas.List.Elements.{Contains-get_or, Contains-push_cases, filter-append}
 use Rattle.cnf_form.specs.Cnf.{LitOf}
 use Rattle.cnf_form.proofs.Members.{Contains-cases, Contains-empty, Contains-head, Contains-tail}
-use Rattle.lrat_check.specs.declared.entries.Entry.{Entry}
 use Rattle.lrat_check.specs.Hints.{put}
-use Rattle.lrat_check.specs.Table.{IsPlaceOf, IsRising, IsUpto, found, held, present, with_entry}
+use Rattle.lrat_check.specs.Table.{Entry, IsPlaceOf, IsRising, IsUpto, found, held, present, with_entry}
 
 apart_eqb : (a b : ℕ) → a ≢ b → eqb a b ≡ false
 apart_eqb a b d = elim (cases_Bool (eqb a b)) [ inl t ↦ absurd (d (eqb-true a b t)) | inr f ↦ f ]
@@ -85,21 +80,6 @@ module _ (es : List Entry) (rising : IsRising es) (id : ℕ) where
     has = λ d'. held_found es rising id ∙ subst (λ n. found es n ≡ (get_or es k d').clause) (ap (λ (e : Entry). e.id) (get_or_default es k d' d in') ∙ at) (found_at es rising k d' in');
   }
 
-  comparisons_rise : IsNonDecreasingBy (λ e. ordering_index (nat_cmp e.id id)) es
-  comparisons_rise = IsNonDecreasingBy-from_default (λ e. ordering_index (nat_cmp e.id id)) es blank (λ i j le in_range.
-      let up : (get_or es i blank).id ≤ (get_or es j blank).id = rises es rising blank i j le in_range in
-      grind (arith, nat_tests))
-
-  pub searched_ok : (k : ℕ) → IsBinarySearchResult (λ e. nat_cmp e.id id) es (Ok k) → k < length es → IsPlaceOf es id k
-  searched_ok k equal in' = place_of k blank in' (ranked _ id _ (sym (equal blank)))
-
-  pub searched_err : (k : ℕ) → IsBinarySearchResult (λ e. nat_cmp e.id id) es (Err k) → k ≤ length es → held es id ≡ None
-  searched_err k parted in' = held_found es rising id ∙ found_none es id blank (λ j h same.
-      let p = parted comparisons_rise in
-      let low : j < k → (get_or es j blank).id < id = λ lt. ranked _ id _ (sym (p.0 j blank (omega (arith, lt)) lt)) in
-      let high : k ≤ j → id < (get_or es j blank).id = λ le. ranked _ id _ (sym (p.1 j blank le h)) in
-      grind (arith, low, high, same))
-
 -- an entry with an id above all others comes last
 pub rising_push : (es : List Entry) (f : Entry) → IsRising es → ((e : Entry) → Contains es e → e.id < f.id) → IsRising (es ++ f ∷ [])
 rising_push [] f r low = (λ e h. absurd (Contains-empty e h), tt)
@@ -162,7 +142,7 @@ cleared (e ∷ es) id (suc k) r p =
       | inr q ↦ r.0 f q
     ]
 
-abbrev has : Entry → Bool
+abbrev pub has : Entry → Bool
 has e = is_some e.clause
 
 kept_by : (e : Entry) (es : List Entry) (f : Entry) (b : Bool) → has e ≡ b → (Contains (filter has es) f → Contains es f) → Contains (filter has (e ∷ es)) f → Contains (e ∷ es) f
@@ -230,3 +210,30 @@ below_next es last id up lt e h = omega (arith, up e h, lt)
 
 pub upto_more : (es : List Entry) (last id : ℕ) → IsUpto es last → last ≤ id → IsUpto es id
 upto_more es last id up le e h = omega (arith, up e h, le)
+
+-- the entries before a place have lower ids
+pub below_place : (es : List Entry) → IsRising es → (i j : ℕ) (d : Entry) → i < j → j < length es → (get_or es i d).id < (get_or es j d).id
+below_place [] r i j d lt h = absurd (omega (arith, h))
+below_place (e ∷ es) r zero (suc j) d lt h = r.0 (get_or es j d) (Contains-get_or es j d (omega (arith, h)))
+below_place (e ∷ es) r (suc i) (suc j) d lt h = below_place es r.1 i j d (omega (arith, lt)) (omega (arith, h))
+below_place (e ∷ es) r i zero d lt h = absurd (omega (arith, lt))
+
+-- the live entries before a place
+module _ (es : List Entry) (k : ℕ) (e : Entry) (room : k < length es) (is : e ≡ get_or es k e) where
+  pub live_before : IsRising es → (f : Entry) → Contains (filter has (take k es)) f → f.id < e.id
+  live_before r f h =
+      let w = kept_from (take k es) f h in
+      let low : w.0 < k = omega (arith, w.1, length-take k es) in
+      let here : get_or es w.0 f ≡ f = sym (get_or-take k es w.0 f low) ∙ w.2 in
+      let lt : (get_or es w.0 f).id < (get_or es k f).id = below_place es r w.0 k f low room in
+      omega (arith, lt, ap (λ (z : Entry). z.id) here, ap (λ (z : Entry). z.id) (is ∙ get_or_default es k e f room))
+
+  pub live_more : (c : List LitOf) → e.clause ≡ Some c → filter has (take (k + 1) es) ≡ filter has (take k es) ++ e ∷ []
+  live_more c at =
+      let kept : has e ≡ true = ap is_some at in
+      ap (filter has) (take_one_more es k e room is) ∙ filter-append has (take k es) (e ∷ []) ∙ ap (λ b. filter has (take k es) ++ cond b (e ∷ []) []) kept
+
+  pub live_same : e.clause ≡ None → filter has (take (k + 1) es) ≡ filter has (take k es)
+  live_same at =
+      let gone : has e ≡ false = ap is_some at in
+      ap (filter has) (take_one_more es k e room is) ∙ filter-append has (take k es) (e ∷ []) ∙ ap (λ b. filter has (take k es) ++ cond b (e ∷ []) []) gone ∙ append-nil (filter has (take k es))

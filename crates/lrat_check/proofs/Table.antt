@@ -1,14 +1,13 @@
 -- The table of clauses by their ids.
-use Rattle.std.proofs.Common.{◌≡◌, ◌≢◌, ℕ, zero, suc, ◌<◌, ◌+◌, ◌*◌, Option, Some, Bool, true, false, eqb, cond, length-take-le, replicate, List, [], ◌∷◌, ◌++◌, length, take, drop, get_or, refl, sym, ◌∙◌, ap, subst, inl, inr, arith, Result, Ok, Err}
-use Rattle.std.specs.Prelude.{slice_get, All, OnOk, OnErr, is_err}
+use Rattle.std.proofs.Common.{◌≡◌, ◌≢◌, ℕ, zero, suc, ◌<◌, ◌≤◌, ◌+◌, ◌-◌, Option, Some, Bool, true, false, eqb, cond, length-take-le, replicate, List, [], ◌∷◌, ◌++◌, length, take, drop, get_or, refl, sym, ◌∙◌, ap, subst, inl, inr, arith, Result, Ok, Err}
+use Rattle.std.specs.Prelude.{slice_get, All, Contains, OnOk, OnErr, is_err}
 use Rattle.std.proofs.lemmas.Bool.{false≢true, cases_Bool, cases_eq, cases_lt, eqb-true, eq-eqb}
-use Rattle.std.proofs.lemmas.List.Elements.{All-contains}
-use Rattle.std.proofs.lemmas.List.{append-nil, drop_all, get_or-replicate, get_or_past, length-replicate, take_all}
-use Rattle.cnf_form.specs.Cnf.{LitOf, index_of, ClauseWithin, Within}
+use Rattle.std.proofs.lemmas.List.{get_or_append_left, get_or-append_right, append-nil, drop_all, get_or-replicate, get_or_past, length-replicate, take_all}
+use Rattle.cnf_form.specs.Cnf.{LitOf, index_of}
 use Rattle.cnf_form.proofs.Members.{take_one_more}
 use Rattle.lrat_check.specs.Hints.{Live, numbered, put}
 use Rattle.lrat_check.proofs.Admitting.{numbered_among}
-use Rattle.lrat_check.specs.Marks.{LiveWithin, HasPlaces, ClausesHavePlaces, IsClear, IsChecker}
+use Rattle.lrat_check.specs.Marks.{HasPlaces, ClausesHavePlaces, IsClear, IsChecker}
 
 slice_get_push_here : (F : List (List LitOf)) (c : List LitOf) → slice_get (F ++ c ∷ []) (length F) ≡ Some c
 slice_get_push_here [] c = refl
@@ -47,35 +46,36 @@ numbered_more live live' F i id c h is e so_far now n =
     let size : id ≡ suc (length (take i F)) = omega (arith, length-take-le i F) in
     now n ∙ put_agree live (numbered (take i F)) id (suc (length (take i F))) (Some c) n (so_far n) size ∙ numbered-push (take i F) c n ∙ ap (λ z. numbered z n) (sym (take_one_more F i c h is))
 
--- the clauses of a formula are within its variables
-pub numbered_within : (vars : ℕ) (live : Live) (F : List (List LitOf)) → ((n : ℕ) → live n ≡ numbered F n) → Within vars F → LiveWithin vars live
-numbered_within vars live F same within id c h = All-contains (ClauseWithin vars) F c within (numbered_among F id c (sym (same id) ∙ h))
+-- each live clause has places where each clause of the formula has
+pub numbered_places : (live : Live) (F : List (List LitOf)) (marks : List Bool) → ((n : ℕ) → live n ≡ numbered F n) → ((c : List LitOf) → Contains F c → All (HasPlaces marks) c) → ClausesHavePlaces live marks
+numbered_places live F marks same h id c at = h c (numbered_among F id c (sym (same id) ∙ at))
 
-pub places_from_within : (vars : ℕ) (marks : List Bool) (c : List LitOf) → length marks ≡ 2 * vars + 2 → ClauseWithin vars c → All (HasPlaces marks) c
-places_from_within vars marks c e h k d in' = let w = h k d in' in omega (arith, w)
+-- a longer table has the places too
+pub places_up : (old new : List Bool) (c : List LitOf) → length old ≤ length new → All (HasPlaces old) c → All (HasPlaces new) c
+places_up old new c le h k d in' = let p = h k d in' in omega (arith, p, le)
 
-pub live_places : (vars : ℕ) (live : Live) (marks : List Bool) → length marks ≡ 2 * vars + 2 → LiveWithin vars live → ClausesHavePlaces live marks
-live_places vars live marks e h id c at = places_from_within vars marks c e (h id c at)
+pub live_up : (live : Live) (old new : List Bool) → length old ≤ length new → ClausesHavePlaces live old → ClausesHavePlaces live new
+live_up live old new le h id c at = places_up old new c le (h id c at)
 
 -- a table that has one more clause, or one less
-pub within_put : (vars : ℕ) (live live' : Live) (id : ℕ) (o : Option (List LitOf)) → ((n : ℕ) → live' n ≡ put live id o n) → LiveWithin vars live → ((c : List LitOf) → o ≡ Some c → ClauseWithin vars c) → LiveWithin vars live'
-within_put vars live live' id o now h here n c at = elim (cases_Bool (eqb id n)) [
+pub places_put : (live live' : Live) (id : ℕ) (o : Option (List LitOf)) (marks : List Bool) → ((n : ℕ) → live' n ≡ put live id o n) → ClausesHavePlaces live marks → ((c : List LitOf) → o ≡ Some c → All (HasPlaces marks) c) → ClausesHavePlaces live' marks
+places_put live live' id o marks now h here n c at = elim (cases_Bool (eqb id n)) [
   | inl t ↦ here c (let e : put live id o n ≡ o = rw t refl in sym e ∙ sym (now n) ∙ at)
   | inr f ↦ h n c (let e : put live id o n ≡ live n = rw f refl in sym e ∙ sym (now n) ∙ at)
 ]
 
-pub clear_new : (marks : List Bool) (n : ℕ) → marks ≡ replicate n false → IsClear marks
-clear_new marks n e l = rw e (elim (cases_lt (index_of l) n) [
-  | inl h ↦ get_or-replicate n (index_of l) false false h
-  | inr h ↦ get_or_past (replicate n false) (index_of l) false (omega (arith, length-replicate n false))
-])
+pub put_places : (live live' : Live) (id : ℕ) (c : List LitOf) (marks : List Bool) → ((n : ℕ) → live' n ≡ put live id (Some c) n) → ClausesHavePlaces live marks → All (HasPlaces marks) c → ClausesHavePlaces live' marks
+put_places live live' id c marks now h w = places_put live live' id (Some c) marks now h (λ d e. let same : c ≡ d = cc in subst (All (HasPlaces marks)) same w)
 
-pub checker_new : (vars : ℕ) (live : Live) (F : List (List LitOf)) (marks : List Bool) → marks ≡ replicate (2 * vars + 2) false → ((n : ℕ) → live n ≡ numbered F n) → Within vars F → IsChecker vars live marks
-checker_new vars live F marks e same within = record {
-  room = ap length e ∙ length-replicate (2 * vars + 2) false;
-  clear = clear_new marks (2 * vars + 2) e;
-  within = numbered_within vars live F same within;
-}
+-- marks that are added are off
+pub clear_longer : (marks : List Bool) (n : ℕ) → IsClear marks → IsClear (marks ++ replicate n false)
+clear_longer marks n s l = elim (cases_lt (index_of l) (length marks)) [
+  | inl h ↦ get_or_append_left marks (replicate n false) false (index_of l) h ∙ s l
+  | inr h ↦ get_or-append_right marks (replicate n false) (length marks) (index_of l) false refl h ∙ elim (cases_lt (index_of l - length marks) n) [
+    | inl k ↦ get_or-replicate n (index_of l - length marks) false false k
+    | inr k ↦ get_or_past (replicate n false) (index_of l - length marks) false (omega (arith, length-replicate n false, k))
+  ]
+]
 
 -- a slice that was lent comes back in its place
 lent_back : (old new : List Bool) (n : ℕ) → n ≡ length old → length new ≡ length old → take n (new ++ drop (length new) old) ≡ new
@@ -83,12 +83,8 @@ lent_back old new n e f =
     let none : drop (length new) old ≡ [] = drop_all (length new) old (omega (arith, f)) in
     ap (λ z. take n (new ++ z)) none ∙ ap (take n) (append-nil new) ∙ take_all n new (omega (arith, e, f))
 
-pub checker_back : (vars : ℕ) (live live' : Live) (old new : List Bool) (n : ℕ) → n ≡ length old → length new ≡ length old → IsChecker vars live old → IsClear new → LiveWithin vars live'
-    → IsChecker vars live' (take n (new ++ drop (length new) old))
-checker_back vars live live' old new n e f i clear within = rw (lent_back old new n e f) (record { room = f ∙ i.room; clear = clear; within = within })
-
-pub put_within : (vars : ℕ) (live live' : Live) (id : ℕ) (c : List LitOf) → ((n : ℕ) → live' n ≡ put live id (Some c) n) → LiveWithin vars live → ClauseWithin vars c → LiveWithin vars live'
-put_within vars live live' id c now h w = within_put vars live live' id (Some c) now h (λ d e. let same : c ≡ d = cc in subst (ClauseWithin vars) same w)
+pub checker_back : (live : Live) (old new : List Bool) (n : ℕ) → n ≡ length old → length new ≡ length old → IsClear new → ClausesHavePlaces live old → IsChecker live (take n (new ++ drop (length new) old))
+checker_back live old new n e f clear places = rw (lent_back old new n e f) (record { clear = clear; places = live_up live old new (omega (arith, f)) places })
 
 pub ok_of : {T E : Type 0} (r : Result T E) (P : Type 0) → false ≡ is_err r → OnOk r P → P
 ok_of (Ok x) P e h = h

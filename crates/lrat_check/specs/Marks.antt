@@ -1,6 +1,6 @@
 -- A table of marks with two places for each variable, and the literals that are marked in it.
 use Rattle.std.specs.Prelude.{◌≡◌, ℕ, ◌+◌, ◌*◌, ◌<◌, Bool, true, false, List, length, All, Contains, Some, slice_index_or}
-use Rattle.cnf_form.specs.Cnf.{LitOf, negate, index_of, ClauseWithin}
+use Rattle.cnf_form.specs.Cnf.{LitOf, negate, index_of}
 use Rattle.lrat_check.specs.declared.propagation.Status.{Status}
 use Rattle.lrat_check.specs.declared.propagation.Status.TheVariants.{Negated, OneLeft, MoreLeft}
 use Rattle.lrat_check.specs.Hints.{Live, IsNegated, LeavesOne}
@@ -36,12 +36,7 @@ ClauseStands assigned c MoreLeft = (IsNegated assigned c → ⊥) × ((l : LitOf
 abbrev pub ClausesHavePlaces : Live → List Bool → Type 0
 ClausesHavePlaces live marks = (id : ℕ) (c : List LitOf) → live id ≡ Some c → All (HasPlaces marks) c
 
--- the variables of each live clause are 1 to vars
-abbrev pub LiveWithin : ℕ → Live → Type 0
-LiveWithin vars live = (id : ℕ) (c : List LitOf) → live id ≡ Some c → ClauseWithin vars c
-
 -- what holds of a checker's fields
-pub record IsChecker (vars : ℕ) (live : Live) (marks : List Bool) : Type 0 where
-  pub room : length marks ≡ 2 * vars + 2
+pub record IsChecker (live : Live) (marks : List Bool) : Type 0 where
   pub clear : IsClear marks
-  pub within : LiveWithin vars live
+  pub places : ClausesHavePlaces live marks

@@ -2,7 +2,11 @@
 use Rattle.std.specs.Prelude.{◌≡◌, ℕ, ◌<◌, ◌≤◌, Option, Some, None, cond, eqb, nat_eq, List, [], ◌∷◌, length, slice_index_or, Contains}
 use Rattle.std.specs.Map.{lookup}
 use Rattle.cnf_form.specs.Cnf.{LitOf}
-use Rattle.lrat_check.specs.declared.entries.Entry.{Entry}
+
+-- an id, and its clause until that is deleted
+pub record Entry : Type 0 where
+  pub id : ℕ
+  pub clause : Option (List LitOf)
 
 -- an entry before others, if it has a clause
 abbrev pub with_entry : ℕ → Option (List LitOf) → List (ℕ × List LitOf) → List (ℕ × List LitOf)

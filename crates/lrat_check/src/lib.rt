@@ -6,14 +6,16 @@ ghost use Rattle.cnf_form.specs.Cnf.{ClauseWithin};
 ghost use Rattle.lrat_check.specs.Hints.{IsHinted};
 ghost use Rattle.lrat_check.specs.Checking.{HintedOf, live_of, Starts, HasAdded, HasDeleted};
 
-mod clause;
 mod entries;
 mod laws;
+mod marks;
 mod propagation;
 
-use cnf_form::{Formula, Lit};
+use clause_source::ClauseSource;
+use cnf_form::Lit;
 use entries::{Table, numbered_clauses};
 pub use laws::{hinted_is_admitted, hinted_proof_is_drup};
+use marks::{places_for, reach};
 use propagation::is_hinted;
 use std::alloc::{AllocError, Global};
 use std::marker::Model;
@@ -25,13 +27,14 @@ pub enum Added {
     NotHinted,
 }
 
-/// A checker of hinted proofs, which holds the live clauses, each with its id. A deleted clause's literals are given back at once, its
-/// entry once most are deleted.
+/// A checker of hinted proofs, which holds the live clauses, each with its id. The memory of deleted clauses is given back once most are
+/// deleted.
 #[derive(Drop)]
 pub struct Hinted {
     vars: u32,
     clauses: Table,
-    // The literals that the line at hand has assigned, each marked. Between lines nothing is marked.
+    // The literals that the line at hand has assigned, each marked. Between lines nothing is marked. There are places up to the highest
+    // variable of a line or of the formula's clauses.
     trail: Vec<Lit>,
     marks: Vec<bool>,
     last_id: u64,
@@ -48,23 +51,24 @@ impl Model for Hinted {
 
     ghost view = { λ h. record { vars = h.vars; clauses = present h.clauses; last_id = h.last_id; refuted = h.refuted; out_of_memory = h.out_of_memory } };
 
-    ghost invariant = { λ h. IsChecker h.vars (held h.clauses) h.marks.items × IsUpto h.clauses h.last_id };
+    ghost invariant = { λ h. IsChecker (held h.clauses) h.marks.items × IsUpto h.clauses h.last_id };
 }
 
 impl Hinted {
-    /// A checker that has the clauses of the formula, whose ids are 1, 2 and so on.
-    pub fn new(alloc: Global, formula: &Formula) -> Result<Self, AllocError>
-        ensures { IfOk result (Starts formula.now) }
+    /// A checker that has the clauses of a source's formula, whose ids are 1, 2 and so on.
+    pub fn new<S: ClauseSource>(alloc: Global, source: &S) -> Result<Self, AllocError>
+        ensures { IfOk result (Starts (S.formula source.now)) }
     {
-        let vars = formula.vars();
-        let clauses = numbered_clauses(alloc, &formula.clauses())?;
-        let marks = vec![in alloc; false; 2 * vars as usize + 2]?;
+        let vars = source.vars();
+        let count = source.count();
+        let clauses = numbered_clauses(alloc, source, count)?;
+        let marks = places_for(alloc, source, count)?;
         Ok(Hinted {
             vars,
             clauses,
             trail: Vec::new(alloc),
             marks,
-            last_id: formula.clauses().len() as u64,
+            last_id: count as u64,
             refuted: false,
             out_of_memory: false,
         })
@@ -113,6 +117,10 @@ impl Hinted {
         ensures wanting { IsTrue self.old.out_of_memory → IsErr result }
     {
         if self.out_of_memory {
+            return Err(AllocError);
+        }
+        if reach(&mut self.marks, clause).is_err() {
+            self.out_of_memory = true;
             return Err(AllocError);
         }
         let found = is_hinted(

@@ -4,10 +4,9 @@ use Rattle.std.specs.Prelude.{Contains, slice_get}
 use Rattle.model_core.specs.Shape.{ModelOf, NodeOf, RegisterOf, reads}
 use Rattle.model_core.specs.declared.model.Statement.{Statement}
 use Rattle.model_cone.specs.declared.asked.Asked.{Asked}
-use Rattle.model_cone.specs.Cone.{Counts, IsCone, register_reads}
-use Rattle.model_cone.specs.Slice.{IsWhole, has_kept}
+use Rattle.model_cone.specs.Cone.{Counts, Decides, IsCone}
+use Rattle.model_cone.specs.Slice.{has_kept}
 use Rattle.model_cone.proofs.Coning.{cone-on}
-use Rattle.model_cone.proofs.Reading.{part-q}
 
 pub kept-place : (keep : ℕ → Bool) (ps : List ℕ) → has_kept keep ps ≡ true → (p : ℕ) × Contains ps p × (keep p ≡ true)
 kept-place keep [] h = absurd (let z : false ≡ true = h in cc)
@@ -18,13 +17,8 @@ kept-place keep (q ∷ ps) h = by (keep q) refl h (λ g. kept-place keep ps g)
     by false e g rest = let r = rest g in (r.0, (suc r.1.0, (let l = r.1.1 in omega arith), r.1.2), r.2)
 
 module _ (m : ModelOf) (asked : Asked) (keep : ℕ → Bool) (cone : IsCone m asked keep) where
-  pub whole-cone : IsWhole keep m
-  whole-cone i r at h p c =
-      let k = kept-place keep r.q h in
-      (cone p).1 (cone-on m asked k.0 p ((cone k.0).0 k.2) (inr (i, r, at, k.1, part-q r p c)))
-
-  pub register-closed : (i : ℕ) (r : RegisterOf) (p : ℕ) → slice_get m.registers i ≡ Some r → has_kept keep r.q ≡ true → Contains (register_reads r) p → keep p ≡ true
-  register-closed i r p at h c = let k = kept-place keep r.q h in (cone p).1 (cone-on m asked k.0 p ((cone k.0).0 k.2) (inr (i, r, at, k.1, c)))
+  pub bit-closed : (i k : ℕ) (r : RegisterOf) (p q : ℕ) → slice_get m.registers i ≡ Some r → slice_get r.q k ≡ Some p → keep p ≡ true → Decides r k q → keep q ≡ true
+  bit-closed i k r p q at here h d = (cone q).1 (cone-on m asked p q ((cone p).0 h) (inr (i, k, r, at, here, d)))
 
   pub node-closed : (i : ℕ) (n : NodeOf) (p : ℕ) → slice_get m.nodes i ≡ Some n → has_kept keep n.y ≡ true → Contains (reads n) p → keep p ≡ true
   node-closed i n p at h c = let k = kept-place keep n.y h in (cone p).1 (cone-on m asked k.0 p ((cone k.0).0 k.2) (inl (i, n, at, k.1, c)))

@@ -7,15 +7,15 @@ use Rattle.std.proofs.lemmas.Option.{same_Some, slice_get_within}
 use Rattle.model_core.specs.Shape.{ModelOf, NodeOf, RegisterOf, reads}
 use Rattle.model_cone.specs.declared.asked.Asked.{Asked}
 use Rattle.model_cone.specs.declared.givers.Giver.{Giver}
-use Rattle.model_cone.specs.declared.givers.Giver.TheVariants.{Node, Register, Other}
-use Rattle.model_cone.specs.Cone.{IsCone, IsInCone, IsRoot, RestsIn, RestsOn, register_reads}
+use Rattle.model_cone.specs.declared.givers.Giver.TheVariants.{Node, Bit, Other}
+use Rattle.model_cone.specs.Cone.{Decides, IsCone, IsInCone, IsRoot, RestsIn, RestsOn}
 use Rattle.model_cone.specs.Marking.{AreGivers, IsGiverOf, IsReadBy, IsSpread, Spreads, work}
 use Rattle.model_cone.specs.Slice.{kept_by}
 use Rattle.model_cone.proofs.Marks.{kept-within, nothing-in}
 
 pub giver-of : (m : ModelOf) (gs : List Giver) (p : ℕ) (g : Giver) → AreGivers m gs → slice_get gs p ≡ Some g → IsGiverOf m g
 giver-of m gs p (Node i) h e = let n = h.from_node i p e in slice_get_within m.nodes i n.0 n.1
-giver-of m gs p (Register i) h e = let r = h.from_register i p e in slice_get_within m.registers i r.0 r.1
+giver-of m gs p (Bit i k) h e = let r = h.from_bit i k p e in (r.0, r.1, slice_get_within r.0.q k p r.2)
 giver-of m gs p Other h e = tt
 
 -- what a place rests on is what its giver reads
@@ -24,10 +24,10 @@ rests-from m gs p (Node i) h e q r =
     let n = h.from_node i p e in
     let same : r.0 ≡ n.0 = same_Some r.0 n.0 (sym r.1 ∙ n.1) in
     inl (i, n.0, n.1, n.2, subst (λ (k : NodeOf). Contains (reads k) q) same r.2)
-rests-from m gs p (Register i) h e q r =
-    let n = h.from_register i p e in
+rests-from m gs p (Bit i k) h e q r =
+    let n = h.from_bit i k p e in
     let same : r.0 ≡ n.0 = same_Some r.0 n.0 (sym r.1 ∙ n.1) in
-    inr (i, n.0, n.1, n.2, subst (λ (k : RegisterOf). Contains (register_reads k) q) same r.2)
+    inr (i, k, n.0, n.1, n.2, subst (λ (z : RegisterOf). Decides z k q) same r.2)
 rests-from m gs p Other h e q r = absurd r
 
 pub reads-from : (m : ModelOf) (gs : List Giver) (p : ℕ) (g : Giver) → AreGivers m gs → slice_get gs p ≡ Some g → (q : ℕ) → RestsOn m p q → IsReadBy m g q
@@ -35,8 +35,8 @@ reads-from m gs p g h e q (inl r) =
     let same : Node r.0 ≡ g = same_Some (Node r.0) g (sym (h.node r.0 r.1 p r.2 r.3) ∙ e) in
     subst (λ (k : Giver). IsReadBy m k q) same (r.1, r.2, r.4)
 reads-from m gs p g h e q (inr r) =
-    let same : Register r.0 ≡ g = same_Some (Register r.0) g (sym (h.register r.0 r.1 p r.2 r.3) ∙ e) in
-    subst (λ (k : Giver). IsReadBy m k q) same (r.1, r.2, r.4)
+    let same : Bit r.0 r.1 ≡ g = same_Some (Bit r.0 r.1) g (sym (h.bit r.0 r.1 r.2 p r.3 r.4) ∙ e) in
+    subst (λ (k : Giver). IsReadBy m k q) same (r.2, r.3, r.5)
 
 module _ (m : ModelOf) (asked : Asked) where
   pub cone-on : (p q : ℕ) → IsInCone m asked p → RestsOn m p q → IsInCone m asked q

@@ -5,8 +5,8 @@ use Rattle.std.specs.List.{filter}
 use Rattle.sby_bits.specs.Rows.{Row}
 use Rattle.model_core.specs.Choices.{without_digit}
 use Rattle.model_core.specs.Meaning.{Cycle, row_at}
-use Rattle.model_core.proofs.Lists.{place_of_contained}
-use Rattle.model_cone.specs.Slice.{kept_digits}
+use Rattle.model_core.proofs.Lists.{contained_at, place_of_contained}
+use Rattle.model_cone.specs.Slice.{kept_at}
 
 pub filter-from : {A : Type 0} (test : A → Bool) (xs : List A) (j : ℕ) (x : A) → slice_get (filter test xs) j ≡ Some x → (i : ℕ) × (slice_get xs i ≡ Some x) × (test x ≡ true)
 filter-from test [] j x e = absurd cc
@@ -30,31 +30,38 @@ filter-to test (y ∷ xs) (suc i) x e t = by (test y) (filter-to test xs i x e t
     by true r = (suc r.0, r.1)
     by false r = r
 
-pub digits-from : (keep : ℕ → Bool) (ps : List ℕ) (digits : List (Option Bool)) (k p : ℕ) (x : Option Bool) → slice_get (filter keep ps) k ≡ Some p → slice_get (kept_digits keep ps digits) k ≡ Some x
-    → (j : ℕ) × (slice_get ps j ≡ Some p) × (slice_get digits j ≡ Some x) × (keep p ≡ true)
-digits-from keep [] digits k p x e f = absurd cc
-digits-from keep (q ∷ ps) [] k p x e f = absurd (let z : None ≡ Some x = f in cc)
-digits-from keep (q ∷ ps) (y ∷ digits) k p x e f = by (keep q) refl k e f (λ n g h. digits-from keep ps digits n p x g h)
-  where
-    by : (b : Bool) → keep q ≡ b → (k : ℕ) → slice_get (cond b (q ∷ filter keep ps) (filter keep ps)) k ≡ Some p → slice_get (cond b (y ∷ kept_digits keep ps digits) (kept_digits keep ps digits)) k ≡ Some x
-        → ((n : ℕ) → slice_get (filter keep ps) n ≡ Some p → slice_get (kept_digits keep ps digits) n ≡ Some x → (j : ℕ) × (slice_get ps j ≡ Some p) × (slice_get digits j ≡ Some x) × (keep p ≡ true))
-        → (j : ℕ) × (slice_get (q ∷ ps) j ≡ Some p) × (slice_get (y ∷ digits) j ≡ Some x) × (keep p ≡ true)
-    by true t zero e f rest = let same : q ≡ p = cc in (0, e, f, subst (λ (z : ℕ). keep z ≡ true) same t)
-    by true t (suc k) e f rest = let r = rest k e f in (suc r.0, r.1, r.2, r.3)
-    by false t k e f rest = let r = rest k e f in (suc r.0, r.1, r.2, r.3)
+pub filter-contained : {A : Type 0} (test : A → Bool) (xs : List A) (x : A) → Contains (filter test xs) x → Contains xs x × (test x ≡ true)
+filter-contained test xs x c =
+    let at = place_of_contained (filter test xs) x c in
+    let r = filter-from test xs at.0 x at.1 in
+    (contained_at xs x r.0 r.1, r.2)
 
-pub digits-to : (keep : ℕ → Bool) (ps : List ℕ) (digits : List (Option Bool)) (j p : ℕ) (x : Option Bool) → slice_get ps j ≡ Some p → slice_get digits j ≡ Some x → keep p ≡ true
-    → (k : ℕ) × (slice_get (filter keep ps) k ≡ Some p) × (slice_get (kept_digits keep ps digits) k ≡ Some x)
-digits-to keep [] digits j p x e f t = absurd cc
-digits-to keep (q ∷ ps) [] j p x e f t = absurd (let z : None ≡ Some x = f in cc)
-digits-to keep (q ∷ ps) (y ∷ digits) zero p x e f t =
+-- what is kept beside a place that is kept
+pub kept-from : {A : Type 0} (keep : ℕ → Bool) (ps : List ℕ) (xs : List A) (k : ℕ) (x : A) → slice_get (kept_at keep ps xs) k ≡ Some x
+    → (j p : ℕ) × (slice_get ps j ≡ Some p) × (slice_get xs j ≡ Some x) × (keep p ≡ true) × (slice_get (filter keep ps) k ≡ Some p)
+kept-from keep [] xs k x f = absurd cc
+kept-from keep (q ∷ ps) [] k x f = absurd (let z : None ≡ Some x = f in cc)
+kept-from keep (q ∷ ps) (y ∷ xs) k x f = by (keep q) refl k f (λ n h. kept-from keep ps xs n x h)
+  where
+    by : (b : Bool) → keep q ≡ b → (k : ℕ) → slice_get (cond b (y ∷ kept_at keep ps xs) (kept_at keep ps xs)) k ≡ Some x
+        → ((n : ℕ) → slice_get (kept_at keep ps xs) n ≡ Some x → (j p : ℕ) × (slice_get ps j ≡ Some p) × (slice_get xs j ≡ Some x) × (keep p ≡ true) × (slice_get (filter keep ps) n ≡ Some p))
+        → (j p : ℕ) × (slice_get (q ∷ ps) j ≡ Some p) × (slice_get (y ∷ xs) j ≡ Some x) × (keep p ≡ true) × (slice_get (cond b (q ∷ filter keep ps) (filter keep ps)) k ≡ Some p)
+    by true t zero f rest = (0, q, refl, f, t, refl)
+    by true t (suc k) f rest = let r = rest k f in (suc r.0, r.1, r.2, r.3, r.4, r.5)
+    by false t k f rest = let r = rest k f in (suc r.0, r.1, r.2, r.3, r.4, r.5)
+
+pub kept-to : {A : Type 0} (keep : ℕ → Bool) (ps : List ℕ) (xs : List A) (j p : ℕ) (x : A) → slice_get ps j ≡ Some p → slice_get xs j ≡ Some x → keep p ≡ true
+    → (k : ℕ) × (slice_get (filter keep ps) k ≡ Some p) × (slice_get (kept_at keep ps xs) k ≡ Some x)
+kept-to keep [] xs j p x e f t = absurd cc
+kept-to keep (q ∷ ps) [] j p x e f t = absurd (let z : None ≡ Some x = f in cc)
+kept-to keep (q ∷ ps) (y ∷ xs) zero p x e f t =
     let same : q ≡ p = cc in
     let here : keep q ≡ true = subst (λ (z : ℕ). keep z ≡ true) (sym same) t in
     (0, rw here (ap Some same), rw here f)
-digits-to keep (q ∷ ps) (y ∷ digits) (suc j) p x e f t = by (keep q) (digits-to keep ps digits j p x e f t)
+kept-to keep (q ∷ ps) (y ∷ xs) (suc j) p x e f t = by (keep q) (kept-to keep ps xs j p x e f t)
   where
-    by : (b : Bool) → (k : ℕ) × (slice_get (filter keep ps) k ≡ Some p) × (slice_get (kept_digits keep ps digits) k ≡ Some x)
-        → (k : ℕ) × (slice_get (cond b (q ∷ filter keep ps) (filter keep ps)) k ≡ Some p) × (slice_get (cond b (y ∷ kept_digits keep ps digits) (kept_digits keep ps digits)) k ≡ Some x)
+    by : (b : Bool) → (k : ℕ) × (slice_get (filter keep ps) k ≡ Some p) × (slice_get (kept_at keep ps xs) k ≡ Some x)
+        → (k : ℕ) × (slice_get (cond b (q ∷ filter keep ps) (filter keep ps)) k ≡ Some p) × (slice_get (cond b (y ∷ kept_at keep ps xs) (kept_at keep ps xs)) k ≡ Some x)
     by true r = (suc r.0, r.1, r.2)
     by false r = r
 

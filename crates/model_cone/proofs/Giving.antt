@@ -67,6 +67,15 @@ module _ (m : ModelOf) (is : IsModel m) where
   one-register = parts-apart (λ (r : RegisterOf). r.q) m.registers
       (λ i j p a b. let e : suc (suc i) ≡ suc (suc j) = is.once _ _ p (state-at i p a) (state-at j p b) in omega arith)
 
+  -- no state bit stands twice in a register
+  pub one-bit : (i : ℕ) (r : RegisterOf) (k l p : ℕ) → slice_get m.registers i ≡ Some r → slice_get r.q k ≡ Some p → slice_get r.q l ≡ Some p → k ≡ l
+  one-bit i r k l p e a b =
+      let n : ℕ = length (flat_map (λ (z : RegisterOf). z.q) (take i m.registers)) in
+      let x : slice_get (states m) (n + k) ≡ Some p = part-place (λ (z : RegisterOf). z.q) m.registers i r k p e a in
+      let y : slice_get (states m) (n + l) ≡ Some p = part-place (λ (z : RegisterOf). z.q) m.registers i r l p e b in
+      let same : suc (suc (n + k)) ≡ suc (suc (n + l)) = is.once _ _ p (state-at (n + k) p x) (state-at (n + l) p y) in
+      omega arith
+
   -- no state bit is given by a node
   pub not-both : (i j : ℕ) (n : NodeOf) (r : RegisterOf) (p : ℕ) → slice_get m.nodes i ≡ Some n → slice_get m.registers j ≡ Some r → Contains n.y p → Contains r.q p → ⊥
   not-both i j n r p en er hn hr =

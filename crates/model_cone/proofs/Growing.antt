@@ -3,7 +3,8 @@ use Rattle.std.proofs.Common.{◌≡◌, ℕ, zero, suc, ◌+◌, ◌<◌, ◌�
 use Rattle.std.specs.Prelude.{Contains, slice_get}
 use Rattle.std.specs.List.{filter, flat_map}
 use Rattle.std.proofs.lemmas.Grind.{flat_map-append}
-use Rattle.std.proofs.lemmas.List.{append-nil, map-append}
+use Rattle.std.proofs.lemmas.List.{append-nil, length-take-le, map-append}
+use Rattle.std.proofs.lemmas.Option.{slice_get_within}
 use Rattle.std.proofs.lemmas.List.Elements.{filter-append}
 use Rattle.cell_table.specs.declared.kind.Unary.{Unary}
 use Rattle.cell_table.specs.declared.kind.Unary.TheVariants.{Not, Pos, Neg}
@@ -13,9 +14,12 @@ use Rattle.cell_table.specs.declared.kind.Compare.{Compare}
 use Rattle.cell_table.specs.declared.kind.Compare.TheVariants.{Eq, Ne, Eqx, Nex, Lt, Le, Gt, Ge}
 use Rattle.model_core.specs.Served.{HasWidths, binary_limit, compare_limit, unary_limit}
 use Rattle.model_core.specs.Shape.{ModelOf, NodeOf, RegisterOf, states}
+use Rattle.model_core.proofs.Lists.{drop_at}
+use Rattle.model_core.specs.declared.model.Control.{Control}
 use Rattle.model_core.specs.declared.op.Op.{Op}
 use Rattle.model_core.specs.declared.op.Op.TheVariants as op
-use Rattle.model_cone.specs.Slice.{IsWhole, has_kept, kept_digits, kept_registers}
+use Rattle.model_cone.specs.Slice.{has_kept, kept_at, kept_registers, narrowed}
+use Rattle.model_cone.proofs.Narrowing.{kept-more, kept-nothing, kept-taken}
 
 pub take-next : {A : Type 0} (xs : List A) (i : ℕ) (x : A) → slice_get xs i ≡ Some x → take (i + 1) xs ≡ take i xs ++ x ∷ []
 take-next xs i x e = let n : i + 1 ≡ suc i = omega arith in rw n (by xs i x e)
@@ -79,27 +83,6 @@ op-small op.Bmux a b s y h = (omega arith, omega arith, omega arith, omega arith
 op-small (op.Slice offset) a b s y h = (omega arith, omega arith, omega arith, omega arith)
 op-small op.Concat a b s y h = (omega arith, omega arith, omega arith, omega arith)
 
--- digits of places that are all kept, or none of them
-pub digits-more : (keep : ℕ → Bool) (ps qs : List ℕ) (digits : List (Option Bool)) → length ps ≤ length digits
-    → kept_digits keep (ps ++ qs) digits ≡ kept_digits keep ps digits ++ kept_digits keep qs (drop (length ps) digits)
-digits-more keep [] qs digits l = refl
-digits-more keep (p ∷ ps) qs [] l = absurd (omega arith)
-digits-more keep (p ∷ ps) qs (x ∷ digits) l = by (keep p) (digits-more keep ps qs digits (omega arith))
-  where
-    by : (b : Bool) → kept_digits keep (ps ++ qs) digits ≡ kept_digits keep ps digits ++ kept_digits keep qs (drop (length ps) digits)
-        → cond b (x ∷ kept_digits keep (ps ++ qs) digits) (kept_digits keep (ps ++ qs) digits)
-        ≡ cond b (x ∷ kept_digits keep ps digits) (kept_digits keep ps digits) ++ kept_digits keep qs (drop (length ps) digits)
-    by true e = ap (λ (ds : List (Option Bool)). x ∷ ds) e
-    by false e = e
-
-pub digits-whole : (keep : ℕ → Bool) (ps : List ℕ) (digits : List (Option Bool)) → length ps ≤ length digits → ((p : ℕ) → Contains ps p → keep p ≡ true) → kept_digits keep ps digits ≡ take (length ps) digits
-digits-whole keep [] digits l h = refl
-digits-whole keep (p ∷ ps) [] l h = absurd (omega arith)
-digits-whole keep (p ∷ ps) (x ∷ digits) l h =
-    let here : keep p ≡ true = h p (0, omega arith, refl) in
-    let rest = digits-whole keep ps digits (omega arith) (λ q c. h q (suc c.0, (let w = c.1 in omega arith), c.2)) in
-    rw here (ap (λ (ds : List (Option Bool)). x ∷ ds) rest)
-
 pub kept-none : (keep : ℕ → Bool) (ps : List ℕ) → has_kept keep ps ≡ false → (p : ℕ) → Contains ps p → keep p ≡ false
 kept-none keep [] h p c = absurd (let l = c.1 in omega arith)
 kept-none keep (q ∷ ps) h p (zero, l, e) = subst (λ (z : ℕ). keep z ≡ false) e (by (keep q) h)
@@ -120,24 +103,16 @@ kept-some keep ps p c k = by (has_kept keep ps) refl
     by true e = refl
     by false e = absurd (let z = kept-none keep ps e p c in let w : true ≡ false = cc in cc)
 
-pub digits-none : (keep : ℕ → Bool) (ps : List ℕ) (digits : List (Option Bool)) → ((p : ℕ) → Contains ps p → keep p ≡ false) → kept_digits keep ps digits ≡ []
-digits-none keep [] digits h = refl
-digits-none keep (p ∷ ps) [] h = refl
-digits-none keep (p ∷ ps) (x ∷ digits) h =
-    let here : keep p ≡ false = h p (0, omega arith, refl) in
-    rw here (digits-none keep ps digits (λ q c. h q (suc c.0, (let w = c.1 in omega arith), c.2)))
-
--- those of one register more
-pub digits-register : (keep : ℕ → Bool) (ps q : List ℕ) (digits : List (Option Bool)) → length (ps ++ q) ≤ length digits → (has_kept keep q ≡ true → (p : ℕ) → Contains q p → keep p ≡ true)
-    → kept_digits keep (ps ++ q) digits ≡ kept_digits keep ps digits ++ cond (has_kept keep q) (take (length q) (drop (length ps) digits)) []
-digits-register keep ps q digits l whole =
-    let n = length-append ps q in
-    let d = length-drop (length ps) digits in
-    digits-more keep ps q digits (omega arith) ∙ ap (λ (ds : List (Option Bool)). kept_digits keep ps digits ++ ds) (by (has_kept keep q) refl (omega arith))
-  where
-    by : (b : Bool) → has_kept keep q ≡ b → length q ≤ length (drop (length ps) digits) → kept_digits keep q (drop (length ps) digits) ≡ cond b (take (length q) (drop (length ps) digits)) []
-    by true e w = digits-whole keep q (drop (length ps) digits) w (whole e)
-    by false e w = digits-none keep q (drop (length ps) digits) (kept-none keep q e)
+-- of one element more
+pub kept-grow : {A : Type 0} (keep : ℕ → Bool) (ps : List ℕ) (xs : List A) (i p : ℕ) (x : A) → slice_get ps i ≡ Some p → slice_get xs i ≡ Some x
+    → kept_at keep (take (i + 1) ps) xs ≡ kept_at keep (take i ps) xs ++ cond (keep p) (x ∷ []) []
+kept-grow {A = A} keep ps xs i p x e f =
+    let w = slice_get_within ps i p e in
+    let n : length (take i ps) ≡ i = length-take-le i ps (omega arith) in
+    let v = slice_get_within xs i x f in
+    ap (λ (qs : List ℕ). kept_at keep qs xs) (take-next ps i p e)
+    ∙ kept-more keep (take i ps) (p ∷ []) xs (omega arith)
+    ∙ ap (λ (ys : List A). kept_at keep (take i ps) xs ++ kept_at keep (p ∷ []) ys) (ap (λ (k : ℕ). drop k xs) n ∙ drop_at xs i x f)
 
 -- the state bits of one register more
 pub states-next : (rs : List RegisterOf) (i : ℕ) (r : RegisterOf) → slice_get rs i ≡ Some r → flat_map (λ (k : RegisterOf). k.q) (take (i + 1) rs) ≡ flat_map (λ (k : RegisterOf). k.q) (take i rs) ++ r.q
@@ -158,25 +133,52 @@ states-before (k ∷ rs) (suc i) r e =
     let f = length-append (flat_map (λ (k : RegisterOf). k.q) (take i rs)) r.q in
     omega arith
 
-pub registers-grow : (keep : ℕ → Bool) (m : ModelOf) (i : ℕ) (r : RegisterOf) → slice_get m.registers i ≡ Some r → IsWhole keep m → length m.starts ≡ length (states m) → (left digits : List (Option Bool)) (old mid new : ModelOf)
-    → left ≡ drop (length (flat_map (λ (k : RegisterOf). k.q) (take i m.registers))) m.starts → digits ≡ take (length r.q) left
-    → mid ≡ record old { registers = old.registers ++ kept_registers keep (take i m.registers); starts = old.starts ++ kept_digits keep (flat_map (λ (k : RegisterOf). k.q) (take i m.registers)) m.starts }
-    → new ≡ record mid { registers = mid.registers ++ kept_registers keep (r ∷ []); starts = mid.starts ++ cond (has_kept keep r.q) digits [] }
-    → new ≡ record old { registers = old.registers ++ kept_registers keep (take (i + 1) m.registers); starts = old.starts ++ kept_digits keep (flat_map (λ (k : RegisterOf). k.q) (take (i + 1) m.registers)) m.starts }
-registers-grow keep m i r e whole size left digits old mid new el ed em en =
+-- what is left of the digits has those of the next register
+pub left-room : (m : ModelOf) (i : ℕ) (r : RegisterOf) → slice_get m.registers i ≡ Some r → length m.starts ≡ length (states m) → (left : List (Option Bool))
+    → left ≡ drop (length (flat_map (λ (k : RegisterOf). k.q) (take i m.registers))) m.starts → length r.q ≤ length left
+left-room m i r e size left el =
     let ps = flat_map (λ (k : RegisterOf). k.q) (take i m.registers) in
     let w = states-before m.registers i r e in
+    let n = length-append ps r.q in
+    let d = length-drop (length ps) m.starts in
+    let s : length left ≡ length (drop (length ps) m.starts) = ap (λ (ds : List (Option Bool)). length ds) el in
+    omega arith
+
+-- a register of which no bit is kept
+pub nothing-added : (keep : ℕ → Bool) (old : ModelOf) (r : RegisterOf) (digits : List (Option Bool)) → has_kept keep r.q ≡ false
+    → old ≡ record old { registers = old.registers ++ kept_registers keep (r ∷ []); starts = old.starts ++ kept_at keep r.q digits }
+nothing-added keep old r digits h =
+    let none = kept-nothing keep r.q digits (kept-none keep r.q h) in
+    sym (rw (h, none, append-nil old.registers, append-nil old.starts) refl)
+
+-- a register of the bits that are kept
+pub register-added : (keep : ℕ → Bool) (old new : ModelOf) (r : RegisterOf) (digits : List (Option Bool)) → has_kept keep r.q ≡ true → (q d v : List ℕ) (x y : Control) (f : Bool) (s : List (Option Bool))
+    → q ≡ filter keep r.q → d ≡ kept_at keep r.q r.d → v ≡ kept_at keep r.q r.value → x ≡ r.enable → y ≡ r.reset → f ≡ r.reset_first → s ≡ kept_at keep r.q digits
+    → new ≡ record old { registers = old.registers ++ record { q = q; d = d; value = v; enable = x; reset = y; reset_first = f } ∷ []; starts = old.starts ++ s }
+    → new ≡ record old { registers = old.registers ++ kept_registers keep (r ∷ []); starts = old.starts ++ kept_at keep r.q digits }
+register-added keep old new r digits h q d v x y f s eq ed ev ex ey ef es en = en ∙ rw (eq, ed, ev, ex, ey, ef, es, h) refl
+
+pub registers-grow : (keep : ℕ → Bool) (m : ModelOf) (i : ℕ) (r : RegisterOf) → slice_get m.registers i ≡ Some r → length m.starts ≡ length (states m) → (left digits : List (Option Bool)) (old mid new : ModelOf)
+    → left ≡ drop (length (flat_map (λ (k : RegisterOf). k.q) (take i m.registers))) m.starts → digits ≡ take (length r.q) left
+    → mid ≡ record old { registers = old.registers ++ kept_registers keep (take i m.registers); starts = old.starts ++ kept_at keep (flat_map (λ (k : RegisterOf). k.q) (take i m.registers)) m.starts }
+    → new ≡ record mid { registers = mid.registers ++ kept_registers keep (r ∷ []); starts = mid.starts ++ kept_at keep r.q digits }
+    → new ≡ record old { registers = old.registers ++ kept_registers keep (take (i + 1) m.registers); starts = old.starts ++ kept_at keep (flat_map (λ (k : RegisterOf). k.q) (take (i + 1) m.registers)) m.starts }
+registers-grow keep m i r e size left digits old mid new el ed em en =
+    let ps = flat_map (λ (k : RegisterOf). k.q) (take i m.registers) in
+    let w = states-before m.registers i r e in
+    let n = length-append ps r.q in
     let registers : (old.registers ++ kept_registers keep (take i m.registers)) ++ kept_registers keep (r ∷ []) ≡ old.registers ++ kept_registers keep (take (i + 1) m.registers) =
     append_assoc old.registers _ _
-    ∙ ap (λ (rs : List RegisterOf). old.registers ++ rs) (sym (ap (kept_registers keep) (take-next m.registers i r e) ∙ filter-append (λ (k : RegisterOf). has_kept keep k.q) (take i m.registers) (r ∷ []))) in
-    let here : cond (has_kept keep r.q) digits [] ≡ cond (has_kept keep r.q) (take (length r.q) (drop (length ps) m.starts)) [] = ap (λ (ds : List (Option Bool)). cond (has_kept keep r.q) ds []) (ed ∙ ap (take (length r.q)) el) in
-    let starts : (old.starts ++ kept_digits keep ps m.starts) ++ cond (has_kept keep r.q) digits [] ≡ old.starts ++ kept_digits keep (flat_map (λ (k : RegisterOf). k.q) (take (i + 1) m.registers)) m.starts =
+    ∙ ap (λ (rs : List RegisterOf). old.registers ++ rs)
+    (sym (ap (kept_registers keep) (take-next m.registers i r e) ∙ mapped-split (narrowed keep) (λ (k : RegisterOf). has_kept keep k.q) (take i m.registers) (r ∷ []))) in
+    let here : kept_at keep r.q digits ≡ kept_at keep r.q (drop (length ps) m.starts) = ap (λ (ds : List (Option Bool)). kept_at keep r.q ds) (ed ∙ ap (take (length r.q)) el) ∙ kept-taken keep r.q (drop (length ps) m.starts) in
+    let starts : (old.starts ++ kept_at keep ps m.starts) ++ kept_at keep r.q digits ≡ old.starts ++ kept_at keep (flat_map (λ (k : RegisterOf). k.q) (take (i + 1) m.registers)) m.starts =
     append_assoc old.starts _ _
     ∙ ap (λ (ds : List (Option Bool)). old.starts ++ ds)
-    (ap (λ (ds : List (Option Bool)). kept_digits keep ps m.starts ++ ds) here
-    ∙ sym (ap (λ (qs : List ℕ). kept_digits keep qs m.starts) (states-next m.registers i r e) ∙ digits-register keep ps r.q m.starts (omega arith) (whole i r e))) in
+    (ap (λ (ds : List (Option Bool)). kept_at keep ps m.starts ++ ds) here
+    ∙ sym (ap (λ (qs : List ℕ). kept_at keep qs m.starts) (states-next m.registers i r e) ∙ kept-more keep ps r.q m.starts (omega arith))) in
     en
-    ∙ ap (λ (k : ModelOf). record k { registers = k.registers ++ kept_registers keep (r ∷ []); starts = k.starts ++ cond (has_kept keep r.q) digits [] }) em
+    ∙ ap (λ (k : ModelOf). record k { registers = k.registers ++ kept_registers keep (r ∷ []); starts = k.starts ++ kept_at keep r.q digits }) em
     ∙ by registers starts
   where
     by : {rs rs' : List RegisterOf} {ds ds' : List (Option Bool)} → rs ≡ rs' → ds ≡ ds' → record old { registers = rs; starts = ds } ≡ record old { registers = rs'; starts = ds' }

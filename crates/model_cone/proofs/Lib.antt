@@ -8,5 +8,6 @@ pub mod Counting
 pub mod Slicing
 pub mod Closing
 pub mod Digits
+pub mod Narrowing
 pub mod Windows
 pub mod Claims

@@ -1,26 +1,22 @@
 -- The places that are read, and that they are marked.
-use Rattle.std.proofs.Common.{◌≡◌, ◌⊎◌, inl, inr, ℕ, zero, suc, ◌+◌, ◌<◌, ◌≤◌, Bool, List, [], ◌∷◌, ◌++◌, Some, length, take, get_or, refl, sym, subst, ◌∙◌, arith}
+use Rattle.std.proofs.Common.{◌≡◌, ◌⊎◌, inl, inr, ℕ, zero, suc, ◌+◌, ◌<◌, Bool, List, [], ◌∷◌, ◌++◌, Some, length, take, get_or, refl, sym, ap, subst, ◌∙◌, arith}
 use Rattle.std.specs.Prelude.{Contains, slice_get}
 use Rattle.std.specs.List.{flat_map}
 use Rattle.std.proofs.lemmas.List.Elements.{Contains-append_cases, Contains-append_left, Contains-append_right}
-use Rattle.std.proofs.lemmas.Option.{same_Some, slice_get_within}
+use Rattle.std.proofs.lemmas.Option.{same_Some}
 use Rattle.model_core.specs.Served.{IsModel}
 use Rattle.model_core.specs.Shape.{AreBelow, IsRegister, ModelOf, NodeOf, RegisterOf, reads, states}
 use Rattle.model_core.specs.declared.model.Statement.{Statement}
 use Rattle.model_core.proofs.Frames.{gives_below, open_source, reads_below, source_below}
 use Rattle.model_core.proofs.Lists.{all_at, all_from, contained_at}
 use Rattle.model_cone.specs.declared.asked.Asked.{Asked}
-use Rattle.model_cone.specs.declared.givers.Giver.TheVariants.{Node, Register}
-use Rattle.model_cone.specs.Cone.{IsRoot, register_reads}
+use Rattle.model_cone.specs.declared.givers.Giver.TheVariants.{Node, Bit}
+use Rattle.model_cone.specs.Cone.{Decides, IsRoot}
 use Rattle.model_cone.specs.Marking.{IsAskedPlace, IsPlaceOf, IsReadBy, Spreads}
 use Rattle.model_cone.proofs.Marks.{more-from, more-to, spread-as, spread-then}
 
 pub below-from : (size : ℕ) (ps : List ℕ) → ((p : ℕ) → Contains ps p → p < size) → AreBelow size ps
 below-from size ps h = all_from (λ p. p < size) ps (λ k p e. h p (contained_at ps p k e))
-
--- places that decide a register
-pub part-q : (r : RegisterOf) (p : ℕ) → Contains r.q p → Contains (register_reads r) p
-part-q r p h = Contains-append_left r.q _ p h
 
 module _ (m : ModelOf) (is : IsModel m) where
   pub zero-below : m.zero < m.size
@@ -88,56 +84,28 @@ node-spread m i n e a b s ea eb es marks more stack waiting h = spread-as (λ p.
         let same : n ≡ g.0 = same_Some n g.0 (sym e ∙ g.1) in
         from-n p (subst (λ (k : NodeOf). Contains (reads k) p) (sym same) g.2)
 
--- what decides a register's next row is at its q, d and value, and its control bits
-pub register-spread : (m : ModelOf) (i : ℕ) (r : RegisterOf) → slice_get m.registers i ≡ Some r → (q d v : List ℕ) (x y : ℕ) → q ≡ r.q → d ≡ r.d → v ≡ r.value → x ≡ r.enable.place → y ≡ r.reset.place
-    → (marks more : List Bool) (stack waiting : List ℕ) → Spreads (λ p. (((Contains q p ⊎ Contains d p) ⊎ Contains v p) ⊎ (p ≡ x)) ⊎ (p ≡ y)) marks stack more waiting
-    → Spreads (IsReadBy m (Register i)) marks stack more waiting
-register-spread m i r e q d v x y eq ed ev ex ey marks more stack waiting h =
-    spread-as (λ p. (((Contains q p ⊎ Contains d p) ⊎ Contains v p) ⊎ (p ≡ x)) ⊎ (p ≡ y)) (IsReadBy m (Register i)) marks more stack waiting (λ p g. (r, e, to p g)) from h
+-- what decides a bit stands at its place in what the register takes and resets to, and at the controls
+pub bit-spread : (m : ModelOf) (i k : ℕ) (r : RegisterOf) → slice_get m.registers i ≡ Some r → (d v x y : ℕ) → slice_get r.d k ≡ Some d → slice_get r.value k ≡ Some v → x ≡ r.enable.place → y ≡ r.reset.place
+    → (marks more : List Bool) (stack waiting : List ℕ) → Spreads (λ p. (((p ≡ d) ⊎ (p ≡ v)) ⊎ (p ≡ x)) ⊎ (p ≡ y)) marks stack more waiting → Spreads (IsReadBy m (Bit i k)) marks stack more waiting
+bit-spread m i k r e d v x y ed ev ex ey marks more stack waiting h =
+    spread-as (λ p. (((p ≡ d) ⊎ (p ≡ v)) ⊎ (p ≡ x)) ⊎ (p ≡ y)) (IsReadBy m (Bit i k)) marks more stack waiting (λ p g. (r, e, to p g)) from h
   where
-    to : (p : ℕ) → (((Contains q p ⊎ Contains d p) ⊎ Contains v p) ⊎ (p ≡ x)) ⊎ (p ≡ y) → Contains (register_reads r) p
-    to p g =
-        let tail : List ℕ = r.value ++ (r.enable.place ∷ r.reset.place ∷ []) in
-        elim g as (λ _. Contains (register_reads r) p) [
-          | inl f ↦ elim f as (λ _. Contains (register_reads r) p) [
-            | inl k ↦ elim k as (λ _. Contains (register_reads r) p) [
-              | inl j ↦ elim j as (λ _. Contains (register_reads r) p) [
-                | inl z ↦ Contains-append_left r.q (r.d ++ tail) p (subst (λ (ps : List ℕ). Contains ps p) eq z)
-                | inr z ↦ Contains-append_right r.q (r.d ++ tail) p (Contains-append_left r.d tail p (subst (λ (ps : List ℕ). Contains ps p) ed z))
-              ]
-              | inr z ↦ Contains-append_right r.q (r.d ++ tail) p
-                  (Contains-append_right r.d tail p (Contains-append_left r.value (r.enable.place ∷ r.reset.place ∷ []) p (subst (λ (ps : List ℕ). Contains ps p) ev z)))
-            ]
-            | inr z ↦ Contains-append_right r.q (r.d ++ tail) p
-                (Contains-append_right r.d tail p (Contains-append_right r.value (r.enable.place ∷ r.reset.place ∷ []) p (0, omega arith, sym ex ∙ sym z)))
-          ]
-          | inr z ↦ Contains-append_right r.q (r.d ++ tail) p
-              (Contains-append_right r.d tail p (Contains-append_right r.value (r.enable.place ∷ r.reset.place ∷ []) p (1, omega arith, sym ey ∙ sym z)))
-        ]
+    to : (p : ℕ) → (((p ≡ d) ⊎ (p ≡ v)) ⊎ (p ≡ x)) ⊎ (p ≡ y) → Decides r k p
+    to p (inl (inl (inl z))) = inl (ed ∙ ap Some (sym z))
+    to p (inl (inl (inr z))) = inr (inl (ev ∙ ap Some (sym z)))
+    to p (inl (inr z)) = inr (inr (inl (z ∙ ex)))
+    to p (inr z) = inr (inr (inr (z ∙ ey)))
 
-    controls : (p : ℕ) → Contains (r.enable.place ∷ r.reset.place ∷ []) p → (((Contains q p ⊎ Contains d p) ⊎ Contains v p) ⊎ (p ≡ x)) ⊎ (p ≡ y)
-    controls p (zero, l, z) = inl (inr (sym z ∙ sym ex))
-    controls p (suc zero, l, z) = inr (sym z ∙ sym ey)
-    controls p (suc (suc k), l, z) = absurd (omega arith)
+    from-r : (p : ℕ) → Decides r k p → (((p ≡ d) ⊎ (p ≡ v)) ⊎ (p ≡ x)) ⊎ (p ≡ y)
+    from-r p (inl z) = inl (inl (inl (same_Some p d (sym z ∙ ed))))
+    from-r p (inr (inl z)) = inl (inl (inr (same_Some p v (sym z ∙ ev))))
+    from-r p (inr (inr (inl z))) = inl (inr (z ∙ sym ex))
+    from-r p (inr (inr (inr z))) = inr (z ∙ sym ey)
 
-    from-r : (p : ℕ) → Contains (register_reads r) p → (((Contains q p ⊎ Contains d p) ⊎ Contains v p) ⊎ (p ≡ x)) ⊎ (p ≡ y)
-    from-r p g =
-        let tail : List ℕ = r.value ++ (r.enable.place ∷ r.reset.place ∷ []) in
-        elim (Contains-append_cases r.q (r.d ++ tail) p g) as (λ _. (((Contains q p ⊎ Contains d p) ⊎ Contains v p) ⊎ (p ≡ x)) ⊎ (p ≡ y)) [
-          | inl z ↦ inl (inl (inl (inl (subst (λ (ps : List ℕ). Contains ps p) (sym eq) z))))
-          | inr f ↦ elim (Contains-append_cases r.d tail p f) as (λ _. (((Contains q p ⊎ Contains d p) ⊎ Contains v p) ⊎ (p ≡ x)) ⊎ (p ≡ y)) [
-            | inl z ↦ inl (inl (inl (inr (subst (λ (ps : List ℕ). Contains ps p) (sym ed) z))))
-            | inr k ↦ elim (Contains-append_cases r.value (r.enable.place ∷ r.reset.place ∷ []) p k) as (λ _. (((Contains q p ⊎ Contains d p) ⊎ Contains v p) ⊎ (p ≡ x)) ⊎ (p ≡ y)) [
-              | inl z ↦ inl (inl (inr (subst (λ (ps : List ℕ). Contains ps p) (sym ev) z)))
-              | inr z ↦ controls p z
-            ]
-          ]
-        ]
-
-    from : (p : ℕ) → IsReadBy m (Register i) p → (((Contains q p ⊎ Contains d p) ⊎ Contains v p) ⊎ (p ≡ x)) ⊎ (p ≡ y)
+    from : (p : ℕ) → IsReadBy m (Bit i k) p → (((p ≡ d) ⊎ (p ≡ v)) ⊎ (p ≡ x)) ⊎ (p ≡ y)
     from p g =
         let same : r ≡ g.0 = same_Some r g.0 (sym e ∙ g.1) in
-        from-r p (subst (λ (k : RegisterOf). Contains (register_reads k) p) (sym same) g.2)
+        from-r p (subst (λ (z : RegisterOf). Decides z k p) (sym same) g.2)
 
 -- the places of one statement more
 pub statements-spread : (xs : List Statement) (i : ℕ) (x : Statement) → i < length xs → x ≡ get_or xs i x → (a b c : List Bool) (s t u : List ℕ) → Spreads (IsPlaceOf (take i xs)) a s b t
@@ -193,6 +161,12 @@ roots-made m asked z o assumes ez eo ea a b c d e s t u v w hz ho ha hk =
     (subst (λ (k : ℕ). Spreads (λ p. p ≡ k) b t c u) eo ho))
     (subst (λ (xs : List Statement). Spreads (IsPlaceOf xs) c u d v) ea ha))
     hk)
+
+pub states-below : (m : ModelOf) → IsModel m → AreBelow m.size (states m)
+states-below m is = below-from m.size (states m) (λ p h. source_below m is p (open_source m is p (Contains-append_left (states m) m.inputs p h)))
+
+pub inputs-below : (m : ModelOf) → IsModel m → AreBelow m.size m.inputs
+inputs-below m is = below-from m.size m.inputs (λ p h. source_below m is p (open_source m is p (Contains-append_right (states m) m.inputs p h)))
 
 pub input-below : (m : ModelOf) → IsModel m → (k p : ℕ) → slice_get m.inputs k ≡ Some p → p < m.size
 input-below m is k p e = source_below m is p (open_source m is p (Contains-append_right (states m) m.inputs p (contained_at m.inputs p k e)))

@@ -1,11 +1,11 @@
 -- A slice is a model.
-use Rattle.std.proofs.Common.{◌≡◌, inl, inr, ℕ, zero, suc, ◌+◌, ◌<◌, ◌≤◌, Bool, true, false, not, cond, List, [], ◌∷◌, ◌++◌, Option, Some, length, map, take, replicate, refl, sym, ap, subst, ◌∙◌, arith, append_assoc}
+use Rattle.std.proofs.Common.{◌≡◌, inl, inr, ℕ, zero, suc, ◌+◌, ◌<◌, ◌≤◌, Bool, true, false, not, cond, List, [], ◌∷◌, ◌++◌, Some, length, map, take, replicate, refl, sym, ap, subst, ◌∙◌, arith, append_assoc}
 use Rattle.std.specs.Prelude.{All, Contains, slice_get}
 use Rattle.std.specs.List.{filter, flat_map}
 use Rattle.std.proofs.lemmas.Grind.{flat_map-append}
 use Rattle.std.proofs.lemmas.List.{append-nil, length-replicate, length-map, take-append-le, take-map}
-use Rattle.std.proofs.lemmas.List.Elements.{filter-append, filter_passes, All-append, All-contains, All-filter, All-map, Contains-append_cases, Contains-append_left, Contains-append_right}
-use Rattle.std.proofs.lemmas.List.Folds.{flat_map-map}
+use Rattle.std.proofs.lemmas.List.Elements.{filter-append, filter_passes, All-append, All-contains, All-map, Contains-append_cases, Contains-append_left, Contains-append_right}
+use Rattle.std.proofs.lemmas.List.Filters.{length-filter_both}
 use Rattle.std.proofs.lemmas.Option.{slice_get_within}
 use Rattle.model_core.specs.Served.{HasWidths, IsModel, IsNode, IsWidth}
 use Rattle.model_core.specs.Shape.{IsRegister, ModelOf, NodeOf, RegisterOf, given, reads, sources, states}
@@ -17,9 +17,12 @@ use Rattle.cell_table.specs.declared.kind.Unary.TheVariants.{Not, Pos, Neg}
 use Rattle.cell_table.specs.declared.kind.Binary.{Binary}
 use Rattle.cell_table.specs.declared.kind.Binary.TheVariants.{And, Or, Xor, Xnor, Add, Sub, Mul}
 use Rattle.model_core.specs.Served.{IsWithin, binary_limit, unary_limit}
-use Rattle.model_cone.specs.Slice.{IsWhole, has_kept, kept_digits, kept_registers, left_registers, sliced, sliced_node, zeroes}
+use Rattle.model_cone.specs.Slice.{has_kept, kept_at, kept_registers, narrowed, sliced, sliced_node, zeroes}
 use Rattle.model_cone.proofs.Counting.{contains-count, count, count-append, count-contains, count-distinct, count-filter, distinct-count}
-use Rattle.model_cone.proofs.Growing.{kept-none}
+use Rattle.model_cone.proofs.Closing.{kept-place}
+use Rattle.model_cone.proofs.Digits.{filter-from}
+use Rattle.model_cone.proofs.Growing.{kept-none, mapped-split}
+use Rattle.model_cone.proofs.Narrowing.{kept-all, kept-length}
 use Rattle.model_cone.proofs.Reading.{register-is}
 
 -- the output of a node has from 1 to 4096 bits
@@ -85,40 +88,36 @@ filter-contains test xs p c k =
         by xs zero e = refl
         by xs (suc n) e = absurd (let f = passes xs p (count-contains p _ (omega arith)) in let g : not true ≡ true = subst (λ (b : Bool). not b ≡ true) k f in cc)
 
-filter-whole : (test : ℕ → Bool) (xs : List ℕ) → ((p : ℕ) → Contains xs p → test p ≡ true) → filter test xs ≡ xs
-filter-whole test [] h = refl
-filter-whole test (x ∷ xs) h =
-    let here : test x ≡ true = h x (0, omega arith, refl) in
-    let rest = filter-whole test xs (λ p c. h p (suc c.0, (let l = c.1 in omega arith), c.2)) in
-    rw here (ap (λ (ys : List ℕ). x ∷ ys) rest)
-
 filter-none : (test : ℕ → Bool) (xs : List ℕ) → ((p : ℕ) → Contains xs p → test p ≡ false) → filter test xs ≡ []
 filter-none test [] h = refl
 filter-none test (x ∷ xs) h =
     let here : test x ≡ false = h x (0, omega arith, refl) in
     rw here (filter-none test xs (λ p c. h p (suc c.0, (let l = c.1 in omega arith), c.2)))
 
-pub kept-states : (keep : ℕ → Bool) (rs : List RegisterOf) → ((i : ℕ) (r : RegisterOf) → slice_get rs i ≡ Some r → has_kept keep r.q ≡ true → (p : ℕ) → Contains r.q p → keep p ≡ true)
-    → flat_map (λ (r : RegisterOf). r.q) (kept_registers keep rs) ≡ filter keep (flat_map (λ (r : RegisterOf). r.q) rs)
-kept-states keep [] h = refl
-kept-states keep (r ∷ rs) h =
-    by (has_kept keep r.q) refl (kept-states keep rs (λ i k e. h (suc i) k e)) ∙ sym (filter-append keep r.q (flat_map (λ (r : RegisterOf). r.q) rs))
+pub kept-states : (keep : ℕ → Bool) (rs : List RegisterOf) → flat_map (λ (r : RegisterOf). r.q) (kept_registers keep rs) ≡ filter keep (flat_map (λ (r : RegisterOf). r.q) rs)
+kept-states keep [] = refl
+kept-states keep (r ∷ rs) = by (has_kept keep r.q) refl (kept-states keep rs) ∙ sym (filter-append keep r.q (flat_map (λ (r : RegisterOf). r.q) rs))
   where
     by : (b : Bool) → has_kept keep r.q ≡ b → flat_map (λ (r : RegisterOf). r.q) (kept_registers keep rs) ≡ filter keep (flat_map (λ (r : RegisterOf). r.q) rs)
-        → flat_map (λ (r : RegisterOf). r.q) (cond b (r ∷ kept_registers keep rs) (kept_registers keep rs)) ≡ filter keep r.q ++ filter keep (flat_map (λ (r : RegisterOf). r.q) rs)
-    by true e rest = rw (filter-whole keep r.q (h 0 r refl e)) (ap (λ (ps : List ℕ). r.q ++ ps) rest)
-    by false e rest = rw (filter-none keep r.q (kept-none keep r.q e)) rest
+        → flat_map (λ (r : RegisterOf). r.q) (map (narrowed keep) (cond b (r ∷ filter (λ (r : RegisterOf). has_kept keep r.q) rs) (filter (λ (r : RegisterOf). has_kept keep r.q) rs))) ≡ filter keep r.q ++ filter keep (flat_map (λ (r : RegisterOf). r.q) rs)
+    by true e h = ap (λ (ps : List ℕ). filter keep r.q ++ ps) h
+    by false e h = rw (filter-none keep r.q (kept-none keep r.q e)) h
 
-pub left-states : (keep : ℕ → Bool) (rs : List RegisterOf) → ((i : ℕ) (r : RegisterOf) → slice_get rs i ≡ Some r → has_kept keep r.q ≡ true → (p : ℕ) → Contains r.q p → keep p ≡ true)
-    → flat_map (λ (r : RegisterOf). r.q) (left_registers keep rs) ≡ filter (λ p. not (keep p)) (flat_map (λ (r : RegisterOf). r.q) rs)
-left-states keep [] h = refl
-left-states keep (r ∷ rs) h =
-    by (has_kept keep r.q) refl (left-states keep rs (λ i k e. h (suc i) k e)) ∙ sym (filter-append (λ p. not (keep p)) r.q (flat_map (λ (r : RegisterOf). r.q) rs))
-  where
-    by : (b : Bool) → has_kept keep r.q ≡ b → flat_map (λ (r : RegisterOf). r.q) (left_registers keep rs) ≡ filter (λ p. not (keep p)) (flat_map (λ (r : RegisterOf). r.q) rs)
-        → flat_map (λ (r : RegisterOf). r.q) (cond (not b) (r ∷ left_registers keep rs) (left_registers keep rs)) ≡ filter (λ p. not (keep p)) r.q ++ filter (λ p. not (keep p)) (flat_map (λ (r : RegisterOf). r.q) rs)
-    by true e rest = rw (filter-none (λ p. not (keep p)) r.q (λ p c. ap not (h 0 r refl e p c))) rest
-    by false e rest = rw (filter-whole (λ p. not (keep p)) r.q (λ p c. ap not (kept-none keep r.q e p c))) (ap (λ (ps : List ℕ). r.q ++ ps) rest)
+pub slice-states : (keep : ℕ → Bool) (m : ModelOf) → states (sliced keep m) ≡ filter keep (states m)
+slice-states keep m = kept-states keep m.registers
+
+-- a register of the bits that are kept
+narrowed-is : (keep : ℕ → Bool) (size : ℕ) (r : RegisterOf) → IsRegister size r → has_kept keep r.q ≡ true → IsRegister size (narrowed keep r)
+narrowed-is keep size r is h = record {
+  some = (let k = kept-place keep r.q h in let c = filter-contains keep r.q k.0 k.1 k.2 in let l = c.1 in omega arith);
+  narrow = (let e = length-filter_both keep (λ p. not (keep p)) (λ p. refl) r.q in let n = is.narrow in omega arith);
+  d = kept-length keep r.q r.d is.d;
+  value = kept-length keep r.q r.value is.value;
+  d_below = kept-all (λ p. p < size) keep r.q r.d is.d_below;
+  value_below = kept-all (λ p. p < size) keep r.q r.value is.value_below;
+  enable = is.enable;
+  reset = is.reset;
+}
 
 -- what the nodes of a slice give
 sliced-y : (keep : ℕ → Bool) (z : ℕ) (n : NodeOf) → (sliced_node keep z n).y ≡ n.y
@@ -136,66 +135,50 @@ zero-inputs : (z : ℕ) (ps : List ℕ) → given (map (λ p. zeroes z (p ∷ []
 zero-inputs z [] = refl
 zero-inputs z (p ∷ ps) = ap (λ (qs : List ℕ). p ∷ qs) (zero-inputs z ps)
 
-pub digits-length : (keep : ℕ → Bool) (ps : List ℕ) (digits : List (Option Bool)) → length digits ≡ length ps → length (kept_digits keep ps digits) ≡ length (filter keep ps)
-digits-length keep [] digits e = refl
-digits-length keep (p ∷ ps) [] e = absurd (omega arith)
-digits-length keep (p ∷ ps) (x ∷ digits) e = by (keep p) (digits-length keep ps digits (omega arith))
-  where
-    by : (b : Bool) → length (kept_digits keep ps digits) ≡ length (filter keep ps)
-        → length (cond b (x ∷ kept_digits keep ps digits) (kept_digits keep ps digits)) ≡ length (cond b (p ∷ filter keep ps) (filter keep ps))
-    by true h = ap suc h
-    by false h = h
-
-mapped : {A B : Type 0} (f : A → B) (xs : List A) (i : ℕ) (y : B) → slice_get (map f xs) i ≡ Some y → (x : A) × (slice_get xs i ≡ Some x) × (f x ≡ y)
+pub mapped : {A B : Type 0} (f : A → B) (xs : List A) (i : ℕ) (y : B) → slice_get (map f xs) i ≡ Some y → (x : A) × (slice_get xs i ≡ Some x) × (f x ≡ y)
 mapped f [] i y e = absurd cc
 mapped f (x ∷ xs) zero y e = (x, refl, cc)
 mapped f (x ∷ xs) (suc i) y e = mapped f xs i y e
 
-module _ (m : ModelOf) (is : IsModel m) (keep : ℕ → Bool) (whole : IsWhole keep m)
+pub mapped-at : {A B : Type 0} (f : A → B) (xs : List A) (i : ℕ) (x : A) → slice_get xs i ≡ Some x → slice_get (map f xs) i ≡ Some (f x)
+mapped-at f [] i x e = absurd cc
+mapped-at f (y ∷ xs) zero x e = let same : y ≡ x = cc in ap (λ (z : _). Some (f z)) same
+mapped-at f (y ∷ xs) (suc i) x e = mapped-at f xs i x e
+
+module _ (m : ModelOf) (is : IsModel m) (keep : ℕ → Bool)
     (constants : (keep m.zero ≡ true) × (keep (suc m.zero) ≡ true))
     (closed : (i : ℕ) (n : NodeOf) (p : ℕ) → slice_get m.nodes i ≡ Some n → has_kept keep n.y ≡ true → Contains (reads n) p → keep p ≡ true) where
+  abbrev out : ℕ → Bool
+  out = λ p. not (keep p)
+
   abbrev left-nodes : List NodeOf
-  left-nodes = map (λ r. zeroes m.zero r.q) (left_registers keep m.registers) ++ map (λ p. zeroes m.zero (p ∷ [])) (filter (λ p. not (keep p)) m.inputs)
+  left-nodes = map (λ p. zeroes m.zero (p ∷ [])) (filter out (states m ++ m.inputs))
 
   abbrev slice-every : List ℕ
   slice-every = sources (sliced keep m) ++ given (sliced keep m).nodes
 
-  pub slice-states : states (sliced keep m) ≡ filter keep (states m)
-  slice-states = kept-states keep m.registers whole
-
-  left-given : given left-nodes ≡ filter (λ p. not (keep p)) (states m) ++ filter (λ p. not (keep p)) m.inputs
-  left-given =
-      flat_map-append (λ (n : NodeOf). n.y) (map (λ r. zeroes m.zero r.q) (left_registers keep m.registers)) (map (λ p. zeroes m.zero (p ∷ [])) (filter (λ p. not (keep p)) m.inputs))
-      ∙ by (flat_map-map (λ (n : NodeOf). n.y) (λ (r : RegisterOf). zeroes m.zero r.q) (left_registers keep m.registers) ∙ left-states keep m.registers whole)
-      (zero-inputs m.zero (filter (λ p. not (keep p)) m.inputs))
-    where
-      by : {a b c d : List ℕ} → a ≡ b → c ≡ d → a ++ c ≡ b ++ d
-      by e f = rw (e, f) refl
-
-  slice-given : given (sliced keep m).nodes ≡ given m.nodes ++ (filter (λ p. not (keep p)) (states m) ++ filter (λ p. not (keep p)) m.inputs)
+  slice-given : given (sliced keep m).nodes ≡ given m.nodes ++ filter out (states m ++ m.inputs)
   slice-given =
       flat_map-append (λ (n : NodeOf). n.y) (map (sliced_node keep m.zero) m.nodes) left-nodes
-      ∙ by (sliced-given keep m.zero m.nodes) left-given
+      ∙ by (sliced-given keep m.zero m.nodes) (zero-inputs m.zero (filter out (states m ++ m.inputs)))
     where
       by : {a b c d : List ℕ} → a ≡ b → c ≡ d → a ++ c ≡ b ++ d
       by e f = rw (e, f) refl
+
+  slice-open : states (sliced keep m) ++ filter keep m.inputs ≡ filter keep (states m ++ m.inputs)
+  slice-open = ap (λ (ps : List ℕ). ps ++ filter keep m.inputs) (slice-states keep m) ∙ sym (filter-append keep (states m) m.inputs)
 
   -- each place stands as often in the slice as in the model
   every-count : (p : ℕ) → count p slice-every ≡ count p (sources m ++ given m.nodes)
   every-count p =
-      let out : ℕ → Bool = λ q. not (keep q) in
       let a = count-append p (sources (sliced keep m)) (given (sliced keep m).nodes) in
-      let b : count p (sources (sliced keep m)) ≡ count p (m.zero ∷ suc m.zero ∷ []) + count p (filter keep (states m) ++ filter keep m.inputs) =
-      ap (λ (ps : List ℕ). count p ((m.zero ∷ suc m.zero ∷ []) ++ (ps ++ filter keep m.inputs))) slice-states ∙ count-append p (m.zero ∷ suc m.zero ∷ []) (filter keep (states m) ++ filter keep m.inputs) in
-      let c = count-append p (filter keep (states m)) (filter keep m.inputs) in
-      let d : count p (given (sliced keep m).nodes) ≡ count p (given m.nodes) + count p (filter out (states m) ++ filter out m.inputs) =
-      ap (count p) slice-given ∙ count-append p (given m.nodes) (filter out (states m) ++ filter out m.inputs) in
-      let e = count-append p (filter out (states m)) (filter out m.inputs) in
-      let f = count-filter p keep (states m) in
-      let g = count-filter p keep m.inputs in
+      let b : count p (sources (sliced keep m)) ≡ count p (m.zero ∷ suc m.zero ∷ []) + count p (filter keep (states m ++ m.inputs)) =
+      ap (λ (ps : List ℕ). count p ((m.zero ∷ suc m.zero ∷ []) ++ ps)) slice-open ∙ count-append p (m.zero ∷ suc m.zero ∷ []) (filter keep (states m ++ m.inputs)) in
+      let d : count p (given (sliced keep m).nodes) ≡ count p (given m.nodes) + count p (filter out (states m ++ m.inputs)) =
+      ap (count p) slice-given ∙ count-append p (given m.nodes) (filter out (states m ++ m.inputs)) in
+      let f = count-filter p keep (states m ++ m.inputs) in
       let h = count-append p (sources m) (given m.nodes) in
       let i : count p (sources m) ≡ count p (m.zero ∷ suc m.zero ∷ []) + count p (states m ++ m.inputs) = count-append p (m.zero ∷ suc m.zero ∷ []) (states m ++ m.inputs) in
-      let j = count-append p (states m) m.inputs in
       omega arith
 
   from-slice : (p : ℕ) → Contains slice-every p → Contains (sources m ++ given m.nodes) p
@@ -216,21 +199,18 @@ module _ (m : ModelOf) (is : IsModel m) (keep : ℕ → Bool) (whole : IsWhole k
   nodes-are =
       All-append IsNode (map (sliced_node keep m.zero) m.nodes) left-nodes
       (All-map IsNode (sliced_node keep m.zero) m.nodes (all_from (λ n. IsNode (sliced_node keep m.zero n)) m.nodes (λ k n e. node-is n (all_at IsNode m.nodes k n is.nodes e))))
-      (All-append IsNode (map (λ r. zeroes m.zero r.q) (left_registers keep m.registers)) (map (λ p. zeroes m.zero (p ∷ [])) (filter (λ p. not (keep p)) m.inputs))
-      (All-map IsNode (λ (r : RegisterOf). zeroes m.zero r.q) (left_registers keep m.registers)
-      (All-filter (λ (r : RegisterOf). not (has_kept keep r.q)) (λ (r : RegisterOf). IsNode (zeroes m.zero r.q)) m.registers
-      (all_from (λ (r : RegisterOf). IsNode (zeroes m.zero r.q)) m.registers (λ k r e. let w = register-is m is k r e in zeroes-node m.zero r.q (w.some, w.narrow)))))
-      (All-map IsNode (λ p. zeroes m.zero (p ∷ [])) (filter (λ p. not (keep p)) m.inputs)
-      (all_from (λ p. IsNode (zeroes m.zero (p ∷ []))) (filter (λ p. not (keep p)) m.inputs) (λ k p e. zeroes-node m.zero (p ∷ []) (omega arith, omega arith)))))
+      (All-map IsNode (λ p. zeroes m.zero (p ∷ [])) (filter out (states m ++ m.inputs))
+      (all_from (λ p. IsNode (zeroes m.zero (p ∷ []))) (filter out (states m ++ m.inputs)) (λ k p e. zeroes-node m.zero (p ∷ []) (omega arith, omega arith))))
+
+  registers-are : All (IsRegister m.size) (kept_registers keep m.registers)
+  registers-are =
+      All-map (IsRegister m.size) (narrowed keep) (filter (λ (r : RegisterOf). has_kept keep r.q) m.registers)
+      (all_from (λ (r : RegisterOf). IsRegister m.size (narrowed keep r)) (filter (λ (r : RegisterOf). has_kept keep r.q) m.registers)
+      (λ k r e. let x = filter-from (λ (r : RegisterOf). has_kept keep r.q) m.registers k r e in narrowed-is keep m.size r (register-is m is x.0 r x.1) x.2))
 
   -- what is kept of the state bits and the inputs, and of the sources
   pub kept-open : (p : ℕ) → Contains (states m ++ m.inputs) p → keep p ≡ true → Contains (states (sliced keep m) ++ filter keep m.inputs) p
-  kept-open p a k =
-      elim (Contains-append_cases (states m) m.inputs p a) as (λ _. Contains (states (sliced keep m) ++ filter keep m.inputs) p) [
-        | inl b ↦ Contains-append_left (states (sliced keep m)) (filter keep m.inputs) p
-            (subst (λ (ps : List ℕ). Contains ps p) (sym slice-states) (filter-contains keep (states m) p b k))
-        | inr b ↦ Contains-append_right (states (sliced keep m)) (filter keep m.inputs) p (filter-contains keep m.inputs p b k)
-      ]
+  kept-open p a k = subst (λ (ps : List ℕ). Contains ps p) (sym slice-open) (filter-contains keep (states m ++ m.inputs) p a k)
 
   kept-source : (p : ℕ) → Contains (sources m) p → keep p ≡ true → Contains (sources (sliced keep m)) p
   kept-source p c k =
@@ -255,14 +235,8 @@ module _ (m : ModelOf) (is : IsModel m) (keep : ℕ → Bool) (whole : IsWhole k
 
   left-reads : (k : ℕ) (n : NodeOf) (p : ℕ) → slice_get left-nodes k ≡ Some n → Contains (reads n) p → p ≡ m.zero
   left-reads k n p e c =
-      elim (app_cases (map (λ r. zeroes m.zero r.q) (left_registers keep m.registers)) (map (λ p. zeroes m.zero (p ∷ [])) (filter (λ p. not (keep p)) m.inputs)) k n e) as (λ _. p ≡ m.zero) [
-        | inl a ↦
-            let x = mapped (λ (r : RegisterOf). zeroes m.zero r.q) (left_registers keep m.registers) k n a in
-            zeroes-reads m.zero x.0.q p (subst (λ (z : NodeOf). Contains (reads z) p) (sym x.2) c)
-        | inr a ↦
-            let x = mapped (λ (p : ℕ). zeroes m.zero (p ∷ [])) (filter (λ p. not (keep p)) m.inputs) a.0 n a.2 in
-            zeroes-reads m.zero (x.0 ∷ []) p (subst (λ (z : NodeOf). Contains (reads z) p) (sym x.2) c)
-      ]
+      let x = mapped (λ (p : ℕ). zeroes m.zero (p ∷ [])) (filter out (states m ++ m.inputs)) k n e in
+      zeroes-reads m.zero (x.0 ∷ []) p (subst (λ (z : NodeOf). Contains (reads z) p) (sym x.2) c)
 
   given-before : (i : ℕ) → i ≤ length m.nodes → given (take i (sliced keep m).nodes) ≡ given (take i m.nodes)
   given-before i l =
@@ -293,8 +267,8 @@ module _ (m : ModelOf) (is : IsModel m) (keep : ℕ → Bool) (whole : IsWhole k
   slice-is = record {
     limit = is.limit;
     nodes = nodes-are;
-    registers = All-filter (λ (r : RegisterOf). has_kept keep r.q) (IsRegister m.size) m.registers is.registers;
-    starts = digits-length keep (states m) m.starts is.starts ∙ sym (ap (λ (ps : List ℕ). length ps) slice-states);
+    registers = registers-are;
+    starts = kept-length keep (states m) m.starts is.starts ∙ sym (ap (λ (ps : List ℕ). length ps) (slice-states keep m));
     asserts = is.asserts;
     assumes = is.assumes;
     covers = is.covers;
@@ -304,13 +278,17 @@ module _ (m : ModelOf) (is : IsModel m) (keep : ℕ → Bool) (whole : IsWhole k
     order = λ i n e p c. in-order i n e p c;
   }
 
+-- the nodes of the places that are left
+abbrev zeros : (ℕ → Bool) → ℕ → List ℕ → List NodeOf
+zeros keep z ps = map (λ p. zeroes z (p ∷ [])) (filter (λ p. not (keep p)) ps)
+
 -- the slice by its parts, as they are added
 pub slice-made : (keep : ℕ → Bool) (m d0 d1 d2 d3 d4 d5 d6 : ModelOf)
     → d0 ≡ record { size = m.size; zero = m.zero; nodes = []; registers = []; starts = []; inputs = []; asserts = []; assumes = []; covers = [] }
     → d1 ≡ record d0 { nodes = d0.nodes ++ map (sliced_node keep m.zero) m.nodes }
-    → d2 ≡ record d1 { nodes = d1.nodes ++ map (λ r. zeroes m.zero r.q) (left_registers keep m.registers) }
+    → d2 ≡ record d1 { nodes = d1.nodes ++ map (λ p. zeroes m.zero (p ∷ [])) (filter (λ p. not (keep p)) (states m)) }
     → d3 ≡ record d2 { nodes = d2.nodes ++ map (λ p. zeroes m.zero (p ∷ [])) (filter (λ p. not (keep p)) m.inputs) }
-    → d4 ≡ record d3 { registers = d3.registers ++ kept_registers keep m.registers; starts = d3.starts ++ kept_digits keep (states m) m.starts }
+    → d4 ≡ record d3 { registers = d3.registers ++ kept_registers keep m.registers; starts = d3.starts ++ kept_at keep (states m) m.starts }
     → d5 ≡ record d4 { inputs = d4.inputs ++ filter keep m.inputs }
     → d6 ≡ record d5 { asserts = d5.asserts ++ m.asserts; assumes = d5.assumes ++ m.assumes; covers = d5.covers ++ m.covers }
     → d6 ≡ sliced keep m
@@ -320,11 +298,12 @@ slice-made keep m d0 d1 d2 d3 d4 d5 d6 e0 e1 e2 e3 e4 e5 e6 =
     (e5
     ∙ ap (λ (d : ModelOf). record d { inputs = d.inputs ++ filter keep m.inputs })
     (e4
-    ∙ ap (λ (d : ModelOf). record d { registers = d.registers ++ kept_registers keep m.registers; starts = d.starts ++ kept_digits keep (states m) m.starts })
+    ∙ ap (λ (d : ModelOf). record d { registers = d.registers ++ kept_registers keep m.registers; starts = d.starts ++ kept_at keep (states m) m.starts })
     (e3
-    ∙ ap (λ (d : ModelOf). record d { nodes = d.nodes ++ map (λ p. zeroes m.zero (p ∷ [])) (filter (λ p. not (keep p)) m.inputs) })
+    ∙ ap (λ (d : ModelOf). record d { nodes = d.nodes ++ zeros keep m.zero m.inputs })
     (e2
-    ∙ ap (λ (d : ModelOf). record d { nodes = d.nodes ++ map (λ r. zeroes m.zero r.q) (left_registers keep m.registers) })
+    ∙ ap (λ (d : ModelOf). record d { nodes = d.nodes ++ zeros keep m.zero (states m) })
     (e1 ∙ ap (λ (d : ModelOf). record d { nodes = d.nodes ++ map (sliced_node keep m.zero) m.nodes }) e0)))))
     ∙ ap (λ (ns : List NodeOf). record (sliced keep m) { nodes = ns })
-    (append_assoc (map (sliced_node keep m.zero) m.nodes) (map (λ r. zeroes m.zero r.q) (left_registers keep m.registers)) (map (λ p. zeroes m.zero (p ∷ [])) (filter (λ p. not (keep p)) m.inputs)))
+    (append_assoc (map (sliced_node keep m.zero) m.nodes) (zeros keep m.zero (states m)) (zeros keep m.zero m.inputs)
+    ∙ ap (λ (ns : List NodeOf). map (sliced_node keep m.zero) m.nodes ++ ns) (sym (mapped-split (λ p. zeroes m.zero (p ∷ [])) (λ p. not (keep p)) (states m) m.inputs)))

@@ -1,62 +1,46 @@
 -- Windows and runs of a model and of its slice.
-use Rattle.std.proofs.Common.{◌≡◌, ◌⊎◌, inl, inr, ℕ, zero, suc, ◌+◌, ◌<◌, ◌≤◌, Bool, true, false, cond, List, [], ◌∷◌, ◌++◌, Option, Some, None, length, map, refl, sym, subst, ◌∙◌, arith}
+use Rattle.std.proofs.Common.{◌≡◌, ◌⊎◌, inl, inr, ℕ, zero, suc, ◌+◌, ◌<◌, ◌≤◌, Bool, true, false, not, cond, List, [], ◌++◌, Option, Some, None, length, map, refl, sym, ap, subst, ◌∙◌, arith}
 use Rattle.std.specs.Prelude.{Contains, slice_get}
 use Rattle.std.specs.List.{filter}
 use Rattle.std.proofs.lemmas.List.{length-map}
-use Rattle.std.proofs.lemmas.List.Elements.{All-contains, Contains-append_cases, Contains-append_left, Contains-append_right}
+use Rattle.std.proofs.lemmas.List.Elements.{All-contains, Contains-append_left, Contains-append_right}
+use Rattle.sby_bits.specs.Rows.{Row}
 use Rattle.model_core.specs.Choices.{open_states}
 use Rattle.model_core.specs.Served.{IsModel}
-use Rattle.model_core.specs.Shape.{IsDistinct, IsStatement, ModelOf, RegisterOf, sources, states}
+use Rattle.model_core.specs.Shape.{IsDistinct, IsRegister, IsStatement, ModelOf, RegisterOf, sources, states}
 use Rattle.model_core.specs.declared.model.Statement.{Statement}
 use Rattle.model_core.specs.Meaning.{Cycle, Follows, Frame, Run, Starts, Window, next_row, next_states, row_at}
 use Rattle.model_core.proofs.Frames.{all_known, node_same, reads_below, settled, settled_frame, settled_open, source_below}
-use Rattle.std.proofs.lemmas.Option.{slice_get_within}
+use Rattle.std.proofs.lemmas.Option.{same_Some, slice_get_within}
 use Rattle.model_core.proofs.Lists.{all_at, app_left, app_right, at_place, contained_at, contains_either, place_of_contained}
-use Rattle.model_core.proofs.Runs.{next_states_wide, open_distinct, row_follows}
+use Rattle.model_core.proofs.Runs.{next_states_wide, next_wide, open_distinct, row_follows}
 use Rattle.model_core.proofs.Writing.{bit_same, known, known_more, row_same, written, written_other, written_row}
 use Rattle.model_cone.specs.declared.asked.Asked.{Asked}
 use Rattle.model_cone.specs.declared.asked.Asked.TheVariants.{Asserts, Covers}
-use Rattle.model_cone.specs.Cone.{AgreeInCone, IsCone, IsInCone, IsRoot, RestsIn, RestsOn, register_reads}
-use Rattle.model_cone.specs.Slice.{has_kept, sliced}
-use Rattle.model_cone.proofs.Closing.{constants-kept, node-closed, register-closed, whole-cone}
-use Rattle.model_cone.proofs.Digits.{digit-at, digit-bit, digits-from, digits-to, filter-from, filter-to, row-bit, without-digit}
+use Rattle.model_cone.specs.Cone.{AgreeInCone, Decides, IsCone, IsInCone, IsRoot, RestsIn, RestsOn}
+use Rattle.model_cone.specs.Slice.{has_kept, kept_at, narrowed, sliced}
+use Rattle.model_cone.proofs.Closing.{bit-closed, constants-kept, kept-place, node-closed}
+use Rattle.model_cone.proofs.Digits.{digit-at, digit-bit, filter-contained, filter-from, filter-to, kept-from, kept-to, row-bit, without-digit}
 use Rattle.model_cone.proofs.Growing.{kept-none, kept-some}
-use Rattle.model_cone.proofs.Reading.{in-states, q-below, register-is}
-use Rattle.model_cone.proofs.Slicing.{kept-open, slice-node, slice-states}
+use Rattle.model_cone.proofs.Narrowing.{halves-same, kept-nothing, next-narrowed, row-narrowed}
+use Rattle.model_cone.proofs.Reading.{in-states, register-is}
+use Rattle.model_cone.proofs.Slicing.{kept-open, mapped, mapped-at, slice-node, slice-states}
 
 -- a register keeps the same of what is the same where it reads
-next-same : (c e : Cycle) (r : RegisterOf) → ((p : ℕ) → Contains (register_reads r) p → c p ≡ e p) → next_row c r ≡ next_row e r
-next-same c e r h =
-    let ends : List ℕ = r.enable.place ∷ r.reset.place ∷ [] in
-    let tail : List ℕ = r.value ++ ends in
-    let q = row_same c e r.q (λ p i. h p (Contains-append_left r.q (r.d ++ tail) p i)) in
-    let d = row_same c e r.d (λ p i. h p (Contains-append_right r.q (r.d ++ tail) p (Contains-append_left r.d tail p i))) in
-    let v = row_same c e r.value (λ p i. h p (Contains-append_right r.q (r.d ++ tail) p (Contains-append_right r.d tail p (Contains-append_left r.value ends p i)))) in
-    let x = h r.enable.place (Contains-append_right r.q (r.d ++ tail) r.enable.place (Contains-append_right r.d tail r.enable.place (Contains-append_right r.value ends r.enable.place (0, omega arith, refl)))) in
-    let y = h r.reset.place (Contains-append_right r.q (r.d ++ tail) r.reset.place (Contains-append_right r.d tail r.reset.place (Contains-append_right r.value ends r.reset.place (1, omega arith, refl)))) in
-    rw (x, y, q, d, v) refl
+next-same : (c e : Cycle) (r : RegisterOf) → ((p : ℕ) → Contains r.q p → c p ≡ e p) → ((p : ℕ) → Contains r.d p → c p ≡ e p) → ((p : ℕ) → Contains r.value p → c p ≡ e p)
+    → c r.enable.place ≡ e r.enable.place → c r.reset.place ≡ e r.reset.place → next_row c r ≡ next_row e r
+next-same c e r q d v x y = rw (x, y, row_same c e r.q q, row_same c e r.d d, row_same c e r.value v) refl
 
 module _ (m : ModelOf) (is : IsModel m) (asked : Asked) (keep : ℕ → Bool) (cone : IsCone m asked keep) where
   -- the cone is of the model
-  register-reads-below : (i : ℕ) (r : RegisterOf) → slice_get m.registers i ≡ Some r → (p : ℕ) → Contains (register_reads r) p → p < m.size
-  register-reads-below i r e p c =
-      let w = register-is m is i r e in
-      let ends : List ℕ = r.enable.place ∷ r.reset.place ∷ [] in
-      elim (Contains-append_cases r.q (r.d ++ (r.value ++ ends)) p c) as (λ _. p < m.size) [
-        | inl a ↦ All-contains (λ q. q < m.size) r.q p (q-below m is i r e) a
-        | inr a ↦ elim (Contains-append_cases r.d (r.value ++ ends) p a) as (λ _. p < m.size) [
-          | inl b ↦ All-contains (λ q. q < m.size) r.d p w.d_below b
-          | inr b ↦ elim (Contains-append_cases r.value ends p b) as (λ _. p < m.size) [
-            | inl d ↦ All-contains (λ q. q < m.size) r.value p w.value_below d
-            | inr d ↦ controls w.enable w.reset d
-          ]
-        ]
-      ]
+  decides-below : (i k : ℕ) (r : RegisterOf) → slice_get m.registers i ≡ Some r → (p : ℕ) → Decides r k p → p < m.size
+  decides-below i k r e p d = by (register-is m is i r e) d
     where
-      controls : r.enable.place < m.size → r.reset.place < m.size → Contains (r.enable.place ∷ r.reset.place ∷ []) p → p < m.size
-      controls x y (zero, l, z) = subst (λ (k : ℕ). k < m.size) z x
-      controls x y (suc zero, l, z) = subst (λ (k : ℕ). k < m.size) z y
-      controls x y (suc (suc k), l, z) = absurd (omega arith)
+      by : IsRegister m.size r → Decides r k p → p < m.size
+      by w (inl a) = all_at (λ q. q < m.size) r.d k p w.d_below a
+      by w (inr (inl a)) = all_at (λ q. q < m.size) r.value k p w.value_below a
+      by w (inr (inr (inl a))) = subst (λ (q : ℕ). q < m.size) (sym a) w.enable
+      by w (inr (inr (inr a))) = subst (λ (q : ℕ). q < m.size) (sym a) w.reset
 
   statement-below : (s : Statement) → IsStatement m.size s → (p : ℕ) → (p ≡ s.a) ⊎ (p ≡ s.en) → p < m.size
   statement-below s w p (inl e) = subst (λ (k : ℕ). k < m.size) (sym e) w.0
@@ -71,7 +55,7 @@ module _ (m : ModelOf) (is : IsModel m) (asked : Asked) (keep : ℕ → Bool) (c
 
   rests-below : (p q : ℕ) → RestsOn m p q → q < m.size
   rests-below p q (inl r) = reads_below m is r.0 r.1 r.2 q r.4
-  rests-below p q (inr r) = register-reads-below r.0 r.1 r.2 q r.4
+  rests-below p q (inr r) = decides-below r.0 r.1 r.2 r.3 q r.5
 
   chain-below : (n p q : ℕ) → p < m.size → RestsIn m n p q → q < m.size
   chain-below zero p q l e = subst (λ (k : ℕ). k < m.size) e l
@@ -111,24 +95,44 @@ module _ (m : ModelOf) (is : IsModel m) (asked : Asked) (keep : ℕ → Bool) (c
               bit_same c e n.0.y p
               (fc.nodes i n.0 n.1
               ∙ node_same c e n.0 (λ q r. known-same i (omega arith) q (is.order i n.0 n.1 q r) (node-closed m asked keep cone i n.0 q n.1 some r))
-              ∙ sym (fe.nodes i n.0 (slice-node m is keep (whole-cone m asked keep cone) (constants-kept m asked keep cone) (node-closed m asked keep cone) i n.0 n.1 some))) a
+              ∙ sym (fe.nodes i n.0 (slice-node m is keep (constants-kept m asked keep cone) (node-closed m asked keep cone) i n.0 n.1 some))) a
         ]
 
     pub kept-same : (p : ℕ) → keep p ≡ true → c p ≡ e p
     kept-same p k = known-same (length m.nodes) (omega arith) p (all_known m is p (kept-below p k)) k
 
   slice-open : (p : ℕ) → Contains (states m ++ m.inputs) p → keep p ≡ true → Contains (states (sliced keep m) ++ (sliced keep m).inputs) p
-  slice-open = kept-open m is keep (whole-cone m asked keep cone) (constants-kept m asked keep cone) (node-closed m asked keep cone)
+  slice-open = kept-open m is keep (constants-kept m asked keep cone) (node-closed m asked keep cone)
 
-  slice-bits : states (sliced keep m) ≡ filter keep (states m)
-  slice-bits = slice-states m is keep (whole-cone m asked keep cone) (constants-kept m asked keep cone) (node-closed m asked keep cone)
+  abbrev out : ℕ → Bool
+  out = λ p. not (keep p)
+
+  -- what a register of the slice reads is kept
+  beside-kept : (i : ℕ) (r : RegisterOf) → slice_get m.registers i ≡ Some r → (row : List ℕ) → ((k p : ℕ) → slice_get row k ≡ Some p → Decides r k p) → (p : ℕ) → Contains (kept_at keep r.q row) p → keep p ≡ true
+  beside-kept i r at row reads p c =
+      let k = place_of_contained (kept_at keep r.q row) p c in
+      let b = kept-from keep r.q row k.0 p k.1 in
+      bit-closed m asked keep cone i b.0 r b.1 p at b.2 b.4 (reads b.0 p b.3)
+
+  control-kept : (i : ℕ) (r : RegisterOf) → slice_get m.registers i ≡ Some r → has_kept keep r.q ≡ true → (p : ℕ) → ((k : ℕ) → Decides r k p) → keep p ≡ true
+  control-kept i r at h p reads =
+      let k = kept-place keep r.q h in
+      let b = place_of_contained r.q k.0 k.1 in
+      bit-closed m asked keep cone i b.0 r k.0 p at b.1 k.2 (reads b.0)
 
   -- what follows in the one follows in the other
-  row-kept : (c e : Cycle) → ((p : ℕ) → keep p ≡ true → c p ≡ e p) → (i : ℕ) (r : RegisterOf) → slice_get m.registers i ≡ Some r → has_kept keep r.q ≡ true → row_at c r.q ≡ row_at e r.q
-  row-kept c e h i r at k = row_same c e r.q (λ p g. h p (whole-cone m asked keep cone i r at k p g))
+  row-kept : (c e : Cycle) → ((p : ℕ) → keep p ≡ true → c p ≡ e p) → (ps : List ℕ) → row_at c (filter keep ps) ≡ row_at e (filter keep ps)
+  row-kept c e h ps = row_same c e (filter keep ps) (λ p g. h p (filter-contained keep ps p g).1)
 
-  next-kept : (c e : Cycle) → ((p : ℕ) → keep p ≡ true → c p ≡ e p) → (i : ℕ) (r : RegisterOf) → slice_get m.registers i ≡ Some r → has_kept keep r.q ≡ true → next_row c r ≡ next_row e r
-  next-kept c e h i r at k = next-same c e r (λ p g. h p (register-closed m asked keep cone i r p at k g))
+  next-kept : (c e : Cycle) → ((p : ℕ) → keep p ≡ true → c p ≡ e p) → (i : ℕ) (r : RegisterOf) → slice_get m.registers i ≡ Some r → has_kept keep r.q ≡ true
+      → next_row c (narrowed keep r) ≡ next_row e (narrowed keep r)
+  next-kept c e h i r at k =
+      next-same c e (narrowed keep r)
+      (λ p g. h p (filter-contained keep r.q p g).1)
+      (λ p g. h p (beside-kept i r at r.d (λ j q f. inl f) p g))
+      (λ p g. h p (beside-kept i r at r.value (λ j q f. inr (inl f)) p g))
+      (h r.enable.place (control-kept i r at k r.enable.place (λ j. inr (inr (inl refl)))))
+      (h r.reset.place (control-kept i r at k r.reset.place (λ j. inr (inr (inr refl)))))
 
   -- from the model to the slice
   module _ (iss : IsModel (sliced keep m)) (cs : ℕ → Cycle) where
@@ -146,13 +150,20 @@ module _ (m : ModelOf) (is : IsModel m) (asked : Asked) (keep : ℕ → Bool) (c
 
     down-follows : (t : ℕ) → Frame m (cs t) → Frame m (cs (suc t)) → Follows m (cs t) (cs (suc t)) → Follows (sliced keep m) (down t) (down (suc t))
     down-follows t f g h j r e =
-        let x = filter-from (λ (k : RegisterOf). has_kept keep k.q) m.registers j r e in
-        sym (row-kept (cs (suc t)) (down (suc t)) (down-same (suc t) g) x.0 r x.1 x.2) ∙ h x.0 r x.1 ∙ next-kept (cs t) (down t) (down-same t f) x.0 r x.1 x.2
+        let kept = mapped (narrowed keep) (filter (λ (k : RegisterOf). has_kept keep k.q) m.registers) j r e in
+        let x = filter-from (λ (k : RegisterOf). has_kept keep k.q) m.registers j kept.0 kept.1 in
+        subst (λ (z : RegisterOf). row_at (down (suc t)) z.q ≡ next_row (down t) z) kept.2
+        (sym (row-kept (cs (suc t)) (down (suc t)) (down-same (suc t) g) kept.0.q)
+        ∙ row-narrowed (cs (suc t)) keep kept.0.q
+        ∙ ap (λ (row : Row). kept_at keep kept.0.q row) (h x.0 kept.0 x.1)
+        ∙ sym (next-narrowed (cs t) keep kept.0)
+        ∙ next-kept (cs t) (down t) (down-same t f) x.0 kept.0 x.1 x.2)
 
     down-starts : Frame m (cs 0) → Starts m (cs 0) → Starts (sliced keep m) (down 0)
     down-starts f h k p x a b =
-        let r = digits-from keep (states m) m.starts k p (Some x) (subst (λ (ps : List ℕ). slice_get ps k ≡ Some p) slice-bits a) b in
-        sym (down-same 0 f p r.3) ∙ h r.0 p x r.1 r.2
+        let r = kept-from keep (states m) m.starts k (Some x) b in
+        let same : r.1 ≡ p = same_Some r.1 p (sym r.5 ∙ subst (λ (ps : List ℕ). slice_get ps k ≡ Some p) (slice-states keep m) a) in
+        subst (λ (q : ℕ). down 0 q ≡ x) same (sym (down-same 0 f r.1 r.4) ∙ h r.0 r.1 x r.2 r.3)
 
     pub down-window : (n : ℕ) → Window m n cs → Window (sliced keep m) n down
     down-window n w = record {
@@ -224,14 +235,30 @@ module _ (m : ModelOf) (is : IsModel m) (asked : Asked) (keep : ℕ → Bool) (c
         omega arith
 
     up-follows : (t : ℕ) → Frame (sliced keep m) (es t) → Frame (sliced keep m) (es (suc t)) → Follows (sliced keep m) (es t) (es (suc t)) → Follows m (up t) (up (suc t))
-    up-follows t f g h i r e = by (has_kept keep r.q) refl
+    up-follows t f g h i r e =
+        halves-same keep r.q (row_at (up (suc t)) r.q) (next_row (up t) r) (length-map r.q (up (suc t))) (next_wide (up t) m.size r (register-is m is i r e)) (kept (has_kept keep r.q) refl) left
       where
-        by : (b : Bool) → has_kept keep r.q ≡ b → row_at (up (suc t)) r.q ≡ next_row (up t) r
-        by true k =
+        kept : (b : Bool) → has_kept keep r.q ≡ b → kept_at keep r.q (row_at (up (suc t)) r.q) ≡ kept_at keep r.q (next_row (up t) r)
+        kept true k =
             let j = filter-to (λ (x : RegisterOf). has_kept keep x.q) m.registers i r e k in
-            row-kept (up (suc t)) (es (suc t)) (up-same (suc t) g) i r e k ∙ h j.0 r j.1 ∙ sym (next-kept (up t) (es t) (up-same t f) i r e k)
-        by false k =
-            row_same (up (suc t)) (held (up t)) r.q (λ p c. up-next t p (state-open p (in-states m is i r p e c)) (kept-none keep r.q k p c)) ∙ held-follows (up t) i r e
+            sym (row-narrowed (up (suc t)) keep r.q)
+            ∙ row-kept (up (suc t)) (es (suc t)) (up-same (suc t) g) r.q
+            ∙ h j.0 (narrowed keep r) (mapped-at (narrowed keep) (filter (λ (x : RegisterOf). has_kept keep x.q) m.registers) j.0 r j.1)
+            ∙ sym (next-kept (up t) (es t) (up-same t f) i r e k)
+            ∙ next-narrowed (up t) keep r
+        kept false k = kept-nothing keep r.q (row_at (up (suc t)) r.q) (kept-none keep r.q k) ∙ sym (kept-nothing keep r.q (next_row (up t) r) (kept-none keep r.q k))
+
+        is-out : (p : ℕ) → (b : Bool) → keep p ≡ b → not b ≡ true → keep p ≡ false
+        is-out p true e o = absurd (let z : false ≡ true = o in cc)
+        is-out p false e o = e
+
+        left : kept_at out r.q (row_at (up (suc t)) r.q) ≡ kept_at out r.q (next_row (up t) r)
+        left =
+            sym (row-narrowed (up (suc t)) out r.q)
+            ∙ row_same (up (suc t)) (held (up t)) (filter out r.q)
+            (λ p c. let o = filter-contained out r.q p c in up-next t p (state-open p (in-states m is i r p e o.0)) (is-out p (keep p) refl o.1))
+            ∙ row-narrowed (held (up t)) out r.q
+            ∙ ap (λ (row : Row). kept_at out r.q row) (held-follows (up t) i r e)
 
     pub up-window : (n : ℕ) → Window (sliced keep m) n es → Window m n up
     up-window n w = record {
@@ -280,8 +307,8 @@ module _ (m : ModelOf) (is : IsModel m) (asked : Asked) (keep : ℕ → Bool) (c
       where
         by : (t : Bool) → keep p ≡ t → up es digits-first 0 p ≡ x
         by true t =
-            let r = digits-to keep (states m) m.starts k p (Some x) a b t in
-            up-same es digits-first 0 f p t ∙ h r.0 p x (subst (λ (ps : List ℕ). slice_get ps r.0 ≡ Some p) (sym slice-bits) r.1) r.2
+            let r = kept-to keep (states m) m.starts k p (Some x) a b t in
+            up-same es digits-first 0 f p t ∙ h r.0 p x (subst (λ (ps : List ℕ). slice_get ps r.0 ≡ Some p) (sym (slice-states keep m)) r.1) r.2
         by false t = up-first es digits-first p (state-open es digits-first p (contained_at (states m) p k a)) t ∙ first-digit k p (Some x) a b
 
     pub up-run : (n : ℕ) → Run (sliced keep m) n es → Run m n (up es digits-first)

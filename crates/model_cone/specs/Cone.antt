@@ -1,22 +1,22 @@
 -- The cone of influence of the asked statements: the places on which they and the assumptions rest, in any cycle.
-use Rattle.std.specs.Prelude.{◌≡◌, ◌⊎◌, ◌↔◌, ℕ, zero, suc, Bool, true, List, [], ◌∷◌, ◌++◌, Some, slice_get, Contains}
+use Rattle.std.specs.Prelude.{◌≡◌, ◌⊎◌, ◌↔◌, ℕ, zero, suc, Bool, true, Some, slice_get, Contains}
 use Rattle.model_core.specs.Shape.{ModelOf, NodeOf, RegisterOf, reads}
 use Rattle.model_core.specs.Meaning.{Cycle}
 use Rattle.model_core.specs.declared.model.Statement.{Statement}
 use Rattle.model_cone.specs.declared.asked.Asked.{Asked}
 use Rattle.model_cone.specs.declared.asked.Asked.TheVariants.{Asserts, Covers}
 
--- what decides a register's next row: that row and what it takes, resets to, and is controlled by; a register is kept whole
-abbrev pub register_reads : RegisterOf → List ℕ
-register_reads r = r.q ++ (r.d ++ (r.value ++ (r.enable.place ∷ r.reset.place ∷ [])))
+-- what decides, beside that bit itself, what bit k of a register has next: the bits that it takes and resets to, and the controls
+abbrev pub Decides : RegisterOf → ℕ → ℕ → Type 0
+Decides r k q = (slice_get r.d k ≡ Some q) ⊎ (slice_get r.value k ≡ Some q) ⊎ (q ≡ r.enable.place) ⊎ (q ≡ r.reset.place)
 
 abbrev pub IsGivenBy : ModelOf → ℕ → ℕ → Type 0
 IsGivenBy m p q = (i : ℕ) × (n : NodeOf) × (slice_get m.nodes i ≡ Some n) × Contains n.y p × Contains (reads n) q
 
 abbrev pub IsHeldBy : ModelOf → ℕ → ℕ → Type 0
-IsHeldBy m p q = (i : ℕ) × (r : RegisterOf) × (slice_get m.registers i ≡ Some r) × Contains r.q p × Contains (register_reads r) q
+IsHeldBy m p q = (i k : ℕ) × (r : RegisterOf) × (slice_get m.registers i ≡ Some r) × (slice_get r.q k ≡ Some p) × Decides r k q
 
--- p is given by a node that reads q, or is a state bit of a register whose next row q decides
+-- p is given by a node that reads q, or is a state bit of which q decides what it has next
 abbrev pub RestsOn : ModelOf → ℕ → ℕ → Type 0
 RestsOn m p q = IsGivenBy m p q ⊎ IsHeldBy m p q
 

@@ -5,41 +5,41 @@ use Rattle.model_core.specs.Shape.{ModelOf, NodeOf, RegisterOf, reads}
 use Rattle.model_core.specs.declared.model.Statement.{Statement}
 use Rattle.model_cone.specs.declared.asked.Asked.{Asked}
 use Rattle.model_cone.specs.declared.givers.Giver.{Giver}
-use Rattle.model_cone.specs.declared.givers.Giver.TheVariants.{Node, Register, Other}
-use Rattle.model_cone.specs.Cone.{IsAsked, IsInCone, IsRoot, RestsOn, register_reads}
+use Rattle.model_cone.specs.declared.givers.Giver.TheVariants.{Node, Bit, Other}
+use Rattle.model_cone.specs.Cone.{Decides, IsAsked, IsInCone, IsRoot, RestsOn}
 use Rattle.model_cone.specs.Slice.{kept_by}
 
--- for each place the node that gives it, or the register of which it is a state bit
+-- for each place the node that gives it, or the register of which it is a bit, and which
 pub record AreGivers (m : ModelOf) (givers : List Giver) : Type 0 where
   pub size : length givers ≡ m.size
   pub node : (i : ℕ) (n : NodeOf) (p : ℕ) → slice_get m.nodes i ≡ Some n → Contains n.y p → slice_get givers p ≡ Some (Node i)
-  pub register : (i : ℕ) (r : RegisterOf) (p : ℕ) → slice_get m.registers i ≡ Some r → Contains r.q p → slice_get givers p ≡ Some (Register i)
+  pub bit : (i k : ℕ) (r : RegisterOf) (p : ℕ) → slice_get m.registers i ≡ Some r → slice_get r.q k ≡ Some p → slice_get givers p ≡ Some (Bit i k)
   pub from_node : (i p : ℕ) → slice_get givers p ≡ Some (Node i) → (n : NodeOf) × (slice_get m.nodes i ≡ Some n) × Contains n.y p
-  pub from_register : (i p : ℕ) → slice_get givers p ≡ Some (Register i) → (r : RegisterOf) × (slice_get m.registers i ≡ Some r) × Contains r.q p
+  pub from_bit : (i k p : ℕ) → slice_get givers p ≡ Some (Bit i k) → (r : RegisterOf) × (slice_get m.registers i ≡ Some r) × (slice_get r.q k ≡ Some p)
 
 -- the givers of the places of this many nodes and registers
 pub record AreGiversTo (m : ModelOf) (nodes registers : ℕ) (givers : List Giver) : Type 0 where
   pub size : length givers ≡ m.size
   pub node : (i : ℕ) (n : NodeOf) (p : ℕ) → i < nodes → slice_get m.nodes i ≡ Some n → Contains n.y p → slice_get givers p ≡ Some (Node i)
-  pub register : (i : ℕ) (r : RegisterOf) (p : ℕ) → i < registers → slice_get m.registers i ≡ Some r → Contains r.q p → slice_get givers p ≡ Some (Register i)
+  pub bit : (i k : ℕ) (r : RegisterOf) (p : ℕ) → i < registers → slice_get m.registers i ≡ Some r → slice_get r.q k ≡ Some p → slice_get givers p ≡ Some (Bit i k)
   pub from_node : (i p : ℕ) → slice_get givers p ≡ Some (Node i) → (n : NodeOf) × (slice_get m.nodes i ≡ Some n) × Contains n.y p
-  pub from_register : (i p : ℕ) → slice_get givers p ≡ Some (Register i) → (r : RegisterOf) × (slice_get m.registers i ≡ Some r) × Contains r.q p
+  pub from_bit : (i k p : ℕ) → slice_get givers p ≡ Some (Bit i k) → (r : RegisterOf) × (slice_get m.registers i ≡ Some r) × (slice_get r.q k ≡ Some p)
 
--- at these places stands the giver, elsewhere what stood before
-pub record IsGiven (places : List ℕ) (giver : Giver) (old new : List Giver) : Type 0 where
+-- at each of these places stands the giver of one that it is, elsewhere what stood before
+pub record IsGiven (places : List ℕ) (giver : ℕ → Giver) (old new : List Giver) : Type 0 where
   pub size : length new ≡ length old
-  pub at : (p : ℕ) → (Contains places p × (slice_get new p ≡ Some giver)) ⊎ ((Contains places p → ⊥) × (slice_get new p ≡ slice_get old p))
+  pub at : (p : ℕ) → ((k : ℕ) × (slice_get places k ≡ Some p) × (slice_get new p ≡ Some (giver k))) ⊎ ((Contains places p → ⊥) × (slice_get new p ≡ slice_get old p))
 
--- the places that decide those of a giver
+-- the places on which what a giver gives rests
 abbrev pub IsReadBy : ModelOf → Giver → ℕ → Type 0
 IsReadBy m (Node i) q = (n : NodeOf) × (slice_get m.nodes i ≡ Some n) × Contains (reads n) q
-IsReadBy m (Register i) q = (r : RegisterOf) × (slice_get m.registers i ≡ Some r) × Contains (register_reads r) q
+IsReadBy m (Bit i k) q = (r : RegisterOf) × (slice_get m.registers i ≡ Some r) × Decides r k q
 IsReadBy m Other q = ⊥
 
 -- the giver is of the model
 abbrev pub IsGiverOf : ModelOf → Giver → Type 0
 IsGiverOf m (Node i) = i < length m.nodes
-IsGiverOf m (Register i) = i < length m.registers
+IsGiverOf m (Bit i k) = (r : RegisterOf) × (slice_get m.registers i ≡ Some r) × (k < length r.q)
 IsGiverOf m Other = Unit {0}
 
 abbrev pub IsPlaceOf : List Statement → ℕ → Type 0

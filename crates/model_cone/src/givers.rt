@@ -11,19 +11,29 @@ use std::alloc::{AllocError, Global};
 #[derive(Clone, Copy, Debug, PartialEq, Eq)]
 pub enum Giver {
     Node(usize),
-    /// A register of which the place is a state bit.
-    Register(usize),
+    /// A register, and which of its bits the place is.
+    Bit(usize, usize),
     /// The place is a constant or an input.
     Other,
 }
 
-// Puts a giver at these places.
-fn give(givers: &mut Vec<Giver>, places: &[u32], giver: Giver)
+// Puts a node at its places.
+fn give_node(givers: &mut Vec<Giver>, places: &[u32], node: usize)
     requires { AreBelow (length givers.old.items) places.now }
-    ensures { IsGiven places.now giver givers.old.items givers.new.items }
+    ensures { IsGiven places.now (λ k. Giver.Node node) givers.old.items givers.new.items }
 {
     for place in places {
-        givers[*place as usize] = giver;
+        givers[*place as usize] = Giver::Node(node);
+    }
+}
+
+// Puts the bits of a register at their places.
+fn give_bits(givers: &mut Vec<Giver>, places: &[u32], register: usize)
+    requires { AreBelow (length givers.old.items) places.now }
+    ensures { IsGiven places.now (λ k. Giver.Bit register k) givers.old.items givers.new.items }
+{
+    for (bit, place) in places.iter().enumerate() {
+        givers[*place as usize] = Giver::Bit(register, bit);
     }
 }
 
@@ -34,10 +44,10 @@ pub fn givers(alloc: Global, model: &WordModel) -> Result<Vec<Giver>, AllocError
     let mut givers = Vec::new(alloc);
     givers.resize(model.size() as usize, Giver::Other)?;
     for i in 0..model.nodes() {
-        give(&mut givers, model.y(i), Giver::Node(i));
+        give_node(&mut givers, model.y(i), i);
     }
     for i in 0..model.registers() {
-        give(&mut givers, model.q(i), Giver::Register(i));
+        give_bits(&mut givers, model.q(i), i);
     }
     Ok(givers)
 }

@@ -106,26 +106,26 @@ fn mark_node(marking: &mut Marking, model: &WordModel, node: usize) -> Result<()
     Ok(())
 }
 
-// Marks what decides a register's next row.
-fn mark_register(
+// Marks what decides, beside the bit itself, what a bit of a register has next.
+fn mark_bit(
     marking: &mut Marking,
     model: &WordModel,
     register: usize,
+    bit: usize,
 ) -> Result<(), AllocError>
     requires model { IsModel model.now }
-    requires register { register < length model.now.registers }
+    requires bit { IsGiverOf model.now (Giver.Bit register bit) }
     requires size { length marking.old.marks.items ≡ model.now.size }
-    ensures { OnOk result (Spreads (IsReadBy model.now (Giver.Register register)) marking.old.marks.items marking.old.stack.items marking.new.marks.items marking.new.stack.items) }
+    ensures { OnOk result (Spreads (IsReadBy model.now (Giver.Bit register bit)) marking.old.marks.items marking.old.stack.items marking.new.marks.items marking.new.stack.items) }
 {
-    mark_all(marking, model.q(register))?;
-    mark_all(marking, model.d(register))?;
-    mark_all(marking, model.value(register))?;
+    mark(marking, model.d(register)[bit])?;
+    mark(marking, model.value(register)[bit])?;
     mark(marking, model.enable(register).place)?;
     mark(marking, model.reset(register).place)?;
     Ok(())
 }
 
-// Marks what decides the places of a giver.
+// Marks what decides the place of a giver.
 pub fn mark_reads(marking: &mut Marking, model: &WordModel, giver: Giver) -> Result<(), AllocError>
     requires model { IsModel model.now }
     requires giver { IsGiverOf model.now giver }
@@ -134,7 +134,7 @@ pub fn mark_reads(marking: &mut Marking, model: &WordModel, giver: Giver) -> Res
 {
     match giver {
         Giver::Node(node) => mark_node(marking, model, node),
-        Giver::Register(register) => mark_register(marking, model, register),
+        Giver::Bit(register, bit) => mark_bit(marking, model, register, bit),
         Giver::Other => Ok(()),
     }
 }

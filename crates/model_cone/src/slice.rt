@@ -1,11 +1,11 @@
 // The slice of a model.
 
-ghost use Rattle.std.specs.Prelude.{◌≡◌, ◌++◌, ◌∷◌, [], ◌<◌, ◌^◌, IfOk, OnOk, Some, cond, not, length, map, slice_get};
+ghost use Rattle.std.specs.Prelude.{◌≡◌, ◌++◌, ◌∷◌, [], ◌<◌, ◌^◌, IfOk, OnOk, Some, not, length, map, slice_get};
 ghost use Rattle.std.specs.List.{filter};
 ghost use Rattle.model_core.specs.Served.{IsModel};
 ghost use Rattle.model_core.specs.Shape.{AreBelow, NodeOf, RegisterOf, states};
 ghost use Rattle.model_cone.specs.Cone.{IsCone};
-ghost use Rattle.model_cone.specs.Slice.{IsSliceOf, IsWhole, has_kept, kept_by, kept_digits, kept_registers, left_registers, sliced, sliced_node, zeroes};
+ghost use Rattle.model_cone.specs.Slice.{IsSliceOf, has_kept, kept_at, kept_by, kept_registers, sliced, sliced_node, zeroes};
 
 use crate::asked::Asked;
 use crate::cone::cone;
@@ -13,6 +13,35 @@ use model_core::draft::Draft;
 use model_core::model::WordModel;
 use model_core::op::Op;
 use std::alloc::{AllocError, Global};
+
+// The rows of the register that is added, by its bits that are kept.
+#[derive(Drop)]
+struct Rows {
+    q: Vec<u32>,
+    d: Vec<u32>,
+    value: Vec<u32>,
+    starts: Vec<Option<bool>>,
+}
+
+// Makes the row of those elements of another, of which each stands for a place, whose places are kept.
+fn keep<T: Copy>(
+    kept: &mut Vec<T>,
+    marks: &[bool],
+    places: &[u32],
+    row: &[T],
+) -> Result<(), AllocError>
+    requires marks { AreBelow (length marks.now) places.now }
+    requires row { length row.now ≡ length places.now }
+    ensures { OnOk result (kept.new.items ≡ kept_at (kept_by marks.now) places.now row.now) }
+{
+    kept.clear();
+    for k in 0..places.len() {
+        if marks[places[k] as usize] {
+            kept.push(row[k])?;
+        }
+    }
+    Ok(())
+}
 
 // Whether one of these places is kept.
 fn has_kept(marks: &[bool], places: &[u32]) -> bool
@@ -88,128 +117,91 @@ fn push_nodes(
     Ok(())
 }
 
-// Adds zeroes for a register of which nothing is kept.
-fn push_left_register(
-    draft: &mut Draft,
-    model: &WordModel,
-    marks: &[bool],
-    row: &mut Vec<u32>,
-    register: usize,
-) -> Result<(), AllocError>
-    requires model { IsModel model.now }
-    requires marks { length marks.now ≡ model.now.size }
-    requires register { register < length model.now.registers }
-    ensures { OnOk result ((r : RegisterOf) → slice_get model.now.registers register ≡ Some r →
-        draft.new ≡ record draft.old { nodes = draft.old.nodes ++ map (λ r. zeroes model.now.zero r.q) (left_registers (kept_by marks.now) (r ∷ [])) }) }
-{
-    let q = model.q(register);
-    if has_kept(marks, q) {
-        return Ok(());
-    }
-    push_zeroes(draft, row, model.zero(), q)?;
-    Ok(())
-}
-
-// Adds zeroes for the registers of which nothing is kept.
-fn push_left_registers(
-    draft: &mut Draft,
-    model: &WordModel,
-    marks: &[bool],
-    row: &mut Vec<u32>,
-) -> Result<(), AllocError>
-    requires model { IsModel model.now }
-    requires marks { length marks.now ≡ model.now.size }
-    ensures { OnOk result (draft.new ≡ record draft.old { nodes = draft.old.nodes ++ map (λ r. zeroes model.now.zero r.q) (left_registers (kept_by marks.now) model.now.registers) }) }
-{
-    for register in 0..model.registers() {
-        push_left_register(draft, model, marks, row, register)?;
-    }
-    Ok(())
-}
-
-// Adds a zero for an input that is not kept.
-fn push_left_input(
-    draft: &mut Draft,
-    zero: u32,
-    marks: &[bool],
-    row: &mut Vec<u32>,
-    place: u32,
-) -> Result<(), AllocError>
+// Adds a zero for a place that is not kept.
+fn push_left_bit(draft: &mut Draft, zero: u32, marks: &[bool], place: u32) -> Result<(), AllocError>
     requires { place < length marks.now }
     ensures { OnOk result (draft.new ≡ record draft.old { nodes = draft.old.nodes ++ map (λ p. zeroes zero (p ∷ [])) (filter (λ p. not (kept_by marks.now p)) (place ∷ [])) }) }
 {
     if marks[place as usize] {
         return Ok(());
     }
-    push_zeroes(draft, row, zero, &[place])?;
+    draft.push_node(Op::Copy, &[zero], &[], &[], &[place])?;
     Ok(())
 }
 
-// Adds zeroes for the inputs that are not kept.
-fn push_left_inputs(
+// Adds zeroes for those of these places that are not kept.
+fn push_left_bits(
     draft: &mut Draft,
-    model: &WordModel,
+    zero: u32,
     marks: &[bool],
-    row: &mut Vec<u32>,
+    places: &[u32],
 ) -> Result<(), AllocError>
-    requires model { IsModel model.now }
-    requires marks { length marks.now ≡ model.now.size }
-    ensures { OnOk result (draft.new ≡ record draft.old { nodes = draft.old.nodes ++ map (λ p. zeroes model.now.zero (p ∷ [])) (filter (λ p. not (kept_by marks.now p)) model.now.inputs) }) }
+    requires { AreBelow (length marks.now) places.now }
+    ensures { OnOk result (draft.new ≡ record draft.old { nodes = draft.old.nodes ++ map (λ p. zeroes zero (p ∷ [])) (filter (λ p. not (kept_by marks.now p)) places.now) }) }
 {
-    let inputs = model.inputs();
-    for k in 0..inputs.len() {
-        push_left_input(draft, model.zero(), marks, row, inputs[k])?;
+    for place in places {
+        push_left_bit(draft, zero, marks, *place)?;
     }
     Ok(())
 }
 
-// Adds a register with the digits that it starts with, where a bit of it is kept.
+// Adds a register of those bits that are kept, if there is one, with the digits that they start with.
 fn push_register(
     draft: &mut Draft,
     model: &WordModel,
     marks: &[bool],
+    rows: &mut Rows,
     register: usize,
     digits: &[Option<bool>],
 ) -> Result<(), AllocError>
     requires model { IsModel model.now }
     requires marks { length marks.now ≡ model.now.size }
     requires register { register < length model.now.registers }
+    requires digits { (r : RegisterOf) → slice_get model.now.registers register ≡ Some r → length digits.now ≡ length r.q }
     ensures { OnOk result ((r : RegisterOf) → slice_get model.now.registers register ≡ Some r →
         draft.new ≡ record draft.old {
           registers = draft.old.registers ++ kept_registers (kept_by marks.now) (r ∷ []);
-          starts = draft.old.starts ++ cond (has_kept (kept_by marks.now) r.q) digits.now [];
+          starts = draft.old.starts ++ kept_at (kept_by marks.now) r.q digits.now;
         }) }
 {
     let q = model.q(register);
     if !has_kept(marks, q) {
         return Ok(());
     }
+    keep(&mut rows.q, marks, q, q)?;
+    keep(&mut rows.d, marks, q, model.d(register))?;
+    keep(&mut rows.value, marks, q, model.value(register))?;
+    keep(&mut rows.starts, marks, q, digits)?;
     draft.push_register(
-        q,
-        model.d(register),
-        model.value(register),
+        &rows.q,
+        &rows.d,
+        &rows.value,
         model.enable(register),
         model.reset(register),
         model.reset_first(register),
-        digits,
+        &rows.starts,
     )?;
     Ok(())
 }
 
-// Adds the registers of which a bit is kept, with the digits that their bits start with.
-fn push_registers(draft: &mut Draft, model: &WordModel, marks: &[bool]) -> Result<(), AllocError>
+// Adds the registers of the bits that are kept, with the digits that they start with.
+fn push_registers(
+    draft: &mut Draft,
+    model: &WordModel,
+    marks: &[bool],
+    rows: &mut Rows,
+) -> Result<(), AllocError>
     requires model { IsModel model.now }
     requires marks { length marks.now ≡ model.now.size }
-    requires whole { IsWhole (kept_by marks.now) model.now }
     ensures { OnOk result (draft.new ≡ record draft.old {
       registers = draft.old.registers ++ kept_registers (kept_by marks.now) model.now.registers;
-      starts = draft.old.starts ++ kept_digits (kept_by marks.now) (states model.now) model.now.starts;
+      starts = draft.old.starts ++ kept_at (kept_by marks.now) (states model.now) model.now.starts;
     }) }
 {
     let mut left = model.starts();
     for register in 0..model.registers() {
         let (digits, rest) = left.split_at(model.q(register).len());
-        push_register(draft, model, marks, register, digits)?;
+        push_register(draft, model, marks, rows, register, digits)?;
         left = rest;
     }
     Ok(())
@@ -259,11 +251,17 @@ pub fn cut(alloc: Global, model: &WordModel, marks: &[bool]) -> Result<WordModel
     ensures slice { IfOk result (λ s. s ≡ sliced (kept_by marks.now) model.now) }
 {
     let mut row = Vec::new(alloc);
+    let mut rows = Rows {
+        q: Vec::new(alloc),
+        d: Vec::new(alloc),
+        value: Vec::new(alloc),
+        starts: Vec::new(alloc),
+    };
     let mut draft = Draft::new(alloc, model.size(), model.zero());
     push_nodes(&mut draft, model, marks, &mut row)?;
-    push_left_registers(&mut draft, model, marks, &mut row)?;
-    push_left_inputs(&mut draft, model, marks, &mut row)?;
-    push_registers(&mut draft, model, marks)?;
+    push_left_bits(&mut draft, model.zero(), marks, model.states())?;
+    push_left_bits(&mut draft, model.zero(), marks, model.inputs())?;
+    push_registers(&mut draft, model, marks, &mut rows)?;
     push_inputs(&mut draft, model, marks)?;
     push_statements(&mut draft, model)?;
     Ok(draft.finish())

@@ -35,14 +35,11 @@ use Rattle.model_cone.specs.declared.asked.Asked.{Asked}
 use Rattle.model_cone.specs.declared.asked.Asked.TheVariants.{Asserts, Covers}
 use Rattle.model_core.specs.Shape.{ModelOf}
 use Rattle.model_core.specs.declared.model.Statement.{Statement as StatementOf}
-use Rattle.model_split.specs.Split.{split_model}
 use Rattle.word_model.specs.Built.{IsBuilt}
 use Rattle.word_model.specs.Layout.{state_place}
 use Rattle.word_model.proofs.Following.{enumerated-back}
-use Rattle.word_model.proofs.Models.{modelled}
 use Rattle.word_model.proofs.Owning.{input-cases, input-declared, in-range, map-member, once}
 use Rattle.model_laws.specs.Reads.{IsReadAt, IsReadOtherwise, IsResetDigit, IsStateRead, ReadsOtherwise}
-use Rattle.model_laws.proofs.Bits.{held-bit}
 use Rattle.model_laws.proofs.Steps.{Constants, IsKeptAt, IsKnown, Links, Reads, Shows, Stays, Step, node-step, register-step, statement-step}
 
 -- a bit that isn't a constant
@@ -182,18 +179,15 @@ module _ (d : DesignOf) (shape : IsDesign d) (flat : IsFlat d) where
       moved o = let k = place-from_Contains (output_of h.1) h.2 h.4 in (k.0, h.2, k.1, o)
 
   module _ (order : List Driver) (ordered : IsOrder d order) (m : ModelOf) (built : IsBuilt d order m) (asked : Asked) where
-    rests-step : (r p : ℕ) → RestsOn (split_model m) r p → Step d r p
+    rests-step : (r p : ℕ) → RestsOn m r p → Step d r p
     rests-step r p (inl h) = node-step d order m built h.0 h.1 r p h.2 h.3 h.4
-    rests-step r p (inr h) =
-        let model = modelled d shape flat order ordered m built in
-        let g = held-bit m model.registers r p h in
-        register-step d order m built g.0 r p g.1 g.2
+    rests-step r p (inr h) = register-step d order m built r p h
 
-    asked-known : (a : Asked) (s : StatementOf) → IsAsked (split_model m) a s → (p : ℕ) → (p ≡ s.a) ⊎ (p ≡ s.en) → IsKnown d p
+    asked-known : (a : Asked) (s : StatementOf) → IsAsked m a s → (p : ℕ) → (p ≡ s.a) ⊎ (p ≡ s.en) → IsKnown d p
     asked-known Asserts s h p is = statement-step d order m built (λ (c : CellOf). is_assert c.kind) m.asserts built.asserts s h p is
     asked-known Covers s h p is = statement-step d order m built (λ (c : CellOf). is_cover c.kind) m.covers built.covers s h p is
 
-    root-known : (p : ℕ) → IsRoot (split_model m) asked p → IsKnown d p
+    root-known : (p : ℕ) → IsRoot m asked p → IsKnown d p
     root-known p (inl h) = elim h.1 as (λ _. IsKnown d p) [
       | inl a ↦ asked-known asked h.0 a p h.2
       | inr a ↦ statement-step d order m built (λ (c : CellOf). is_assume c.kind) m.assumes built.assumes h.0 a p h.2
@@ -201,20 +195,20 @@ module _ (d : DesignOf) (shape : IsDesign d) (flat : IsFlat d) where
     root-known p (inr (inl e)) = let z = built.zero in inr (false, omega (arith, e, z))
     root-known p (inr (inr e)) = let z = built.zero in inr (true, omega (arith, e, z))
 
-    rests-there : (n root p : ℕ) → IsRoot (split_model m) asked root → RestsIn (split_model m) n root p → IsReadThere d p
+    rests-there : (n root p : ℕ) → IsRoot m asked root → RestsIn m n root p → IsReadThere d p
     rests-there zero root p is e = subst (λ (z : ℕ). IsReadThere d z) e (known-there root (root-known root is))
     rests-there (suc n) root p is h = step-there h.0 p (rests-step h.0 p h.2) (rests-there n root h.0 is h.1)
 
-    cone-there : (p : ℕ) → IsInCone (split_model m) asked p → IsReadThere d p
+    cone-there : (p : ℕ) → IsInCone m asked p → IsReadThere d p
     cone-there p h = rests-there h.1 h.0 p h.2 h.3
 
-    pub input-read : (b : SigBit) → Contains (input_bits d) b → IsInCone (split_model m) asked (place_of d b) → IsReadOtherwise d b
+    pub input-read : (b : SigBit) → Contains (input_bits d) b → IsInCone m asked (place_of d b) → IsReadOtherwise d b
     input-read b has cone = (cone-there (place_of d b) cone).bits b (input-declared d b has) varies refl
       where
         varies : IsVariable b
         varies = elim (input-cases d b has) as (λ _. IsVariable b) [ inl w ↦ wire-varies b w | inr f ↦ free-varies b f ]
 
-    pub state-read : (s : StateBit) → Contains (state_bits d) s → IsInCone (split_model m) asked (state_place d s) → IsStateRead d s
+    pub state-read : (s : StateBit) → Contains (state_bits d) s → IsInCone m asked (state_place d s) → IsStateRead d s
     state-read s has cone =
         let r = from-lists state_of (enumerate_from 0 d.cells) s has in
         let back = enumerated-back 0 d.cells r.0 r.1 r.2 in

@@ -24,6 +24,7 @@ use Rattle.design_meaning.specs.Rests.{IsDigit}
 use Rattle.design_signals.specs.declared.sig_bit.SigBit.{SigBit}
 use Rattle.design_signals.specs.declared.sig_bit.SigBit.TheVariants.{Const, Free}
 use Rattle.design_states.proofs.Giving.{from-lists}
+use Rattle.model_cone.specs.Cone.{Decides, IsHeldBy}
 use Rattle.model_core.specs.Shape.{ModelOf, NodeOf, RegisterOf, reads}
 use Rattle.model_core.specs.declared.model.Statement.{Statement as StatementOf}
 use Rattle.word_model.specs.Built.{IsBuilt, statement_of}
@@ -35,7 +36,6 @@ use Rattle.word_model.proofs.Alike.{from-filter}
 use Rattle.word_model.proofs.Following.{enumerated-back, only-one}
 use Rattle.word_model.proofs.Framed.{beside}
 use Rattle.word_model.proofs.Owning.{in-range, map-member}
-use Rattle.model_laws.proofs.Bits.{BitStep, Clears, Enables, Own, Resets, Takes}
 use Rattle.model_laws.specs.Reads.{IsReadAt, IsResetDigit, ReadsOtherwise}
 
 -- at the place stands a bit that a cell reads, otherwise than as a clock
@@ -214,38 +214,38 @@ module _ (d : DesignOf) where
         by false h = three (parameter_places d c ArstValue) (kept_places d i (length (output_of c))) value kept h
 
     -- what a bit of a register rests on
-    table-bit : (q : List ℕ) (r p : ℕ) → BitStep (table_register d c q) r p → Step d r p
-    table-bit q r p (Own e) = Stays e
-    table-bit q r p (Takes k out from) = Reads (port-read D as-d p (Contains-from_place (signal_places d (signal_at c.ports D)) k p from))
-    table-bit q r p (Resets k out from) = known r p (value-read p (Contains-from_place (value_of d c) k p from))
-    table-bit q r p (Enables e) = known r p (enable-read p e)
-    table-bit q r p (Clears e) = known r p (reset-read p e)
+    table-bit : (q : List ℕ) (k r p : ℕ) → Decides (table_register d c q) k p → Step d r p
+    table-bit q k r p (inl from) = Reads (port-read D as-d p (Contains-from_place (signal_places d (signal_at c.ports D)) k p from))
+    table-bit q k r p (inr (inl from)) = known r p (value-read p (Contains-from_place (value_of d c) k p from))
+    table-bit q k r p (inr (inr (inl e))) = known r p (enable-read p (sym e))
+    table-bit q k r p (inr (inr (inr e))) = known r p (reset-read p (sym e))
 
-    plain-bit : (q row : List ℕ) (r p : ℕ) → ((k : ℕ) → slice_get q k ≡ Some r → slice_get row k ≡ Some p → Step d r p) → BitStep (plain_register d q row) r p → Step d r p
-    plain-bit q row r p taken (Own e) = Stays e
-    plain-bit q row r p taken (Takes k out from) = taken k out from
-    plain-bit q row r p taken (Resets k out from) = taken k out from
-    plain-bit q row r p taken (Enables e) = Constants (true, sym e ∙ one-place)
-    plain-bit q row r p taken (Clears e) = Constants (false, sym e ∙ zero-is)
+    plain-bit : (q row : List ℕ) (k r p : ℕ) → (slice_get row k ≡ Some p → Step d r p) → Decides (plain_register d q row) k p → Step d r p
+    plain-bit q row k r p taken (inl from) = taken from
+    plain-bit q row k r p taken (inr (inl from)) = taken from
+    plain-bit q row k r p taken (inr (inr (inl e))) = Constants (true, e ∙ one-place)
+    plain-bit q row k r p taken (inr (inr (inr e))) = Constants (false, e ∙ zero-is)
 
-    register-bit : (role : Role) → role_of c.kind ≡ role → (g : RegisterOf) (r p : ℕ) → Contains (registers_of_role role d i c) g → BitStep g r p → Step d r p
-    register-bit Combinational e g r p is h = absurd (nothing g is)
-    register-bit Register e g r p is h =
-        table-bit (signal_places d (output_of c)) r p
-        (subst (λ (z : RegisterOf). BitStep z r p) (sym (only-one (table_register d c (signal_places d (output_of c))) g is)) h)
-    register-bit ResetRegister e g r p is h =
-        table-bit (kept_places d i (length (output_of c))) r p
-        (subst (λ (z : RegisterOf). BitStep z r p) (sym (only-one (table_register d c (kept_places d i (length (output_of c)))) g is)) h)
-    register-bit Constant e g r p is h =
-        plain-bit (signal_places d (output_of c)) (signal_places d (output_of c)) r p (λ k out from. Stays (one_at (signal_places d (output_of c)) k p r from out))
-        (subst (λ (z : RegisterOf). BitStep z r p) (sym (only-one (plain_register d (signal_places d (output_of c)) (signal_places d (output_of c))) g is)) h)
-    register-bit Initial e g r p is h =
-        plain-bit (signal_places d (output_of c)) (zero_place d ∷ []) r p
-        (λ k out from. Constants (false, sym (only-one (zero_place d) p (Contains-from_place (zero_place d ∷ []) k p from)) ∙ zero-is))
-        (subst (λ (z : RegisterOf). BitStep z r p) (sym (only-one (plain_register d (signal_places d (output_of c)) (zero_place d ∷ [])) g is)) h)
-    register-bit Source e g r p is h = absurd (nothing g is)
-    register-bit Statement e g r p is h = absurd (nothing g is)
-    register-bit Unsupported e g r p is h = absurd (nothing g is)
+    register-bit : (role : Role) → role_of c.kind ≡ role → (g : RegisterOf) (k r p : ℕ) → Contains (registers_of_role role d i c) g → slice_get g.q k ≡ Some r → Decides g k p → Step d r p
+    register-bit Combinational e g k r p is out h = absurd (nothing g is)
+    register-bit Register e g k r p is out h =
+        table-bit (signal_places d (output_of c)) k r p
+        (subst (λ (z : RegisterOf). Decides z k p) (sym (only-one (table_register d c (signal_places d (output_of c))) g is)) h)
+    register-bit ResetRegister e g k r p is out h =
+        table-bit (kept_places d i (length (output_of c))) k r p
+        (subst (λ (z : RegisterOf). Decides z k p) (sym (only-one (table_register d c (kept_places d i (length (output_of c)))) g is)) h)
+    register-bit Constant e g k r p is out h =
+        let places : List ℕ = signal_places d (output_of c) in
+        let same = sym (only-one (plain_register d places places) g is) in
+        let at : slice_get places k ≡ Some r = subst (λ (z : RegisterOf). slice_get z.q k ≡ Some r) same out in
+        plain-bit places places k r p (λ from. Stays (one_at places k p r from at)) (subst (λ (z : RegisterOf). Decides z k p) same h)
+    register-bit Initial e g k r p is out h =
+        plain-bit (signal_places d (output_of c)) (zero_place d ∷ []) k r p
+        (λ from. Constants (false, sym (only-one (zero_place d) p (Contains-from_place (zero_place d ∷ []) k p from)) ∙ zero-is))
+        (subst (λ (z : RegisterOf). Decides z k p) (sym (only-one (plain_register d (signal_places d (output_of c)) (zero_place d ∷ [])) g is)) h)
+    register-bit Source e g k r p is out h = absurd (nothing g is)
+    register-bit Statement e g k r p is out h = absurd (nothing g is)
+    register-bit Unsupported e g k r p is out h = absurd (nothing g is)
 
   -- what the node of a driver reads
   driver-reads : (o : Driver) (y : NodeOf) (r p : ℕ) → IsNodeOf d o y → Contains y.y r → Contains (reads y) p → Step d r p
@@ -272,12 +272,14 @@ module _ (d : DesignOf) where
         let o = beside m.nodes order (Cell 0) (sym built.nodes.size) k y at in
         driver-reads o.0 y r p (built.nodes.each k o.0 y o.1 at) out h
 
-    pub register-step : (g : RegisterOf) (r p : ℕ) → Contains m.registers g → BitStep g r p → Step d r p
-    register-step g r p has h =
-        let o = from-lists (registers_of d) (enumerate_from 0 d.cells) g (subst (λ (l : List RegisterOf). Contains l g) built.registers has) in
+    pub register-step : (r p : ℕ) → IsHeldBy m r p → Step d r p
+    register-step r p h =
+        let g = h.2 in
+        let has = subst (λ (l : List RegisterOf). Contains l g) built.registers (Contains-from_place m.registers h.0 g h.3) in
+        let o = from-lists (registers_of d) (enumerate_from 0 d.cells) g has in
         let back = enumerated-back 0 d.cells o.0 o.1 o.2 in
         let place : o.0 ≡ o.1.0 = (let n = back.0 in omega (arith, n)) in
-        register-bit o.1.0 o.1.1 (subst (λ (n : ℕ). slice_get d.cells n ≡ Some o.1.1) place back.1) (role_of o.1.1.kind) refl g r p o.3 h
+        register-bit o.1.0 o.1.1 (subst (λ (n : ℕ). slice_get d.cells n ≡ Some o.1.1) place back.1) (role_of o.1.1.kind) refl g h.1 r p o.3 h.4 h.5
 
     pub statement-step : (test : CellOf → Bool) (ss : List StatementOf) → ss ≡ map (statement_of d) (filter test d.cells) → (s : StatementOf) → Contains ss s
         → (p : ℕ) → (p ≡ s.a) ⊎ (p ≡ s.en) → IsKnown p

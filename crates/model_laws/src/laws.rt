@@ -12,7 +12,6 @@ ghost use Rattle.frame_gates.specs.Costs.{frame_vars, next_gates};
 ghost use Rattle.model_cone.specs.Cone.{IsInCone};
 ghost use Rattle.model_cone.specs.declared.asked.Asked.{Asked};
 ghost use Rattle.model_core.specs.Shape.{ModelOf, states};
-ghost use Rattle.model_split.specs.Split.{split_model};
 ghost use Rattle.word_model.specs.Built.{IsBuilt};
 ghost use Rattle.word_model.specs.Layout.{state_place};
 ghost use Rattle.model_laws.specs.Cost.{cost};
@@ -25,11 +24,11 @@ pub fn variables_are_within_cost()
         → 1 + length (states m) + (next_gates m + frame_vars m + 2 * length m.assumes + 2 * length m.asserts + length m.covers + 8) ≤ cost d }
 {}
 
-/// What stands in the cone of what is asked, in the model with one register for each state bit, is read in the design: each input bit and
-/// each state bit is, otherwise than as a clock. Of a row that is kept beside the wires some bit of the register's output is read.
+/// What stands in the cone of what is asked is read in the design: each input bit and each state bit is, otherwise than as a clock. Of a row
+/// that is kept beside the wires some bit of the register's output is read.
 pub fn cone_bits_are_read()
     ensures inputs { (d : DesignOf) (order : List Driver) (m : ModelOf) → IsDesign d → IsFlat d → IsOrder d order → IsBuilt d order m
-        → (asked : Asked) (b : SigBit) → Contains (input_bits d) b → IsInCone (split_model m) asked (place_of d b) → IsReadOtherwise d b }
+        → (asked : Asked) (b : SigBit) → Contains (input_bits d) b → IsInCone m asked (place_of d b) → IsReadOtherwise d b }
     ensures states { (d : DesignOf) (order : List Driver) (m : ModelOf) → IsDesign d → IsFlat d → IsOrder d order → IsBuilt d order m
-        → (asked : Asked) (s : StateBit) → Contains (state_bits d) s → IsInCone (split_model m) asked (state_place d s) → IsStateRead d s }
+        → (asked : Asked) (s : StateBit) → Contains (state_bits d) s → IsInCone m asked (state_place d s) → IsStateRead d s }
 {}

@@ -91,7 +91,7 @@ abbrev pub gates_count : List (Gate × LitOf) → ℕ
 gates_count [] = 0
 gates_count (e ∷ es) = length (clauses_of e.1 e.0) + gates_count es
 
-some_clauses : (y : LitOf) (g : Gate) → 0 < length (clauses_of y g)
+pub some_clauses : (y : LitOf) (g : Gate) → 0 < length (clauses_of y g)
 some_clauses y (And a b) = omega arith
 some_clauses y (Xor a b) = omega arith
 some_clauses y (Mux s a b) = omega arith

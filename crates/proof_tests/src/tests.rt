@@ -1,5 +1,6 @@
 // The tests, by subject.
 
+mod costs;
 mod formulas;
 mod judges;
 mod pigeons;

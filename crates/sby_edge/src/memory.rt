@@ -181,7 +181,7 @@ impl Files for MemFiles {
         Ok(())
     }
 
-    // The content is gathered first, so that want of memory leaves the old one. A listed call reads nothing of the source.
+    // The content is gathered first, so that the old one stands where memory runs out. A listed call reads nothing of the source.
     fn put_from<S: Source>(&mut self, alloc: Global, path: &str, source: &mut S) -> Result<(), Fail>
         ensures ok { OnOk result (store_of self.new.contents ≡ put_at path.now (S.rest source.old) (store_of self.old.contents)) }
         ensures spent { OnOk result (S.rest source.new ≡ []) }

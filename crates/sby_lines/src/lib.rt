@@ -25,6 +25,5 @@ pub use laws::{
 };
 pub use printed::{printed_finding, stop_reading};
 pub use tell::{Stop, offer, tell_name};
-pub use tell_run::whole_run;
 pub use tell_task::{tell_design, tell_done, tell_early, tell_jobs, tell_unput};
 pub use text::{trace_path, usage_line};

@@ -131,17 +131,6 @@ fn tell_broken<S: Sink>(
     tell_trace(alloc, out, flat, played)
 }
 
-/// The cycles of a run, all at once.
-pub fn whole_run(alloc: Global, played: &PlayedRun) -> Result<Run, AllocError>
-    ensures { IfOk result (λ run. run ≡ played.now) }
-{
-    let mut run = Run::new(alloc);
-    for number in 0..played.cycles() {
-        run.push(played.cycle(alloc, number)?)?;
-    }
-    Ok(run)
-}
-
 // The lines of the run that a finding carries.
 fn tell_finding<S: Sink>(
     alloc: Global,

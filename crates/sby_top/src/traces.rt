@@ -18,10 +18,11 @@ ghost use Rattle.sby_top.specs.Steps.{files_at};
 ghost use Rattle.sby_top.specs.Traces.{ArePutTraces, AreTraces, HasCoverTraces, HasFailTrace, HasTrace, TraceOf};
 
 use design_check::flat::Flat;
+use design_trace::{VcdText, Waveform};
 use judge::{Finding, PlayedRun};
 use race_core::Report;
-use sby_edge::{Fail, Files};
-use sby_lines::{Collected, Heading, first_sat, printed_finding, trace_path, whole_run};
+use sby_edge::{Fail, Files, Source};
+use sby_lines::{Collected, Heading, first_sat, printed_finding, trace_path};
 use sby_terms::{Answer, Mode, Verdict};
 use std::alloc::{AllocError, Global};
 
@@ -177,31 +178,67 @@ pub fn shown_runs<'a>(
     }
 }
 
+// What the wires of a run have.
+#[derive(Drop)]
+struct Wires<'a> {
+    run: &'a PlayedRun,
+}
+
+impl<'a> Waveform for Wires<'a> {
+    ghost rows = { λ w. shown_of w.run.now };
+
+    #[tactic(auto, using(design_trace::proofs::Lines::shown_length))]
+    fn cycles(&self) -> usize {
+        self.run.cycles()
+    }
+
+    #[tactic(auto, using(design_trace::proofs::Lines::shown_length))]
+    fn bit(&self, cycle: usize, place: u32) -> bool {
+        self.run.wire_bit(cycle, place)
+    }
+}
+
+// The bytes of a run's trace file, which is put by pieces.
+#[derive(Drop)]
+struct TraceText<'a> {
+    text: VcdText<'a, Wires<'a>>,
+}
+
+impl<'a> Source for TraceText<'a> {
+    ghost rest = { λ t. t.text };
+
+    fn next(&mut self, buffer: &mut [u8]) -> usize {
+        self.text.next(buffer)
+    }
+}
+
+// The whole trace file.
+#[tactic(auto, using(design_trace::proofs::Lines::shown_fits))]
+fn trace_text<'a>(flat: &'a Flat, run: &'a PlayedRun) -> TraceText<'a>
+    requires { IsRunOf flat.now run.now }
+    ensures { result.text ≡ vcd flat.now (shown_of run.now) }
+{
+    TraceText {
+        text: VcdText::new(flat, Wires { run }),
+    }
+}
+
 // Puts a trace file, and answers whether that went well.
 fn put_file<F: Files>(
     alloc: Global,
     files: &mut F,
     path: &str,
-    bytes: &[u8],
+    text: &mut TraceText<'_>,
 ) -> Result<bool, AllocError>
-    ensures put { IfOk result (λ well. IsFilePut path.now bytes.now (files_at (F.told files.old) (F.faults files.old) (F.blamed files.old)) (files_at (F.told files.new) (F.faults files.new) (F.blamed files.new)) well) }
+    ensures put { IfOk result (λ well. IsFilePut path.now text.old.text (files_at (F.told files.old) (F.faults files.old) (F.blamed files.old)) (files_at (F.told files.new) (F.faults files.new) (F.blamed files.new)) well) }
     ensures err { OnErr result (files_at (F.told files.new) (F.faults files.new) (F.blamed files.new) ≡ files_at (F.told files.old) (F.faults files.old) (F.blamed files.old)) }
     ensures later { F.faults files.old ≤ F.faults files.new }
 {
-    match files.put(alloc, path, bytes) {
+    match files.put_from(alloc, path, text) {
         Ok(()) => Ok(true),
         Err(Fail::Failed) => Ok(false),
         Err(Fail::Memory) => Err(AllocError),
     }
-}
-
-// The bytes of a run's trace file.
-fn trace_bytes(alloc: Global, flat: &Flat, played: &PlayedRun) -> Result<Vec<u8>, AllocError>
-    requires { IsRunOf flat.now played.now }
-    ensures { IfOk result (λ bytes. bytes.items ≡ vcd flat.now (shown_of played.now)) }
-{
-    let run = whole_run(alloc, played)?;
-    design_trace::vcd(alloc, flat, &run)
 }
 
 // Puts the trace file of a run, and answers whether that went well.
@@ -217,9 +254,9 @@ fn put_trace<F: Files>(
     ensures err { OnErr result (files_at (F.told files.new) (F.faults files.new) (F.blamed files.new) ≡ files_at (F.told files.old) (F.faults files.old) (F.blamed files.old)) }
     ensures later { F.faults files.old ≤ F.faults files.new }
 {
-    let bytes = trace_bytes(alloc, flat, shown.run)?;
     let path = trace_path(alloc, heading.name, heading.mode, shown.number)?;
-    put_file(alloc, files, path.as_str(), &bytes)
+    let mut text = trace_text(flat, shown.run);
+    put_file(alloc, files, path.as_str(), &mut text)
 }
 
 // Puts the trace file of a run, and lists it where that fails.

@@ -8,7 +8,7 @@ use Rattle.cnf_form.specs.declared.literal.TheConstants.{MAX_VARS}
 use Rattle.sby_terms.specs.declared.names.JobName.{JobName}
 use Rattle.sby_terms.specs.declared.names.JobName.TheVariants.{Base, Step, Cover}
 use Rattle.sby_terms.specs.declared.span.Span.{Span}
-use Rattle.frame_gates.specs.Frames.{open_at}
+use Rattle.job_terms.specs.First.{open_at}
 use Rattle.model_core.specs.Choices.{AreChoicesFor, ChoicesOf, open_states}
 use Rattle.model_core.specs.Served.{IsModel, IsNode}
 use Rattle.model_core.specs.Shape.{AreBelow, IsDistinct, IsRegister, IsStatement, ModelOf}
@@ -16,10 +16,8 @@ use Rattle.model_core.proofs.Lists.{contained_at}
 use Rattle.bit_net.proofs.Lists.{head_in, none_in}
 use Rattle.model_cone.specs.Cone.{IsCone, IsInCone}
 use Rattle.model_cone.specs.Slice.{sliced}
-use Rattle.model_cone.proofs.Closing.{constants-kept, node-closed, whole-cone}
+use Rattle.model_cone.proofs.Closing.{constants-kept, node-closed}
 use Rattle.model_cone.proofs.Slicing.{slice-is}
-use Rattle.model_split.specs.Split.{split_model}
-use Rattle.model_split.proofs.Splitting.{same-open-states, split-is}
 use Rattle.job_terms.specs.Encoding.{CanBeSatisfied, EncodedOf, HasOrigins, IsDecoded, IsOrigin, Origin, decoded, empty_job}
 use Rattle.job_terms.specs.Encoding.Origin.{First, Input}
 use Rattle.job_terms.specs.Jobs.{AsksNothing, IsJob, Solvable, first}
@@ -27,12 +25,11 @@ use Rattle.job_terms.proofs.Nothing.{empty_solvable}
 use Rattle.net_jobs.specs.Jobs.{job_made}
 use Rattle.net_jobs.specs.Reading.{IsEncoded, encoded_of}
 use Rattle.net_jobs.proofs.Encoded.{encoded}
-use Rattle.task_net.specs.Asking.{HasOriginsInBits, asked_of, place_of}
-use Rattle.task_net.specs.Net.{HasNone, IsEncodedJob, IsNetBy, IsTaskNet, TaskNetOf, bit_slice, no_model, task_encoded}
+use Rattle.task_net.specs.Asking.{asked_of, place_of}
+use Rattle.task_net.specs.Net.{HasNone, IsEncodedJob, IsNetBy, IsTaskNet, TaskNetOf, no_model, task_encoded}
 use Rattle.task_net.specs.Net.IsTaskNet.{AsksNone, AsksSome}
 use Rattle.task_net.specs.Spreading.{spread_choices}
 use Rattle.task_net.proofs.Fitting.{spread-fits}
-use Rattle.task_net.proofs.OneBit.{asks-split, choices-whole, decoded-whole, job-split, origins-whole, solvable-split, solvable-whole}
 use Rattle.task_net.proofs.Origins.{decoded-of, origins-too}
 use Rattle.task_net.proofs.Playing.{choices-fit, decoded-too, spread-decoded}
 use Rattle.task_net.proofs.Solving.{asks-of-slice, job-of-slice, solvable-from, solvable-to}
@@ -132,7 +129,7 @@ module _ (m : ModelOf) (is : IsModel m) (t : TaskNetOf) (job : JobName) (span : 
           values = λ base x s. absurd (never x s);
           rest = λ base x s. absurd (never x s);
         };
-        cone = All-weaker (IsOrigin no_model job span) (λ o. IsInCone (split_model m) (asked_of job) (place_of o)) (λ o h. absurd (no-origin job span o h)) o.origins o.free;
+        cone = All-weaker (IsOrigin no_model job span) (λ o. IsInCone m (asked_of job) (place_of o)) (λ o h. absurd (no-origin job span o h)) o.origins o.free;
       };
       empty = λ asks. formula-is;
       choices = λ base x. none-choices x;
@@ -140,41 +137,25 @@ module _ (m : ModelOf) (is : IsModel m) (t : TaskNetOf) (job : JobName) (span : 
     }
 
   -- the slice to what is asked
-  module _ (keep : ℕ → Bool) (cone : IsCone (split_model m) (asked_of job) keep) (by : IsNetBy m keep (bit_slice keep m) t) where
-    split-m : IsModel (split_model m)
-    split-m = split-is m is
+  module _ (keep : ℕ → Bool) (cone : IsCone m (asked_of job) keep) (by : IsNetBy m keep (sliced keep m) t) where
+    iss : IsModel (sliced keep m)
+    iss = slice-is m is keep (constants-kept m (asked_of job) keep cone) (node-closed m (asked_of job) keep cone)
 
-    iss : IsModel (sliced keep (split_model m))
-    iss = slice-is (split_model m) split-m keep (whole-cone (split_model m) (asked_of job) keep cone) (constants-kept (split_model m) (asked_of job) keep cone) (node-closed (split_model m) (asked_of job) keep cone)
+    f : IsEncoded (sliced keep m) job span inner
+    f = encoded (sliced keep m) t.net job span iss by.net by.is few
 
-    f : IsEncoded (bit_slice keep m) job span inner
-    f = encoded (bit_slice keep m) t.net job span iss by.net by.is few
-
-    starts-are : t.starts ≡ map keep (open_states (split_model m))
-    starts-are = by.starts ∙ ap (λ (ps : List ℕ). map keep ps) (sym (same-open-states m is))
-
-    some-choices : (job ≡ Step → ⊥) → (x : Assignment) → AreChoicesFor (split_model m) (decoded whole x)
-    some-choices base x =
-        choices-fit (split_model m) split-m keep iss job cone (decoded inner x) (decoded whole x)
-        (decoded-of (split_model m) split-m keep iss job span cone t.starts t.inputs starts-are by.inputs inner x) (f.choices base x)
-
-    some-decoded : (job ≡ Step → ⊥) → (x : Assignment) → Satisfies x inner.formula.clauses → IsDecoded (split_model m) job span (decoded whole x)
-    some-decoded base x s =
-        decoded-too (split_model m) split-m keep iss job cone (decoded inner x) (decoded whole x)
-        (decoded-of (split_model m) split-m keep iss job span cone t.starts t.inputs starts-are by.inputs inner x) (f.choices base x) span (f.decodes base x s)
+    spread-is : (x : Assignment) → decoded whole x ≡ spread_choices (map keep (open_states m)) (map keep m.inputs) (decoded inner x)
+    spread-is = decoded-of m is keep iss job span cone t.starts t.inputs by.starts by.inputs inner
 
     pub some-encoded : IsEncodedJob m job span whole
     some-encoded = record {
-      speaks = (
-        λ s. solvable-whole m is job span (solvable-from (split_model m) split-m keep iss job span cone (f.speaks.0 s)),
-        λ s. f.speaks.1 (solvable-to (split_model m) split-m keep iss job span cone (solvable-split m is job span s)),
-      );
+      speaks = (λ s. solvable-from m is keep iss job span cone (f.speaks.0 s), λ s. f.speaks.1 (solvable-to m is keep iss job span cone s));
       vars = f.vars;
       propagates = record { rule = f.propagates.rule };
-      origins = origins-whole m is job span whole (origins-too (split_model m) split-m keep iss job span cone t.starts t.inputs starts-are by.inputs inner f.choices f.origins);
-      empty = λ asks. f.empty (asks-of-slice keep (split_model m) job (asks-split m is job asks));
-      choices = λ base x. choices-whole m is (decoded whole x) (some-choices base x);
-      decodes = λ base x s. decoded-whole m is job span (decoded whole x) (some-decoded base x s);
+      origins = origins-too m is keep iss job span cone t.starts t.inputs by.starts by.inputs inner f.choices f.origins;
+      empty = λ asks. f.empty (asks-of-slice keep m job asks);
+      choices = λ base x. choices-fit m is keep iss job cone (decoded inner x) (decoded whole x) (spread-is x) (f.choices base x);
+      decodes = λ base x s. decoded-too m is keep iss job cone (decoded inner x) (decoded whole x) (spread-is x) (f.choices base x) span (f.decodes base x s);
     }
 
 pub task-encoded : (m : ModelOf) (t : TaskNetOf) (job : JobName) (span : Span) → IsModel m → IsTaskNet m (asked_of job) t → IsJob m job span → job_made t.net job span ≤ MAX_VARS

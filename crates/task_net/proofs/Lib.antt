@@ -3,7 +3,6 @@ pub mod Fitting
 pub mod Solving
 pub mod Playing
 pub mod Origins
-pub mod OneBit
 pub mod Costing
 pub mod Encoded
 pub mod Refusing

@@ -2,9 +2,8 @@
 use Rattle.std.proofs.Common.{◌≡◌, ℕ, zero, suc, ◌<◌, Bool, true, false, List, [], ◌∷◌, Some, length, map, refl, sym, ap, subst, ◌∙◌, arith}
 use Rattle.std.specs.Prelude.{Contains, slice_get}
 use Rattle.cnf_form.specs.Cnf.{Assignment, Satisfies}
-use Rattle.frame_gates.specs.Frames.{open_at}
-use Rattle.frame_gates.specs.declared.first.First.{First as Begin}
-use Rattle.frame_gates.specs.declared.first.First.TheVariants.{Start, Any}
+use Rattle.job_terms.specs.First.{First as Begin, open_at}
+use Rattle.job_terms.specs.First.First.{Start, Any}
 use Rattle.sby_bits.specs.Rows.{Row}
 use Rattle.model_core.specs.Choices.{AreChoicesFor, ChoicesOf, Plays, open_states}
 use Rattle.model_core.specs.Meaning.{Cycle}
@@ -18,13 +17,12 @@ use Rattle.job_terms.specs.Encoding.{EncodedOf, HasOrigins, HasValue, IsOpenIn, 
 use Rattle.job_terms.specs.Encoding.Origin.{First, Input}
 use Rattle.job_terms.specs.Jobs.{first}
 use Rattle.model_cone.specs.Cone.{IsCone, IsInCone}
-use Rattle.model_cone.specs.Slice.{IsWhole, sliced}
-use Rattle.model_cone.proofs.Closing.{whole-cone}
-use Rattle.model_cone.proofs.Digits.{row-bit}
-use Rattle.model_cone.proofs.Slicing.{filter-contains, kept-states}
+use Rattle.model_cone.specs.Slice.{sliced}
+use Rattle.model_cone.proofs.Digits.{filter-contained, row-bit}
+use Rattle.model_cone.proofs.Slicing.{filter-contains, slice-states}
 use Rattle.task_net.specs.Asking.{HasOriginsInCone, asked_of, place_of}
 use Rattle.task_net.specs.Spreading.{spread_bits, spread_choices, spread_decoding}
-use Rattle.task_net.proofs.Playing.{cycles-same, filter-contained, open-kept, played, played-kept, played-plays, spread-decoded}
+use Rattle.task_net.proofs.Playing.{cycles-same, open-kept, played, played-kept, played-plays, spread-decoded}
 
 -- a place that isn't kept is 0 in a row that is spread
 spread-out : (keep : ℕ → Bool) (ps : List ℕ) (row : Row) (k p : ℕ) → slice_get ps k ≡ Some p → keep p ≡ false → slice_get (spread_bits (map keep ps) row) k ≡ Some false
@@ -41,12 +39,9 @@ spread-out keep (q ∷ ps) row (suc k) p e h = by (keep q) row (λ r. spread-out
     by true (b ∷ row) rest = rest row
 
 module _ (m : ModelOf) (is : IsModel m) (keep : ℕ → Bool) (iss : IsModel (sliced keep m)) (job : JobName) (span : Span) (cone : IsCone m (asked_of job) keep) where
-  whole : IsWhole keep m
-  whole = whole-cone m (asked_of job) keep cone
-
   open-of : (f : Begin) (p : ℕ) → Contains (open_at f (sliced keep m)) p → Contains (open_at f m) p × (keep p ≡ true)
-  open-of Start p c = filter-contained keep (open_states m) p (subst (λ (ps : List ℕ). Contains ps p) (open-kept keep m whole) c)
-  open-of Any p c = filter-contained keep (states m) p (subst (λ (ps : List ℕ). Contains ps p) (kept-states keep m.registers whole) c)
+  open-of Start p c = filter-contained keep (open_states m) p (subst (λ (ps : List ℕ). Contains ps p) (open-kept keep m) c)
+  open-of Any p c = filter-contained keep (states m) p (subst (λ (ps : List ℕ). Contains ps p) (slice-states keep m) c)
 
   origin-of : (o : Origin) → IsOrigin (sliced keep m) job span o → IsOrigin m job span o × (keep (place_of o) ≡ true)
   origin-of (First p) h = open-of (first job) p h
@@ -71,7 +66,7 @@ module _ (m : ModelOf) (is : IsModel m) (keep : ℕ → Bool) (iss : IsModel (sl
       value-back (Input t q) z h v = λ (l : t < length (decoded whole-of x).inputs). (let s = run-cycles in played-kept m is keep iss job cone (decoded k x) (decoded whole-of x) (decoded-of x) fit cs p t l q h ∙ v (omega arith))
 
       open-too : (o : Origin) → keep (place_of o) ≡ true → IsOpenIn m (length (decoded whole-of x).inputs) o → IsOpenIn (sliced keep m) (length (decoded k x).inputs) o
-      open-too (First q) h c = subst (λ (ps : List ℕ). Contains ps q) (sym (open-kept keep m whole)) (filter-contains keep (open_states m) q c h)
+      open-too (First q) h c = subst (λ (ps : List ℕ). Contains ps q) (sym (open-kept keep m)) (filter-contains keep (open_states m) q c h)
       open-too (Input t q) h c = (let s = run-cycles in let l = c.0 in omega arith, filter-contains keep m.inputs q c.1 h)
 
       value-out : (o : Origin) → keep (place_of o) ≡ false → IsOpenIn m (length (decoded whole-of x).inputs) o → HasValue cs (length (decoded whole-of x).inputs) o false

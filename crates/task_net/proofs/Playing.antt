@@ -11,7 +11,7 @@ use Rattle.model_core.specs.Choices.{AreChoicesFor, ChoicesOf, Plays, open_state
 use Rattle.model_core.specs.Meaning.{Cycle, Run, row_at}
 use Rattle.model_core.specs.Served.{IsModel}
 use Rattle.model_core.specs.Shape.{ModelOf, states}
-use Rattle.model_core.proofs.Lists.{all_at, all_from, contained_at, place_of_contained}
+use Rattle.model_core.proofs.Lists.{all_at, all_from}
 use Rattle.model_core.proofs.Runs.{run_of, run_plays}
 use Rattle.model_core.proofs.Writing.{row_same}
 use Rattle.sby_terms.specs.declared.names.JobName.{JobName}
@@ -19,10 +19,9 @@ use Rattle.sby_terms.specs.declared.span.Span.{Span}
 use Rattle.job_terms.specs.Decoding.{DecodingOf, FrameOf, bit_of, decoded_by, rows_until}
 use Rattle.job_terms.specs.Encoding.{IsDecoded, ShowsGoal}
 use Rattle.model_cone.specs.Cone.{AgreeInCone, IsCone}
-use Rattle.model_cone.specs.Slice.{IsWhole, kept_digits, sliced}
-use Rattle.model_cone.proofs.Closing.{whole-cone}
-use Rattle.model_cone.proofs.Digits.{filter-from}
-use Rattle.model_cone.proofs.Slicing.{kept-states}
+use Rattle.model_cone.specs.Slice.{kept_at, sliced}
+use Rattle.model_cone.proofs.Digits.{filter-contained}
+use Rattle.model_cone.proofs.Slicing.{slice-states}
 use Rattle.model_cone.proofs.Windows.{down, down-agrees, down-run}
 use Rattle.task_net.specs.Asking.{asked_of}
 use Rattle.task_net.specs.Spreading.{spread, spread_bits, spread_choices, spread_decoding}
@@ -58,30 +57,24 @@ none-left : (xs : List ℕ) → without_digit xs [] ≡ []
 none-left [] = refl
 none-left (x ∷ xs) = refl
 
-open-filter : (keep : ℕ → Bool) (ps : List ℕ) (ds : List (Option Bool)) → without_digit (filter keep ps) (kept_digits keep ps ds) ≡ filter keep (without_digit ps ds)
+open-filter : (keep : ℕ → Bool) (ps : List ℕ) (ds : List (Option Bool)) → without_digit (filter keep ps) (kept_at keep ps ds) ≡ filter keep (without_digit ps ds)
 open-filter keep [] ds = refl
 open-filter keep (p ∷ ps) [] = none-left (filter keep (p ∷ ps))
 open-filter keep (p ∷ ps) (None ∷ ds) = by (keep p) (open-filter keep ps ds)
   where
-    by : (b : Bool) → without_digit (filter keep ps) (kept_digits keep ps ds) ≡ filter keep (without_digit ps ds)
-        → without_digit (cond b (p ∷ filter keep ps) (filter keep ps)) (cond b (None ∷ kept_digits keep ps ds) (kept_digits keep ps ds)) ≡ cond b (p ∷ filter keep (without_digit ps ds)) (filter keep (without_digit ps ds))
+    by : (b : Bool) → without_digit (filter keep ps) (kept_at keep ps ds) ≡ filter keep (without_digit ps ds)
+        → without_digit (cond b (p ∷ filter keep ps) (filter keep ps)) (cond b (None ∷ kept_at keep ps ds) (kept_at keep ps ds)) ≡ cond b (p ∷ filter keep (without_digit ps ds)) (filter keep (without_digit ps ds))
     by true e = ap (λ (qs : List ℕ). p ∷ qs) e
     by false e = e
 open-filter keep (p ∷ ps) (Some x ∷ ds) = by (keep p) (open-filter keep ps ds)
   where
-    by : (b : Bool) → without_digit (filter keep ps) (kept_digits keep ps ds) ≡ filter keep (without_digit ps ds)
-        → without_digit (cond b (p ∷ filter keep ps) (filter keep ps)) (cond b (Some x ∷ kept_digits keep ps ds) (kept_digits keep ps ds)) ≡ filter keep (without_digit ps ds)
+    by : (b : Bool) → without_digit (filter keep ps) (kept_at keep ps ds) ≡ filter keep (without_digit ps ds)
+        → without_digit (cond b (p ∷ filter keep ps) (filter keep ps)) (cond b (Some x ∷ kept_at keep ps ds) (kept_at keep ps ds)) ≡ filter keep (without_digit ps ds)
     by true e = e
     by false e = e
 
-pub open-kept : (keep : ℕ → Bool) (m : ModelOf) → IsWhole keep m → open_states (sliced keep m) ≡ filter keep (open_states m)
-open-kept keep m whole = ap (λ (ps : List ℕ). without_digit ps (kept_digits keep (states m) m.starts)) (kept-states keep m.registers whole) ∙ open-filter keep (states m) m.starts
-
-pub filter-contained : (keep : ℕ → Bool) (xs : List ℕ) (p : ℕ) → Contains (filter keep xs) p → Contains xs p × (keep p ≡ true)
-filter-contained keep xs p c =
-    let at = place_of_contained (filter keep xs) p c in
-    let r = filter-from keep xs at.0 p at.1 in
-    (contained_at xs p r.0 r.1, r.2)
+pub open-kept : (keep : ℕ → Bool) (m : ModelOf) → open_states (sliced keep m) ≡ filter keep (open_states m)
+open-kept keep m = ap (λ (ps : List ℕ). without_digit ps (kept_at keep (states m) m.starts)) (slice-states keep m) ∙ open-filter keep (states m) m.starts
 
 -- a row that is spread has at the places that are kept the row
 unspread : (c : Cycle) (keep : ℕ → Bool) (ps : List ℕ) (row : Row) → length row ≡ length (filter keep ps) → row_at c ps ≡ spread_bits (map keep ps) row → row_at c (filter keep ps) ≡ row
@@ -117,9 +110,6 @@ module _ (m : ModelOf) (is : IsModel m) (keep : ℕ → Bool) (iss : IsModel (sl
         (all_from (λ (row : Row). length (spread_bits (map keep m.inputs) row) ≡ length m.inputs) c.inputs (λ k row g. spread-length (map keep m.inputs) row ∙ length-map m.inputs keep));
   })
 
-  whole : IsWhole keep m
-  whole = whole-cone m (asked_of job) keep cone
-
   module _ (cs : ℕ → Cycle) (p : Plays m d cs) where
     pub played : ℕ → Cycle
     played t = down m is (asked_of job) keep cone iss cs t
@@ -140,7 +130,7 @@ module _ (m : ModelOf) (is : IsModel m) (keep : ℕ → Bool) (iss : IsModel (sl
 
     played-starts : row_at (played 0) (open_states (sliced keep m)) ≡ c.starts
     played-starts =
-        let o = open-kept keep m whole in
+        let o = open-kept keep m in
         let n : length c.starts ≡ length (filter keep (open_states m)) = fit.starts ∙ ap (λ (ps : List ℕ). length ps) o in
         ap (λ (ps : List ℕ). row_at (played 0) ps) o ∙ rows-kept 0 p.run.window.some (open_states m)
         ∙ unspread (cs 0) keep (open_states m) c.starts n (p.starts ∙ ap (λ (k : ChoicesOf). k.starts) e)

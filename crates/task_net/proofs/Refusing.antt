@@ -10,8 +10,7 @@ use Rattle.sby_terms.specs.declared.span.Span.{Span}
 use Rattle.model_core.specs.Served.{IsModel}
 use Rattle.model_core.specs.Shape.{ModelOf}
 use Rattle.model_cone.specs.declared.asked.Asked.{Asked}
-use Rattle.model_cone.proofs.Closing.{whole-cone}
-use Rattle.model_split.specs.Split.{split_model}
+use Rattle.model_cone.specs.Slice.{sliced}
 use Rattle.bit_net.specs.Net.{NetOf, vars}
 use Rattle.frame_net.specs.NetOf.{IsNetOf, net_cost}
 use Rattle.job_terms.specs.Jobs.{AsksNothing, frames}
@@ -22,7 +21,7 @@ use Rattle.net_unroll.specs.Encoding.{vars_for}
 use Rattle.net_unroll.proofs.Counting.{few_made}
 use Rattle.net_jobs.specs.Jobs.{asked_of as net_asked, cycles_of, job_made}
 use Rattle.task_net.specs.Asking.{asked_of}
-use Rattle.task_net.specs.Net.{HasNone, IsTaskNet, IsTooMany, TaskNetOf, bit_slice, no_model}
+use Rattle.task_net.specs.Net.{HasNone, IsTaskNet, IsTooMany, TaskNetOf, no_model}
 use Rattle.task_net.specs.Net.IsTaskNet.{AsksNone, AsksSome}
 use Rattle.task_net.specs.Net.IsTooMany.{Large, Long}
 use Rattle.task_net.proofs.Costing.{slice-less}
@@ -46,7 +45,7 @@ none-made m n job span of none = ap (vars_for n (cycles_of job span)) (asks job 
         past [] j q = refl
         past (x ∷ xs) j q = absurd (omega arith)
 
-slice-asks : (m : ModelOf) (keep : ℕ → Bool) (job : JobName) → AsksNothing m job → AsksNothing (bit_slice keep m) job
+slice-asks : (m : ModelOf) (keep : ℕ → Bool) (job : JobName) → AsksNothing m job → AsksNothing (sliced keep m) job
 slice-asks m keep (Base i) h = h
 slice-asks m keep Step h = h
 slice-asks m keep (Cover k) h = h
@@ -55,12 +54,12 @@ slice-asks m keep (Cover k) h = h
 pub refused-asks : (m : ModelOf) (job : JobName) (span : Span) → IsTooMany m job span → AsksNothing m job → ⊥
 refused-asks m job span (Large h) none = h.asks (none-asked m job none)
 refused-asks m job span (Long t (AsksNone has by) past) none = let e = none-made no_model t.net job span by.is (no-asks job) in omega (arith, e, past)
-refused-asks m job span (Long t (AsksSome keep cone by) past) none = let e = none-made (bit_slice keep m) t.net job span by.is (slice-asks m keep job none) in omega (arith, e, past)
+refused-asks m job span (Long t (AsksSome keep cone by) past) none = let e = none-made (sliced keep m) t.net job span by.is (slice-asks m keep job none) in omega (arith, e, past)
 
 -- the net of a task takes no more than that of its model
 task-few : (m : ModelOf) → IsModel m → (asked : Asked) (t : TaskNetOf) → IsTaskNet m asked t → vars t.net ≤ net_cost m
 task-few m is asked t (AsksNone none by) = let f = by.few in let c : net_cost no_model ≡ 1 = refl in omega (arith, f, c)
-task-few m is asked t (AsksSome keep cone by) = let f = by.few in let l = slice-less m is keep (whole-cone (split_model m) asked keep cone) in omega (arith, f, l)
+task-few m is asked t (AsksSome keep cone by) = let f = by.few in let l = slice-less m keep in omega (arith, f, l)
 
 counted : (job : JobName) (span : Span) → (cycles_of job span).count ≡ frames job span
 counted (Base i) span = refl
@@ -81,7 +80,7 @@ one-frame (suc f) most some = omega arith
 -- frames that can pass the bound pass it by a cost that each is within
 pub past-frames : (m : ModelOf) → IsModel m → (job : JobName) (span : Span) → IsSpan span → (most : ℕ) → net_cost m + 5 ≤ most → IsTooMany m job span → 2 ^ 27 < frames job span * most
 past-frames m is job span some most within (Large h) =
-    let l = slice-less m is h.keep (whole-cone (split_model m) (asked_of job) h.keep h.cone) in
+    let l = slice-less m h.keep in
     let one = one-frame (frames job span) most (frames_some job span some) in
     let past = h.past in
     omega (arith, l, one, past, within)

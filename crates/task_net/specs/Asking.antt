@@ -2,7 +2,6 @@
 use Rattle.std.specs.Prelude.{ℕ, All}
 use Rattle.model_core.specs.Shape.{ModelOf}
 use Rattle.model_cone.specs.Cone.{IsInCone}
-use Rattle.model_split.specs.Split.{split_model}
 use Rattle.model_cone.specs.declared.asked.Asked.{Asked}
 use Rattle.model_cone.specs.declared.asked.Asked.TheVariants as ask
 use Rattle.sby_terms.specs.declared.names.JobName.{JobName}
@@ -22,14 +21,7 @@ abbrev pub place_of : Origin → ℕ
 place_of (First p) = p
 place_of (Input t p) = p
 
--- each free variable stands for a bit that the job leaves free, and that is in the cone of what the task asks, where registers are kept
--- whole
+-- each free variable stands for a bit that the job leaves free, and that is in the cone of what the task asks
 pub record HasOriginsInCone (m : ModelOf) (job : JobName) (span : Span) (e : EncodedOf) : Type 0 where
   pub has : HasOrigins m job span e
   pub cone : All (λ o. IsInCone m (asked_of job) (place_of o)) has.origins
-
--- each free variable stands for a bit that the job leaves free, and that is in the cone of what the task asks, where the model has one
--- register for each state bit
-pub record HasOriginsInBits (m : ModelOf) (job : JobName) (span : Span) (e : EncodedOf) : Type 0 where
-  pub has : HasOrigins m job span e
-  pub cone : All (λ o. IsInCone (split_model m) (asked_of job) (place_of o)) has.origins

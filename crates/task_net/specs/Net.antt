@@ -10,14 +10,13 @@ use Rattle.model_cone.specs.Cone.{IsCone}
 use Rattle.model_cone.specs.Slice.{sliced}
 use Rattle.model_cone.specs.declared.asked.Asked.{Asked}
 use Rattle.model_cone.specs.declared.asked.Asked.TheVariants as ask
-use Rattle.model_split.specs.Split.{split_model}
 use Rattle.bit_net.specs.Net.{IsNet, NetOf, vars}
 use Rattle.frame_net.specs.NetOf.{IsNetOf, net_cost}
 use Rattle.job_terms.specs.Encoding.{CanBeSatisfied, EncodedOf, IsDecoded, Propagates, decoded, empty_job}
 use Rattle.job_terms.specs.Jobs.{AsksNothing, Solvable}
 use Rattle.net_jobs.specs.Jobs.{job_made}
 use Rattle.net_jobs.specs.Reading.{encoded_of}
-use Rattle.task_net.specs.Asking.{HasOriginsInBits, asked_of}
+use Rattle.task_net.specs.Asking.{HasOriginsInCone, asked_of}
 use Rattle.task_net.specs.Spreading.{spread_decoding}
 
 -- the net of the slice, and of each open state bit of the model and of each input whether it is in the slice
@@ -35,10 +34,6 @@ HasNone m ask.Covers = m.covers ≡ []
 abbrev pub no_model : ModelOf
 no_model = record { size = 2; zero = 0; nodes = []; registers = []; starts = []; inputs = []; asserts = []; assumes = []; covers = [] }
 
--- the slice of a model to a cone, one register for each state bit
-abbrev pub bit_slice : (ℕ → Bool) → ModelOf → ModelOf
-bit_slice keep m = sliced keep (split_model m)
-
 -- The net is of this model, of which the places are that are kept.
 pub record IsNetBy (m : ModelOf) (keep : ℕ → Bool) (slice : ModelOf) (t : TaskNetOf) : Type 0 where
   pub net : IsNet t.net
@@ -50,14 +45,14 @@ pub record IsNetBy (m : ModelOf) (keep : ℕ → Bool) (slice : ModelOf) (t : Ta
 -- A task's net is that of the slice to the cone of what it asks; where the model has no such statement, that of the constants.
 pub data IsTaskNet (m : ModelOf) (asked : Asked) (t : TaskNetOf) : Type 0 where
   AsksNone : HasNone m asked → IsNetBy m (λ p. false) no_model t → IsTaskNet m asked t
-  AsksSome : (keep : ℕ → Bool) → IsCone (split_model m) asked keep → IsNetBy m keep (bit_slice keep m) t → IsTaskNet m asked t
+  AsksSome : (keep : ℕ → Bool) → IsCone m asked keep → IsNetBy m keep (sliced keep m) t → IsTaskNet m asked t
 
 -- the variables of one cycle of the slice can pass 2 ^ 27
 pub record IsTooLarge (m : ModelOf) (asked : Asked) : Type 0 where
   pub asks : HasNone m asked → ⊥
   pub keep : ℕ → Bool
-  pub cone : IsCone (split_model m) asked keep
-  pub past : 2 ^ 27 < net_cost (bit_slice keep m)
+  pub cone : IsCone m asked keep
+  pub past : 2 ^ 27 < net_cost (sliced keep m)
 
 -- A job is refused: one cycle of the slice can take too many variables, or over the net of what the task asks the job's gates, shared and
 -- folded, take more than 2 ^ 27.
@@ -81,7 +76,7 @@ pub record IsEncodedJob (m : ModelOf) (job : JobName) (span : Span) (e : Encoded
   pub speaks : CanBeSatisfied e.formula ↔ Solvable m job span
   pub vars : (1 ≤ e.formula.vars) × (e.formula.vars ≤ 2 ^ 27)
   pub propagates : Propagates e
-  pub origins : HasOriginsInBits m job span e
+  pub origins : HasOriginsInCone m job span e
   pub empty : AsksNothing m job → e.formula ≡ empty_job
   pub choices : (job ≡ Step → ⊥) → (x : Assignment) → AreChoicesFor m (decoded e x)
   pub decodes : (job ≡ Step → ⊥) → (x : Assignment) → Satisfies x e.formula.clauses → IsDecoded m job span (decoded e x)

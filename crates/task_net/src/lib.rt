@@ -1,4 +1,4 @@
-//! The net of a task: of the slice of its model to what its jobs ask, one register for each state bit; and its jobs, each a function of it.
+//! The net of a task: of the slice of its model to what its jobs ask; and its jobs, each a function of it.
 #![tactic(auto)]
 
 mod kept;

@@ -17,7 +17,6 @@ use model_cone::slice::cut;
 use model_core::draft::Draft;
 use model_core::model::WordModel;
 use model_play::choices::Choices;
-use model_split::split::split;
 use net_jobs::decode;
 use net_unroll::Encoded;
 use sby_terms::{JobName, Span};
@@ -28,7 +27,7 @@ use std::marker::Model;
 #[derive(Clone, Copy, Debug, PartialEq, Eq)]
 pub struct TooMany;
 
-/// What all jobs of a task are made from: the net of the slice of its model to what they ask, one register for each state bit.
+/// What all jobs of a task are made from: the net of the slice of its model to what they ask.
 #[derive(Drop)]
 pub struct TaskNet {
     net: Net,
@@ -88,9 +87,8 @@ fn of_slice(
     ensures too_large { IfOk result (λ r. IfErr r (λ _. IsTooLarge model.now asked)) }
 {
     let _size = model.size();
-    let bits = split(alloc, model)?;
-    let marks = cone(alloc, &bits, asked)?;
-    let slice = cut(alloc, &bits, &marks)?;
+    let marks = cone(alloc, model, asked)?;
+    let slice = cut(alloc, model, &marks)?;
     let starts = kept_starts(alloc, model, &marks)?;
     let inputs = kept_inputs(alloc, model, &marks)?;
     let net = match net_of(alloc, &slice)? {

@@ -13,7 +13,7 @@ use Rattle.unit_propagation.specs.declared.visit.Stop.TheVariants.{Conflict, Mem
 use Rattle.unit_propagation.specs.Propagation.{IsOpen, IsFalsifiedBut, Propagates}
 use Rattle.unit_propagation.specs.Propagator.{slot_at, clauses_of}
 use Rattle.unit_propagation.specs.Watch.{Watches, IsStale}
-use Rattle.unit_propagation.specs.Visit.{State, IsKept, EntryFits, MovesWatch, Assigns, IsVisited, IsPending, StopFits}
+use Rattle.unit_propagation.specs.Visit.{State, IsKept, EntryFits, IsFiledAt, MovesWatch, Assigns, IsVisited, IsPending, StopFits}
 use Rattle.unit_propagation.proofs.Slots.{clauses_of-contains}
 use Rattle.unit_propagation.proofs.Falsified.{falsified_by_all}
 use Rattle.unit_propagation.proofs.Watched.{kept_satisfied, kept_stale, other_in}
@@ -130,6 +130,25 @@ visited_rest slots start s f list kept k w x low within v =
     let y : Watch = record { clause = (get_or list k w).clause; blocker = (get_or list k x).blocker } in
     let fit : EntryFits slots y = subst (EntryFits slots) (sym (entry_read list k w x within)) (All-get_or (EntryFits slots) list k y within v.list_entries) in
     visited_kept slots start s f [] list kept k (get_or list k w).clause low within (here_read list k w within) s.trail y refl fit (propagates_none (clauses_of slots) s.trail) v
+
+-- where no entry went all entries stand as they are
+pub visited_whole : (slots : List (Option (List LitOf))) (start s : State) (f : LitOf) (list : List Watch) (k : ℕ) → IsVisited slots start s f list k k → IsVisited slots start s f list (length list) (length list)
+visited_whole slots start s f list k v = record {
+  entries = v.entries;
+  list_entries = v.list_entries;
+  wide = v.wide;
+  filed = λ j d c h e n a. let x = v.filed j d c h e n a in (whole j _ x.0, whole j _ x.1);
+  count = v.count;
+  below = v.below;
+  short = v.short;
+  grown = v.grown;
+}
+  where
+    whole : (j : ℕ) (u : LitOf) → IsFiledAt s.rows f list k k j u → IsFiledAt s.rows f list (length list) (length list) j u
+    whole j u x = record {
+      here = λ g. let y = x.here g in record { place = y.place; where_it_is = inl y.within; within = y.within; clause = y.clause };
+      there = x.there;
+    }
 
 -- where a visit stopped nothing is said of the list any more
 pub stop_some : (p : List LitOf) (f : LitOf) (slots : List (Option (List LitOf))) (s : State) (list list' : List Watch) (k k' : ℕ) (o : Option Stop) → is_some o ≡ true → StopFits p f slots s list k o → StopFits p f slots s list' k' o

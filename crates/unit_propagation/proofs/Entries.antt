@@ -1,14 +1,15 @@
 -- Entries that come into lists and go.
-use Rattle.std.proofs.Common.{◌≡◌, ◌≢◌, ◌⊎◌, ◌==◌, ℕ, ◌<◌, Bool, true, false, not, cond, List, [], ◌∷◌, ◌++◌, length, set, refl, sym, ◌∙◌, ap, subst, inl, inr, arith}
-use Rattle.std.specs.Prelude.{Contains, filter}
-use Rattle.std.proofs.lemmas.Bool.{cases_lt, eqb-true, eq-eqb, both_ways, not-false}
+use Rattle.std.proofs.Common.{◌≡◌, ◌⊎◌, ℕ, ◌<◌, Bool, true, false, cond, List, [], ◌∷◌, ◌++◌, length, set, refl, sym, ◌∙◌, ap, subst, inl, inr, arith}
+use Rattle.std.specs.Prelude.{Contains, Option, filter, is_some}
+use Rattle.std.proofs.lemmas.Bool.{cases_lt, both_ways}
 use Rattle.std.proofs.lemmas.List.{set_past, length-set}
 use Rattle.std.proofs.lemmas.List.Elements.{Contains-append_left, Contains-push, Contains-push_cases}
 use Rattle.cnf_form.specs.Cnf.{LitOf, index_of}
 use Rattle.cnf_form.proofs.Literals.{lit_cases}
 use Rattle.cnf_form.proofs.Members.{Contains-empty, Contains-head, Contains-tail, Contains-cases}
 use Rattle.unit_propagation.specs.declared.watch.Watch.{Watch}
-use Rattle.unit_propagation.specs.Watch.{row, Enters, Leaves}
+use Rattle.unit_propagation.specs.Propagator.{slot_at}
+use Rattle.unit_propagation.specs.Watch.{row, Enters, Sweeps}
 use Rattle.unit_propagation.proofs.Rows.{row_set_same, row_set_other}
 
 -- a push to the list of l
@@ -65,77 +66,61 @@ enters_both rows rows' rows'' k left right a e = subst (λ z. Enters rows z k le
   ];
 })
 
--- a list without the entries of a clause
-abbrev differs : ℕ → Watch → Bool
-differs k w = not (w.clause == k)
-
-filter_only : (k : ℕ) (xs : List Watch) (w : Watch) → Contains (filter (differs k) xs) w → Contains xs w × (w.clause ≢ k)
-filter_only k [] w h = absurd (Contains-empty w h)
-filter_only k (x ∷ xs) w h = go (differs k x) refl h (filter_only k xs w)
-  where
-    go : (b : Bool) → differs k x ≡ b → Contains (cond b (x ∷ filter (differs k) xs) (filter (differs k) xs)) w → (Contains (filter (differs k) xs) w → Contains xs w × (w.clause ≢ k)) → Contains (x ∷ xs) w × (w.clause ≢ k)
-    go true e h rest = elim (Contains-cases x w (filter (differs k) xs) h) [
-      | inl g ↦ (subst (Contains (x ∷ xs)) g (Contains-head x xs), λ i. both_ways _ (ap not (eq-eqb x.clause k (ap (λ (z : Watch). z.clause) g ∙ i))) e)
-      | inr i ↦ let y = rest i in (Contains-tail x w xs y.0, y.1)
-    ]
-    go false e h rest = let y = rest h in (Contains-tail x w xs y.0, y.1)
-
-filter_keeps : (k : ℕ) (xs : List Watch) (w : Watch) → Contains xs w → w.clause ≢ k → Contains (filter (differs k) xs) w
-filter_keeps k [] w h ne = absurd (Contains-empty w h)
-filter_keeps k (x ∷ xs) w h ne = go (differs k x) refl (λ i. filter_keeps k xs w i ne)
-  where
-    go : (b : Bool) → differs k x ≡ b → (Contains xs w → Contains (filter (differs k) xs) w) → Contains (cond b (x ∷ filter (differs k) xs) (filter (differs k) xs)) w
-    go true e rest = elim (Contains-cases x w xs h) [
-      | inl g ↦ subst (Contains (x ∷ filter (differs k) xs)) g (Contains-head x (filter (differs k) xs))
-      | inr i ↦ Contains-tail x w (filter (differs k) xs) (rest i)
-    ]
-    go false e rest = elim (Contains-cases x w xs h) [
-      | inl g ↦ absurd (ne (ap (λ (z : Watch). z.clause) (sym g) ∙ eqb-true x.clause k (not-false _ e)))
-      | inr i ↦ rest i
-    ]
-
-module _ (rows : List (List Watch)) (l : LitOf) (k : ℕ) where
-  abbrev cleared : List (List Watch)
-  cleared = set rows (index_of l) (filter (differs k) (row rows l))
-
-  clear_keeps : (u : LitOf) (w : Watch) → Contains (row rows u) w → w.clause ≢ k → Contains (row cleared u) w
-  clear_keeps u w h ne =
-      elim (lit_cases u l) [
-        | inl e ↦ elim (cases_lt (index_of l) (length rows)) [
-          | inl i ↦ subst (λ z. Contains z w) (sym (ap (row cleared) e ∙ row_set_same rows l _ i)) (filter_keeps k (row rows l) w (subst (λ z. Contains (row rows z) w) e h) ne)
-          | inr i ↦ subst (λ z. Contains (row z u) w) (sym (set_past rows (index_of l) _ i)) h
-        ]
-        | inr d ↦ subst (λ z. Contains z w) (sym (row_set_other rows l u _ d)) h
+-- a list without the entries that fail a test
+module _ (test : Watch → Bool) (w : Watch) where
+  filter_only : (xs : List Watch) → Contains (filter test xs) w → Contains xs w
+  filter_only [] h = absurd (Contains-empty w h)
+  filter_only (x ∷ xs) h = go (test x) h (filter_only xs)
+    where
+      go : (b : Bool) → Contains (cond b (x ∷ filter test xs) (filter test xs)) w → (Contains (filter test xs) w → Contains xs w) → Contains (x ∷ xs) w
+      go true h rest = elim (Contains-cases x w (filter test xs) h) [
+        | inl g ↦ subst (Contains (x ∷ xs)) g (Contains-head x xs)
+        | inr i ↦ Contains-tail x w xs (rest i)
       ]
+      go false h rest = Contains-tail x w xs (rest h)
 
-  clear_only : (u : LitOf) (w : Watch) → Contains (row cleared u) w → Contains (row rows u) w × ((u ≡ l) → index_of l < length rows → w.clause ≢ k)
-  clear_only u w h =
-      elim (lit_cases u l) [
-        | inl e ↦ elim (cases_lt (index_of l) (length rows)) [
-          | inl i ↦ let y = filter_only k (row rows l) w (subst (λ z. Contains z w) (ap (row cleared) e ∙ row_set_same rows l _ i) h) in
-              (subst (λ z. Contains (row rows z) w) (sym e) y.0, λ g j. y.1)
-          | inr i ↦ (subst (λ z. Contains (row z u) w) (set_past rows (index_of l) _ i) h, λ g j. absurd (omega (arith, i, j)))
-        ]
-        | inr d ↦ (subst (λ z. Contains z w) (row_set_other rows l u _ d) h, λ g j. absurd (d g))
+  filter_keeps : (xs : List Watch) → Contains xs w → test w ≡ true → Contains (filter test xs) w
+  filter_keeps [] h e = absurd (Contains-empty w h)
+  filter_keeps (x ∷ xs) h e = go (test x) refl (λ i. filter_keeps xs i e)
+    where
+      go : (b : Bool) → test x ≡ b → (Contains xs w → Contains (filter test xs) w) → Contains (cond b (x ∷ filter test xs) (filter test xs)) w
+      go true f rest = elim (Contains-cases x w xs h) [
+        | inl g ↦ subst (Contains (x ∷ filter test xs)) g (Contains-head x (filter test xs))
+        | inr i ↦ Contains-tail x w (filter test xs) (rest i)
       ]
+      go false f rest = elim (Contains-cases x w xs h) [ inl g ↦ absurd (both_ways _ f (ap test g ∙ e)) | inr i ↦ rest i ]
 
--- two lists are cleared of a clause
-pub leaves_both : (rows rows' rows'' : List (List Watch)) (k : ℕ) (left right : LitOf) → index_of left < length rows → index_of right < length rows
-    → rows' ≡ set rows (index_of left) (filter (λ (w : Watch). not (w.clause == k)) (row rows left)) → rows'' ≡ set rows' (index_of right) (filter (λ (w : Watch). not (w.clause == k)) (row rows' right)) → Leaves rows rows'' k left right
-leaves_both rows rows' rows'' k left right a b e f = record {
-  keeps = λ u w h ne. subst (λ z. Contains (row z u) w) (sym f) (clear_keeps rows' right k u w (subst (λ z. Contains (row z u) w) (sym e) (clear_keeps rows left k u w h ne)) ne);
-  only = λ u w h. (first u w (second u w h).0).0;
-  gone = λ u w h at. elim at [
-    | inl g ↦ (first u w (second u w h).0).1 g a
-    | inr g ↦ (second u w h).1 g (omega (arith, b, ap length e, length-set rows (index_of left) (filter (differs k) (row rows left))))
-  ];
-}
-  where
-    second : (u : LitOf) (w : Watch) → Contains (row rows'' u) w → Contains (row rows' u) w × ((u ≡ right) → index_of right < length rows' → w.clause ≢ k)
-    second u w h = clear_only rows' right k u w (subst (λ z. Contains (row z u) w) f h)
+-- a list without the entries of clauses that were taken out
+module _ (slots : List (Option (List LitOf))) (rows : List (List Watch)) (l : LitOf) where
+  abbrev is_there : Watch → Bool
+  is_there w = is_some (slot_at slots w.clause)
 
-    first : (u : LitOf) (w : Watch) → Contains (row rows' u) w → Contains (row rows u) w × ((u ≡ left) → index_of left < length rows → w.clause ≢ k)
-    first u w h = clear_only rows left k u w (subst (λ z. Contains (row z u) w) e h)
+  abbrev swept : List (List Watch)
+  swept = set rows (index_of l) (filter is_there (row rows l))
+
+  pub sweeps_one : Sweeps slots rows swept
+  sweeps_one = record {
+    keeps = λ u w c h e. elim (lit_cases u l) [
+      | inl g ↦ elim (cases_lt (index_of l) (length rows)) [
+        | inl i ↦ subst (λ z. Contains z w) (sym (ap (row swept) g ∙ row_set_same rows l _ i)) (filter_keeps is_there w (row rows l) (subst (λ z. Contains (row rows z) w) g h) (ap is_some e))
+        | inr i ↦ subst (λ z. Contains (row z u) w) (sym (set_past rows (index_of l) _ i)) h
+      ]
+      | inr d ↦ subst (λ z. Contains z w) (sym (row_set_other rows l u _ d)) h
+    ];
+    only = λ u w h. elim (lit_cases u l) [
+      | inl g ↦ elim (cases_lt (index_of l) (length rows)) [
+        | inl i ↦ subst (λ z. Contains (row rows z) w) (sym g) (filter_only is_there w (row rows l) (subst (λ z. Contains z w) (ap (row swept) g ∙ row_set_same rows l _ i) h))
+        | inr i ↦ subst (λ z. Contains (row z u) w) (set_past rows (index_of l) _ i) h
+      ]
+      | inr d ↦ subst (λ z. Contains z w) (row_set_other rows l u _ d) h
+    ];
+  }
+
+pub sweeps_none : (slots : List (Option (List LitOf))) (rows : List (List Watch)) → Sweeps slots rows rows
+sweeps_none slots rows = record { keeps = λ u w c h e. h; only = λ u w h. h }
+
+pub sweeps_both : (slots : List (Option (List LitOf))) (rows rows' rows'' : List (List Watch)) → Sweeps slots rows rows' → Sweeps slots rows' rows'' → Sweeps slots rows rows''
+sweeps_both slots rows rows' rows'' a b = record { keeps = λ u w c h e. b.keeps u w c (a.keeps u w c h e) e; only = λ u w h. a.only u w (b.only u w h) }
 
 -- the two new entries stand there
 pub entered_both : (rows rows' rows'' : List (List Watch)) (k : ℕ) (left right : LitOf) → index_of left < length rows → index_of right < length rows

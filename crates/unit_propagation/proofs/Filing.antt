@@ -10,8 +10,8 @@ use Rattle.unit_propagation.specs.declared.watch.Head.{Head}
 use Rattle.unit_propagation.specs.declared.watch.Watch.{Watch}
 use Rattle.unit_propagation.specs.Propagation.{IsOpen, IsSatisfied}
 use Rattle.unit_propagation.specs.Propagator.{slot_at}
-use Rattle.unit_propagation.specs.Watch.{row, Watches, Enters}
-use Rattle.unit_propagation.specs.Visit.{State, IsKept, AllKept, EntryFits, IsListed, PairFits, IsFiled, IsFiledBut}
+use Rattle.unit_propagation.specs.Watch.{row, Watches, Enters, Sweeps}
+use Rattle.unit_propagation.specs.Visit.{State, IsKept, AllKept, EntryFits, IsListed, IsPairOf, PairFits, IsFiled, IsFiledBut}
 
 -- a clause of two literals has no third
 pub no_third : (c : List LitOf) (l r m : LitOf) → length c ≡ 2 → Contains c l → Contains c r → l ≢ r → Contains c m → (m ≡ l) ⊎ (m ≡ r)
@@ -47,13 +47,13 @@ some_below slots j c e =
 module _ (slots : List (Option (List LitOf))) (s : State) (pairs : List (List Watch)) (n : ℕ) (size : length slots ≡ n) (count : length s.heads ≡ n) where
   -- a clause is filed, its entries apart
   pub filed_push : (c : List LitOf) (h : Head) (rows' pairs' : List (List Watch)) → IsFiled slots s pairs
-      → ((u : LitOf) (w : Watch) → Contains (row s.rows u) w → w.clause < n)
+      → ((u : LitOf) (w : Watch) → Contains (row s.rows u) w → w.clause < n) → ((u : LitOf) (w : Watch) → Contains (row pairs u) w → w.clause < n)
       → ((l : LitOf) → Contains c l → index_of l < length s.rows) → length rows' ≡ length s.rows
       → (h.left ≢ h.right → Contains c h.left × Contains c h.right)
       → Enters s.rows rows' n h.left h.right → Enters pairs pairs' n h.left h.right
       → ((length c ≡ 2) ⊎ (h.left ≡ h.right) → rows' ≡ s.rows) → ((length c ≢ 2) ⊎ (h.left ≡ h.right) → pairs' ≡ pairs)
       → IsFiledBut n (slots ++ Some c ∷ []) (record { heads = s.heads ++ h ∷ []; rows = rows'; trail = s.trail }) pairs'
-  filed_push c h rows' pairs' filed named broad same_rows attached enters pair_enters no_rows no_pairs = record {
+  filed_push c h rows' pairs' filed named pair_named broad same_rows attached enters pair_enters no_rows no_pairs = record {
     entries = entries;
     pair_entries = pair_entries;
     wide = λ j c' l e k. elim (cases_eq j n) [
@@ -99,42 +99,38 @@ module _ (slots : List (Option (List LitOf))) (s : State) (pairs : List (List Wa
       ]
 
       old_pair : (u : LitOf) (w : Watch) → Contains (row pairs u) w → PairFits (slots ++ Some c ∷ []) (s.heads ++ h ∷ []) u w
-      old_pair u w i =
-          let x = filed.pair_entries u w i in
-          let inside = some_below slots w.clause x.lits x.is in
+      old_pair u w i c' e =
+          let inside = pair_named u w i in
+          let x = filed.pair_entries u w i c' (sym (slot_before slots (Some c) w.clause (omega (arith, inside, size))) ∙ e) in
           record {
-            lits = x.lits;
-            is = slot_before slots (Some c) w.clause inside ∙ x.is;
             short = x.short;
             blocker = x.blocker;
             two = x.two;
-            watches = λ d. subst (λ (z : Head). Watches z u w.blocker) (sym (get_or_append_left s.heads (h ∷ []) d w.clause (omega (arith, inside, size, count)))) (x.watches d);
-            apart = λ d. subst (λ (z : Head). z.left ≢ z.right) (sym (get_or_append_left s.heads (h ∷ []) d w.clause (omega (arith, inside, size, count)))) (x.apart d);
+            watches = λ d. subst (λ (z : Head). Watches z u w.blocker) (sym (get_or_append_left s.heads (h ∷ []) d w.clause (omega (arith, inside, count)))) (x.watches d);
+            apart = λ d. subst (λ (z : Head). z.left ≢ z.right) (sym (get_or_append_left s.heads (h ∷ []) d w.clause (omega (arith, inside, count)))) (x.apart d);
           }
 
       pair_entries : (u : LitOf) (w : Watch) → Contains (row pairs' u) w → PairFits (slots ++ Some c ∷ []) (s.heads ++ h ∷ []) u w
-      pair_entries u w k = elim (pair_enters.only u w k) [
-        | inl i ↦ old_pair u w i
+      pair_entries u w k c' e = elim (pair_enters.only u w k) [
+        | inl i ↦ old_pair u w i c' e
         | inr new ↦ elim (lit_cases h.left h.right) [
-          | inl g ↦ old_pair u w (subst (λ z. Contains (row z u) w) (no_pairs (inr g)) k)
+          | inl g ↦ old_pair u w (subst (λ z. Contains (row z u) w) (no_pairs (inr g)) k) c' e
           | inr d ↦ elim (cases_eq (length c) 2) [
-            | inr lg ↦ old_pair u w (subst (λ z. Contains (row z u) w) (no_pairs (inl lg)) k)
-            | inl two ↦ let a = attached d in record {
-              lits = c;
-              is = ap (slot_at (slots ++ Some c ∷ [])) new.0 ∙ slot_new slots (Some c) n size;
+            | inr lg ↦ old_pair u w (subst (λ z. Contains (row z u) w) (no_pairs (inl lg)) k) c' e
+            | inl two ↦ let a = attached d in subst (IsPairOf (s.heads ++ h ∷ []) u w) (slot_now c' w.clause new.0 e) (record {
               short = two;
               blocker = elim new.1 [ inl x ↦ subst (Contains c) (sym x.1) a.1 | inr x ↦ subst (Contains c) (sym x.1) a.0 ];
               two = λ m i. elim (no_third c h.left h.right m two a.0 a.1 d i) [
                 | inl g ↦ elim new.1 [ inl x ↦ inl (g ∙ sym x.0) | inr x ↦ inr (g ∙ sym x.1) ]
                 | inr g ↦ elim new.1 [ inl x ↦ inr (g ∙ sym x.1) | inr x ↦ inl (g ∙ sym x.0) ]
               ];
-              watches = λ e.
-                  let read : get_or (s.heads ++ h ∷ []) w.clause e ≡ h = ap (λ z. get_or (s.heads ++ h ∷ []) z e) new.0 ∙ get_or_push s.heads h e n count in
+              watches = λ e'.
+                  let read : get_or (s.heads ++ h ∷ []) w.clause e' ≡ h = ap (λ z. get_or (s.heads ++ h ∷ []) z e') new.0 ∙ get_or_push s.heads h e' n count in
                   subst (λ (z : Head). Watches z u w.blocker) (sym read) (elim new.1 [ inl x ↦ inl (sym x.0, sym x.1) | inr x ↦ inr (sym x.0, sym x.1) ]);
-              apart = λ e.
-                  let read : get_or (s.heads ++ h ∷ []) w.clause e ≡ h = ap (λ z. get_or (s.heads ++ h ∷ []) z e) new.0 ∙ get_or_push s.heads h e n count in
+              apart = λ e'.
+                  let read : get_or (s.heads ++ h ∷ []) w.clause e' ≡ h = ap (λ z. get_or (s.heads ++ h ∷ []) z e') new.0 ∙ get_or_push s.heads h e' n count in
                   subst (λ (z : Head). z.left ≢ z.right) (sym read) d;
-            }
+            })
           ]
         ]
       ]
@@ -193,21 +189,18 @@ module _ (slots : List (Option (List LitOf))) (s : State) (pairs pairs' : List (
       let ne : j ≢ n = λ g. let f : None ≡ Some c = sym (get_or-set_same slots n None None (omega (arith, room, size))) ∙ subst (λ z. slot_at (set slots n None) z ≡ Some c) g e in cc in
       (ne, sym (get_or-set_other slots n j None None ne) ∙ e)
 
-  pub filed_out : IsFiledBut n slots s pairs → ((u : LitOf) (w : Watch) → Contains (row pairs' u) w → Contains (row pairs u) w × (w.clause ≢ n)) → ((u : LitOf) (w : Watch) → Contains (row pairs u) w → w.clause ≢ n → Contains (row pairs' u) w)
-      → IsFiled (set slots n None) (record s { heads = set s.heads n h }) pairs'
-  filed_out but only keeps = record {
+  pub filed_out : IsFiledBut n slots s pairs → Sweeps (set slots n None) pairs pairs' → IsFiled (set slots n None) (record s { heads = set s.heads n h }) pairs'
+  filed_out but sweeps = record {
     entries = λ u w k c e. let o = slot_other w.clause c e in but.entries u w k c o.1;
-    pair_entries = λ u w k.
-        let o = only u w k in
-        let x = but.pair_entries u w o.0 in
+    pair_entries = λ u w k c e.
+        let o = slot_other w.clause c e in
+        let x = but.pair_entries u w (sweeps.only u w k) c o.1 in
         record {
-          lits = x.lits;
-          is = get_or-set_other slots n w.clause None None o.1 ∙ x.is;
           short = x.short;
           blocker = x.blocker;
           two = x.two;
-          watches = λ d. subst (λ (z : Head). Watches z u w.blocker) (sym (get_or-set_other s.heads n w.clause h d o.1)) (x.watches d);
-          apart = λ d. subst (λ (z : Head). z.left ≢ z.right) (sym (get_or-set_other s.heads n w.clause h d o.1)) (x.apart d);
+          watches = λ d. subst (λ (z : Head). Watches z u w.blocker) (sym (get_or-set_other s.heads n w.clause h d o.0)) (x.watches d);
+          apart = λ d. subst (λ (z : Head). z.left ≢ z.right) (sym (get_or-set_other s.heads n w.clause h d o.0)) (x.apart d);
         };
     wide = λ j c l e k. let o = slot_other j c e in but.wide j c l o.1 k;
     long = λ j d c k e lg a.
@@ -220,7 +213,7 @@ module _ (slots : List (Option (List LitOf))) (s : State) (pairs pairs' : List (
         let read = get_or-set_other s.heads n j h d o.0 in
         let x = but.short j d c (omega (arith, k, length-set s.heads n h)) o.0 o.1 two (subst (λ (z : Head). z.left ≢ z.right) read a) in
         subst (λ (z : Head). Contains (row pairs' z.left) (record { clause = j; blocker = z.right }) × Contains (row pairs' z.right) (record { clause = j; blocker = z.left })) (sym read)
-        (keeps _ _ x.0 o.0, keeps _ _ x.1 o.0);
+        (sweeps.keeps _ _ c x.0 e, sweeps.keeps _ _ c x.1 e);
   }
 
   -- each other clause is kept as it was

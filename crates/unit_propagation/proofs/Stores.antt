@@ -1,6 +1,6 @@
 -- What the slots are when heads and literals change.
-use Rattle.std.proofs.Common.{◌≡◌, ◌≢◌, ℕ, zero, suc, ◌+◌, ◌<◌, ◌≤◌, ◌-◌, ◌==◌, List, [], ◌∷◌, ◌++◌, length, get_or, set, drop, map, refl, sym, ◌∙◌, ap, subst, inl, inr, arith}
-use Rattle.std.specs.Prelude.{Option, slice_range, Some, None}
+use Rattle.std.proofs.Common.{◌≡◌, ◌≢◌, ℕ, zero, suc, ◌+◌, ◌<◌, ◌≤◌, ◌-◌, ◌==◌, not, false, List, [], ◌∷◌, ◌++◌, length, get_or, set, drop, map, refl, sym, ◌∙◌, ap, subst, inl, inr, arith}
+use Rattle.std.specs.Prelude.{Option, slice_range, Some, None, is_some}
 use Rattle.std.proofs.lemmas.Bool.{eq-eqb, eqb-true, cases_Bool, cases_eq, cases_lt, both_ways}
 use Rattle.std.proofs.lemmas.Slice.{between_is, between_to_end}
 use Rattle.std.proofs.lemmas.List.{take-append-le, drop_at, get_or-map, get_or_past, get_or_push, get_or_append_left, get_or-set_same, get_or-set_other, map-set, set-get_or, length-map, length-set, length_push}
@@ -132,3 +132,11 @@ slot_length lits heads k h c room read fits e =
     let to = end_of (length lits) heads k in
     let slot : slot_of lits to h ≡ Some c = ap (slot_of lits to) read ∙ sym (slot_at-read lits heads k h room) ∙ e in
     ap length (sym (slot_lits lits to h c slot)) ∙ length-between lits h.start to fits
+
+-- whether the clause at a number is there
+pub has_there : (lits : List LitOf) (heads : List Head) (k : ℕ) (d : Head) → k < length heads → d ≡ get_or heads k d → is_some (slot_at (slots_of lits heads) k) ≡ not (d.from == GONE)
+has_there lits heads k d h read =
+    ap is_some (slot_at-read lits heads k d h ∙ ap (slot_of lits (end_of (length lits) heads k)) (sym read)) ∙ elim (cases_Bool (d.from == GONE)) [ inl e ↦ rw e refl | inr f ↦ rw f refl ]
+
+pub has_past : (lits : List LitOf) (heads : List Head) (k : ℕ) → length heads ≤ k → is_some (slot_at (slots_of lits heads) k) ≡ false
+has_past lits heads k h = ap is_some (get_or_past (slots_of lits heads) k None (omega (arith, h, length-slots lits heads)))

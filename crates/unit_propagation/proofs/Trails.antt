@@ -1,9 +1,11 @@
 -- A trail that grows by one literal, or loses its last one.
-use Rattle.std.proofs.Common.{◌≡◌, ◌⊎◌, ℕ, ◌+◌, ◌-◌, ◌*◌, ◌<◌, ◌≤◌, Bool, true, false, not, cond, List, [], ◌∷◌, ◌++◌, length, get_or, set, take, drop, refl, sym, ◌∙◌, ap, subst, inl, inr, arith}
+use Rattle.std.proofs.Common.{◌≡◌, ◌⊎◌, ℕ, ◌+◌, ◌-◌, ◌*◌, ◌<◌, ◌≤◌, Bool, true, false, not, cond, List, [], ◌∷◌, ◌++◌, length, get_or, set, take, drop, replicate, refl, sym, ◌∙◌, ap, subst, inl, inr, arith}
 use Rattle.std.specs.Prelude.{Contains}
 use Rattle.std.proofs.lemmas.Bool.{both_ways, cases_eq, cases_lt, cases_Bool}
-use Rattle.std.proofs.lemmas.List.{get_or-set_same, get_or-set_other, take-append-le, take_at, take_all, get_or-take, length-take, get_or_append_left, get_or_push, length_push, length-set, take-append-drop}
-use Rattle.std.proofs.lemmas.List.Sums.{sum_by-set}
+use Rattle.std.proofs.lemmas.List.{get_or_past, get_or-append_right, get_or-replicate, length-replicate, length-append, get_or-set_same, get_or-set_other, take-append-le, take_at, take_all, get_or-take, length-take, get_or_append_left, get_or_push, length_push, length-set, take-append-drop}
+use Rattle.std.proofs.lemmas.List.Sums.{sum_by-set, sum_by-append}
+use Rattle.std.proofs.lemmas.List.Folds.{sum_by-replicate}
+use Rattle.std.specs.List.{sum_by}
 use Rattle.std.proofs.lemmas.List.Elements.{All-push, Contains-append_left, Contains-push, Contains-push_cases, Contains-get_or}
 use Rattle.cnf_form.specs.Cnf.{LitOf, negate, index_of}
 use Rattle.cnf_form.proofs.Literals.{index_of-injective, lit_cases, negate-negate}
@@ -29,6 +31,27 @@ negate-differs l h = not_same l.negated (ap (λ (m : LitOf). m.negated) h)
 pub opposite : (l m : LitOf) → negate l ≡ m → l ≡ negate m
 opposite l m e = sym (negate-negate l) ∙ ap negate e
 
+pub marked_within : (marks : List Bool) (l : LitOf) → is_marked marks l ≡ true → index_of l < length marks
+marked_within marks l on = elim (cases_lt (index_of l) (length marks)) [ inl h ↦ h | inr h ↦ absurd (both_ways _ (get_or_past marks (index_of l) false h) on) ]
+
+-- a true literal has its place in each table
+pub mark_room : (vars : ℕ) (marks : List Bool) (t : List LitOf) (l : LitOf) → IsTrail vars marks t → Contains t l → index_of l < length marks
+mark_room vars marks t l w h = let s = w.shows in marked_within marks l (s.on l h)
+
+pub origin_room : (origins : List Origin) (t : List LitOf) (l : LitOf) → IsPlaced origins t → Contains t l → l.var < length origins
+origin_room origins t l w h = subst (λ (z : LitOf). z.var < length origins) h.2 (w.within h.0 l h.1)
+
+-- marks that are added are off
+longer_mark : (marks : List Bool) (n i : ℕ) → get_or (marks ++ replicate n false) i false ≡ get_or marks i false
+longer_mark marks n i =
+    elim (cases_lt i (length marks)) [
+      | inl h ↦ get_or_append_left marks (replicate n false) false i h
+      | inr h ↦ get_or-append_right marks (replicate n false) (length marks) i false refl h ∙ off (i - length marks) ∙ sym (get_or_past marks i false h)
+    ]
+  where
+    off : (k : ℕ) → get_or (replicate n false) k false ≡ false
+    off k = elim (cases_lt k n) [ inl h ↦ get_or-replicate n k false false h | inr h ↦ get_or_past (replicate n false) k false (omega (arith, length-replicate n false, h)) ]
+
 -- what a mark counts
 abbrev weight : Bool → ℕ
 weight b = cond b 1 0
@@ -48,10 +71,10 @@ consistent_push t l ok o = record {
 }
 
 module _ (vars : ℕ) (marks : List Bool) (t : List LitOf) (l : LitOf) where
-  pub trail_push : IsTrail vars marks t → l.var ≤ vars → IsOpen t l → IsTrail vars (set marks (index_of l) true) (t ++ l ∷ [])
-  trail_push w below o = record {
+  pub trail_push : IsTrail vars marks t → l.var ≤ vars → index_of l < length marks → IsOpen t l → IsTrail vars (set marks (index_of l) true) (t ++ l ∷ [])
+  trail_push w below room o = record {
     limit = w.limit;
-    sized = length-set marks (index_of l) true ∙ w.sized;
+    sized = omega (arith, length-set marks (index_of l) true, w.sized);
     shows = record { on = shown; off = hidden };
     below = All-push (IsBelow vars) t l w.below below;
     counted = omega (arith, length_push t l, sum_by-set weight marks (index_of l) true false room, ap weight was, w.counted);
@@ -59,9 +82,6 @@ module _ (vars : ℕ) (marks : List Bool) (t : List LitOf) (l : LitOf) where
     distinct = record { once = once };
   }
     where
-      room : index_of l < length marks
-      room = omega (arith, index_room l vars below, w.sized)
-
       was : get_or marks (index_of l) false ≡ false
       was = elim (cases_Bool (is_marked marks l)) [ inl h ↦ let s = w.shows in absurd (o.not_true (s.off l h)) | inr h ↦ h ]
 
@@ -95,7 +115,7 @@ module _ (vars : ℕ) (marks : List Bool) (t : List LitOf) (l : LitOf) where
   pub trail_pop : IsTrail vars marks (t ++ l ∷ []) → IsTrail vars (set marks (index_of l) false) t
   trail_pop w = record {
     limit = w.limit;
-    sized = length-set marks (index_of l) false ∙ w.sized;
+    sized = omega (arith, length-set marks (index_of l) false, w.sized);
     shows = record { on = shown; off = hidden };
     below = λ i d h. subst (IsBelow vars) (get_or_append_left t (l ∷ []) d i h) (w.below i d (omega (arith, length_push t l, h)));
     counted = omega (arith, length_push t l, sum_by-set weight marks (index_of l) false false room, ap weight was, w.counted);
@@ -108,14 +128,11 @@ module _ (vars : ℕ) (marks : List Bool) (t : List LitOf) (l : LitOf) where
     };
   }
     where
-      last_below : l.var ≤ vars
-      last_below = subst (IsBelow vars) (get_or_push t l l (length t) refl) (w.below (length t) l (omega (arith, length_push t l)))
-
-      room : index_of l < length marks
-      room = omega (arith, index_room l vars last_below, w.sized)
-
       was : get_or marks (index_of l) false ≡ true
       was = let s = w.shows in s.on l (Contains-push t l)
+
+      room : index_of l < length marks
+      room = marked_within marks l was
 
       -- the last literal doesn't stand before
       first_time : Contains t l → ⊥
@@ -177,14 +194,19 @@ var_cases m l same =
     ]
 
 -- the table of places, as the trail grows and as it is cut
-pub placed_push : (vars : ℕ) (origins : List Origin) (t : List LitOf) (l : LitOf) (o : Origin) → IsPlaced vars origins t → l.var ≤ vars → IsOpen t l → o.place ≡ length t → IsPlaced vars (set origins l.var o) (t ++ l ∷ [])
-placed_push vars origins t l o w below opened at = record {
-  sized = length-set origins l.var o ∙ w.sized;
+pub placed_push : (origins : List Origin) (t : List LitOf) (l : LitOf) (o : Origin) → IsPlaced origins t → l.var < length origins → IsOpen t l → o.place ≡ length t → IsPlaced (set origins l.var o) (t ++ l ∷ [])
+placed_push origins t l o w room opened at = record {
+  within = λ i d h. elim (cases_eq i (length t)) [
+    | inl g ↦ subst (λ (z : LitOf). z.var < length (set origins l.var o)) (sym (get_or_push t l d i (sym g))) (omega (arith, room, length-set origins l.var o))
+    | inr ne ↦
+        let inside : i < length t = omega (arith, h, length_push t l, ne) in
+        subst (λ (z : LitOf). z.var < length (set origins l.var o)) (sym (get_or_append_left t (l ∷ []) d i inside)) (omega (arith, w.within i d inside, length-set origins l.var o))
+  ];
   placed = λ i d e h. elim (cases_eq i (length t)) [
     | inl g ↦
         let here : get_or (t ++ l ∷ []) i d ≡ l = get_or_push t l d i (sym g) in
         ap (λ (z : LitOf). (get_or (set origins l.var o) z.var e).place) here
-        ∙ ap (λ (z : Origin). z.place) (get_or-set_same origins l.var o e (omega (arith, below, w.sized))) ∙ at ∙ sym g
+        ∙ ap (λ (z : Origin). z.place) (get_or-set_same origins l.var o e room) ∙ at ∙ sym g
     | inr ne ↦
         let inside : i < length t = omega (arith, h, length_push t l, ne) in
         let before : get_or (t ++ l ∷ []) i d ≡ get_or t i d = get_or_append_left t (l ∷ []) d i inside in
@@ -196,12 +218,35 @@ placed_push vars origins t l o w below opened at = record {
     not_on : (m : LitOf) → Contains t m → m.var ≡ l.var → ⊥
     not_on m k same = elim (var_cases m l same) [ inl e ↦ opened.not_true (subst (Contains t) e k) | inr e ↦ opened.not_false (subst (Contains t) e k) ]
 
-pub placed_cut : (vars : ℕ) (origins : List Origin) (t t' : List LitOf) (n : ℕ) → IsPlaced vars origins t → t' ≡ take n t → IsPlaced vars origins t'
-placed_cut vars origins t t' n w e = rw e (record {
-  sized = w.sized;
+pub placed_cut : (origins : List Origin) (t t' : List LitOf) (n : ℕ) → IsPlaced origins t → t' ≡ take n t → IsPlaced origins t'
+placed_cut origins t t' n w e = rw e (record {
+  within = λ i d h.
+      let short = length-take n t in
+      subst (λ (z : LitOf). z.var < length origins) (sym (get_or-take n t i d (omega (arith, h, short)))) (w.within i d (omega (arith, h, short)));
   placed = λ i d o h.
       let short = length-take n t in
       ap (λ (z : LitOf). (get_or origins z.var o).place) (get_or-take n t i d (omega (arith, h, short))) ∙ w.placed i d o (omega (arith, h, short));
+})
+
+-- the tables may be longer
+pub trail_longer : (vars n : ℕ) (marks marks' : List Bool) (t : List LitOf) → IsTrail vars marks t → marks' ≡ marks ++ replicate n false → length marks' ≤ 2 * vars + 2 → IsTrail vars marks' t
+trail_longer vars n marks marks' t w e room = record {
+  limit = w.limit;
+  sized = room;
+  shows = let s = w.shows in record { on = λ l h. same l ∙ s.on l h; off = λ l h. s.off l (sym (same l) ∙ h) };
+  below = w.below;
+  counted = ap (sum_by weight) e ∙ sum_by-append weight marks (replicate n false) ∙ omega (arith, sum_by-replicate weight n false, w.counted);
+  consistent = w.consistent;
+  distinct = w.distinct;
+}
+  where
+    same : (l : LitOf) → is_marked marks' l ≡ is_marked marks l
+    same l = ap (λ z. is_marked z l) e ∙ longer_mark marks n (index_of l)
+
+pub placed_longer : (n : ℕ) (o : Origin) (origins origins' : List Origin) (t : List LitOf) → IsPlaced origins t → origins' ≡ origins ++ replicate n o → IsPlaced origins' t
+placed_longer n o origins origins' t w e = rw e (record {
+  within = λ i d h. omega (arith, w.within i d h, length-append origins (replicate n o));
+  placed = λ i d q h. ap (λ (z : Origin). z.place) (get_or_append_left origins (replicate n o) q (get_or t i d).var (w.within i d h)) ∙ w.placed i d q h;
 })
 
 -- a literal is open where only those before it are true

@@ -15,7 +15,7 @@ use Rattle.unit_propagation.specs.declared.visit.Stop.TheVariants.{Conflict, Mem
 use Rattle.unit_propagation.specs.Propagation.{IsOpen, IsFalsified, Propagates}
 use Rattle.unit_propagation.specs.Propagator.{slot_at, clauses_of}
 use Rattle.unit_propagation.specs.Watch.{row, Watches}
-use Rattle.unit_propagation.specs.Visit.{State, IsKept, AllKept, EntryFits, IsListed, StandsIn, StandsFrom, IsFiledAt, IsVisited, IsPending, StopFits, PairFits, IsFiled, Walks, EndFits, PairsFit, ImpliedFits}
+use Rattle.unit_propagation.specs.Visit.{State, IsKept, AllKept, EntryFits, IsListed, StandsIn, StandsFrom, IsFiledAt, IsVisited, IsPending, StopFits, PairFits, IsFiled, Walks, EndFits, AllImplied, PairsFit, ImpliedFits}
 use Rattle.unit_propagation.proofs.Rows.{row_set_same, row_set_other}
 use Rattle.unit_propagation.proofs.Slots.{clauses_of-contains}
 use Rattle.unit_propagation.proofs.Watched.{kept_grown, kept_satisfied, kept_stale}
@@ -49,22 +49,21 @@ listed_end list kept k j room past s =
 
 module _ (slots : List (Option (List LitOf))) (pairs : List (List Watch)) (p : List LitOf) (f : LitOf) where
   -- one entry of the pairs
-  pub implied : (heads : List Head) (s t : List LitOf) (w : Watch) → PairFits slots heads f w → Contains s (negate f) → (t ≡ s) ⊎ (IsOpen s w.blocker × (t ≡ s ++ w.blocker ∷ [])) → Propagates (clauses_of slots) s t
+  pub implied : (heads : List Head) (s t : List LitOf) (w : Watch) → PairFits slots heads f w → Contains s (negate f)
+      → (t ≡ s) ⊎ (((c : List LitOf) × (slot_at slots w.clause ≡ Some c)) × IsOpen s w.blocker × (t ≡ s ++ w.blocker ∷ [])) → Propagates (clauses_of slots) s t
   implied heads s t w fit off grown =
       elim grown [
         | inl e ↦ subst (Propagates (clauses_of slots) s) (sym e) (propagates_none (clauses_of slots) s)
-        | inr e ↦ subst (Propagates (clauses_of slots) s) (sym e.1) (propagates_unit (clauses_of slots) s fit.lits w.blocker (clauses_of-contains slots w.clause fit.lits fit.is) fit.blocker
-            (record { each = λ m h d. elim (fit.two m h) [ inl g ↦ subst (λ z. Contains s (negate z)) (sym g) off | inr g ↦ absurd (d g) ] }) e.0)
+        | inr e ↦ let c = e.0 in
+            let x = fit c.0 c.1 in
+            subst (Propagates (clauses_of slots) s) (sym e.2) (propagates_unit (clauses_of slots) s c.0 w.blocker (clauses_of-contains slots w.clause c.0 c.1) x.blocker
+            (record { each = λ m h d. elim (x.two m h) [ inl g ↦ subst (λ z. Contains s (negate z)) (sym g) off | inr g ↦ absurd (d g) ] }) e.1)
       ]
 
-  pub pair_falsified : (heads : List Head) (t : List LitOf) (w : Watch) → PairFits slots heads f w → Contains t (negate f) → Contains t (negate w.blocker) → (c : List LitOf) × (slot_at slots w.clause ≡ Some c) × IsFalsified t c
-  pair_falsified heads t w fit off blocked = (
-    fit.lits,
-    fit.is,
-    record {
-      each = λ m h. elim (fit.two m h) [ inl g ↦ subst (λ z. Contains t (negate z)) (sym g) off | inr g ↦ subst (λ z. Contains t (negate z)) (sym g) blocked ];
-    },
-  )
+  pub pair_falsified : (heads : List Head) (t : List LitOf) (w : Watch) (c : List LitOf) → PairFits slots heads f w → slot_at slots w.clause ≡ Some c → Contains t (negate f) → Contains t (negate w.blocker) → IsFalsified t c
+  pair_falsified heads t w c fit is off blocked =
+      let x = fit c is in
+      record { each = λ m h. elim (x.two m h) [ inl g ↦ subst (λ z. Contains t (negate z)) (sym g) off | inr g ↦ subst (λ z. Contains t (negate z)) (sym g) blocked ] }
 
   module _ (s : State) (filed : IsFiled slots s pairs) (kept : AllKept p s.trail slots s.heads) (dealt : (l : LitOf) → Contains (p ++ negate f ∷ []) l → Contains s.trail l) where
     abbrev pub taken : State
@@ -96,7 +95,7 @@ module _ (slots : List (Option (List LitOf))) (pairs : List (List Watch)) (p : L
         }
 
     -- each clause is kept with f dealt with, or has an entry
-    pub pending_start : ((w : Watch) → Contains (row pairs f) w → Contains s.trail w.blocker) → IsPending p f slots taken (row s.rows f) 0
+    pub pending_start : AllImplied slots (row pairs f) s.trail → IsPending p f slots taken (row s.rows f) 0
     pending_start blocked = record {
       dealt = dealt;
       each = λ j d h. let k = kept j d h in
@@ -107,13 +106,13 @@ module _ (slots : List (Option (List LitOf))) (pairs : List (List Watch)) (p : L
                 elim (lit_cases (get_or s.heads j d).left f) [
                   | inl e ↦ elim (cases_eq (length w.0) 2) [
                     | inl two ↦ inl (satisfied j d k w.0 w.1 (get_or s.heads j d).right x.right_in
-                        (blocked (record { clause = j; blocker = (get_or s.heads j d).right }) (subst (λ z. Contains (row pairs z) (record { clause = j; blocker = (get_or s.heads j d).right })) e (filed.short j d w.0 h w.1 two ne).0)))
+                        (blocked (record { clause = j; blocker = (get_or s.heads j d).right }) w.0 (subst (λ z. Contains (row pairs z) (record { clause = j; blocker = (get_or s.heads j d).right })) e (filed.short j d w.0 h w.1 two ne).0) w.1))
                     | inr long ↦ inr (k, from_start (row s.rows f) j (subst (λ z. IsListed (row s.rows z) j) e (filed.long j d w.0 h w.1 long ne).0))
                   ]
                   | inr dl ↦ elim (lit_cases (get_or s.heads j d).right f) [
                     | inl e ↦ elim (cases_eq (length w.0) 2) [
                       | inl two ↦ inl (satisfied j d k w.0 w.1 (get_or s.heads j d).left x.left_in
-                          (blocked (record { clause = j; blocker = (get_or s.heads j d).left }) (subst (λ z. Contains (row pairs z) (record { clause = j; blocker = (get_or s.heads j d).left })) e (filed.short j d w.0 h w.1 two ne).1)))
+                          (blocked (record { clause = j; blocker = (get_or s.heads j d).left }) w.0 (subst (λ z. Contains (row pairs z) (record { clause = j; blocker = (get_or s.heads j d).left })) e (filed.short j d w.0 h w.1 two ne).1) w.1))
                       | inr long ↦ inr (k, from_start (row s.rows f) j (subst (λ z. IsListed (row s.rows z) j) e (filed.long j d w.0 h w.1 long ne).1))
                     ]
                     | inr dr ↦ inl (kept_stale p s.trail (slot_at slots j) (get_or s.heads j d) k f (inr (dl, dr)))
@@ -138,14 +137,12 @@ module _ (slots : List (Option (List LitOf))) (pairs : List (List Watch)) (p : L
           ]
           | inr d ↦ v.entries u w (subst (λ z. Contains z w) (row_set_other new.rows f u (take n list) d) h)
         ];
-        pair_entries = λ u w h. let x = filed.pair_entries u w h in record {
-          lits = x.lits;
-          is = x.is;
+        pair_entries = λ u w h c e. let x = filed.pair_entries u w h c e in record {
           short = x.short;
           blocker = x.blocker;
           two = x.two;
-          watches = λ d. subst (λ (z : Head). Watches z u w.blocker) (sym (v.short w.clause d x.lits x.is x.short)) (x.watches d);
-          apart = λ d. subst (λ (z : Head). z.left ≢ z.right) (sym (v.short w.clause d x.lits x.is x.short)) (x.apart d);
+          watches = λ d. subst (λ (z : Head). Watches z u w.blocker) (sym (v.short w.clause d c e x.short)) (x.watches d);
+          apart = λ d. subst (λ (z : Head). z.left ≢ z.right) (sym (v.short w.clause d c e x.short)) (x.apart d);
         };
         wide = λ j c l e h. omega (arith, v.wide j c l e h, length-set new.rows (index_of f) (take n list));
         long = λ j d c h e long a. let x = v.filed j d c h e long a in (at_end j _ x.0, at_end j _ x.1);
@@ -182,31 +179,47 @@ module _ (slots : List (Option (List LitOf))) (heads : List Head) (f : LitOf) (l
   off_still : Contains t (negate f)
   off_still = propagates_grows (clauses_of slots) s t before (negate f) off
 
-  pub pair_grown : (t' ≡ t) ⊎ (IsOpen t (get_or list k x).blocker × (t' ≡ t ++ (get_or list k x).blocker ∷ [])) → Propagates (clauses_of slots) s t'
-  pair_grown g = propagates_trans (clauses_of slots) s t t' before (implied slots [] [] f heads t t' (get_or list k x) (fit (get_or list k x) (Contains-get_or list k x within)) off_still g)
+  -- the clause and the blocker of the entry were read one after the other
+  clause_read : (get_or list k r).clause ≡ (get_or list k x).clause
+  clause_read = ap (λ (q : Watch). q.clause) (get_or_default list k r x within)
 
-  pub pair_more : ((i : ℕ) (d : Watch) → i < k → Contains t (get_or list i d).blocker) → (t' ≡ t) ⊎ (IsOpen t (get_or list k x).blocker × (t' ≡ t ++ (get_or list k x).blocker ∷ [])) → Contains t' (get_or list k x).blocker
-      → (i : ℕ) (d : Watch) → i < k + 1 → Contains t' (get_or list i d).blocker
-  pair_more all g now i d h =
+  abbrev pub Grows : Type 0
+  Grows = (t' ≡ t) ⊎ (((c : List LitOf) × (slot_at slots (get_or list k r).clause ≡ Some c)) × IsOpen t (get_or list k x).blocker × (t' ≡ t ++ (get_or list k x).blocker ∷ []))
+
+  pub pair_grown : Grows → Propagates (clauses_of slots) s t'
+  pair_grown g = propagates_trans (clauses_of slots) s t t' before (implied slots [] [] f heads t t' (get_or list k x) (fit (get_or list k x) (Contains-get_or list k x within)) off_still
+      (elim g [ inl e ↦ inl e | inr e ↦ let c = e.0 in inr ((c.0, subst (λ z. slot_at slots z ≡ Some c.0) clause_read c.1), e.1, e.2) ]))
+
+  pub pair_more : ((i : ℕ) (d : Watch) (c : List LitOf) → i < k → slot_at slots (get_or list i d).clause ≡ Some c → Contains t (get_or list i d).blocker) → Grows
+      → Contains t' (get_or list k x).blocker ⊎ (slot_at slots (get_or list k r).clause ≡ None)
+      → (i : ℕ) (d : Watch) (c : List LitOf) → i < k + 1 → slot_at slots (get_or list i d).clause ≡ Some c → Contains t' (get_or list i d).blocker
+  pair_more all g now i d c h is =
       elim (cases_eq i k) [
-        | inl e ↦ subst (λ (z : Watch). Contains t' z.blocker) (get_or_default list k x d within ∙ ap (λ z. get_or list z d) (sym e)) now
-        | inr ne ↦ let y = all i d (omega (arith, h, ne)) in elim g [ inl e ↦ subst (λ z. Contains z (get_or list i d).blocker) (sym e) y | inr e ↦ subst (λ z. Contains z (get_or list i d).blocker) (sym e.1) (Contains-append_left t _ _ y) ]
+        | inl e ↦
+            let same : get_or list k x ≡ get_or list i d = get_or_default list k x d within ∙ ap (λ z. get_or list z d) (sym e) in
+            elim now [
+              | inl y ↦ subst (λ (z : Watch). Contains t' z.blocker) same y
+              | inr gone ↦ absurd (let q : None ≡ Some c = sym gone ∙ ap (slot_at slots) (clause_read ∙ ap (λ (z : Watch). z.clause) same) ∙ is in cc)
+            ]
+        | inr ne ↦ let y = all i d c (omega (arith, h, ne)) is in elim g [ inl e ↦ subst (λ z. Contains z (get_or list i d).blocker) (sym e) y | inr e ↦ subst (λ z. Contains z (get_or list i d).blocker) (sym e.2) (Contains-append_left t _ _ y) ]
       ]
 
-  pub pair_ends : (o : Option Stop) → is_some o ≡ true → ImpliedFits t t' (get_or list k r).clause (get_or list k x).blocker o → PairsFit slots list t' o
+  pub pair_ends : (o : Option Stop) → is_some o ≡ true → ImpliedFits slots t t' (get_or list k r).clause (get_or list k x).blocker o → PairsFit slots list t' o
   pair_ends None e y = absurd (false≢true e)
   pair_ends (Some (Conflict j)) e y =
       let w : Watch = get_or list k x in
-      let z = pair_falsified slots [] [] f heads t w (fit w (Contains-get_or list k x within)) off_still y.1 in
-      (z.0, ap (slot_at slots) (y.0 ∙ ap (λ (q : Watch). q.clause) (get_or_default list k r x within)) ∙ z.1, subst (λ q. IsFalsified q z.0) (sym y.2) z.2)
+      let c = y.1 in
+      let z = pair_falsified slots [] [] f heads t w c.0 (fit w (Contains-get_or list k x within)) (subst (λ q. slot_at slots q ≡ Some c.0) clause_read c.1) off_still y.2 in
+      (c.0, ap (slot_at slots) y.0 ∙ c.1, subst (λ q. IsFalsified q c.0) (sym y.3) z)
   pair_ends (Some Memory) e y = tt
 
-pub pair_none : (s t : List LitOf) (k : ℕ) (b : LitOf) (o : Option Stop) → is_some o ≡ false → ImpliedFits s t k b o → Contains t b
-pair_none s t k b None e y = y
-pair_none s t k b (Some x) e y = absurd (false≢true (sym e))
+pub pair_none : (slots : List (Option (List LitOf))) (s t : List LitOf) (k : ℕ) (b : LitOf) (o : Option Stop) → is_some o ≡ false → ImpliedFits slots s t k b o → Contains t b ⊎ (slot_at slots k ≡ None)
+pair_none slots s t k b None e y = y
+pair_none slots s t k b (Some x) e y = absurd (false≢true (sym e))
 
-pub pairs_all : (list : List Watch) (t : List LitOf) (k : ℕ) → length list ≤ k → ((i : ℕ) (d : Watch) → i < k → Contains t (get_or list i d).blocker) → (w : Watch) → Contains list w → Contains t w.blocker
-pairs_all list t k past all w h = subst (λ (z : Watch). Contains t z.blocker) h.2 (all h.0 w (omega (arith, h.1, past)))
+pub pairs_all : (slots : List (Option (List LitOf))) (list : List Watch) (t : List LitOf) (k : ℕ) → length list ≤ k
+    → ((i : ℕ) (d : Watch) (c : List LitOf) → i < k → slot_at slots (get_or list i d).clause ≡ Some c → Contains t (get_or list i d).blocker) → AllImplied slots list t
+pairs_all slots list t k past all w c h is = subst (λ (z : Watch). Contains t z.blocker) h.2 (all h.0 w c (omega (arith, h.1, past)) (subst (λ (z : Watch). slot_at slots z.clause ≡ Some c) (sym h.2) is))
 
 pub take_front : (n m : ℕ) (xs ys : List Watch) → m ≡ length xs → take n (take m (xs ++ ys)) ≡ take n xs
 take_front n m xs ys e = ap (take n) (take_at xs ys m (sym e))
@@ -236,7 +249,7 @@ end_from_pairs p slots s list None e y = absurd (false≢true e)
 end_from_pairs p slots s list (Some (Conflict j)) e y = y
 end_from_pairs p slots s list (Some Memory) e y = tt
 
-pub pairs_none : (slots : List (Option (List LitOf))) (list : List Watch) (t : List LitOf) (o : Option Stop) → is_some o ≡ false → PairsFit slots list t o → (w : Watch) → Contains list w → Contains t w.blocker
+pub pairs_none : (slots : List (Option (List LitOf))) (list : List Watch) (t : List LitOf) (o : Option Stop) → is_some o ≡ false → PairsFit slots list t o → AllImplied slots list t
 pairs_none slots list t None e y = y
 pairs_none slots list t (Some x) e y = absurd (false≢true (sym e))
 

@@ -26,10 +26,10 @@ pub record TrailOf : Type 0 where
   pub vars : ℕ
   pub lits : List LitOf
 
--- what holds of a trail's fields
+-- what holds of a trail's fields: a table with a mark for each literal up to some place
 pub record IsTrail (vars : ℕ) (marks : List Bool) (trail : List LitOf) : Type 0 where
   pub limit : vars ≤ 2 ^ 27
-  pub sized : length marks ≡ 2 * vars + 2
+  pub sized : length marks ≤ 2 * vars + 2
   pub shows : Shows marks trail
   pub below : All (IsBelow vars) trail
   pub counted : count_by (λ b. b) marks ≡ length trail
@@ -37,6 +37,6 @@ pub record IsTrail (vars : ℕ) (marks : List Bool) (trail : List LitOf) : Type 
   pub distinct : IsDistinct trail
 
 -- the table has the place of each literal of the trail, by its variable
-pub record IsPlaced (vars : ℕ) (origins : List Origin) (trail : List LitOf) : Type 0 where
-  pub sized : length origins ≡ vars + 1
+pub record IsPlaced (origins : List Origin) (trail : List LitOf) : Type 0 where
+  pub within : (i : ℕ) (d : LitOf) → i < length trail → (slice_index_or trail i d).var < length origins
   pub placed : (i : ℕ) (d : LitOf) (e : Origin) → i < length trail → (slice_index_or origins (slice_index_or trail i d).var e).place ≡ i

@@ -132,15 +132,17 @@ StopFits p f slots s list k None = IsPending p f slots s list k
 StopFits p f slots s list k (Some (Conflict j)) = (c : List LitOf) × (slot_at slots j ≡ Some c) × IsFalsified s.trail c
 StopFits p f slots s list k (Some Memory) = ⊤
 
--- an entry in the list of u of a clause of two literals, which is one of u and the blocker
-pub record PairFits (slots : List (Option (List LitOf))) (heads : List Head) (u : LitOf) (w : Watch) : Type 0 where
-  pub lits : List LitOf
-  pub is : slot_at slots w.clause ≡ Some lits
-  pub short : length lits ≡ 2
-  pub blocker : Contains lits w.blocker
-  pub two : (m : LitOf) → Contains lits m → (m ≡ u) ⊎ (m ≡ w.blocker)
+-- an entry in the list of u of the clause c, which is one of u and the blocker
+pub record IsPairOf (heads : List Head) (u : LitOf) (w : Watch) (c : List LitOf) : Type 0 where
+  pub short : length c ≡ 2
+  pub blocker : Contains c w.blocker
+  pub two : (m : LitOf) → Contains c m → (m ≡ u) ⊎ (m ≡ w.blocker)
   pub watches : (d : Head) → Watches (slice_index_or heads w.clause d) u w.blocker
   pub apart : (d : Head) → (slice_index_or heads w.clause d).left ≢ (slice_index_or heads w.clause d).right
+
+-- an entry in the list of u is of a clause of two literals, if the clause wasn't taken out
+abbrev pub PairFits : List (Option (List LitOf)) → List Head → LitOf → Watch → Type 0
+PairFits slots heads u w = (c : List LitOf) → slot_at slots w.clause ≡ Some c → IsPairOf heads u w c
 
 -- the entries fit, and each clause that watches two literals has its entries: those of two literals in lists of their own
 pub record IsFiled (slots : List (Option (List LitOf))) (s : State) (pairs : List (List Watch)) : Type 0 where
@@ -169,15 +171,19 @@ EndFits p slots s None = AllKept p s.trail slots s.heads
 EndFits p slots s (Some (Conflict j)) = (c : List LitOf) × (slot_at slots j ≡ Some c) × IsFalsified s.trail c
 EndFits p slots s (Some Memory) = ⊤
 
--- the blocker of a clause of two literals is true now, or false
-abbrev pub ImpliedFits : List LitOf → List LitOf → ℕ → LitOf → Option Stop → Type 0
-ImpliedFits s t k b None = Contains t b
-ImpliedFits s t k b (Some (Conflict j)) = (j ≡ k) × Contains s (negate b) × (t ≡ s)
-ImpliedFits s t k b (Some Memory) = t ≡ s
+-- the blocker of the clause k, of two literals, is true now, or false, or the clause was taken out
+abbrev pub ImpliedFits : List (Option (List LitOf)) → List LitOf → List LitOf → ℕ → LitOf → Option Stop → Type 0
+ImpliedFits slots s t k b None = Contains t b ⊎ (slot_at slots k ≡ None)
+ImpliedFits slots s t k b (Some (Conflict j)) = (j ≡ k) × ((c : List LitOf) × (slot_at slots k ≡ Some c)) × Contains s (negate b) × (t ≡ s)
+ImpliedFits slots s t k b (Some Memory) = t ≡ s
+
+-- the blocker of each clause that wasn't taken out is true
+abbrev pub AllImplied : List (Option (List LitOf)) → List Watch → List LitOf → Type 0
+AllImplied slots list t = (w : Watch) (c : List LitOf) → Contains list w → slot_at slots w.clause ≡ Some c → Contains t w.blocker
 
 -- the blockers of all entries are true, or a clause is falsified
 abbrev pub PairsFit : List (Option (List LitOf)) → List Watch → List LitOf → Option Stop → Type 0
-PairsFit slots list t None = (w : Watch) → Contains list w → Contains t w.blocker
+PairsFit slots list t None = AllImplied slots list t
 PairsFit slots list t (Some (Conflict j)) = (c : List LitOf) × (slot_at slots j ≡ Some c) × IsFalsified t c
 PairsFit slots list t (Some Memory) = ⊤
 

@@ -6,6 +6,7 @@ use Rattle.cnf_form.specs.Cnf.{LitOf, index_of}
 use Rattle.unit_propagation.specs.declared.watch.Head.{Head}
 use Rattle.unit_propagation.specs.declared.watch.Watch.{Watch}
 use Rattle.unit_propagation.specs.declared.watch.TheConstants.{GONE}
+use Rattle.unit_propagation.specs.Propagator.{slot_at}
 
 -- where the literals of a clause end: where those of the next one begin, or at the end of them all
 abbrev pub end_of : ℕ → List Head → ℕ → ℕ
@@ -69,8 +70,7 @@ pub record Enters (rows rows' : List (List Watch)) (k : ℕ) (left right : LitOf
   pub keeps : (u : LitOf) (w : Watch) → Contains (row rows u) w → Contains (row rows' u) w
   pub only : (u : LitOf) (w : Watch) → Contains (row rows' u) w → Contains (row rows u) w ⊎ IsEntryOf k left right u w
 
--- no entry came, and only entries of the clause k went: those in the lists of left and right
-pub record Leaves (rows rows' : List (List Watch)) (k : ℕ) (left right : LitOf) : Type 0 where
-  pub keeps : (u : LitOf) (w : Watch) → Contains (row rows u) w → w.clause ≢ k → Contains (row rows' u) w
+-- no entry came, and only entries of clauses that were taken out went
+pub record Sweeps (slots : List (Option (List LitOf))) (rows rows' : List (List Watch)) : Type 0 where
+  pub keeps : (u : LitOf) (w : Watch) (c : List LitOf) → Contains (row rows u) w → slot_at slots w.clause ≡ Some c → Contains (row rows' u) w
   pub only : (u : LitOf) (w : Watch) → Contains (row rows' u) w → Contains (row rows u) w
-  pub gone : (u : LitOf) (w : Watch) → Contains (row rows' u) w → (u ≡ left) ⊎ (u ≡ right) → w.clause ≢ k

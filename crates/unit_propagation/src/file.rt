@@ -4,8 +4,8 @@ ghost use Rattle.std.specs.Prelude.{ℕ, ◌≡◌, ◌≢◌, ◌⊎◌, ◌+�
 ghost use Rattle.cnf_form.specs.Cnf.{LitOf};
 ghost use Rattle.unit_propagation.specs.Marks.{IsBelow};
 ghost use Rattle.unit_propagation.specs.Propagator.{slot_at, Same};
-ghost use Rattle.unit_propagation.specs.Watch.{slots_of, rows_of, row, Enters};
-ghost use Rattle.unit_propagation.specs.Visit.{State, IsKept, AllKept, PairFits, IsFiled, IsFiledBut};
+ghost use Rattle.unit_propagation.specs.Watch.{slots_of, rows_of, row, Enters, Sweeps};
+ghost use Rattle.unit_propagation.specs.Visit.{State, IsKept, AllKept, IsFiled, IsFiledBut};
 ghost use Rattle.unit_propagation.specs.declared.watch.Head.{Head};
 ghost use Rattle.unit_propagation.specs.declared.watch.Watch.{Watch};
 
@@ -15,36 +15,35 @@ use crate::watch::Head;
 use cnf_form::Lit;
 use std::alloc::AllocError;
 
-// Takes the entries of a clause out of the lists of pairs.
-fn leave_pairs(store: &ClauseStore, pairs: &mut WatchLists, k: u32)
-    requires vars { pairs.old.vars ≡ store.now.vars }
-    requires clause { k < length store.now.heads.items }
+// A clause of two literals was taken out: its entry in the list of one of them goes where half of the list is such entries.
+fn leave_list(store: &ClauseStore, pairs: &mut WatchLists, l: Lit)
+    requires lit { l.var ≤ pairs.old.vars }
     ensures vars { pairs.new.vars ≡ pairs.old.vars }
     ensures clauses { pairs.new.clauses ≡ pairs.old.clauses }
-    ensures keeps { (u : LitOf) (w : Watch) → Contains (row (rows_of pairs.old.vars pairs.old.lists.items) u) w → w.clause ≢ k
-        → Contains (row (rows_of pairs.new.vars pairs.new.lists.items) u) w }
-    ensures only { ((u : LitOf) (w : Watch) → Contains (row (rows_of pairs.old.vars pairs.old.lists.items) u) w
-        → PairFits (slots_of store.now.lits.items store.now.heads.items) store.now.heads.items u w)
-        → (u : LitOf) (w : Watch) → Contains (row (rows_of pairs.new.vars pairs.new.lists.items) u) w
-        → Contains (row (rows_of pairs.old.vars pairs.old.lists.items) u) w × (w.clause ≢ k) }
+    ensures sweeps { Sweeps (slots_of store.now.lits.items store.now.heads.items) (rows_of pairs.old.vars pairs.old.lists.items)
+        (rows_of pairs.new.vars pairs.new.lists.items) }
 {
-    let Head {
-        start,
-        left,
-        right,
-        ..
-    } = store.head(k);
-    if left == right {
-        return;
+    if pairs.count_stale(l) {
+        pairs.sweep(l, store);
     }
-    let end = store.end(k);
-    if end - start != 2 {
-        return;
-    }
-    pairs.leave(k, left, right);
 }
 
-// Takes a clause out: it watches nothing, and no pair names it.
+// The same for both literals that a clause of this size watches, if it is one of two literals.
+fn leave_pair(store: &ClauseStore, pairs: &mut WatchLists, size: u32, left: Lit, right: Lit)
+    requires left { left ≢ right → left.var ≤ pairs.old.vars }
+    requires right { left ≢ right → right.var ≤ pairs.old.vars }
+    ensures vars { pairs.new.vars ≡ pairs.old.vars }
+    ensures clauses { pairs.new.clauses ≡ pairs.old.clauses }
+    ensures sweeps { Sweeps (slots_of store.now.lits.items store.now.heads.items) (rows_of pairs.old.vars pairs.old.lists.items)
+        (rows_of pairs.new.vars pairs.new.lists.items) }
+{
+    if size == 2 && left != right {
+        leave_list(store, pairs, left);
+        leave_list(store, pairs, right);
+    }
+}
+
+// Takes a clause out: it watches nothing. Its entries stay in lists until those are visited, or half of a list is such entries.
 pub(crate) fn take_out(store: &mut ClauseStore, pairs: &mut WatchLists, k: u32)
     requires vars { pairs.old.vars ≡ store.old.vars }
     requires clause { k < length store.old.heads.items }
@@ -64,8 +63,15 @@ pub(crate) fn take_out(store: &mut ClauseStore, pairs: &mut WatchLists, k: u32)
         → IsKept p t (slot_at (slots_of store.old.lits.items store.old.heads.items) j) (slice_index_or store.old.heads.items j d))
         → AllKept p t (slots_of store.new.lits.items store.new.heads.items) store.new.heads.items }
 {
-    leave_pairs(store, pairs, k);
+    let Head {
+        start,
+        left,
+        right,
+        ..
+    } = store.head(k);
+    let size = store.end(k) - start;
     store.forget(k);
+    leave_pair(store, pairs, size, left, right);
 }
 
 // Enters a clause in the lists of pairs, if it is one, or else in those of longer clauses.

@@ -1,10 +1,11 @@
 // Watch lists.
 
-ghost use Rattle.std.specs.Prelude.{◌≡◌, ◌≢◌, ◌==◌, ◌+◌, ◌*◌, ◌<◌, ◌≤◌, ◌^◌, ◌++◌, ◌∷◌, [], not, length, All, IfOk, OnOk, OnErr, slice_set, filter, Contains};
+ghost use Rattle.std.specs.Prelude.{◌≡◌, ◌≢◌, ◌==◌, ◌+◌, ◌*◌, ◌<◌, ◌≤◌, ◌^◌, ◌++◌, ◌∷◌, [], length, All, IfOk, OnOk, OnErr, slice_set, Contains};
 ghost use Rattle.cnf_form.specs.Cnf.{LitOf, index_of};
-ghost use Rattle.unit_propagation.specs.Watch.{AreWatches, WatchFits, Enters, Leaves, rows_of, row};
+ghost use Rattle.unit_propagation.specs.Watch.{AreWatches, WatchFits, Enters, Sweeps, slots_of, rows_of, row};
 ghost use Rattle.unit_propagation.specs.declared.watch.Watch.{Watch};
 
+use crate::store::ClauseStore;
 use crate::watch::Watch;
 use cnf_form::Lit;
 use std::alloc::{AllocError, Global};
@@ -17,6 +18,8 @@ pub struct WatchLists {
     vars: u32,
     clauses: u32,
     lists: Vec<Vec<Watch>>,
+    // How many entries of each list are counted as those of clauses that were taken out: none from some place on.
+    stale: Vec<u32>,
     ghost sized: { length lists.items ≤ 2 * vars + 2 },
     ghost fit: { All (AreWatches vars clauses) lists.items },
 }
@@ -32,6 +35,7 @@ impl WatchLists {
             vars,
             clauses: 0,
             lists: Vec::new(alloc),
+            stale: Vec::new(alloc),
         }
     }
 
@@ -107,17 +111,36 @@ impl WatchLists {
         list[place] = Watch { clause, blocker };
     }
 
-    // Takes the entries of a clause out of the list of a literal.
-    pub fn remove(&mut self, l: Lit, clause: u32)
+    // Counts an entry of a literal's list, whose clause was taken out. Whether half of the list is counted, or there is no memory
+    // for counts; the count is 0 then.
+    pub fn count_stale(&mut self, l: Lit) -> bool
         requires lit { l.var ≤ self.old.vars }
         ensures vars { self.new.vars ≡ self.old.vars }
         ensures clauses { self.new.clauses ≡ self.old.clauses }
-        ensures rows { rows_of self.new.vars self.new.lists.items ≡ slice_set (rows_of self.old.vars self.old.lists.items) (index_of l)
-            (filter (λ w. not (w.clause == clause)) (row (rows_of self.old.vars self.old.lists.items) l)) }
+        ensures rows { self.new.lists ≡ self.old.lists }
+    {
+        let place = l.index();
+        if place >= self.stale.len() && self.stale.resize(place + 1, 0).is_err() {
+            return true;
+        }
+        let count = self.stale[place].saturating_add(1);
+        let size = self.lists.get(place).map_or(0, |list| list.len());
+        let is_half = count as usize >= size / 2;
+        self.stale[place] = if is_half { 0 } else { count };
+        is_half
+    }
+
+    // Takes the entries of clauses that were taken out out of the list of a literal.
+    pub fn sweep(&mut self, l: Lit, store: &ClauseStore)
+        requires lit { l.var ≤ self.old.vars }
+        ensures vars { self.new.vars ≡ self.old.vars }
+        ensures clauses { self.new.clauses ≡ self.old.clauses }
+        ensures rows { Sweeps (slots_of store.now.lits.items store.now.heads.items) (rows_of self.old.vars self.old.lists.items)
+            (rows_of self.new.vars self.new.lists.items) }
     {
         let place = l.index();
         if place < self.lists.len() {
-            self.lists[place].retain(move |w| w.clause != clause);
+            self.lists[place].retain(|w| store.has(w.clause));
         }
     }
 
@@ -168,17 +191,5 @@ impl WatchLists {
         self.push(left, clause, right)?;
         self.push(right, clause, left)?;
         Ok(())
-    }
-
-    // Takes a clause out of the lists of two literals.
-    pub fn leave(&mut self, clause: u32, left: Lit, right: Lit)
-        requires left { left.var ≤ self.old.vars }
-        requires right { right.var ≤ self.old.vars }
-        ensures vars { self.new.vars ≡ self.old.vars }
-        ensures clauses { self.new.clauses ≡ self.old.clauses }
-        ensures leaves { Leaves (rows_of self.old.vars self.old.lists.items) (rows_of self.new.vars self.new.lists.items) clause left right }
-    {
-        self.remove(left, clause);
-        self.remove(right, clause);
     }
 }

@@ -71,7 +71,7 @@ impl Propagator {
         requires { vars ≤ MAX_VARS }
         ensures { IfOk result (λ p. p ≡ record { vars = vars; slots = []; trail = []; limits = []; conflict = false }) }
     {
-        let trail = Trail::new(alloc, vars)?;
+        let trail = Trail::new(alloc, vars);
         Ok(Propagator {
             alloc,
             vars,

@@ -1,6 +1,6 @@
 // Clauses: their literals in one list, one clause after the other, and a head for each.
 
-ghost use Rattle.std.specs.Prelude.{◌≡◌, ◌≢◌, ◌+◌, ◌<◌, ◌≤◌, ◌^◌, ◌++◌, ◌∷◌, [], length, All, OnOk, OnErr, IfSome, IfNone, Some, None, slice_index_or, slice_range, slice_set};
+ghost use Rattle.std.specs.Prelude.{◌≡◌, ◌≢◌, ◌+◌, ◌<◌, ◌≤◌, ◌^◌, ◌++◌, ◌∷◌, [], length, All, OnOk, OnErr, IfSome, IfNone, Some, None, is_some, slice_index_or, slice_range, slice_set};
 ghost use Rattle.cnf_form.specs.Cnf.{LitOf};
 ghost use Rattle.unit_propagation.specs.Marks.{IsBelow};
 ghost use Rattle.unit_propagation.specs.Watch.{HeadFits, HeadsFit, end_of, slot_of, slots_of};
@@ -53,6 +53,17 @@ impl ClauseStore {
             ≡ slot_of self.now.lits.items (end_of (length self.now.lits.items) self.now.heads.items k) result }
     {
         self.heads[k as usize]
+    }
+
+    // Whether there is a clause with a number that wasn't taken out.
+    #[inline(always)]
+    pub fn has(&self, k: u32) -> bool
+        ensures { result ≡ is_some (slot_at (slots_of self.now.lits.items self.now.heads.items) k) }
+    {
+        match self.heads.get(k as usize) {
+            Some(head) => head.from != GONE,
+            None => false,
+        }
     }
 
     // Where the literals of a clause end.

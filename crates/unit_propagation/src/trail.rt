@@ -1,9 +1,10 @@
 // The literals that are true, in the order in which they became so.
 
-ghost use Rattle.std.specs.Prelude.{◌≡◌, ◌↔◌, ◌+◌, ◌-◌, ◌*◌, ◌<◌, ◌≤◌, ◌^◌, ◌++◌, ◌∷◌, [], IsTrue, IfOk, OnOk, OnErr, length, take, All, Contains, slice_get, Some};
-ghost use Rattle.cnf_form.specs.Cnf.{LitOf, negate};
-ghost use Rattle.unit_propagation.specs.Marks.{IsBelow, IsDistinct, Shows};
+ghost use Rattle.std.specs.Prelude.{ℕ, ◌≡◌, ◌↔◌, ◌+◌, ◌-◌, ◌*◌, ◌<◌, ◌≤◌, ◌^◌, ◌++◌, ◌∷◌, [], false, replicate, IsTrue, IfOk, OnOk, OnErr, length, take, All, Contains, slice_get, Some};
+ghost use Rattle.cnf_form.specs.Cnf.{LitOf, negate, index_of};
+ghost use Rattle.unit_propagation.specs.Marks.{is_marked, IsBelow, IsDistinct, Shows};
 ghost use Rattle.unit_propagation.specs.Propagation.{IsConsistent, IsOpen};
+ghost use Rattle.unit_propagation.specs.declared.watch.TheConstants.{GONE};
 ghost use Rattle.unit_propagation.specs.declared.watch.Origin.{Origin};
 
 use crate::watch::{GONE, Origin};
@@ -11,12 +12,48 @@ use cnf_form::Lit;
 use std::alloc::{AllocError, Global};
 use std::marker::Model;
 
+// The tables reach as far as the highest variable that was true.
 #[derive(Drop)]
 pub struct Trail {
     vars: u32,
+    // By the place of a literal: whether it is true.
     marks: Vec<bool>,
     origins: Vec<Origin>,
     lits: Vec<Lit>,
+}
+
+// Whether a literal is marked in a table, which has no mark past its end.
+#[inline(always)]
+pub fn is_marked(marks: &[bool], l: Lit) -> bool
+    ensures { result ≡ is_marked marks.now l }
+{
+    match marks.get(l.index()) {
+        Some(mark) => *mark,
+        None => false,
+    }
+}
+
+// Makes the tables reach as far as the variable of a literal.
+#[inline(always)]
+fn reach(marks: &mut Vec<bool>, origins: &mut Vec<Origin>, l: Lit) -> Result<(), AllocError>
+    ensures marks { (n : ℕ) × (marks.new.items ≡ marks.old.items ++ replicate n false) }
+    ensures origins { (n : ℕ) × (origins.new.items ≡ origins.old.items ++ replicate n (record { place = 0; reason = GONE })) }
+    ensures room { (vars : ℕ) → l.var ≤ vars → length marks.old.items ≤ 2 * vars + 2 → length marks.new.items ≤ 2 * vars + 2 }
+    ensures places { OnOk result (index_of l < length marks.new.items) }
+    ensures vars { OnOk result (l.var < length origins.new.items) }
+{
+    let var = l.var() as usize;
+    if l.index() >= marks.len() {
+        marks.resize(2 * var + 2, false)?;
+    }
+    if var >= origins.len() {
+        let origin = Origin {
+            place: 0,
+            reason: GONE,
+        };
+        origins.resize(var + 1, origin)?;
+    }
+    Ok(())
 }
 
 impl Model for Trail {
@@ -26,33 +63,27 @@ impl Model for Trail {
 
     ghost view = { λ t. record { vars = t.vars; lits = t.lits.items } };
 
-    ghost invariant = { λ t. IsTrail t.vars t.marks.items t.lits.items × IsPlaced t.vars t.origins.items t.lits.items };
+    ghost invariant = { λ t. IsTrail t.vars t.marks.items t.lits.items × IsPlaced t.origins.items t.lits.items };
 }
 
 impl Trail {
-    pub fn new(alloc: Global, vars: u32) -> Result<Self, AllocError>
+    pub fn new(alloc: Global, vars: u32) -> Self
         requires { vars ≤ 2 ^ 27 }
-        ensures { IfOk result (λ t. t ≡ record { vars = vars; lits = [] }) }
+        ensures { result ≡ record { vars = vars; lits = [] } }
     {
-        let marks = vec![in alloc; false; 2 * vars as usize + 2]?;
-        let origin = Origin {
-            place: 0,
-            reason: GONE,
-        };
-        let origins = vec![in alloc; origin; vars as usize + 1]?;
-        Ok(Trail {
+        Trail {
             vars,
-            marks,
-            origins,
+            marks: Vec::new(alloc),
+            origins: Vec::new(alloc),
             lits: Vec::new(alloc),
-        })
+        }
     }
 
     // The same literals, of which no clause is told.
     pub fn again(&self, alloc: Global) -> Result<Self, AllocError>
         ensures { IfOk result (λ t. t ≡ self.now) }
     {
-        let mut trail = Trail::new(alloc, self.vars)?;
+        let mut trail = Trail::new(alloc, self.vars);
         let lits = self.lits();
         for place in 0..lits.len() {
             trail.assign(lits[place], GONE)?;
@@ -65,14 +96,13 @@ impl Trail {
         requires { l.var ≤ self.now.vars }
         ensures { IsTrue result ↔ Contains self.now.lits l }
     {
-        self.marks[l.index()]
+        is_marked(&self.marks, l)
     }
 
-    // By the place of a literal: whether it is true.
+    // By the place of a literal: whether it is true. Those from some place on aren't.
     #[inline(always)]
     pub fn marks(&self) -> &[bool]
         ensures shows { Shows result.now self.now.lits }
-        ensures length { length result.now ≡ 2 * self.now.vars + 2 }
     {
         self.marks.as_slice()
     }
@@ -86,6 +116,7 @@ impl Trail {
         ensures err { OnErr result (self.new ≡ self.old) }
     {
         let place = self.len() as u32;
+        reach(&mut self.marks, &mut self.origins, l)?;
         self.lits.push(l)?;
         self.marks[l.index()] = true;
         self.origins[l.var() as usize] = Origin { place, reason };
@@ -126,7 +157,10 @@ impl Trail {
     pub fn reason(&self, l: Lit) -> u32
         requires { l.var ≤ self.now.vars }
     {
-        self.origins[l.var() as usize].reason
+        match self.origins.get(l.var() as usize) {
+            Some(origin) => origin.reason,
+            None => GONE,
+        }
     }
 
     // The literals in order.

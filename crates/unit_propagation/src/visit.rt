@@ -11,7 +11,7 @@ ghost use Rattle.unit_propagation.specs.declared.watch.Head.{Head};
 
 use crate::lists::WatchLists;
 use crate::store::ClauseStore;
-use crate::trail::Trail;
+use crate::trail::{Trail, is_marked};
 use crate::watch::{Head, Watch};
 use cnf_form::Lit;
 
@@ -51,7 +51,6 @@ pub(crate) struct Visits {
 // The place of a literal other than this one that is not false.
 #[inline(always)]
 fn place_of_open(clause: &[Lit], other: Lit, marks: &[bool]) -> Option<usize>
-    requires { All (λ l. 2 * l.var + 1 < length marks.now) clause.now }
     ensures within { IfSome result (λ k. k < length clause.now) }
     ensures found { (t : List LitOf) → Shows marks.now t → IfSome result (λ k. (d : LitOf)
         → (slice_index_or clause.now k d ≢ other) × (Contains t (negate (slice_index_or clause.now k d)) → ⊥)) }
@@ -59,7 +58,7 @@ fn place_of_open(clause: &[Lit], other: Lit, marks: &[bool]) -> Option<usize>
 {
     for k in 0..clause.len() {
         let m = clause[k];
-        if !marks[m.negate().index()] {
+        if !is_marked(marks, m.negate()) {
             if m != other {
                 return Some(k);
             }
@@ -72,7 +71,6 @@ fn place_of_open(clause: &[Lit], other: Lit, marks: &[bool]) -> Option<usize>
 #[inline(always)]
 fn find_open(clause: &[Lit], from: usize, other: Lit, marks: &[bool]) -> Option<usize>
     requires from { from ≤ length clause.now }
-    requires places { All (λ l. 2 * l.var + 1 < length marks.now) clause.now }
     ensures within { IfSome result (λ k. k < length clause.now) }
     ensures found { (t : List LitOf) → Shows marks.now t → IfSome result (λ k. (d : LitOf)
         → (slice_index_or clause.now k d ≢ other) × (Contains t (negate (slice_index_or clause.now k d)) → ⊥)) }
@@ -117,7 +115,7 @@ fn look_at(store: &ClauseStore, k: u32, head: Head, trail: &Trail, falsified: Li
         return Visit::Stale;
     };
     let marks = trail.marks();
-    if marks[other.index()] {
+    if is_marked(marks, other) {
         return Visit::Keep(other);
     }
     let lits = store.lits();
@@ -127,7 +125,7 @@ fn look_at(store: &ClauseStore, k: u32, head: Head, trail: &Trail, falsified: Li
         // The next search begins after the new watch.
         Some(k) => Visit::Move(head.start + k as u32 + 1, clause[k], other),
         None => {
-            if marks[other.negate().index()] {
+            if is_marked(marks, other.negate()) {
                 Visit::Falsify(other)
             } else {
                 Visit::Assign(other)

@@ -3,9 +3,9 @@
 ghost use Rattle.std.specs.Prelude.{ℕ, ◌≡◌, ◌≢◌, ◌⊎◌, ◌+◌, ◌*◌, ◌<◌, ◌≤◌, ◌++◌, ◌∷◌, [], List, Option, length, take, Contains, All, IfOk, IfSome, IfNone, Some, None, slice_index_or};
 ghost use Rattle.cnf_form.specs.Cnf.{LitOf, negate};
 ghost use Rattle.unit_propagation.specs.Watch.{WatchFits, slots_of, rows_of, row};
-ghost use Rattle.unit_propagation.specs.Visit.{State, AllKept, IsVisited, IsPending, StopFits, PairFits, IsFiled, Walks, EndFits, ImpliedFits, PairsFit, SettleFits};
+ghost use Rattle.unit_propagation.specs.Visit.{State, AllKept, IsVisited, IsPending, StopFits, PairFits, IsFiled, Walks, EndFits, ImpliedFits, AllImplied, PairsFit, SettleFits};
 ghost use Rattle.unit_propagation.specs.Propagation.{IsOpen, Propagates};
-ghost use Rattle.unit_propagation.specs.Propagator.{clauses_of};
+ghost use Rattle.unit_propagation.specs.Propagator.{slot_at, clauses_of};
 ghost use Rattle.unit_propagation.specs.declared.watch.Head.{Head};
 ghost use Rattle.unit_propagation.specs.declared.watch.Watch.{Watch};
 
@@ -27,6 +27,9 @@ fn keep_rest(lists: &WatchLists, list: &mut [Watch], kept: usize, from: usize) -
     ensures step { (slots : List (Option (List LitOf))) (start s : State) (f : LitOf) → IsVisited slots start s f list.old kept from
         → IsVisited slots start s f list.new result (length list.old) }
 {
+    if kept == from {
+        return list.len();
+    }
     let mut kept = kept;
     for k in from..list.len() {
         let Watch { clause, blocker } = list[k];
@@ -81,15 +84,19 @@ fn visit_list(
     Visits { kept, stop: None }
 }
 
-// Makes the other literal of a clause of two true, since the one is false.
+// Makes the other literal of a clause of two true, since the one is false, unless the clause was taken out.
 #[inline(always)]
-fn imply(trail: &mut Trail, clause: u32, blocker: Lit) -> Option<Stop>
+fn imply(store: &ClauseStore, trail: &mut Trail, clause: u32, blocker: Lit) -> Option<Stop>
     requires { blocker.var ≤ trail.old.vars }
     ensures vars { trail.new.vars ≡ trail.old.vars }
-    ensures grown { (trail.new.lits ≡ trail.old.lits) ⊎ (IsOpen trail.old.lits blocker × (trail.new.lits ≡ trail.old.lits ++ blocker ∷ [])) }
-    ensures ends { ImpliedFits trail.old.lits trail.new.lits clause blocker result }
+    ensures grown { (trail.new.lits ≡ trail.old.lits) ⊎ (((c : List LitOf) × (slot_at (slots_of store.now.lits.items store.now.heads.items) clause ≡ Some c))
+        × IsOpen trail.old.lits blocker × (trail.new.lits ≡ trail.old.lits ++ blocker ∷ [])) }
+    ensures ends { ImpliedFits (slots_of store.now.lits.items store.now.heads.items) trail.old.lits trail.new.lits clause blocker result }
 {
     if trail.is_true(blocker) {
+        return None;
+    }
+    if !store.has(clause) {
         return None;
     }
     if trail.is_true(blocker.negate()) {
@@ -102,19 +109,24 @@ fn imply(trail: &mut Trail, clause: u32, blocker: Lit) -> Option<Stop>
 }
 
 // Goes through the clauses of two literals that have a false one.
-fn visit_pairs(pairs: &WatchLists, trail: &mut Trail, falsified: Lit) -> Option<Stop>
+fn visit_pairs(
+    store: &ClauseStore,
+    pairs: &WatchLists,
+    trail: &mut Trail,
+    falsified: Lit,
+) -> Option<Stop>
     requires vars { pairs.now.vars ≡ trail.old.vars }
     requires lit { falsified.var ≤ trail.old.vars }
     ensures vars { trail.new.vars ≡ trail.old.vars }
-    ensures step { (slots : List (Option (List LitOf))) (heads : List Head)
-        → let list = row (rows_of pairs.now.vars pairs.now.lists.items) falsified in
-        ((w : Watch) → Contains list w → PairFits slots heads falsified w) → Contains trail.old.lits (negate falsified)
+    ensures step { let slots = slots_of store.now.lits.items store.now.heads.items in
+        let list = row (rows_of pairs.now.vars pairs.now.lists.items) falsified in
+        ((w : Watch) → Contains list w → PairFits slots store.now.heads.items falsified w) → Contains trail.old.lits (negate falsified)
         → Propagates (clauses_of slots) trail.old.lits trail.new.lits × PairsFit slots list trail.new.lits result }
 {
     let list = pairs.entries(falsified);
     for k in 0..list.len() {
         let Watch { clause, blocker } = list[k];
-        let stop = imply(trail, clause, blocker);
+        let stop = imply(store, trail, clause, blocker);
         if stop.is_some() {
             return stop;
         }
@@ -145,7 +157,7 @@ fn visit_long(
         let new : State = record { heads = store.new.heads.items; rows = rows_of lists.new.vars lists.new.lists.items; trail = trail.new.lits } in
         IsFiled slots old pairs → AllKept p old.trail slots old.heads
         → ((l : LitOf) → Contains (p ++ negate falsified ∷ []) l → Contains old.trail l)
-        → ((w : Watch) → Contains (row pairs falsified) w → Contains old.trail w.blocker)
+        → AllImplied slots (row pairs falsified) old.trail
         → Walks slots pairs old new × EndFits (p ++ negate falsified ∷ []) slots new result }
 {
     let mut list = lists.take(falsified);
@@ -182,7 +194,7 @@ fn visit_literal(
         → ((l : LitOf) → Contains (p ++ negate falsified ∷ []) l → Contains old.trail l)
         → Walks slots (rows_of pairs.now.vars pairs.now.lists.items) old new × EndFits (p ++ negate falsified ∷ []) slots new result }
 {
-    let stop = visit_pairs(pairs, trail, falsified);
+    let stop = visit_pairs(store, pairs, trail, falsified);
     if stop.is_some() {
         return stop;
     }

@@ -1,9 +1,12 @@
 // Runs of wires alone, written and read.
 
+ghost use Rattle.std.specs.Prelude.{◌≤◌};
+ghost use Rattle.design_meaning.specs.Runs.{IsRunOf, shown_of};
+
 use crate::tests::flat_of;
 use design_check::flat::Flat;
 use design_meaning::run::{Cycle, Row, Run};
-use design_trace::{cycle_text, read_text, text, vcd, vcd_cycle, vcd_end, vcd_head};
+use design_trace::{VcdText, Waveform, cycle_text, read_text, text};
 use std::alloc::{AllocError, Global};
 use std::test::Fail;
 
@@ -34,11 +37,59 @@ fn run_of(alloc: Global, rows: &[[bool; 3]]) -> Result<Run, Fail> {
     Ok(run)
 }
 
+// What the wires of a run have.
+#[derive(Drop)]
+struct Wires<'a> {
+    run: &'a Run,
+}
+
+impl<'a> Waveform for Wires<'a> {
+    ghost rows = { λ w. shown_of w.run.now };
+
+    #[tactic(auto, using(design_trace::proofs::Lines::shown_length))]
+    fn cycles(&self) -> usize {
+        self.run.cycles().len()
+    }
+
+    #[tactic(auto, using(design_trace::proofs::Lines::shown_length, crate::proofs::Shown::shown_row))]
+    fn bit(&self, cycle: usize, place: u32) -> bool {
+        self.run.cycles()[cycle].wires()[place as usize]
+    }
+}
+
+// The trace file of a run, got by pieces of this many bytes.
+#[tactic(auto, using(design_trace::proofs::Lines::shown_fits))]
+fn trace_file(alloc: Global, flat: &Flat, run: &Run, most: usize) -> Result<Vec<u8>, AllocError>
+    requires run { IsRunOf flat.now run.now }
+    requires most { most ≤ 64 }
+{
+    let mut text = VcdText::new(flat, Wires { run });
+    let mut buffer = [0u8; 64];
+    let mut bytes = Vec::new(alloc);
+    for _ in 0..1000 {
+        let count = text.next(&mut buffer[..most]);
+        bytes.extend_from_slice(&buffer[..count])?;
+    }
+    Ok(bytes)
+}
+
+// Whether the trace file of a run is this one, by pieces of each length.
+fn is_trace_file(alloc: Global, flat: &Flat, run: &Run, want: &str) -> Result<bool, AllocError>
+    requires { IsRunOf flat.now run.now }
+{
+    for most in 1..65 {
+        if trace_file(alloc, flat, run, most)?.as_slice() != want.as_bytes() {
+            return Ok(false);
+        }
+    }
+    Ok(true)
+}
+
 fn is_written(alloc: Global, flat: &Flat, run: &Run) -> Result<bool, AllocError> {
     Ok(
         flat.fits(run)
             && text(alloc, flat, run)?.as_slice() == TRACE.as_bytes()
-            && vcd(alloc, flat, run)?.as_slice() == CHANGES.as_bytes(),
+            && is_trace_file(alloc, flat, run, CHANGES)?,
     )
 }
 
@@ -66,12 +117,13 @@ fn a_run_is_written_and_read(rt: HostRuntime) -> Result<(), Fail> {
     Ok(())
 }
 
-// The head of a trace file of a wire of three bits and one of one.
-const VCD_HEAD: &str =
-    "$scope module t $end\n$var wire 3 w0 c $end\n$var wire 1 w1 d $end\n$upscope $end\n$enddefinitions $end\n";
+// A run of one cycle of a wire of three bits and one of one as a trace file.
+const WIDE_CHANGES: &str =
+    "$scope module t $end\n$var wire 3 w0 c $end\n$var wire 1 w1 d $end\n$upscope $end\n$enddefinitions $end\n\
+#0\nb011 w0\n1w1\n#1\n";
 
-// The pieces of a run's text and of its trace file.
-fn pieces_of(alloc: Global, flat: &Flat, run: &Run) -> Result<bool, AllocError> {
+// Whether the run's text and its trace file are these.
+fn is_wide_written(alloc: Global, flat: &Flat, run: &Run) -> Result<bool, AllocError> {
     let [cycle] = run.cycles() else {
         return Ok(false);
     };
@@ -79,9 +131,7 @@ fn pieces_of(alloc: Global, flat: &Flat, run: &Run) -> Result<bool, AllocError> 
         flat.fits(run)
             && cycle_text(alloc, flat, cycle, 0)?.as_slice()
                 == b"cycle 0\n\\c 011\n\\d 1\n".as_slice()
-            && vcd_head(alloc, flat)?.as_slice() == VCD_HEAD.as_bytes()
-            && vcd_cycle(alloc, flat, cycle, 0)?.as_slice() == b"#0\nb011 w0\n1w1\n".as_slice()
-            && vcd_end(alloc, 1)?.as_slice() == b"#1\n".as_slice(),
+            && is_trace_file(alloc, flat, run, WIDE_CHANGES)?,
     )
 }
 
@@ -90,7 +140,7 @@ fn bits_are_written_highest_first(rt: HostRuntime) -> Result<(), Fail> {
     let flat = flat_of(rt.alloc(), r"module \t wire width 3 \c wire \d end")?;
     let mut run = Run::new(rt.alloc());
     run.push(cycle_of(rt.alloc(), &[true, true, false, true])?)?;
-    assert!(rt; pieces_of(rt.alloc(), &flat, &run)?);
+    assert!(rt; is_wide_written(rt.alloc(), &flat, &run)?);
     Ok(())
 }
 

@@ -75,6 +75,31 @@ const NARROW_SUM: &str = r"module \t
   cell $assert \a0 connect \A \y connect \EN 1'1 end
 ";
 
+// A register of four bits, of which the second alone is asserted, and a register of one bit.
+const WIDE_REGISTER: &str = r"module \t
+  wire input 1 \clk
+  wire width 4 input 2 \a
+  attribute \init 4'0010
+  wire width 4 \q
+  cell $dff $r
+    parameter \CLK_POLARITY 1'1 parameter \WIDTH 4
+    connect \CLK \clk connect \D \a connect \Q \q
+  end
+  cell $assert \a0 connect \A \q [1] connect \EN 1'1 end
+";
+
+const NARROW_REGISTER: &str = r"module \t
+  wire input 1 \clk
+  wire input 2 \a
+  attribute \init 1'1
+  wire \q
+  cell $dff $r
+    parameter \CLK_POLARITY 1'1 parameter \WIDTH 1
+    connect \CLK \clk connect \D \a connect \Q \q
+  end
+  cell $assert \a0 connect \A \q connect \EN 1'1 end
+";
+
 // The text of the formula of Base over two cycles of the design in these parts.
 fn base_of(alloc: Global, parts: &[&str]) -> Result<Vec<u8>, Fail> {
     let mut text = String::new(alloc);
@@ -109,6 +134,15 @@ fn gates_that_no_goal_rests_on_are_left_out(rt: HostRuntime) -> Result<(), Fail>
     let alloc = rt.alloc();
     let wide = base_of(alloc, &[WIDE_SUM, END])?;
     let narrow = base_of(alloc, &[NARROW_SUM, END])?;
+    assert!(rt; wide == narrow);
+    Ok(())
+}
+
+#[test]
+fn bits_of_a_register_that_are_not_asked_are_left_out(rt: HostRuntime) -> Result<(), Fail> {
+    let alloc = rt.alloc();
+    let wide = base_of(alloc, &[WIDE_REGISTER, END])?;
+    let narrow = base_of(alloc, &[NARROW_REGISTER, END])?;
     assert!(rt; wide == narrow);
     Ok(())
 }

@@ -102,7 +102,11 @@ fn told(alloc: Global, outcome: Option<Outcome>, values: &[bool]) -> Result<Stri
     }
 }
 
-fn outcome_of(judge: &mut Judge, front: &[u8], back: &[u8]) -> Result<Outcome, AllocError> {
+fn outcome_of(
+    judge: &mut Judge<Formula>,
+    front: &[u8],
+    back: &[u8],
+) -> Result<Outcome, AllocError> {
     judge.feed(front)?;
     judge.feed(back)?;
     judge.end()
@@ -125,7 +129,7 @@ pub fn stream_told(
 }
 
 fn end_of(
-    judge: &mut OutputJudge,
+    judge: &mut OutputJudge<Formula>,
     front: &[u8],
     back: &[u8],
 ) -> Result<Option<Outcome>, AllocError> {
@@ -281,30 +285,5 @@ fn takes_two_hundred_hints_and_the_greatest_id(rt: HostRuntime) -> Result<(), Fa
     text.push_str("9223372036854775808 200 0 1 0\n")?;
     let wanted = format!(in alloc; "BadLiteral {}", end.saturating_add(18))?;
     assert_eq!(rt; hinted_told(alloc, &formula, text.as_str())?, wanted);
-    Ok(())
-}
-
-// A clause that the formula has a literal of as a unit, added this many times, and each copy deleted.
-fn copies(alloc: Global, count: u32) -> Result<String, AllocError> {
-    let mut text = String::new(alloc);
-    for _ in 0..count {
-        text.push_str("5 6 0\n")?;
-    }
-    for _ in 0..count {
-        text.push_str("d 5 6 0\n")?;
-    }
-    Ok(text)
-}
-
-// Endless where a deleted copy is passed again by each later deletion.
-#[test]
-fn a_hundred_thousand_copies_are_deleted(rt: HostRuntime) -> Result<(), Fail> {
-    let alloc = rt.alloc();
-    let formula = formula_of(alloc, "p cnf 6 2\n5 0\n1 2 0\n")?;
-    let text = copies(alloc, 100_000)?;
-    let wanted = format!(in alloc; "EarlyEnd {}", text.len())?;
-    let pieces = (text.as_bytes(), text.as_bytes().split_at(0).0);
-    let told = stream_told(alloc, &formula, StreamKind::Drup, 1 << 24, pieces)?;
-    assert_eq!(rt; told, wanted);
     Ok(())
 }

@@ -8,7 +8,7 @@ use Rattle.cert_judge.proofs.LineCalls.{drup_end}
 use Rattle.cert_judge.proofs.lines.end_drup.Goals as goal
 
 pub returns-clause-leads : goal.returns-clause-leads
-returns-clause-leads c =
+returns-clause-leads g c =
     subst (λ (l : LineOf DrupOf CheckerOf). Leads drup_meaning l.certificate (drup_ending l.parser) c.conclude.new.self) c.line.view_is
     (drup_end c.line.inside.parser c.line.inside.parser c.line.inside.certificate c.end.new.receiver c.conclude.new.self c.in_ok-fed.fed
     (ap (λ (l : LineOf DrupOf CheckerOf). l.certificate.outcome) c.line.view_is ∙ c.requires.open) c.conclude.ensures c.in_ok-fed.ensures.told c.in_ok-fed.ensures.answer)

@@ -8,7 +8,7 @@ use Rattle.cert_judge.proofs.LineCalls.{file_end}
 use Rattle.cert_judge.proofs.lines.end_file_lines.Goals as goal
 
 pub returns-clause-leads : goal.returns-clause-leads
-returns-clause-leads c =
+returns-clause-leads g c =
     subst (λ (l : LineOf FileOf CheckerOf). Leads drup_meaning l.certificate (file_ending l.parser) c.conclude.new.self) c.line.view_is
     (file_end c.line.inside.parser c.line.inside.parser c.line.inside.certificate c.end.new.receiver c.conclude.new.self c.in_ok-fed.fed
     (ap (λ (l : LineOf FileOf CheckerOf). l.certificate.outcome) c.line.view_is ∙ c.requires.open) c.conclude.ensures c.in_ok-fed.ensures.told c.in_ok-fed.ensures.answer)

@@ -2,6 +2,6 @@ use Rattle.cert_judge.proofs.Starting.{lrat_starts}
 use Rattle.cert_judge.proofs.lines.new_lrat.Goals as goal
 
 pub returns : goal.returns
-returns c =
+returns g c =
     let e = c.in_ok-certificate.ensures in
-    lrat_starts c.args.formula c.vars.result c.vars.ensures.vars c.new-parser.result c.in_ok-certificate.certificate c.new-parser.ensures e.formula e.checker e.size e.unnamed e.undecided
+    lrat_starts _ (g.S.ClauseSource.formula c.args.source) c.vars.result c.vars.ensures.vars c.new-parser.result c.in_ok-certificate.certificate c.new-parser.ensures e.formula e.checker e.size e.unnamed e.undecided

@@ -2,6 +2,6 @@ use Rattle.cert_judge.proofs.Starting.{proof_starts}
 use Rattle.cert_judge.proofs.lines.new_proof.Goals as goal
 
 pub returns : goal.returns
-returns c =
+returns g c =
     let e = c.in_ok-certificate.ensures in
-    proof_starts c.args.formula c.vars.result c.vars.ensures.vars c.new-parser.result c.in_ok-certificate.certificate e.formula e.checker e.size e.unnamed e.undecided c.new-parser.ensures
+    proof_starts _ (g.S.ClauseSource.formula c.args.source) c.vars.result c.vars.ensures.vars c.new-parser.result c.in_ok-certificate.certificate e.formula e.checker e.size e.unnamed e.undecided c.new-parser.ensures

@@ -8,7 +8,7 @@ use Rattle.cert_judge.proofs.LineCalls.{drup_piece}
 use Rattle.cert_judge.proofs.lines.take_drup.Goals as goal
 
 pub returns-clause-heard : goal.returns-clause-heard
-returns-clause-heard c =
+returns-clause-heard g c =
     subst (λ (l : LineOf DrupOf CheckerOf). Heard drup_parsing drup_meaning l.parser l.certificate c.args.piece.now c.feed.new.self c.conclude.new.self) c.line.view_is
     (drup_piece c.line.inside.parser c.feed.new.self c.line.inside.certificate c.feed.new.receiver c.conclude.new.self c.in_ok-fed.fed
     (ap (λ (l : LineOf DrupOf CheckerOf). l.certificate.outcome) c.line.view_is ∙ c.requires.open) c.conclude.ensures c.args.piece.now c.in_ok-fed.ensures.told c.in_ok-fed.ensures.kept c.in_ok-fed.ensures.answer)

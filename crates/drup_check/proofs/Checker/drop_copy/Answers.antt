@@ -3,9 +3,9 @@ use Rattle.cnf_form.specs.Cnf.{Conflict, IsReason, Deletes}
 use Rattle.unit_propagation.specs.Propagator.{PropagatorOf, clauses_of}
 use Rattle.std.proofs.lemmas.Bool.{both_ways}
 use Rattle.drup_check.specs.Checking.{CheckerOf}
-use Rattle.drup_check.proofs.Weights.{freed_back}
+use Rattle.drup_check.proofs.Weights.{freed_back, free_less}
 use Rattle.drup_check.proofs.Decisions.{conflict_from, no_conflict}
-use Rattle.drup_check.proofs.Present.{root_without, filed_without, deletes_without}
+use Rattle.drup_check.proofs.Present.{root_without, filed_without, less_without, deletes_without}
 use Rattle.drup_check.proofs.Checker.drop_copy.Goals as goal
 
 pub returns-then-conflict-clause-deleted : goal.returns-then-conflict-clause-deleted
@@ -45,10 +45,11 @@ invariant_of-self-2 c =
     let b : length c.find_clause.new.marks ≡ length marks.items = search rules in
     let a' : others.len ≡ length others.items = search rules in
     let b' : length c.find_clause.new.others ≡ length others.items = search rules in
+    let less = less_without p c.in-Some.found c.args.clause.now d.0 d.1 d.2 in
     rw c.take_out.ensures (
       root_without p c.in-Some.found c.args.clause.now d.0 d.1 d.2 i.0 e kept,
-      freed_back p.vars marks.items c.find_clause.new.marks marks.len a b s.free,
-      freed_back p.vars others.items c.find_clause.new.others others.len a' b' s.others_free,
+      freed_back _ marks.items c.find_clause.new.marks marks.len a b (free_less (clauses_of p.slots) _ _ less s.free),
+      freed_back _ others.items c.find_clause.new.others others.len a' b' (free_less (clauses_of p.slots) _ _ less s.others_free),
       filed_without p c.in-Some.found c.args.clause.now d.0 d.1 d.2 _ (s.filed i.3),
     )
 

@@ -1,11 +1,12 @@
 use Rattle.std.proofs.Common.{◌≡◌, ◌<◌, ◌+◌, ◌++◌, ◌∷◌, [], length, sym, subst, ap, ◌∙◌, arith, rules}
 use Rattle.std.proofs.lemmas.List.{length_push}
 use Rattle.std.proofs.lemmas.Result.{err_from_is_err_and}
+use Rattle.unit_propagation.specs.Marks.{Shows}
 use Rattle.unit_propagation.specs.Propagator.{PropagatorOf, clauses_of}
 use Rattle.drup_check.specs.Copies.{CopiesOf}
-use Rattle.drup_check.specs.Inside.{IsFiled}
+use Rattle.drup_check.specs.Inside.{IsFree, IsFiled}
 use Rattle.drup_check.specs.Checking.{CheckerOf}
-use Rattle.drup_check.proofs.Weights.{free_back}
+use Rattle.drup_check.proofs.Weights.{free_back, free_same, places_back}
 use Rattle.drup_check.proofs.Chains.{holds_push}
 use Rattle.drup_check.proofs.Present.{checker_wanting, checker_put, checker_of, clauses_wanting, clauses_push}
 use Rattle.drup_check.proofs.Checker.keep.Goals as goal
@@ -13,27 +14,73 @@ use Rattle.drup_check.proofs.Checker.keep.Goals as goal
 pub invariant_of-self : goal.invariant_of-self
 invariant_of-self c =
     let i = c.self.invariant in
+    let core = c.self.inside.core in
+    let F = clauses_of core.slots in
+    let r = c.reach_both.ensures in
+    let marks = c.reach_both.new.marks in
+    let others = c.reach_both.new.others in
+    let m = i.1 in
+    let o = i.2 in
+    let free : IsFree F marks.items = free_same F c.self.inside.marks.items marks.items r.longer m (r.clear m.clear) in
+    let others_free : IsFree F others.items = free_same F c.self.inside.others.items others.items r.others_longer o (r.others_clear o.clear) in
+    (i.0, free, others_free, i.3)
+
+pub weigh-weight-requires-clause-clear : goal.weigh-weight-requires-clause-clear
+weigh-weight-requires-clause-clear c =
+    let i = c.self.invariant in
+    let core = c.self.inside.core in
+    let F = clauses_of core.slots in
+    let r = c.reach_both.ensures in
+    let marks = c.reach_both.new.marks in
+    let others = c.reach_both.new.others in
+    let m = i.1 in
+    let o = i.2 in
+    let free : IsFree F marks.items = free_same F c.self.inside.marks.items marks.items r.longer m (r.clear m.clear) in
+    let others_free : IsFree F others.items = free_same F c.self.inside.others.items others.items r.others_longer o (r.others_clear o.clear) in
+    let same : marks.items ≡ c.deref_mut.result.now = search rules in
+    subst (λ z. Shows z []) same free.clear
+
+pub invariant_of-self-in_err-make_place : goal.invariant_of-self-in_err-make_place
+invariant_of-self-in_err-make_place c =
+    let i = c.self.invariant in
+    let core = c.self.inside.core in
+    let F = clauses_of core.slots in
+    let r = c.reach_both.ensures in
+    let marks = c.reach_both.new.marks in
+    let others = c.reach_both.new.others in
+    let m = i.1 in
+    let o = i.2 in
+    let free : IsFree F marks.items = free_same F c.self.inside.marks.items marks.items r.longer m (r.clear m.clear) in
+    let others_free : IsFree F others.items = free_same F c.self.inside.others.items others.items r.others_longer o (r.others_clear o.clear) in
     let w = c.weigh-weight.ensures in
-    let p = c.in_err-make_place.ensures in
-    let marks = c.self.inside.marks in
     let a : marks.len ≡ length marks.items = search rules in
     let b : length c.weigh-weight.new.marks ≡ length marks.items = search rules in
-    (i.0, free_back c.self.inside.core.vars marks.items c.weigh-weight.new.marks marks.len a b i.1 w.clear, i.2, subst (IsFiled c.self.inside.core) (sym p.err) i.3)
+    let freed = free_back F marks.items c.weigh-weight.new.marks marks.len a b free w.clear in
+    let p = c.in_err-make_place.ensures in
+    (i.0, freed, others_free, subst (IsFiled core) (sym p.err) i.3)
 
 pub invariant_of-self-in_err-put : goal.invariant_of-self-in_err-put
 invariant_of-self-in_err-put c =
     let i = c.self.invariant in
+    let core = c.self.inside.core in
+    let F = clauses_of core.slots in
+    let r = c.reach_both.ensures in
+    let marks = c.reach_both.new.marks in
+    let others = c.reach_both.new.others in
+    let m = i.1 in
+    let o = i.2 in
+    let free : IsFree F marks.items = free_same F c.self.inside.marks.items marks.items r.longer m (r.clear m.clear) in
+    let others_free : IsFree F others.items = free_same F c.self.inside.others.items others.items r.others_longer o (r.others_clear o.clear) in
     let w = c.weigh-weight.ensures in
+    let a : marks.len ≡ length marks.items = search rules in
+    let b : length c.weigh-weight.new.marks ≡ length marks.items = search rules in
+    let freed = free_back F marks.items c.weigh-weight.new.marks marks.len a b free w.clear in
     let p = c.in_ok-make_place.ensures in
     let q = c.in_err-put.ensures in
     let t = c.self.inside.copies in
     let t' = c.make_place.new.self in
-    let marks = c.self.inside.marks in
-    let a : marks.len ≡ length marks.items = search rules in
-    let b : length c.weigh-weight.new.marks ≡ length marks.items = search rules in
     let place : length t'.nexts ≡ length t.nexts + 1 = ap (λ (z : CopiesOf). length z.nexts) p.ok ∙ length_push t.nexts 0 in
-    checker_wanting c.self.inside.core c.put.new.self t t' _ _ q.err (holds_push t t' p.ok) (ap (λ (z : CopiesOf). z.count) p.ok) place i.0
-    (free_back c.self.inside.core.vars marks.items c.weigh-weight.new.marks marks.len a b i.1 w.clear) i.2 i.3
+    checker_wanting core c.put.new.self t t' _ _ q.err (holds_push t t' p.ok) (ap (λ (z : CopiesOf). z.count) p.ok) place i.0 freed others_free i.3
 
 pub returns-in_err-put-clause-err : goal.returns-in_err-put-clause-err
 returns-in_err-put-clause-err c =
@@ -45,23 +92,31 @@ returns-in_err-put-clause-err c =
 pub invariant_of-self-2 : goal.invariant_of-self-2
 invariant_of-self-2 c =
     let i = c.self.invariant in
+    let core = c.self.inside.core in
+    let F = clauses_of core.slots in
+    let r = c.reach_both.ensures in
+    let marks = c.reach_both.new.marks in
+    let others = c.reach_both.new.others in
+    let m = i.1 in
+    let o = i.2 in
+    let free : IsFree F marks.items = free_same F c.self.inside.marks.items marks.items r.longer m (r.clear m.clear) in
+    let others_free : IsFree F others.items = free_same F c.self.inside.others.items others.items r.others_longer o (r.others_clear o.clear) in
     let w = c.weigh-weight.ensures in
+    let a : marks.len ≡ length marks.items = search rules in
+    let b : length c.weigh-weight.new.marks ≡ length marks.items = search rules in
+    let freed = free_back F marks.items c.weigh-weight.new.marks marks.len a b free w.clear in
     let p = c.in_ok-make_place.ensures in
     let q = c.in_ok-put.ensures in
     let n = c.len-k.ensures in
     let e = c.enter.ensures in
-    let core = c.self.inside.core in
     let t = c.self.inside.copies in
     let t' = c.make_place.new.self in
     let filed = i.3 in
-    let marks = c.self.inside.marks in
-    let a : marks.len ≡ length marks.items = search rules in
-    let b : length c.weigh-weight.new.marks ≡ length marks.items = search rules in
+    let rooms = c.in_ok-reach_both.ensures.places in
     let more : length t'.nexts ≡ length t.nexts + 1 = ap (λ (z : CopiesOf). length z.nexts) p.ok ∙ length_push t.nexts 0 in
     let place : c.len-k.result < length c.enter.new.self.nexts = omega (arith, e.places, more, filed.placed, n.count) in
     checker_put core c.put.new.self c.args.clause.now t c.enter.new.self _ _ c.weigh-weight.result c.len-k.result q.ok (λ h j s. e.keeps h j (holds_push t t' p.ok h j s)) n.count e.count place
-    (w.weighs core.vars (search rules)) e.holds i.0
-    (free_back core.vars marks.items c.weigh-weight.new.marks marks.len a b i.1 w.clear) i.2 filed
+    w.weighs e.holds i.0 (places_back marks.items c.weigh-weight.new.marks marks.len c.args.clause.now a b rooms.0) rooms.1 freed others_free filed
 
 pub returns-clause-ok : goal.returns-clause-ok
 returns-clause-ok c =

@@ -2,5 +2,10 @@ use Rattle.std.proofs.Common.{◌≡◌, take}
 use Rattle.drup_check.specs.Checking.{start}
 use Rattle.drup_check.proofs.Checker.new.Given as goal
 
-abbrev pub invariant-loop-place : goal.invariant-loop-place
-invariant-loop-place l = l.checker ≡ record (start l.formula) { clauses = take l.place l.clauses }
+abbrev pub invariant-loop-number : goal.invariant-loop-number
+invariant-loop-number g l =
+    let source = g.S.ClauseSource in
+    record {
+      kept : l.checker ≡ record (start (source.formula l.source)) { clauses = take l.number (source.formula l.source).clauses };
+      place : source.at l.source l.place l.number;
+    }

@@ -1,5 +1,7 @@
-use Rattle.std.proofs.Common.{◌≡◌, ◌+◌, ◌*◌, ℕ, length, rules}
+use Rattle.std.proofs.Common.{◌≡◌, ℕ, false, rules}
 use Rattle.std.specs.Prelude.{Option, Some, None, IfNone}
+use Rattle.std.proofs.lemmas.Bool.{both_ways}
+use Rattle.drup_check.proofs.Weights.{same_places}
 use Rattle.drup_check.proofs.Present.{filed_kept, not_present}
 use Rattle.drup_check.proofs.lookup.find_clause.Goals as goal
 
@@ -7,13 +9,18 @@ if_none : (r : Option ℕ) (P Q : Type 0) → (P → Q) → IfNone r P → IfNon
 if_none None P Q f h = f h
 if_none (Some k) P Q f h = tt
 
+pub returns-then-not-has_places-clause-none : goal.returns-then-not-has_places-clause-none
+returns-then-not-has_places-clause-none c = λ filed d h s.
+    let free = c.requires.free in
+    let no : c.has_places.result ≡ false = search rules in
+    both_ways _ no (c.has_places.ensures.1 (same_places c.args.marks.now c.args.clause.now d s (free.places d h)))
+
 pub returns-clause-none : goal.returns-clause-none
 returns-clause-none c =
     let m = c.mark_all-weight.ensures in
     let t = c.args.copies.now in
-    let size : length c.mark_all-weight.new.marks ≡ 2 * c.args.core.now.vars + 2 = search rules in
     if_none c.find-found.result _ _
-    (λ none. not_present c.args.core.now t c.mark_all-weight.new.marks c.args.clause.now c.mark_all-weight.result m.weight size m.shows none)
+    (λ none. not_present c.args.core.now t c.mark_all-weight.new.marks c.args.clause.now c.mark_all-weight.result m.weight m.shows none)
     c.find-found.ensures.none
 
 pub returns-clause-filed : goal.returns-clause-filed

@@ -4,32 +4,26 @@ use Rattle.model_core.specs.Served.{IsModel}
 use Rattle.model_core.specs.Shape.{ModelOf}
 use Rattle.model_cone.specs.Cone.{IsCone}
 use Rattle.model_cone.specs.Slice.{kept_by, sliced}
-use Rattle.model_split.specs.Split.{split_model}
 use Rattle.frame_net.specs.NetOf.{IsNetOf, net_cost}
 use Rattle.bit_net.specs.Net.{vars}
-use Rattle.task_net.specs.Net.{IsNetBy, bit_slice}
+use Rattle.task_net.specs.Net.{IsNetBy}
 use Rattle.task_net.specs.Net.IsTaskNet.{AsksSome}
 use Rattle.task_net.proofs.net.of_slice.Goals as goal
 use Rattle.task_net.proofs.net.of_slice.Goals.{In_ok-net}
 
 -- the slice by its marks
-made : (c : In_ok-net) → c.in_ok-slice.slice ≡ bit_slice (kept_by c.in_ok-marks.marks.items) c.args.model.now
-made c =
-    c.in_ok-slice.ensures.slice ∙ ap (λ (marks : List Bool). sliced (kept_by marks) c.in_ok-bits.bits) c.deref.ensures.value
-    ∙ ap (λ (m : ModelOf). sliced (kept_by c.in_ok-marks.marks.items) m) c.in_ok-bits.ensures
-
-cone-is : (c : In_ok-net) → IsCone (split_model c.args.model.now) c.args.asked (kept_by c.in_ok-marks.marks.items)
-cone-is c = subst (λ (m : ModelOf). IsCone m c.args.asked (kept_by c.in_ok-marks.marks.items)) c.in_ok-bits.ensures c.in_ok-marks.ensures.cone
+made : (c : In_ok-net) → c.in_ok-slice.slice ≡ sliced (kept_by c.in_ok-marks.marks.items) c.args.model.now
+made c = c.in_ok-slice.ensures.slice ∙ ap (λ (marks : List Bool). sliced (kept_by marks) c.args.model.now) c.deref.ensures.value
 
 pub cut-requires-clause-cone : goal.cut-requires-clause-cone
-cut-requires-clause-cone c = (c.args.asked, subst (λ (marks : List Bool). IsCone c.in_ok-bits.bits c.args.asked (kept_by marks)) (sym c.deref.ensures.value) c.in_ok-marks.ensures.cone)
+cut-requires-clause-cone c = (c.args.asked, subst (λ (marks : List Bool). IsCone c.args.model.now c.args.asked (kept_by marks)) (sym c.deref.ensures.value) c.in_ok-marks.ensures.cone)
 
 pub returns-in-Err-clause-too_large : goal.returns-in-Err-clause-too_large
 returns-in-Err-clause-too_large c =
     let i = (goal.at.returns-in-Err-clause-too_large c).In_ok-net in record {
       asks = c.requires.some;
       keep = kept_by c.in_ok-marks.marks.items;
-      cone = cone-is i;
+      cone = i.in_ok-marks.ensures.cone;
       past = subst (λ (s : ModelOf). 2 ^ 27 < net_cost s) (made i) (rw c.in-Err.is at c.in_ok-net.ensures.too_many);
     }
 
@@ -37,7 +31,7 @@ pub returns-clause-net : goal.returns-clause-net
 returns-clause-net c =
     let i = (goal.at.returns-clause-net c).In_ok-net in
     let keep = kept_by c.in_ok-marks.marks.items in
-    AsksSome keep (cone-is i) (record {
+    AsksSome keep i.in_ok-marks.ensures.cone (record {
       net = c.promise.ensures;
       is = subst (λ (s : ModelOf). IsNetOf s c.in-Ok.net) (made i) (rw c.in-Ok.is at c.in_ok-net.ensures.net);
       few = subst (λ (s : ModelOf). vars c.in-Ok.net ≤ net_cost s) (made i) (rw c.in-Ok.is at c.in_ok-net.ensures.size);

@@ -30,11 +30,13 @@ returns-then-eq-clause-filed c = λ t filed.
     let h : Head = w.0 in
     let l = c.args.lists.now in
     let named : (u : LitOf) (x : Watch) → Contains (row st.rows u) x → x.clause < length s.heads.items = λ u x i. let f = row_fits l.vars l.clauses l.lists.items (index_of u) x l.fit i in omega (arith, f.clause, c.requires.lists_clauses) in
+    let q = c.args.pairs.now in
+    let pair_named : (u : LitOf) (x : Watch) → Contains (row pairs u) x → x.clause < length s.heads.items = λ u x i. let f = row_fits q.vars q.clauses q.lists.items (index_of u) x q.fit i in omega (arith, f.clause, c.requires.pairs_clauses) in
     let broad : (m : LitOf) → Contains cl m → index_of m < length st.rows = λ m i. row_room l.vars l.lists.items m (omega (arith, All-contains (IsBelow s.vars) cl m c.requires.below i, c.requires.lists)) in
     let attached : h.left ≢ h.right → Contains cl h.left × Contains cl h.right = λ d. let e : c.args.left ≢ c.args.right = λ g. d (w.2 ∙ g ∙ sym w.3) in (subst (Contains cl) (sym w.2) (c.requires.left e), subst (Contains cl) (sym w.3) (c.requires.right e)) in
     let size : length slots ≡ length s.heads.items = length-slots s.lits.items s.heads.items in
     let eq : h.left ≡ h.right = w.2 ∙ same_by_eq _ _ (sym c.if-eq.ensures) ∙ sym w.3 in
-    let but = filed_push slots st pairs (length s.heads.items) size refl cl h st.rows pairs filed named broad refl attached (enters_none st.rows _ _ _) (enters_none pairs _ _ _) (λ i. refl) (λ i. refl) in
+    let but = filed_push slots st pairs (length s.heads.items) size refl cl h st.rows pairs filed named pair_named broad refl attached (enters_none st.rows _ _ _) (enters_none pairs _ _ _) (λ i. refl) (λ i. refl) in
     let full = filed_full slots st pairs (length s.heads.items) size refl cl h st.rows pairs but (λ i d. absurd (d eq)) (λ i d. absurd (d eq)) in
     let a = c.raise.ensures in
     let b = c.raise-2.ensures in
@@ -52,6 +54,8 @@ returns-clause-filed c = λ t filed.
     let h : Head = w.0 in
     let l = c.args.lists.now in
     let named : (u : LitOf) (x : Watch) → Contains (row st.rows u) x → x.clause < length s.heads.items = λ u x i. let f = row_fits l.vars l.clauses l.lists.items (index_of u) x l.fit i in omega (arith, f.clause, c.requires.lists_clauses) in
+    let q = c.args.pairs.now in
+    let pair_named : (u : LitOf) (x : Watch) → Contains (row pairs u) x → x.clause < length s.heads.items = λ u x i. let f = row_fits q.vars q.clauses q.lists.items (index_of u) x q.fit i in omega (arith, f.clause, c.requires.pairs_clauses) in
     let broad : (m : LitOf) → Contains cl m → index_of m < length st.rows = λ m i. row_room l.vars l.lists.items m (omega (arith, All-contains (IsBelow s.vars) cl m c.requires.below i, c.requires.lists)) in
     let attached : h.left ≢ h.right → Contains cl h.left × Contains cl h.right = λ d. let e : c.args.left ≢ c.args.right = λ g. d (w.2 ∙ g ∙ sym w.3) in (subst (Contains cl) (sym w.2) (c.requires.left e), subst (Contains cl) (sym w.3) (c.requires.right e)) in
     let size : length slots ≡ length s.heads.items = length-slots s.lits.items s.heads.items in
@@ -69,9 +73,10 @@ returns-clause-filed c = λ t filed.
     let ent : Enters st.rows rows' n h.left h.right = rw (w.2, w.3) (subst (λ z. Enters z rows' n c.args.left c.args.right) ra e.rows) in
     let entp : Enters pairs pairs' n h.left h.right = rw (w.2, w.3) (subst (λ z. Enters z pairs' n c.args.left c.args.right) rb e.pairs) in
     let named' : (u : LitOf) (x : Watch) → Contains (row st.rows u) x → x.clause < n = λ u x i. subst (λ z. x.clause < z) k (named u x i) in
+    let pair_named' : (u : LitOf) (x : Watch) → Contains (row pairs u) x → x.clause < n = λ u x i. subst (λ z. x.clause < z) k (pair_named u x i) in
     let no_rows : (length cl ≡ 2) ⊎ (h.left ≡ h.right) → rows' ≡ st.rows = λ i. elim i [ inl two ↦ e.same_rows (eq-eqb _ _ two) ∙ ra | inr g ↦ absurd (ne g) ] in
     let no_pairs : (length cl ≢ 2) ⊎ (h.left ≡ h.right) → pairs' ≡ pairs = λ i. elim i [ inl d ↦ e.same_pairs (not_eq _ _ d) ∙ rb | inr g ↦ absurd (ne g) ] in
-    let but = filed_push slots st pairs n (size ∙ k) k cl h rows' pairs' filed named' broad same_rows attached ent entp no_rows no_pairs in
+    let but = filed_push slots st pairs n (size ∙ k) k cl h rows' pairs' filed named' pair_named' broad same_rows attached ent entp no_rows no_pairs in
     let long = from_ok c.enter_clause.result _ c.if-is_err.ensures.value e.long in
     let two = from_ok c.enter_clause.result _ c.if-is_err.ensures.value e.two in
     let full = filed_full slots st pairs n (size ∙ k) k cl h rows' pairs' but
@@ -91,6 +96,8 @@ returns-then-is_err-clause-filed c = λ t filed.
     let h : Head = w.0 in
     let l = c.args.lists.now in
     let named : (u : LitOf) (x : Watch) → Contains (row st.rows u) x → x.clause < length s.heads.items = λ u x i. let f = row_fits l.vars l.clauses l.lists.items (index_of u) x l.fit i in omega (arith, f.clause, c.requires.lists_clauses) in
+    let q = c.args.pairs.now in
+    let pair_named : (u : LitOf) (x : Watch) → Contains (row pairs u) x → x.clause < length s.heads.items = λ u x i. let f = row_fits q.vars q.clauses q.lists.items (index_of u) x q.fit i in omega (arith, f.clause, c.requires.pairs_clauses) in
     let broad : (m : LitOf) → Contains cl m → index_of m < length st.rows = λ m i. row_room l.vars l.lists.items m (omega (arith, All-contains (IsBelow s.vars) cl m c.requires.below i, c.requires.lists)) in
     let attached : h.left ≢ h.right → Contains cl h.left × Contains cl h.right = λ d. let e : c.args.left ≢ c.args.right = λ g. d (w.2 ∙ g ∙ sym w.3) in (subst (Contains cl) (sym w.2) (c.requires.left e), subst (Contains cl) (sym w.3) (c.requires.right e)) in
     let size : length slots ≡ length s.heads.items = length-slots s.lits.items s.heads.items in
@@ -108,9 +115,10 @@ returns-then-is_err-clause-filed c = λ t filed.
     let ent : Enters st.rows rows' n h.left h.right = rw (w.2, w.3) (subst (λ z. Enters z rows' n c.args.left c.args.right) ra e.rows) in
     let entp : Enters pairs pairs' n h.left h.right = rw (w.2, w.3) (subst (λ z. Enters z pairs' n c.args.left c.args.right) rb e.pairs) in
     let named' : (u : LitOf) (x : Watch) → Contains (row st.rows u) x → x.clause < n = λ u x i. subst (λ z. x.clause < z) k (named u x i) in
+    let pair_named' : (u : LitOf) (x : Watch) → Contains (row pairs u) x → x.clause < n = λ u x i. subst (λ z. x.clause < z) k (pair_named u x i) in
     let no_rows : (length cl ≡ 2) ⊎ (h.left ≡ h.right) → rows' ≡ st.rows = λ i. elim i [ inl two ↦ e.same_rows (eq-eqb _ _ two) ∙ ra | inr g ↦ absurd (ne g) ] in
     let no_pairs : (length cl ≢ 2) ⊎ (h.left ≡ h.right) → pairs' ≡ pairs = λ i. elim i [ inl d ↦ e.same_pairs (not_eq _ _ d) ∙ rb | inr g ↦ absurd (ne g) ] in
-    let but = filed_push slots st pairs n (size ∙ k) k cl h rows' pairs' filed named' broad same_rows attached ent entp no_rows no_pairs in
+    let but = filed_push slots st pairs n (size ∙ k) k cl h rows' pairs' filed named' pair_named' broad same_rows attached ent entp no_rows no_pairs in
     let o = c.take_out.ensures in
     let v = o.filed rows' t in
     v (rw (p.slots, w.1, ← k) (subst (λ z. IsFiledBut z (slots ++ Some cl ∷ []) (record { heads = s.heads.items ++ h ∷ []; rows = rows'; trail = t }) pairs') (sym k) but))

@@ -1,5 +1,7 @@
 use Rattle.unit_propagation.specs.Watch.{slots_of, rows_of}
 use Rattle.unit_propagation.specs.Visit.{State}
+use Rattle.unit_propagation.specs.Watch.{Sweeps}
+use Rattle.std.proofs.Common.{subst}
 use Rattle.unit_propagation.proofs.Stores.{length-slots}
 use Rattle.unit_propagation.proofs.Filing.{filed_out, kept_out}
 use Rattle.unit_propagation.proofs.file.take_out.Goals as goal
@@ -7,11 +9,13 @@ use Rattle.unit_propagation.proofs.file.take_out.Goals as goal
 pub returns-clause-filed : goal.returns-clause-filed
 returns-clause-filed c = λ rows t but.
     let s = c.args.store.now in
-    let l = c.leave_pairs.ensures in
+    let l = c.leave_pair.ensures in
     let f = c.forget.ensures in
     let w = f.heads in
     let st : State = record { heads = s.heads.items; rows = rows; trail = t } in
-    let x = filed_out (slots_of s.lits.items s.heads.items) st (rows_of c.args.pairs.now.vars c.args.pairs.now.lists.items) (rows_of c.leave_pairs.new.pairs.vars c.leave_pairs.new.pairs.lists.items) c.args.k w.0 w.2 (length-slots s.lits.items s.heads.items) c.requires.clause but (l.only but.pair_entries) l.keeps in
+    let old = rows_of c.args.pairs.now.vars c.args.pairs.now.lists.items in
+    let new = rows_of c.leave_pair.new.pairs.vars c.leave_pair.new.pairs.lists.items in
+    let x = filed_out (slots_of s.lits.items s.heads.items) st old new c.args.k w.0 w.2 (length-slots s.lits.items s.heads.items) c.requires.clause but (subst (λ z. Sweeps z old new) f.slots l.sweeps) in
     rw (f.slots, w.1) x
 
 pub returns-clause-kept : goal.returns-clause-kept

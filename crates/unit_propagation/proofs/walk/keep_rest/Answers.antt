@@ -1,7 +1,12 @@
-use Rattle.std.proofs.Common.{arith, rules, subst}
+use Rattle.std.proofs.Common.{◌≡◌, arith, rules, subst}
 use Rattle.unit_propagation.specs.Visit.{IsVisited}
-use Rattle.unit_propagation.proofs.Arms.{visited_rest}
+use Rattle.unit_propagation.proofs.Arms.{visited_rest, visited_whole}
 use Rattle.unit_propagation.proofs.walk.keep_rest.Goals as goal
+
+pub returns-then-kept-from-clause-step : goal.returns-then-kept-from-clause-step
+returns-then-kept-from-clause-step c = λ slots start s f v.
+    let same : c.args.kept ≡ c.args.from = search rules in
+    visited_whole slots start s f c.args.list.now c.args.from (subst (λ z. IsVisited slots start s f c.args.list.now z c.args.from) same v)
 
 pub loop-k-preserved : goal.loop-k-preserved
 loop-k-preserved c =

@@ -14,7 +14,7 @@ returns-then-is_some-clause-step c = λ p filed kept dealt.
     let slots = slots_of c.args.store.now.lits.items c.args.store.now.heads.items in
     let s : State = record { heads = c.args.store.now.heads.items; rows = rows_of c.args.lists.now.vars c.args.lists.now.lists.items; trail = c.args.trail.now.lits } in
     let v = c.visit_pairs-stop.ensures in
-    let x = v.step slots c.args.store.now.heads.items (filed.pair_entries f) (dealt (negate f) (Contains-push p (negate f))) in (
+    let x = v.step (filed.pair_entries f) (dealt (negate f) (Contains-push p (negate f))) in (
       walks_grown slots (rows_of c.args.pairs.now.vars c.args.pairs.now.lists.items) s c.visit_pairs-stop.new.trail.lits filed x.0,
       end_from_pairs _ slots (record s { trail = c.visit_pairs-stop.new.trail.lits }) _ c.visit_pairs-stop.result (search rules) x.1,
     )
@@ -28,7 +28,7 @@ returns-clause-step c = λ p filed kept dealt.
     let t = c.visit_pairs-stop.new.trail.lits in
     let mid : State = record s { trail = t } in
     let v = c.visit_pairs-stop.ensures in
-    let x = v.step slots c.args.store.now.heads.items (filed.pair_entries f) (dealt (negate f) (Contains-push p (negate f))) in
+    let x = v.step (filed.pair_entries f) (dealt (negate f) (Contains-push p (negate f))) in
     let w = walks_grown slots pairs s t filed x.0 in
     let grows = propagates_grows (clauses_of slots) s.trail t x.0 in
     let e = c.visit_long.ensures in

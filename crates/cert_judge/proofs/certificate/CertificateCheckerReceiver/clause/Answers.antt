@@ -8,7 +8,7 @@ use Rattle.cert_judge.proofs.certificate.CertificateCheckerReceiver.clause.Goals
 use Rattle.cert_judge.proofs.certificate.CertificateCheckerReceiver.clause.Goals.{in-NotRup, in-Admitted, in-Admitted+else-is_empty}
 
 pub returns-clause-gets : goal.returns-clause-gets
-returns-clause-gets c = λ n. elim c.match-branch-2.branch [
+returns-clause-gets g c = λ n. elim c.match-branch-2.branch [
   | in-NotRup w ↦ subst (Leads drup_meaning c.args.self.now (IsClause c.args.lits.now c.args.place ∷ [])) (sym (w.self-is ∙ w.refuse.ensures))
       (heard_not_rup _ _ _ _ _ c.self.view_is n c.add.new.self c.args.lits.now c.args.place (λ a. let k = c.in_ok-add.ensures.exact.1 a in let q = w.in-NotRup.is in cc))
   | in-Admitted w ↦ subst (Leads drup_meaning c.args.self.now (IsClause c.args.lits.now c.args.place ∷ [])) (sym (w.self-is ∙ w.settle.ensures))

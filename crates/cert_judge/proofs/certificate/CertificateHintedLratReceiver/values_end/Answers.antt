@@ -11,7 +11,7 @@ use Rattle.cert_judge.proofs.certificate.CertificateHintedLratReceiver.values_en
 use Rattle.cert_judge.proofs.certificate.CertificateHintedLratReceiver.values_end.Goals.{in-None, in-Some}
 
 pub returns-clause-gets : goal.returns-clause-gets
-returns-clause-gets c = λ n. elim c.match-first_unsatisfied.branch [
+returns-clause-gets g c = λ n. elim c.match-first_unsatisfied.branch [
   | in-None w ↦ subst (Leads lrat_meaning c.args.self.now (IsValuesEnd ∷ []))
       (sym (subst (λ (x : CertificateOf HintedOf). c.match-first_unsatisfied.self ≡ with_outcome x Satisfied) (sym c.self.view_is) (w.self-is ∙ w.settle.ensures)))
       (heard_satisfied _ _ _ _ _ c.self.view_is n w.in-None.ensures.none)

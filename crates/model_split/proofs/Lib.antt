@@ -1,4 +1,0 @@
-pub mod Splitting
-pub mod Meaning
-pub mod Widths
-pub mod Adding
