@@ -82,4 +82,5 @@ def main():
         raise SystemExit(f"not ended: {' '.join(wrong)}")
 
 
-main()
+if __name__ == "__main__":
+    main()
