@@ -1,14 +1,14 @@
 /* A library that is put before the C library's (LD_PRELOAD): it refuses the GROWTH_REFUSED-th call of malloc, calloc or
    realloc that the program makes, and then makes the file GROWTH_FILE. Where GROWTH_LIMIT is set, it refuses each call that
-   would take the program past that many bytes in use, and at the end writes to GROWTH_FILE how many there were at most.
+   would take the program past that many bytes in use, and keeps in GROWTH_FILE how many there were at most, a long.
    The program's own children don't have it. */
 #define _GNU_SOURCE
 #include <errno.h>
 #include <fcntl.h>
 #include <malloc.h>
-#include <stdio.h>
 #include <stdlib.h>
 #include <string.h>
+#include <sys/mman.h>
 #include <unistd.h>
 
 extern void *__libc_malloc(size_t size);
@@ -16,7 +16,7 @@ extern void *__libc_calloc(size_t count, size_t size);
 extern void *__libc_realloc(void *old, size_t size);
 extern void __libc_free(void *old);
 
-static long calls, refused, limit, used, most;
+static long calls, refused, limit, used, most_of_none, *most = &most_of_none;
 static char path[4096];
 static pid_t self;
 
@@ -28,16 +28,13 @@ __attribute__((constructor)) static void begin(void)
     unsetenv("LD_PRELOAD");
     self = getpid();
     refused = number ? atol(number) : 0;
-    limit = bytes ? atol(bytes) : 0;
-}
-
-__attribute__((destructor)) static void end(void)
-{
-    FILE *file = limit && getpid() == self ? fopen(path, "w") : NULL;
-    if (file) {
-        fprintf(file, "%ld\n", most);
-        fclose(file);
-    }
+    if (!bytes)
+        return;
+    int shared = open(path, O_RDWR | O_CREAT, 0600);
+    void *kept = shared < 0 || ftruncate(shared, sizeof *most) ? MAP_FAILED : mmap(NULL, sizeof *most, PROT_READ | PROT_WRITE, MAP_SHARED, shared, 0);
+    if (kept != MAP_FAILED)
+        most = kept;
+    limit = atol(bytes);
 }
 
 static int is_refused(void)
@@ -66,8 +63,8 @@ static void *counted(void *new, long less)
     if (!limit)
         return new;
     long now = __atomic_add_fetch(&used, (new ? (long)malloc_usable_size(new) : 0) - less, __ATOMIC_SEQ_CST);
-    for (long seen = __atomic_load_n(&most, __ATOMIC_SEQ_CST); seen < now;)
-        if (__atomic_compare_exchange_n(&most, &seen, now, 0, __ATOMIC_SEQ_CST, __ATOMIC_SEQ_CST))
+    for (long seen = __atomic_load_n(most, __ATOMIC_SEQ_CST); seen < now;)
+        if (__atomic_compare_exchange_n(most, &seen, now, 0, __ATOMIC_SEQ_CST, __ATOMIC_SEQ_CST))
             break;
     return new;
 }

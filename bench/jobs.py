@@ -44,8 +44,13 @@ TASKS = {
 
 
 def files_in(folder):
-    sizes = [os.path.getsize(os.path.join(at, name)) for at, _, names in os.walk(folder) for name in names if name.endswith(".cnf")]
-    return len(sizes), sum(sizes) / 1e6
+    """How many job files there are, their megabytes, and of all of them the millions of variables and of clauses."""
+    paths = [os.path.join(at, name) for at, _, names in os.walk(folder) for name in names if name.endswith(".cnf")]
+    counts = []
+    for path in paths:
+        with open(path, encoding="ascii") as file:
+            counts.append([int(word) for word in file.readline().split()[2:]])
+    return len(paths), sum(map(os.path.getsize, paths)) / 1e6, *(sum(column) / 1e6 for column in zip(*counts))
 
 
 def main():
@@ -62,7 +67,7 @@ def main():
     if not words.sby:
         raise SystemExit("--sby PATH is missing")
     sby, wrong = program(words.sby), []
-    print(f"{'task':13}{'design MB':>10}{'model s':>9}{'MB':>7}{'jobs s':>8}{'MB':>7}{'wall s':>8}{'files':>7}{'MB':>8}  status line")
+    print(f"{'task':13}{'design MB':>10}{'model s':>9}{'MB':>7}{'jobs s':>8}{'MB':>7}{'wall s':>8}{'files':>7}{'MB':>8}{'M vars':>8}{'M clauses':>11}  status line")
     for name, (_, options) in TASKS.items():
         if words.only not in name:
             continue
@@ -74,8 +79,8 @@ def main():
                 file.write(f"[options]\n{options}[engines]\nbtor true\n[script]\nread_rtlil x.il\n[files]\nx.il\n")
             alone = run([sby, "--judge", "x.il", "bmc", "1"], words.seconds, said, folder)
             whole = run([sby, "t.sby"], words.seconds, said, folder, file_limit=32 << 30)
-            count, put = files_in(folder)
-            print(f"{name:13}{os.path.getsize(text) / 1e6:10.1f}{alone.user:9.2f}{alone.mb:7.0f}{whole.user:8.2f}{whole.mb:7.0f}{whole.wall:8.1f}{count:7}{put:8.0f}  {last_line(said)}", flush=True)
+            count, put, variables, clauses = files_in(os.path.join(folder, "t"))
+            print(f"{name:13}{os.path.getsize(text) / 1e6:10.1f}{alone.user:9.2f}{alone.mb:7.0f}{whole.user:8.2f}{whole.mb:7.0f}{whole.wall:8.1f}{count:7}{put:8.0f}{variables:8.1f}{clauses:11.1f}  {last_line(said)}", flush=True)
             if whole.over or "UNKNOWN" not in last_line(said):
                 wrong.append(name)
     if wrong:

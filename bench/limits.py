@@ -3,7 +3,7 @@
     python3 -B bench/limits.py --sby PATH
 
 Each task's one engine line serves none of its jobs: all are made and put, and it ends UNKNOWN. What its largest job needs is
-measured by a task of that job alone; under a limit below that, the task ends ERROR with MEMORY, so the limit is one. Exit
+measured by a task of that job alone; under a limit below that the task ends MEMORY, so the limit is one. Exit
 status 1 where a task of all jobs doesn't end as it does with no limit.
 """
 import argparse
@@ -21,7 +21,7 @@ TASKS = {
     "slices": ((ring, 300), "mode bmc\ndepth 400\nstride 2\n", (ring, 300), "mode bmc\ndepth 400\nskip 398\nstride 2\n"),
     "covers": ((bank, 40, 50, "cover", 200), "mode cover\ndepth 30\n", (bank, 40, 50, "cover", 1), "mode cover\ndepth 30\n"),
 }
-SLACK = 256 << 10  # the names and numbers of 200 jobs, and the buffers of their files
+SLACK = 384 << 10  # the names of 200 jobs, and in the model the statements of the others
 UNLIMITED = 1 << 40
 
 
@@ -39,8 +39,8 @@ def ended(sby, shim, design, options, limit):
         told = os.path.join(folder, "most")
         there = {**os.environ, "LD_PRELOAD": shim, "GROWTH_LIMIT": str(limit), "GROWTH_FILE": told}
         out = subprocess.run([sby, "t.sby"], cwd=folder, env=there, stdin=subprocess.DEVNULL, capture_output=True, text=True).stdout
-        with open(told) as file:
-            return out.splitlines()[-1], files_in(folder)[0], int(file.read())
+        with open(told, "rb") as file:
+            return out.splitlines()[-1], files_in(folder)[0], int.from_bytes(file.read(), sys.byteorder)
 
 
 def main():
@@ -59,7 +59,7 @@ def main():
             held = ended(sby, shim, design, options, need + SLACK)
             low = ended(sby, shim, design, options, need * 3 // 4)
             print(f"{name:10}{need / 1e6:16.2f}{held[2] / 1e6:13.2f}{held[1]:7}  {free[0]} | {held[0]} | {low[0]}", flush=True)
-            if held[:2] != free[:2] or "UNKNOWN" not in free[0] or "ERROR" not in low[0]:
+            if held[:2] != free[:2] or "UNKNOWN" not in free[0] or "MEMORY" not in low[0]:
                 wrong.append(name)
     if wrong:
         sys.exit(f"not as with no limit: {' '.join(wrong)}")
