@@ -2,3 +2,17 @@ pub mod Written
 pub mod Small
 pub mod Back
 pub mod OneModel
+pub mod Scanning
+pub mod Worded
+pub mod Forth
+pub mod Finding
+pub mod Sized
+pub mod Following
+pub mod Bare
+pub mod Saying
+pub mod Growing
+pub mod Refusing
+pub mod Tying
+pub mod Digits
+pub mod Outcome
+pub mod Going

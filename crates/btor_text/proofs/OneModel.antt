@@ -1,7 +1,7 @@
 -- Bytes are the text of one model.
 use Rattle.std.proofs.Common.{◌≡◌, ℕ, ◌+◌, Bool, List, [], ◌∷◌, ◌++◌, Option, Some, take, drop, refl, sym, ap, ◌∙◌, subst, arith, append_assoc}
 use Rattle.std.specs.Prelude.{map}
-use Rattle.std.specs.List.{flat_map}
+use Rattle.std.specs.List.{AllByRecursion, AllZip, flat_map}
 use Rattle.std.proofs.lemmas.List.{append-nil}
 use Rattle.std.proofs.lemmas.List.Sums.{sum_by-append}
 use Rattle.std.proofs.lemmas.Grind.{flat_map-append}
@@ -13,32 +13,10 @@ use Rattle.btor_core.specs.declared.line.Body.TheVariants as body
 use Rattle.btor_core.specs.declared.line.Line.{Line}
 use Rattle.btor_core.specs.Shape.{BtorOf, constant_bits, constant_node_width, constant_width, sort_at}
 use Rattle.btor_core.specs.Fits.{BodyFits, IsBtor, NodeFits}
-use Rattle.btor_text.specs.Grammar.{IsText, all_words, body_bits, lines_of, node_bits}
-use Rattle.btor_text.proofs.Back.{SaidOf, bare, bare_node, line_said, lines_read}
-
--- the place of a constant's bits filled in
-abbrev fill_node : ℕ → Node → Node
-fill_node p node.Input = node.Input
-fill_node p node.State = node.State
-fill_node p (node.Const start) = node.Const p
-fill_node p node.Zero = node.Zero
-fill_node p node.One = node.One
-fill_node p node.Ones = node.Ones
-fill_node p (node.Unary k a) = node.Unary k a
-fill_node p (node.Binary k a b) = node.Binary k a b
-fill_node p (node.Slice a upper lower) = node.Slice a upper lower
-fill_node p (node.Uext a by) = node.Uext a by
-fill_node p (node.Sext a by) = node.Sext a by
-fill_node p (node.Ite t a b) = node.Ite t a b
-
--- the width filled in too, by the sort
-abbrev fill : (ℕ → ℕ) → ℕ → Body → Body
-fill width p (body.Sort w) = body.Sort w
-fill width p (body.Value s w n) = body.Value s (width s) (fill_node p n)
-fill width p (body.Init s q v) = body.Init s q v
-fill width p (body.Next s q v) = body.Next s q v
-fill width p (body.Bad n) = body.Bad n
-fill width p (body.Constraint n) = body.Constraint n
+use Rattle.btor_text.specs.Grammar.{AreLines, IsText, Spells, all_words, body_bits, lines_of, node_bits}
+use Rattle.btor_text.specs.Reading.{SaidOf, bare, bare_node, line_said}
+use Rattle.btor_text.specs.Steps.{fill, fill_node}
+use Rattle.btor_text.proofs.Back.{AreSome, all_some, lines_read}
 
 node_filled : (constants : List Bool) (before : List Line) (w : ℕ) (n : Node) → NodeFits constants before w n → fill_node (constant_bits before) (bare_node n) ≡ n
 node_filled constants before w node.Input f = refl
@@ -69,22 +47,22 @@ same_line l k e f =
 
 -- of two models that say the same all lines are the same
 module _ (m n : BtorOf) (fits : IsBtor m) (others : IsBtor n) where
-  lines_same : (before xs ys : List Line) → m.lines ≡ before ++ xs → n.lines ≡ before ++ ys → map (line_said m.constants) xs ≡ map (line_said n.constants) ys → xs ≡ ys
-  lines_same before [] [] e f h = refl
-  lines_same before [] (y ∷ ys) e f h = absurd (cc)
-  lines_same before (x ∷ xs) [] e f h = absurd (cc)
-  lines_same before (x ∷ xs) (y ∷ ys) e f h =
+  lines_same : (before xs ys zs : List Line) → m.lines ≡ before ++ xs → n.lines ≡ before ++ (ys ++ zs) → map (line_said m.constants) xs ≡ map (line_said n.constants) ys → xs ≡ ys
+  lines_same before [] [] zs e f h = refl
+  lines_same before [] (y ∷ ys) zs e f h = absurd (cc)
+  lines_same before (x ∷ xs) [] zs e f h = absurd (cc)
+  lines_same before (x ∷ xs) (y ∷ ys) zs e f h =
       let one : line_said m.constants x ≡ line_said n.constants y = cc in
       let rest : map (line_said m.constants) xs ≡ map (line_said n.constants) ys = cc in
       let number : x.nid ≡ y.nid = ap (λ (s : SaidOf). s.nid) one in
       let bare_same : bare x.body ≡ bare y.body = ap (λ (s : SaidOf). s.body) one in
       let p : ℕ = constant_bits before in
       let body_same : x.body ≡ y.body =
-      sym (filled m.constants before x.body (fits.each before xs x e).body) ∙ ap (λ (b : Body). fill (sort_at before) p b) bare_same ∙ filled n.constants before y.body (others.each before ys y f).body in
+      sym (filled m.constants before x.body (fits.each before xs x e).body) ∙ ap (λ (b : Body). fill (sort_at before) p b) bare_same ∙ filled n.constants before y.body (others.each before (ys ++ zs) y f).body in
       let line : x ≡ y = same_line x y number body_same in
       let cut : m.lines ≡ (before ++ x ∷ []) ++ xs = e ∙ sym (append_assoc before (x ∷ []) xs) in
-      let other : n.lines ≡ (before ++ x ∷ []) ++ ys = f ∙ ap (λ (l : Line). before ++ l ∷ ys) (sym line) ∙ sym (append_assoc before (x ∷ []) ys) in
-      let tail : xs ≡ ys = lines_same (before ++ x ∷ []) xs ys cut other rest in
+      let other : n.lines ≡ (before ++ x ∷ []) ++ (ys ++ zs) = f ∙ ap (λ (l : Line). before ++ l ∷ (ys ++ zs)) (sym line) ∙ sym (append_assoc before (x ∷ []) (ys ++ zs)) in
+      let tail : xs ≡ ys = lines_same (before ++ x ∷ []) xs ys zs cut other rest in
       ap (λ (l : Line). l ∷ xs) line ∙ ap (λ (ls : List Line). y ∷ ls) tail
 
 -- a line's bits are the next of the table
@@ -152,13 +130,22 @@ said_lines : (constants : List Bool) (lines : List Line) → map (λ l. Some (li
 said_lines constants [] = refl
 said_lines constants (l ∷ lines) = ap (λ (os : List (Option SaidOf)). Some (line_said constants l) ∷ os) (said_lines constants lines)
 
-pub one_model : (bytes : List ℕ) (m n : BtorOf) → IsBtor m → IsBtor n → IsText bytes m → IsText bytes n → m ≡ n
-one_model bytes m n fits others s t =
-    let wss = all_words (lines_of bytes) in
-    let same : map (line_said m.constants) m.lines ≡ map (line_said n.constants) n.lines =
-    somes (map (line_said m.constants) m.lines) (map (line_said n.constants) n.lines) (sym (said_lines m.constants m.lines) ∙ sym (lines_read m.constants wss m.lines s) ∙ lines_read n.constants wss n.lines t ∙ said_lines n.constants n.lines) in
-    let lines : m.lines ≡ n.lines = lines_same m n fits others [] m.lines n.lines refl refl same in
+same_said : (cs ds : List Bool) (wss : List (List (List ℕ))) (xs ys : List Line) → AllByRecursion AreSome wss → AllZip (Spells cs) wss xs → AllZip (Spells ds) wss ys → map (line_said cs) xs ≡ map (line_said ds) ys
+same_said cs ds wss xs ys some s t =
+    somes (map (line_said cs) xs) (map (line_said ds) ys) (sym (said_lines cs xs) ∙ sym (lines_read cs wss xs some s) ∙ lines_read ds wss ys some t ∙ said_lines ds ys)
+
+-- lines that are read as a model's are the first of each other model that goes on with the same
+pub same_front : (m n : BtorOf) (wss : List (List (List ℕ))) (xs ys : List Line) → IsBtor m → IsBtor n → AllByRecursion AreSome wss → n.lines ≡ xs ++ ys → AllZip (Spells m.constants) wss m.lines → AllZip (Spells n.constants) wss xs → m.lines ≡ xs
+same_front m n wss xs ys fits others some cut s t = lines_same m n fits others [] m.lines xs ys refl cut (same_said m.constants n.constants wss m.lines xs some s t)
+
+pub models_same : (texts : List (List ℕ)) (m n : BtorOf) → IsBtor m → IsBtor n → AreLines texts m → AreLines texts n → m ≡ n
+models_same texts m n fits others s t =
+    let same = same_said m.constants n.constants (all_words texts) m.lines n.lines (all_some texts) s t in
+    let lines : m.lines ≡ n.lines = same_front m n (all_words texts) n.lines [] fits others (all_some texts) (sym (append-nil n.lines)) s t in
     let constants : m.constants ≡ n.constants =
     sym (bits_all m fits) ∙ bits_said m.constants m.lines ∙ ap (λ (ss : List SaidOf). flat_map (λ s. s.bits) ss) same ∙ sym (bits_said n.constants n.lines) ∙ bits_all n others in
     let P : List Line → List Bool → BtorOf = λ ls cs. record { lines = ls; constants = cs } in
     ap (λ (ls : List Line). P ls m.constants) lines ∙ ap (λ (cs : List Bool). P n.lines cs) constants
+
+pub one_model : (bytes : List ℕ) (m n : BtorOf) → IsBtor m → IsBtor n → IsText bytes m → IsText bytes n → m ≡ n
+one_model bytes m n fits others s t = models_same (lines_of bytes) m n fits others s t

@@ -1,0 +1,10 @@
+use Rattle.std.proofs.Common.{eq-eqb, get_or, length, sym, arith}
+use Rattle.std.proofs.lemmas.List.Sums.{position_or_len_is}
+use Rattle.btor_text.specs.Grammar.{is_comment}
+use Rattle.btor_text.proofs.scan.to_comment.Goals as goal
+
+pub returns-then-b-eq59-clause-place : goal.returns-then-b-eq59-clause-place
+returns-then-b-eq59-clause-place c = sym (position_or_len_is is_comment c.args.text.now c.loop-i.i 0 (omega arith) c.loop-i.invariant (λ h. eq-eqb (get_or c.args.text.now c.loop-i.i 0) 59 c.if-b-eq59.true))
+
+pub returns-clause-place : goal.returns-clause-place
+returns-clause-place c = sym (position_or_len_is is_comment c.args.text.now (length c.args.text.now) 0 (omega arith) (λ k h. c.loop-i.invariant k (omega arith)) (λ h. absurd (omega arith)))
