@@ -90,7 +90,7 @@ fn never_more_are_held_than_the_allowance(rt: HostRuntime) -> Result<(), Fail> {
         most: AtomicU64::new(0),
         times: AtomicU64::new(0),
     };
-    ask_both(&rt, &pool, &mut seat, &held, 10_000);
+    ask_both(&rt, &pool, &mut seat, &held, 500);
     let last = seat.take(&pool);
     give_back(&pool, &mut seat);
     seat.leave();
