@@ -1,6 +1,5 @@
 // The tests, by subject.
 
-mod costs;
 mod formulas;
 mod judges;
 mod pigeons;
