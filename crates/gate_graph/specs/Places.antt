@@ -17,7 +17,7 @@ number_of (Maj a b c) = mixed (mixed (mixed 4 a) b) c
 
 -- the place of a gate among this many
 abbrev pub place_of : ℕ → Gate → ℕ
-place_of places k = number_of k / 2 ^ 32 % places
+place_of places k = number_of k / 2 ^ 32 * places / 2 ^ 32
 
 -- the link is the number of the last of the first n entries that has this place, or 0 where none has it
 pub record IsLink (place_of : Gate → ℕ) (entries : List (Gate × LitOf)) (n place link : ℕ) : Type 0 where

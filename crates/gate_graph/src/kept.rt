@@ -1,6 +1,6 @@
 // The gates that were made, with their literals.
 
-ghost use Rattle.std.specs.Prelude.{◌≡◌, ◌<◌, ◌≤◌, ◌+◌, ◌-◌, ◌++◌, ◌∷◌, [], ℕ, List, Contains, IfNone, IfOk, IfSome, OnErr, OnOk, Some, length, replicate, slice_get, take};
+ghost use Rattle.std.specs.Prelude.{◌≡◌, ◌<◌, ◌≤◌, ◌+◌, ◌-◌, ◌^◌, ◌++◌, ◌∷◌, [], ℕ, List, Contains, IfNone, IfOk, IfSome, OnErr, OnOk, Some, length, replicate, slice_get, take};
 ghost use Rattle.cnf_form.specs.Cnf.{LitOf};
 ghost use Rattle.gate_graph.specs.Places.{AreLinked, HasPlaces, IsTable, mixed, number_of, place_of};
 
@@ -58,13 +58,16 @@ fn number_of(gate: &Gate) -> u64
     }
 }
 
-// The place of a gate among this many.
+// The place of a gate among this many: a share of its number's high half, without a division (Lemire, "Fast random integer generation
+// in an interval", 2019).
 fn place_of(places: usize, gate: &Gate) -> usize
-    requires { 1 ≤ places }
+    requires some { 1 ≤ places }
+    requires few { places ≤ 2 ^ 30 }
     ensures place { result ≡ place_of places gate.now }
     ensures inside { result < places }
 {
-    (number_of(gate) >> 32) as usize % places
+    let half = number_of(gate) >> 32;
+    (half * places as u64 >> 32) as usize
 }
 
 fn zeros(alloc: Global, count: usize) -> Result<Vec<u32>, AllocError>

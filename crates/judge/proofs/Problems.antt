@@ -1,22 +1,13 @@
 -- Problems, and their jobs' places.
-use Rattle.std.proofs.Common.{◌≡◌, ℕ, zero, suc, ◌+◌, ◌<◌, List, length, map, Some, get_or, refl, sym, ap, subst, ◌∙◌, arith}
-use Rattle.std.specs.Prelude.{Option, option_map, slice_get}
+use Rattle.std.proofs.Common.{◌≡◌, ℕ, zero, suc, ◌+◌, ◌<◌, List, length, map, Some, sym, ap, ◌∙◌, arith}
+use Rattle.std.specs.Prelude.{slice_get}
 use Rattle.std.specs.List.{range_with_len}
-use Rattle.std.proofs.lemmas.List.{length-map}
-use Rattle.std.proofs.lemmas.Option.{slice_get-map, slice_get_read, slice_get_within}
 use Rattle.cnf_form.specs.Cnf.{FormulaOf}
 use Rattle.cnf_form.specs.Dimacs.{dimacs_text}
-use Rattle.design_core.specs.Shape.{DesignOf}
-use Rattle.design_meaning.specs.Meaning.{covers}
 use Rattle.job_terms.specs.Encoding.{EncodedOf}
-use Rattle.sby_terms.specs.Span.{slices_of}
 use Rattle.sby_terms.specs.declared.names.JobName.{JobName}
-use Rattle.sby_terms.specs.declared.names.JobName.TheVariants.{Base, Step, Cover}
-use Rattle.sby_terms.specs.declared.names.Mode.{Mode}
-use Rattle.sby_terms.specs.declared.names.Mode.TheVariants.{Bmc, Prove, Cover as CoverMode}
-use Rattle.sby_terms.specs.declared.span.Span.{Span}
-use Rattle.judge.specs.Jobs.{jobs_in, jobs_of, span_of}
-use Rattle.judge.specs.Problem.{AskedOf, IsEncodedOf, IsFormulaOf, IsJob, IsJobAt, IsJobFile}
+use Rattle.judge.specs.Jobs.{jobs_of}
+use Rattle.judge.specs.Problem.{AskedOf, IsEncodedOf, IsFormulaOf, IsJobFile}
 use Rattle.judge.specs.Stored.{IsStored}
 
 -- jobs that are numbered from a on

@@ -1,5 +1,5 @@
 -- What a judge of a solver's output tells, by what its output's judge tells.
-use Rattle.std.proofs.Common.{◌≡◌, ℕ, Bool, true, false, List, Some, None, refl, sym, ap, subst, ◌∙◌}
+use Rattle.std.proofs.Common.{◌≡◌, ℕ, Bool, true, false, List, Some, None, refl, sym, subst, ◌∙◌}
 use Rattle.std.specs.Prelude.{IfOk, Option, Result, Ok, Err}
 use Rattle.std.specs.declared.alloc.AllocError.{AllocError}
 use Rattle.cnf_form.specs.Cnf.{FormulaOf, IsUnsatisfiable}
@@ -8,14 +8,14 @@ use Rattle.job_terms.specs.Decoding.{values_of}
 use Rattle.job_terms.specs.Encoding.{EncodedOf}
 use Rattle.cert_judge.proofs.OutputFates.{output_refuted}
 use Rattle.cert_judge.specs.OutputFate.{IsOutputFate, IsOutputFateSoFar}
-use Rattle.cert_judge.specs.OutputJudging.{Ends as OutputEnds, Feeds as OutputFeeds, Stands}
+use Rattle.cert_judge.specs.OutputJudging.{Ends as OutputEnds, Feeds as OutputFeeds}
 use Rattle.cert_judge.specs.Output.{stream_of}
 use Rattle.cert_judge.specs.Spots.{given}
 use Rattle.cert_judge.specs.declared.spot.Spot.TheVariants.{Start}
 use Rattle.sby_terms.specs.declared.names.JobName.{JobName}
 use Rattle.cert_judge.proofs.KindFates.{refuted_so_far}
-use Rattle.cert_judge.specs.Fate.{Fate, Found}
-use Rattle.cert_judge.specs.Kinds.{FateSoFar, stream_values}
+use Rattle.cert_judge.specs.Fate.{Fate}
+use Rattle.cert_judge.specs.Kinds.{stream_values}
 use Rattle.cert_judge.specs.Judging.{HasOutcome, IsSameJudge as IsSameStream, StandsBy, bits_of, formula_of, kind_of}
 use Rattle.cert_judge.specs.Lines.{AreValuesTold}
 use Rattle.cert_judge.specs.Outcomes.{fate_told as outcome_told}

@@ -1,5 +1,5 @@
 -- The wires' bits in the rows of a model.
-use Rattle.std.proofs.Common.{◌≡◌, ◌<◌, ℕ, zero, suc, Bool, false, List, [], ◌∷◌, get_or, length, sym, take, refl, arith}
+use Rattle.std.proofs.Common.{◌≡◌, ◌<◌, ℕ, zero, suc, false, List, [], ◌∷◌, get_or, length, sym, take, refl, arith}
 use Rattle.sby_bits.specs.Rows.{Row}
 use Rattle.design_meaning.specs.Runs.{shown_of}
 use Rattle.judge.specs.Rows.{cycles_in}

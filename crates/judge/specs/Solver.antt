@@ -1,5 +1,5 @@
 -- A judge of the output of a solver that leaves a proof file, and what its answers tell.
-use Rattle.std.specs.Prelude.{◌≡◌, ℕ, Bool, true, false, List, Option, Result, Ok, Err}
+use Rattle.std.specs.Prelude.{◌≡◌, ℕ, Bool, true, false, List, Result, Ok, Err}
 use Rattle.std.specs.declared.alloc.AllocError.{AllocError}
 use Rattle.cert_judge.specs.Judging.{formula_of}
 use Rattle.cert_judge.specs.OutputFate.{IsOutputFate, IsOutputFateSoFar}

@@ -1,12 +1,11 @@
 -- How a problem is kept: its model with what is known of it, and the names of its jobs.
-use Rattle.std.specs.Prelude.{◌≡◌, ℕ, ◌+◌, ◌<◌, ◌≤◌, ◌^◌, List, length, Some, slice_get}
+use Rattle.std.specs.Prelude.{◌≡◌, ℕ, ◌<◌, ◌≤◌, ◌^◌, List, Some, slice_get}
 use Rattle.task_net.specs.Net.{IsTooMany as IsTooManyOf, TaskNetOf}
 use Rattle.net_jobs.specs.Jobs.{job_made}
 use Rattle.design_core.specs.Shape.{DesignOf, IsDesign}
 use Rattle.job_terms.specs.Encoding.{EncodedOf}
 use Rattle.model_core.specs.Served.{IsModel}
-use Rattle.model_core.specs.Shape.{ModelOf, states}
-use Rattle.model_laws.specs.Cost.{cost}
+use Rattle.model_core.specs.Shape.{ModelOf}
 use Rattle.design_graph.specs.Order.{IsOrder}
 use Rattle.design_graph.specs.declared.driver.Driver.{Driver}
 use Rattle.word_model.specs.Built.{IsBuilt}

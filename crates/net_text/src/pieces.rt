@@ -214,18 +214,16 @@ fn front_at(encoded: &Encoded, count: u128, place: Place) -> Front
     }
 }
 
-// The piece at hand, or where all of it has been given, the next one.
-pub fn refilled(encoded: &Encoded, count: u128, front: Front) -> Front
+// Puts the next piece where all of the piece at hand has been given.
+pub fn refill(encoded: &Encoded, count: u128, front: &mut Front)
     requires count { count ≡ count_of encoded.now }
-    requires front { IsFront encoded.now front }
-    ensures front { IsFront encoded.now result }
-    ensures rest { rest_of encoded.now result ≡ rest_of encoded.now front }
-    ensures some { length result.piece.bytes ≤ result.given → rest_of encoded.now front ≡ [] }
+    requires front { IsFront encoded.now front.old }
+    ensures front { IsFront encoded.now front.new }
+    ensures rest { rest_of encoded.now front.new ≡ rest_of encoded.now front.old }
+    ensures some { length front.new.piece.bytes ≤ front.new.given → rest_of encoded.now front.old ≡ [] }
 {
-    if front.given < front.piece.len() {
-        front
-    } else {
-        front_at(encoded, count, front.next)
+    if front.given >= front.piece.len() {
+        *front = front_at(encoded, count, front.next);
     }
 }
 

@@ -4,7 +4,7 @@ ghost use Rattle.std.specs.Prelude.{◌≡◌, ◌<◌, ◌≤◌, ◌++◌, [],
 ghost use Rattle.cnf_form.specs.Dimacs.{dimacs_text};
 ghost use Rattle.net_unroll.specs.Encoding.{formula_of};
 
-use crate::pieces::{Front, count_clauses, first, refilled};
+use crate::pieces::{Front, count_clauses, first, refill};
 use net_unroll::Encoded;
 use std::marker::Model;
 
@@ -46,15 +46,11 @@ impl<'a> Text<'a> {
         ensures piece { self.old ≡ take result buffer.new ++ self.new }
         ensures ends { result ≡ 0 → 0 < length buffer.new → self.old ≡ [] }
     {
-        let front = refilled(self.encoded, self.count, self.front);
-        let left = &front.piece.as_str().as_bytes()[front.given..];
+        refill(self.encoded, self.count, &mut self.front);
+        let left = &self.front.piece.as_str().as_bytes()[self.front.given..];
         let count = left.len().min(buffer.len());
         buffer[..count].copy_from_slice(&left[..count]);
-        self.front = Front {
-            piece: front.piece,
-            given: front.given + count,
-            next: front.next,
-        };
+        self.front.given += count;
         count
     }
 

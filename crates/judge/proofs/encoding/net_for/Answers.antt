@@ -6,7 +6,6 @@ use Rattle.sby_terms.specs.declared.names.JobName.{JobName}
 use Rattle.sby_terms.specs.declared.names.JobName.TheVariants.{Base}
 use Rattle.task_net.specs.Net.{IsTooLarge}
 use Rattle.judge.proofs.Encodes.{refused_first, some_jobs}
-use Rattle.judge.specs.Jobs.{jobs_in}
 use Rattle.judge.specs.Problem.{asked_in}
 use Rattle.judge.specs.Stored.{IsRefusedAmong}
 use Rattle.judge.proofs.encoding.net_for.Goals as goal

@@ -1,4 +1,4 @@
-use Rattle.std.proofs.Common.{◌≡◌, ◌∙◌, List, ℕ, ap, subst, sym}
+use Rattle.std.proofs.Common.{◌∙◌, List, ℕ, ap, subst, sym}
 use Rattle.cnf_form.specs.Dimacs.{dimacs_text}
 use Rattle.net_unroll.specs.Encoding.{EncodedOf, formula_of}
 use Rattle.judge.specs.Problem.{IsJobFile}

@@ -1,4 +1,4 @@
-use Rattle.std.proofs.Common.{◌≡◌, ◌∙◌, ◌+◌, ◌-◌, ap, arith, refl, sym, subst}
+use Rattle.std.proofs.Common.{◌≡◌, ◌∙◌, ◌+◌, ◌-◌, ap, arith, sym, subst}
 use Rattle.design_meaning.specs.Runs.{kept_bits}
 use Rattle.job_terms.specs.Decoding.{values_of}
 use Rattle.job_terms.specs.Encoding.{EncodedOf, decoded}

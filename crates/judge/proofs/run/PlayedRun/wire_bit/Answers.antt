@@ -1,4 +1,4 @@
-use Rattle.std.proofs.Common.{◌≡◌, ◌∙◌, ◌<◌, List, [], false, ap, get_or, length, subst, sym}
+use Rattle.std.proofs.Common.{◌∙◌, ◌<◌, List, [], false, ap, get_or, length, subst, sym}
 use Rattle.std.specs.Arc.{arc_value}
 use Rattle.sby_bits.specs.Rows.{Row}
 use Rattle.design_meaning.specs.Runs.{CycleOf, shown_of}
