@@ -1,0 +1,4 @@
+pub mod Emitting
+pub mod Rows
+pub mod CellRows
+pub mod Chains

@@ -1,0 +1,3 @@
+pub mod Emitting
+pub mod Lining
+pub mod Operators
