@@ -3,7 +3,7 @@
 use cert_judge::StreamKind;
 use run_scenes::owned;
 use sby_terms::Mode;
-use sby_words::{Asked, JudgeWords, asked_of, stream_kind};
+use sby_words::{Asked, JudgeWords, TaskWords, asked_of, stream_kind};
 use std::alloc::{AllocError, Global};
 use std::test::Fail;
 
@@ -18,6 +18,22 @@ const REFUSED: &str = "
 --dumptasks
 --dumptasks t.sby a
 -d w --dumptasks t.sby
+-d a -d b t.sby
+-j
+t.sby -j
+-j 2
+-j 0 t.sby
+-j 65 t.sby
+-j x t.sby
+-j 01 t.sby
+-j +1 t.sby
+-j -1 t.sby
+-j  t.sby
+-j 4294967297 t.sby
+-j 2 -j 2 t.sby
+-j 2 --gen 5
+-j 2 --judge t.il bmc 1
+-j 2 --dumptasks t.sby
 --judge --gen t.il bmc 1
 --judge t.il live 1
 --judge t.il bmc
@@ -72,6 +88,28 @@ fn told(alloc: Global, asked: &JudgeWords) -> Result<String, AllocError> {
     Ok(text)
 }
 
+fn told_run(alloc: Global, asked: &TaskWords) -> Result<String, AllocError> {
+    let mut text = match asked.jobs {
+        Some(jobs) => format!(in alloc; "{jobs}")?,
+        None => String::from_str(alloc, "-")?,
+    };
+    for part in [
+        match &asked.directory {
+            Some(directory) => directory.as_str(),
+            None => "-",
+        },
+        asked.file.as_str(),
+    ] {
+        text.push_str(" ")?;
+        text.push_str(part)?;
+    }
+    for name in &asked.names {
+        text.push_str(" ")?;
+        text.push_str(name.as_str())?;
+    }
+    Ok(text)
+}
+
 // Whether the words of a line ask for what stands after its colon.
 fn is_asked(alloc: Global, line: &str) -> Result<bool, AllocError> {
     let Some((words, want)) = line.split_once(" : ") else {
@@ -79,13 +117,32 @@ fn is_asked(alloc: Global, line: &str) -> Result<bool, AllocError> {
     };
     match asked_of(alloc, &owned(alloc, words)?)? {
         Some(Asked::Judge(asked)) => Ok(told(alloc, &asked)?.as_str() == want),
-        Some(Asked::Tasks(_) | Asked::Names(_) | Asked::Gen(_)) | None => Ok(false),
+        Some(Asked::Tasks(asked)) => Ok(told_run(alloc, &asked)?.as_str() == want),
+        Some(Asked::Names(_) | Asked::Gen(_)) | None => Ok(false),
     }
 }
 
 #[test]
 fn judged_designs_are_asked(rt: HostRuntime) -> Result<(), Fail> {
     for line in ASKED.split('\n') {
+        assert!(rt; is_asked(rt.alloc(), line)?, "{line}");
+    }
+    Ok(())
+}
+
+// Words, and after a colon M or `-`, DIR or `-`, the task file and the tasks that they ask for.
+const RUN: &str = "t.sby : - - t.sby
+-d out t.sby a b : - out t.sby a b
+-j 1 t.sby : 1 - t.sby
+-j 64 t.sby a b : 64 - t.sby a b
+-f -j 2 -d out a/t.sby : 2 out a/t.sby
+-d out t.sby a -j 8 : 8 out t.sby a
+-fj10 t : 10 - t
+-j 3 -- -j : 3 - -j";
+
+#[test]
+fn runs_are_asked(rt: HostRuntime) -> Result<(), Fail> {
+    for line in RUN.split('\n') {
         assert!(rt; is_asked(rt.alloc(), line)?, "{line}");
     }
     Ok(())

@@ -1,6 +1,7 @@
 -- What a start, and the life after it, leave to the bay.
 use Rattle.std.proofs.Common.{◌≡◌, ◌⊎◌, inl, inr, ℕ, ◌≤◌, List, [], ◌∷◌, ◌++◌, length, Option, None, Some, IsSomeAnd, Result, Ok, Err, option_map, refl, sym, ap, subst, ◌∙◌, arith}
 use Rattle.std.proofs.lemmas.List.{append-nil}
+use Rattle.jobs_pool.specs.Places.{PoolOf}
 use Rattle.sby_edge.specs.declared.outside.Fail.{Fail}
 use Rattle.sby_edge.specs.declared.outside.Fail.TheVariants.{Memory as FailMemory}
 use Rattle.sby_edge.specs.Child.{BayOf, PipeOf, StartOf, finished, gave, pipe_of, started, up_to, with_given}
@@ -19,7 +20,7 @@ use Rattle.race_core.specs.declared.part.Reader.TheVariants as reader
 use Rattle.lane_run.specs.Judging.{Within}
 use Rattle.lane_run.specs.Reading.{Comes, IsProof, NoneLeft, TookProof, TookSome, bytes_read}
 use Rattle.lane_run.specs.Sides.{RanFrom}
-use Rattle.lane_run.specs.Starting.{IsFront, IsKilledFor, NoStart, ReadsScript, Starts, start_of, with_starts}
+use Rattle.lane_run.specs.Starting.{IsFront, IsKilledFor, NoStart, ReadsScript, Starts, Unstarted, start_of, with_starts}
 use Rattle.lane_run.proofs.Readers.{comes_within}
 
 -- what an ended output comes to, it comes to where something else says that it ended
@@ -185,12 +186,12 @@ reads_within st st' en en' pr pr' bay job most few most_output events hs he hp s
 }
 
 -- so are the starts
-pub starts_within : {T : Type 0} (job : JobName) (words words' : List (List ℕ)) (file file' : List ℕ) (A B : Type 0) (events kept : List (LaneEvent T)) (e : JobEnd T) (starts : List StartOf)
-    → words ≡ words' → file ≡ file' → (A → B) → Starts job words file A events kept e starts → Starts job words' file' B events kept e starts
-starts_within job words words' file file' A B events kept e starts is bytes t (inl h) = inl h
-starts_within job words words' file file' A B events kept e starts is bytes t (inr (inl h)) =
+pub starts_within : {T : Type 0} (pool : Option PoolOf) (job : JobName) (words words' : List (List ℕ)) (file file' : List ℕ) (A B : Type 0) (events kept : List (LaneEvent T)) (e : JobEnd T) (starts : List StartOf)
+    → words ≡ words' → file ≡ file' → (A → B) → Starts pool job words file A events kept e starts → Starts pool job words' file' B events kept e starts
+starts_within pool job words words' file file' A B events kept e starts is bytes t (inl h) = inl h
+starts_within pool job words words' file file' A B events kept e starts is bytes t (inr (inl h)) =
     inr (inl (h.0, h.1, subst (λ (w : List (List ℕ)). starts ≡ start_of job w file' None None ∷ []) is (subst (λ (b : List ℕ). starts ≡ start_of job words b None None ∷ []) bytes h.2)))
-starts_within job words words' file file' A B events kept e starts is bytes t (inr (inr h)) = inr (inr (
+starts_within pool job words words' file file' A B events kept e starts is bytes t (inr (inr h)) = inr (inr (
   h.0,
   t h.1,
   (
@@ -215,9 +216,9 @@ pub none_started : {X : Type 0} (r : Result X Fail) (e : Fail) (job : JobName) (
     → bay' ≡ option_map (with_starts []) bay
 none_started r e job words file bay bay' is memory told = told ∙ (same_bay r e job words file bay is memory ∙ no_starts bay)
 
-pub none_for_want : {T : Type 0} (job : JobName) (words : List (List ℕ)) (file : List ℕ) (A : Type 0) (events kept : List (LaneEvent T)) (e : JobEnd T) → e ≡ end.Memory → events ≡ [] → Starts job words file A events kept e []
-none_for_want {T} job words file A events kept e is none = inl (subst (λ (e : JobEnd T). NoStart e) (sym is) tt, none, refl)
+pub none_for_want : {T : Type 0} (pool : Option PoolOf) (job : JobName) (words : List (List ℕ)) (file : List ℕ) (A : Type 0) (events kept : List (LaneEvent T)) (e : JobEnd T) → e ≡ end.Memory → events ≡ [] → Starts pool job words file A events kept e []
+none_for_want {T} pool job words file A events kept e is none = inl (inl (subst (λ (e : JobEnd T). NoStart e) (sym is) tt), none, refl)
 
 -- a job that wasn't asked to start
-pub none_for_end : {T : Type 0} (job : JobName) (words : List (List ℕ)) (file : List ℕ) (A : Type 0) (events kept : List (LaneEvent T)) (e : JobEnd T) → NoStart e → events ≡ [] → Starts job words file A events kept e []
-none_for_end job words file A events kept e is none = inl (is, none, refl)
+pub none_for_end : {T : Type 0} (pool : Option PoolOf) (job : JobName) (words : List (List ℕ)) (file : List ℕ) (A : Type 0) (events kept : List (LaneEvent T)) (e : JobEnd T) → Unstarted pool e → events ≡ [] → Starts pool job words file A events kept e []
+none_for_end pool job words file A events kept e is none = inl (is, none, refl)

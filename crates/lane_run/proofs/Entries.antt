@@ -1,5 +1,5 @@
 -- What a list says with one more event.
-use Rattle.std.proofs.Common.{◌≡◌, ◌⊎◌, inl, inr, ℕ, zero, suc, ◌+◌, ◌<◌, Bool, true, false, cond, nat_lt, ◌&&◌, List, [], ◌∷◌, Some, None, refl, subst, arith}
+use Rattle.std.proofs.Common.{◌≡◌, ◌⊎◌, inl, inr, ℕ, zero, suc, ◌+◌, ◌<◌, Bool, true, false, cond, nat_lt, ◌&&◌, List, [], ◌∷◌, Some, None, refl, sym, subst, arith}
 use Rattle.std.proofs.lemmas.Bool.Decides.{nat_tests}
 use Rattle.race_core.specs.Sharing.{entries, fits, read_more, shared, with_event}
 use Rattle.race_core.specs.Carrying.{Looked}
@@ -7,7 +7,7 @@ use Rattle.race_core.specs.declared.event.Judged.TheVariants as progress
 use Rattle.race_core.specs.declared.event.LaneEvent.{LaneEvent}
 use Rattle.race_core.specs.declared.event.LaneEvent.TheVariants as event
 use Rattle.lane_run.specs.Reading.{bytes_filed, bytes_read, empty_by, empty_reads, filed_by, no_byte, read_by}
-use Rattle.lane_run.specs.Keeping.{Adds, HasReading, IsReading}
+use Rattle.lane_run.specs.Keeping.{Adds, HasChildStart, HasReading, IsChildStart, IsReading}
 
 -- two neighbours share no entry, or they are reads, or turns
 abbrev Shares : {T : Type 0} → LaneEvent T → LaneEvent T → Type 0
@@ -220,6 +220,26 @@ read_with r e (x ∷ []) h = read_two r x e (shares x e) h
 read_with r e (x ∷ y ∷ es) (inl h) = inl (inl h)
 read_with r e (x ∷ y ∷ es) (inr h) = read_later r x e (y ∷ es) (read_with r e (y ∷ es) h)
 
+start_two : {T : Type 0} (x e : LaneEvent T) → Shares x e → HasChildStart (x ∷ []) ⊎ IsChildStart e → HasChildStart (entries x e (shared x e))
+start_two {T} x e (inl none) (inl (inl h)) = subst (λ o. HasChildStart (entries x e o)) (sym none) (inl h)
+start_two {T} x e (inl none) (inl (inr h)) = absurd h
+start_two {T} x e (inl none) (inr h) = subst (λ o. HasChildStart (entries x e o)) (sym none) (inr (inl h))
+start_two {T} x e (inr (inl (m, n, hx, he, some, one, two))) (inl (inl h)) = absurd (subst (λ (x : LaneEvent T). IsChildStart x) hx h)
+start_two {T} x e (inr (inl (m, n, hx, he, some, one, two))) (inl (inr h)) = absurd h
+start_two {T} x e (inr (inl (m, n, hx, he, some, one, two))) (inr h) = absurd (subst (λ (x : LaneEvent T). IsChildStart x) he h)
+start_two {T} x e (inr (inr (m, n, hx, he, some))) (inl (inl h)) = absurd (subst (λ (x : LaneEvent T). IsChildStart x) hx h)
+start_two {T} x e (inr (inr (m, n, hx, he, some))) (inl (inr h)) = absurd h
+start_two {T} x e (inr (inr (m, n, hx, he, some))) (inr h) = absurd (subst (λ (x : LaneEvent T). IsChildStart x) he h)
+
+-- a start of a list stays with one more event
+start_with : {T : Type 0} (e : LaneEvent T) (es : List (LaneEvent T)) → HasChildStart es ⊎ IsChildStart e → HasChildStart (with_event e es)
+start_with e [] (inl h) = absurd h
+start_with e [] (inr h) = inl h
+start_with e (x ∷ []) h = start_two x e (shares x e) h
+start_with e (x ∷ y ∷ es) (inl (inl h)) = inl h
+start_with e (x ∷ y ∷ es) (inl (inr h)) = inr (start_with e (y ∷ es) (inl h))
+start_with e (x ∷ y ∷ es) (inr h) = inr (start_with e (y ∷ es) (inr h))
+
 -- what a list shows with one more event
 pub adds_with : {T : Type 0} (e : LaneEvent T) (es : List (LaneEvent T)) → Adds e es (with_event e es)
-adds_with e es = record { looks = λ place f seen. looked_with place f e es seen; readings = λ r seen. read_with r e es seen }
+adds_with e es = record { looks = λ place f seen. looked_with place f e es seen; readings = λ r seen. read_with r e es seen; starts = λ has. start_with e es has }

@@ -1,5 +1,5 @@
 -- What a keeper does.
-use Rattle.std.proofs.Common.{◌≡◌, ◌⊎◌, inl, inr, ℕ, zero, suc, ◌<◌, ◌≤◌, List, [], ◌∷◌, length, map, Option, Some, None, IfSome, refl, sym, ap, subst, ◌∙◌, arith}
+use Rattle.std.proofs.Common.{◌≡◌, ◌⊎◌, inl, inr, ℕ, zero, suc, ◌+◌, ◌<◌, ◌≤◌, List, [], ◌∷◌, length, map, Option, Some, None, IfSome, refl, sym, ap, subst, ◌∙◌, arith}
 use Rattle.std.proofs.lemmas.List.{length-map}
 use Rattle.race_cells.specs.Notes.{NoteOf, AreNotesOf, Agrees, Learns, known_at, learned}
 use Rattle.race_core.specs.Carrying.{Looked}
@@ -44,7 +44,7 @@ learns_known {T} names place value before now of h (is, agrees) =
 
 -- nothing done
 keeps_same : {T : Type 0} (of_cell : ℕ → T → Type 0) (may_read : ℕ → Type 0) (notes : List (NoteOf T)) (events : List (LaneEvent T)) → Keeps of_cell may_read notes notes events events
-keeps_same of_cell may_read notes events = record { remember = record { cells = refl; knows = λ place f known. known }; looks = λ place f h. inl h; readings = λ r h. inl h }
+keeps_same of_cell may_read notes events = record { remember = record { cells = refl; knows = λ place f known. known }; looks = λ place f h. inl h; readings = λ r h. inl h; starts = λ h. h }
 
 -- one thing after the other
 pub keeps_then : {T : Type 0} (of_cell : ℕ → T → Type 0) (may_read : ℕ → Type 0) (n₁ n₂ n₃ : List (NoteOf T)) (e₁ e₂ e₃ : List (LaneEvent T))
@@ -53,6 +53,7 @@ keeps_then {T} of_cell may_read n₁ n₂ n₃ e₁ e₂ e₃ h k = record {
   remember = record { cells = k.remember.cells ∙ h.remember.cells; knows = λ place f known. k.remember.knows place f (h.remember.knows place f known) };
   looks = λ place f seen. looks place f (k.looks place f seen);
   readings = λ r seen. readings r (k.readings r seen);
+  starts = λ has. k.starts (h.starts has);
 }
   where
     look : (place : ℕ) (f : T) → Looked place f e₁ ⊎ (of_cell place f × (known_at n₂ place ≡ Some f)) → Looked place f e₁ ⊎ (of_cell place f × (known_at n₃ place ≡ Some f))
@@ -70,7 +71,7 @@ keeps_then {T} of_cell may_read n₁ n₂ n₃ e₁ e₂ e₃ h k = record {
 -- the notes alone learned something
 pub keeps_remember : {T : Type 0} (of_cell : ℕ → T → Type 0) (may_read : ℕ → Type 0) (before now : List (NoteOf T)) (events : List (LaneEvent T)) → Remember before now
     → Keeps of_cell may_read before now events events
-keeps_remember of_cell may_read before now events remember = record { remember = remember; looks = λ place f h. inl h; readings = λ r h. inl h }
+keeps_remember of_cell may_read before now events remember = record { remember = remember; looks = λ place f h. inl h; readings = λ r h. inl h; starts = λ h. h }
 
 -- an entry that shows what the notes know, and whose reading the clock may give
 keeps_adds : {T : Type 0} (of_cell : ℕ → T → Type 0) (may_read : ℕ → Type 0) (notes : List (NoteOf T)) (entry : LaneEvent T) (events events' : List (LaneEvent T))
@@ -82,6 +83,7 @@ keeps_adds {T} of_cell may_read notes entry events events' adds shown may = reco
   remember = record { cells = refl; knows = λ place f known. known };
   looks = λ place f seen. look place f (adds.looks place f seen);
   readings = λ r seen. reading r (adds.readings r seen);
+  starts = λ has. adds.starts (inl has);
 }
   where
     look : (place : ℕ) (f : T) → Looked place f events ⊎ Looked place f (entry ∷ []) → Looked place f events ⊎ (of_cell place f × (known_at notes place ≡ Some f))
@@ -159,10 +161,10 @@ keeps_look {T} of_cell may_read notes place value events events' of known adds =
     shown other f (inr seen) = absurd seen
 
 -- where a keeper stands between two turns
-pub record AtTurn (keeps notes turns place : Type 0) (room : ℕ) (hold : Type 0) : Type 0 where
+pub record AtTurn (keeps notes turns place : Type 0) (reserved room : ℕ) (hold : Type 0) : Type 0 where
   pub so_far : keeps
   pub of : notes
   pub part : turns
   pub same_place : place
-  pub some : 2 ≤ room
+  pub some : reserved + 2 ≤ room
   pub held : hold

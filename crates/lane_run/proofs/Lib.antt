@@ -2,6 +2,7 @@ mod Endings
 mod Entries
 mod Keepers
 mod Kills
+mod PlaceLemmas
 mod Proving
 mod Readers
 mod ChildStarts
@@ -17,4 +18,5 @@ pub mod Reasons
 pub mod Seats
 pub mod Starts
 pub mod Stops
+mod Waits
 pub mod Wholes

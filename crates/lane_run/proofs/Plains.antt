@@ -1,5 +1,6 @@
 -- The ends of an undisturbed lane are Plain's.
 use Rattle.std.proofs.Common.{◌≡◌, ◌≢◌, ◌⊎◌, inl, inr, ℕ, ◌<◌, List, [], ◌++◌, Option, Some, None, IsSomeAnd, refl, sym, ap, subst, ◌∙◌, append-nil, arith}
+use Rattle.jobs_pool.specs.Places.{PoolOf}
 use Rattle.sby_edge.specs.Cause.{CountsOf}
 use Rattle.sby_edge.specs.Child.{BayOf, StartOf, up_to}
 use Rattle.sby_edge.specs.Script.{ScriptOf}
@@ -22,7 +23,7 @@ use Rattle.race_core.specs.declared.part.By.TheVariants as by
 use Rattle.race_core.specs.declared.part.Reader.{Reader}
 use Rattle.race_core.specs.declared.part.Reader.TheVariants as reader
 use Rattle.lane_run.specs.Reading.{Comes, ComesBy, IsProof, NotByFile}
-use Rattle.lane_run.specs.Starting.{IsFront, NoStart, ReadsScript, Starts}
+use Rattle.lane_run.specs.Starting.{EndsWaiting, IsFront, NoStart, ReadsScript, Starts, Unstarted}
 use Rattle.lane_run.specs.Complete.{ComesTo, IsKnown, IsPlain, IsUndisturbed}
 use Rattle.lane_run.specs.Done.{CameLate, LaneFaults, LaneSoFar, LaneStops}
 use Rattle.lane_run.specs.Started.{LaneStarts}
@@ -105,12 +106,17 @@ module _ {T : Type 0} (stands ends proves : List ℕ → Judged T → Type 0) (s
   plain_found f reader.Short h got comes = absurd h
   plain_found f reader.Wrong h got comes = absurd h
 
+-- an end that has neither no start nor a wait has a start
+was_started : {T : Type 0} (pool : Option PoolOf) (e : JobEnd T) → (NoStart e → ⊥) → (EndsWaiting e → ⊥) → Unstarted pool e → ⊥
+was_started pool e asked waited (inl none) = asked none
+was_started pool e asked waited (inr waits) = waited waits.1
+
 -- a job whose child was started, and whose start didn't fail, ran
-ran_of : {T : Type 0} (job : JobName) (words : List (List ℕ)) (file : List ℕ) (ran : Type 0) (events kept : List (LaneEvent T)) (e : JobEnd T) (starts : List StartOf)
-    → (NoStart e → ⊥) → (e ≡ end.StartFailed → ⊥) → Starts job words file ran events kept e starts → ran
-ran_of job words file ran events kept e starts unasked failed (inl h) = absurd (unasked h.0)
-ran_of job words file ran events kept e starts unasked failed (inr (inl h)) = absurd (failed h.0)
-ran_of job words file ran events kept e starts unasked failed (inr (inr h)) = h.1
+ran_of : {T : Type 0} (pool : Option PoolOf) (job : JobName) (words : List (List ℕ)) (file : List ℕ) (ran : Type 0) (events kept : List (LaneEvent T)) (e : JobEnd T) (starts : List StartOf)
+    → (Unstarted pool e → ⊥) → (e ≡ end.StartFailed → ⊥) → Starts pool job words file ran events kept e starts → ran
+ran_of pool job words file ran events kept e starts unasked failed (inl h) = absurd (unasked h.0)
+ran_of pool job words file ran events kept e starts unasked failed (inr (inl h)) = absurd (failed h.0)
+ran_of pool job words file ran events kept e starts unasked failed (inr (inr h)) = h.1
 
 -- no end that ends the lane's work
 last_not : {T : Type 0} (e : JobEnd T) → IsLast e → ((t : ℕ) → e ≡ end.Stopped t → ⊥) → (e ≡ end.Memory → ⊥) → ⊥
@@ -127,11 +133,11 @@ last_not (end.Skipped f) last stopped memory = last
 last_not (end.CalledOff f) last stopped memory = last
 
 module _ {T : Type 0} (For : ℕ → T → Type 0) (serves : ℕ → Type 0) (terms : ℕ → Terms T) (may_read : ℕ → Type 0) (limit : Limit) (mode : Mode)
-    (words : JobName → List (List ℕ)) (file : JobName → List ℕ) (stands ends proves : JobName → List ℕ → Judged T → Type 0) (most most_output : ℕ)
+    (pool : Option PoolOf) (words : JobName → List (List ℕ)) (file : JobName → List ℕ) (stands ends proves : JobName → List ℕ → Judged T → Type 0) (most most_output : ℕ)
     (stays : (job : JobName) (bytes more : List ℕ) (p : Judged T) → p ≢ judged.More → stands job bytes p → ends job (bytes ++ more) p)
     (n : ℕ) (notes : List (NoteOf T)) (r : ReportOf T) (so_far : LaneSoFar For serves terms may_read n notes r) (stops : LaneStops may_read limit n r)
     (bay : BayOf) (told : Option BayOf) (before now : CountsOf) (faults : LaneFaults before now n r)
-    (starts : LaneStarts words file stands ends proves most most_output mode (Some bay) told n r) (calm : IsUndisturbed may_read limit mode bay before now n r) where
+    (starts : LaneStarts pool words file stands ends proves most most_output mode (Some bay) told n r) (calm : IsUndisturbed may_read limit mode bay before now n r) where
   not_stopped : (j : ℕ) → j < n → (t : ℕ) → end_at r j ≡ end.Stopped t → ⊥
   not_stopped j lt t h = let s = stops j t lt h in calm.in_time limit.start t s.start s.reading s.shows
 
@@ -143,11 +149,11 @@ module _ {T : Type 0} (For : ℕ → T → Type 0) (serves : ℕ → Type 0) (te
   knew_later : (j : ℕ) (f : T) → j < n → KnewBy (events_at r) j f → KnewBy (events_at r) n f
   knew_later j f lt k = (k.0, omega (k.1, lt, arith), k.2)
 
-  read_of : (j : ℕ) → j < n → (NoStart (end_at r j) → ⊥) → (end_at r j ≡ end.StartFailed → ⊥)
+  read_of : (j : ℕ) → j < n → (Unstarted pool (end_at r j) → ⊥) → (end_at r j ≡ end.StartFailed → ⊥)
       → ReadsScript (stands (name_at mode j)) (ends (name_at mode j)) (proves (name_at mode j)) (Some bay) (name_at mode j) most most_output (events_at r j).reader
   read_of j lt unasked failed = elim (starts.each j lt) [
     | inl late ↦ absurd (not_late j lt late.0)
-    | inr s ↦ ran_of (name_at mode j) (words (name_at mode j)) (file (name_at mode j))
+    | inr s ↦ ran_of pool (name_at mode j) (words (name_at mode j)) (file (name_at mode j))
         (ReadsScript (stands (name_at mode j)) (ends (name_at mode j)) (proves (name_at mode j)) (Some bay) (name_at mode j) most most_output (events_at r j).reader)
         (events_at r j).reader (events_at r j).keeper (end_at r j) (starts.starts j) unasked failed s
   ]
@@ -155,7 +161,7 @@ module _ {T : Type 0} (For : ℕ → T → Type 0) (serves : ℕ → Type 0) (te
   unknown_at : (j : ℕ) → j < n → end_at r j ≡ end.Unknown → HasEnd (reader_of (events_at r j)) end.Unknown
       → ComesTo (ends (name_at mode j)) (proves (name_at mode j)) (IsProof (Some bay) (name_at mode j) most) (up_to (bay.scripts (name_at mode j)).stalls (bay.scripts (name_at mode j)).bytes) judged.Unknown
   unknown_at j lt is h =
-      let x = read_of j lt (λ (unasked : NoStart (end_at r j)). subst (λ (e : JobEnd T). NoStart e) is unasked) (λ failed. apart (sym is ∙ failed)) in
+      let x = read_of j lt (λ (unasked : Unstarted pool (end_at r j)). was_started {T = T} pool end.Unknown (λ none. none) (λ waits. waits) (subst (λ (e : JobEnd T). Unstarted pool e) is unasked)) (λ failed. apart (sym is ∙ failed)) in
       plain_unknown (stands (name_at mode j)) (ends (name_at mode j)) (proves (name_at mode j)) (stays (name_at mode j)) (IsProof (Some bay) (name_at mode j) most) x.output x.rest x.proof
       (up_to (bay.scripts (name_at mode j)).stalls (bay.scripts (name_at mode j)).bytes)
       (whole_front (bay.scripts (name_at mode j)) x.output x.rest (calm.ungated j lt) x.front) (reader_of (events_at r j)) h x.is_proof x.comes
@@ -166,7 +172,7 @@ module _ {T : Type 0} (For : ℕ → T → Type 0) (serves : ℕ → Type 0) (te
   bad_at : (j m a : ℕ) → j < n → end_at r j ≡ end.Bad m a → HasEnd (reader_of (events_at r j)) (end.Bad m a)
       → ComesTo (ends (name_at mode j)) (proves (name_at mode j)) (IsProof (Some bay) (name_at mode j) most) (up_to (bay.scripts (name_at mode j)).stalls (bay.scripts (name_at mode j)).bytes) (judged.Bad m a)
   bad_at j m a lt is h =
-      let x = read_of j lt (λ (unasked : NoStart (end_at r j)). subst (λ (e : JobEnd T). NoStart e) is unasked) (λ failed. apart (sym is ∙ failed)) in
+      let x = read_of j lt (λ (unasked : Unstarted pool (end_at r j)). was_started {T = T} pool (end.Bad m a) (λ none. none) (λ waits. waits) (subst (λ (e : JobEnd T). Unstarted pool e) is unasked)) (λ failed. apart (sym is ∙ failed)) in
       plain_bad (stands (name_at mode j)) (ends (name_at mode j)) (proves (name_at mode j)) (stays (name_at mode j)) (IsProof (Some bay) (name_at mode j) most) x.output x.rest x.proof
       (up_to (bay.scripts (name_at mode j)).stalls (bay.scripts (name_at mode j)).bytes)
       (whole_front (bay.scripts (name_at mode j)) x.output x.rest (calm.ungated j lt) x.front) m a (reader_of (events_at r j)) h x.is_proof x.comes

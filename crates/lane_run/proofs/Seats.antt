@@ -1,5 +1,5 @@
 -- Lanes that have the seats of a race.
-use Rattle.std.proofs.Common.{◌≡◌, ℕ, zero, suc, ◌<◌, List, [], ◌∷◌, length, map, subst, arith}
+use Rattle.std.proofs.Common.{◌≡◌, ℕ, zero, suc, ◌<◌, All, List, [], ◌∷◌, length, map, subst, arith}
 use Rattle.std.specs.Prelude.{slice_index_or}
 
 module _ {X Y R N : Type 0} (report : X → R) (notes : X → N) (report' : Y → R) (notes' : Y → N) where
@@ -25,3 +25,10 @@ module _ {X Y R N : Type 0} (report : X → R) (notes : X → N) (report' : Y �
       subst (λ (a : R). P 0 a (notes' y)) (head_report x y xs ys r) (subst (λ (b : N). P 0 (report x) b) (head_notes x y xs ys n) (h 0 x (omega arith)))
   each_seated P (x ∷ xs) (y ∷ ys) r n h (suc k) d lt =
       each_seated (λ i. P (suc i)) xs ys (rest_reports x y xs ys r) (rest_notes x y xs ys n) (λ j e l. h (suc j) e (omega (l, arith))) k d (omega (lt, arith))
+
+-- what is the same of each
+pub all_alike : {X Y V : Type 0} (f : Y → V) (v : V) (xs : List X) (ys : List Y) → map f ys ≡ map (λ _. v) xs → All (λ y. f y ≡ v) ys
+all_alike f v xs [] is k d lt = absurd (omega (lt, arith))
+all_alike f v [] (y ∷ ys) is k d lt = absurd (cc)
+all_alike f v (x ∷ xs) (y ∷ ys) is zero d lt = cc
+all_alike f v (x ∷ xs) (y ∷ ys) is (suc k) d lt = all_alike f v xs ys (cc) k d (omega (lt, arith))

@@ -1,6 +1,7 @@
 -- What a lane's jobs add to its bay's starts, one job more at a time.
 use Rattle.std.proofs.Common.{◌≡◌, ◌≢◌, ◌⊎◌, inl, inr, ℕ, zero, suc, ◌+◌, ◌<◌, List, [], ◌∷◌, ◌++◌, length, set, get_or, Option, None, Some, option_map, refl, sym, ap, subst, ◌∙◌, arith}
 use Rattle.std.proofs.lemmas.List.{append-nil, append_assoc, get_or-append-add, get_or-set_other, get_or-set_same, get_or_append_left}
+use Rattle.jobs_pool.specs.Places.{PoolOf}
 use Rattle.sby_edge.specs.Child.{BayOf, StartOf}
 use Rattle.sby_terms.specs.declared.names.JobName.{JobName}
 use Rattle.sby_terms.specs.declared.names.Mode.{Mode}
@@ -57,12 +58,12 @@ reads_before st en pr starts bay job most most_output events h = record {
 }
 
 -- so a job's starts are the same to a bay with fewer
-job_before : {T : Type 0} (words : JobName → List (List ℕ)) (file : JobName → List ℕ) (st en pr : JobName → List ℕ → Judged T → Type 0) (most most_output : ℕ) (job : JobName) (first : List StartOf) (bay : Option BayOf)
+job_before : {T : Type 0} (pool : Option PoolOf) (words : JobName → List (List ℕ)) (file : JobName → List ℕ) (st en pr : JobName → List ℕ → Judged T → Type 0) (most most_output : ℕ) (job : JobName) (first : List StartOf) (bay : Option BayOf)
     (es : EventsOf T) (e : JobEnd T) (starts : List StartOf)
-    → JobStarts words file st en pr most most_output job (option_map (with_starts first) bay) es e starts → JobStarts words file st en pr most most_output job bay es e starts
-job_before words file st en pr most most_output job first bay es e starts (inl h) = inl h
-job_before words file st en pr most most_output job first bay es e starts (inr (inl h)) = inr (inl h)
-job_before words file st en pr most most_output job first bay es e starts (inr (inr h)) = inr (inr (h.0, reads_before (st job) (en job) (pr job) first bay job most most_output es.reader h.1, h.2))
+    → JobStarts pool words file st en pr most most_output job (option_map (with_starts first) bay) es e starts → JobStarts pool words file st en pr most most_output job bay es e starts
+job_before pool words file st en pr most most_output job first bay es e starts (inl h) = inl h
+job_before pool words file st en pr most most_output job first bay es e starts (inr (inl h)) = inr (inl h)
+job_before pool words file st en pr most most_output job first bay es e starts (inr (inr h)) = inr (inr (h.0, reads_before (st job) (en job) (pr job) first bay job most most_output es.reader h.1, h.2))
 
 -- the starts of each job, with those of one job put in
 with_job : ℕ → List StartOf → (ℕ → List StartOf) → ℕ → List StartOf
@@ -102,9 +103,9 @@ late_stands {T} n r r' j stand lt (l, lj, last, same, without) =
     let ln : l < n = omega (lj, lt, arith) in
     (l, lj, subst (λ (e : JobEnd T). IsLast e) (sym (stand l ln).0) last, (stand j lt).0 ∙ (same ∙ sym (stand l ln).0), (stand j lt).1 ∙ without)
 
-module _ {T : Type 0} (words : JobName → List (List ℕ)) (file : JobName → List ℕ) (st en pr : JobName → List ℕ → Judged T → Type 0) (most most_output : ℕ) (mode : Mode) where
+module _ {T : Type 0} (pool : Option PoolOf) (words : JobName → List (List ℕ)) (file : JobName → List ℕ) (st en pr : JobName → List ℕ → Judged T → Type 0) (most most_output : ℕ) (mode : Mode) where
   -- a lane that has done nothing started nothing
-  pub lane_unstarted : (bay : Option BayOf) (r : ReportOf T) → LaneStarts words file st en pr most most_output mode bay bay 0 r
+  pub lane_unstarted : (bay : Option BayOf) (r : ReportOf T) → LaneStarts pool words file st en pr most most_output mode bay bay 0 r
   lane_unstarted bay r = record {
     starts = λ j. [];
     told = no_more bay;
@@ -112,10 +113,10 @@ module _ {T : Type 0} (words : JobName → List (List ℕ)) (file : JobName → 
   }
 
   -- one more job
-  pub starts_more : (before mid now : Option BayOf) (n : ℕ) (r r' : ReportOf T) (new : List StartOf) → LaneStarts words file st en pr most most_output mode before mid n r → Stand n r r'
+  pub starts_more : (before mid now : Option BayOf) (n : ℕ) (r r' : ReportOf T) (new : List StartOf) → LaneStarts pool words file st en pr most most_output mode before mid n r → Stand n r r'
       → now ≡ option_map (with_starts new) mid
-      → (CameLate r' n × (new ≡ [])) ⊎ JobStarts words file st en pr most most_output (name_at mode n) mid (events_at r' n) (end_at r' n) new
-      → LaneStarts words file st en pr most most_output mode before now (n + 1) r'
+      → (CameLate r' n × (new ≡ [])) ⊎ JobStarts pool words file st en pr most most_output (name_at mode n) mid (events_at r' n) (end_at r' n) new
+      → LaneStarts pool words file st en pr most most_output mode before now (n + 1) r'
   starts_more before mid now n r r' new lane stand told job = record {
     starts = all;
     told = told ∙ (ap (λ (b : Option BayOf). option_map (with_starts new) b) lane.told
@@ -130,30 +131,30 @@ module _ {T : Type 0} (words : JobName → List (List ℕ)) (file : JobName → 
       all = with_job n new lane.starts
 
       At : ℕ → Type 0
-      At j = (CameLate r' j × (all j ≡ [])) ⊎ JobStarts words file st en pr most most_output (name_at mode j) before (events_at r' j) (end_at r' j) (all j)
+      At j = (CameLate r' j × (all j ≡ [])) ⊎ JobStarts pool words file st en pr most most_output (name_at mode j) before (events_at r' j) (end_at r' j) (all j)
 
       listed : starts_upto (n + 1) all ≡ starts_upto n lane.starts ++ new
       listed = upto_next n all ∙ (ap (λ (l : List StartOf). l ++ all n) (upto_same n all lane.starts (λ j lt. with_job_below n new lane.starts j lt))
           ∙ ap (λ (l : List StartOf). starts_upto n lane.starts ++ l) (with_job_there n new lane.starts))
 
-      put : (CameLate r' n × (new ≡ [])) ⊎ JobStarts words file st en pr most most_output (name_at mode n) mid (events_at r' n) (end_at r' n) new
-          → (CameLate r' n × (new ≡ [])) ⊎ JobStarts words file st en pr most most_output (name_at mode n) before (events_at r' n) (end_at r' n) new
+      put : (CameLate r' n × (new ≡ [])) ⊎ JobStarts pool words file st en pr most most_output (name_at mode n) mid (events_at r' n) (end_at r' n) new
+          → (CameLate r' n × (new ≡ [])) ⊎ JobStarts pool words file st en pr most most_output (name_at mode n) before (events_at r' n) (end_at r' n) new
       put (inl late) = inl late
-      put (inr h) = inr (job_before words file st en pr most most_output (name_at mode n) (starts_upto n lane.starts) before (events_at r' n) (end_at r' n) new
-          (subst (λ (b : Option BayOf). JobStarts words file st en pr most most_output (name_at mode n) b (events_at r' n) (end_at r' n) new) lane.told h))
+      put (inr h) = inr (job_before pool words file st en pr most most_output (name_at mode n) (starts_upto n lane.starts) before (events_at r' n) (end_at r' n) new
+          (subst (λ (b : Option BayOf). JobStarts pool words file st en pr most most_output (name_at mode n) b (events_at r' n) (end_at r' n) new) lane.told h))
 
       here : At n
-      here = subst (λ (l : List StartOf). (CameLate r' n × (l ≡ [])) ⊎ JobStarts words file st en pr most most_output (name_at mode n) before (events_at r' n) (end_at r' n) l)
+      here = subst (λ (l : List StartOf). (CameLate r' n × (l ≡ [])) ⊎ JobStarts pool words file st en pr most most_output (name_at mode n) before (events_at r' n) (end_at r' n) l)
           (sym (with_job_there n new lane.starts)) (put job)
 
       earlier : (j : ℕ) → j < n
-          → (CameLate r j × (lane.starts j ≡ [])) ⊎ JobStarts words file st en pr most most_output (name_at mode j) before (events_at r j) (end_at r j) (lane.starts j)
+          → (CameLate r j × (lane.starts j ≡ [])) ⊎ JobStarts pool words file st en pr most most_output (name_at mode j) before (events_at r j) (end_at r j) (lane.starts j)
           → At j
       earlier j lt (inl late) = inl (late_stands n r r' j stand lt late.0, with_job_below n new lane.starts j lt ∙ late.1)
       earlier j lt (inr h) = inr (
-          subst (λ (l : List StartOf). JobStarts words file st en pr most most_output (name_at mode j) before (events_at r' j) (end_at r' j) l) (sym (with_job_below n new lane.starts j lt))
-          (subst (λ (e : JobEnd T). JobStarts words file st en pr most most_output (name_at mode j) before (events_at r' j) e (lane.starts j)) (sym (stand j lt).0)
-          (subst (λ (es : EventsOf T). JobStarts words file st en pr most most_output (name_at mode j) before es (end_at r j) (lane.starts j)) (sym (stand j lt).1) h)))
+          subst (λ (l : List StartOf). JobStarts pool words file st en pr most most_output (name_at mode j) before (events_at r' j) (end_at r' j) l) (sym (with_job_below n new lane.starts j lt))
+          (subst (λ (e : JobEnd T). JobStarts pool words file st en pr most most_output (name_at mode j) before (events_at r' j) e (lane.starts j)) (sym (stand j lt).0)
+          (subst (λ (es : EventsOf T). JobStarts pool words file st en pr most most_output (name_at mode j) before es (end_at r j) (lane.starts j)) (sym (stand j lt).1) h)))
 
 -- the report with one more job: the earlier ones stand
 module _ {T : Type 0} (n : ℕ) (r r' : ReportOf T) (e : JobEnd T) (es : EventsOf T) (ends : length r.ends ≡ n) (is : r' ≡ record r { events = set r.events n es; ends = r.ends ++ e ∷ [] }) where
@@ -191,9 +192,9 @@ module _ {T : Type 0} (n : ℕ) (r r' : ReportOf T) (e : JobEnd T) (ends : lengt
       new_end = ap (λ (x : ReportOf T). end_at x n) is ∙ subst (λ (k : ℕ). get_or (r.ends ++ e ∷ []) k end.NotServed ≡ e) (omega (ends, arith)) (get_or-append-add r.ends (e ∷ []) 0 end.NotServed)
 
 -- the starts of a job, as its report tells of it
-pub in_report : {T : Type 0} (words : JobName → List (List ℕ)) (file : JobName → List ℕ) (st en pr : JobName → List ℕ → Judged T → Type 0) (most most_output : ℕ) (job : JobName) (bay : Option BayOf) (n : ℕ) (r : ReportOf T)
+pub in_report : {T : Type 0} (pool : Option PoolOf) (words : JobName → List (List ℕ)) (file : JobName → List ℕ) (st en pr : JobName → List ℕ → Judged T → Type 0) (most most_output : ℕ) (job : JobName) (bay : Option BayOf) (n : ℕ) (r : ReportOf T)
     (e : JobEnd T) (es : EventsOf T) (starts : List StartOf) → end_at r n ≡ e → events_at r n ≡ es
-    → JobStarts words file st en pr most most_output job bay es e starts → JobStarts words file st en pr most most_output job bay (events_at r n) (end_at r n) starts
-in_report {T} words file st en pr most most_output job bay n r e es starts ended told h =
-    subst (λ (x : JobEnd T). JobStarts words file st en pr most most_output job bay (events_at r n) x starts) (sym ended)
-    (subst (λ (x : EventsOf T). JobStarts words file st en pr most most_output job bay x e starts) (sym told) h)
+    → JobStarts pool words file st en pr most most_output job bay es e starts → JobStarts pool words file st en pr most most_output job bay (events_at r n) (end_at r n) starts
+in_report {T} pool words file st en pr most most_output job bay n r e es starts ended told h =
+    subst (λ (x : JobEnd T). JobStarts pool words file st en pr most most_output job bay (events_at r n) x starts) (sym ended)
+    (subst (λ (x : EventsOf T). JobStarts pool words file st en pr most most_output job bay x e starts) (sym told) h)

@@ -57,10 +57,33 @@ abbrev pub HasKill : {T : Type 0} → List (LaneEvent T) → Type 0
 HasKill [] = ⊥
 HasKill (e ∷ es) = IsKill e ⊎ HasKill es
 
--- what the looks of a list show, and its readings, are those of another list, with those of this entry
+-- the event is the start of a child
+abbrev pub IsChildStart : {T : Type 0} → LaneEvent T → Type 0
+IsChildStart (event.Read n p) = ⊥
+IsChildStart (event.File n p) = ⊥
+IsChildStart (event.Settle won) = ⊥
+IsChildStart event.ReaderMemory = ⊥
+IsChildStart (event.Turns n) = ⊥
+IsChildStart (event.Poll p) = ⊥
+IsChildStart (event.Clock r) = ⊥
+IsChildStart (event.Look c known) = ⊥
+IsChildStart event.Kill = ⊥
+IsChildStart event.KeeperMemory = ⊥
+IsChildStart event.Took = ⊥
+IsChildStart event.Start = Unit {0}
+IsChildStart event.Finish = ⊥
+IsChildStart event.Gave = ⊥
+
+-- the list has a start
+abbrev pub HasChildStart : {T : Type 0} → List (LaneEvent T) → Type 0
+HasChildStart [] = ⊥
+HasChildStart (e ∷ es) = IsChildStart e ⊎ HasChildStart es
+
+-- what the looks of a list show, and its readings, are those of another list, with those of this entry; and it has their starts
 pub record Adds {T : Type 0} (entry : LaneEvent T) (events events' : List (LaneEvent T)) : Type 0 where
   pub looks : (place : ℕ) (f : T) → Looked place f events' → Looked place f events ⊎ Looked place f (entry ∷ [])
   pub readings : (r : ℕ) → HasReading r events' → HasReading r events ⊎ IsReading r entry
+  pub starts : HasChildStart events ⊎ IsChildStart entry → HasChildStart events'
 
 -- an entry that shows no finding and has no reading
 abbrev pub IsPlain : {T : Type 0} → LaneEvent T → Type 0
@@ -100,12 +123,13 @@ IsOfCell problem job p terms other place f =
     ⊎ IsSomeAnd other (λ o. (place ≡ o.0) × (job f ≡ o.1))
     ⊎ (IsSlice terms.job × (place < terms.cell) × (job f ≡ name.Base place)))
 
--- Between two moments of a keeper the notes forget nothing; what a new look shows is then known to them, and is of that cell; and each
--- new reading is one that the clock may give.
+-- Between two moments of a keeper the notes forget nothing; what a new look shows is then known to them, and is of that cell; each new
+-- reading is one that the clock may give; and a start stays in the list.
 pub record Keeps {T : Type 0} (of_cell : ℕ → T → Type 0) (may_read : ℕ → Type 0) (notes notes' : List (NoteOf T)) (events events' : List (LaneEvent T)) : Type 0 where
   pub remember : Remember notes notes'
   pub looks : (place : ℕ) (f : T) → Looked place f events' → Looked place f events ⊎ (of_cell place f × (known_at notes' place ≡ Some f))
   pub readings : (r : ℕ) → HasReading r events' → HasReading r events ⊎ may_read r
+  pub starts : HasChildStart events → HasChildStart events'
 
 -- the keeper has looked, and takes its turns
 abbrev pub TakesTurns : {T : Type 0} → Keeper T → Type 0

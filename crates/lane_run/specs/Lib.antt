@@ -8,3 +8,5 @@ pub mod Complete
 pub mod Done
 pub mod Raced
 pub mod Started
+pub mod Waiting
+pub mod Placed

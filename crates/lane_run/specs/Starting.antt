@@ -1,5 +1,6 @@
 -- What a job leaves to its bay and its list, from the look before its start on.
-use Rattle.std.specs.Prelude.{◌≡◌, ◌⊎◌, ℕ, ◌+◌, ◌<◌, ◌≤◌, ◌^◌, List, [], ◌∷◌, ◌++◌, length, Option, None, Some, IsSomeAnd}
+use Rattle.std.specs.Prelude.{◌≡◌, ◌⊎◌, ℕ, ◌+◌, ◌<◌, ◌≤◌, ◌^◌, List, [], ◌∷◌, ◌++◌, length, Option, None, Some, IfSome, IsSome, IsSomeAnd}
+use Rattle.jobs_pool.specs.Places.{PoolOf}
 use Rattle.sby_edge.specs.Child.{BayOf, StartOf, up_to}
 use Rattle.sby_edge.specs.Script.{ScriptOf}
 use Rattle.sby_terms.specs.declared.names.JobName.{JobName}
@@ -9,7 +10,7 @@ use Rattle.race_core.specs.declared.end.JobEnd.TheVariants as end
 use Rattle.race_core.specs.declared.event.Judged.{Judged}
 use Rattle.race_core.specs.declared.event.LaneEvent.{LaneEvent}
 use Rattle.race_core.specs.declared.part.Reader.TheVariants as reader
-use Rattle.lane_run.specs.Keeping.{HasKill}
+use Rattle.lane_run.specs.Keeping.{HasChildStart, HasKill}
 use Rattle.lane_run.specs.Reading.{Comes, TookProof, bytes_filed, bytes_read, empty_reads}
 
 -- an end of a job whose child ran
@@ -39,6 +40,24 @@ NoStart end.StartFailed = ⊥
 NoStart end.HoldFailed = ⊥
 NoStart (end.CalledOff f) = ⊥
 NoStart (end.Stopped r) = ⊥
+
+-- an end of a job whose lane waits for a place
+abbrev pub EndsWaiting : {T : Type 0} → JobEnd T → Type 0
+EndsWaiting (end.CalledOff f) = Unit {0}
+EndsWaiting (end.Stopped r) = Unit {0}
+EndsWaiting end.NotServed = ⊥
+EndsWaiting (end.Skipped f) = ⊥
+EndsWaiting end.Memory = ⊥
+EndsWaiting (end.Found f) = ⊥
+EndsWaiting end.Unknown = ⊥
+EndsWaiting (end.Bad number at) = ⊥
+EndsWaiting end.ReadFailed = ⊥
+EndsWaiting end.StartFailed = ⊥
+EndsWaiting end.HoldFailed = ⊥
+
+-- an end of a job whose child wasn't asked to start: the lane waited for a place only where there is an allowance
+abbrev pub Unstarted : {T : Type 0} → Option PoolOf → JobEnd T → Type 0
+Unstarted pool e = NoStart e ⊎ (IsSome pool × EndsWaiting e)
 
 -- an output and what is left after it: the script's bytes up to its stall, or its gate's other ones
 abbrev pub IsFront : ScriptOf → List ℕ → List ℕ → Type 0
@@ -78,10 +97,15 @@ start_of job words file given killed = record { job = job; words = words; bytes 
 abbrev pub IsKilledFor : {T : Type 0} → ℕ → List (LaneEvent T) → Option ℕ → Type 0
 IsKilledFor given kept killed = (killed ≡ Some given) ⊎ HasKill kept
 
--- The starts of a job, by the lists of its reader and its keeper: none; or one with these words and this file that failed; or one whose
--- child ran, gave as many bytes as the reader's list tells, and was killed by its keeper alone before that.
-abbrev pub Starts : {T : Type 0} → JobName → List (List ℕ) → List ℕ → Type 0 → (events kept : List (LaneEvent T)) → JobEnd T → List StartOf → Type 0
-Starts job words file ran events kept e starts =
-    (NoStart e × (events ≡ []) × (starts ≡ []))
+-- under an allowance the keeper's list tells the child's start
+abbrev pub TellsStart : {T : Type 0} → Option PoolOf → List (LaneEvent T) → Type 0
+TellsStart pool kept = IfSome pool (λ _. HasChildStart kept)
+
+-- The starts of a job, by the pool of its lane's places and the lists of its reader and its keeper: none; or one with these words and this
+-- file that failed; or one whose child ran, is told under an allowance, gave as many bytes as the reader's list tells, and was killed by its
+-- keeper alone before that.
+abbrev pub Starts : {T : Type 0} → Option PoolOf → JobName → List (List ℕ) → List ℕ → Type 0 → (events kept : List (LaneEvent T)) → JobEnd T → List StartOf → Type 0
+Starts pool job words file ran events kept e starts =
+    (Unstarted pool e × (events ≡ []) × (starts ≡ []))
     ⊎ (((e ≡ end.StartFailed) × (events ≡ []) × (starts ≡ start_of job words file None None ∷ []))
-    ⊎ (HasRun e × ran × ((killed : Option ℕ) × IsKilledFor (bytes_read events) kept killed × (starts ≡ start_of job words file (Some (bytes_read events)) killed ∷ []))))
+    ⊎ ((HasRun e × TellsStart pool kept) × ran × ((killed : Option ℕ) × IsKilledFor (bytes_read events) kept killed × (starts ≡ start_of job words file (Some (bytes_read events)) killed ∷ []))))

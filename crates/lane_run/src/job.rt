@@ -1,7 +1,8 @@
 // A job of a lane that has a child.
 
-ghost use Rattle.std.specs.Prelude.{◌≡◌, ◌≢◌, ◌⊎◌, ◌<◌, ◌≤◌, [], None, Option, IfNone, IfSome, length, true};
+ghost use Rattle.std.specs.Prelude.{◌≡◌, ◌≢◌, ◌⊎◌, ◌<◌, ◌≤◌, [], None, Option, IfNone, IfSome, false, length, true};
 ghost use Rattle.std.specs.Option.{MatchOption};
+ghost use Rattle.lane_run.specs.Placed.{place_used};
 ghost use Rattle.lane_run.specs.Keeping.{HasKept, IsOfCell, Keeps, TakesTurns};
 ghost use Rattle.lane_run.specs.Reading.{HasRead, IfWon, IsHolding, IsOver, bytes_filed, bytes_read, empty_reads};
 ghost use Rattle.lane_run.specs.Starting.{HasRun};
@@ -24,6 +25,7 @@ use crate::life::{Lived, live};
 use crate::over::{Asked, settle};
 use crate::proof::{Filed, read_proof};
 use crate::subject::{Asks, Subject};
+use lane_berth::Berth;
 use race_cells::Notes;
 use race_core::{EventList, JobEnd, Keeper, Reader, Reason};
 use sby_edge::{Clock, Launch};
@@ -59,7 +61,7 @@ fn ask_proof<
 >(
     rt: &R,
     alloc: Global,
-    bay: &mut L,
+    berth: &mut Berth<'_, L>,
     asked: &Asked<'_>,
     watch: &Watch<'_, J, T, C>,
     came: Filed<T>,
@@ -82,14 +84,15 @@ fn ask_proof<
     ensures part { result.part ≡ reader_from reader.Fresh events.new.events }
     ensures over { IsOver result.part (kept_by result.why) ⊎ IsHolding result.part }
     ensures room { IsHolding result.part → 1 ≤ events.new.room }
-    ensures asks { Asks (S.proves subject) (L.told bay.old) asked.now.job asked.now.most result.why came.part result.part (bytes_filed events.new.events) }
+    ensures asks { Asks (S.proves subject) (L.told berth.old.bay) asked.now.job asked.now.most result.why came.part result.part (bytes_filed events.new.events) }
     ensures read { bytes_read events.new.events ≡ bytes_read events.old.events }
     ensures empty { empty_reads events.new.events ≡ empty_reads events.old.events }
-    ensures failed { result.part ≡ reader.Failed → (came.part ≡ reader.Failed) ⊎ Rose (L.read_faults bay.old) (L.read_faults bay.new) }
-    ensures told { L.told bay.new ≡ L.told bay.old }
-    ensures starts { L.start_faults bay.new ≡ L.start_faults bay.old }
-    ensures holds { L.hold_faults bay.new ≡ L.hold_faults bay.old }
-    ensures reads { L.read_faults bay.old ≤ L.read_faults bay.new }
+    ensures failed { result.part ≡ reader.Failed → (came.part ≡ reader.Failed) ⊎ Rose (L.read_faults berth.old.bay) (L.read_faults berth.new.bay) }
+    ensures same { berth.new ≡ record berth.old { bay = berth.new.bay } }
+    ensures told { L.told berth.new.bay ≡ L.told berth.old.bay }
+    ensures starts { L.start_faults berth.new.bay ≡ L.start_faults berth.old.bay }
+    ensures holds { L.hold_faults berth.new.bay ≡ L.hold_faults berth.old.bay }
+    ensures reads { L.read_faults berth.old.bay ≤ L.read_faults berth.new.bay }
     ensures unsettled { IfWon result.part (λ f. ⊥) }
     ensures kept { MatchOption result.why (TakesTurns (keeper_from (terms_of T.job T.answer watch.now.terms.now) keeper.Fresh keeper_events.new.events)) (λ why. keeper_from (terms_of T.job T.answer watch.now.terms.now) keeper.Fresh keeper_events.new.events ≡ keeper.Killed why) }
     ensures ends { HasKept (kept_by result.why) }
@@ -102,7 +105,7 @@ fn ask_proof<
         (Reader::Asking, None) => read_proof(
             rt,
             alloc,
-            bay,
+            berth,
             asked,
             watch,
             subject,
@@ -125,7 +128,7 @@ fn conclude<
 >(
     rt: &R,
     alloc: Global,
-    bay: &mut L,
+    berth: &mut Berth<'_, L>,
     asked: &Asked<'_>,
     watch: &Watch<'_, J, T, C>,
     lived: Lived<S, T>,
@@ -146,17 +149,18 @@ fn conclude<
     ensures end { EndIs (terms_of T.job T.answer watch.now.terms.now) (λ _. ⊥) (reader_from reader.Fresh result.events.events) (keeper_from (terms_of T.job T.answer watch.now.terms.now) keeper.Fresh keeper_events.new.events) result.end }
     ensures right { RightReader (reader_from reader.Fresh result.events.events) × RightKeeper (keeper_from (terms_of T.job T.answer watch.now.terms.now) keeper.Fresh keeper_events.new.events) }
     ensures looked { keeper_from (terms_of T.job T.answer watch.now.terms.now) keeper.Fresh keeper_events.new.events ≢ keeper.Fresh }
-    ensures finishes { (why : Option (Reason T)) × Finishes (S.proves lived.subject) (L.told bay.old) asked.now.job asked.now.most why lived.part (reader_from reader.Fresh result.events.events) (bytes_filed result.events.events) }
+    ensures finishes { (why : Option (Reason T)) × Finishes (S.proves lived.subject) (L.told berth.old.bay) asked.now.job asked.now.most why lived.part (reader_from reader.Fresh result.events.events) (bytes_filed result.events.events) }
     ensures read { bytes_read result.events.events ≡ bytes_read lived.events.events }
     ensures empty { empty_reads result.events.events ≡ empty_reads lived.events.events }
     ensures won { IfWon (reader_from reader.Fresh result.events.events) (λ f. known_at notes.new watch.now.terms.now.cell ≡ Some f) }
     ensures started { HasRun result.end }
-    ensures read_failed { result.end ≡ end.ReadFailed → (lived.part ≡ reader.Failed) ⊎ Rose (L.read_faults bay.old) (L.read_faults bay.new) }
+    ensures read_failed { result.end ≡ end.ReadFailed → (lived.part ≡ reader.Failed) ⊎ Rose (L.read_faults berth.old.bay) (L.read_faults berth.new.bay) }
     ensures hold_failed { result.end ≡ end.HoldFailed → (lived.is_failed ≡ true) ⊎ (kept_by lived.why ≡ keeper.Killed reason.Fault) }
-    ensures told { L.told bay.new ≡ L.told bay.old }
-    ensures starts { L.start_faults bay.new ≡ L.start_faults bay.old }
-    ensures holds { L.hold_faults bay.new ≡ L.hold_faults bay.old }
-    ensures reads { L.read_faults bay.old ≤ L.read_faults bay.new }
+    ensures same { berth.new ≡ record berth.old { bay = berth.new.bay } }
+    ensures told { L.told berth.new.bay ≡ L.told berth.old.bay }
+    ensures starts { L.start_faults berth.new.bay ≡ L.start_faults berth.old.bay }
+    ensures holds { L.hold_faults berth.new.bay ≡ L.hold_faults berth.old.bay }
+    ensures reads { L.read_faults berth.old.bay ≤ L.read_faults berth.new.bay }
     ensures still { IfSome lived.why (λ _. keeper_events.new.events ≡ keeper_events.old.events) }
     ensures place { place_from Away keeper_events.new.events ≡ place_from Away keeper_events.old.events }
     ensures keeps { Keeps (IsOfCell T.problem T.job (J.problem watch.now.asks.now) watch.now.terms.now watch.now.other) (C.may_read watch.now.clock.now) notes.old notes.new keeper_events.old.events keeper_events.new.events }
@@ -172,7 +176,7 @@ fn conclude<
     let Filed { part, why } = ask_proof(
         rt,
         alloc,
-        bay,
+        berth,
         asked,
         watch,
         came,
@@ -203,7 +207,7 @@ pub fn run_started<
 >(
     rt: &R,
     alloc: Global,
-    bay: &mut L,
+    berth: &mut Berth<'_, L>,
     child: (L::Pipe, L::Hold),
     asked: &Asked<'_>,
     watch: &Watch<'_, J, T, C>,
@@ -219,27 +223,30 @@ pub fn run_started<
     requires cell { watch.now.terms.now.cell < length watch.now.cells.now }
     requires other { IfSome watch.now.other (λ o. o.0 < length watch.now.cells.now) }
     requires notes { AreNotesOf watch.now.cells.now notes.old }
-    requires room { 2 ≤ keeper_events.old.room }
+    requires room { 4 ≤ keeper_events.old.room }
+    requires stands { berth.old.stands ≡ true }
+    requires place { place_from Away keeper_events.old.events ≡ place_used berth.old.pool }
     requires turns { TakesTurns (keeper_from (terms_of T.job T.answer watch.now.terms.now) keeper.Fresh keeper_events.old.events) }
     ensures end { EndIs (terms_of T.job T.answer watch.now.terms.now) (λ _. ⊥) (reader_from reader.Fresh result.events.events) (keeper_from (terms_of T.job T.answer watch.now.terms.now) keeper.Fresh keeper_events.new.events) result.end }
     ensures right { RightReader (reader_from reader.Fresh result.events.events) × RightKeeper (keeper_from (terms_of T.job T.answer watch.now.terms.now) keeper.Fresh keeper_events.new.events) }
     ensures looked { keeper_from (terms_of T.job T.answer watch.now.terms.now) keeper.Fresh keeper_events.new.events ≢ keeper.Fresh }
-    ensures place { place_from Away keeper_events.new.events ≡ place_from Away keeper_events.old.events }
+    ensures place { place_from Away keeper_events.new.events ≡ Away }
+    ensures same { berth.new ≡ record berth.old { bay = berth.new.bay; holds = false; stands = false } }
     ensures keeps { Keeps (IsOfCell T.problem T.job (J.problem watch.now.asks.now) watch.now.terms.now watch.now.other) (C.may_read watch.now.clock.now) notes.old notes.new keeper_events.old.events keeper_events.new.events }
     ensures won { IfWon (reader_from reader.Fresh result.events.events) (λ f. known_at notes.new watch.now.terms.now.cell ≡ Some f) }
-    ensures ran { RanFrom (S.stands subject) (S.ends subject) (S.proves subject) asked.now.job asked.now.most (S.most subject) (L.told bay.old) (L.told bay.new)
+    ensures ran { RanFrom (S.stands subject) (S.ends subject) (S.proves subject) asked.now.job asked.now.most (S.most subject) (L.told berth.old.bay) (L.told berth.new.bay)
         (L.Pipe.told child.0) result.events.events keeper_events.new.events }
     ensures started { HasRun result.end }
-    ensures read_failed { result.end ≡ end.ReadFailed → Rose (L.read_faults bay.old) (L.read_faults bay.new) }
-    ensures hold_failed { result.end ≡ end.HoldFailed → Rose (L.hold_faults bay.old) (L.hold_faults bay.new) }
-    ensures starts { L.start_faults bay.new ≡ L.start_faults bay.old }
-    ensures reads { L.read_faults bay.old ≤ L.read_faults bay.new }
-    ensures holds { L.hold_faults bay.old ≤ L.hold_faults bay.new }
+    ensures read_failed { result.end ≡ end.ReadFailed → Rose (L.read_faults berth.old.bay) (L.read_faults berth.new.bay) }
+    ensures hold_failed { result.end ≡ end.HoldFailed → Rose (L.hold_faults berth.old.bay) (L.hold_faults berth.new.bay) }
+    ensures starts { L.start_faults berth.new.bay ≡ L.start_faults berth.old.bay }
+    ensures reads { L.read_faults berth.old.bay ≤ L.read_faults berth.new.bay }
+    ensures holds { L.hold_faults berth.old.bay ≤ L.hold_faults berth.new.bay }
 {
     let lived = live(
         rt,
         alloc,
-        bay,
+        berth,
         child,
         watch,
         subject,
@@ -247,5 +254,5 @@ pub fn run_started<
         reader_events,
         keeper_events,
     );
-    conclude(rt, alloc, bay, asked, watch, lived, notes, keeper_events)
+    conclude(rt, alloc, berth, asked, watch, lived, notes, keeper_events)
 }

@@ -2,7 +2,7 @@
 
 ghost use Rattle.std.specs.Prelude.{◌≡◌, ◌≢◌, ◌⊎◌, ℕ, ◌+◌, ◌<◌, ◌≤◌, Option, Some, None, IfNone, IfSome, IfOk, IsOkAnd, length, true};
 ghost use Rattle.std.specs.Option.{MatchOption};
-ghost use Rattle.lane_run.specs.Keeping.{EndsChild, IsOfCell, IsPlain, Keeps, Remember, TakesTurns};
+ghost use Rattle.lane_run.specs.Keeping.{EndsChild, HasChildStart, IsChildStart, IsOfCell, IsPlain, Keeps, Remember, TakesTurns};
 ghost use Rattle.race_cells.specs.Notes.{AreNotesOf, known_at};
 ghost use Rattle.race_core.specs.Asking.{is_needless, terms_of};
 ghost use Rattle.race_core.specs.Parts.{keeper_after, keeper_from, place_after, place_from};
@@ -174,6 +174,7 @@ pub(crate) fn enter_plain<J: Asks<T>, T: Settled + Drop, C: Clock>(
     ensures room { events.new.room + 1 ≡ events.old.room }
     ensures part { keeper_from (terms_of T.job T.answer watch.now.terms.now) keeper.Fresh events.new.events ≡ keeper_after (terms_of T.job T.answer watch.now.terms.now) entry (keeper_from (terms_of T.job T.answer watch.now.terms.now) keeper.Fresh events.old.events) }
     ensures place { place_from Away events.new.events ≡ place_after entry (place_from Away events.old.events) }
+    ensures told { IsChildStart entry → HasChildStart events.new.events }
     ensures keeps { Keeps (IsOfCell T.problem T.job (J.problem watch.now.asks.now) watch.now.terms.now watch.now.other) (C.may_read watch.now.clock.now) notes.now notes.now events.old.events events.new.events }
 {
     enter(events, entry);
@@ -210,11 +211,9 @@ fn poll<J: Asks<T>, T: Settled + Drop, C: Clock, H: Hold>(
     }
 }
 
-// One turn: a poll, the looks, and a reading of the clock. A reason to end the child is the last of it.
-fn turn<J: Asks<T>, T: Settled + Drop, C: Clock, H: Hold>(
+// One turn beside no child: the looks, and a reading of the clock. A reason to end the job is the last of it.
+pub(crate) fn watch_turn<J: Asks<T>, T: Settled + Drop, C: Clock>(
     watch: &Watch<'_, J, T, C>,
-    hold: &mut H,
-    has_ended: &mut bool,
     notes: &mut Notes<T>,
     events: &mut EventList<T>,
 ) -> Option<Reason<T>>
@@ -224,19 +223,11 @@ fn turn<J: Asks<T>, T: Settled + Drop, C: Clock, H: Hold>(
     requires room { 2 ≤ events.old.room }
     requires turns { TakesTurns (keeper_from (terms_of T.job T.answer watch.now.terms.now) keeper.Fresh events.old.events) }
     ensures due { MatchOption result (TakesTurns (keeper_from (terms_of T.job T.answer watch.now.terms.now) keeper.Fresh events.new.events)) (λ why. keeper_from (terms_of T.job T.answer watch.now.terms.now) keeper.Fresh events.new.events ≡ keeper.Due why) }
-    ensures room { MatchOption result (2 ≤ events.new.room) (λ why. 1 ≤ events.new.room) }
+    ensures room { MatchOption result (events.old.room ≤ events.new.room + 1) (λ why. events.old.room ≤ events.new.room + 2) }
     ensures place { place_from Away events.new.events ≡ place_from Away events.old.events }
     ensures keeps { Keeps (IsOfCell T.problem T.job (J.problem watch.now.asks.now) watch.now.terms.now watch.now.other) (C.may_read watch.now.clock.now) notes.old notes.new events.old.events events.new.events }
-    ensures hold { (H.killed hold.new ≡ H.killed hold.old) × (H.is_reaped hold.new ≡ H.is_reaped hold.old) × (H.faults hold.old ≤ H.faults hold.new) }
-    ensures fault { IfSome result (λ why. EndsChild why × (why ≡ reason.Fault → 0 < H.faults hold.new)) }
+    ensures reason { IfSome result (λ why. (why ≢ reason.Fault) × EndsChild why) }
 {
-    if events.take_room(ROOM).is_err() {
-        enter_plain(watch, notes, events, LaneEvent::KeeperMemory);
-        return Some(Reason::Memory);
-    }
-    if let Some(why) = poll(watch, hold, has_ended, notes, events) {
-        return Some(why);
-    }
     if let Some(why) = look(watch, notes, events) {
         return Some(why);
     }
@@ -245,6 +236,39 @@ fn turn<J: Asks<T>, T: Settled + Drop, C: Clock, H: Hold>(
     }
     enter_plain(watch, notes, events, LaneEvent::Turns(1));
     None
+}
+
+// One turn: a poll, the looks, and a reading of the clock. A reason to end the child is the last of it. Room for `reserved` entries is left
+// after that of the kill.
+fn turn<J: Asks<T>, T: Settled + Drop, C: Clock, H: Hold>(
+    watch: &Watch<'_, J, T, C>,
+    hold: &mut H,
+    has_ended: &mut bool,
+    notes: &mut Notes<T>,
+    events: &mut EventList<T>,
+    reserved: usize,
+) -> Option<Reason<T>>
+    requires cell { watch.now.terms.now.cell < length watch.now.cells.now }
+    requires other { IfSome watch.now.other (λ o. o.0 < length watch.now.cells.now) }
+    requires notes { AreNotesOf watch.now.cells.now notes.old }
+    requires reserved { reserved ≤ 2 }
+    requires room { reserved + 2 ≤ events.old.room }
+    requires turns { TakesTurns (keeper_from (terms_of T.job T.answer watch.now.terms.now) keeper.Fresh events.old.events) }
+    ensures due { MatchOption result (TakesTurns (keeper_from (terms_of T.job T.answer watch.now.terms.now) keeper.Fresh events.new.events)) (λ why. keeper_from (terms_of T.job T.answer watch.now.terms.now) keeper.Fresh events.new.events ≡ keeper.Due why) }
+    ensures room { MatchOption result (reserved + 2 ≤ events.new.room) (λ why. reserved + 1 ≤ events.new.room) }
+    ensures place { place_from Away events.new.events ≡ place_from Away events.old.events }
+    ensures keeps { Keeps (IsOfCell T.problem T.job (J.problem watch.now.asks.now) watch.now.terms.now watch.now.other) (C.may_read watch.now.clock.now) notes.old notes.new events.old.events events.new.events }
+    ensures hold { (H.killed hold.new ≡ H.killed hold.old) × (H.is_reaped hold.new ≡ H.is_reaped hold.old) × (H.faults hold.old ≤ H.faults hold.new) }
+    ensures fault { IfSome result (λ why. EndsChild why × (why ≡ reason.Fault → 0 < H.faults hold.new)) }
+{
+    if events.take_room(reserved + ROOM).is_err() {
+        enter_plain(watch, notes, events, LaneEvent::KeeperMemory);
+        return Some(Reason::Memory);
+    }
+    if let Some(why) = poll(watch, hold, has_ended, notes, events) {
+        return Some(why);
+    }
+    watch_turn(watch, notes, events)
 }
 
 /// What a keeper came to: why it killed the child, if it did, and whether the kill failed.
@@ -265,6 +289,7 @@ fn kill<J: Asks<T>, T: Settled + Drop, C: Clock, H: Hold>(
     requires room { 1 ≤ events.old.room }
     requires due { keeper_from (terms_of T.job T.answer watch.now.terms.now) keeper.Fresh events.old.events ≡ keeper.Due why }
     ensures why { result.why ≡ Some why }
+    ensures room { events.new.room + 1 ≡ events.old.room }
     ensures killed { keeper_from (terms_of T.job T.answer watch.now.terms.now) keeper.Fresh events.new.events ≡ keeper.Killed why }
     ensures place { place_from Away events.new.events ≡ place_from Away events.old.events }
     ensures keeps { Keeps (IsOfCell T.problem T.job (J.problem watch.now.asks.now) watch.now.terms.now watch.now.other) (C.may_read watch.now.clock.now) notes.now notes.now events.old.events events.new.events }
@@ -281,14 +306,14 @@ fn kill<J: Asks<T>, T: Settled + Drop, C: Clock, H: Hold>(
 
 // How long a keeper pauses, in milliseconds, that has paused this long: a sixteenth of that, so that what comes meanwhile is seen soon by
 // comparison, and a long job costs next to no processor time; at most 20.
-fn pause_after(paused: u32) -> u32
+pub(crate) fn pause_after(paused: u32) -> u32
     ensures least { 1 ≤ result }
     ensures most { result ≤ 20 }
 {
     (paused / 16).clamp(1, 20)
 }
 
-// Takes turns until the reader has ended, or there is a reason to end the child.
+// Takes turns until the reader has ended, or there is a reason to end the child. Room for `reserved` entries is left after that of the kill.
 pub(crate) fn keep<R: Wait, J: Asks<T>, T: Settled + Drop, C: Clock, H: Hold>(
     rt: &R,
     watch: &Watch<'_, J, T, C>,
@@ -296,11 +321,13 @@ pub(crate) fn keep<R: Wait, J: Asks<T>, T: Settled + Drop, C: Clock, H: Hold>(
     hold: &mut H,
     notes: &mut Notes<T>,
     events: &mut EventList<T>,
+    reserved: usize,
 ) -> Kept<T>
     requires cell { watch.now.terms.now.cell < length watch.now.cells.now }
     requires other { IfSome watch.now.other (λ o. o.0 < length watch.now.cells.now) }
     requires notes { AreNotesOf watch.now.cells.now notes.old }
-    requires room { 2 ≤ events.old.room }
+    requires reserved { reserved ≤ 2 }
+    requires room { reserved + 2 ≤ events.old.room }
     requires turns { TakesTurns (keeper_from (terms_of T.job T.answer watch.now.terms.now) keeper.Fresh events.old.events) }
     ensures kept { MatchOption result.why (TakesTurns (keeper_from (terms_of T.job T.answer watch.now.terms.now) keeper.Fresh events.new.events)) (λ why. keeper_from (terms_of T.job T.answer watch.now.terms.now) keeper.Fresh events.new.events ≡ keeper.Killed why) }
     ensures place { place_from Away events.new.events ≡ place_from Away events.old.events }
@@ -309,7 +336,8 @@ pub(crate) fn keep<R: Wait, J: Asks<T>, T: Settled + Drop, C: Clock, H: Hold>(
     ensures hold { (H.is_reaped hold.new ≡ H.is_reaped hold.old) × (H.faults hold.old ≤ H.faults hold.new) }
     ensures fault { IfSome result.why (λ why. EndsChild why × (why ≡ reason.Fault → 0 < H.faults hold.new)) }
     ensures failed { result.is_failed ≡ true → 0 < H.faults hold.new }
-    ensures room { IfNone result.why (2 ≤ events.new.room) }
+    ensures room { reserved ≤ events.new.room }
+    ensures turns_room { IfNone result.why (reserved + 2 ≤ events.new.room) }
 {
     let mut has_ended = false;
     let mut paused: u32 = 0;
@@ -320,7 +348,7 @@ pub(crate) fn keep<R: Wait, J: Asks<T>, T: Settled + Drop, C: Clock, H: Hold>(
                 is_failed: false,
             };
         }
-        if let Some(why) = turn(watch, hold, &mut has_ended, notes, events) {
+        if let Some(why) = turn(watch, hold, &mut has_ended, notes, events, reserved) {
             return kill(watch, hold, notes, events, why);
         }
         let millis = pause_after(paused);

@@ -10,6 +10,7 @@ ghost use Rattle.race_core.specs.Ends.{IsLast};
 ghost use Rattle.race_core.specs.Report.{no_events};
 ghost use Rattle.race_core.specs.declared.end.JobEnd.TheVariants as end;
 ghost use Rattle.race_core.specs.declared.event.LaneEvent.TheVariants as event;
+ghost use Rattle.lane_berth.specs.Berths.{IsIdle};
 ghost use Rattle.lane_run.specs.Keeping.{Remember};
 ghost use Rattle.lane_run.specs.Starting.{with_starts};
 ghost use Rattle.lane_run.specs.Asked.{IsFor, terms_at};
@@ -21,6 +22,7 @@ ghost use Rattle.sby_edge.specs.Child.{StartOf};
 use crate::passing::pass_job;
 use crate::task::{Task, other_cell};
 use crate::{Makes, Ran, Watch, run_child};
+use lane_berth::Berth;
 use race_cells::Notes;
 use race_core::{EventList, JobEnd, Report, job_at};
 use sby_edge::{Clock, Launch};
@@ -39,7 +41,7 @@ fn do_job<
 >(
     rt: &R,
     alloc: Global,
-    bay: &mut L,
+    berth: &mut Berth<'_, L>,
     task: &Task<'_, M, T, C>,
     place: u32,
     report: &Report<T>,
@@ -49,6 +51,7 @@ fn do_job<
 ) -> Ran<T>
     requires place { (place < length task.now.cells.now) × (place < report.now.jobs) }
     requires notes { AreNotesOf task.now.cells.now notes.old }
+    requires idle { IsIdle berth.old }
     requires fresh { (reader.events ≡ []) × (keeper.old.events ≡ []) }
     requires room { (1 ≤ reader.room) × (4 ≤ keeper.old.room) }
     requires so_far { LaneSoFar (IsFor T.problem T.job (M.problem task.now.makes.now) task.now.mode) (λ k. M.is_served task.now.makes.now report.now.lane (name_at task.now.mode k))
@@ -57,11 +60,12 @@ fn do_job<
         (terms_of T.job T.answer (terms_at task.now.mode task.now.limit place)) (KnewBy (events_at report.now) place) (C.may_read task.now.clock.now) place notes.new
         (record { reader = result.events.events; keeper = keeper.new.events }) result.end }
     ensures remember { Remember notes.old notes.new }
+    ensures berth { berth.new ≡ record berth.old { bay = berth.new.bay } }
     ensures looked { keeper.new.events ≢ [] }
-    ensures faults { JobFaults (record { starts = L.start_faults bay.old; reads = L.read_faults bay.old; holds = L.hold_faults bay.old }) (record { starts = L.start_faults bay.new; reads = L.read_faults bay.new; holds = L.hold_faults bay.new }) result.end }
-    ensures starts { (starts : List StartOf) × (L.told bay.new ≡ option_map (with_starts starts) (L.told bay.old))
-        × JobStarts (M.words task.now.makes.now report.now.lane) (M.file task.now.makes.now) (M.stands task.now.makes.now report.now.lane) (M.ends task.now.makes.now report.now.lane) (M.proves task.now.makes.now report.now.lane)
-        (M.most task.now.makes.now) (M.most_output task.now.makes.now report.now.lane) (name_at task.now.mode place) (L.told bay.old) (record { reader = result.events.events; keeper = keeper.new.events }) result.end starts }
+    ensures faults { JobFaults (record { starts = L.start_faults berth.old.bay; reads = L.read_faults berth.old.bay; holds = L.hold_faults berth.old.bay }) (record { starts = L.start_faults berth.new.bay; reads = L.read_faults berth.new.bay; holds = L.hold_faults berth.new.bay }) result.end }
+    ensures starts { (starts : List StartOf) × (L.told berth.new.bay ≡ option_map (with_starts starts) (L.told berth.old.bay))
+        × JobStarts berth.old.pool (M.words task.now.makes.now report.now.lane) (M.file task.now.makes.now) (M.stands task.now.makes.now report.now.lane) (M.ends task.now.makes.now report.now.lane) (M.proves task.now.makes.now report.now.lane)
+        (M.most task.now.makes.now) (M.most_output task.now.makes.now report.now.lane) (name_at task.now.mode place) (L.told berth.old.bay) (record { reader = result.events.events; keeper = keeper.new.events }) result.end starts }
 {
     let terms = task.terms(place);
     let watch = Watch {
@@ -72,7 +76,16 @@ fn do_job<
         other: other_cell(terms.job),
     };
     if task.makes.serves(report.lane(), terms.job) {
-        run_child(rt, alloc, bay, report.lane(), &watch, notes, reader, keeper)
+        run_child(
+            rt,
+            alloc,
+            berth,
+            report.lane(),
+            &watch,
+            notes,
+            reader,
+            keeper,
+        )
     } else {
         Ran {
             end: pass_job(&watch, report, notes, keeper),
@@ -129,7 +142,7 @@ fn run_job<
 >(
     rt: &R,
     alloc: Global,
-    bay: &mut L,
+    berth: &mut Berth<'_, L>,
     task: &Task<'_, M, T, C>,
     place: u32,
     report: &mut Report<T>,
@@ -137,29 +150,31 @@ fn run_job<
 )
     requires place { (place < length task.now.cells.now) × (place < report.old.jobs) }
     requires notes { AreNotesOf task.now.cells.now notes.old }
+    requires idle { IsIdle berth.old }
     requires so_far { LaneSoFar (IsFor T.problem T.job (M.problem task.now.makes.now) task.now.mode) (λ k. M.is_served task.now.makes.now report.old.lane (name_at task.now.mode k))
         (λ k. terms_of T.job T.answer (terms_at task.now.mode task.now.limit k)) (C.may_read task.now.clock.now) place notes.old report.old }
     requires free { (l : ℕ) → l < place → IsLast (end_at report.old l) → ⊥ }
     ensures so_far { LaneSoFar (IsFor T.problem T.job (M.problem task.now.makes.now) task.now.mode) (λ k. M.is_served task.now.makes.now report.old.lane (name_at task.now.mode k))
         (λ k. terms_of T.job T.answer (terms_at task.now.mode task.now.limit k)) (C.may_read task.now.clock.now) (place + 1) notes.new report.new }
     ensures remember { Remember notes.old notes.new }
+    ensures berth { berth.new ≡ record berth.old { bay = berth.new.bay } }
     ensures same { (report.new.lane ≡ report.old.lane) × (report.new.jobs ≡ report.old.jobs) }
-    ensures faults { (e : JobEnd T) × (report.new.ends ≡ report.old.ends ++ e ∷ []) × JobFaults (record { starts = L.start_faults bay.old; reads = L.read_faults bay.old; holds = L.hold_faults bay.old }) (record { starts = L.start_faults bay.new; reads = L.read_faults bay.new; holds = L.hold_faults bay.new }) e }
+    ensures faults { (e : JobEnd T) × (report.new.ends ≡ report.old.ends ++ e ∷ []) × JobFaults (record { starts = L.start_faults berth.old.bay; reads = L.read_faults berth.old.bay; holds = L.hold_faults berth.old.bay }) (record { starts = L.start_faults berth.new.bay; reads = L.read_faults berth.new.bay; holds = L.hold_faults berth.new.bay }) e }
     ensures stand { Stand place report.old report.new }
-    ensures starts { (starts : List StartOf) × (L.told bay.new ≡ option_map (with_starts starts) (L.told bay.old))
-        × JobStarts (M.words task.now.makes.now report.old.lane) (M.file task.now.makes.now) (M.stands task.now.makes.now report.old.lane) (M.ends task.now.makes.now report.old.lane) (M.proves task.now.makes.now report.old.lane)
-        (M.most task.now.makes.now) (M.most_output task.now.makes.now report.old.lane) (name_at task.now.mode place) (L.told bay.old) (events_at report.new place) (end_at report.new place) starts }
+    ensures starts { (starts : List StartOf) × (L.told berth.new.bay ≡ option_map (with_starts starts) (L.told berth.old.bay))
+        × JobStarts berth.old.pool (M.words task.now.makes.now report.old.lane) (M.file task.now.makes.now) (M.stands task.now.makes.now report.old.lane) (M.ends task.now.makes.now report.old.lane) (M.proves task.now.makes.now report.old.lane)
+        (M.most task.now.makes.now) (M.most_output task.now.makes.now report.old.lane) (name_at task.now.mode place) (L.told berth.old.bay) (events_at report.new place) (end_at report.new place) starts }
 {
     let Ok(reader) = EventList::new(alloc, 1) else {
         return want_lists(task, place, report);
     };
-    let Ok(mut keeper) = EventList::new(alloc, 4) else {
+    let Ok(mut keeper) = EventList::new(alloc, 8) else {
         return want_lists(task, place, report);
     };
     let Ran { end, events } = do_job(
         rt,
         alloc,
-        bay,
+        berth,
         task,
         place,
         report,
@@ -181,7 +196,7 @@ fn run_next<
 >(
     rt: &R,
     alloc: Global,
-    bay: &mut L,
+    berth: &mut Berth<'_, L>,
     task: &Task<'_, M, T, C>,
     place: u32,
     report: &mut Report<T>,
@@ -189,21 +204,23 @@ fn run_next<
 )
     requires place { (place < length task.now.cells.now) × (place < report.old.jobs) }
     requires notes { AreNotesOf task.now.cells.now notes.old }
+    requires idle { IsIdle berth.old }
     requires so_far { LaneSoFar (IsFor T.problem T.job (M.problem task.now.makes.now) task.now.mode) (λ k. M.is_served task.now.makes.now report.old.lane (name_at task.now.mode k))
         (λ k. terms_of T.job T.answer (terms_at task.now.mode task.now.limit k)) (C.may_read task.now.clock.now) place notes.old report.old }
     ensures so_far { LaneSoFar (IsFor T.problem T.job (M.problem task.now.makes.now) task.now.mode) (λ k. M.is_served task.now.makes.now report.old.lane (name_at task.now.mode k))
         (λ k. terms_of T.job T.answer (terms_at task.now.mode task.now.limit k)) (C.may_read task.now.clock.now) (place + 1) notes.new report.new }
     ensures remember { Remember notes.old notes.new }
+    ensures berth { berth.new ≡ record berth.old { bay = berth.new.bay } }
     ensures same { (report.new.lane ≡ report.old.lane) × (report.new.jobs ≡ report.old.jobs) }
-    ensures faults { (e : JobEnd T) × (report.new.ends ≡ report.old.ends ++ e ∷ []) × JobFaults (record { starts = L.start_faults bay.old; reads = L.read_faults bay.old; holds = L.hold_faults bay.old }) (record { starts = L.start_faults bay.new; reads = L.read_faults bay.new; holds = L.hold_faults bay.new }) e }
+    ensures faults { (e : JobEnd T) × (report.new.ends ≡ report.old.ends ++ e ∷ []) × JobFaults (record { starts = L.start_faults berth.old.bay; reads = L.read_faults berth.old.bay; holds = L.hold_faults berth.old.bay }) (record { starts = L.start_faults berth.new.bay; reads = L.read_faults berth.new.bay; holds = L.hold_faults berth.new.bay }) e }
     ensures stand { Stand place report.old report.new }
-    ensures starts { (starts : List StartOf) × (L.told bay.new ≡ option_map (with_starts starts) (L.told bay.old))
-        × ((CameLate report.new place × (starts ≡ [])) ⊎ JobStarts (M.words task.now.makes.now report.old.lane) (M.file task.now.makes.now) (M.stands task.now.makes.now report.old.lane) (M.ends task.now.makes.now report.old.lane) (M.proves task.now.makes.now report.old.lane)
-        (M.most task.now.makes.now) (M.most_output task.now.makes.now report.old.lane) (name_at task.now.mode place) (L.told bay.old) (events_at report.new place) (end_at report.new place) starts) }
+    ensures starts { (starts : List StartOf) × (L.told berth.new.bay ≡ option_map (with_starts starts) (L.told berth.old.bay))
+        × ((CameLate report.new place × (starts ≡ [])) ⊎ JobStarts berth.old.pool (M.words task.now.makes.now report.old.lane) (M.file task.now.makes.now) (M.stands task.now.makes.now report.old.lane) (M.ends task.now.makes.now report.old.lane) (M.proves task.now.makes.now report.old.lane)
+        (M.most task.now.makes.now) (M.most_output task.now.makes.now report.old.lane) (name_at task.now.mode place) (L.told berth.old.bay) (events_at report.new place) (end_at report.new place) starts) }
 {
     match lasting_end(report.ends()) {
         Some(end) => report.push_end(end),
-        None => run_job(rt, alloc, bay, task, place, report, notes),
+        None => run_job(rt, alloc, berth, task, place, report, notes),
     }
 }
 
@@ -221,7 +238,7 @@ pub fn run_lane<
 >(
     rt: &R,
     alloc: Global,
-    bay: &mut L,
+    berth: &mut Berth<'_, L>,
     task: &Task<'_, M, T, C>,
     report: &mut Report<T>,
     notes: &mut Notes<T>,
@@ -229,19 +246,21 @@ pub fn run_lane<
     requires jobs { report.old.jobs ≡ length task.now.cells.now }
     requires fresh { (report.old.ends ≡ []) × (report.old.events ≡ replicate report.old.jobs no_events) }
     requires notes { AreNotesOf task.now.cells.now notes.old }
+    requires idle { IsIdle berth.old }
     requires start { IfSome task.now.limit.millis (λ millis. C.may_read task.now.clock.now task.now.limit.start) }
     ensures replays { Replays (λ k. M.is_served task.now.makes.now report.old.lane (name_at task.now.mode k))
         (λ k. terms_of T.job T.answer (terms_at task.now.mode task.now.limit k)) report.old.jobs report.new }
     ensures done { LaneSoFar (IsFor T.problem T.job (M.problem task.now.makes.now) task.now.mode) (λ k. M.is_served task.now.makes.now report.old.lane (name_at task.now.mode k))
         (λ k. terms_of T.job T.answer (terms_at task.now.mode task.now.limit k)) (C.may_read task.now.clock.now) report.old.jobs notes.new report.new }
     ensures remember { Remember notes.old notes.new }
+    ensures berth { berth.new ≡ record berth.old { bay = berth.new.bay } }
     ensures same { (report.new.lane ≡ report.old.lane) × (report.new.jobs ≡ report.old.jobs) }
-    ensures faults { LaneFaults (record { starts = L.start_faults bay.old; reads = L.read_faults bay.old; holds = L.hold_faults bay.old }) (record { starts = L.start_faults bay.new; reads = L.read_faults bay.new; holds = L.hold_faults bay.new }) report.old.jobs report.new }
-    ensures starts { LaneStarts (M.words task.now.makes.now report.old.lane) (M.file task.now.makes.now) (M.stands task.now.makes.now report.old.lane) (M.ends task.now.makes.now report.old.lane) (M.proves task.now.makes.now report.old.lane)
-        (M.most task.now.makes.now) (M.most_output task.now.makes.now report.old.lane) task.now.mode (L.told bay.old) (L.told bay.new) report.old.jobs report.new }
+    ensures faults { LaneFaults (record { starts = L.start_faults berth.old.bay; reads = L.read_faults berth.old.bay; holds = L.hold_faults berth.old.bay }) (record { starts = L.start_faults berth.new.bay; reads = L.read_faults berth.new.bay; holds = L.hold_faults berth.new.bay }) report.old.jobs report.new }
+    ensures starts { LaneStarts berth.old.pool (M.words task.now.makes.now report.old.lane) (M.file task.now.makes.now) (M.stands task.now.makes.now report.old.lane) (M.ends task.now.makes.now report.old.lane) (M.proves task.now.makes.now report.old.lane)
+        (M.most task.now.makes.now) (M.most_output task.now.makes.now report.old.lane) task.now.mode (L.told berth.old.bay) (L.told berth.new.bay) report.old.jobs report.new }
     ensures stopped { LaneStops (C.may_read task.now.clock.now) task.now.limit report.old.jobs report.new }
 {
     for place in 0..report.jobs() {
-        run_next(rt, alloc, bay, task, place, report, notes);
+        run_next(rt, alloc, berth, task, place, report, notes);
     }
 }

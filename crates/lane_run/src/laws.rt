@@ -13,6 +13,7 @@ ghost use Rattle.race_core.specs.declared.part.Keeper.TheVariants as keeper;
 ghost use Rattle.race_core.specs.declared.part.Reason.TheVariants as reason;
 ghost use Rattle.lane_run.specs.Complete.{IsKnown, IsPlain, IsUndisturbed};
 ghost use Rattle.lane_run.specs.Done.{IsLastReading, LaneFaults, LaneSoFar, LaneStops};
+ghost use Rattle.jobs_pool.specs.Places.{PoolOf};
 ghost use Rattle.lane_run.specs.Started.{LaneStarts};
 ghost use Rattle.sby_edge.specs.Cause.{CountsOf};
 ghost use Rattle.sby_edge.specs.Child.{BayOf};
@@ -57,8 +58,8 @@ pub fn undisturbed_lanes_are_plain<M: Makes<T>, T: Settled, C: Clock>(
     requires done { LaneSoFar (IsFor T.problem T.job (M.problem task.now.makes.now) task.now.mode) (λ k. M.is_served task.now.makes.now report.now.lane (name_at task.now.mode k))
         (λ k. terms_of T.job T.answer (terms_at task.now.mode task.now.limit k)) (C.may_read task.now.clock.now) report.now.jobs notes.now report.now }
     requires stopped { LaneStops (C.may_read task.now.clock.now) task.now.limit report.now.jobs report.now }
-    ensures { (bay : BayOf) (told : Option BayOf) (before now : CountsOf) → LaneFaults before now report.now.jobs report.now
-        → LaneStarts (M.words task.now.makes.now report.now.lane) (M.file task.now.makes.now) (M.stands task.now.makes.now report.now.lane) (M.ends task.now.makes.now report.now.lane) (M.proves task.now.makes.now report.now.lane)
+    ensures { (pool : Option PoolOf) (bay : BayOf) (told : Option BayOf) (before now : CountsOf) → LaneFaults before now report.now.jobs report.now
+        → LaneStarts pool (M.words task.now.makes.now report.now.lane) (M.file task.now.makes.now) (M.stands task.now.makes.now report.now.lane) (M.ends task.now.makes.now report.now.lane) (M.proves task.now.makes.now report.now.lane)
         (M.most task.now.makes.now) (M.most_output task.now.makes.now report.now.lane) task.now.mode (Some bay) told report.now.jobs report.now
         → IsUndisturbed (C.may_read task.now.clock.now) task.now.limit task.now.mode bay before now report.now.jobs report.now
         → (j : ℕ) → j < report.now.jobs

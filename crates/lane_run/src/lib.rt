@@ -14,6 +14,7 @@ mod life;
 mod making;
 mod over;
 mod passing;
+mod placing;
 mod prepare;
 mod proof;
 mod racing;
@@ -21,6 +22,7 @@ mod reader;
 mod start;
 mod subject;
 mod task;
+mod waiting;
 
 pub use gather::Raced;
 pub use job::{Ran, run_started};

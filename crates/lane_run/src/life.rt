@@ -1,7 +1,8 @@
 // A child's life, from its start to its end.
 
-ghost use Rattle.std.specs.Prelude.{◌≡◌, ◌⊎◌, ℕ, ◌+◌, ◌<◌, ◌≤◌, ◌^◌, [], None, Option, IfNone, IfSome, option_map, length, true};
+ghost use Rattle.std.specs.Prelude.{◌≡◌, ◌⊎◌, ℕ, ◌+◌, ◌<◌, ◌≤◌, ◌^◌, [], None, Option, IfNone, IfSome, false, option_map, length, true};
 ghost use Rattle.std.specs.Option.{MatchOption};
+ghost use Rattle.lane_run.specs.Placed.{place_used};
 ghost use Rattle.lane_run.specs.Judging.{Within};
 ghost use Rattle.lane_run.specs.Keeping.{EndsChild, IsOfCell, Keeps, TakesTurns};
 ghost use Rattle.lane_run.specs.Reading.{Comes, HasRead, NoneLeft, ReadSoFar};
@@ -17,8 +18,10 @@ ghost use Rattle.sby_edge.specs.Cause.{Rose};
 ghost use Rattle.sby_edge.specs.Child.{PipeOf, finished};
 
 use crate::keeper::{Kept, Watch, keep};
+use crate::placing::finish_child;
 use crate::reader::read_out;
 use crate::subject::{Asks, Subject};
+use lane_berth::Berth;
 use race_cells::Notes;
 use race_core::{EventList, Reader, Reason};
 use sby_edge::{Clock, Hold, Launch, Pipe};
@@ -59,17 +62,20 @@ pub(crate) fn run_beside<
     hold: &mut H,
     notes: &mut Notes<T>,
     events: &mut EventList<T>,
+    reserved: usize,
 ) -> (X, Kept<T>)
     requires reader { A.can_run reader.old }
     requires cell { watch.now.terms.now.cell < length watch.now.cells.now }
     requires other { IfSome watch.now.other (λ o. o.0 < length watch.now.cells.now) }
     requires notes { AreNotesOf watch.now.cells.now notes.old }
-    requires room { 2 ≤ events.old.room }
+    requires reserved { reserved ≤ 2 }
+    requires room { reserved + 2 ≤ events.old.room }
     requires turns { TakesTurns (keeper_from (terms_of T.job T.answer watch.now.terms.now) keeper.Fresh events.old.events) }
     ensures reader { A.runs reader.old result.0 reader.new }
     ensures kept { KeptOut (terms_of T.job T.answer watch.now.terms.now) (IsOfCell T.problem T.job (J.problem watch.now.asks.now) watch.now.terms.now watch.now.other) (C.may_read watch.now.clock.now) notes.old notes.new events.old.events events.new.events
         (H.faults hold.new) result.1.why result.1.is_failed }
-    ensures room { IfNone result.1.why (2 ≤ events.new.room) }
+    ensures room { reserved ≤ events.new.room }
+    ensures turns_room { IfNone result.1.why (reserved + 2 ≤ events.new.room) }
     ensures killed { IfNone result.1.why (H.killed hold.new ≡ H.killed hold.old) }
     ensures reaped { H.is_reaped hold.new ≡ H.is_reaped hold.old }
 {
@@ -79,10 +85,11 @@ pub(crate) fn run_beside<
             requires cell { watch.now.terms.now.cell < length watch.now.cells.now }
             requires other { IfSome watch.now.other (λ o. o.0 < length watch.now.cells.now) }
             requires notes { AreNotesOf watch.now.cells.now notes.now }
-            requires room { 2 ≤ events.now.room }
+            requires reserved { reserved ≤ 2 }
+            requires room { reserved + 2 ≤ events.now.room }
             requires turns { TakesTurns (keeper_from (terms_of T.job T.answer watch.now.terms.now) keeper.Fresh events.now.events) }
         {
-            let kept = keep(rt, watch, has_ended, hold, notes, events);
+            let kept = keep(rt, watch, has_ended, hold, notes, events, reserved);
             has_ended.store(true, Ordering::SeqCst);
             kept
         },
@@ -137,7 +144,7 @@ pub(crate) struct Lived<S, T> {
 
 // Kills a child that its keeper didn't kill, after its reader. Answers whether that failed.
 fn kill_last<L: Launch, T>(
-    bay: &L,
+    berth: &Berth<'_, L>,
     pipe: &L::Pipe,
     hold: &mut L::Hold,
     why: &Option<Reason<T>>,
@@ -149,12 +156,17 @@ fn kill_last<L: Launch, T>(
 {
     match why {
         Some(_) => false,
-        None => bay.kill(pipe, hold).is_err(),
+        None => berth.kill(pipe, hold).is_err(),
     }
 }
 
 // Kills a child that its keeper didn't kill, and reaps it. Answers whether a kill or the reap failed.
-fn end_child<L: Launch, T>(bay: &L, pipe: &L::Pipe, hold: &mut L::Hold, kept: &Kept<T>) -> bool
+fn end_child<L: Launch, T>(
+    berth: &Berth<'_, L>,
+    pipe: &L::Pipe,
+    hold: &mut L::Hold,
+    kept: &Kept<T>,
+) -> bool
     requires failed { kept.now.is_failed ≡ true → 0 < L.Hold.faults hold.old }
     requires alive { IfNone kept.now.why (L.Hold.killed hold.old ≡ None) }
     ensures killed { KilledBy kept.now.why (L.Pipe.told pipe.now) (L.Hold.killed hold.new) }
@@ -162,13 +174,17 @@ fn end_child<L: Launch, T>(bay: &L, pipe: &L::Pipe, hold: &mut L::Hold, kept: &K
     ensures faults { L.Hold.faults hold.old ≤ L.Hold.faults hold.new }
     ensures failed { result ≡ true → 0 < L.Hold.faults hold.new }
 {
-    let is_alive = kill_last(bay, pipe, hold, &kept.why);
+    let is_alive = kill_last(berth, pipe, hold, &kept.why);
     let is_lost = hold.reap().is_err();
     kept.is_failed || is_alive || is_lost
 }
 
+// Room for the child's end and the return of its place, after what its keeper enters.
+const RESERVED: usize = 2;
+
 // The life of a child that was started: reader and keeper beside each other, then the kill, where none came, the reap in every case,
-// and the end.
+// and the end; then its place is given back.
+#[tactic(auto, using(crate::proofs::PlaceLemmas::none_room))]
 pub(crate) fn live<
     R: Threads + Wait + Sync,
     L: Launch,
@@ -179,7 +195,7 @@ pub(crate) fn live<
 >(
     rt: &R,
     alloc: Global,
-    bay: &mut L,
+    berth: &mut Berth<'_, L>,
     child: (L::Pipe, L::Hold),
     watch: &Watch<'_, J, T, C>,
     subject: S,
@@ -194,7 +210,9 @@ pub(crate) fn live<
     requires cell { watch.now.terms.now.cell < length watch.now.cells.now }
     requires other { IfSome watch.now.other (λ o. o.0 < length watch.now.cells.now) }
     requires notes { AreNotesOf watch.now.cells.now notes.old }
-    requires room { 2 ≤ keeper_events.old.room }
+    requires room { 4 ≤ keeper_events.old.room }
+    requires stands { berth.old.stands ≡ true }
+    requires place { place_from Away keeper_events.old.events ≡ place_used berth.old.pool }
     requires turns { TakesTurns (keeper_from (terms_of T.job T.answer watch.now.terms.now) keeper.Fresh keeper_events.old.events) }
     ensures part { result.part ≡ reader_of (record { reader = result.events.events; keeper = [] }) }
     ensures has_read { HasRead result.part }
@@ -202,18 +220,19 @@ pub(crate) fn live<
     ensures awaits { result.part ≡ reader.Asking → S.awaits result.subject }
     ensures proves { Within (S.proves result.subject) (S.proves subject) }
     ensures most { length (S.taken result.subject) ≤ S.most subject + 2 ^ 16 }
-    ensures reader { (now : Option PipeOf) × (killed : Option ℕ) × (L.told bay.new ≡ option_map (finished now killed) (L.told bay.old)) × KilledBy result.why now killed
+    ensures reader { (now : Option PipeOf) × (killed : Option ℕ) × (L.told berth.new.bay ≡ option_map (finished now killed) (L.told berth.old.bay)) × KilledBy result.why now killed
         × ReadSoFar (L.Pipe.told child.0) now (S.taken result.subject) result.events.events
         × Comes (S.stands subject) (S.ends subject) (S.proves subject) (NoneLeft now) (S.taken result.subject) [] result.part }
-    ensures read_failed { result.part ≡ reader.Failed → Rose (L.read_faults bay.old) (L.read_faults bay.new) }
+    ensures read_failed { result.part ≡ reader.Failed → Rose (L.read_faults berth.old.bay) (L.read_faults berth.new.bay) }
     ensures kept { MatchOption result.why (TakesTurns (keeper_from (terms_of T.job T.answer watch.now.terms.now) keeper.Fresh keeper_events.new.events)) (λ why. keeper_from (terms_of T.job T.answer watch.now.terms.now) keeper.Fresh keeper_events.new.events ≡ keeper.Killed why) }
     ensures keeper_room { IfNone result.why (2 ≤ keeper_events.new.room) }
-    ensures place { place_from Away keeper_events.new.events ≡ place_from Away keeper_events.old.events }
+    ensures place { place_from Away keeper_events.new.events ≡ Away }
+    ensures same { berth.new ≡ record berth.old { bay = berth.new.bay; holds = false; stands = false } }
     ensures keeps { Keeps (IsOfCell T.problem T.job (J.problem watch.now.asks.now) watch.now.terms.now watch.now.other) (C.may_read watch.now.clock.now) notes.old notes.new keeper_events.old.events keeper_events.new.events }
-    ensures fault { IfSome result.why (λ why. EndsChild why × (why ≡ reason.Fault → Rose (L.hold_faults bay.old) (L.hold_faults bay.new))) }
-    ensures failed { result.is_failed ≡ true → Rose (L.hold_faults bay.old) (L.hold_faults bay.new) }
-    ensures starts { L.start_faults bay.new ≡ L.start_faults bay.old }
-    ensures later { (L.read_faults bay.old ≤ L.read_faults bay.new) × (L.hold_faults bay.old ≤ L.hold_faults bay.new) }
+    ensures fault { IfSome result.why (λ why. EndsChild why × (why ≡ reason.Fault → Rose (L.hold_faults berth.old.bay) (L.hold_faults berth.new.bay))) }
+    ensures failed { result.is_failed ≡ true → Rose (L.hold_faults berth.old.bay) (L.hold_faults berth.new.bay) }
+    ensures starts { L.start_faults berth.new.bay ≡ L.start_faults berth.old.bay }
+    ensures later { (L.read_faults berth.old.bay ≤ L.read_faults berth.new.bay) × (L.hold_faults berth.old.bay ≤ L.hold_faults berth.new.bay) }
 {
     let (pipe, mut hold) = child;
     let flag = AtomicBool::new(false);
@@ -233,8 +252,9 @@ pub(crate) fn live<
         &mut hold,
         notes,
         keeper_events,
+        RESERVED,
     );
-    let is_failed = end_child(bay, &reader.pipe, &mut hold, &kept);
+    let is_failed = end_child(berth, &reader.pipe, &mut hold, &kept);
     let ReaderSide {
         rt: _,
         alloc: _,
@@ -243,7 +263,7 @@ pub(crate) fn live<
         subject,
         events,
     } = reader;
-    bay.finish(pipe, hold);
+    finish_child(watch, berth, pipe, hold, notes, keeper_events);
     Lived {
         subject,
         events,

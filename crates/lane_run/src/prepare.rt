@@ -1,11 +1,13 @@
 // What a race needs before its lanes run. All memory is taken before the first bay is moved.
 
-ghost use Rattle.std.specs.Prelude.{◌≡◌, ◌<◌, ◌≤◌, ◌^◌, ℕ, List, [], All, IfErr, IfOk, length, map, slice_index_or, vec_capacity};
+ghost use Rattle.std.specs.Prelude.{◌≡◌, ◌<◌, ◌≤◌, ◌^◌, ℕ, List, [], All, IfErr, IfOk, false, length, map, slice_index_or, vec_capacity};
 ghost use Rattle.race_cells.specs.Notes.{AreNotesOf};
-ghost use Rattle.lane_run.specs.Raced.{AreReady, IsReady, bays_of};
+ghost use Rattle.lane_run.specs.Raced.{AreReady, IsReady, bays_of, pool_of};
 
 use crate::gather::{Raced, gather};
 use crate::racing::Lane;
+use jobs_pool::Pool;
+use lane_berth::Allowance;
 use race_cells::{Cells, Notes};
 use race_core::Report;
 use sby_terms::Settled;
@@ -19,16 +21,17 @@ struct Seat<T> {
 }
 
 // What a race has before its bays: a seat for each lane, and the room for its lanes and for what they leave.
-struct Room<L, T> {
+struct Room<'p, L, T> {
     seats: Vec<Seat<T>>,
-    lanes: Vec<Lane<L, T>>,
+    lanes: Vec<Lane<'p, L, T>>,
     raced: Raced<L, T>,
 }
 
-/// Lanes that have done nothing yet, in their bays, and the room for what they leave.
-pub struct FreshLanes<L, T> {
-    pub(crate) lanes: Vec<Lane<L, T>>,
+/// Lanes that have done nothing yet, in their bays; the room for what they leave; and the pool of their places, where there is an allowance.
+pub struct FreshLanes<'p, L, T> {
+    pub(crate) lanes: Vec<Lane<'p, L, T>>,
     pub(crate) raced: Raced<L, T>,
+    pub(crate) pool: Option<&'p Pool>,
 }
 
 // The seat of a lane that has done nothing yet.
@@ -67,7 +70,10 @@ fn fresh_seats<T: Settled + Drop>(
 }
 
 // Room for this many lanes, and for their bays after them.
-fn fresh_rows<L, T>(alloc: Global, count: usize) -> Result<(Vec<Lane<L, T>>, Vec<L>), AllocError>
+fn fresh_rows<'p, L, T>(
+    alloc: Global,
+    count: usize,
+) -> Result<(Vec<Lane<'p, L, T>>, Vec<L>), AllocError>
     ensures lanes { IfOk result (λ r. (r.0.items ≡ []) × (count ≤ vec_capacity r.0)) }
     ensures bays { IfOk result (λ r. (r.1.items ≡ []) × (count ≤ vec_capacity r.1)) }
 {
@@ -82,12 +88,12 @@ fn fresh_rows<L, T>(alloc: Global, count: usize) -> Result<(Vec<Lane<L, T>>, Vec
 }
 
 // All memory that this many lanes need to be raced.
-fn fresh_room<L, T: Settled + Drop>(
+fn fresh_room<'p, L, T: Settled + Drop>(
     alloc: Global,
     cells: &Cells<T>,
     jobs: u32,
     count: u32,
-) -> Result<Room<L, T>, AllocError>
+) -> Result<Room<'p, L, T>, AllocError>
     requires jobs { jobs ≡ length cells.now }
     ensures count { IfOk result (λ r. length r.seats.items ≡ count) }
     ensures ready { IfOk result (λ r. All (λ s. IsReady cells.now s.report s.notes) r.seats.items) }
@@ -113,11 +119,20 @@ fn fresh_room<L, T: Settled + Drop>(
 }
 
 // Gives each seat the bay at its place. There is room for the lanes.
-fn take_seats<L, T: Drop>(seats: Vec<Seat<T>>, bays: Vec<L>, lanes: &mut Vec<Lane<L, T>>)
+fn take_seats<'p, L, T: Drop>(
+    seats: Vec<Seat<T>>,
+    bays: Vec<L>,
+    lanes: &mut Vec<Lane<'p, L, T>>,
+    allowance: &mut Allowance<'p>,
+)
     requires fresh { lanes.old.items ≡ [] }
     requires same { length seats.items ≡ length bays.items }
     requires room { length seats.items ≤ vec_capacity lanes.old }
-    ensures bays { map (λ l. l.bay) lanes.new.items ≡ bays.items }
+    ensures bays { map (λ l. l.bay.bay) lanes.new.items ≡ bays.items }
+    ensures pools { map (λ l. l.bay.pool) lanes.new.items ≡ map (λ _. allowance.old) seats.items }
+    ensures away { map (λ l. l.bay.holds) lanes.new.items ≡ map (λ _. false) seats.items }
+    ensures none { map (λ l. l.bay.stands) lanes.new.items ≡ map (λ _. false) seats.items }
+    ensures allowance { allowance.new ≡ allowance.old }
     ensures reports { map (λ l. l.report) lanes.new.items ≡ map (λ s. s.report) seats.items }
     ensures notes { map (λ l. l.notes) lanes.new.items ≡ map (λ s. s.notes) seats.items }
 {
@@ -127,24 +142,28 @@ fn take_seats<L, T: Drop>(seats: Vec<Seat<T>>, bays: Vec<L>, lanes: &mut Vec<Lan
             unreachable!();
         };
         let Seat { report, notes } = seat;
+        let bay = allowance.berth(bay);
         lanes.push_reserved(Lane { bay, report, notes });
     }
     left.destroy_empty();
 }
 
-/// A lane that can run for each bay, and all memory that their race takes before its first child. Where memory runs out, the bays come
-/// back.
-pub fn fresh_lanes<L, T: Settled + Drop>(
+/// A lane that can run for each bay, under an allowance where there is one, and all memory that their race takes before its first child.
+/// Where memory runs out, the bays come back.
+pub fn fresh_lanes<'p, L, T: Settled + Drop>(
     alloc: Global,
     cells: &Cells<T>,
     jobs: u32,
     bays: Vec<L>,
-) -> Result<FreshLanes<L, T>, Vec<L>>
+    allowance: &mut Allowance<'p>,
+) -> Result<FreshLanes<'p, L, T>, Vec<L>>
     requires jobs { jobs ≡ length cells.now }
     requires few { length bays.items < 2 ^ 32 }
     ensures given_back { IfErr result (λ given. given.items ≡ bays.items) }
     ensures ready { IfOk result (λ f. AreReady cells.now f) }
     ensures bays { IfOk result (λ f. bays_of f ≡ bays.items) }
+    ensures pool { IfOk result (λ f. pool_of f ≡ allowance.old) }
+    ensures allowance { allowance.new ≡ allowance.old }
 {
     let Ok(room) = fresh_room(alloc, cells, jobs, bays.len() as u32) else {
         return Err(bays);
@@ -154,16 +173,21 @@ pub fn fresh_lanes<L, T: Settled + Drop>(
         mut lanes,
         raced,
     } = room;
-    take_seats(seats, bays, &mut lanes);
-    Ok(FreshLanes { lanes, raced })
+    let pool = allowance.pool();
+    take_seats(seats, bays, &mut lanes, allowance);
+    Ok(FreshLanes { lanes, raced, pool })
 }
 
 /// The bays of lanes that aren't run after all, as they were.
-pub fn spare_lanes<L, T: Drop>(fresh: FreshLanes<L, T>) -> Vec<L>
+pub fn spare_lanes<L, T: Drop>(fresh: FreshLanes<'_, L, T>) -> Vec<L>
     requires { (cells : List ℕ) × AreReady cells fresh }
-    ensures { result.items ≡ bays_of fresh }
+    ensures { result.items ≡ bays_of fresh.entry }
 {
-    let FreshLanes { lanes, mut raced } = fresh;
+    let FreshLanes {
+        lanes,
+        mut raced,
+        pool: _,
+    } = fresh;
     gather(lanes, &mut raced);
     let Raced {
         bays,

@@ -22,6 +22,7 @@ use crate::keeper::Watch;
 use crate::life::{Side, run_beside};
 use crate::over::{Asked, enter_memory};
 use crate::subject::{Asks, Subject};
+use lane_berth::Berth;
 use race_cells::Notes;
 use race_core::{By, EventList, Judged, LaneEvent, Reader, Reason};
 use sby_edge::{Clock, Exit, Fail, Failed, Got, Hold, Launch};
@@ -170,6 +171,7 @@ fn judge_stint<
         &mut OverHold,
         notes,
         keeper_events,
+        0,
     );
     let ProofSide {
         alloc: _,
@@ -375,7 +377,7 @@ pub(crate) fn read_proof<
 >(
     rt: &R,
     alloc: Global,
-    bay: &mut L,
+    berth: &mut Berth<'_, L>,
     asked: &Asked<'_>,
     watch: &Watch<'_, J, T, C>,
     subject: S,
@@ -394,12 +396,13 @@ pub(crate) fn read_proof<
     requires turns { TakesTurns (keeper_from (terms_of T.job T.answer watch.now.terms.now) keeper.Fresh keeper_events.old.events) }
     ensures part { result.part ≡ reader_from reader.Fresh events.new.events }
     ensures room { (result.part ≡ reader.Short) ⊎ (1 ≤ events.new.room) }
-    ensures asks { Asks (S.proves subject) (L.told bay.old) asked.now.job asked.now.most result.why reader.Asking result.part (bytes_filed events.new.events) }
+    ensures asks { Asks (S.proves subject) (L.told berth.old.bay) asked.now.job asked.now.most result.why reader.Asking result.part (bytes_filed events.new.events) }
     ensures read { bytes_read events.new.events ≡ bytes_read events.old.events }
     ensures empty { empty_reads events.new.events ≡ empty_reads events.old.events }
-    ensures failed { result.part ≡ reader.Failed → Rose (L.read_faults bay.old) (L.read_faults bay.new) }
-    ensures told { L.told bay.new ≡ L.told bay.old }
-    ensures counts { (L.start_faults bay.new ≡ L.start_faults bay.old) × (L.hold_faults bay.new ≡ L.hold_faults bay.old) × (L.read_faults bay.old ≤ L.read_faults bay.new) }
+    ensures failed { result.part ≡ reader.Failed → Rose (L.read_faults berth.old.bay) (L.read_faults berth.new.bay) }
+    ensures same { berth.new ≡ record berth.old { bay = berth.new.bay } }
+    ensures told { L.told berth.new.bay ≡ L.told berth.old.bay }
+    ensures counts { (L.start_faults berth.new.bay ≡ L.start_faults berth.old.bay) × (L.hold_faults berth.new.bay ≡ L.hold_faults berth.old.bay) × (L.read_faults berth.old.bay ≤ L.read_faults berth.new.bay) }
     ensures kept { MatchOption result.why (TakesTurns (keeper_from (terms_of T.job T.answer watch.now.terms.now) keeper.Fresh keeper_events.new.events)) (λ why. keeper_from (terms_of T.job T.answer watch.now.terms.now) keeper.Fresh keeper_events.new.events ≡ keeper.Killed why) }
     ensures place { place_from Away keeper_events.new.events ≡ place_from Away keeper_events.old.events }
     ensures keeps { Keeps (IsOfCell T.problem T.job (J.problem watch.now.asks.now) watch.now.terms.now watch.now.other) (C.may_read watch.now.clock.now) notes.old notes.new keeper_events.old.events keeper_events.new.events }
@@ -411,7 +414,7 @@ pub(crate) fn read_proof<
             why: None,
         };
     }
-    match bay.proof(alloc, asked.job, asked.proof, asked.most) {
+    match berth.proof(alloc, asked.job, asked.proof, asked.most) {
         Err(Fail::Failed) => Filed {
             part: enter_file(events, 0, Judged::Failed),
             why: None,

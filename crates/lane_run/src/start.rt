@@ -1,8 +1,10 @@
 // A job from the look before its start on.
 
-ghost use Rattle.std.specs.Prelude.{◌≡◌, ◌≢◌, ◌⊎◌, ℕ, ◌+◌, ◌<◌, ◌≤◌, List, [], Some, IfOk, IfSome, length, map, option_map, string_bytes, true};
+ghost use Rattle.std.specs.Prelude.{◌≡◌, ◌≢◌, ◌⊎◌, ℕ, ◌+◌, ◌<◌, ◌≤◌, List, [], Some, IfOk, IfSome, false, length, map, option_map, string_bytes, true};
 ghost use Rattle.std.specs.Option.{MatchOption};
-ghost use Rattle.lane_run.specs.Keeping.{IsOfCell, Keeps, Remember};
+ghost use Rattle.lane_berth.specs.Berths.{IsIdle, MayStart};
+ghost use Rattle.lane_run.specs.Placed.{place_at};
+ghost use Rattle.lane_run.specs.Keeping.{IsOfCell, Keeps, Remember, TakesTurns};
 ghost use Rattle.lane_run.specs.Reading.{IfWon};
 ghost use Rattle.lane_run.specs.Starting.{NoStart, ReadsScript, Starts, with_starts};
 ghost use Rattle.race_cells.specs.Notes.{AreNotesOf, known_at};
@@ -22,7 +24,10 @@ use crate::job::{Ran, run_started};
 use crate::keeper::{Watch, enter_plain, twice};
 use crate::making::{Child, Makes};
 use crate::over::Asked;
+use crate::placing::{enter_place, give_place};
 use crate::subject::{Asks, Subject};
+use crate::waiting::wait_place;
+use lane_berth::Berth;
 use race_cells::Notes;
 use race_core::{EventList, JobEnd, LaneEvent};
 use sby_edge::{Clock, Fail, Launch, ToldBytes};
@@ -189,7 +194,7 @@ pub fn want<J: Asks<T>, T: Settled + Drop, C: Clock>(
     events: &mut EventList<T>,
 ) -> JobEnd<T>
     requires room { 1 ≤ events.old.room }
-    requires looked { keeper_from (terms_of T.job T.answer watch.now.terms.now) keeper.Fresh events.old.events ≡ keeper.Looked }
+    requires turns { TakesTurns (keeper_from (terms_of T.job T.answer watch.now.terms.now) keeper.Fresh events.old.events) }
     ensures end { EndIs (terms_of T.job T.answer watch.now.terms.now) (λ _. ⊥) reader.Fresh (keeper_from (terms_of T.job T.answer watch.now.terms.now) keeper.Fresh events.new.events) result }
     ensures right { RightKeeper (keeper_from (terms_of T.job T.answer watch.now.terms.now) keeper.Fresh events.new.events) }
     ensures looked { keeper_from (terms_of T.job T.answer watch.now.terms.now) keeper.Fresh events.new.events ≢ keeper.Fresh }
@@ -201,6 +206,29 @@ pub fn want<J: Asks<T>, T: Settled + Drop, C: Clock>(
     JobEnd::Memory
 }
 
+// The same of a job that has a place.
+fn want_placed<L: Launch, J: Asks<T>, T: Settled + Drop, C: Clock>(
+    watch: &Watch<'_, J, T, C>,
+    berth: &mut Berth<'_, L>,
+    notes: &Notes<T>,
+    events: &mut EventList<T>,
+) -> JobEnd<T>
+    requires room { 2 ≤ events.old.room }
+    requires held { MayStart berth.old }
+    requires turns { TakesTurns (keeper_from (terms_of T.job T.answer watch.now.terms.now) keeper.Fresh events.old.events) }
+    requires place { place_from Away events.old.events ≡ place_at berth.old.pool berth.old.holds }
+    ensures end { EndIs (terms_of T.job T.answer watch.now.terms.now) (λ _. ⊥) reader.Fresh (keeper_from (terms_of T.job T.answer watch.now.terms.now) keeper.Fresh events.new.events) result }
+    ensures right { RightKeeper (keeper_from (terms_of T.job T.answer watch.now.terms.now) keeper.Fresh events.new.events) }
+    ensures looked { keeper_from (terms_of T.job T.answer watch.now.terms.now) keeper.Fresh events.new.events ≢ keeper.Fresh }
+    ensures is { result ≡ end.Memory }
+    ensures place { place_from Away events.new.events ≡ Away }
+    ensures same { berth.new ≡ record berth.old { holds = false } }
+    ensures keeps { Keeps (IsOfCell T.problem T.job (J.problem watch.now.asks.now) watch.now.terms.now watch.now.other) (C.may_read watch.now.clock.now) notes.now notes.now events.old.events events.new.events }
+{
+    give_place(watch, berth, notes, events);
+    want(watch, notes, events)
+}
+
 // What a judge finds is for its job.
 fn findings_are_for<S: Subject<T>, T: Settled>(subject: &S)
     ensures { (bytes : List ℕ) (f : T) → S.stands subject.now bytes (judged.Found f) ⊎ (S.ends subject.now bytes (judged.Found f) ⊎ S.proves subject.now bytes (judged.Found f))
@@ -208,6 +236,7 @@ fn findings_are_for<S: Subject<T>, T: Settled>(subject: &S)
 {}
 
 // Starts a child, and runs it.
+#[tactic(auto, using(crate::proofs::Waits::turns_free, crate::proofs::Waits::turns_right, crate::proofs::Waits::turns_looked))]
 fn start_child<
     R: Threads + Wait + Sync,
     L: Launch,
@@ -218,7 +247,7 @@ fn start_child<
 >(
     rt: &R,
     alloc: Global,
-    bay: &mut L,
+    berth: &mut Berth<'_, L>,
     watch: &Watch<'_, J, T, C>,
     child: Child<S>,
     bytes: &ToldBytes,
@@ -234,23 +263,26 @@ fn start_child<
     requires cell { watch.now.terms.now.cell < length watch.now.cells.now }
     requires other { IfSome watch.now.other (λ o. o.0 < length watch.now.cells.now) }
     requires notes { AreNotesOf watch.now.cells.now notes.old }
-    requires room { 2 ≤ keeper_events.old.room }
-    requires looked { keeper_from (terms_of T.job T.answer watch.now.terms.now) keeper.Fresh keeper_events.old.events ≡ keeper.Looked }
+    requires room { 5 ≤ keeper_events.old.room }
+    requires held { MayStart berth.old }
+    requires place { place_from Away keeper_events.old.events ≡ place_at berth.old.pool berth.old.holds }
+    requires turns { TakesTurns (keeper_from (terms_of T.job T.answer watch.now.terms.now) keeper.Fresh keeper_events.old.events) }
     ensures end { EndIs (terms_of T.job T.answer watch.now.terms.now) (λ _. ⊥) (reader_from reader.Fresh result.events.events) (keeper_from (terms_of T.job T.answer watch.now.terms.now) keeper.Fresh keeper_events.new.events) result.end }
     ensures right { RightReader (reader_from reader.Fresh result.events.events) × RightKeeper (keeper_from (terms_of T.job T.answer watch.now.terms.now) keeper.Fresh keeper_events.new.events) }
-    ensures place { place_from Away keeper_events.new.events ≡ place_from Away keeper_events.old.events }
+    ensures place { place_from Away keeper_events.new.events ≡ Away }
+    ensures same { berth.new ≡ record berth.old { bay = berth.new.bay; holds = false } }
     ensures keeps { Keeps (IsOfCell T.problem T.job (J.problem watch.now.asks.now) watch.now.terms.now watch.now.other) (C.may_read watch.now.clock.now) notes.old notes.new keeper_events.old.events keeper_events.new.events }
     ensures looked { keeper_from (terms_of T.job T.answer watch.now.terms.now) keeper.Fresh keeper_events.new.events ≢ keeper.Fresh }
     ensures won { IfWon (reader_from reader.Fresh result.events.events) (λ f. known_at notes.new watch.now.terms.now.cell ≡ Some f) }
     ensures found { (f : T) → HasEnd (reader_from reader.Fresh result.events.events) (end.Found f) → (T.problem f ≡ J.problem watch.now.asks.now) × (T.job f ≡ watch.now.terms.now.job) }
-    ensures starts { (starts : List StartOf) × (L.told bay.new ≡ option_map (with_starts starts) (L.told bay.old))
-        × Starts watch.now.terms.now.job (map string_bytes child.words.items) bytes.now.bytes
-        (ReadsScript (S.stands child.subject) (S.ends child.subject) (S.proves child.subject) (L.told bay.old) watch.now.terms.now.job most (S.most child.subject) result.events.events)
+    ensures starts { (starts : List StartOf) × (L.told berth.new.bay ≡ option_map (with_starts starts) (L.told berth.old.bay))
+        × Starts berth.old.pool watch.now.terms.now.job (map string_bytes child.words.items) bytes.now.bytes
+        (ReadsScript (S.stands child.subject) (S.ends child.subject) (S.proves child.subject) (L.told berth.old.bay) watch.now.terms.now.job most (S.most child.subject) result.events.events)
         result.events.events keeper_events.new.events result.end starts }
-    ensures start_failed { result.end ≡ end.StartFailed → Rose (L.start_faults bay.old) (L.start_faults bay.new) }
-    ensures read_failed { result.end ≡ end.ReadFailed → Rose (L.read_faults bay.old) (L.read_faults bay.new) }
-    ensures hold_failed { result.end ≡ end.HoldFailed → Rose (L.hold_faults bay.old) (L.hold_faults bay.new) }
-    ensures later { (L.start_faults bay.old ≤ L.start_faults bay.new) × (L.read_faults bay.old ≤ L.read_faults bay.new) × (L.hold_faults bay.old ≤ L.hold_faults bay.new) }
+    ensures start_failed { result.end ≡ end.StartFailed → Rose (L.start_faults berth.old.bay) (L.start_faults berth.new.bay) }
+    ensures read_failed { result.end ≡ end.ReadFailed → Rose (L.read_faults berth.old.bay) (L.read_faults berth.new.bay) }
+    ensures hold_failed { result.end ≡ end.HoldFailed → Rose (L.hold_faults berth.old.bay) (L.hold_faults berth.new.bay) }
+    ensures later { (L.start_faults berth.old.bay ≤ L.start_faults berth.new.bay) × (L.read_faults berth.old.bay ≤ L.read_faults berth.new.bay) × (L.hold_faults berth.old.bay ≤ L.hold_faults berth.new.bay) }
 {
     let Child {
         subject,
@@ -259,13 +291,16 @@ fn start_child<
     } = child;
     findings_are_for(&subject);
     let job = watch.terms.job;
-    match bay.start(alloc, job, words.as_slice(), bytes) {
-        Err(Fail::Failed) => Ran {
-            end: JobEnd::StartFailed,
-            events: reader_events,
-        },
+    match berth.start(alloc, job, words.as_slice(), bytes) {
+        Err(Fail::Failed) => {
+            give_place(watch, berth, notes, keeper_events);
+            Ran {
+                end: JobEnd::StartFailed,
+                events: reader_events,
+            }
+        }
         Err(Fail::Memory) => Ran {
-            end: want(watch, notes, keeper_events),
+            end: want_placed(watch, berth, notes, keeper_events),
             events: reader_events,
         },
         Ok(started) => {
@@ -276,10 +311,11 @@ fn start_child<
                 proof: proof.as_str(),
                 most,
             };
+            enter_place(watch, berth, notes, keeper_events, LaneEvent::Start);
             run_started(
                 rt,
                 alloc,
-                bay,
+                berth,
                 started,
                 &asked,
                 watch,
@@ -292,8 +328,10 @@ fn start_child<
     }
 }
 
-/// Runs a job that the lane serves: it is skipped where a look before its start shows a finding that skips it; else its child is made
-/// and started, with these words and the job's file, once, and runs to its end. Waits for the child.
+/// Runs a job that the lane serves: it is skipped where a look before its start shows a finding that skips it; else, under an allowance, it
+/// waits for a place, where it may end called off or stopped; then its child is made and started, with these words and the job's file,
+/// once, and runs to its end. The judge is made only once there is a place, so that a lane that waits holds none. Waits for the child.
+#[tactic(auto, using(crate::proofs::Waits::unstarted_start, crate::proofs::Waits::unstarted_read, crate::proofs::Waits::unstarted_hold))]
 pub fn run_child<
     R: Threads + Wait + Sync,
     L: Launch,
@@ -303,7 +341,7 @@ pub fn run_child<
 >(
     rt: &R,
     alloc: Global,
-    bay: &mut L,
+    berth: &mut Berth<'_, L>,
     lane: u32,
     watch: &Watch<'_, M, T, C>,
     notes: &mut Notes<T>,
@@ -316,24 +354,32 @@ pub fn run_child<
     requires cell { watch.now.terms.now.cell < length watch.now.cells.now }
     requires other { IfSome watch.now.other (λ o. o.0 < length watch.now.cells.now) }
     requires notes { AreNotesOf watch.now.cells.now notes.old }
+    requires idle { IsIdle berth.old }
     ensures end { EndIs (terms_of T.job T.answer watch.now.terms.now) (λ _. ⊥) (reader_from reader.Fresh result.events.events) (keeper_from (terms_of T.job T.answer watch.now.terms.now) keeper.Fresh keeper_events.new.events) result.end }
     ensures right { RightReader (reader_from reader.Fresh result.events.events) × RightKeeper (keeper_from (terms_of T.job T.answer watch.now.terms.now) keeper.Fresh keeper_events.new.events) }
     ensures place { place_from Away keeper_events.new.events ≡ Away }
+    ensures same { berth.new ≡ record berth.old { bay = berth.new.bay } }
     ensures keeps { Keeps (IsOfCell T.problem T.job (M.problem watch.now.asks.now) watch.now.terms.now watch.now.other) (C.may_read watch.now.clock.now) notes.old notes.new [] keeper_events.new.events }
     ensures looked { keeper_from (terms_of T.job T.answer watch.now.terms.now) keeper.Fresh keeper_events.new.events ≢ keeper.Fresh }
     ensures won { IfWon (reader_from reader.Fresh result.events.events) (λ f. known_at notes.new watch.now.terms.now.cell ≡ Some f) }
     ensures found { (f : T) → HasEnd (reader_from reader.Fresh result.events.events) (end.Found f) → (T.problem f ≡ M.problem watch.now.asks.now) × (T.job f ≡ watch.now.terms.now.job) }
-    ensures starts { (starts : List StartOf) × (L.told bay.new ≡ option_map (with_starts starts) (L.told bay.old))
-        × Starts watch.now.terms.now.job (M.words watch.now.asks.now lane watch.now.terms.now.job) (M.file watch.now.asks.now watch.now.terms.now.job)
+    ensures starts { (starts : List StartOf) × (L.told berth.new.bay ≡ option_map (with_starts starts) (L.told berth.old.bay))
+        × Starts berth.old.pool watch.now.terms.now.job (M.words watch.now.asks.now lane watch.now.terms.now.job) (M.file watch.now.asks.now watch.now.terms.now.job)
         (ReadsScript (M.stands watch.now.asks.now lane watch.now.terms.now.job) (M.ends watch.now.asks.now lane watch.now.terms.now.job) (M.proves watch.now.asks.now lane watch.now.terms.now.job)
-        (L.told bay.old) watch.now.terms.now.job (M.most watch.now.asks.now) (M.most_output watch.now.asks.now lane) result.events.events)
+        (L.told berth.old.bay) watch.now.terms.now.job (M.most watch.now.asks.now) (M.most_output watch.now.asks.now lane) result.events.events)
         result.events.events keeper_events.new.events result.end starts }
-    ensures start_failed { result.end ≡ end.StartFailed → Rose (L.start_faults bay.old) (L.start_faults bay.new) }
-    ensures read_failed { result.end ≡ end.ReadFailed → Rose (L.read_faults bay.old) (L.read_faults bay.new) }
-    ensures hold_failed { result.end ≡ end.HoldFailed → Rose (L.hold_faults bay.old) (L.hold_faults bay.new) }
-    ensures later { (L.start_faults bay.old ≤ L.start_faults bay.new) × (L.read_faults bay.old ≤ L.read_faults bay.new) × (L.hold_faults bay.old ≤ L.hold_faults bay.new) }
+    ensures start_failed { result.end ≡ end.StartFailed → Rose (L.start_faults berth.old.bay) (L.start_faults berth.new.bay) }
+    ensures read_failed { result.end ≡ end.ReadFailed → Rose (L.read_faults berth.old.bay) (L.read_faults berth.new.bay) }
+    ensures hold_failed { result.end ≡ end.HoldFailed → Rose (L.hold_faults berth.old.bay) (L.hold_faults berth.new.bay) }
+    ensures later { (L.start_faults berth.old.bay ≤ L.start_faults berth.new.bay) × (L.read_faults berth.old.bay ≤ L.read_faults berth.new.bay) × (L.hold_faults berth.old.bay ≤ L.hold_faults berth.new.bay) }
 {
     if let Some(end) = look_first(watch, notes, keeper_events) {
+        return Ran {
+            end,
+            events: reader_events,
+        };
+    }
+    if let Some(end) = wait_place(rt, watch, berth, notes, keeper_events) {
         return Ran {
             end,
             events: reader_events,
@@ -343,14 +389,14 @@ pub fn run_child<
     let job = watch.terms.job;
     let Ok(child) = makes.make(alloc, lane, job) else {
         return Ran {
-            end: want(watch, notes, keeper_events),
+            end: want_placed(watch, berth, notes, keeper_events),
             events: reader_events,
         };
     };
     start_child(
         rt,
         alloc,
-        bay,
+        berth,
         watch,
         child,
         &makes.bytes(job),

@@ -2,7 +2,7 @@
 
 ghost use Rattle.std.specs.Prelude.{◌<◌};
 
-use super::tests::{Ended, FREE, Kind, Seen, TURNS, Terms, problem_of, raced, script_of};
+use super::tests::{Ended, FREE, Kind, STOPS, Seen, TURNS, Terms, problem_of, raced, script_of};
 use sby_edge::{Call, CallFault, Gate, Script, Scripted};
 use sby_terms::{Answer, JobName, Verdict};
 use std::alloc::{AllocError, Global};
@@ -48,20 +48,27 @@ fn gated(alloc: Global, lane: u32, text: &str) -> Result<Scripted, AllocError>
     ))
 }
 
-// Each of two lanes waits for the other.
-fn both_gated(alloc: Global) -> Result<Vec<Scripted>, AllocError> {
+// Each of two lanes waits for the other, and then finds, or the second doesn't.
+fn both_gated(alloc: Global, second: &str) -> Result<Vec<Scripted>, AllocError> {
     let mut scripts = Vec::new(alloc);
     scripts.push(gated(alloc, 0, "0\n")?)?;
-    scripts.push(gated(alloc, 1, "s UNKNOWN\n")?)?;
+    scripts.push(gated(alloc, 1, second)?)?;
     Ok(scripts)
 }
 
-// The first lane stalls in mid-stream.
-fn first_stalls(alloc: Global) -> Result<Vec<Scripted>, AllocError> {
+// A script that stalls in mid-stream.
+fn stalling(alloc: Global, lane: u32) -> Result<Scripted, AllocError> {
     let mut script = script_of(alloc, "c half\n")?;
     script.stalls = Some(7);
+    Ok(of_lane(lane, script))
+}
+
+// The first lanes, this many, stall in mid-stream.
+fn first_stall(alloc: Global, lanes: u32) -> Result<Vec<Scripted>, AllocError> {
     let mut scripts = Vec::new(alloc);
-    scripts.push(of_lane(0, script))?;
+    for lane in 0..lanes {
+        scripts.push(stalling(alloc, lane)?)?;
+    }
     Ok(scripts)
 }
 
@@ -123,10 +130,14 @@ fn ended(seen: Seen) -> Ended {
 // What the children of two lanes do.
 #[derive(Clone, Copy)]
 enum Scene {
-    // Each waits for the other.
+    // Each waits for the other, and the first finds.
     Gated,
+    // Each waits for the other, and finds.
+    Meet,
     // The first stalls in mid-stream.
     Stalls,
+    // Both do.
+    BothStall,
     // Both do the same.
     Alike,
     // The first doesn't start.
@@ -135,15 +146,17 @@ enum Scene {
 
 fn scripts_of(alloc: Global, scene: Scene) -> Result<Vec<Scripted>, AllocError> {
     match scene {
-        Scene::Gated => both_gated(alloc),
-        Scene::Stalls => first_stalls(alloc),
+        Scene::Gated => both_gated(alloc, "s UNKNOWN\n"),
+        Scene::Meet => both_gated(alloc, "0\n"),
+        Scene::Stalls => first_stall(alloc, 1),
+        Scene::BothStall => first_stall(alloc, 2),
         Scene::Alike => Ok(Vec::new(alloc)),
         Scene::Fails => first_fails(alloc),
     }
 }
 
-// What two lanes do, and how their jobs end, the second's where that is certain; whether both children are reaped, and whether both find and
-// one wins.
+// What two lanes do, and how their jobs end, the second's where that is certain; whether the children that start are reaped, and whether both
+// find and one wins.
 #[derive(Clone, Copy)]
 struct Row {
     scene: Scene,
@@ -153,11 +166,12 @@ struct Row {
     second: Option<Ended>,
     are_reaped: bool,
     is_won_once: bool,
+    verdict: Option<Verdict>,
 }
 
 const FOUND: Ended = Ended::Found(Answer::Unsat);
 
-const ROWS: [Row; 4] = [
+const ROWS: [Row; 8] = [
     Row {
         scene: Scene::Gated,
         terms: FREE,
@@ -166,19 +180,21 @@ const ROWS: [Row; 4] = [
         second: None,
         are_reaped: true,
         is_won_once: false,
+        verdict: Some(Verdict::Pass),
     },
     Row {
         scene: Scene::Stalls,
         terms: Terms {
             last: 999,
             millis: Some(1000),
-            wait: false,
+            ..FREE
         },
         other: "0\n",
         first: Ended::CalledOff,
         second: Some(FOUND),
         are_reaped: true,
         is_won_once: false,
+        verdict: Some(Verdict::Pass),
     },
     Row {
         scene: Scene::Alike,
@@ -188,6 +204,7 @@ const ROWS: [Row; 4] = [
         second: Some(FOUND),
         are_reaped: true,
         is_won_once: true,
+        verdict: Some(Verdict::Pass),
     },
     Row {
         scene: Scene::Fails,
@@ -197,6 +214,63 @@ const ROWS: [Row; 4] = [
         second: Some(FOUND),
         are_reaped: false,
         is_won_once: false,
+        verdict: Some(Verdict::Pass),
+    },
+    // With two places both children are live at a time.
+    Row {
+        scene: Scene::Gated,
+        terms: Terms {
+            places: Some(2),
+            ..FREE
+        },
+        other: "",
+        first: FOUND,
+        second: None,
+        are_reaped: true,
+        is_won_once: false,
+        verdict: Some(Verdict::Pass),
+    },
+    Row {
+        scene: Scene::Meet,
+        terms: Terms {
+            wait: true,
+            places: Some(2),
+            ..FREE
+        },
+        other: "",
+        first: FOUND,
+        second: Some(FOUND),
+        are_reaped: true,
+        is_won_once: true,
+        verdict: Some(Verdict::Pass),
+    },
+    // With one they aren't.
+    Row {
+        scene: Scene::Gated,
+        terms: Terms {
+            places: Some(1),
+            ..FREE
+        },
+        other: "",
+        first: Ended::Unknown,
+        second: Some(Ended::Unknown),
+        are_reaped: true,
+        is_won_once: false,
+        verdict: None,
+    },
+    // A lane that waits for a place is stopped like one that has it.
+    Row {
+        scene: Scene::BothStall,
+        terms: Terms {
+            places: Some(1),
+            ..STOPS
+        },
+        other: "",
+        first: Ended::Stopped(1000),
+        second: Some(Ended::Stopped(1000)),
+        are_reaped: true,
+        is_won_once: false,
+        verdict: None,
     },
 ];
 
@@ -210,7 +284,7 @@ fn ends_so(pair: &Pair, row: &Row) -> bool {
         && is_second
         && are_reaped(pair) == row.are_reaped
         && is_won_once(pair) == row.is_won_once
-        && pair.verdict == Some(Verdict::Pass)
+        && pair.verdict == row.verdict
 }
 
 #[test]

@@ -2,8 +2,10 @@
 
 ghost use Rattle.std.specs.Prelude.{◌≡◌, ◌<◌, ◌^◌, IfOk, length};
 
+use jobs_pool::Pool;
 use judge::{Finding, Problem};
-use lane_run::{Limit, Makes, Raced, Task, race};
+use lane_berth::Allowance;
+use lane_run::{Limit, Makes, Raced, Task, fresh_lanes, race_fresh};
 use race_cells::Cells;
 use race_core::{JobEnd, JobEvents, LaneEvent, Report, answer_among};
 use sby_edge::{
@@ -50,12 +52,14 @@ pub struct Seen {
     pub is_reaped: bool,
 }
 
-/// What lanes run under: the last reading of a clock that reads 0 and 400 first, the timeout, and whether they wait for each other.
+/// What lanes run under: the last reading of a clock that reads 0 and 400 first, the timeout, whether they wait for each other, and how many
+/// children run at a time at most.
 #[derive(Clone, Copy)]
 pub struct Terms {
     pub last: u64,
     pub millis: Option<u64>,
     pub wait: bool,
+    pub places: Option<u64>,
 }
 
 /// No timeout, and the first finding calls the others off.
@@ -63,6 +67,7 @@ pub const FREE: Terms = Terms {
     last: 400,
     millis: None,
     wait: false,
+    places: None,
 };
 
 /// A timeout of a second that the third reading shows.
@@ -70,6 +75,7 @@ pub const STOPS: Terms = Terms {
     last: 1000,
     millis: Some(1000),
     wait: false,
+    places: None,
 };
 
 /// The bmc problem of a text, over this many cycles, from 1 to 1,000.
@@ -234,6 +240,7 @@ fn race_bays<R: Threads + Wait + Sync, Y: Yard, C: Clock, M: Makes<Finding> + Sy
     clock: &C,
     terms: Terms,
     bays: Vec<Y::Bay>,
+    allowance: &mut Allowance<'_>,
 ) -> Option<Raced<Y::Bay, Finding>>
     requires cells { length cells.now ≡ 1 }
     requires few { length bays.items < 2 ^ 32 }
@@ -250,13 +257,55 @@ fn race_bays<R: Threads + Wait + Sync, Y: Yard, C: Clock, M: Makes<Finding> + Sy
             wait: terms.wait,
         },
     };
-    match race(rt, alloc, &task, 1, bays) {
-        Ok(raced) => Some(raced),
+    match fresh_lanes(alloc, cells, 1, bays, allowance) {
+        Ok(fresh) => Some(race_fresh(rt, alloc, &task, fresh)),
         Err(bays) => {
             give_back(yard, bays);
             None
         }
     }
+}
+
+// The same, under the allowance of the terms.
+fn race_under<R: Threads + Wait + Sync, Y: Yard, C: Clock, M: Makes<Finding> + Sync>(
+    rt: &R,
+    alloc: Global,
+    yard: &mut Y,
+    makes: &M,
+    cells: &Cells<Finding>,
+    clock: &C,
+    terms: Terms,
+    bays: Vec<Y::Bay>,
+) -> Option<Raced<Y::Bay, Finding>>
+    requires cells { length cells.now ≡ 1 }
+    requires few { length bays.items < 2 ^ 32 }
+{
+    let Some(places) = terms.places else {
+        let mut alone = Allowance::none();
+        let raced = race_bays(
+            rt, alloc, yard, makes, cells, clock, terms, bays, &mut alone,
+        );
+        alone.end();
+        return raced;
+    };
+    let Ok((pool, seat)) = Pool::new(alloc, places) else {
+        give_back(yard, bays);
+        return None;
+    };
+    let mut allowance = Allowance::of(&pool, seat);
+    let raced = race_bays(
+        rt,
+        alloc,
+        yard,
+        makes,
+        cells,
+        clock,
+        terms,
+        bays,
+        &mut allowance,
+    );
+    allowance.end();
+    raced
 }
 
 fn course_of<R: Wait + SystemClock>(raced: &Raced<ScriptBay<'_, R>, Finding>) -> Course {
@@ -285,7 +334,7 @@ pub fn race_over<R: Threads + Wait + SystemClock + Sync, M: Makes<Finding> + Syn
     let stage = Stage::new(alloc);
     let mut yard = ScriptYard::new(rt, alloc, &stage, scripts, other);
     let bays = bays_of(alloc, &mut yard, lanes)?;
-    match race_bays(rt, alloc, &mut yard, makes, cells, &clock, terms, bays) {
+    match race_under(rt, alloc, &mut yard, makes, cells, &clock, terms, bays) {
         Some(raced) => Ok(course_of(&raced)),
         None => Err(Fail::from("want of memory")),
     }

@@ -6,7 +6,8 @@ use sby_terms::JobName;
 use std::alloc::{AllocError, Global};
 
 /// What the child of a task's lane does for a job: the sources of what it writes and of the proof file that it leaves; after how many bytes it
-/// stalls; the lane whose child must be live beside it, or it doesn't know; and the kind of call of which the first fails.
+/// stalls; the lane, of another task where one is told, whose child must be live beside it within so many turns, or it doesn't know; and the kind
+/// of call of which the first fails.
 #[derive(Clone, Copy)]
 pub struct Child<'a> {
     pub task: u32,
@@ -16,6 +17,8 @@ pub struct Child<'a> {
     pub proof: &'a str,
     pub stall: Option<u64>,
     pub gate: Option<u32>,
+    pub other: Option<u32>,
+    pub turns: u64,
     pub fault: Option<Call>,
 }
 
@@ -28,6 +31,8 @@ pub const FINDS: Child<'static> = Child {
     proof: "",
     stall: None,
     gate: None,
+    other: None,
+    turns: 10_000,
     fault: None,
 };
 
@@ -50,6 +55,8 @@ impl<'a> Child<'a> {
             "task" => child.task = value.parse::<u32>().ok()?,
             "lane" => child.lane = value.parse::<u32>().ok()?,
             "gate" => child.gate = Some(value.parse::<u32>().ok()?),
+            "other" => child.other = Some(value.parse::<u32>().ok()?),
+            "turns" => child.turns = value.parse::<u64>().ok()?,
             "stall" => child.stall = Some(value.parse::<u64>().ok()?),
             "fault" => child.fault = Some(call_of(value)?),
             "text" => child.text = value,
@@ -78,7 +85,7 @@ impl<'a> Child<'a> {
         let mut script = script_of(alloc, text_of(alloc, names, self.text)?);
         script.stalls = self.stall;
         script.proof = text_of(alloc, names, self.proof)?;
-        script.gate = gate_of(alloc, self.gate)?;
+        script.gate = self.gate_of(alloc)?;
         script.faults = faults_of(alloc, self.fault)?;
         Ok(Scripted {
             task: self.task,
@@ -87,17 +94,17 @@ impl<'a> Child<'a> {
             script,
         })
     }
-}
 
-fn gate_of(alloc: Global, lane: Option<u32>) -> Result<Option<Gate>, AllocError> {
-    match lane {
-        Some(lane) => Ok(Some(Gate {
-            task: None,
-            lane,
-            turns: 10_000,
-            instead: Vec::from_slice(alloc, b"s UNKNOWN\n")?,
-        })),
-        None => Ok(None),
+    fn gate_of(self, alloc: Global) -> Result<Option<Gate>, AllocError> {
+        match self.gate {
+            Some(lane) => Ok(Some(Gate {
+                task: self.other,
+                lane,
+                turns: self.turns,
+                instead: Vec::from_slice(alloc, b"s UNKNOWN\n")?,
+            })),
+            None => Ok(None),
+        }
     }
 }
 

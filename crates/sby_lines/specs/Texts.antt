@@ -21,7 +21,7 @@ use Rattle.sby_lines.specs.declared.counts.Counts.{Counts}
 
 -- the usage line
 unfoldable pub usage_line : List ℕ
-usage_line = codes "usage: sby [-f] [-d DIR] FILE.sby [TASK ..] | sby [-d DIR] --judge DESIGN MODE DEPTH [STREAM ..] | sby --dumptasks FILE.sby | sby [-d DIR] --gen N\n"
+usage_line = codes "usage: sby [-f] [-j M] [-d DIR] FILE.sby [TASK ..] | sby [-d DIR] --judge DESIGN MODE DEPTH [STREAM ..] | sby --dumptasks FILE.sby | sby [-d DIR] --gen N\n"
 
 -- a line of a task: `SBY [name] text`
 unfoldable pub line_of : List ℕ → List ℕ → List ℕ

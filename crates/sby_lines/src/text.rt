@@ -17,7 +17,7 @@ use std::alloc::{AllocError, Global};
 pub fn usage_line() -> &'static str
     ensures { result.now ≡ usage_line }
 {
-    "usage: sby [-f] [-d DIR] FILE.sby [TASK ..] | sby [-d DIR] --judge DESIGN MODE DEPTH [STREAM ..] | sby --dumptasks FILE.sby | sby [-d DIR] --gen N\n"
+    "usage: sby [-f] [-j M] [-d DIR] FILE.sby [TASK ..] | sby [-d DIR] --judge DESIGN MODE DEPTH [STREAM ..] | sby --dumptasks FILE.sby | sby [-d DIR] --gen N\n"
 }
 
 #[tactic(auto, unfolding(crate::specs::Texts::line_of))]

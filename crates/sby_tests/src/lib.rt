@@ -19,3 +19,5 @@ mod names;
 mod streams;
 #[cfg(test)]
 mod tasks;
+#[cfg(test)]
+mod together;

@@ -266,6 +266,34 @@ words --help
 rc 16
 > <USAGE>
 
+words -j
+rc 16
+> <USAGE>
+
+words -j 0 two.sby
+rc 16
+> <USAGE>
+
+words -j 65 two.sby
+rc 16
+> <USAGE>
+
+words -j x two.sby
+rc 16
+> <USAGE>
+
+words -j 2 --gen 5
+rc 16
+> <USAGE>
+
+words -j 2 --judge t.il bmc 1
+rc 16
+> <USAGE>
+
+words -j 2 --dumptasks two.sby
+rc 16
+> <USAGE>
+
 words -d w --judge t.il bmc 1 s0
 > SBY [w] design: 1 register bits, 1 assert, 0 assume, 0 cover
 > SBY [w] base: UNSAT

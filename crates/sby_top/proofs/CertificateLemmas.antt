@@ -111,7 +111,7 @@ certificates_give one_fate one_file may_read number moments j end exit now fates
   where
     by_race : (d : DesignOf) → Reads end.text d → IsRaceStatus (judge_task j).request (record { design = d; reports = end.reports.items; start = end.start }) end.status → HasStatus (Some v) [] end.status
     by_race d reads race =
-        let gives = done_gives may_read (judge_task j) moments.got moments.put (race_of number moments.before moments.after end.start) now end.text end.reports.items d end.start end.status j.streams refl judged.told apart reads race judged.done in
+        let gives = done_gives may_read (judge_task j) moments.got moments.put (race_of number moments.pool moments.before moments.after end.start) now end.text end.reports.items d end.start end.status j.streams refl judged.told apart reads race judged.done in
         verdict_given j.mode j.streams gives.fates fates v end.status
         (fates_kept one_fate one_file judged.done.problem now (jobs_in judged.done.problem) j.streams gives.fates fates gives.are are whole)
         (λ all. fates_kept one_fate one_file judged.done.problem now (jobs_in judged.done.problem) j.streams fates gives.fates are gives.are all) decides gives.give

@@ -65,8 +65,8 @@ module _ (laws : FileLaws) (may_read : ℕ → Type 0) (number : ℕ) (moments :
   abbrev Race : DesignOf → Type 0
   Race d = IsRaceStatus task.request (record { design = d; reports = end.reports.items; start = end.start }) end.status
 
-  lanes_ran : LanesRan (racing_of task judged.done.problem number engines) may_read moments.before.yard moments.after.yard end.start end.reports.items
-  lanes_ran = subst (λ s. AreReports s may_read task judged.done.problem moments.put.told (race_of number moments.before moments.after end.start) end.reports.items) service judged.done.reports_are
+  lanes_ran : LanesRan (racing_of task judged.done.problem number engines) moments.pool may_read moments.before.yard moments.after.yard end.start end.reports.items
+  lanes_ran = subst (λ s. AreReports s may_read task judged.done.problem moments.put.told (race_of number moments.pool moments.before moments.after end.start) end.reports.items) service judged.done.reports_are
 
   -- the status where a job with a valid certificate has no answer, and nothing is decided
   unanswered : (place : ℕ) (a : Answer) → slice_get answers place ≡ Some (Some a) → (events : List Event) (r : ReportOf FindingOf) → slice_get end.reports.items (lane_of place) ≡ Some r → (status : Status) → end.status ≡ status

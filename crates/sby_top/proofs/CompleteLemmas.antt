@@ -69,8 +69,8 @@ module _ (fate : Fate) where
 module _ (laws : FileLaws) (may_read : ℕ → Type 0) (number : ℕ) (moments : Moments) (task : TaskOf) (end : TaskEnd) (exit : Exit) (engines : List Engine) (now : Store)
     (ran : TaskRan may_read number moments task end exit) (judged : IsJudgedAt may_read number moments task end now) (service : task.service ≡ Lanes engines)
     (calm : IsUndisturbed may_read number moments task end) (plain : List (ReportOf FindingOf)) (are_plain : ArePlain (racing_of task judged.done.problem number engines) moments.before.yard.scripts plain) where
-  lanes_ran : LanesRan (racing_of task judged.done.problem number engines) may_read moments.before.yard moments.after.yard end.start end.reports.items
-  lanes_ran = subst (λ s. AreReports s may_read task judged.done.problem moments.put.told (race_of number moments.before moments.after end.start) end.reports.items) service judged.done.reports_are
+  lanes_ran : LanesRan (racing_of task judged.done.problem number engines) moments.pool may_read moments.before.yard moments.after.yard end.start end.reports.items
+  lanes_ran = subst (λ s. AreReports s may_read task judged.done.problem moments.put.told (race_of number moments.pool moments.before moments.after end.start) end.reports.items) service judged.done.reports_are
 
   mode_is : judged.done.problem.problem.mode ≡ task.request.mode
   mode_is = ap (λ (q : ProblemOf). q.mode) judged.done.served.0.asked
@@ -79,7 +79,7 @@ module _ (laws : FileLaws) (may_read : ℕ → Type 0) (number : ℕ) (moments :
   count = own_count moments.got.told task judged.done.problem judged.done.served.0
 
   are_reported : AreReported task.request.mode task.request.span judged.done.problem.design end.reports.items
-  are_reported = reported may_read moments.got.told moments.put.told task judged.done.problem (race_of number moments.before moments.after end.start) task.service end.reports.items judged.done.served.0 judged.done.reports_are
+  are_reported = reported may_read moments.got.told moments.put.told task judged.done.problem (race_of number moments.pool moments.before moments.after end.start) task.service end.reports.items judged.done.served.0 judged.done.reports_are
 
   -- of one job of one lane
   module _ (lane k : ℕ) (lt : k < length (jobs_in judged.done.problem)) where

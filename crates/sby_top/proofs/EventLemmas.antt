@@ -106,7 +106,7 @@ faulty MemoryEnd is = cc
 module _ (may_read : ℕ → Type 0) (number : ℕ) (moments : Moments) (task : TaskOf) (end : TaskEnd) where
   -- the outcome of a task that came to its lanes
   abbrev Outcome : Type 0
-  Outcome = IsOutcome may_read task moments (race_of number moments.before moments.after end.start) None end.text end.reports.items end.unput.items (WasStopped moments end)
+  Outcome = IsOutcome may_read task moments (race_of number moments.pool moments.before moments.after end.start) None end.text end.reports.items end.unput.items (WasStopped moments end)
 
   abbrev Came : DesignOf → CameTo
   Came d = record { design = d; reports = end.reports.items; start = end.start }
@@ -116,14 +116,14 @@ module _ (may_read : ℕ → Type 0) (number : ℕ) (moments : Moments) (task : 
 
   -- the cause of an end of an unsettled job
   open_caused : (d : DesignOf) (answers : List (Option Answer)) → Reads end.text d → AreAnswers task.request (Came d) answers → (came : Outcome) → (lane place : ℕ) (e : JobEnd FindingOf)
-      → IsUnsettledEnd end.reports.items answers lane place e → IsCausedEnd task.service may_read task came.0.problem (race_of number moments.before moments.after end.start) lane place e
+      → IsUnsettledEnd end.reports.items answers lane place e → IsCausedEnd task.service may_read task came.0.problem (race_of number moments.pool moments.before moments.after end.start) lane place e
   open_caused d answers reads are came lane place e is =
       let p = came.0.problem in
       let same : d ≡ came.0.problem.design = own_design came.0.problem end.text d came.0.served.0.problem came.0.text_is reads in
       let count = job_count moments.got.told task came.0.problem came.0.served.0 in
       let size : length answers ≡ length (jobs_of_mode task.request.mode task.request.span came.0.problem.design) = are.size ∙ ap (λ x. length (jobs_of_mode task.request.mode task.request.span x)) same in
       let lt : place < length (jobs_in came.0.problem) = omega (arith, count, size, slice_get_within answers place None is.unsettled) in
-      caused may_read moments.put.told task p (race_of number moments.before moments.after end.start) task.service end.reports.items came.0.reports_are (ap (λ (q : ProblemOf). q.mode) came.0.served.0.asked)
+      caused may_read moments.put.told task p (race_of number moments.pool moments.before moments.after end.start) task.service end.reports.items came.0.reports_are (ap (λ (q : ProblemOf). q.mode) came.0.served.0.asked)
       lane place is.report e is.at lt is.end_is
 
   -- where the answers decide nothing, the end of an unsettled job carries no finding
@@ -137,10 +137,10 @@ module _ (may_read : ℕ → Type 0) (number : ℕ) (moments : Moments) (task : 
       let lt : place < length (jobs_of_mode task.request.mode task.request.span came.0.problem.design) = omega (arith, own.size, slice_get_within answers place None is.unsettled) in
       let among = at_contains end.reports.items lane is.report is.at in
       let here : Carries (end_at is.report place) f = subst (λ x. Carries x f) (sym is.end_is) carries in
-      let spares = carried_spares may_read moments.put.told task p (race_of number moments.before moments.after end.start) task.service end.reports.items came.0.reports_are came.0.served.0 lane place is.report is.at
+      let spares = carried_spares may_read moments.put.told task p (race_of number moments.pool moments.before moments.after end.start) task.service end.reports.items came.0.reports_are came.0.served.0 lane place is.report is.at
       (omega (arith, count, lt)) f here in
       none_spared task.request.mode task.request.span p.design end.reports.items
-      (reported may_read moments.got.told moments.put.told task p (race_of number moments.before moments.after end.start) task.service end.reports.items came.0.served.0 came.0.reports_are)
+      (reported may_read moments.got.told moments.put.told task p (race_of number moments.pool moments.before moments.after end.start) task.service end.reports.items came.0.served.0 came.0.reports_are)
       answers own left is.report place f among lt is.unsettled here spares
 
   -- what an event comes from
@@ -185,13 +185,13 @@ module _ (may_read : ℕ → Type 0) (number : ℕ) (moments : Moments) (task : 
       )
 
   early_event : (early : Early) (status : Status) → end.early ≡ Some early → (status ≡ Error) ⊎ (status ≡ Memory)
-      → IsOutcome may_read task moments (race_of number moments.before moments.after end.start) (Some early) end.text end.reports.items end.unput.items (WasStopped moments end)
+      → IsOutcome may_read task moments (race_of number moments.pool moments.before moments.after end.start) (Some early) end.text end.reports.items end.unput.items (WasStopped moments end)
       → IsEvent may_read number moments task end status
   early_event early status at (inl error) came = subst (IsEvent may_read number moments task end) (sym error) (inl (early, at, came.3))
   early_event early status at (inr memory) came = subst (IsEvent may_read number moments task end) (sym memory) tt
 
   event_by : (early : Option Early) (d : DesignOf) (status : Status) → end.early ≡ early → (early ≡ None → Reads end.text d) → IsStatus task.request early (Came d) status
-      → IsOutcome may_read task moments (race_of number moments.before moments.after end.start) early end.text end.reports.items end.unput.items (WasStopped moments end)
+      → IsOutcome may_read task moments (race_of number moments.pool moments.before moments.after end.start) early end.text end.reports.items end.unput.items (WasStopped moments end)
       → IsEvent may_read number moments task end status
   event_by (Some early) d status at reads is came = early_event early status at (early_status task.request early _ status is) came
   event_by None d status at reads is came = race_event d status at (reads refl) is came

@@ -140,7 +140,7 @@ race_gives one_fate one_file may_read number moments j end now d path kind strea
     let put : ArePut judged.done.problem j.folder (Base 0 ∷ []) moments.got.told (Some now) =
     subst (λ t. ArePut judged.done.problem j.folder (Base 0 ∷ []) moments.got.told t) judged.told (subst (λ js. ArePut judged.done.problem j.folder js moments.got.told moments.put.told) jobs judged.done.put) in
     let own = one_put_stands judged.done.problem j.folder moments.got.told now file (one_slice moments.got.told j judged.done.problem judged.done.served.0) put stands in
-    let gives = done_gives may_read (judge_task j) moments.got moments.put (race_of number moments.before moments.after end.start) now end.text end.reports.items d end.start end.status j.streams refl judged.told apart reads race judged.done in
+    let gives = done_gives may_read (judge_task j) moments.got moments.put (race_of number moments.pool moments.before moments.after end.start) now end.text end.reports.items d end.start end.status j.streams refl judged.told apart reads race judged.done in
     let fates : AreFates judged.done.problem now (Base 0 ∷ []) (path ∷ []) gives.fates =
     subst (λ js. AreFates judged.done.problem now js (path ∷ []) gives.fates) jobs (subst (λ ps. AreFates judged.done.problem now (jobs_in judged.done.problem) ps gives.fates) streams gives.are) in
     let whole : AreWhole (path ∷ []) gives.fates ⊎ IsDecided Bmc (map fate_answer gives.fates) =
@@ -162,7 +162,7 @@ certificate_gives one_fate one_file may_read number moments j end exit now path 
 -- over a store that tells, there is the one at which a task was judged
 pub judged_at : (may_read : ℕ → Type 0) (number : ℕ) (moments : Moments) (task : TaskOf) (end : TaskEnd) (exit : Exit) (store : Store) → TaskRan may_read number moments task end exit → moments.got.told ≡ Some store → end.early ≡ None → (now : Store) × IsJudgedAt may_read number moments task end now
 judged_at may_read number moments task end exit store ran told early =
-    let came = subst (λ e. IsOutcome may_read task moments (race_of number moments.before moments.after end.start) e end.text end.reports.items end.unput.items (WasStopped moments end)) early ran.named.cause in
+    let came = subst (λ e. IsOutcome may_read task moments (race_of number moments.pool moments.before moments.after end.start) e end.text end.reports.items end.unput.items (WasStopped moments end)) early ran.named.cause in
     let now = put_told came.0.problem task.request.name (jobs_in came.0.problem) moments.got.told moments.put.told store told came.0.put in
     (now.0, record { early = early; done = came.0; traced = came.1; told = now.1 })
 

@@ -29,9 +29,12 @@ pub mod ReportLemmas
 pub mod RunLemmas
 pub mod ServeLemmas
 pub mod SettleLemmas
+pub mod SlotLemmas
+pub mod SlottedLemmas
 pub mod SpareLemmas
 pub mod StatusLemmas
 pub mod StoredLemmas
+pub mod TogetherLemmas
 pub mod TopLemmas
 pub mod TraceLemmas
 pub mod TruthLemmas

@@ -416,6 +416,6 @@ plainly may_read moments race task store None text reports unput d start status 
 pub is_complete : (may_read : ℕ → Type 0) (number : ℕ) (moments : Moments) (task : TaskOf) (end : TaskEnd) → NamesEvent may_read number moments task end → IsComplete moments task end
 is_complete may_read number moments task end named = λ store told smooth. elim named.status [
   | inl own ↦
-      plainly may_read moments (race_of number moments.before moments.after end.start) task store end.early end.text end.reports.items end.unput.items own.0 end.start end.status _ told smooth.prepared smooth.memory own.1 own.2 named.cause
+      plainly may_read moments (race_of number moments.pool moments.before moments.after end.start) task store end.early end.text end.reports.items end.unput.items own.0 end.start end.status _ told smooth.prepared smooth.memory own.1 own.2 named.cause
   | inr memory ↦ absurd (smooth.memory memory)
 ]

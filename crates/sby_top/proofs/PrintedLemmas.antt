@@ -158,12 +158,12 @@ told_status may_read number moments task end exit status rc ran apart told = by_
 -- ---- findings
 
 by_early : (may_read : ℕ → Type 0) (number : ℕ) (moments : Moments) (task : TaskOf) (end : TaskEnd) (early : Option Early)
-    → IsOutcome may_read task moments (race_of number moments.before moments.after end.start) early end.text end.reports.items end.unput.items (WasStopped moments end)
+    → IsOutcome may_read task moments (race_of number moments.pool moments.before moments.after end.start) early end.text end.reports.items end.unput.items (WasStopped moments end)
     → (r : ReportOf FindingOf) (f : FindingOf) → Contains end.reports.items r → CarriedIn r.ends f → IsTrueFinding f × (f.problem ≡ problem_of task end.text)
 by_early may_read number moments task end (Some early) came r f among carried = absurd (nothing_in r (subst (λ (rs : List (ReportOf FindingOf)). Contains rs r) came.1 among))
 by_early may_read number moments task end None came r f among carried =
     let done = came.0 in
-    let own = true_findings may_read moments.put.told task done.problem (race_of number moments.before moments.after end.start) task.service end.reports.items done.reports_are r f among carried in
+    let own = true_findings may_read moments.put.told task done.problem (race_of number moments.pool moments.before moments.after end.start) task.service end.reports.items done.reports_are r f among carried in
     (own.0, own.1 ∙ (done.served.0.asked ∙ ap (λ (text : List ℕ). problem_of task text) (sym done.text_is)))
 
 pub findings_of_text : (may_read : ℕ → Type 0) (number : ℕ) (moments : Moments) (task : TaskOf) (end : TaskEnd) (exit : Exit) → TaskRan may_read number moments task end exit

@@ -25,6 +25,7 @@ use Rattle.sby_lines.specs.Told.{AreLimited, AreReported, IsGiven, job_of}
 use Rattle.sby_lines.proofs.PlaceLemmas.{at_contains, contains_at}
 use Rattle.sby_top.specs.Claims.{IsCausedEnd, IsStoredEnd}
 use Rattle.sby_top.specs.Judged.{AreJudged, AreReports, AreStreamReports, IsEndOf, IsReport, racing_of}
+use Rattle.sby_top.specs.Ready.{report_count}
 use Rattle.sby_top.specs.Served.{IsAccepted, jobs_in}
 use Rattle.sby_top.specs.Task.{Lanes, Service, Streams, TaskOf}
 use Rattle.sby_top.specs.World.{RaceOf}
@@ -203,7 +204,7 @@ stream_reported told now task p paths reports accepted are =
     }
 
 lanes_reported : (may_read : ℕ → Type 0) (told : Option Store) (task : TaskOf) (p : AskedOf) (race : RaceOf) (engines : List Engine) (reports : List (ReportOf FindingOf)) → IsAccepted told task p
-    → LanesRan (racing_of task p race.task engines) may_read race.before race.after race.start reports → AreReported task.request.mode task.request.span p.design reports
+    → LanesRan (racing_of task p race.task engines) race.pool may_read race.before race.after race.start reports → AreReported task.request.mode task.request.span p.design reports
 lanes_reported may_read told task p race engines reports accepted ran =
     let span : p.problem.span ≡ task.request.span = ap (λ (q : ProblemOf). q.span) accepted.asked in
     let mode : p.problem.mode ≡ task.request.mode = ap (λ (q : ProblemOf). q.mode) accepted.asked in
@@ -224,6 +225,12 @@ pub reported : (may_read : ℕ → Type 0) (told now : Option Store) (task : Tas
     → AreReports service may_read task p now race reports → AreReported task.request.mode task.request.span p.design reports
 reported may_read told now task p race (Streams paths) reports accepted are = stream_reported told now task p paths reports accepted are.0
 reported may_read told now task p race (Lanes engines) reports accepted ran = lanes_reported may_read told task p race engines reports accepted ran
+
+-- there are as many as the service gives
+pub are_counted : (may_read : ℕ → Type 0) (now : Option Store) (task : TaskOf) (p : AskedOf) (race : RaceOf) (service : Service) (reports : List (ReportOf FindingOf)) → AreReports service may_read task p now race reports
+    → length reports ≡ report_count service
+are_counted may_read now task p race (Streams paths) reports are = ap length are.0.2
+are_counted may_read now task p race (Lanes engines) reports ran = ran.consistent.lanes_are
 
 -- the findings that are carried are true ones of the problem
 pub true_findings : (may_read : ℕ → Type 0) (now : Option Store) (task : TaskOf) (p : AskedOf) (race : RaceOf) (service : Service) (reports : List (ReportOf FindingOf)) → AreReports service may_read task p now race reports

@@ -1,9 +1,12 @@
 -- A task was run.
 use Rattle.std.proofs.Common.{◌≡◌, ℕ, ◌≤◌, List, [], sym, ◌∙◌, subst, inl, inr, ◌⊎◌}
 use Rattle.std.specs.Prelude.{Option, Some, None}
+use Rattle.jobs_pool.specs.Places.{PoolOf}
 use Rattle.judge.specs.Finding.{FindingOf}
 use Rattle.judge.specs.Problem.{AskedOf}
 use Rattle.race_core.specs.Report.{ReportOf}
+use Rattle.sby_edge.specs.Child.{YardOf}
+use Rattle.sby_edge.specs.Files.{Store}
 use Rattle.sby_terms.specs.Code.{code_of}
 use Rattle.sby_terms.specs.declared.names.Status.{Status}
 use Rattle.sby_terms.specs.declared.names.Status.TheVariants.{Memory}
@@ -13,10 +16,14 @@ use Rattle.sby_lines.specs.declared.early.Early.{Early}
 use Rattle.sby_top.specs.Causes.{AreTracesPut, HasReason, IsDone, IsSpared}
 use Rattle.sby_top.specs.End.{IsEnd, IsFaultTold}
 use Rattle.sby_top.specs.Headline.{AreLines, Exit, Code, Cut, HasOwnStatus, IsLater, IsPrinted, NamesEvent, TaskRan, WasStopped}
+use Rattle.sby_top.specs.Ready.{IsReady, WasRaced}
 use Rattle.sby_top.specs.Run.{IsRefusedStatus, WasRefused, refused_request}
 use Rattle.sby_top.specs.Task.{IsAskable, TaskOf}
 use Rattle.sby_top.specs.World.{Moments, SameFiles, SameYard, files_of, race_of}
 use Rattle.sby_top.specs.declared.outcome.TaskEnd.{TaskEnd}
+use Rattle.sby_top.specs.declared.serve.Raced.{Raced}
+use Rattle.sby_top.specs.declared.serve.Ready.{Ready}
+use Rattle.task_race.specs.Bays.{BackOf}
 use Rattle.sby_top.proofs.EndLemmas.{no_design}
 use Rattle.sby_top.proofs.PlainLemmas.{is_complete}
 use Rattle.sby_top.proofs.ReportLemmas.{nothing_in}
@@ -72,7 +79,7 @@ fault_named may_read number moments task end early told now f g when exit is unp
 -- ---- a task that was served
 
 pub served_named : (may_read : ℕ → Type 0) (number : ℕ) (moments : Moments) (start : Option ℕ) (task : TaskOf) (end : TaskEnd) (p : AskedOf) (text : List ℕ) (reports : List (ReportOf FindingOf))
-    (done : IsDone may_read task moments.got moments.put (race_of number moments.before moments.after start) text reports)
+    (done : IsDone may_read task moments.got moments.put (race_of number moments.pool moments.before moments.after start) text reports)
     → done.problem ≡ p → IsEnd task.request.name None text reports start end → AreTracesPut task (files_of moments.before) (files_of moments.after) p reports end.unput.items (WasStopped moments end)
     → HasOwnStatus task end ⊎ (end.status ≡ Memory) → NamesEvent may_read number moments task end
 served_named may_read number moments start task end p text reports done same is put status = record {
@@ -126,3 +133,13 @@ fault_refused moments name early end exit is unput told files yard later = recor
   yard = yard;
   later = later;
 }
+
+-- what was raced is so under another name of its clock's readings, its store and its yard's scripts
+pub raced_same : {L : Type 0} (back : L → BackOf) (task : TaskOf) (number : ℕ) (pool : Option PoolOf) (a b : ℕ → Type 0) (told now : Option Store) (scripts own : Option YardOf) (raced : Raced L) → b ≡ a → now ≡ told → own ≡ scripts
+    → WasRaced back task number pool a told scripts raced → WasRaced back task number pool b now own raced
+raced_same back task number pool a b told now scripts own raced clock store yard was = rw (clock, store, yard) was
+
+-- and so is what is ready
+pub ready_same : {L : Type 0} (back : L → BackOf) (task : TaskOf) (number : ℕ) (pool : Option PoolOf) (told now : Option Store) (scripts own : Option YardOf) (ready : Ready L) → now ≡ told → own ≡ scripts
+    → IsReady back task number pool told scripts ready → IsReady back task number pool now own ready
+ready_same back task number pool told now scripts own ready store yard is = rw (store, yard) is

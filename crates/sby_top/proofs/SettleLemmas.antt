@@ -53,8 +53,8 @@ module _ (may_read : ℕ → Type 0) (number : ℕ) (moments : Moments) (task : 
     (judged : IsJudgedAt may_read number moments task end now) (service : task.service ≡ Lanes engines) (lt : place < length (jobs_in judged.done.problem)) (serving : IsServing (slice_get engines lane))
     (script_is : script_of moments.before.yard.scripts number lane (name_at task.request.mode place) ≡ Some script) (no_gate : script.gate ≡ None) (own_file : IsJobFile judged.done.problem (name_at task.request.mode place) file)
     (valid : IsFateOf (evidence_at (slice_get engines lane)) file (up_to script.stalls script.bytes) (take (most_bytes + 1) script.proof) (FoundFate answer)) where
-  lanes_ran : LanesRan (racing_of task judged.done.problem number engines) may_read moments.before.yard moments.after.yard end.start end.reports.items
-  lanes_ran = subst (λ s. AreReports s may_read task judged.done.problem moments.put.told (race_of number moments.before moments.after end.start) end.reports.items) service judged.done.reports_are
+  lanes_ran : LanesRan (racing_of task judged.done.problem number engines) moments.pool may_read moments.before.yard moments.after.yard end.start end.reports.items
+  lanes_ran = subst (λ s. AreReports s may_read task judged.done.problem moments.put.told (race_of number moments.pool moments.before moments.after end.start) end.reports.items) service judged.done.reports_are
 
   own_report : (r : ReportOf FindingOf) × (slice_get end.reports.items lane ≡ Some r)
   own_report = let count = lanes_ran.consistent.lanes_are in let within = serving_within engines lane serving in stands_at end.reports.items lane (omega (arith, count, within))

@@ -59,4 +59,4 @@ outcome_stored may_read race task moments None text reports unput stopped came =
 
 -- where each status names its event
 pub event_stored : (may_read : ℕ → Type 0) (number : ℕ) (moments : Moments) (task : TaskOf) (end : TaskEnd) → NamesEvent may_read number moments task end → IsStored task moments
-event_stored may_read number moments task end named = outcome_stored may_read (race_of number moments.before moments.after end.start) task moments end.early end.text end.reports.items end.unput.items _ named.cause
+event_stored may_read number moments task end named = outcome_stored may_read (race_of number moments.pool moments.before moments.after end.start) task moments end.early end.text end.reports.items end.unput.items _ named.cause

@@ -13,7 +13,7 @@ use Rattle.sby_words.specs.Folders.{IsStem, task_folder}
 use Rattle.gen_design.specs.Ring.{task_lines, text_of}
 use Rattle.sby_words.specs.Requests.{AskGen, AskNames, AskTasks, GenRequest, Request as Asked, TaskRequest}
 use Rattle.sby_top.specs.Ending.{RanTo, told_code}
-use Rattle.sby_top.specs.Run.{LinesAlone, NamesTold, SameSink, TurnsDone, name_lines}
+use Rattle.sby_top.specs.Run.{LinesAlone, NamesTold, SameSink, TurnsDone, allowance_of, name_lines}
 use Rattle.sby_top.specs.Served.{IsGot}
 use Rattle.sby_top.specs.Steps.{IsFailedCall}
 use Rattle.sby_top.specs.Asked.{HasTurns, IsNamesFault}
@@ -25,7 +25,7 @@ use Rattle.sby_top.specs.declared.outcome.Done.{Done}
 use Rattle.sby_top.proofs.ServeLemmas.{same_files}
 use Rattle.sby_top.proofs.TurnLemmas.{no_ends}
 
-pub turns_done : (may_read : ℕ → Type 0) (before middle after : World) (done : Done) (asked : Asked) (turns : List Turn) → SameSink before middle → HasTurns (files_of before) (files_of middle) asked turns → RanTo may_read middle turns after done → TurnsDone may_read before after done asked
+pub turns_done : (may_read : ℕ → Type 0) (before middle after : World) (done : Done) (asked : Asked) (turns : List Turn) → SameSink before middle → HasTurns (files_of before) (files_of middle) asked turns → RanTo (allowance_of asked) may_read middle turns after done → TurnsDone may_read before after done asked
 turns_done may_read before middle after done asked turns same has ran = record { middle = middle; turns = turns; exit = ran.0; same_sink = same; has_turns = has; ran = ran.1; rc = ran.2 }
 
 -- a task file couldn't be got
@@ -40,13 +40,13 @@ text_failed before now path (TooMany job) h = absurd h
 text_failed before now path Streams h = absurd h
 
 -- the turns of a task file that was got, or wasn't
-pub has_text : (before now : FilesOf) (file stem text : List ℕ) (directory : Option (List ℕ)) (names : List (List ℕ)) (turns : List Turn) → IsGot before.told file most_task_file text → now ≡ before → IsStem file stem
-    → AreTextTurns stem directory names text turns → HasTurns before now (AskTasks (record { directory = directory; file = file; names = names })) turns
-has_text before now file stem text directory names turns got same is are = (Ok text, (got, same), (stem, is, are))
+pub has_text : (before now : FilesOf) (file stem text : List ℕ) (directory : Option (List ℕ)) (jobs : Option ℕ) (names : List (List ℕ)) (turns : List Turn) → IsGot before.told file most_task_file text → now ≡ before → IsStem file stem
+    → AreTextTurns stem directory names text turns → HasTurns before now (AskTasks (record { directory = directory; jobs = jobs; file = file; names = names })) turns
+has_text before now file stem text directory jobs names turns got same is are = (Ok text, (got, same), (stem, is, are))
 
-pub has_fault : (before now : FilesOf) (file stem : List ℕ) (directory : Option (List ℕ)) (names : List (List ℕ)) (early : Early) → IsFailedCall before now file early → IsStem file stem
-    → HasTurns before now (AskTasks (record { directory = directory; file = file; names = names })) (Refused (task_folder stem directory []) early ∷ [])
-has_fault before now file stem directory names early failed is = (Err early, text_failed before now file early failed, (stem, is, refl))
+pub has_fault : (before now : FilesOf) (file stem : List ℕ) (directory : Option (List ℕ)) (jobs : Option ℕ) (names : List (List ℕ)) (early : Early) → IsFailedCall before now file early → IsStem file stem
+    → HasTurns before now (AskTasks (record { directory = directory; jobs = jobs; file = file; names = names })) (Refused (task_folder stem directory []) early ∷ [])
+has_fault before now file stem directory jobs names early failed is = (Err early, text_failed before now file early failed, (stem, is, refl))
 
 alone_by : {T : Type 0} (before after : World) (lines : List (List ℕ)) (done : Done) (told : Result T Stop) → done.rc ≡ told_code told → done.ends.items ≡ [] → files_of after ≡ files_of before → SameYard before after
     → Tells before.taken after.taken before.sink_faults after.sink_faults after.ended lines told → LinesAlone before after lines done
@@ -71,30 +71,30 @@ pub names_told : (may_read : ℕ → Type 0) (before after : World) (file text :
 names_told may_read before after file text c done got is alone = inl (text, c, (got, refl), is, alone)
 
 pub names_fault : (may_read : ℕ → Type 0) (before middle after : World) (file stem : List ℕ) (early : Early) (done : Done) → SameSink before middle → IsNamesFault (files_of before) (files_of middle) file early → IsStem file stem
-    → RanTo may_read middle (Refused (task_folder stem None []) early ∷ []) after done → NamesTold may_read before after file done
+    → RanTo None may_read middle (Refused (task_folder stem None []) early ∷ []) after done → NamesTold may_read before after file done
 names_fault may_read before middle after file stem early done same fault is ran =
     inr (turns_done may_read before middle after done (AskNames file) (Refused (task_folder stem None []) early ∷ []) same (early, fault, (stem, is, refl)) ran)
 
 -- the turns of a task file that was got were had
-pub tasks_done : (may_read : ℕ → Type 0) (before middle after : World) (done : Done) (t : TaskRequest) (file path stem text : List ℕ) (directory : Option (List ℕ)) (names : List (List ℕ)) → record { directory = directory; file = file; names = names } ≡ t → path ≡ file
+pub tasks_done : (may_read : ℕ → Type 0) (before middle after : World) (done : Done) (t : TaskRequest) (file path stem text : List ℕ) (directory : Option (List ℕ)) (jobs : Option ℕ) (names : List (List ℕ)) → record { directory = directory; jobs = jobs; file = file; names = names } ≡ t → path ≡ file
     → SameSink before middle → IsGot before.told path most_task_file text → files_of middle ≡ files_of before → IsStem path stem
-    → ((turns : List Turn) × AreTextTurns stem directory names text turns × RanTo may_read middle turns after done) → TurnsDone may_read before after done (AskTasks t)
-tasks_done may_read before middle after done t file path stem text directory names is at same got files stem_is ran =
+    → ((turns : List Turn) × AreTextTurns stem directory names text turns × RanTo jobs may_read middle turns after done) → TurnsDone may_read before after done (AskTasks t)
+tasks_done may_read before middle after done t file path stem text directory jobs names is at same got files stem_is ran =
     subst (λ q. TurnsDone may_read before after done (AskTasks q)) is
-    (turns_done may_read before middle after done (AskTasks (record { directory = directory; file = file; names = names })) ran.0 same
-    (has_text (files_of before) (files_of middle) file stem text directory names ran.0 (subst (λ p. IsGot before.told p most_task_file text) at got) files (subst (λ p. IsStem p stem) at stem_is) ran.1) ran.2)
+    (turns_done may_read before middle after done (AskTasks (record { directory = directory; jobs = jobs; file = file; names = names })) ran.0 same
+    (has_text (files_of before) (files_of middle) file stem text directory jobs names ran.0 (subst (λ p. IsGot before.told p most_task_file text) at got) files (subst (λ p. IsStem p stem) at stem_is) ran.1) ran.2)
 
 -- or its fault was told
-pub tasks_fault : (may_read : ℕ → Type 0) (before middle after : World) (done : Done) (t : TaskRequest) (file path stem : List ℕ) (directory : Option (List ℕ)) (names : List (List ℕ)) (early : Early) → record { directory = directory; file = file; names = names } ≡ t → path ≡ file
-    → SameSink before middle → IsFailedCall (files_of before) (files_of middle) path early → IsStem path stem → RanTo may_read middle (Refused (task_folder stem directory []) early ∷ []) after done → TurnsDone may_read before after done (AskTasks t)
-tasks_fault may_read before middle after done t file path stem directory names early is at same failed stem_is ran =
+pub tasks_fault : (may_read : ℕ → Type 0) (before middle after : World) (done : Done) (t : TaskRequest) (file path stem : List ℕ) (directory : Option (List ℕ)) (jobs : Option ℕ) (names : List (List ℕ)) (early : Early) → record { directory = directory; jobs = jobs; file = file; names = names } ≡ t → path ≡ file
+    → SameSink before middle → IsFailedCall (files_of before) (files_of middle) path early → IsStem path stem → RanTo jobs may_read middle (Refused (task_folder stem directory []) early ∷ []) after done → TurnsDone may_read before after done (AskTasks t)
+tasks_fault may_read before middle after done t file path stem directory jobs names early is at same failed stem_is ran =
     subst (λ q. TurnsDone may_read before after done (AskTasks q)) is
-    (turns_done may_read before middle after done (AskTasks (record { directory = directory; file = file; names = names })) (Refused (task_folder stem directory []) early ∷ []) same
-    (has_fault (files_of before) (files_of middle) file stem directory names early (subst (λ p. IsFailedCall (files_of before) (files_of middle) p early) at failed) (subst (λ p. IsStem p stem) at stem_is)) ran)
+    (turns_done may_read before middle after done (AskTasks (record { directory = directory; jobs = jobs; file = file; names = names })) (Refused (task_folder stem directory []) early ∷ []) same
+    (has_fault (files_of before) (files_of middle) file stem directory jobs names early (subst (λ p. IsFailedCall (files_of before) (files_of middle) p early) at failed) (subst (λ p. IsStem p stem) at stem_is)) ran)
 
 -- the turns of the generated task file were had
 pub gen_done : (may_read : ℕ → Type 0) (before after : World) (done : Done) (t : GenRequest) (size : ℕ) (stem text : List ℕ) (directory : Option (List ℕ)) → record { directory = directory; size = size } ≡ t → stem ≡ gen_stem size → text ≡ text_of (task_lines size)
-    → ((turns : List Turn) × AreTextTurns stem directory [] text turns × RanTo may_read before turns after done) → TurnsDone may_read before after done (AskGen t)
+    → ((turns : List Turn) × AreTextTurns stem directory [] text turns × RanTo None may_read before turns after done) → TurnsDone may_read before after done (AskGen t)
 gen_done may_read before after done t size stem text directory is stem_is text_is ran =
     let are = subst (λ s. AreTextTurns s directory [] text ran.0) stem_is ran.1 in
     let own = subst (λ x. AreTextTurns (gen_stem size) directory [] x ran.0) text_is are in
@@ -105,4 +105,4 @@ gen_done may_read before after done t size stem text directory is stem_is text_i
 pub gen_none : (may_read : ℕ → Type 0) (before : World) (done : Done) (t : GenRequest) → done.rc ≡ 32 → done.ends.items ≡ [] → TurnsDone may_read before before done (AskGen t)
 gen_none may_read before done t rc ends =
     turns_done may_read before before before done (AskGen t) (Refused (task_folder (gen_stem t.size) t.directory []) Memory ∷ []) refl (refl, inr (inl refl))
-    (no_ends may_read before (Refused (task_folder (gen_stem t.size) t.directory []) Memory) [] done rc ends)
+    (no_ends None may_read before (Refused (task_folder (gen_stem t.size) t.directory []) Memory) [] done rc ends)

@@ -1,6 +1,7 @@
 -- PASS and FAIL are true.
 use Rattle.std.proofs.Common.{◌≡◌, ◌≢◌, ℕ, ◌-◌, ◌<◌, ◌≤◌, List, [], ◌∷◌, ◌++◌, refl, ap, sym, ◌∙◌, subst, inl, inr, length, append_assoc, arith}
 use Rattle.std.specs.Prelude.{◌↔◌, Contains, Option, Some, None, slice_get}
+use Rattle.jobs_pool.specs.Places.{PoolOf}
 use Rattle.judge.specs.Finding.{Claim, FindingOf, RunReaches}
 use Rattle.race_core.specs.Asking.{name_at}
 use Rattle.design_meaning.specs.Meaning.{Broken, covers}
@@ -169,10 +170,10 @@ passes_by laws task end p reports n answers Prove cover is askable count reporte
     (subst (λ m. AreReported m task.request.span p.design reports) is reported) (subst (λ m. AreCollected job_of answer_of m n reports answers) is are) decides
 passes_by laws task end p reports n answers CoverMode cover is askable count reported are decides = cover is decides
 
-done_passes : Laws → (may_read : ℕ → Type 0) (number : ℕ) (begun finish : World) (before middle : FilesOf) (task : TaskOf) (end : TaskEnd)
-    (done : IsDone may_read task before middle (race_of number begun finish end.start) end.text end.reports.items) → IsAskable task → end.early ≡ None → (d : DesignOf) → Reads end.text d
+done_passes : Laws → (may_read : ℕ → Type 0) (number : ℕ) (pool : Option PoolOf) (begun finish : World) (before middle : FilesOf) (task : TaskOf) (end : TaskEnd)
+    (done : IsDone may_read task before middle (race_of number pool begun finish end.start) end.text end.reports.items) → IsAskable task → end.early ≡ None → (d : DesignOf) → Reads end.text d
     → IsRaceStatus task.request (record { design = d; reports = end.reports.items; start = end.start }) Pass → IsTrueOf before.told task end.text (PassClaim task.request.mode task end)
-done_passes laws may_read number begun finish before middle task end done askable early d reads is =
+done_passes laws may_read number pool begun finish before middle task end done askable early d reads is =
     let p = done.problem in
     let accepted = done.served.0 in
     let same : d ≡ done.problem.design = own_design done.problem end.text d done.served.0.problem done.text_is reads in
@@ -183,9 +184,9 @@ done_passes laws may_read number begun finish before middle task end done askabl
         rw done.text_is accepted.problem.reads,
         accepted.problem.flat,
         passes_by laws task end p end.reports.items (length (jobs_in task.request.mode task.request.span d)) is.0 task.request.mode
-            (λ cover decides. cover_passes laws task end p cover early done.text_is accepted.problem (reported may_read before.told middle.told task p (race_of number begun finish end.start) task.service end.reports.items accepted done.reports_are)
-            (limited_by may_read middle.told task p (race_of number begun finish end.start) task.service end.reports.items done.reports_are) (is.0, subst (λ x. AreAnswers task.request (over end x) is.0) same is.1, is.2) decides) refl askable count
-            (reported may_read before.told middle.told task p (race_of number begun finish end.start) task.service end.reports.items accepted done.reports_are) is.1 (pass_decides task.request.mode is.0 is.2.events is.2.decided is.2.decides is.2.has_status),
+            (λ cover decides. cover_passes laws task end p cover early done.text_is accepted.problem (reported may_read before.told middle.told task p (race_of number pool begun finish end.start) task.service end.reports.items accepted done.reports_are)
+            (limited_by may_read middle.told task p (race_of number pool begun finish end.start) task.service end.reports.items done.reports_are) (is.0, subst (λ x. AreAnswers task.request (over end x) is.0) same is.1, is.2) decides) refl askable count
+            (reported may_read before.told middle.told task p (race_of number pool begun finish end.start) task.service end.reports.items accepted done.reports_are) is.1 (pass_decides task.request.mode is.0 is.2.events is.2.decided is.2.decides is.2.has_status),
       ),
     )
 
@@ -200,10 +201,10 @@ early_passes request (TooMany job) c is = cc
 early_passes request Streams c is = cc
 
 passes_truly : Laws → (may_read : ℕ → Type 0) (number : ℕ) (moments : Moments) (task : TaskOf) (end : TaskEnd) (early : Option Early) → IsAskable task → end.early ≡ early → (d : DesignOf) → (early ≡ None → Reads end.text d)
-    → IsStatus task.request early (record { design = d; reports = end.reports.items; start = end.start }) Pass → IsOutcome may_read task moments (race_of number moments.before moments.after end.start) early end.text end.reports.items end.unput.items (WasStopped moments end)
+    → IsStatus task.request early (record { design = d; reports = end.reports.items; start = end.start }) Pass → IsOutcome may_read task moments (race_of number moments.pool moments.before moments.after end.start) early end.text end.reports.items end.unput.items (WasStopped moments end)
     → IsTrueOf moments.got.told task end.text (PassClaim task.request.mode task end)
 passes_truly laws may_read number moments task end (Some early) askable at d reads is came = absurd (early_passes task.request early _ is)
-passes_truly laws may_read number moments task end None askable at d reads is came = done_passes laws may_read number moments.before moments.after moments.got moments.put task end came.0 askable at d (reads refl) is
+passes_truly laws may_read number moments task end None askable at d reads is came = done_passes laws may_read number moments.pool moments.before moments.after moments.got moments.put task end came.0 askable at d (reads refl) is
 
 pub is_pass_true : Laws → (may_read : ℕ → Type 0) (number : ℕ) (moments : Moments) (task : TaskOf) (end : TaskEnd) → IsAskable task → NamesEvent may_read number moments task end → end.status ≡ Pass
     → IsTrueOf moments.got.told task end.text (PassClaim task.request.mode task end)
@@ -283,10 +284,10 @@ fails_by laws task end p Bmc is early text problem reported limited race = shown
 fails_by laws task end p Prove is early text problem reported limited race = shown_break laws task end p (λ e. let no : Prove ≡ CoverMode = sym is ∙ e in cc) early text problem reported limited race
 fails_by laws task end p CoverMode is early text problem reported limited race = cover_fails laws task end p is early text problem reported limited race
 
-done_fails : Laws → (may_read : ℕ → Type 0) (number : ℕ) (begun finish : World) (before middle : FilesOf) (task : TaskOf) (end : TaskEnd)
-    (done : IsDone may_read task before middle (race_of number begun finish end.start) end.text end.reports.items) → end.early ≡ None → (d : DesignOf) → Reads end.text d
+done_fails : Laws → (may_read : ℕ → Type 0) (number : ℕ) (pool : Option PoolOf) (begun finish : World) (before middle : FilesOf) (task : TaskOf) (end : TaskEnd)
+    (done : IsDone may_read task before middle (race_of number pool begun finish end.start) end.text end.reports.items) → end.early ≡ None → (d : DesignOf) → Reads end.text d
     → IsRaceStatus task.request (record { design = d; reports = end.reports.items; start = end.start }) Fail → IsTrueOf before.told task end.text (FailClaim task.request.mode task end)
-done_fails laws may_read number begun finish before middle task end done early d reads is =
+done_fails laws may_read number pool begun finish before middle task end done early d reads is =
     let p = done.problem in
     let accepted = done.served.0 in
     let same : d ≡ done.problem.design = own_design done.problem end.text d done.served.0.problem done.text_is reads in
@@ -297,8 +298,8 @@ done_fails laws may_read number begun finish before middle task end done early d
         p.design,
         rw done.text_is accepted.problem.reads,
         accepted.problem.flat,
-        fails_by laws task end p task.request.mode refl early done.text_is accepted.problem (reported may_read before.told middle.told task p (race_of number begun finish end.start) task.service end.reports.items accepted done.reports_are)
-            (limited_by may_read middle.told task p (race_of number begun finish end.start) task.service end.reports.items done.reports_are) race,
+        fails_by laws task end p task.request.mode refl early done.text_is accepted.problem (reported may_read before.told middle.told task p (race_of number pool begun finish end.start) task.service end.reports.items accepted done.reports_are)
+            (limited_by may_read middle.told task p (race_of number pool begun finish end.start) task.service end.reports.items done.reports_are) race,
       ),
     )
 
@@ -313,10 +314,10 @@ early_fails request (TooMany job) c is = cc
 early_fails request Streams c is = cc
 
 fails_truly : Laws → (may_read : ℕ → Type 0) (number : ℕ) (moments : Moments) (task : TaskOf) (end : TaskEnd) (early : Option Early) → end.early ≡ early → (d : DesignOf) → (early ≡ None → Reads end.text d)
-    → IsStatus task.request early (record { design = d; reports = end.reports.items; start = end.start }) Fail → IsOutcome may_read task moments (race_of number moments.before moments.after end.start) early end.text end.reports.items end.unput.items (WasStopped moments end)
+    → IsStatus task.request early (record { design = d; reports = end.reports.items; start = end.start }) Fail → IsOutcome may_read task moments (race_of number moments.pool moments.before moments.after end.start) early end.text end.reports.items end.unput.items (WasStopped moments end)
     → IsTrueOf moments.got.told task end.text (FailClaim task.request.mode task end)
 fails_truly laws may_read number moments task end (Some early) at d reads is came = absurd (early_fails task.request early _ is)
-fails_truly laws may_read number moments task end None at d reads is came = done_fails laws may_read number moments.before moments.after moments.got moments.put task end came.0 at d (reads refl) is
+fails_truly laws may_read number moments task end None at d reads is came = done_fails laws may_read number moments.pool moments.before moments.after moments.got moments.put task end came.0 at d (reads refl) is
 
 pub is_fail_true : Laws → (may_read : ℕ → Type 0) (number : ℕ) (moments : Moments) (task : TaskOf) (end : TaskEnd) → IsAskable task → NamesEvent may_read number moments task end → end.status ≡ Fail
     → IsTrueOf moments.got.told task end.text (FailClaim task.request.mode task end)

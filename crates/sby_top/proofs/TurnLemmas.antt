@@ -26,27 +26,33 @@ use Rattle.sby_top.specs.World.{World, at_once}
 use Rattle.sby_top.specs.declared.outcome.Done.{Done}
 use Rattle.sby_top.specs.declared.outcome.TaskEnd.{TaskEnd}
 use Rattle.sby_top.proofs.ReportLemmas.{first_or_later, nothing_in}
+use Rattle.sby_top.proofs.TogetherLemmas.{none_started_yet}
 use Rattle.cnf_form.proofs.Members.{Contains-head, Contains-tail}
 
 -- memory ran out even for an end
-pub no_ends : (may_read : ℕ → Type 0) (before : World) (turn : Turn) (turns : List Turn) (done : Done) → done.rc ≡ 32 → done.ends.items ≡ [] → RanTo may_read before (turn ∷ turns) before done
-no_ends may_read before turn turns done rc ends = (Code (bit_or 0 32), rw ends ([], refl, refl), rc)
+pub no_ends : (jobs : Option ℕ) (may_read : ℕ → Type 0) (before : World) (turn : Turn) (turns : List Turn) (done : Done) → done.rc ≡ 32 → done.ends.items ≡ [] → RanTo jobs may_read before (turn ∷ turns) before done
+no_ends None may_read before turn turns done rc ends = (Code (bit_or 0 32), rw ends ([], refl, refl), rc)
+no_ends (Some most) may_read before turn turns done rc ends = (
+  Code (bit_or 0 32),
+  rw ends ([], refl, ([], inl refl, tt, record { pool = tt; ready = before; prepared = refl; spared = none_started_yet before.yard; silent = refl; shown = refl })),
+  rc,
+)
 
 -- the turns that follow one that was had
 ran_next : (may_read : ℕ → Type 0) (number so_far : ℕ) (start now : World) (turn : Turn) (turns : List Turn) (end : TaskEnd) (ends : List TaskEnd) (rc : ℕ) (after : World) (exit : Exit) → HadAtOnce may_read number start now turn end (Code rc)
     → Ran may_read (number + 1) (bit_or so_far rc) now turns ends after exit → Ran may_read number so_far start (turn ∷ turns) (end ∷ ends) after exit
-ran_next may_read number so_far start now turn turns end ends rc after exit had rest = (at_once start had.0 now ∷ rest.0, inr (rc, had.1, rest.1), ((refl, refl), rest.2))
+ran_next may_read number so_far start now turn turns end ends rc after exit had rest = (at_once start had.0 now ∷ rest.0, inr (rc, had.1, rest.1), ((refl, refl, refl), rest.2))
 
 -- a turn that cut the run short
 ran_cut : (may_read : ℕ → Type 0) (number so_far : ℕ) (start after : World) (turn : Turn) (turns : List Turn) (end : TaskEnd) → HadAtOnce may_read number start after turn end Cut → Ran may_read number so_far start (turn ∷ turns) (end ∷ []) after Cut
-ran_cut may_read number so_far start after turn turns end had = (at_once start had.0 after ∷ [], inl (had.1, refl, refl, refl), ((refl, refl), refl))
+ran_cut may_read number so_far start after turn turns end had = (at_once start had.0 after ∷ [], inl (had.1, refl, refl, refl), ((refl, refl, refl), refl))
 
 one_by : (may_read : ℕ → Type 0) (before after : World) (turn : Turn) (end : TaskEnd) (exit : Exit) → HadAtOnce may_read 0 before after turn end exit → (total : Exit) × Ran may_read 0 0 before (turn ∷ []) (end ∷ []) after total × (rc_of_exit exit ≡ rc_of_exit total)
 one_by may_read before after turn end (Code rc) had = (Code (bit_or 0 rc), ran_next may_read 0 0 before after turn [] end [] rc after (Code (bit_or 0 rc)) had ([], refl, refl), sym (or_zero_l rc))
 one_by may_read before after turn end Cut had = (Cut, ran_cut may_read 0 0 before after turn [] end had, refl)
 
 -- the only turn was had
-pub one_ran : (may_read : ℕ → Type 0) (before after : World) (turn : Turn) (end : TaskEnd) (exit : Exit) (done : Done) → HadAtOnce may_read 0 before after turn end exit → done.rc ≡ rc_of_exit exit → done.ends.items ≡ end ∷ [] → RanTo may_read before (turn ∷ []) after done
+pub one_ran : (may_read : ℕ → Type 0) (before after : World) (turn : Turn) (end : TaskEnd) (exit : Exit) (done : Done) → HadAtOnce may_read 0 before after turn end exit → done.rc ≡ rc_of_exit exit → done.ends.items ≡ end ∷ [] → RanTo None may_read before (turn ∷ []) after done
 one_ran may_read before after turn end exit done had rc ends = let one = one_by may_read before after turn end exit had in (one.0, rw ends one.1, rc ∙ one.2)
 
 -- ---- every task has a turn
@@ -76,15 +82,15 @@ refused_turn : (name : List ℕ) (r : Result FileTask TaskFault) → IsTurnOf na
 refused_turn name (Ok task) = inr refl
 refused_turn name (Err fault) = inr refl
 
-turn_exists : (stem : List ℕ) (directory : Option (List ℕ)) (c : ConfigOf) (asked : Option (List ℕ)) → (turn : Turn) × IsAskedTurn stem directory c asked turn
+pub turn_exists : (stem : List ℕ) (directory : Option (List ℕ)) (c : ConfigOf) (asked : Option (List ℕ)) → (turn : Turn) × IsAskedTurn stem directory c asked turn
 turn_exists stem directory c asked = let name = name_exists stem directory c asked in (Refused name.0 Memory, (name.0, name.1, refused_turn name.0 (expansion c asked)))
 
-turns_exist : (stem : List ℕ) (directory : Option (List ℕ)) (c : ConfigOf) (asked : List (Option (List ℕ))) → (turns : List Turn) × AreTurnsOf stem directory c asked turns
+pub turns_exist : (stem : List ℕ) (directory : Option (List ℕ)) (c : ConfigOf) (asked : List (Option (List ℕ))) → (turns : List Turn) × AreTurnsOf stem directory c asked turns
 turns_exist stem directory c [] = ([], refl)
 turns_exist stem directory c (a ∷ asked) =
     let first = turn_exists stem directory c a in let rest = turns_exist stem directory c asked in (first.0 ∷ rest.0, (first.1, rest.1))
 
-turns_append : (stem : List ℕ) (directory : Option (List ℕ)) (c : ConfigOf) (asked more : List (Option (List ℕ))) (turns others : List Turn) → AreTurnsOf stem directory c asked turns → AreTurnsOf stem directory c more others
+pub turns_append : (stem : List ℕ) (directory : Option (List ℕ)) (c : ConfigOf) (asked more : List (Option (List ℕ))) (turns others : List Turn) → AreTurnsOf stem directory c asked turns → AreTurnsOf stem directory c more others
     → AreTurnsOf stem directory c (asked ++ more) (turns ++ others)
 turns_append stem directory c [] more turns others are then = rw are then
 turns_append stem directory c (a ∷ asked) more [] others are then = absurd are
@@ -117,11 +123,11 @@ had_more may_read start mid now stem directory c asked a old new had is = record
 }
 
 -- all turns, with those that weren't had
-abbrev pub RanAsked : (ℕ → Type 0) → World → World → List ℕ → Option (List ℕ) → ConfigOf → List (Option (List ℕ)) → Done → Type 0
-RanAsked may_read start now stem directory c asked done = (turns : List Turn) × AreTurnsOf stem directory c asked turns × RanTo may_read start turns now done
+abbrev pub RanAsked : Option ℕ → (ℕ → Type 0) → World → World → List ℕ → Option (List ℕ) → ConfigOf → List (Option (List ℕ)) → Done → Type 0
+RanAsked jobs may_read start now stem directory c asked done = (turns : List Turn) × AreTurnsOf stem directory c asked turns × RanTo jobs may_read start turns now done
 
 pub had_last : (may_read : ℕ → Type 0) (start mid now : World) (stem : List ℕ) (directory : Option (List ℕ)) (c : ConfigOf) (asked more : List (Option (List ℕ))) (a : Option (List ℕ)) (old new : Done) → AreHad may_read start mid stem directory c asked old
-    → IsAsk may_read mid now stem directory c a old new false → RanAsked may_read start now stem directory c (asked ++ a ∷ more) new
+    → IsAsk may_read mid now stem directory c a old new false → RanAsked None may_read start now stem directory c (asked ++ a ∷ more) new
 had_last may_read start mid now stem directory c asked more a old new had (inl cut) =
     let rest = turns_exist stem directory c more in (
       had.turns ++ cut.0 ∷ rest.0,
@@ -141,7 +147,7 @@ had_last may_read start mid now stem directory c asked more a old new had (inr w
       ),
     )
 
-pub had_all : (may_read : ℕ → Type 0) (start now : World) (stem : List ℕ) (directory : Option (List ℕ)) (c : ConfigOf) (asked : List (Option (List ℕ))) (done : Done) → AreHad may_read start now stem directory c asked done → RanAsked may_read start now stem directory c asked done
+pub had_all : (may_read : ℕ → Type 0) (start now : World) (stem : List ℕ) (directory : Option (List ℕ)) (c : ConfigOf) (asked : List (Option (List ℕ))) (done : Done) → AreHad may_read start now stem directory c asked done → RanAsked None may_read start now stem directory c asked done
 had_all may_read start now stem directory c asked done had = (
   had.turns,
   had.are,
@@ -154,12 +160,12 @@ had_all may_read start now stem directory c asked done had = (
 )
 
 -- memory ran out before any of some tasks
-pub none_asked : (may_read : ℕ → Type 0) (start : World) (stem : List ℕ) (directory : Option (List ℕ)) (c : ConfigOf) (asked : List (Option (List ℕ))) (done : Done) → 0 < length asked → done.rc ≡ 32 → done.ends.items ≡ []
-    → RanAsked may_read start start stem directory c asked done
-none_asked may_read start stem directory c [] done some rc ends = absurd (omega (arith, some))
-none_asked may_read start stem directory c (a ∷ asked) done some rc ends =
+pub none_asked : (jobs : Option ℕ) (may_read : ℕ → Type 0) (start : World) (stem : List ℕ) (directory : Option (List ℕ)) (c : ConfigOf) (asked : List (Option (List ℕ))) (done : Done) → 0 < length asked → done.rc ≡ 32 → done.ends.items ≡ []
+    → RanAsked jobs may_read start start stem directory c asked done
+none_asked jobs may_read start stem directory c [] done some rc ends = absurd (omega (arith, some))
+none_asked jobs may_read start stem directory c (a ∷ asked) done some rc ends =
     let first = turn_exists stem directory c a in let rest = turns_exist stem directory c asked in
-    (first.0 ∷ rest.0, (first.1, rest.1), no_ends may_read start first.0 rest.0 done rc ends)
+    (first.0 ∷ rest.0, (first.1, rest.1), no_ends jobs may_read start first.0 rest.0 done rc ends)
 
 -- ---- exits as they are kept
 
@@ -226,9 +232,9 @@ pub had_more_at : (may_read : ℕ → Type 0) (start mid now : World) (stem : Li
 had_more_at may_read start mid now stem directory c asked next a old new all had is = subst (λ xs. AreHad may_read start now stem directory c xs new) (sym all) (had_more may_read start mid now stem directory c asked a old new had is)
 
 pub had_last_at : (may_read : ℕ → Type 0) (start mid now : World) (stem : List ℕ) (directory : Option (List ℕ)) (c : ConfigOf) (asked more all : List (Option (List ℕ))) (a : Option (List ℕ)) (old new : Done) → all ≡ asked ++ a ∷ more
-    → AreHad may_read start mid stem directory c asked old → IsAsk may_read mid now stem directory c a old new false → RanAsked may_read start now stem directory c all new
-had_last_at may_read start mid now stem directory c asked more all a old new is had ask = subst (λ xs. RanAsked may_read start now stem directory c xs new) (sym is) (had_last may_read start mid now stem directory c asked more a old new had ask)
+    → AreHad may_read start mid stem directory c asked old → IsAsk may_read mid now stem directory c a old new false → RanAsked None may_read start now stem directory c all new
+had_last_at may_read start mid now stem directory c asked more all a old new is had ask = subst (λ xs. RanAsked None may_read start now stem directory c xs new) (sym is) (had_last may_read start mid now stem directory c asked more a old new had ask)
 
 pub had_all_at : (may_read : ℕ → Type 0) (start now : World) (stem : List ℕ) (directory : Option (List ℕ)) (c : ConfigOf) (asked all : List (Option (List ℕ))) (done : Done) → asked ≡ all → AreHad may_read start now stem directory c asked done
-    → RanAsked may_read start now stem directory c all done
-had_all_at may_read start now stem directory c asked all done is had = subst (λ xs. RanAsked may_read start now stem directory c xs done) is (had_all may_read start now stem directory c asked done had)
+    → RanAsked None may_read start now stem directory c all done
+had_all_at may_read start now stem directory c asked all done is had = subst (λ xs. RanAsked None may_read start now stem directory c xs done) is (had_all may_read start now stem directory c asked done had)

@@ -41,7 +41,7 @@ use Rattle.sby_words.specs.Requests.{AskNames, Request as Asked}
 use Rattle.sby_words.specs.Words.{IsAsked}
 use Rattle.sby_top.specs.Causes.{AreTracesPut, HasReason, IsDone, IsOutcome}
 use Rattle.sby_top.specs.Headline.{AreLines, ArePrintedOf, Exit, IsCarried, IsReachPrinted, WasStopped}
-use Rattle.sby_top.specs.Run.{Had, OneByOne, SameSink, TurnRan, rc_of_exit}
+use Rattle.sby_top.specs.Run.{Follows, Had, SameSink, allowance_of, TurnRan, rc_of_exit}
 use Rattle.sby_top.specs.Served.{ArePut, IsServed, IsTextOf, jobs_in, most_stream}
 use Rattle.sby_top.specs.Judged.{racing_of}
 use Rattle.sby_top.specs.Task.{Lanes, Service, Streams, TaskOf}
@@ -66,7 +66,7 @@ pub record IsHad (may_read : ℕ → Type 0) (before after : World) (words : Lis
   pub ms : List Moments
   pub total : Exit
   pub had : Had may_read 0 0 turns ms done.ends.items total
-  pub order : OneByOne begun ms after
+  pub order : Follows (allowance_of asked) may_read turns ms begun after total
   pub rc : done.rc ≡ rc_of_exit total
   pub place : ℕ
   pub turn_is : slice_get turns place ≡ Some turn
@@ -100,7 +100,7 @@ IsStored task m = ((m.put.told ≡ m.got.told) × (m.after.told ≡ m.before.tol
 -- The task was judged when the store was this one: the jobs' files were put, and trace files were put with its lines.
 pub record IsJudgedAt (may_read : ℕ → Type 0) (number : ℕ) (m : Moments) (task : TaskOf) (end : TaskEnd) (now : Store) : Type 0 where
   pub early : end.early ≡ None
-  pub done : IsDone may_read task m.got m.put (race_of number m.before m.after end.start) end.text end.reports.items
+  pub done : IsDone may_read task m.got m.put (race_of number m.pool m.before m.after end.start) end.text end.reports.items
   pub traced : AreTracesPut task (files_of m.before) (files_of m.after) done.problem end.reports.items end.unput.items (WasStopped m end)
   pub told : m.put.told ≡ Some now
 
@@ -253,7 +253,7 @@ IsStoredEnd (Stopped reading) = ⊥
 -- The task was judged: its files were put, and these are its reports; each call that failed was for a trace file.
 pub record WasJudged (may_read : ℕ → Type 0) (number : ℕ) (m : Moments) (task : TaskOf) (end : TaskEnd) : Type 0 where
   pub early : end.early ≡ None
-  pub outcome : IsOutcome may_read task m (race_of number m.before m.after end.start) None end.text end.reports.items end.unput.items (WasStopped m end)
+  pub outcome : IsOutcome may_read task m (race_of number m.pool m.before m.after end.start) None end.text end.reports.items end.unput.items (WasStopped m end)
   pub design : DesignOf
   pub reads : Reads end.text design
   pub answers : List (Option Answer)
@@ -279,7 +279,7 @@ pub record IsOpenEnd (may_read : ℕ → Type 0) (number : ℕ) (m : Moments) (t
   pub lane : ℕ
   pub place : ℕ
   pub is_end : IsUnsettledEnd end.reports.items answers lane place e
-  pub caused : IsCausedEnd task.service may_read task p (race_of number m.before m.after end.start) lane place e
+  pub caused : IsCausedEnd task.service may_read task p (race_of number m.pool m.before m.after end.start) lane place e
 
 -- The event that a status other than PASS and FAIL names: UNKNOWN that each end of an unsettled job is Unknown or NotServed, with the cause
 -- of each; TIMEOUT a reading that shows the limit; ERROR a fault before the lanes, or the faulty end of an unsettled job, with its cause. Of
@@ -292,7 +292,7 @@ IsEvent may_read number m task end Timeout =
     (judged : WasJudged may_read number m task end) × ((t : ℕ) × IsOpenEnd may_read number m task end judged.outcome.0.problem judged.answers (Stopped t))
 IsEvent may_read number m task end Unknown =
     (judged : WasJudged may_read number m task end) × ((lane place : ℕ) (e : JobEnd FindingOf) → IsUnsettledEnd end.reports.items judged.answers lane place e
-    → IsLeftEnd e × IsCausedEnd task.service may_read task judged.outcome.0.problem (race_of number m.before m.after end.start) lane place e)
+    → IsLeftEnd e × IsCausedEnd task.service may_read task judged.outcome.0.problem (race_of number m.pool m.before m.after end.start) lane place e)
 IsEvent may_read number m task end Error =
     ((early : Early) × (end.early ≡ Some early) × HasReason task m.got m.put early)
     ⊎ ((judged : WasJudged may_read number m task end)

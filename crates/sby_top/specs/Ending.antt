@@ -5,15 +5,15 @@ use Rattle.sby_task.specs.Expand.{expansion}
 use Rattle.sby_lines.specs.declared.tell.Stop.{Stop}
 use Rattle.sby_lines.specs.declared.tell.Stop.TheVariants.{Memory as MemoryStop, Sink}
 use Rattle.sby_top.specs.Headline.{Exit, Code, Cut}
-use Rattle.sby_top.specs.Run.{Ran, TurnRan, rc_of_exit}
+use Rattle.sby_top.specs.Run.{Ran, RanUnder, TurnRan, rc_of_exit}
 use Rattle.sby_top.specs.Turns.{AreTurnsOf, IsNameOf, IsTurnOf, Turn}
 use Rattle.sby_top.specs.World.{FilesOf, World, at_once}
 use Rattle.sby_top.specs.declared.outcome.Done.{Done}
 use Rattle.sby_top.specs.declared.outcome.TaskEnd.{TaskEnd}
 
--- the turns were had, with these ends and this exit status
-abbrev pub RanTo : (ℕ → Type 0) → World → List Turn → World → Done → Type 0
-RanTo may_read before turns after done = (exit : Exit) × Ran may_read 0 0 before turns done.ends.items after exit × (done.rc ≡ rc_of_exit exit)
+-- the turns were had under this allowance, or one after the other, with these ends and this exit status
+abbrev pub RanTo : Option ℕ → (ℕ → Type 0) → World → List Turn → World → Done → Type 0
+RanTo jobs may_read before turns after done = (exit : Exit) × RanUnder jobs may_read before turns done.ends.items after exit × (done.rc ≡ rc_of_exit exit)
 
 -- a turn was had in one go, from one moment to another
 abbrev pub HadAtOnce : (ℕ → Type 0) → ℕ → World → World → Turn → TaskEnd → Exit → Type 0

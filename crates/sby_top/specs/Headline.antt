@@ -136,7 +136,7 @@ WasStopped m end = (end.status ≡ Memory) ⊎ Rose m.before.sink_faults m.after
 pub record NamesEvent (may_read : ℕ → Type 0) (number : ℕ) (m : Moments) (task : TaskOf) (end : TaskEnd) : Type 0 where
   pub name : string_bytes end.name ≡ task.request.name
   pub status : HasOwnStatus task end ⊎ (end.status ≡ Memory)
-  pub cause : IsOutcome may_read task m (race_of number m.before m.after end.start) end.early end.text end.reports.items end.unput.items (WasStopped m end)
+  pub cause : IsOutcome may_read task m (race_of number m.pool m.before m.after end.start) end.early end.text end.reports.items end.unput.items (WasStopped m end)
 
 -- how a run of tasks exits: with a number, or cut short by a failed call of the sink
 pub data Exit : Type 0 where

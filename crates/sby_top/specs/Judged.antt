@@ -113,4 +113,4 @@ AreStreamReports p told paths reports = (report : ReportOf FindingOf) × IsRepor
 abbrev pub AreReports : Service → (ℕ → Type 0) → TaskOf → AskedOf → Option Store → RaceOf → List (ReportOf FindingOf) → Type 0
 AreReports (Streams paths) may_read task p told race reports = AreStreamReports p told paths reports × (race.start ≡ None) × (race.after ≡ race.before)
 AreReports (Lanes engines) may_read task p told race reports =
-    LanesRan (racing_of task p race.task engines) may_read race.before race.after race.start reports
+    LanesRan (racing_of task p race.task engines) race.pool may_read race.before race.after race.start reports

@@ -17,3 +17,4 @@ pub mod Claims
 pub mod Promise
 pub mod Complete
 pub mod Ready
+pub mod Waiting

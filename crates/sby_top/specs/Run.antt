@@ -1,8 +1,10 @@
 -- What a call of the program does.
-use Rattle.std.specs.Prelude.{◌≡◌, ◌⊎◌, ℕ, ◌+◌, List, ◌≤◌, [], ◌∷◌, ◌++◌, map, bit_or, string_bytes, Option, Some, None, Ok}
+use Rattle.std.specs.Prelude.{◌≡◌, ◌⊎◌, ℕ, ◌+◌, List, ◌≤◌, [], ◌∷◌, ◌++◌, All, drop, length, map, bit_or, string_bytes, IsSomeAnd, Option, Some, None, Ok}
 use Rattle.std.specs.List.{concat}
 use Rattle.sby_edge.specs.Cause.{Rose}
 use Rattle.sby_edge.specs.Sink.{AreAll}
+use Rattle.judge.specs.Finding.{FindingOf}
+use Rattle.race_core.specs.Report.{ReportOf}
 use Rattle.sby_file.specs.Config.{ConfigOf}
 use Rattle.sby_file.specs.Sby.{SbyText}
 use Rattle.sby_terms.specs.Code.{code_of}
@@ -17,10 +19,13 @@ use Rattle.sby_lines.specs.Told.{CameTo, Request}
 use Rattle.sby_lines.specs.declared.early.Early.{Early}
 use Rattle.sby_words.specs.Requests.{AskGen, AskJudge, AskNames, AskTasks, Request as Asked}
 use Rattle.sby_words.specs.Words.{IsAsked}
+use Rattle.sby_top.specs.Causes.{IsOutcome}
 use Rattle.sby_top.specs.Headline.{Exit, Code, Cut, IsPrinted, TaskRan}
 use Rattle.sby_top.specs.Asked.{HasTurns}
 use Rattle.sby_top.specs.Turns.{IsTextGot, Turn, Refused, Run}
-use Rattle.sby_top.specs.World.{Moments, SameFiles, SameYard, World, files_of, with_files}
+use Rattle.sby_top.specs.Task.{TaskOf}
+use Rattle.sby_top.specs.World.{FilesOf, Moments, SameFiles, SameYard, World, files_of, race_of, with_files, with_yard}
+use Rattle.task_race.specs.Bays.{NoneStarted}
 use Rattle.sby_top.specs.declared.outcome.Done.{Done}
 use Rattle.sby_top.specs.declared.outcome.TaskEnd.{TaskEnd}
 
@@ -56,7 +61,7 @@ TurnRan may_read number m (Run task) end exit = TaskRan may_read number m task e
 
 -- What the turns did, numbered from this one on, each at its moments; the exit status of each is or-ed to those before it. A failed call of
 -- the sink ends the run; where memory runs out even for an end, the list of ends stops short. In which order the moments
--- follow is said by `OneByOne`.
+-- follow is said by `Follows`.
 abbrev pub Had : (ℕ → Type 0) → ℕ → ℕ → List Turn → List Moments → List TaskEnd → Exit → Type 0
 Had may_read number so_far [] [] [] exit = exit ≡ Code so_far
 Had may_read number so_far (turn ∷ turns) [] [] exit = exit ≡ Code (bit_or so_far 32)
@@ -68,14 +73,77 @@ Had may_read number so_far [] [] (end ∷ ends) exit = ⊥
 Had may_read number so_far (turn ∷ turns) (m ∷ ms) [] exit = ⊥
 Had may_read number so_far (turn ∷ turns) [] (end ∷ ends) exit = ⊥
 
--- a task's moments begin at this one, with nothing between its preparing and its race
+-- a task's moments begin at this one, with nothing between its preparing and its race, and its children need no places
 abbrev pub BeginsAt : World → Moments → Type 0
-BeginsAt start m = (m.got ≡ files_of start) × (m.before ≡ with_files start m.put)
+BeginsAt start m = (m.got ≡ files_of start) × (m.pool ≡ None) × (m.before ≡ with_files start m.put)
 
 -- the order of moments: each task is prepared, raced and shown before the next one
 abbrev pub OneByOne : World → List Moments → World → Type 0
 OneByOne start [] finish = finish ≡ start
 OneByOne start (m ∷ ms) finish = BeginsAt start m × OneByOne m.after ms finish
+
+-- A turn was prepared, and its lanes raced, but it isn't told, since a call of the sink had failed: nothing of it is printed, and no trace file
+-- is put; the bays of its lanes came back.
+pub record IsUntold (may_read : ℕ → Type 0) (number : ℕ) (m : Moments) (task : TaskOf) : Type 0 where
+  pub start : Option ℕ
+  pub early : Option Early
+  pub text : List ℕ
+  pub reports : List (ReportOf FindingOf)
+  pub outcome : IsOutcome may_read task m (race_of number m.pool m.before m.after start) early text reports [] (Unit {0})
+  pub silent : m.after ≡ with_yard m.before m.after.yard
+
+abbrev pub TurnUntold : (ℕ → Type 0) → ℕ → Moments → Turn → Type 0
+TurnUntold may_read number m (Refused name early) = (m.put ≡ m.got) × (m.after ≡ m.before)
+TurnUntold may_read number m (Run task) = IsUntold may_read number m task
+
+-- the first of these turns, numbered from this one on, aren't told
+abbrev pub AreUntold : (ℕ → Type 0) → ℕ → List Turn → List Moments → Type 0
+AreUntold may_read number turns [] = Unit {0}
+AreUntold may_read number (turn ∷ turns) (m ∷ ms) = TurnUntold may_read number m turn × AreUntold may_read (number + 1) turns ms
+AreUntold may_read number [] (m ∷ ms) = ⊥
+
+-- the tasks are prepared one after the other, from these files to those
+abbrev pub ArePrepared : FilesOf → List Moments → FilesOf → Type 0
+ArePrepared files [] last = last ≡ files
+ArePrepared files (m ∷ ms) last = (m.got ≡ files) × ArePrepared m.put ms last
+
+-- their lines are printed one task after the other, and the bays of their lanes come back
+abbrev pub AreShown : World → List Moments → World → Type 0
+AreShown start [] finish = finish ≡ start
+AreShown start (m ∷ ms) finish = (m.before ≡ start) × AreShown m.after ms finish
+
+-- one pool of this many places serves the children of all tasks
+abbrev pub ShareOne : ℕ → List Moments → Type 0
+ShareOne most [] = Unit {0}
+ShareOne most (m ∷ ms) = IsSomeAnd m.pool (λ pool. (pool.most ≡ most) × All (λ n. n.pool ≡ Some pool) ms)
+
+-- The order of moments under an allowance of this many children: first all tasks are prepared, for which nothing is started; then they are
+-- raced at the same time; then one after the other is shown.
+pub record Together (most : ℕ) (start : World) (ms : List Moments) (finish : World) : Type 0 where
+  pub pool : ShareOne most ms
+  pub ready : World
+  pub prepared : ArePrepared (files_of start) ms (files_of ready)
+  pub spared : NoneStarted start.yard ready.yard
+  pub silent : ready ≡ with_yard (with_files start (files_of ready)) ready.yard
+  pub shown : AreShown ready ms finish
+
+-- The order of moments, where the words ask for an allowance, and where they don't. Under one the turns after a failed call of the sink may
+-- have been prepared and raced before it.
+abbrev pub Follows : Option ℕ → (ℕ → Type 0) → List Turn → List Moments → World → World → Exit → Type 0
+Follows None may_read turns ms start finish exit = OneByOne start ms finish
+Follows (Some most) may_read turns ms start finish exit =
+    (untold : List Moments) × ((untold ≡ []) ⊎ (exit ≡ Cut)) × AreUntold may_read (length ms) (drop (length ms) turns) untold × Together most start (ms ++ untold) finish
+
+-- the allowance that is asked for: at most this many children at a time, over all tasks of a file
+abbrev pub allowance_of : Asked → Option ℕ
+allowance_of (AskTasks t) = t.jobs
+allowance_of (AskJudge j) = None
+allowance_of (AskGen g) = None
+allowance_of (AskNames file) = None
+
+-- the turns were had, under this allowance, or one after the other
+abbrev pub RanUnder : Option ℕ → (ℕ → Type 0) → World → List Turn → List TaskEnd → World → Exit → Type 0
+RanUnder jobs may_read before turns ends after exit = (ms : List Moments) × Had may_read 0 0 turns ms ends exit × Follows jobs may_read turns ms before after exit
 
 -- the turns were had, numbered from this one on, one after the other
 abbrev pub Ran : (ℕ → Type 0) → ℕ → ℕ → World → List Turn → List TaskEnd → World → Exit → Type 0
@@ -122,7 +190,7 @@ pub record TurnsDone (may_read : ℕ → Type 0) (before after : World) (done : 
   pub exit : Exit
   pub same_sink : SameSink before middle
   pub has_turns : HasTurns (files_of before) (files_of middle) asked turns
-  pub ran : Ran may_read 0 0 middle turns done.ends.items after exit
+  pub ran : RanUnder (allowance_of asked) may_read middle turns done.ends.items after exit
   pub rc : done.rc ≡ rc_of_exit exit
 
 -- The names of the tasks of the file that was got were printed; or the fault of a file that can't be got, or isn't a task file, is told.

@@ -9,19 +9,27 @@ ghost use Rattle.sby_terms.specs.declared.names.Status.TheVariants.{Memory as Me
 ghost use Rattle.sby_lines.specs.Lines.{HasJobLines, design_line, done_line, unput_lines};
 ghost use Rattle.sby_lines.specs.Telling.{Tells};
 ghost use Rattle.sby_lines.specs.Told.{AreLimited, AreReported, IsCollected, Request, asked_by, came};
-ghost use Rattle.sby_top.specs.Causes.{AreTracesPut};
+ghost use Rattle.jobs_pool.specs.Places.{PoolOf};
+ghost use Rattle.sby_edge.specs.Files.{Store};
+ghost use Rattle.sby_top.specs.Causes.{AreTracesPut, HasReason, IsSpared};
 ghost use Rattle.sby_top.specs.End.{AreShownPut, IsEnd, IsFaultTold, ended, exit_seen};
 ghost use Rattle.sby_top.specs.Headline.{AreLines, HasOwnStatus, IsPrinted, TaskRan};
 ghost use Rattle.sby_top.specs.Shown.{AreFitting, ArePutUpto, trace_seen};
 ghost use Rattle.sby_top.specs.Task.{IsAskable, task_seen};
-ghost use Rattle.sby_top.specs.World.{FilesOf, at_once, files_of};
+ghost use Rattle.sby_top.specs.Ready.{WasPrepared, WasRaced, back_by};
+ghost use Rattle.sby_top.specs.World.{FilesOf, World, at_once, files_of, with_yard, world_at};
+ghost use Rattle.sby_top.specs.Run.{WasRefused};
+ghost use Rattle.task_race.specs.Bays.{AreLater, YardAt};
 
 use crate::host::{Host, Outside};
 use crate::outcome::TaskEnd;
-use crate::serve::Served;
+use crate::serve::{Raced, Served};
 use crate::task::Task;
 use crate::traces::{Shown, put_traces, shown_runs};
-use judge::{Text, base_and_step_show_that_nothing_breaks, slices_show_that_nothing_breaks};
+use judge::{
+    Problem, Text, base_and_step_show_that_nothing_breaks, slices_show_that_nothing_breaks,
+};
+use lane_berth::Allowance;
 use sby_edge::{Clock, Files, Sink, Yard};
 use sby_lines::{
     Early, Heading, Stop, early_status, fail_shows_its_run, job_lines_exist,
@@ -94,6 +102,16 @@ pub fn finish_fault<S: Sink>(
         text: Text::empty(),
     };
     (end, exit)
+}
+
+/// Only a fault is told, under this name. Its status has its number whatever is expected.
+pub fn refuse<S: Sink>(alloc: Global, out: &mut S, name: String, early: Early) -> (TaskEnd, Exit)
+    ensures { (told : Option Store) (faults : ℕ) (blamed : Option (List ℕ)) (yard : YardAt) (got : FilesOf) (pool : Option PoolOf) → WasRefused
+        (record { got = got; put = got; pool = pool; before = world_at told faults blamed (S.taken out.old) (S.faults out.old) (S.ended out.old) yard; after = world_at told faults blamed (S.taken out.new) (S.faults out.new) (S.ended out.new) yard })
+        (string_bytes name) early result.0 (exit_seen result.1) }
+{
+    let expect = Expect::new(Vec::new(alloc));
+    finish_fault(alloc, out, name, 1, &expect, early)
 }
 
 // The lines of the trace files that couldn't be put, and the last line.
@@ -244,6 +262,68 @@ impl<R: Threads + Wait + Sync, F: Files, S: Sink, Y: Yard, C: Clock> Host<'_, R,
         (end, exit)
     }
 
+    // Settles a task that was raced, prints its lines after that of its design, and puts its trace files.
+    fn finish_raced(
+        &mut self,
+        number: u32,
+        task: Task,
+        raced: Raced<Y::Bay>,
+        head: Result<(), Stop>,
+    ) -> (TaskEnd, Exit)
+        requires askable { IsAskable (task_seen task) }
+        requires raced { (pool : Option PoolOf) × (told : Option Store) × WasRaced (back_by Y.Bay.told Y.Bay.start_faults Y.Bay.read_faults Y.Bay.hold_faults)
+            (task_seen task) number pool (⟦<Self as Outside>⟧.may_read self.old) told (⟦<Self as Outside>⟧.world self.old).yard.scripts raced }
+        ensures ran { (got put : FilesOf) (pool : Option PoolOf) (before : World) → WasPrepared (task_seen task) got put raced.problem
+            → WasRaced (back_by Y.Bay.told Y.Bay.start_faults Y.Bay.read_faults Y.Bay.hold_faults)
+            (task_seen task) number pool (⟦<Self as Outside>⟧.may_read self.old) put.told (⟦<Self as Outside>⟧.world self.old).yard.scripts raced
+            → before.yard ≡ (⟦<Self as Outside>⟧.world self.old).yard → files_of before ≡ files_of (⟦<Self as Outside>⟧.world self.old)
+            → Tells before.taken (⟦<Self as Outside>⟧.world self.old).taken before.sink_faults (⟦<Self as Outside>⟧.world self.old).sink_faults (⟦<Self as Outside>⟧.world self.old).ended (design_line (string_bytes task.name) raced.problem.design ∷ []) head
+            → TaskRan (⟦<Self as Outside>⟧.may_read self.old) number (record { got = got; put = put; pool = pool; before = before; after = ⟦<Self as Outside>⟧.world self.new })
+            (task_seen task) result.0 (exit_seen result.1) }
+        ensures keeps { ⟦<Self as Outside>⟧.keeps self.old self.new }
+    {
+        // PASS of prove and of bmc stands on these laws, and what is shown on the others.
+        base_and_step_show_that_nothing_breaks();
+        slices_show_that_nothing_breaks();
+        fail_shows_its_run();
+        job_lines_exist();
+        settled_statement_is_shown();
+        let served = self.settle(number, &task, raced);
+        self.finish_served(task, served, head)
+    }
+
+    // Tells the fault by which a task ended before its lanes.
+    fn finish_early(&mut self, number: u32, task: Task, early: Early) -> (TaskEnd, Exit)
+        requires askable { IsAskable (task_seen task) }
+        ensures ran { (got put : FilesOf) (pool : Option PoolOf) (before : World) → HasReason (task_seen task) got put early → got.faults ≤ put.faults
+            → before ≡ with_yard (⟦<Self as Outside>⟧.world self.old) before.yard → IsSpared before.yard (⟦<Self as Outside>⟧.world self.old).yard early
+            → (⟦<Self as Outside>⟧.world self.old).yard.scripts ≡ before.yard.scripts → AreLater before.yard.counts (⟦<Self as Outside>⟧.world self.old).yard.counts
+            → TaskRan (⟦<Self as Outside>⟧.may_read self.old) number (record { got = got; put = put; pool = pool; before = before; after = ⟦<Self as Outside>⟧.world self.new })
+            (task_seen task) result.0 (exit_seen result.1) }
+        ensures files { self.new.files.now ≡ self.old.files.now }
+        ensures yard { self.new.yard.now ≡ self.old.yard.now }
+        ensures keeps { ⟦<Self as Outside>⟧.keeps self.old self.new }
+    {
+        base_and_step_show_that_nothing_breaks();
+        slices_show_that_nothing_breaks();
+        fail_shows_its_run();
+        job_lines_exist();
+        settled_statement_is_shown();
+        let slices = task.span.slices();
+        finish_fault(self.alloc, self.out, task.name, slices, &task.expect, early)
+    }
+
+    // Prints the line of the design of a task.
+    fn tell_head(&mut self, task: &Task, problem: &Problem) -> Result<(), Stop>
+        ensures told { Tells (⟦<Self as Outside>⟧.world self.old).taken (⟦<Self as Outside>⟧.world self.new).taken (⟦<Self as Outside>⟧.world self.old).sink_faults (⟦<Self as Outside>⟧.world self.new).sink_faults (⟦<Self as Outside>⟧.world self.new).ended
+            (design_line (string_bytes task.now.name) problem.now.design ∷ []) result }
+        ensures files { self.new.files.now ≡ self.old.files.now }
+        ensures yard { self.new.yard.now ≡ self.old.yard.now }
+        ensures keeps { ⟦<Self as Outside>⟧.keeps self.old self.new }
+    {
+        tell_design(self.alloc, self.out, task.name.as_str(), problem.flat())
+    }
+
     /// Runs a task, which has this number in its call: gets its design, puts its jobs' files, serves its jobs, prints its lines and puts its
     /// trace files.
     pub fn run_task(&mut self, number: u32, task: Task) -> (TaskEnd, Exit)
@@ -254,28 +334,46 @@ impl<R: Threads + Wait + Sync, F: Files, S: Sink, Y: Yard, C: Clock> Host<'_, R,
             (task_seen task) result.0 (exit_seen result.1) }
         ensures keeps { ⟦<Self as Outside>⟧.keeps self.old self.new }
     {
-        // PASS of prove and of bmc stands on these laws, and what is shown on the others.
-        base_and_step_show_that_nothing_breaks();
-        slices_show_that_nothing_breaks();
-        fail_shows_its_run();
-        job_lines_exist();
-        settled_statement_is_shown();
-        match self.prepare(number, &task) {
+        let mut alone = Allowance::none();
+        let prepared = self.prepare(number, &task, &mut alone);
+        alone.end();
+        match prepared {
             Ok(ready) => {
                 // The design is told at once, before its race.
-                let head = tell_design(
-                    self.alloc,
-                    self.out,
-                    task.name.as_str(),
-                    ready.problem.flat(),
-                );
-                let served = self.serve(number, &task, ready);
-                self.finish_served(task, served, head)
+                let head = self.tell_head(&task, &ready.problem);
+                let raced = self.race(number, &task, ready);
+                self.finish_raced(number, task, raced, head)
             }
-            Err(early) => {
-                let slices = task.span.slices();
-                finish_fault(self.alloc, self.out, task.name, slices, &task.expect, early)
-            }
+            Err(early) => self.finish_early(number, task, early),
         }
+    }
+
+    /// Prints the lines of a task that was raced beside others, and puts its trace files.
+    pub fn show_task(&mut self, number: u32, task: Task, raced: Raced<Y::Bay>) -> (TaskEnd, Exit)
+        requires askable { IsAskable (task_seen task) }
+        requires raced { (pool : Option PoolOf) × (told : Option Store) × WasRaced (back_by Y.Bay.told Y.Bay.start_faults Y.Bay.read_faults Y.Bay.hold_faults)
+            (task_seen task) number pool (⟦<Self as Outside>⟧.may_read self.old) told (⟦<Self as Outside>⟧.world self.old).yard.scripts raced }
+        ensures ran { (got put : FilesOf) (pool : Option PoolOf) → WasPrepared (task_seen task) got put raced.problem
+            → WasRaced (back_by Y.Bay.told Y.Bay.start_faults Y.Bay.read_faults Y.Bay.hold_faults)
+            (task_seen task) number pool (⟦<Self as Outside>⟧.may_read self.old) put.told (⟦<Self as Outside>⟧.world self.old).yard.scripts raced
+            → TaskRan (⟦<Self as Outside>⟧.may_read self.old) number
+            (record { got = got; put = put; pool = pool; before = ⟦<Self as Outside>⟧.world self.old; after = ⟦<Self as Outside>⟧.world self.new })
+            (task_seen task) result.0 (exit_seen result.1) }
+        ensures keeps { ⟦<Self as Outside>⟧.keeps self.old self.new }
+    {
+        let head = self.tell_head(&task, &raced.problem);
+        self.finish_raced(number, task, raced, head)
+    }
+
+    /// Prints the lines of a task that ended before its lanes while others were prepared.
+    pub fn show_early(&mut self, number: u32, task: Task, early: Early) -> (TaskEnd, Exit)
+        requires askable { IsAskable (task_seen task) }
+        ensures ran { (got put : FilesOf) (pool : Option PoolOf) → HasReason (task_seen task) got put early → got.faults ≤ put.faults
+            → TaskRan (⟦<Self as Outside>⟧.may_read self.old) number
+            (record { got = got; put = put; pool = pool; before = ⟦<Self as Outside>⟧.world self.old; after = ⟦<Self as Outside>⟧.world self.new })
+            (task_seen task) result.0 (exit_seen result.1) }
+        ensures keeps { ⟦<Self as Outside>⟧.keeps self.old self.new }
+    {
+        self.finish_early(number, task, early)
     }
 }

@@ -1,11 +1,13 @@
 // A task's design is got, its jobs' files are put, and its streams judged, or its lanes raced.
 
-ghost use Rattle.std.specs.Prelude.{◌≡◌, ◌⊎◌, ◌<◌, ◌≤◌, [], ℕ, List, None, Some, IfErr, IfOk, OnErr, OnOk, Contains, length, map, option_map, slice_get, string_bytes};
-ghost use Rattle.judge.specs.Problem.{IsJob, IsJobFile, IsProblem};
+ghost use Rattle.std.specs.Prelude.{◌≡◌, ◌⊎◌, ◌<◌, ◌≤◌, [], ℕ, List, None, Option, Some, IfErr, IfOk, OnErr, OnOk, Contains, length, map, option_map, slice_get, string_bytes};
+ghost use Rattle.judge.specs.Problem.{AskedOf, IsJob, IsJobFile, IsProblem};
 ghost use Rattle.sby_terms.specs.declared.names.JobName.{JobName};
 ghost use Rattle.sby_top.specs.Causes.{HasReason, IsSpared};
 ghost use Rattle.sby_top.specs.Judged.{AreJudged, AreReports, AreStreamReports, racing_of};
-ghost use Rattle.sby_top.specs.Ready.{IsReady, IsServing, back_by, report_count};
+ghost use Rattle.jobs_pool.specs.Places.{PoolOf};
+ghost use Rattle.sby_edge.specs.Child.{YardOf};
+ghost use Rattle.sby_top.specs.Ready.{HasCome, IsReady, IsServing, WasRaced, back_by, report_count};
 ghost use Rattle.sby_lines.specs.declared.early.Early.TheVariants.{Memory as EarlyMemory};
 ghost use Rattle.sby_top.specs.Steps.{files_at, got_items, IsCutShort, IsFailedCall, IsPathJudged, IsPutFailed, IsRefusal, IsTextFailed};
 ghost use Rattle.sby_top.specs.Served.{ArePut, IsGot, IsServed, IsTextOf, jobs_in, slices_in};
@@ -16,42 +18,60 @@ ghost use Rattle.sby_terms.specs.Problem.{ProblemOf};
 ghost use Rattle.sby_terms.specs.Path.{job_path};
 ghost use Rattle.sby_lines.specs.Told.{AreLimited, AreReported, IsCollected};
 ghost use Rattle.sby_top.specs.World.{files_of, race_of};
-ghost use Rattle.sby_top.specs.Task.{IsAskable, problem_of, design_seen, service_seen, streams_in, task_seen};
+ghost use Rattle.sby_top.specs.Task.{IsAskable, TaskOf, problem_of, design_seen, service_seen, streams_in, task_seen};
 ghost use Rattle.sby_terms.specs.declared.engine.Engine.{Engine as EngineOf};
 ghost use Rattle.sby_edge.specs.Files.{Store};
 ghost use Rattle.task_race.specs.Bays.{AreLater};
-ghost use Rattle.task_race.specs.Ran.{HasJobFiles, racing_seen};
+ghost use Rattle.task_race.specs.Ran.{racing_seen};
 ghost use Rattle.sby_top.specs.Task.{Lanes};
 
 use crate::host::{Host, Outside};
 use crate::judge_stream::judge_stored;
 use crate::task::{DesignAt, Service, Task};
 use judge::{Finding, Problem, ProblemFault, one_file};
+use lane_berth::Allowance;
 use net_text::Text;
 use race_core::{JobEnd, Report, Room};
-use sby_edge::{Clock, Fail, Files, Got, Sink, Source, Yard};
+use sby_edge::{Clock, Fail, Files, Got, Launch, Sink, Source, Yard};
 use sby_lines::{Collected, Early};
 use sby_terms::{Engine, JobName, job_path};
 use std::alloc::Global;
 use std::sync::Wait;
 use std::thread::Threads;
-use task_race::{PreparedRace, Racing, RanLanes, finish_race, prepare_race, run_race};
+use task_race::{
+    PreparedRace, RacedLanes, Racing, RanLanes, finish_race, prepare_race, race_prepared,
+};
 
 const MOST_DESIGN: u64 = 1 << 26;
 
 /// What serves the jobs of a task that is ready for its race.
-pub enum Serving<'t, L> {
+pub enum Serving<'p, L> {
     /// Stored streams, which were judged: their report.
     Judged(Vec<Report<Finding>>),
-    /// Lanes of these engines, for which all memory is taken.
-    Lanes(&'t [Engine], PreparedRace<L>),
+    /// Lanes, for which all memory is taken.
+    Lanes(PreparedRace<'p, L>),
 }
 
 /// A task whose design was accepted and whose jobs' files were put, with room for what its reports come to.
-pub struct Ready<'t, L> {
+pub struct Ready<'p, L> {
     pub problem: Problem,
     pub room: Room,
-    pub serving: Serving<'t, L>,
+    pub serving: Serving<'p, L>,
+}
+
+/// What came of a task's jobs.
+pub enum Came<L> {
+    /// The report of stored streams.
+    Judged(Vec<Report<Finding>>),
+    /// Lanes that ran, whose bays aren't back in their yard.
+    Raced(RacedLanes<L>),
+}
+
+/// A task whose jobs came to something, with room for what its reports come to.
+pub struct Raced<L> {
+    pub problem: Problem,
+    pub room: Room,
+    pub came: Came<L>,
 }
 
 /// A task whose design was accepted: its problem, what its lanes report, and what the reports come to.
@@ -401,16 +421,18 @@ fn report_count(service: &Service) -> usize
 
 impl<R: Threads + Wait + Sync, F: Files, S: Sink, Y: Yard, C: Clock> Host<'_, R, F, S, Y, C> {
     // Puts the jobs' files, then takes all that the race of these engines needs.
-    fn prepare_lanes<'t>(
+    fn prepare_lanes<'p>(
         &mut self,
         problem: &Problem,
         task: &Task,
-        engines: &'t [Engine],
+        engines: &[Engine],
         number: u32,
-    ) -> Result<Serving<'t, Y::Bay>, Early>
+        allowance: &mut Allowance<'p>,
+    ) -> Result<Serving<'p, Y::Bay>, Early>
         ensures put { OnOk result (ArePut problem.now (task_seen task.now).request.name (jobs_in problem.now) (⟦<Self as Outside>⟧.world self.old).told (⟦<Self as Outside>⟧.world self.new).told) }
         ensures serving { IfOk result (λ s. (task_seen task.now).service ≡ Lanes engines.now → IsServing (back_by Y.Bay.told Y.Bay.start_faults Y.Bay.read_faults Y.Bay.hold_faults)
-            (task_seen task.now) problem.now number (⟦<Self as Outside>⟧.world self.new).told (⟦<Self as Outside>⟧.world self.old).yard.scripts s) }
+            (task_seen task.now) problem.now number allowance.old (⟦<Self as Outside>⟧.world self.new).told (⟦<Self as Outside>⟧.world self.old).yard.scripts s) }
+        ensures allowance { allowance.new ≡ allowance.old }
         ensures yard { OnOk result ((⟦<Self as Outside>⟧.world self.new).yard ≡ (⟦<Self as Outside>⟧.world self.old).yard) }
         ensures err { IfErr result (IsCutShort problem.now (task_seen task.now).request.name [] (files_of (⟦<Self as Outside>⟧.world self.old)) (files_of (⟦<Self as Outside>⟧.world self.new))) }
         ensures spared { IfErr result (IsSpared (⟦<Self as Outside>⟧.world self.old).yard (⟦<Self as Outside>⟧.world self.new).yard) }
@@ -424,22 +446,24 @@ impl<R: Threads + Wait + Sync, F: Files, S: Sink, Y: Yard, C: Clock> Host<'_, R,
     {
         put_jobs(self.alloc, self.files, problem, task.name.as_str())?;
         let racing = racing(problem, task, engines, number);
-        match prepare_race(self.alloc, self.yard, &racing) {
-            Ok(prepared) => Ok(Serving::Lanes(engines, prepared)),
+        match prepare_race(self.alloc, self.yard, &racing, allowance) {
+            Ok(prepared) => Ok(Serving::Lanes(prepared)),
             Err(_) => Err(Early::Memory),
         }
     }
 
     // Puts the jobs' files of an accepted design, and judges the stored streams, or takes all that the race needs.
-    fn prepare_jobs<'t>(
+    fn prepare_jobs<'p>(
         &mut self,
         problem: &Problem,
-        task: &'t Task,
+        task: &Task,
         number: u32,
-    ) -> Result<Serving<'t, Y::Bay>, Early>
+        allowance: &mut Allowance<'p>,
+    ) -> Result<Serving<'p, Y::Bay>, Early>
         ensures put { OnOk result (ArePut problem.now (task_seen task.now).request.name (jobs_in problem.now) (⟦<Self as Outside>⟧.world self.old).told (⟦<Self as Outside>⟧.world self.new).told) }
         ensures serving { IfOk result (IsServing (back_by Y.Bay.told Y.Bay.start_faults Y.Bay.read_faults Y.Bay.hold_faults)
-            (task_seen task.now) problem.now number (⟦<Self as Outside>⟧.world self.new).told (⟦<Self as Outside>⟧.world self.old).yard.scripts) }
+            (task_seen task.now) problem.now number allowance.old (⟦<Self as Outside>⟧.world self.new).told (⟦<Self as Outside>⟧.world self.old).yard.scripts) }
+        ensures allowance { allowance.new ≡ allowance.old }
         ensures yard { OnOk result ((⟦<Self as Outside>⟧.world self.new).yard ≡ (⟦<Self as Outside>⟧.world self.old).yard) }
         ensures err { IfErr result (IsCutShort problem.now (task_seen task.now).request.name (streams_in (service_seen task.now.service)) (files_of (⟦<Self as Outside>⟧.world self.old)) (files_of (⟦<Self as Outside>⟧.world self.new))) }
         ensures spared { IfErr result (IsSpared (⟦<Self as Outside>⟧.world self.old).yard (⟦<Self as Outside>⟧.world self.new).yard) }
@@ -462,18 +486,26 @@ impl<R: Threads + Wait + Sync, F: Files, S: Sink, Y: Yard, C: Clock> Host<'_, R,
                 )?;
                 Ok(Serving::Judged(reports))
             }
-            Service::Lanes(engines) => self.prepare_lanes(problem, task, engines, number),
+            Service::Lanes(engines) => {
+                self.prepare_lanes(problem, task, engines, number, allowance)
+            }
         }
     }
 
     /// Gets the design, puts the jobs' files, and judges the stored streams, or takes all that the race needs: after this memory runs out
     /// for none of the reports.
-    pub fn prepare<'t>(&mut self, number: u32, task: &'t Task) -> Result<Ready<'t, Y::Bay>, Early>
+    pub fn prepare<'p>(
+        &mut self,
+        number: u32,
+        task: &Task,
+        allowance: &mut Allowance<'p>,
+    ) -> Result<Ready<'p, Y::Bay>, Early>
         requires { IsAskable (task_seen task.now) }
         ensures served { IfOk result (λ r. IsServed (⟦<Self as Outside>⟧.world self.old).told (task_seen task.now) r.problem) }
         ensures put { IfOk result (λ r. ArePut r.problem (task_seen task.now).request.name (jobs_in r.problem) (⟦<Self as Outside>⟧.world self.old).told (⟦<Self as Outside>⟧.world self.new).told) }
         ensures ready { IfOk result (IsReady (back_by Y.Bay.told Y.Bay.start_faults Y.Bay.read_faults Y.Bay.hold_faults)
-            (task_seen task.now) number (⟦<Self as Outside>⟧.world self.new).told (⟦<Self as Outside>⟧.world self.old).yard.scripts) }
+            (task_seen task.now) number allowance.old (⟦<Self as Outside>⟧.world self.new).told (⟦<Self as Outside>⟧.world self.old).yard.scripts) }
+        ensures allowance { allowance.new ≡ allowance.old }
         ensures yard { OnOk result ((⟦<Self as Outside>⟧.world self.new).yard ≡ (⟦<Self as Outside>⟧.world self.old).yard) }
         ensures err { IfErr result (HasReason (task_seen task.now) (files_of (⟦<Self as Outside>⟧.world self.old)) (files_of (⟦<Self as Outside>⟧.world self.new))) }
         ensures spared { IfErr result (IsSpared (⟦<Self as Outside>⟧.world self.old).yard (⟦<Self as Outside>⟧.world self.new).yard) }
@@ -492,7 +524,7 @@ impl<R: Threads + Wait + Sync, F: Files, S: Sink, Y: Yard, C: Clock> Host<'_, R,
         else {
             return Err(Early::Memory);
         };
-        let serving = self.prepare_jobs(&problem, task, number)?;
+        let serving = self.prepare_jobs(&problem, task, number, allowance)?;
         Ok(Ready {
             problem,
             room,
@@ -500,62 +532,64 @@ impl<R: Threads + Wait + Sync, F: Files, S: Sink, Y: Yard, C: Clock> Host<'_, R,
         })
     }
 
-    // What came of the jobs: the reports of the streams that were judged; or the lanes are raced, whose children are started in the yard.
-    fn run_lanes(
-        &mut self,
-        number: u32,
-        task: &Task,
-        problem: &Problem,
-        serving: Serving<'_, Y::Bay>,
-    ) -> RanLanes
-        requires serving { IsServing (back_by Y.Bay.told Y.Bay.start_faults Y.Bay.read_faults Y.Bay.hold_faults)
-            (task_seen task.now) problem.now number (⟦<Self as Outside>⟧.world self.old).told (⟦<Self as Outside>⟧.world self.old).yard.scripts serving }
-        requires files { (engines : List EngineOf) (store : Store) → (⟦<Self as Outside>⟧.world self.old).told ≡ Some store → HasJobFiles (racing_of (task_seen task.now) problem.now number engines) store }
-        ensures reports { AreReports (task_seen task.now).service (⟦<Self as Outside>⟧.may_read self.old) (task_seen task.now) problem.now (⟦<Self as Outside>⟧.world self.new).told
-            (race_of number (⟦<Self as Outside>⟧.world self.old) (⟦<Self as Outside>⟧.world self.new) result.start) result.reports.items }
-        ensures files { self.new.files.now ≡ self.old.files.now }
+    /// Races the lanes of a task that is ready. A store that tells has the files of its jobs.
+    pub fn race(&self, number: u32, task: &Task, ready: Ready<'_, Y::Bay>) -> Raced<Y::Bay>
+        requires ready { (pool : Option PoolOf) × IsReady (back_by Y.Bay.told Y.Bay.start_faults Y.Bay.read_faults Y.Bay.hold_faults)
+            (task_seen task.now) number pool (⟦<Self as Outside>⟧.world self.now).told (⟦<Self as Outside>⟧.world self.now).yard.scripts ready }
+        ensures problem { result.problem ≡ ready.entry.problem }
+        ensures raced { (pool : Option PoolOf) → IsReady (back_by Y.Bay.told Y.Bay.start_faults Y.Bay.read_faults Y.Bay.hold_faults)
+            (task_seen task.now) number pool (⟦<Self as Outside>⟧.world self.now).told (⟦<Self as Outside>⟧.world self.now).yard.scripts ready.entry
+            → WasRaced (back_by Y.Bay.told Y.Bay.start_faults Y.Bay.read_faults Y.Bay.hold_faults)
+            (task_seen task.now) number pool (⟦<Self as Outside>⟧.may_read self.now) (⟦<Self as Outside>⟧.world self.now).told (⟦<Self as Outside>⟧.world self.now).yard.scripts result }
+    {
+        race(self.rt, self.alloc, self.clock, number, task, ready)
+    }
+
+    /// The bays of lanes that ran come back.
+    pub fn come_back(&mut self, came: Came<Y::Bay>) -> RanLanes
+        ensures reports { (task : TaskOf) (p : AskedOf) (number : ℕ) (pool : Option PoolOf) (told : Option Store) → HasCome (back_by Y.Bay.told Y.Bay.start_faults Y.Bay.read_faults Y.Bay.hold_faults)
+            task p number pool (⟦<Self as Outside>⟧.may_read self.old) told (⟦<Self as Outside>⟧.world self.old).yard.scripts came
+            → AreReports task.service (⟦<Self as Outside>⟧.may_read self.old) task p told
+            (race_of number pool (⟦<Self as Outside>⟧.world self.old) (⟦<Self as Outside>⟧.world self.new) result.start) result.reports.items }
         ensures scripts { (⟦<Self as Outside>⟧.world self.new).yard.scripts ≡ (⟦<Self as Outside>⟧.world self.old).yard.scripts }
         ensures children { AreLater (⟦<Self as Outside>⟧.world self.old).yard.counts (⟦<Self as Outside>⟧.world self.new).yard.counts }
+        ensures files { self.new.files.now ≡ self.old.files.now }
         ensures out { self.new.out.now ≡ self.old.out.now }
         ensures keeps { ⟦<Self as Outside>⟧.keeps self.old self.new }
     {
-        match serving {
-            Serving::Judged(reports) => RanLanes {
+        match came {
+            Came::Judged(reports) => RanLanes {
                 reports,
                 start: None,
             },
-            Serving::Lanes(engines, prepared) => {
-                let racing = racing(problem, task, engines, number);
-                let raced = run_race(
-                    self.rt, self.alloc, self.files, self.clock, &racing, prepared,
-                );
-                finish_race(self.yard, raced)
-            }
+            Came::Raced(raced) => finish_race(self.yard, raced),
         }
     }
 
-    /// Serves the jobs of a task that is ready, and collects what they came to.
-    pub fn serve(&mut self, number: u32, task: &Task, ready: Ready<'_, Y::Bay>) -> Served
-        requires { IsReady (back_by Y.Bay.told Y.Bay.start_faults Y.Bay.read_faults Y.Bay.hold_faults)
-            (task_seen task.now) number (⟦<Self as Outside>⟧.world self.old).told (⟦<Self as Outside>⟧.world self.old).yard.scripts ready }
-        ensures problem { result.problem ≡ ready.entry.problem }
-        ensures reports { AreReports (task_seen task.now).service (⟦<Self as Outside>⟧.may_read self.old) (task_seen task.now) ready.entry.problem (⟦<Self as Outside>⟧.world self.new).told
-            (race_of number (⟦<Self as Outside>⟧.world self.old) (⟦<Self as Outside>⟧.world self.new) result.start) result.reports.items }
+    /// Takes back the bays of a task that was raced, and collects what its jobs came to.
+    pub fn settle(&mut self, number: u32, task: &Task, raced: Raced<Y::Bay>) -> Served
+        requires { (pool : Option PoolOf) × (told : Option Store) × WasRaced (back_by Y.Bay.told Y.Bay.start_faults Y.Bay.read_faults Y.Bay.hold_faults)
+            (task_seen task.now) number pool (⟦<Self as Outside>⟧.may_read self.old) told (⟦<Self as Outside>⟧.world self.old).yard.scripts raced }
+        ensures problem { result.problem ≡ raced.problem }
+        ensures reports { (pool : Option PoolOf) (told : Option Store) → WasRaced (back_by Y.Bay.told Y.Bay.start_faults Y.Bay.read_faults Y.Bay.hold_faults)
+            (task_seen task.now) number pool (⟦<Self as Outside>⟧.may_read self.old) told (⟦<Self as Outside>⟧.world self.old).yard.scripts raced
+            → AreReports (task_seen task.now).service (⟦<Self as Outside>⟧.may_read self.old) (task_seen task.now) raced.problem told
+            (race_of number pool (⟦<Self as Outside>⟧.world self.old) (⟦<Self as Outside>⟧.world self.new) result.start) result.reports.items }
         ensures reported { AreReported task.now.mode task.now.span result.problem.design result.reports.items }
         ensures limited { AreLimited result.start task.now.limit result.reports.items }
         ensures collected { IsCollected task.now.mode task.now.span result.problem.design result.reports.items result.collected }
-        ensures files { self.new.files.now ≡ self.old.files.now }
         ensures scripts { (⟦<Self as Outside>⟧.world self.new).yard.scripts ≡ (⟦<Self as Outside>⟧.world self.old).yard.scripts }
         ensures children { AreLater (⟦<Self as Outside>⟧.world self.old).yard.counts (⟦<Self as Outside>⟧.world self.new).yard.counts }
+        ensures files { self.new.files.now ≡ self.old.files.now }
         ensures out { self.new.out.now ≡ self.old.out.now }
         ensures keeps { ⟦<Self as Outside>⟧.keeps self.old self.new }
     {
-        let Ready {
+        let Raced {
             problem,
             room,
-            serving,
-        } = ready;
-        let ran = self.run_lanes(number, task, &problem, serving);
+            came,
+        } = raced;
+        let ran = self.come_back(came);
         let collected = Collected::new(room, task.mode, &task.span, problem.flat(), &ran.reports);
         Served {
             problem,
@@ -563,5 +597,65 @@ impl<R: Threads + Wait + Sync, F: Files, S: Sink, Y: Yard, C: Clock> Host<'_, R,
             start: ran.start,
             collected,
         }
+    }
+}
+
+// The engines of a task's lanes.
+fn engines_of(task: &Task) -> &[Engine]
+    ensures { (engines : List EngineOf) → (task_seen task.now).service ≡ Lanes engines → result.now ≡ engines }
+{
+    match &task.service {
+        Service::Lanes(engines) => engines,
+        Service::Streams(_) => &[],
+    }
+}
+
+// What comes of the jobs of a task: the report of the streams that were judged, or what its lanes leave.
+fn race_serving<R: Threads + Wait + Sync, L: Launch + Send, C: Clock>(
+    rt: &R,
+    alloc: Global,
+    clock: &C,
+    number: u32,
+    task: &Task,
+    problem: &Problem,
+    serving: Serving<'_, L>,
+) -> Came<L>
+    requires { (pool : Option PoolOf) × (told : Option Store) × (scripts : Option YardOf) × IsServing (back_by L.told L.start_faults L.read_faults L.hold_faults) (task_seen task.now) problem.now number pool told scripts serving }
+    ensures { (pool : Option PoolOf) (told : Option Store) (scripts : Option YardOf) → IsServing (back_by L.told L.start_faults L.read_faults L.hold_faults) (task_seen task.now) problem.now number pool told scripts serving.entry
+        → HasCome (back_by L.told L.start_faults L.read_faults L.hold_faults) (task_seen task.now) problem.now number pool (C.may_read clock.now) told scripts result }
+{
+    match serving {
+        Serving::Judged(reports) => Came::Judged(reports),
+        Serving::Lanes(prepared) => {
+            let racing = racing(problem, task, engines_of(task), number);
+            Came::Raced(race_prepared(rt, alloc, clock, &racing, prepared))
+        }
+    }
+}
+
+/// Races the lanes of a task that is ready, where its jobs have lanes.
+pub fn race<R: Threads + Wait + Sync, L: Launch + Send, C: Clock>(
+    rt: &R,
+    alloc: Global,
+    clock: &C,
+    number: u32,
+    task: &Task,
+    ready: Ready<'_, L>,
+) -> Raced<L>
+    requires { (pool : Option PoolOf) × (told : Option Store) × (scripts : Option YardOf) × IsReady (back_by L.told L.start_faults L.read_faults L.hold_faults) (task_seen task.now) number pool told scripts ready }
+    ensures problem { result.problem ≡ ready.entry.problem }
+    ensures raced { (pool : Option PoolOf) (told : Option Store) (scripts : Option YardOf) → IsReady (back_by L.told L.start_faults L.read_faults L.hold_faults) (task_seen task.now) number pool told scripts ready.entry
+        → WasRaced (back_by L.told L.start_faults L.read_faults L.hold_faults) (task_seen task.now) number pool (C.may_read clock.now) told scripts result }
+{
+    let Ready {
+        problem,
+        room,
+        serving,
+    } = ready;
+    let came = race_serving(rt, alloc, clock, number, task, &problem, serving);
+    Raced {
+        problem,
+        room,
+        came,
     }
 }

@@ -22,7 +22,7 @@ ghost use Rattle.task_race.specs.Bays.{YardAt, counts_at, yard_at};
 use crate::claims::output_can_be_read;
 use crate::host::{Host, Outside};
 use crate::outcome::{Done, TaskEnd};
-use crate::run::{Exit, finish_fault};
+use crate::run::{Exit, refuse};
 use crate::serve::get;
 use crate::turns::{Book, Turn, judge_task, turn_of};
 use gen_design::task_file;
@@ -37,18 +37,8 @@ use std::thread::Threads;
 
 const MOST_TASK_FILE: u64 = 1 << 24;
 
-// Only a fault is told, under this name. Its status has its number whatever is expected.
-fn refuse<S: Sink>(alloc: Global, out: &mut S, name: String, early: Early) -> (TaskEnd, Exit)
-    ensures { (told : Option Store) (faults : ℕ) (blamed : Option (List ℕ)) (yard : YardAt) → WasRefused
-        (at_once (world_at told faults blamed (S.taken out.old) (S.faults out.old) (S.ended out.old) yard) (files_at told faults blamed) (world_at told faults blamed (S.taken out.new) (S.faults out.new) (S.ended out.new) yard))
-        (string_bytes name) early result.0 (exit_seen result.1) }
-{
-    let expect = Expect::new(Vec::new(alloc));
-    finish_fault(alloc, out, name, 1, &expect, early)
-}
-
-// Memory ran out before anything was done.
-fn out_of_memory(alloc: Global) -> Done
+/// Memory ran out before anything was done.
+pub fn out_of_memory(alloc: Global) -> Done
     ensures rc { result.rc ≡ 32 }
     ensures ends { result.ends.items ≡ [] }
 {
@@ -154,10 +144,10 @@ impl<R: Threads + Wait + Sync, F: Files, S: Sink, Y: Yard, C: Clock> Host<'_, R,
         }
     }
 
-    // Runs the only turn there is.
-    fn run_only(&mut self, turn: Turn) -> Done
+    // Runs the only turn there is, without an allowance.
+    fn run_one(&mut self, turn: Turn) -> Done
         requires { IsSound (turn_seen turn) }
-        ensures ran { RanTo (⟦<Self as Outside>⟧.may_read self.old)
+        ensures ran { RanTo None (⟦<Self as Outside>⟧.may_read self.old)
             (⟦<Self as Outside>⟧.world self.old) (turn_seen turn ∷ [])
             (⟦<Self as Outside>⟧.world self.new) result }
         ensures keeps { ⟦<Self as Outside>⟧.keeps self.old self.new }
@@ -171,6 +161,20 @@ impl<R: Threads + Wait + Sync, F: Files, S: Sink, Y: Yard, C: Clock> Host<'_, R,
         Done {
             rc: rc_of_exit(exit),
             ends,
+        }
+    }
+
+    // Has the only turn there is.
+    fn run_only(&mut self, jobs: Option<u32>, turn: Turn) -> Done
+        requires { IsSound (turn_seen turn) }
+        ensures ran { RanTo jobs (⟦<Self as Outside>⟧.may_read self.old)
+            (⟦<Self as Outside>⟧.world self.old) (turn_seen turn ∷ [])
+            (⟦<Self as Outside>⟧.world self.new) result }
+        ensures keeps { ⟦<Self as Outside>⟧.keeps self.old self.new }
+    {
+        match jobs {
+            None => self.run_one(turn),
+            Some(most) => self.run_only_together(most, turn),
         }
     }
 
@@ -206,11 +210,11 @@ impl<R: Threads + Wait + Sync, F: Files, S: Sink, Y: Yard, C: Clock> Host<'_, R,
         }
     }
 
-    // Runs the turns of the tasks of these names, in their order.
-    fn run_named(&mut self, book: &Book<'_>, names: &[String]) -> Done
+    // Runs the turns of the tasks of these names, one after the other.
+    fn run_in_turn(&mut self, book: &Book<'_>, names: &[String]) -> Done
         requires { 0 < length names.now }
         ensures ran { (turns : List TurnOf) × AreTurnsOf book.now.stem.now (option_map (λ s. s.now) book.now.directory) book.now.config.now (map Some (map string_bytes names.now)) turns
-            × RanTo (⟦<Self as Outside>⟧.may_read self.old)
+            × RanTo None (⟦<Self as Outside>⟧.may_read self.old)
             (⟦<Self as Outside>⟧.world self.old) turns
             (⟦<Self as Outside>⟧.world self.new) result }
         ensures keeps { ⟦<Self as Outside>⟧.keeps self.old self.new }
@@ -228,49 +232,70 @@ impl<R: Threads + Wait + Sync, F: Files, S: Sink, Y: Yard, C: Clock> Host<'_, R,
         done
     }
 
+    // Has the turns of the tasks of these names.
+    fn run_named(&mut self, jobs: Option<u32>, book: &Book<'_>, names: &[String]) -> Done
+        requires { 0 < length names.now }
+        ensures ran { (turns : List TurnOf) × AreTurnsOf book.now.stem.now (option_map (λ s. s.now) book.now.directory) book.now.config.now (map Some (map string_bytes names.now)) turns
+            × RanTo jobs (⟦<Self as Outside>⟧.may_read self.old)
+            (⟦<Self as Outside>⟧.world self.old) turns
+            (⟦<Self as Outside>⟧.world self.new) result }
+        ensures keeps { ⟦<Self as Outside>⟧.keeps self.old self.new }
+    {
+        match jobs {
+            None => self.run_in_turn(book, names),
+            Some(most) => self.run_together(most, book, names),
+        }
+    }
+
     // Runs the turn of the nameless task.
-    fn run_nameless(&mut self, book: &Book<'_>) -> Done
+    fn run_nameless(&mut self, jobs: Option<u32>, book: &Book<'_>) -> Done
         ensures ran { (turns : List TurnOf) × AreTurnsOf book.now.stem.now (option_map (λ s. s.now) book.now.directory) book.now.config.now (None ∷ []) turns
-            × RanTo (⟦<Self as Outside>⟧.may_read self.old)
+            × RanTo jobs (⟦<Self as Outside>⟧.may_read self.old)
             (⟦<Self as Outside>⟧.world self.old) turns
             (⟦<Self as Outside>⟧.world self.new) result }
         ensures keeps { ⟦<Self as Outside>⟧.keeps self.old self.new }
     {
         match turn_of(self.alloc, book, None) {
-            Ok(turn) => self.run_only(turn),
+            Ok(turn) => self.run_only(jobs, turn),
             Err(_) => out_of_memory(self.alloc),
         }
     }
 
     // Runs the turns of the tasks that are asked for: those that are named, else all of the file.
-    fn run_book(&mut self, book: &Book<'_>, names: &[String]) -> Done
+    fn run_book(&mut self, jobs: Option<u32>, book: &Book<'_>, names: &[String]) -> Done
         ensures ran { (turns : List TurnOf) × AreTurnsOf book.now.stem.now (option_map (λ s. s.now) book.now.directory) book.now.config.now (asked_tasks (map string_bytes names.now) book.now.config.now) turns
-            × RanTo (⟦<Self as Outside>⟧.may_read self.old)
+            × RanTo jobs (⟦<Self as Outside>⟧.may_read self.old)
             (⟦<Self as Outside>⟧.world self.old) turns
             (⟦<Self as Outside>⟧.world self.new) result }
         ensures keeps { ⟦<Self as Outside>⟧.keeps self.old self.new }
     {
         if !names.is_empty() {
-            return self.run_named(book, names);
+            return self.run_named(jobs, book, names);
         }
         let tasks = book.config.tasks();
         if tasks.is_empty() {
-            self.run_nameless(book)
+            self.run_nameless(jobs, book)
         } else {
-            self.run_named(book, tasks)
+            self.run_named(jobs, book, tasks)
         }
     }
 
     // Tells a fault of a task file, under its stem.
-    fn run_fault(&mut self, stem: &str, directory: Option<&str>, early: Early) -> Done
-        ensures ran { RanTo (⟦<Self as Outside>⟧.may_read self.old)
+    fn run_fault(
+        &mut self,
+        jobs: Option<u32>,
+        stem: &str,
+        directory: Option<&str>,
+        early: Early,
+    ) -> Done
+        ensures ran { RanTo jobs (⟦<Self as Outside>⟧.may_read self.old)
             (⟦<Self as Outside>⟧.world self.old)
             (Refused (task_folder stem.now (option_map (λ s. s.now) directory.entry) []) early ∷ [])
             (⟦<Self as Outside>⟧.world self.new) result }
         ensures keeps { ⟦<Self as Outside>⟧.keeps self.old self.new }
     {
         match folder_of(self.alloc, stem, directory, "") {
-            Ok(name) => self.run_only(Turn::Refused(name, early)),
+            Ok(name) => self.run_only(jobs, Turn::Refused(name, early)),
             Err(_) => out_of_memory(self.alloc),
         }
     }
@@ -278,13 +303,14 @@ impl<R: Threads + Wait + Sync, F: Files, S: Sink, Y: Yard, C: Clock> Host<'_, R,
     // Runs the turns that a task file's text gives.
     fn run_text(
         &mut self,
+        jobs: Option<u32>,
         stem: &str,
         directory: Option<&str>,
         names: &[String],
         text: &[u8],
     ) -> Done
         ensures ran { (turns : List TurnOf) × AreTextTurns stem.now (option_map (λ s. s.now) directory.entry) (map string_bytes names.now) text.now turns
-            × RanTo (⟦<Self as Outside>⟧.may_read self.old)
+            × RanTo jobs (⟦<Self as Outside>⟧.may_read self.old)
             (⟦<Self as Outside>⟧.world self.old) turns
             (⟦<Self as Outside>⟧.world self.new) result }
         ensures keeps { ⟦<Self as Outside>⟧.keeps self.old self.new }
@@ -296,10 +322,10 @@ impl<R: Threads + Wait + Sync, F: Files, S: Sink, Y: Yard, C: Clock> Host<'_, R,
                     stem,
                     directory,
                 };
-                self.run_book(&book, names)
+                self.run_book(jobs, &book, names)
             }
-            Ok(Err(fault)) => self.run_fault(stem, directory, Early::Sby(fault)),
-            Err(_) => self.run_fault(stem, directory, Early::Memory),
+            Ok(Err(fault)) => self.run_fault(jobs, stem, directory, Early::Sby(fault)),
+            Err(_) => self.run_fault(jobs, stem, directory, Early::Memory),
         }
     }
 
@@ -314,8 +340,8 @@ impl<R: Threads + Wait + Sync, F: Files, S: Sink, Y: Yard, C: Clock> Host<'_, R,
         let stem = stem_of(words.file.as_str());
         let directory = text_in(&words.directory);
         match get(self.alloc, self.files, words.file.as_str(), MOST_TASK_FILE) {
-            Ok(text) => self.run_text(stem, directory, &words.names, &text),
-            Err(early) => self.run_fault(stem, directory, early),
+            Ok(text) => self.run_text(words.jobs, stem, directory, &words.names, &text),
+            Err(early) => self.run_fault(words.jobs, stem, directory, early),
         }
     }
 
@@ -331,7 +357,7 @@ impl<R: Threads + Wait + Sync, F: Files, S: Sink, Y: Yard, C: Clock> Host<'_, R,
         match generated(self.alloc, words.size) {
             Ok((stem, text)) => {
                 let directory = text_in(&words.directory);
-                self.run_text(stem.as_str(), directory, &[], &text)
+                self.run_text(None, stem.as_str(), directory, &[], &text)
             }
             Err(_) => out_of_memory(self.alloc),
         }
@@ -348,7 +374,7 @@ impl<R: Threads + Wait + Sync, F: Files, S: Sink, Y: Yard, C: Clock> Host<'_, R,
         ensures keeps { ⟦<Self as Outside>⟧.keeps self.old self.new }
     {
         match judge_task(self.alloc, words) {
-            Ok(task) => self.run_only(Turn::Run(task)),
+            Ok(task) => self.run_only(None, Turn::Run(task)),
             Err(_) => out_of_memory(self.alloc),
         }
     }
@@ -364,12 +390,12 @@ impl<R: Threads + Wait + Sync, F: Files, S: Sink, Y: Yard, C: Clock> Host<'_, R,
         let stem = stem_of(file);
         let text = match get(self.alloc, self.files, file, MOST_TASK_FILE) {
             Ok(text) => text,
-            Err(early) => return self.run_fault(stem, None, early),
+            Err(early) => return self.run_fault(None, stem, None, early),
         };
         match read(self.alloc, &text) {
             Ok(Ok(config)) => tell_names(self.alloc, self.out, &config),
-            Ok(Err(fault)) => self.run_fault(stem, None, Early::Sby(fault)),
-            Err(_) => self.run_fault(stem, None, Early::Memory),
+            Ok(Err(fault)) => self.run_fault(None, stem, None, Early::Sby(fault)),
+            Err(_) => self.run_fault(None, stem, None, Early::Memory),
         }
     }
 

@@ -14,7 +14,7 @@ use Rattle.sby_words.specs.declared.form.Form.TheVariants.{Judge, Tasks, Names, 
 use Rattle.sby_words.specs.Command.{command}
 use Rattle.sby_words.specs.Folders.{IsDesignStem}
 use Rattle.sby_words.specs.Requests.{AskGen, AskJudge, AskNames, AskTasks, GenRequest, JudgeRequest, Request, TaskRequest}
-use Rattle.sby_words.specs.Words.{Asks, Generates, HasForm, IsAsked, IsNumber, Judges, Lists, Means, Runs, Says, form_of, mode_word}
+use Rattle.sby_words.specs.Words.{Asks, Generates, HasForm, IsAsked, IsLimit, IsNumber, Judges, Lists, Means, Runs, Says, form_of, mode_word}
 use Rattle.sby_words.specs.Answers.{IsMeant, IsSaid}
 use Rattle.sby_words.proofs.FolderLemmas.{design_stem_is_one}
 use Rattle.sby_words.proofs.ListLemmas.{mode_is_one, number_is_one}
@@ -22,19 +22,19 @@ use Rattle.sby_words.proofs.WordsTaken.{clear_is_taken}
 
 -- ---- a form that says nothing
 
-pub no_tasks : (directory : Option (List ℕ)) (list : List (List ℕ)) → ((r : TaskRequest) → Runs directory list r → ⊥)
-    → (r : Request) → form_of r ≡ Tasks → Says directory list r → ⊥
-no_tasks directory list none (AskJudge r) is says = cc
-no_tasks directory list none (AskTasks r) is says = none r says
-no_tasks directory list none (AskNames file) is says = cc
-no_tasks directory list none (AskGen r) is says = cc
+pub no_tasks : (directory jobs : Option (List ℕ)) (list : List (List ℕ)) → ((r : TaskRequest) → Runs directory jobs list r → ⊥)
+    → (r : Request) → form_of r ≡ Tasks → Says directory jobs list r → ⊥
+no_tasks directory jobs list none (AskJudge r) is says = cc
+no_tasks directory jobs list none (AskTasks r) is says = none r says
+no_tasks directory jobs list none (AskNames file) is says = cc
+no_tasks directory jobs list none (AskGen r) is says = cc
 
-pub no_names : (directory : Option (List ℕ)) (list : List (List ℕ)) → ((file : List ℕ) → Lists directory list file → ⊥)
-    → (r : Request) → form_of r ≡ Names → Says directory list r → ⊥
-no_names directory list none (AskJudge r) is says = cc
-no_names directory list none (AskTasks r) is says = cc
-no_names directory list none (AskNames file) is says = none file says
-no_names directory list none (AskGen r) is says = cc
+pub no_names : (directory jobs : Option (List ℕ)) (list : List (List ℕ)) → ((file : List ℕ) → Lists directory jobs list file → ⊥)
+    → (r : Request) → form_of r ≡ Names → Says directory jobs list r → ⊥
+no_names directory jobs list none (AskJudge r) is says = cc
+no_names directory jobs list none (AskTasks r) is says = cc
+no_names directory jobs list none (AskNames file) is says = none file says
+no_names directory jobs list none (AskGen r) is says = cc
 
 -- ---- one form
 
@@ -74,20 +74,21 @@ pub no_list : (m : ArgMatches) (given : Option (Bor (List (Bor (List ℕ))))) �
 no_list m given none says r means = let words = list_given m given None none says ∙ means.words in cc
 
 meant : (rows : List Row) (form : Form) (list : List (List ℕ)) (asked : Option Request) → HasForm rows form → all_of (codes "words") rows ≡ Some list
-    → IsSaid form (first_of (codes "folder") rows) list asked → IsMeant rows asked
+    → IsSaid form (first_of (codes "folder") rows) (first_of (codes "jobs") rows) list asked → IsMeant rows asked
 meant rows form list None has words said = λ r means.
     said r (form_is_one rows (form_of r) form means.form has)
-    (subst (λ (l : List (List ℕ)). Says (first_of (codes "folder") rows) l r) (some_is (sym means.words ∙ words)) means.says)
+    (subst (λ (l : List (List ℕ)). Says (first_of (codes "folder") rows) (first_of (codes "jobs") rows) l r) (some_is (sym means.words ∙ words)) means.says)
 meant rows form list (Some r) has words said = record { form = subst (HasForm rows) (sym said.0) has; list = list; words = words; says = said.1 }
 
-pub by_form : (m : ArgMatches) (directory : Option (Bor (List ℕ))) (given : Option (Bor (List (Bor (List ℕ))))) (xs : List (Bor (List ℕ))) (form : Form)
-    → HasForm (rows_of (found_of m)) form → option_map (λ s. s.now) directory ≡ first_value (found_of m) (codes "folder")
+pub by_form : (m : ArgMatches) (directory jobs : Option (Bor (List ℕ))) (given : Option (Bor (List (Bor (List ℕ))))) (xs : List (Bor (List ℕ))) (form : Form)
+    → HasForm (rows_of (found_of m)) form → option_map (λ s. s.now) directory ≡ first_value (found_of m) (codes "folder") → option_map (λ s. s.now) jobs ≡ first_value (found_of m) (codes "jobs")
     → option_map (λ s. texts s.now) given ≡ option_map raw_values (matched_of (found_of m) (codes "words")) → option_map (λ s. texts s.now) given ≡ Some (texts xs)
-    → (asked : Option Request) → IsSaid form (option_map (λ s. s.now) directory) (texts xs) asked → IsMeant (rows_of (found_of m)) asked
-by_form m directory given xs form has folder says is asked said =
+    → (asked : Option Request) → IsSaid form (option_map (λ s. s.now) directory) (option_map (λ s. s.now) jobs) (texts xs) asked → IsMeant (rows_of (found_of m)) asked
+by_form m directory jobs given xs form has folder limit says is asked said =
     let rows = rows_of (found_of m) in
     meant rows form (texts xs) asked has (sym (list_given m given (Some (texts xs)) is says))
-    (subst (λ (d : Option (List ℕ)). IsSaid form d (texts xs) asked) (folder ∙ first_value-rows (found_of m) (codes "folder")) said)
+    (subst (λ (d : Option (List ℕ)). IsSaid form d (first_of (codes "jobs") rows) (texts xs) asked) (folder ∙ first_value-rows (found_of m) (codes "folder"))
+    (subst (λ (j : Option (List ℕ)). IsSaid form (option_map (λ s. s.now) directory) j (texts xs) asked) (limit ∙ first_value-rows (found_of m) (codes "jobs")) said))
 
 -- ---- the answer by the words
 
@@ -107,8 +108,8 @@ not_taken app words is refused r asks = refused (ap (λ (a : App). takes a words
 
 -- ---- one request
 
-judge_is_one : (directory : Option (List ℕ)) (list : List (List ℕ)) (r s : JudgeRequest) → Judges directory list r → Judges directory list s → r ≡ s
-judge_is_one directory list r s j k =
+judge_is_one : (directory jobs : Option (List ℕ)) (list : List (List ℕ)) (r s : JudgeRequest) → Judges directory jobs list r → Judges directory jobs list s → r ≡ s
+judge_is_one directory jobs list r s j k =
     let parts : r.design ∷ mode_word r.mode ∷ j.word ∷ r.streams ≡ s.design ∷ mode_word s.mode ∷ k.word ∷ s.streams = sym j.parts ∙ k.parts in
     let design : r.design ≡ s.design = cc in
     let word : j.word ≡ k.word = cc in
@@ -121,19 +122,28 @@ judge_is_one directory list r s j k =
     let folder : r.folder ≡ s.folder = j.folder.chosen ∙ ap (unwrap_or directory) stem ∙ sym k.folder.chosen in
     λ i. record { folder = folder i; design = design i; mode = mode i; depth = depth i; streams = streams i }
 
-tasks_are_one : (directory : Option (List ℕ)) (list : List (List ℕ)) (r s : TaskRequest) → Runs directory list r → Runs directory list s → r ≡ s
-tasks_are_one directory list r s a b =
+limit_is_one : (jobs : Option (List ℕ)) (m n : Option ℕ) → IsLimit jobs m → IsLimit jobs n → m ≡ n
+limit_is_one None None None a b = refl
+limit_is_one None None (Some n) a b = absurd b
+limit_is_one None (Some m) n a b = absurd a
+limit_is_one (Some word) None n a b = absurd a
+limit_is_one (Some word) (Some m) None a b = absurd b
+limit_is_one (Some word) (Some m) (Some n) a b = let small : 64 < 2 ^ 64 = omega arith in ap Some (number_is_one 1 64 word m n small a b)
+
+tasks_are_one : (directory jobs : Option (List ℕ)) (list : List (List ℕ)) (r s : TaskRequest) → Runs directory jobs list r → Runs directory jobs list s → r ≡ s
+tasks_are_one directory jobs list r s a b =
     let parts : r.file ∷ r.names ≡ s.file ∷ s.names = sym a.parts ∙ b.parts in
     let option : r.directory ≡ s.directory = a.option ∙ sym b.option in
     let file : r.file ≡ s.file = cc in
     let names : r.names ≡ s.names = cc in
-    λ i. record { directory = option i; file = file i; names = names i }
+    let limit : r.jobs ≡ s.jobs = limit_is_one jobs r.jobs s.jobs a.limit b.limit in
+    λ i. record { directory = option i; jobs = limit i; file = file i; names = names i }
 
-file_is_one : (directory : Option (List ℕ)) (list : List (List ℕ)) (f g : List ℕ) → Lists directory list f → Lists directory list g → f ≡ g
-file_is_one directory list f g a b = let parts : f ∷ [] ≡ g ∷ [] = sym a.parts ∙ b.parts in cc
+file_is_one : (directory jobs : Option (List ℕ)) (list : List (List ℕ)) (f g : List ℕ) → Lists directory jobs list f → Lists directory jobs list g → f ≡ g
+file_is_one directory jobs list f g a b = let parts : f ∷ [] ≡ g ∷ [] = sym a.parts ∙ b.parts in cc
 
-gen_is_one : (directory : Option (List ℕ)) (list : List (List ℕ)) (r s : GenRequest) → Generates directory list r → Generates directory list s → r ≡ s
-gen_is_one directory list r s a b =
+gen_is_one : (directory jobs : Option (List ℕ)) (list : List (List ℕ)) (r s : GenRequest) → Generates directory jobs list r → Generates directory jobs list s → r ≡ s
+gen_is_one directory jobs list r s a b =
     let parts : a.word ∷ [] ≡ b.word ∷ [] = sym a.parts ∙ b.parts in
     let word : a.word ≡ b.word = cc in
     let option : r.directory ≡ s.directory = a.option ∙ sym b.option in
@@ -141,29 +151,31 @@ gen_is_one directory list r s a b =
     let size : r.size ≡ s.size = number_is_one 2 10000 b.word r.size s.size small (subst (λ (w : List ℕ). IsNumber 2 10000 w r.size) word a.size) b.size in
     λ i. record { directory = option i; size = size i }
 
-said_is_one : (directory : Option (List ℕ)) (list : List (List ℕ)) (r s : Request) → form_of r ≡ form_of s → Says directory list r → Says directory list s → r ≡ s
-said_is_one directory list (AskJudge r) (AskJudge s) e a b = ap AskJudge (judge_is_one directory list r s a b)
-said_is_one directory list (AskJudge r) (AskTasks s) e a b = cc
-said_is_one directory list (AskJudge r) (AskNames s) e a b = cc
-said_is_one directory list (AskJudge r) (AskGen s) e a b = cc
-said_is_one directory list (AskTasks r) (AskJudge s) e a b = cc
-said_is_one directory list (AskTasks r) (AskTasks s) e a b = ap AskTasks (tasks_are_one directory list r s a b)
-said_is_one directory list (AskTasks r) (AskNames s) e a b = cc
-said_is_one directory list (AskTasks r) (AskGen s) e a b = cc
-said_is_one directory list (AskNames r) (AskJudge s) e a b = cc
-said_is_one directory list (AskNames r) (AskTasks s) e a b = cc
-said_is_one directory list (AskNames r) (AskNames s) e a b = ap AskNames (file_is_one directory list r s a b)
-said_is_one directory list (AskNames r) (AskGen s) e a b = cc
-said_is_one directory list (AskGen r) (AskJudge s) e a b = cc
-said_is_one directory list (AskGen r) (AskTasks s) e a b = cc
-said_is_one directory list (AskGen r) (AskNames s) e a b = cc
-said_is_one directory list (AskGen r) (AskGen s) e a b = ap AskGen (gen_is_one directory list r s a b)
+said_is_one : (directory jobs : Option (List ℕ)) (list : List (List ℕ)) (r s : Request) → form_of r ≡ form_of s → Says directory jobs list r → Says directory jobs list s → r ≡ s
+said_is_one directory jobs list (AskJudge r) (AskJudge s) e a b = ap AskJudge (judge_is_one directory jobs list r s a b)
+said_is_one directory jobs list (AskJudge r) (AskTasks s) e a b = cc
+said_is_one directory jobs list (AskJudge r) (AskNames s) e a b = cc
+said_is_one directory jobs list (AskJudge r) (AskGen s) e a b = cc
+said_is_one directory jobs list (AskTasks r) (AskJudge s) e a b = cc
+said_is_one directory jobs list (AskTasks r) (AskTasks s) e a b = ap AskTasks (tasks_are_one directory jobs list r s a b)
+said_is_one directory jobs list (AskTasks r) (AskNames s) e a b = cc
+said_is_one directory jobs list (AskTasks r) (AskGen s) e a b = cc
+said_is_one directory jobs list (AskNames r) (AskJudge s) e a b = cc
+said_is_one directory jobs list (AskNames r) (AskTasks s) e a b = cc
+said_is_one directory jobs list (AskNames r) (AskNames s) e a b = ap AskNames (file_is_one directory jobs list r s a b)
+said_is_one directory jobs list (AskNames r) (AskGen s) e a b = cc
+said_is_one directory jobs list (AskGen r) (AskJudge s) e a b = cc
+said_is_one directory jobs list (AskGen r) (AskTasks s) e a b = cc
+said_is_one directory jobs list (AskGen r) (AskNames s) e a b = cc
+said_is_one directory jobs list (AskGen r) (AskGen s) e a b = ap AskGen (gen_is_one directory jobs list r s a b)
 
 request_is_one : (rows : List Row) (r s : Request) → Means rows r → Means rows s → r ≡ s
 request_is_one rows r s a b =
     let form : form_of r ≡ form_of s = form_is_one rows (form_of r) (form_of s) a.form b.form in
     let list : a.list ≡ b.list = some_is (sym a.words ∙ b.words) in
-    said_is_one (first_of (codes "folder") rows) b.list r s form (subst (λ (l : List (List ℕ)). Says (first_of (codes "folder") rows) l r) list a.says) b.says
+    let directory = first_of (codes "folder") rows in
+    let jobs = first_of (codes "jobs") rows in
+    said_is_one directory jobs b.list r s form (subst (λ (l : List (List ℕ)). Says directory jobs l r) list a.says) b.says
 
 pub answer_is_one : (words : List (List ℕ)) (a b : Option Request) → IsAsked words a → IsAsked words b → a ≡ b
 answer_is_one words None None p q = refl

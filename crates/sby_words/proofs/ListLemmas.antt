@@ -3,7 +3,7 @@ use Rattle.std.proofs.Common.{◌≡◌, ◌∙◌, ◌<◌, ◌≤◌, ◌+◌,
 use Rattle.std.proofs.lemmas.List.{length-map, take_all}
 use Rattle.std.specs.Str.Parse.{digits_value}
 use Rattle.std.proofs.lemmas.Fmt.{decimal_is_IsNumeral}
-use Rattle.std.specs.Prelude.{◌↔◌, All, IsTrue, bytes_eq, slice_index_or}
+use Rattle.std.specs.Prelude.{◌↔◌, All, IsTrue, bytes_eq, is_some, option_map, slice_index_or}
 use Rattle.std.specs.Borrow.{Bor}
 use Rattle.std.proofs.lemmas.Grind.{common_steps}
 use Rattle.std.proofs.lemmas.List.Elements.{All-push}
@@ -34,6 +34,10 @@ mode_is_one Cover Prove e = let first : 99 ≡ 112 = ap (λ (w : List ℕ). get_
 mode_is_one Cover Cover e = refl
 
 -- ---- texts
+
+pub no_text : (text : Option (Bor (List ℕ))) → is_some text ≡ false → option_map (λ s. s.now) text ≡ None
+no_text None e = refl
+no_text (Some text) e = cc
 
 pub text_given : (first : Option (List ℕ)) (text wanted : List ℕ) (r : Bool) → Some text ≡ first → r ≡ bytes_eq text wanted → IsTrue r ↔ (first ≡ Some wanted)
 text_given first text wanted r is test =
@@ -84,9 +88,9 @@ pub record Stands (r : JudgeRequest) (said design mode depth : List ℕ) (stream
   pub word_is : said ≡ depth
   pub streams_are : r.streams ≡ streams
 
-pub stands : (directory : Option (List ℕ)) (r : JudgeRequest) (xs : List (Bor (List ℕ))) (d : Bor (List ℕ)) → 3 ≤ length xs
-    → (j : Judges directory (texts xs) r) → Stands r j.word (slice_index_or xs 0 d).now (slice_index_or xs 1 d).now (slice_index_or xs 2 d).now (texts (later 3 xs))
-stands directory r xs d long j =
+pub stands : (directory jobs : Option (List ℕ)) (r : JudgeRequest) (xs : List (Bor (List ℕ))) (d : Bor (List ℕ)) → 3 ≤ length xs
+    → (j : Judges directory jobs (texts xs) r) → Stands r j.word (slice_index_or xs 0 d).now (slice_index_or xs 1 d).now (slice_index_or xs 2 d).now (texts (later 3 xs))
+stands directory jobs r xs d long j =
     let same : r.design ∷ mode_word r.mode ∷ j.word ∷ r.streams
     ≡ (slice_index_or xs 0 d).now ∷ (slice_index_or xs 1 d).now ∷ (slice_index_or xs 2 d).now ∷ texts (later 3 xs) =
     sym j.parts ∙ three_and_more xs d long in

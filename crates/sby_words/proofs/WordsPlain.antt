@@ -17,7 +17,7 @@ use Rattle.sby_words.specs.declared.form.Form.{Form}
 use Rattle.sby_words.specs.declared.form.Form.TheVariants.{Judge, Tasks, Names, Gen}
 use Rattle.sby_words.specs.Command.{IsGiven, command}
 use Rattle.sby_words.specs.Requests.{AskGen, AskJudge, AskNames, AskTasks, Request}
-use Rattle.sby_words.specs.Words.{Asks, HasForm, IsPlain, Means, Says, directory_words, form_of, form_words, plain_words}
+use Rattle.sby_words.specs.Words.{Asks, HasForm, IsPlain, Means, Says, directory_words, form_of, form_words, jobs_words, plain_words}
 use Rattle.sby_words.proofs.WordsTaken.{walk_level}
 
 abbrev whole : Shape
@@ -52,6 +52,10 @@ abbrev directory_rows : Option Text → List Row
 directory_rows None = []
 directory_rows (Some dir) = row_of (codes "folder") (dir ∷ []) ∷ []
 
+abbrev jobs_rows : Option Text → List Row
+jobs_rows None = []
+jobs_rows (Some jobs) = row_of (codes "jobs") (jobs ∷ []) ∷ []
+
 abbrev form_rows : Form → List Row
 form_rows Judge = row_of (codes "judge") (codes "true" ∷ []) ∷ []
 form_rows Tasks = []
@@ -59,8 +63,8 @@ form_rows Names = row_of (codes "dumptasks") (codes "true" ∷ []) ∷ []
 form_rows Gen = row_of (codes "gen") (codes "true" ∷ []) ∷ []
 
 -- the rows of what stands in front of the list
-abbrev front : Bool → Option Text → Form → List Row
-front force dir form = force_rows force ++ (directory_rows dir ++ form_rows form)
+abbrev front : Bool → Option Text → Option Text → Form → List Row
+front force dir jobs form = force_rows force ++ (jobs_rows jobs ++ (directory_rows dir ++ form_rows form))
 
 -- the rows with one more word in the list
 abbrev with_word : List Row → Text → List Row
@@ -83,16 +87,21 @@ no_directory_words : (dir : Option Text) → NoWords (directory_rows dir)
 no_directory_words None = tt
 no_directory_words (Some dir) = (refl, tt)
 
+no_jobs_words : (jobs : Option Text) → NoWords (jobs_rows jobs)
+no_jobs_words None = tt
+no_jobs_words (Some jobs) = (refl, tt)
+
 no_form_words : (form : Form) → NoWords (form_rows form)
 no_form_words Judge = (refl, tt)
 no_form_words Tasks = tt
 no_form_words Names = (refl, tt)
 no_form_words Gen = (refl, tt)
 
-no_front_words : (force : Bool) (dir : Option Text) (form : Form) → NoWords (front force dir form)
-no_front_words force dir form =
-    no_words (force_rows force) (directory_rows dir ++ form_rows form) (no_force_words force)
-    (no_words (directory_rows dir) (form_rows form) (no_directory_words dir) (no_form_words form))
+no_front_words : (force : Bool) (dir jobs : Option Text) (form : Form) → NoWords (front force dir jobs form)
+no_front_words force dir jobs form =
+    no_words (force_rows force) (jobs_rows jobs ++ (directory_rows dir ++ form_rows form)) (no_force_words force)
+    (no_words (jobs_rows jobs) (directory_rows dir ++ form_rows form) (no_jobs_words jobs)
+    (no_words (directory_rows dir) (form_rows form) (no_directory_words dir) (no_form_words form)))
 
 first_word : (rows : List Row) (word : Text) → NoWords rows → with_word rows word ≡ rows ++ row_of (codes "words") (word ∷ []) ∷ []
 first_word [] word none = refl
@@ -116,12 +125,12 @@ next_words rows vs (word ∷ words) none = ap (λ (t : List Row). fold with_word
 abbrev ready : List Row → Walk
 ready rows = record { held = record { rows = rows; pending = None; skip = 0 }; waiting = idle; position = 1; is_trailing = false; stopped = None }
 
--- after `-d`, and after DIR
-abbrev option_waits : List Row → Walk
-option_waits rows = record { held = record { rows = rows; pending = Some (codes "folder", []); skip = 0 }; waiting = option (codes "folder"); position = 1; is_trailing = false; stopped = None }
+-- after an option, and after its value
+abbrev option_waits : Text → List Row → Walk
+option_waits id rows = record { held = record { rows = rows; pending = Some (id, []); skip = 0 }; waiting = option id; position = 1; is_trailing = false; stopped = None }
 
-abbrev option_has : List Row → Text → Walk
-option_has rows dir = record { held = record { rows = rows; pending = Some (codes "folder", dir ∷ []); skip = 0 }; waiting = idle; position = 1; is_trailing = false; stopped = None }
+abbrev option_has : Text → List Row → Text → Walk
+option_has id rows given = record { held = record { rows = rows; pending = Some (id, given ∷ []); skip = 0 }; waiting = idle; position = 1; is_trailing = false; stopped = None }
 
 -- after a word of the list, which waits
 abbrev behind : List Row → Text → Walk
@@ -135,11 +144,27 @@ force_turn : Turn (ready []) (ready (force_rows true)) (codes "-f")
 unfolding clap_on_literals
 force_turn = record { to = refl; passes = refl }
 
-option_turn : (rows : List Row) → Turn (ready rows) (option_waits rows) (codes "-d")
-unfolding clap_on_literals
-option_turn rows = record { to = refl; passes = refl }
+-- after `-f` and `-j M`
+abbrev behind_jobs : Bool → Option Text → Walk
+behind_jobs force None = ready (force_rows force)
+behind_jobs force (Some jobs) = option_has (codes "jobs") (force_rows force) jobs
 
-directory_turn : (rows : List Row) (dir : Text) → Plain dir → Turn (option_waits rows) (option_has rows dir) dir
+jobs_turn : (rows : List Row) → Turn (ready rows) (option_waits (codes "jobs") rows) (codes "-j")
+unfolding clap_on_literals
+jobs_turn rows = record { to = refl; passes = refl }
+
+limit_turn : (rows : List Row) (jobs : Text) → Plain jobs → Turn (option_waits (codes "jobs") rows) (option_has (codes "jobs") rows jobs) jobs
+unfolding clap_on_literals
+limit_turn rows jobs p = record { to = rw (p.no_end, p.no_long, p.no_short) refl; passes = rw (p.no_end, p.no_long, p.no_short) refl }
+
+folder_turn : (force : Bool) (jobs : Option Text) → Turn (behind_jobs force jobs) (option_waits (codes "folder") (force_rows force ++ jobs_rows jobs)) (codes "-d")
+unfolding clap_on_literals
+folder_turn true None = record { to = refl; passes = refl }
+folder_turn true (Some jobs) = record { to = refl; passes = refl }
+folder_turn false None = record { to = refl; passes = refl }
+folder_turn false (Some jobs) = record { to = refl; passes = refl }
+
+directory_turn : (rows : List Row) (dir : Text) → Plain dir → Turn (option_waits (codes "folder") rows) (option_has (codes "folder") rows dir) dir
 unfolding clap_on_literals
 directory_turn rows dir p = record { to = rw (p.no_end, p.no_long, p.no_short) refl; passes = rw (p.no_end, p.no_long, p.no_short) refl }
 
@@ -151,38 +176,54 @@ next_turn : (rows : List Row) (last word : Text) → Plain word → Turn (behind
 unfolding clap_on_literals
 next_turn rows last word p = record { to = rw (p.no_end, p.no_long, p.no_short) refl; passes = rw (p.no_end, p.no_long, p.no_short) refl }
 
--- after `-f` and `-d DIR`
-abbrev behind_options : Bool → Option Text → Walk
-behind_options force None = ready (force_rows force)
-behind_options force (Some dir) = option_has (force_rows force) dir
+-- after `-f`, `-j M` and `-d DIR`
+abbrev behind_options : Bool → Option Text → Option Text → Walk
+behind_options force None jobs = behind_jobs force jobs
+behind_options force (Some dir) jobs = option_has (codes "folder") (force_rows force ++ jobs_rows jobs) dir
 
-judge_turn : (force : Bool) (dir : Option Text) → Turn (behind_options force dir) (ready (front force dir Judge)) (codes "--judge")
+judge_turn : (force : Bool) (dir jobs : Option Text) → Turn (behind_options force dir jobs) (ready (front force dir jobs Judge)) (codes "--judge")
 unfolding clap_on_literals
-judge_turn true None = record { to = refl; passes = refl }
-judge_turn true (Some dir) = record { to = refl; passes = refl }
-judge_turn false None = record { to = refl; passes = refl }
-judge_turn false (Some dir) = record { to = refl; passes = refl }
+judge_turn true None None = record { to = refl; passes = refl }
+judge_turn true None (Some jobs) = record { to = refl; passes = refl }
+judge_turn true (Some dir) None = record { to = refl; passes = refl }
+judge_turn true (Some dir) (Some jobs) = record { to = refl; passes = refl }
+judge_turn false None None = record { to = refl; passes = refl }
+judge_turn false None (Some jobs) = record { to = refl; passes = refl }
+judge_turn false (Some dir) None = record { to = refl; passes = refl }
+judge_turn false (Some dir) (Some jobs) = record { to = refl; passes = refl }
 
-names_turn : (force : Bool) (dir : Option Text) → Turn (behind_options force dir) (ready (front force dir Names)) (codes "--dumptasks")
+names_turn : (force : Bool) (dir jobs : Option Text) → Turn (behind_options force dir jobs) (ready (front force dir jobs Names)) (codes "--dumptasks")
 unfolding clap_on_literals
-names_turn true None = record { to = refl; passes = refl }
-names_turn true (Some dir) = record { to = refl; passes = refl }
-names_turn false None = record { to = refl; passes = refl }
-names_turn false (Some dir) = record { to = refl; passes = refl }
+names_turn true None None = record { to = refl; passes = refl }
+names_turn true None (Some jobs) = record { to = refl; passes = refl }
+names_turn true (Some dir) None = record { to = refl; passes = refl }
+names_turn true (Some dir) (Some jobs) = record { to = refl; passes = refl }
+names_turn false None None = record { to = refl; passes = refl }
+names_turn false None (Some jobs) = record { to = refl; passes = refl }
+names_turn false (Some dir) None = record { to = refl; passes = refl }
+names_turn false (Some dir) (Some jobs) = record { to = refl; passes = refl }
 
-gen_turn : (force : Bool) (dir : Option Text) → Turn (behind_options force dir) (ready (front force dir Gen)) (codes "--gen")
+gen_turn : (force : Bool) (dir jobs : Option Text) → Turn (behind_options force dir jobs) (ready (front force dir jobs Gen)) (codes "--gen")
 unfolding clap_on_literals
-gen_turn true None = record { to = refl; passes = refl }
-gen_turn true (Some dir) = record { to = refl; passes = refl }
-gen_turn false None = record { to = refl; passes = refl }
-gen_turn false (Some dir) = record { to = refl; passes = refl }
+gen_turn true None None = record { to = refl; passes = refl }
+gen_turn true None (Some jobs) = record { to = refl; passes = refl }
+gen_turn true (Some dir) None = record { to = refl; passes = refl }
+gen_turn true (Some dir) (Some jobs) = record { to = refl; passes = refl }
+gen_turn false None None = record { to = refl; passes = refl }
+gen_turn false None (Some jobs) = record { to = refl; passes = refl }
+gen_turn false (Some dir) None = record { to = refl; passes = refl }
+gen_turn false (Some dir) (Some jobs) = record { to = refl; passes = refl }
 
-tasks_turn : (force : Bool) (dir : Option Text) (word : Text) → Plain word → Turn (behind_options force dir) (behind (front force dir Tasks) word) word
+tasks_turn : (force : Bool) (dir jobs : Option Text) (word : Text) → Plain word → Turn (behind_options force dir jobs) (behind (front force dir jobs Tasks) word) word
 unfolding clap_on_literals
-tasks_turn true None word p = record { to = rw (p.no_end, p.no_long, p.no_short) refl; passes = rw (p.no_end, p.no_long, p.no_short) refl }
-tasks_turn true (Some dir) word p = record { to = rw (p.no_end, p.no_long, p.no_short) refl; passes = rw (p.no_end, p.no_long, p.no_short) refl }
-tasks_turn false None word p = record { to = rw (p.no_end, p.no_long, p.no_short) refl; passes = rw (p.no_end, p.no_long, p.no_short) refl }
-tasks_turn false (Some dir) word p = record { to = rw (p.no_end, p.no_long, p.no_short) refl; passes = rw (p.no_end, p.no_long, p.no_short) refl }
+tasks_turn true None None word p = record { to = rw (p.no_end, p.no_long, p.no_short) refl; passes = rw (p.no_end, p.no_long, p.no_short) refl }
+tasks_turn true None (Some jobs) word p = record { to = rw (p.no_end, p.no_long, p.no_short) refl; passes = rw (p.no_end, p.no_long, p.no_short) refl }
+tasks_turn true (Some dir) None word p = record { to = rw (p.no_end, p.no_long, p.no_short) refl; passes = rw (p.no_end, p.no_long, p.no_short) refl }
+tasks_turn true (Some dir) (Some jobs) word p = record { to = rw (p.no_end, p.no_long, p.no_short) refl; passes = rw (p.no_end, p.no_long, p.no_short) refl }
+tasks_turn false None None word p = record { to = rw (p.no_end, p.no_long, p.no_short) refl; passes = rw (p.no_end, p.no_long, p.no_short) refl }
+tasks_turn false None (Some jobs) word p = record { to = rw (p.no_end, p.no_long, p.no_short) refl; passes = rw (p.no_end, p.no_long, p.no_short) refl }
+tasks_turn false (Some dir) None word p = record { to = rw (p.no_end, p.no_long, p.no_short) refl; passes = rw (p.no_end, p.no_long, p.no_short) refl }
+tasks_turn false (Some dir) (Some jobs) word p = record { to = rw (p.no_end, p.no_long, p.no_short) refl; passes = rw (p.no_end, p.no_long, p.no_short) refl }
 
 -- ---- all words
 
@@ -225,36 +266,53 @@ walked_list : (rows : List Row) (word : Text) (words : List Text) → NoWords ro
 walked_list rows word words none p all =
     walked_more (all_rows rows word words) (ready rows) (behind rows word) word words (first_turn rows word (plain word p)) (walked_behind rows word words none all)
 
-walked_form : (force : Bool) (dir : Option Text) (form : Form) (word : Text) (words : List Text) → IsPlain word → All IsPlain words
-    → Walked (all_rows (front force dir form) word words) (behind_options force dir) (form_words form ++ word ∷ words)
-walked_form force dir Judge word words p all =
-    let rows = front force dir Judge in
-    walked_more (all_rows rows word words) (behind_options force dir) (ready rows) (codes "--judge") (word ∷ words) (judge_turn force dir) (walked_list rows word words (no_front_words force dir Judge) p all)
-walked_form force dir Names word words p all =
-    let rows = front force dir Names in
-    walked_more (all_rows rows word words) (behind_options force dir) (ready rows) (codes "--dumptasks") (word ∷ words) (names_turn force dir) (walked_list rows word words (no_front_words force dir Names) p all)
-walked_form force dir Gen word words p all =
-    let rows = front force dir Gen in
-    walked_more (all_rows rows word words) (behind_options force dir) (ready rows) (codes "--gen") (word ∷ words) (gen_turn force dir) (walked_list rows word words (no_front_words force dir Gen) p all)
-walked_form force dir Tasks word words p all =
-    let rows = front force dir Tasks in
-    walked_more (all_rows rows word words) (behind_options force dir) (behind rows word) word words (tasks_turn force dir word (plain word p)) (walked_behind rows word words (no_front_words force dir Tasks) all)
+walked_form : (force : Bool) (dir jobs : Option Text) (form : Form) (word : Text) (words : List Text) → IsPlain word → All IsPlain words
+    → Walked (all_rows (front force dir jobs form) word words) (behind_options force dir jobs) (form_words form ++ word ∷ words)
+walked_form force dir jobs Judge word words p all =
+    let rows = front force dir jobs Judge in
+    walked_more (all_rows rows word words) (behind_options force dir jobs) (ready rows) (codes "--judge") (word ∷ words) (judge_turn force dir jobs) (walked_list rows word words (no_front_words force dir jobs Judge) p all)
+walked_form force dir jobs Names word words p all =
+    let rows = front force dir jobs Names in
+    walked_more (all_rows rows word words) (behind_options force dir jobs) (ready rows) (codes "--dumptasks") (word ∷ words) (names_turn force dir jobs) (walked_list rows word words (no_front_words force dir jobs Names) p all)
+walked_form force dir jobs Gen word words p all =
+    let rows = front force dir jobs Gen in
+    walked_more (all_rows rows word words) (behind_options force dir jobs) (ready rows) (codes "--gen") (word ∷ words) (gen_turn force dir jobs) (walked_list rows word words (no_front_words force dir jobs Gen) p all)
+walked_form force dir jobs Tasks word words p all =
+    let rows = front force dir jobs Tasks in
+    walked_more (all_rows rows word words) (behind_options force dir jobs) (behind rows word) word words (tasks_turn force dir jobs word (plain word p)) (walked_behind rows word words (no_front_words force dir jobs Tasks) all)
 
-walked_directory : (force : Bool) (dir : Option Text) (rows : List Row) (words : List Text) → IfSome dir IsPlain → Walked rows (behind_options force dir) words
-    → Walked rows (ready (force_rows force)) (directory_words dir ++ words)
-walked_directory force None rows words on later = later
-walked_directory force (Some dir) rows words on later =
-    walked_more rows (ready (force_rows force)) (option_waits (force_rows force)) (codes "-d") (dir ∷ words) (option_turn (force_rows force))
-    (walked_more rows (option_waits (force_rows force)) (option_has (force_rows force) dir) dir words (directory_turn (force_rows force) dir (plain dir on)) later)
+walked_directory : (force : Bool) (dir jobs : Option Text) (rows : List Row) (words : List Text) → IfSome dir IsPlain → Walked rows (behind_options force dir jobs) words
+    → Walked rows (behind_jobs force jobs) (directory_words dir ++ words)
+walked_directory force None jobs rows words on later = later
+walked_directory force (Some dir) jobs rows words on later =
+    let before = force_rows force ++ jobs_rows jobs in
+    walked_more rows (behind_jobs force jobs) (option_waits (codes "folder") before) (codes "-d") (dir ∷ words) (folder_turn force jobs)
+    (walked_more rows (option_waits (codes "folder") before) (option_has (codes "folder") before dir) dir words (directory_turn before dir (plain dir on)) later)
 
-all_walked : (force : Bool) (dir : Option Text) (form : Form) (word : Text) (words : List Text) → IfSome dir IsPlain → IsPlain word → All IsPlain words
-    → Walked (all_rows (front force dir form) word words) (walk_from nothing_held) (plain_words force dir form (word ∷ words))
-all_walked true dir form word words on p all =
-    let rows = all_rows (front true dir form) word words in
-    let later = walked_directory true dir rows (form_words form ++ word ∷ words) on (walked_form true dir form word words p all) in
-    walked_more rows (ready []) (ready (force_rows true)) (codes "-f") (directory_words dir ++ (form_words form ++ word ∷ words)) force_turn later
-all_walked false dir form word words on p all =
-    walked_directory false dir (all_rows (front false dir form) word words) (form_words form ++ word ∷ words) on (walked_form false dir form word words p all)
+walked_jobs : (force : Bool) (jobs : Option Text) (rows : List Row) (words : List Text) → IfSome jobs IsPlain → Walked rows (behind_jobs force jobs) words
+    → Walked rows (ready (force_rows force)) (jobs_words jobs ++ words)
+walked_jobs force None rows words on later = later
+walked_jobs force (Some jobs) rows words on later =
+    let before = force_rows force in
+    walked_more rows (ready before) (option_waits (codes "jobs") before) (codes "-j") (jobs ∷ words) (jobs_turn before)
+    (walked_more rows (option_waits (codes "jobs") before) (option_has (codes "jobs") before jobs) jobs words (limit_turn before jobs (plain jobs on)) later)
+
+-- the words behind `-f`
+walked_options : (force : Bool) (dir jobs : Option Text) (form : Form) (word : Text) (words : List Text) → IfSome dir IsPlain → IfSome jobs IsPlain → IsPlain word → All IsPlain words
+    → Walked (all_rows (front force dir jobs form) word words) (ready (force_rows force)) (jobs_words jobs ++ (directory_words dir ++ (form_words form ++ word ∷ words)))
+walked_options force dir jobs form word words on limited p all =
+    let rows = all_rows (front force dir jobs form) word words in
+    let list = form_words form ++ word ∷ words in
+    walked_jobs force jobs rows (directory_words dir ++ list) limited
+    (walked_directory force dir jobs rows list on (walked_form force dir jobs form word words p all))
+
+all_walked : (force : Bool) (dir jobs : Option Text) (form : Form) (word : Text) (words : List Text) → IfSome dir IsPlain → IfSome jobs IsPlain → IsPlain word → All IsPlain words
+    → Walked (all_rows (front force dir jobs form) word words) (walk_from nothing_held) (plain_words force dir jobs form (word ∷ words))
+all_walked true dir jobs form word words on limited p all =
+    let rows = all_rows (front true dir jobs form) word words in
+    let rest = jobs_words jobs ++ (directory_words dir ++ (form_words form ++ word ∷ words)) in
+    walked_more rows (ready []) (ready (force_rows true)) (codes "-f") rest force_turn (walked_options true dir jobs form word words on limited p all)
+all_walked false dir jobs form word words on limited p all = walked_options false dir jobs form word words on limited p all
 
 -- ---- what they ask
 
@@ -281,9 +339,10 @@ flag_text true = codes "true"
 flag_text false = codes "false"
 
 -- what the matches find
-record Found (rows : List Row) (dir : Option Text) (form : Form) (list : List Text) : Type 0 where
+record Found (rows : List Row) (dir jobs : Option Text) (form : Form) (list : List Text) : Type 0 where
   pub words : all_of (codes "words") rows ≡ Some list
   pub folder : first_of (codes "folder") rows ≡ dir
+  pub jobs_are : first_of (codes "jobs") rows ≡ jobs
   pub judge : first_of (codes "judge") rows ≡ Some (flag_text (is_judge form))
   pub dumptasks : first_of (codes "dumptasks") rows ≡ Some (flag_text (is_names form))
   pub gen : first_of (codes "gen") rows ≡ Some (flag_text (is_gen form))
@@ -292,61 +351,77 @@ record Found (rows : List Row) (dir : Option Text) (form : Form) (list : List Te
 abbrev defaulted : List Row → List Row
 defaulted rows = fold with_default rows rules
 
-found : (force : Bool) (dir : Option Text) (form : Form) (word : Text) (words : List Text) → Found (defaulted (all_rows (front force dir form) word words)) dir form (word ∷ words)
+found : (force : Bool) (dir jobs : Option Text) (form : Form) (word : Text) (words : List Text) → Found (defaulted (all_rows (front force dir jobs form) word words)) dir jobs form (word ∷ words)
 unfolding clap_on_literals
-found true None Judge word words = record { words = refl; folder = refl; judge = refl; dumptasks = refl; gen = refl }
-found true None Tasks word words = record { words = refl; folder = refl; judge = refl; dumptasks = refl; gen = refl }
-found true None Names word words = record { words = refl; folder = refl; judge = refl; dumptasks = refl; gen = refl }
-found true None Gen word words = record { words = refl; folder = refl; judge = refl; dumptasks = refl; gen = refl }
-found true (Some dir) Judge word words = record { words = refl; folder = refl; judge = refl; dumptasks = refl; gen = refl }
-found true (Some dir) Tasks word words = record { words = refl; folder = refl; judge = refl; dumptasks = refl; gen = refl }
-found true (Some dir) Names word words = record { words = refl; folder = refl; judge = refl; dumptasks = refl; gen = refl }
-found true (Some dir) Gen word words = record { words = refl; folder = refl; judge = refl; dumptasks = refl; gen = refl }
-found false None Judge word words = record { words = refl; folder = refl; judge = refl; dumptasks = refl; gen = refl }
-found false None Tasks word words = record { words = refl; folder = refl; judge = refl; dumptasks = refl; gen = refl }
-found false None Names word words = record { words = refl; folder = refl; judge = refl; dumptasks = refl; gen = refl }
-found false None Gen word words = record { words = refl; folder = refl; judge = refl; dumptasks = refl; gen = refl }
-found false (Some dir) Judge word words = record { words = refl; folder = refl; judge = refl; dumptasks = refl; gen = refl }
-found false (Some dir) Tasks word words = record { words = refl; folder = refl; judge = refl; dumptasks = refl; gen = refl }
-found false (Some dir) Names word words = record { words = refl; folder = refl; judge = refl; dumptasks = refl; gen = refl }
-found false (Some dir) Gen word words = record { words = refl; folder = refl; judge = refl; dumptasks = refl; gen = refl }
+found true None None Judge word words = record { words = refl; folder = refl; jobs_are = refl; judge = refl; dumptasks = refl; gen = refl }
+found true None None Tasks word words = record { words = refl; folder = refl; jobs_are = refl; judge = refl; dumptasks = refl; gen = refl }
+found true None None Names word words = record { words = refl; folder = refl; jobs_are = refl; judge = refl; dumptasks = refl; gen = refl }
+found true None None Gen word words = record { words = refl; folder = refl; jobs_are = refl; judge = refl; dumptasks = refl; gen = refl }
+found true None (Some jobs) Judge word words = record { words = refl; folder = refl; jobs_are = refl; judge = refl; dumptasks = refl; gen = refl }
+found true None (Some jobs) Tasks word words = record { words = refl; folder = refl; jobs_are = refl; judge = refl; dumptasks = refl; gen = refl }
+found true None (Some jobs) Names word words = record { words = refl; folder = refl; jobs_are = refl; judge = refl; dumptasks = refl; gen = refl }
+found true None (Some jobs) Gen word words = record { words = refl; folder = refl; jobs_are = refl; judge = refl; dumptasks = refl; gen = refl }
+found true (Some dir) None Judge word words = record { words = refl; folder = refl; jobs_are = refl; judge = refl; dumptasks = refl; gen = refl }
+found true (Some dir) None Tasks word words = record { words = refl; folder = refl; jobs_are = refl; judge = refl; dumptasks = refl; gen = refl }
+found true (Some dir) None Names word words = record { words = refl; folder = refl; jobs_are = refl; judge = refl; dumptasks = refl; gen = refl }
+found true (Some dir) None Gen word words = record { words = refl; folder = refl; jobs_are = refl; judge = refl; dumptasks = refl; gen = refl }
+found true (Some dir) (Some jobs) Judge word words = record { words = refl; folder = refl; jobs_are = refl; judge = refl; dumptasks = refl; gen = refl }
+found true (Some dir) (Some jobs) Tasks word words = record { words = refl; folder = refl; jobs_are = refl; judge = refl; dumptasks = refl; gen = refl }
+found true (Some dir) (Some jobs) Names word words = record { words = refl; folder = refl; jobs_are = refl; judge = refl; dumptasks = refl; gen = refl }
+found true (Some dir) (Some jobs) Gen word words = record { words = refl; folder = refl; jobs_are = refl; judge = refl; dumptasks = refl; gen = refl }
+found false None None Judge word words = record { words = refl; folder = refl; jobs_are = refl; judge = refl; dumptasks = refl; gen = refl }
+found false None None Tasks word words = record { words = refl; folder = refl; jobs_are = refl; judge = refl; dumptasks = refl; gen = refl }
+found false None None Names word words = record { words = refl; folder = refl; jobs_are = refl; judge = refl; dumptasks = refl; gen = refl }
+found false None None Gen word words = record { words = refl; folder = refl; jobs_are = refl; judge = refl; dumptasks = refl; gen = refl }
+found false None (Some jobs) Judge word words = record { words = refl; folder = refl; jobs_are = refl; judge = refl; dumptasks = refl; gen = refl }
+found false None (Some jobs) Tasks word words = record { words = refl; folder = refl; jobs_are = refl; judge = refl; dumptasks = refl; gen = refl }
+found false None (Some jobs) Names word words = record { words = refl; folder = refl; jobs_are = refl; judge = refl; dumptasks = refl; gen = refl }
+found false None (Some jobs) Gen word words = record { words = refl; folder = refl; jobs_are = refl; judge = refl; dumptasks = refl; gen = refl }
+found false (Some dir) None Judge word words = record { words = refl; folder = refl; jobs_are = refl; judge = refl; dumptasks = refl; gen = refl }
+found false (Some dir) None Tasks word words = record { words = refl; folder = refl; jobs_are = refl; judge = refl; dumptasks = refl; gen = refl }
+found false (Some dir) None Names word words = record { words = refl; folder = refl; jobs_are = refl; judge = refl; dumptasks = refl; gen = refl }
+found false (Some dir) None Gen word words = record { words = refl; folder = refl; jobs_are = refl; judge = refl; dumptasks = refl; gen = refl }
+found false (Some dir) (Some jobs) Judge word words = record { words = refl; folder = refl; jobs_are = refl; judge = refl; dumptasks = refl; gen = refl }
+found false (Some dir) (Some jobs) Tasks word words = record { words = refl; folder = refl; jobs_are = refl; judge = refl; dumptasks = refl; gen = refl }
+found false (Some dir) (Some jobs) Names word words = record { words = refl; folder = refl; jobs_are = refl; judge = refl; dumptasks = refl; gen = refl }
+found false (Some dir) (Some jobs) Gen word words = record { words = refl; folder = refl; jobs_are = refl; judge = refl; dumptasks = refl; gen = refl }
 
 flag_found : (id : Text) (rows : List Row) (given : Bool) → first_of id rows ≡ Some (flag_text given) → IsTrue given ↔ IsGiven id rows
 flag_found id rows true e = (λ t. e, λ g. refl)
 flag_found id rows false e = (λ t. absurd (true≢false (sym t)), λ g. cc)
 
-form_found : (rows : List Row) (dir : Option Text) (form : Form) (list : List Text) → Found rows dir form list → HasForm rows form
-form_found rows dir Judge list f =
+form_found : (rows : List Row) (dir jobs : Option Text) (form : Form) (list : List Text) → Found rows dir jobs form list → HasForm rows form
+form_found rows dir jobs Judge list f =
     record { judge = flag_found (codes "judge") rows true f.judge; dumptasks = flag_found (codes "dumptasks") rows false f.dumptasks; gen = flag_found (codes "gen") rows false f.gen }
-form_found rows dir Tasks list f =
+form_found rows dir jobs Tasks list f =
     record { judge = flag_found (codes "judge") rows false f.judge; dumptasks = flag_found (codes "dumptasks") rows false f.dumptasks; gen = flag_found (codes "gen") rows false f.gen }
-form_found rows dir Names list f =
+form_found rows dir jobs Names list f =
     record { judge = flag_found (codes "judge") rows false f.judge; dumptasks = flag_found (codes "dumptasks") rows true f.dumptasks; gen = flag_found (codes "gen") rows false f.gen }
-form_found rows dir Gen list f =
+form_found rows dir jobs Gen list f =
     record { judge = flag_found (codes "judge") rows false f.judge; dumptasks = flag_found (codes "dumptasks") rows false f.dumptasks; gen = flag_found (codes "gen") rows true f.gen }
 
-means : (rows : List Row) (dir : Option Text) (list : List Text) (r : Request) → Found rows dir (form_of r) list → Says dir list r → Means rows r
-means rows dir list r f says = record {
-  form = form_found rows dir (form_of r) list f;
+means : (rows : List Row) (dir jobs : Option Text) (list : List Text) (r : Request) → Found rows dir jobs (form_of r) list → Says dir jobs list r → Means rows r
+means rows dir jobs list r f says = record {
+  form = form_found rows dir jobs (form_of r) list f;
   list = list;
   words = f.words;
-  says = subst (λ (d : Option Text). Says d list r) (sym f.folder) says;
+  says = subst (λ (d : Option Text). Says d (first_of (codes "jobs") rows) list r) (sym f.folder) (subst (λ (j : Option Text). Says dir j list r) (sym f.jobs_are) says);
 }
 
-nothing_said : (dir : Option Text) (r : Request) → Says dir [] r → ⊥
-nothing_said dir (AskJudge r) says = let parts = says.parts in cc
-nothing_said dir (AskTasks r) says = let parts = says.parts in cc
-nothing_said dir (AskNames file) says = let parts = says.parts in cc
-nothing_said dir (AskGen r) says = let parts = says.parts in cc
+nothing_said : (dir jobs : Option Text) (r : Request) → Says dir jobs [] r → ⊥
+nothing_said dir jobs (AskJudge r) says = let parts = says.parts in cc
+nothing_said dir jobs (AskTasks r) says = let parts = says.parts in cc
+nothing_said dir jobs (AskNames file) says = let parts = says.parts in cc
+nothing_said dir jobs (AskGen r) says = let parts = says.parts in cc
 
-pub plain_words_ask : (force : Bool) (dir : Option Text) (list : List Text) (r : Request) → IfSome dir IsPlain → All IsPlain list → Says dir list r
-    → Asks (plain_words force dir (form_of r) list) r
-plain_words_ask force dir [] r on all says = absurd (nothing_said dir r says)
-plain_words_ask force dir (word ∷ words) r on all says =
-    let given = plain_words force dir (form_of r) (word ∷ words) in
-    let walk = all_walked force dir (form_of r) word words on (All-head IsPlain word words all) (All-tail IsPlain word words all) in
-    let rows : matches_of command given ≡ defaulted (all_rows (front force dir (form_of r)) word words) = ap defaulted walk.comes in
+pub plain_words_ask : (force : Bool) (dir jobs : Option Text) (list : List Text) (r : Request) → IfSome dir IsPlain → IfSome jobs IsPlain → All IsPlain list → Says dir jobs list r
+    → Asks (plain_words force dir jobs (form_of r) list) r
+plain_words_ask force dir jobs [] r on limited all says = absurd (nothing_said dir jobs r says)
+plain_words_ask force dir jobs (word ∷ words) r on limited all says =
+    let given = plain_words force dir jobs (form_of r) (word ∷ words) in
+    let walk = all_walked force dir jobs (form_of r) word words on limited (All-head IsPlain word words all) (All-tail IsPlain word words all) in
+    let rows : matches_of command given ≡ defaulted (all_rows (front force dir jobs (form_of r)) word words) = ap defaulted walk.comes in
     record {
       taken = leaf_takes (built command) nothing_held given refl (walk_level given walk.passes walk.ends);
-      means = subst (λ (t : List Row). Means t r) (sym rows) (means _ dir (word ∷ words) r (found force dir (form_of r) word words) says);
+      means = subst (λ (t : List Row). Means t r) (sym rows) (means _ dir jobs (word ∷ words) r (found force dir jobs (form_of r) word words) says);
     }

@@ -14,10 +14,10 @@ request_of (Tasks r) = AskTasks r
 request_of (Names file) = AskNames (string_bytes file)
 request_of (Gen r) = AskGen r
 
--- the answer of one form: what DIR and the list say in it, and none where they say nothing
-abbrev pub IsSaid : Form → Option (List ℕ) → List (List ℕ) → Option Request → Type 0
-IsSaid form directory list None = (r : Request) → form_of r ≡ form → Says directory list r → ⊥
-IsSaid form directory list (Some r) = (form_of r ≡ form) × Says directory list r
+-- the answer of one form: what DIR, M and the list say in it, and none where they say nothing
+abbrev pub IsSaid : Form → Option (List ℕ) → Option (List ℕ) → List (List ℕ) → Option Request → Type 0
+IsSaid form directory jobs list None = (r : Request) → form_of r ≡ form → Says directory jobs list r → ⊥
+IsSaid form directory jobs list (Some r) = (form_of r ≡ form) × Says directory jobs list r
 
 -- the answer by the matches: what they ask, and none where they ask nothing
 abbrev pub IsMeant : List Row → Option Request → Type 0

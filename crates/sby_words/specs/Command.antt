@@ -13,9 +13,9 @@ short_flag id letter = record (new_rule id) { short = Some letter; action = Some
 abbrev pub long_flag : List ℕ → Rule
 long_flag id = record (new_rule id) { long = Some id; action = Some SetTrue }
 
--- `-d DIR`
-abbrev pub folder_option : Rule
-folder_option = record (new_rule (codes "folder")) { short = Some 100; action = Some Set }
+-- an option by its letter, with one value
+abbrev pub short_option : List ℕ → ℕ → Rule
+short_option id letter = record (new_rule id) { short = Some letter; action = Some Set }
 
 -- all other words
 abbrev pub word_list : Rule
@@ -25,12 +25,13 @@ word_list = record (new_rule (codes "words")) { action = Some Append }
 abbrev pub bare : App
 bare = on_top (λ s. record s { no_binary_name = true; disable_help_flag = true }) (new_app (codes "sby"))
 
--- the command: the flags `-f`, `--judge`, `--dumptasks` and `--gen`, one option, one list
+-- the command: the flags `-f`, `--judge`, `--dumptasks` and `--gen`, the options `-d DIR` and `-j M`, one list
 abbrev pub command : App
 command =
-    with_rule (with_rule (with_rule (with_rule (with_rule (with_rule bare
+    with_rule (with_rule (with_rule (with_rule (with_rule (with_rule (with_rule bare
     (short_flag (codes "force") 102))
-    folder_option)
+    (short_option (codes "folder") 100))
+    (short_option (codes "jobs") 106))
     (long_flag (codes "judge")))
     (long_flag (codes "dumptasks")))
     (long_flag (codes "gen")))

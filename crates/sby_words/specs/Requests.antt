@@ -10,9 +10,10 @@ pub record JudgeRequest : Type 0 where
   pub depth : ℕ
   pub streams : List (List ℕ)
 
--- `FILE.sby [TASK ..]`: DIR where it is given, the task file's path, and the names of the tasks
+-- `FILE.sby [TASK ..]`: DIR where it is given, how many children may run at a time where it is given, the task file's path, and the names of the tasks
 pub record TaskRequest : Type 0 where
   pub directory : Option (List ℕ)
+  pub jobs : Option ℕ
   pub file : List ℕ
   pub names : List (List ℕ)
 

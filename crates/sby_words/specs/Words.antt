@@ -1,4 +1,4 @@
--- What the words of the command line ask: the flags, DIR and the list that `clap` finds in them, read form by form.
+-- What the words of the command line ask: the flags, DIR, M and the list that `clap` finds in them, read form by form.
 use Rattle.std.specs.Prelude.{◌≡◌, ◌≤◌, ◌↔◌, ℕ, Bool, true, false, List, [], ◌∷◌, ◌++◌, Option, Some, None, All, IfSome, IsTrue, codes}
 use Rattle.std.specs.Fmt.{decimal}
 use Rattle.clap.specs.Walk.{Row, all_of, first_of}
@@ -23,41 +23,53 @@ pub record IsNumber (from upto : ℕ) (word : List ℕ) (n : ℕ) : Type 0 where
   pub least : from ≤ n
   pub most : n ≤ upto
 
--- DIR and the list say `DESIGN MODE DEPTH [STREAM ..]`, with no BTOR2 witness among the streams
-pub record Judges (directory : Option (List ℕ)) (list : List (List ℕ)) (r : JudgeRequest) : Type 0 where
+-- M of `-j M` is a number from 1 to 64, where it is given
+abbrev pub IsLimit : Option (List ℕ) → Option ℕ → Type 0
+IsLimit (Some word) (Some n) = IsNumber 1 64 word n
+IsLimit None None = Unit {0}
+IsLimit (Some word) None = ⊥
+IsLimit None (Some n) = ⊥
+
+-- DIR and the list say `DESIGN MODE DEPTH [STREAM ..]`, with no BTOR2 witness among the streams. It has no `-j M`: it starts no child.
+pub record Judges (directory jobs : Option (List ℕ)) (list : List (List ℕ)) (r : JudgeRequest) : Type 0 where
   pub word : List ℕ
   pub parts : list ≡ r.design ∷ mode_word r.mode ∷ word ∷ r.streams
   pub depth : IsNumber 1 100000 word r.depth
   pub folder : IsFolder directory r.design r.folder
   pub certificates : All (λ stream. EndsIn (codes ".wit") stream → ⊥) r.streams
+  pub no_limit : jobs ≡ None
 
--- DIR and the list say `FILE.sby [TASK ..]`
-pub record Runs (directory : Option (List ℕ)) (list : List (List ℕ)) (r : TaskRequest) : Type 0 where
+-- DIR, M and the list say `FILE.sby [TASK ..]`
+pub record Runs (directory jobs : Option (List ℕ)) (list : List (List ℕ)) (r : TaskRequest) : Type 0 where
   pub parts : list ≡ r.file ∷ r.names
   pub stem : HasStem r.file
   pub option : r.directory ≡ directory
   pub placed : IfSome directory IsNamed
+  pub limit : IsLimit jobs r.jobs
 
 -- DIR and the list say `FILE.sby` of `--dumptasks`. It has no `-d DIR`: it names no folder, and `-f` alone is an option of every form.
-pub record Lists (directory : Option (List ℕ)) (list : List (List ℕ)) (file : List ℕ) : Type 0 where
+-- It has no `-j M`: it runs no task.
+pub record Lists (directory jobs : Option (List ℕ)) (list : List (List ℕ)) (file : List ℕ) : Type 0 where
   pub parts : list ≡ file ∷ []
   pub stem : HasStem file
   pub option : directory ≡ None
+  pub no_limit : jobs ≡ None
 
--- DIR and the list say `N` of `--gen`
-pub record Generates (directory : Option (List ℕ)) (list : List (List ℕ)) (r : GenRequest) : Type 0 where
+-- DIR and the list say `N` of `--gen`. It has no `-j M`: it runs one task.
+pub record Generates (directory jobs : Option (List ℕ)) (list : List (List ℕ)) (r : GenRequest) : Type 0 where
   pub word : List ℕ
   pub parts : list ≡ word ∷ []
   pub size : IsNumber 2 10000 word r.size
   pub option : r.directory ≡ directory
   pub placed : IfSome directory IsNamed
+  pub no_limit : jobs ≡ None
 
--- DIR and the list say what is asked
-abbrev pub Says : Option (List ℕ) → List (List ℕ) → Request → Type 0
-Says directory list (AskJudge r) = Judges directory list r
-Says directory list (AskTasks r) = Runs directory list r
-Says directory list (AskNames file) = Lists directory list file
-Says directory list (AskGen r) = Generates directory list r
+-- DIR, M and the list say what is asked
+abbrev pub Says : Option (List ℕ) → Option (List ℕ) → List (List ℕ) → Request → Type 0
+Says directory jobs list (AskJudge r) = Judges directory jobs list r
+Says directory jobs list (AskTasks r) = Runs directory jobs list r
+Says directory jobs list (AskNames file) = Lists directory jobs list file
+Says directory jobs list (AskGen r) = Generates directory jobs list r
 
 -- the form of what is asked
 abbrev pub form_of : Request → Form
@@ -79,12 +91,12 @@ HasForm rows Tasks = HasFlags rows false false false
 HasForm rows Names = HasFlags rows false true false
 HasForm rows Gen = HasFlags rows false false true
 
--- the matches ask this: their flags, DIR and list do
+-- the matches ask this: their flags, DIR, M and list do
 pub record Means (rows : List Row) (r : Request) : Type 0 where
   pub form : HasForm rows (form_of r)
   pub list : List (List ℕ)
   pub words : all_of (codes "words") rows ≡ Some list
-  pub says : Says (first_of (codes "folder") rows) list r
+  pub says : Says (first_of (codes "folder") rows) (first_of (codes "jobs") rows) list r
 
 -- the words are taken, and their matches ask this
 pub record Asks (words : List (List ℕ)) (r : Request) : Type 0 where
@@ -113,11 +125,16 @@ abbrev pub directory_words : Option (List ℕ) → List (List ℕ)
 directory_words None = []
 directory_words (Some directory) = codes "-d" ∷ directory ∷ []
 
+-- `-j M`, where it is given
+abbrev pub jobs_words : Option (List ℕ) → List (List ℕ)
+jobs_words None = []
+jobs_words (Some jobs) = codes "-j" ∷ jobs ∷ []
+
 -- `-f`, where it is given
 abbrev pub force_words : Bool → List (List ℕ)
 force_words true = codes "-f" ∷ []
 force_words false = []
 
--- `[-f] [-d DIR]`, the form's flag and its list
-abbrev pub plain_words : Bool → Option (List ℕ) → Form → List (List ℕ) → List (List ℕ)
-plain_words force directory form list = force_words force ++ (directory_words directory ++ (form_words form ++ list))
+-- `[-f] [-j M] [-d DIR]`, the form's flag and its list
+abbrev pub plain_words : Bool → Option (List ℕ) → Option (List ℕ) → Form → List (List ℕ) → List (List ℕ)
+plain_words force directory jobs form list = force_words force ++ (jobs_words jobs ++ (directory_words directory ++ (form_words form ++ list)))

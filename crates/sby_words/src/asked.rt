@@ -37,6 +37,8 @@ impl Model for JudgeWords {
 pub struct TaskWords {
     /// DIR where it is given. It isn't empty.
     pub directory: Option<String>,
+    /// How many children may run at a time, from 1 to 64, where it is given. Then the tasks run at the same time.
+    pub jobs: Option<u32>,
     /// The task file's path. Without a final `.sby` it isn't empty.
     pub file: String,
     /// The names of the tasks in the order of the words, and none where all tasks are asked.
@@ -51,6 +53,7 @@ impl Model for TaskWords {
 
     ghost view = { λ a. record {
       directory = option_map string_bytes a.directory;
+      jobs = a.jobs;
       file = string_bytes a.file;
       names = map string_bytes a.names.items;
     } };

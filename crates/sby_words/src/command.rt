@@ -3,7 +3,7 @@
 ghost use Rattle.std.specs.Prelude.{◌≡◌, IfOk, false};
 ghost use Rattle.clap.specs.Walk.{rule_of};
 ghost use Rattle.clap.specs.Simple.{app_of};
-ghost use Rattle.sby_words.specs.Command.{bare, command, long_flag, short_flag};
+ghost use Rattle.sby_words.specs.Command.{bare, command, long_flag, short_flag, short_option};
 
 use clap::{Arg, ArgAction, Command};
 use std::alloc::{AllocError, Global};
@@ -22,6 +22,13 @@ fn long_flag<'a>(alloc: Global, name: &'a str) -> Arg<'a>
     Arg::new(alloc, name).long(name).action(ArgAction::SetTrue)
 }
 
+fn short_option<'a>(alloc: Global, id: &'a str, letter: char) -> Arg<'a>
+    ensures rule { rule_of result ≡ short_option id.entry.now letter }
+    ensures local { result.global ≡ false }
+{
+    Arg::new(alloc, id).short(letter).action(ArgAction::Set)
+}
+
 fn bare<'a>(alloc: Global) -> Command<'a>
     ensures { app_of result ≡ bare }
 {
@@ -30,15 +37,15 @@ fn bare<'a>(alloc: Global) -> Command<'a>
         .disable_help_flag(true)
 }
 
-/// Four flags, one option, and one list of all other words.
+/// Four flags, two options, and one list of all other words.
 pub fn command<'a>(alloc: Global) -> Result<Command<'a>, AllocError>
     ensures { IfOk result (λ c. app_of c ≡ command) }
 {
-    let folder = Arg::new(alloc, "folder").short('d').action(ArgAction::Set);
     let words = Arg::new(alloc, "words").action(ArgAction::Append);
     bare(alloc)
         .arg(short_flag(alloc, "force", 'f'))?
-        .arg(folder)?
+        .arg(short_option(alloc, "folder", 'd'))?
+        .arg(short_option(alloc, "jobs", 'j'))?
         .arg(long_flag(alloc, "judge"))?
         .arg(long_flag(alloc, "dumptasks"))?
         .arg(long_flag(alloc, "gen"))?

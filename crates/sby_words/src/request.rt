@@ -1,6 +1,6 @@
 // What the matches of the words ask, form by form.
 
-ghost use Rattle.std.specs.Prelude.{◌≡◌, ◌↔◌, [], ℕ, List, All, IsTrue, IfOk, MatchOption, map, option_map, codes, string_bytes};
+ghost use Rattle.std.specs.Prelude.{◌≡◌, ◌↔◌, [], ℕ, List, Option, All, IsTrue, IfOk, MatchOption, map, option_map, codes, string_bytes};
 ghost use Rattle.clap.specs.Matches.{found_of};
 ghost use Rattle.clap.specs.Walk.{rows_of, texts};
 ghost use Rattle.sby_terms.specs.declared.names.Mode.{Mode};
@@ -8,7 +8,7 @@ ghost use Rattle.sby_words.specs.declared.form.Form.TheVariants as form;
 ghost use Rattle.sby_words.specs.Answers.{IsMeant, IsSaid, request_of};
 ghost use Rattle.sby_words.specs.Folders.{EndsIn};
 ghost use Rattle.sby_words.specs.Requests.{GenRequest, JudgeRequest, TaskRequest};
-ghost use Rattle.sby_words.specs.Words.{Generates, IsNumber, Judges, Lists, Runs, mode_word};
+ghost use Rattle.sby_words.specs.Words.{Generates, IsLimit, IsNumber, Judges, Lists, Runs, mode_word};
 
 use crate::asked::{Asked, GenWords, JudgeWords, TaskWords};
 use crate::folder::{has_stem, is_placed, judge_folder};
@@ -21,6 +21,9 @@ use std::alloc::{AllocError, Global};
 const MIN_SIZE: u32 = 2;
 
 const MAX_SIZE: u32 = 10_000;
+
+/// How many children may run at a time, at most.
+const MAX_JOBS: u32 = 64;
 
 /// The parts of `--judge`, where they stand in the words.
 #[derive(Clone, Copy)]
@@ -35,6 +38,7 @@ struct JudgeParts<'m, 'a> {
 /// The parts of a run, where they stand in the words.
 #[derive(Clone, Copy)]
 struct TaskParts<'m, 'a> {
+    jobs: Option<u32>,
     file: &'a str,
     names: &'m [&'a str],
 }
@@ -67,6 +71,28 @@ fn size_of(word: &str) -> Option<u32>
     }
 }
 
+fn count_of(word: &str) -> Option<u32>
+    ensures { MatchOption result ((count : ℕ) → IsNumber 1 64 word.now count → ⊥) (IsNumber 1 64 word.now) }
+{
+    numbers_are_decimal();
+    number_upto(MAX_JOBS, word.as_bytes())
+}
+
+// M where it is given, and `None` where it is no count.
+fn limit_of(jobs: Option<&str>) -> Option<Option<u32>>
+    ensures { MatchOption result
+        ((limit : Option ℕ) → IsLimit (option_map (λ s. s.now) jobs.entry) limit → ⊥)
+        (IsLimit (option_map (λ s. s.now) jobs.entry)) }
+{
+    match jobs {
+        Some(word) => match count_of(word) {
+            Some(count) => Some(Some(count)),
+            None => None,
+        },
+        None => Some(None),
+    }
+}
+
 fn is_witness(stream: &str) -> bool
     ensures { IsTrue result ↔ EndsIn (codes ".wit") stream.now }
 {
@@ -86,11 +112,12 @@ fn are_certificates(streams: &[&str]) -> bool
 
 fn judge_parts<'m, 'a>(
     directory: Option<&'a str>,
+    jobs: Option<&str>,
     list: &'m [&'a str],
 ) -> Option<JudgeParts<'m, 'a>>
     ensures { MatchOption result
-        ((r : JudgeRequest) → Judges (option_map (λ s. s.now) directory.entry) (texts list.entry.now) r → ⊥)
-        (λ p. Judges (option_map (λ s. s.now) directory.entry) (texts list.entry.now) (record {
+        ((r : JudgeRequest) → Judges (option_map (λ s. s.now) directory.entry) (option_map (λ s. s.now) jobs.entry) (texts list.entry.now) r → ⊥)
+        (λ p. Judges (option_map (λ s. s.now) directory.entry) (option_map (λ s. s.now) jobs.entry) (texts list.entry.now) (record {
           folder = p.folder.now;
           design = p.design.now;
           mode = p.mode;
@@ -101,6 +128,9 @@ fn judge_parts<'m, 'a>(
     let [design, mode, word, streams @ ..] = list else {
         return None;
     };
+    if jobs.is_some() {
+        return None;
+    }
     if !are_certificates(streams) {
         return None;
     }
@@ -122,11 +152,16 @@ fn judge_parts<'m, 'a>(
     })
 }
 
-fn task_parts<'m, 'a>(directory: Option<&'a str>, list: &'m [&'a str]) -> Option<TaskParts<'m, 'a>>
+fn task_parts<'m, 'a>(
+    directory: Option<&'a str>,
+    jobs: Option<&str>,
+    list: &'m [&'a str],
+) -> Option<TaskParts<'m, 'a>>
     ensures { MatchOption result
-        ((r : TaskRequest) → Runs (option_map (λ s. s.now) directory.entry) (texts list.entry.now) r → ⊥)
-        (λ p. Runs (option_map (λ s. s.now) directory.entry) (texts list.entry.now) (record {
+        ((r : TaskRequest) → Runs (option_map (λ s. s.now) directory.entry) (option_map (λ s. s.now) jobs.entry) (texts list.entry.now) r → ⊥)
+        (λ p. Runs (option_map (λ s. s.now) directory.entry) (option_map (λ s. s.now) jobs.entry) (texts list.entry.now) (record {
           directory = option_map (λ s. s.now) directory.entry;
+          jobs = p.jobs;
           file = p.file.now;
           names = texts p.names.now;
         })) }
@@ -137,27 +172,34 @@ fn task_parts<'m, 'a>(directory: Option<&'a str>, list: &'m [&'a str]) -> Option
     if !has_stem(file) || !is_placed(directory) {
         return None;
     }
-    Some(TaskParts { file, names })
+    let Some(jobs) = limit_of(jobs) else {
+        return None;
+    };
+    Some(TaskParts { jobs, file, names })
 }
 
-fn names_file<'a>(directory: Option<&'a str>, list: &[&'a str]) -> Option<&'a str>
+fn names_file<'a>(
+    directory: Option<&'a str>,
+    jobs: Option<&str>,
+    list: &[&'a str],
+) -> Option<&'a str>
     ensures { MatchOption result
-        ((file : List ℕ) → Lists (option_map (λ s. s.now) directory.entry) (texts list.entry.now) file → ⊥)
-        (λ file. Lists (option_map (λ s. s.now) directory.entry) (texts list.entry.now) file.now) }
+        ((file : List ℕ) → Lists (option_map (λ s. s.now) directory.entry) (option_map (λ s. s.now) jobs.entry) (texts list.entry.now) file → ⊥)
+        (λ file. Lists (option_map (λ s. s.now) directory.entry) (option_map (λ s. s.now) jobs.entry) (texts list.entry.now) file.now) }
 {
     let [file] = list else {
         return None;
     };
-    if !has_stem(file) || directory.is_some() {
+    if !has_stem(file) || directory.is_some() || jobs.is_some() {
         return None;
     }
     Some(file)
 }
 
-fn gen_size(directory: Option<&str>, list: &[&str]) -> Option<u32>
+fn gen_size(directory: Option<&str>, jobs: Option<&str>, list: &[&str]) -> Option<u32>
     ensures { MatchOption result
-        ((r : GenRequest) → Generates (option_map (λ s. s.now) directory.entry) (texts list.now) r → ⊥)
-        (λ size. Generates (option_map (λ s. s.now) directory.entry) (texts list.now) (record {
+        ((r : GenRequest) → Generates (option_map (λ s. s.now) directory.entry) (option_map (λ s. s.now) jobs.entry) (texts list.now) r → ⊥)
+        (λ size. Generates (option_map (λ s. s.now) directory.entry) (option_map (λ s. s.now) jobs.entry) (texts list.now) (record {
           directory = option_map (λ s. s.now) directory.entry;
           size = size;
         })) }
@@ -165,7 +207,7 @@ fn gen_size(directory: Option<&str>, list: &[&str]) -> Option<u32>
     let [word] = list else {
         return None;
     };
-    if !is_placed(directory) {
+    if !is_placed(directory) || jobs.is_some() {
         return None;
     }
     size_of(word)
@@ -193,11 +235,12 @@ fn owned_directory(alloc: Global, directory: Option<&str>) -> Result<Option<Stri
 fn judge_asked(
     alloc: Global,
     directory: Option<&str>,
+    jobs: Option<&str>,
     list: &[&str],
 ) -> Result<Option<Asked>, AllocError>
-    ensures { IfOk result (λ asked. IsSaid form.Judge (option_map (λ s. s.now) directory.entry) (texts list.now) (option_map request_of asked)) }
+    ensures { IfOk result (λ asked. IsSaid form.Judge (option_map (λ s. s.now) directory.entry) (option_map (λ s. s.now) jobs.entry) (texts list.now) (option_map request_of asked)) }
 {
-    let Some(parts) = judge_parts(directory, list) else {
+    let Some(parts) = judge_parts(directory, jobs, list) else {
         return Ok(None);
     };
     Ok(Some(Asked::Judge(JudgeWords {
@@ -212,15 +255,17 @@ fn judge_asked(
 fn tasks_asked(
     alloc: Global,
     directory: Option<&str>,
+    jobs: Option<&str>,
     list: &[&str],
 ) -> Result<Option<Asked>, AllocError>
-    ensures { IfOk result (λ asked. IsSaid form.Tasks (option_map (λ s. s.now) directory.entry) (texts list.now) (option_map request_of asked)) }
+    ensures { IfOk result (λ asked. IsSaid form.Tasks (option_map (λ s. s.now) directory.entry) (option_map (λ s. s.now) jobs.entry) (texts list.now) (option_map request_of asked)) }
 {
-    let Some(parts) = task_parts(directory, list) else {
+    let Some(parts) = task_parts(directory, jobs, list) else {
         return Ok(None);
     };
     Ok(Some(Asked::Tasks(TaskWords {
         directory: owned_directory(alloc, directory)?,
+        jobs: parts.jobs,
         file: String::from_str(alloc, parts.file)?,
         names: owned(alloc, parts.names)?,
     })))
@@ -229,11 +274,12 @@ fn tasks_asked(
 fn names_asked(
     alloc: Global,
     directory: Option<&str>,
+    jobs: Option<&str>,
     list: &[&str],
 ) -> Result<Option<Asked>, AllocError>
-    ensures { IfOk result (λ asked. IsSaid form.Names (option_map (λ s. s.now) directory.entry) (texts list.now) (option_map request_of asked)) }
+    ensures { IfOk result (λ asked. IsSaid form.Names (option_map (λ s. s.now) directory.entry) (option_map (λ s. s.now) jobs.entry) (texts list.now) (option_map request_of asked)) }
 {
-    let Some(file) = names_file(directory, list) else {
+    let Some(file) = names_file(directory, jobs, list) else {
         return Ok(None);
     };
     Ok(Some(Asked::Names(String::from_str(alloc, file)?)))
@@ -242,11 +288,12 @@ fn names_asked(
 fn gen_asked(
     alloc: Global,
     directory: Option<&str>,
+    jobs: Option<&str>,
     list: &[&str],
 ) -> Result<Option<Asked>, AllocError>
-    ensures { IfOk result (λ asked. IsSaid form.Gen (option_map (λ s. s.now) directory.entry) (texts list.now) (option_map request_of asked)) }
+    ensures { IfOk result (λ asked. IsSaid form.Gen (option_map (λ s. s.now) directory.entry) (option_map (λ s. s.now) jobs.entry) (texts list.now) (option_map request_of asked)) }
 {
-    let Some(size) = gen_size(directory, list) else {
+    let Some(size) = gen_size(directory, jobs, list) else {
         return Ok(None);
     };
     Ok(Some(Asked::Gen(GenWords {
@@ -266,10 +313,11 @@ pub fn asked_by(alloc: Global, matches: &ArgMatches<'_>) -> Result<Option<Asked>
         return Ok(None);
     };
     let directory = matches.get_str("folder");
+    let jobs = matches.get_str("jobs");
     match form {
-        Form::Judge => judge_asked(alloc, directory, list),
-        Form::Tasks => tasks_asked(alloc, directory, list),
-        Form::Names => names_asked(alloc, directory, list),
-        Form::Gen => gen_asked(alloc, directory, list),
+        Form::Judge => judge_asked(alloc, directory, jobs, list),
+        Form::Tasks => tasks_asked(alloc, directory, jobs, list),
+        Form::Names => names_asked(alloc, directory, jobs, list),
+        Form::Gen => gen_asked(alloc, directory, jobs, list),
     }
 }

@@ -13,7 +13,7 @@ use std::alloc::{AllocError, Global};
 
 /// What the words after the program's name ask, and `None` where they are refused: `clap` doesn't take them, or they are of
 /// none of the four forms. `-f` is taken in each form and changes nothing. MODE is `bmc`, `prove` or `cover`, DEPTH from 1 to
-/// `MAX_DEPTH`, N from 2 to 10,000, and neither DIR nor the stem of DESIGN or FILE may be empty.
+/// `MAX_DEPTH`, N from 2 to 10,000, M from 1 to 64, and neither DIR nor the stem of DESIGN or FILE may be empty.
 pub fn asked_of(alloc: Global, words: &[String]) -> Result<Option<Asked>, AllocError>
     ensures { IfOk result (λ asked. IsAsked (map string_bytes words.now) (option_map request_of asked)) }
 {
@@ -31,9 +31,9 @@ pub fn words_have_one_request()
     ensures { (words : List (List ℕ)) (a b : Option Request) → IsAsked words a → IsAsked words b → a ≡ b }
 {}
 
-/// Plain words of each form, with `-f` and `-d DIR` in front or without, ask what they say.
+/// Plain words of each form, with `-f`, `-j M` and `-d DIR` in front or without, ask what they say.
 pub fn plain_words_are_asked()
-    ensures { (force : Bool) (directory : Option (List ℕ)) (list : List (List ℕ)) (r : Request)
-        → IfSome directory IsPlain → All IsPlain list → Says directory list r
-        → IsAsked (plain_words force directory (form_of r) list) (Some r) }
+    ensures { (force : Bool) (directory jobs : Option (List ℕ)) (list : List (List ℕ)) (r : Request)
+        → IfSome directory IsPlain → IfSome jobs IsPlain → All IsPlain list → Says directory jobs list r
+        → IsAsked (plain_words force directory jobs (form_of r) list) (Some r) }
 {}

@@ -17,15 +17,16 @@ use Rattle.race_core.specs.declared.end.JobEnd.TheVariants as end
 use Rattle.race_core.specs.declared.event.Judged.{Judged}
 use Rattle.race_core.specs.declared.event.Judged.TheVariants as judged
 use Rattle.lane_run.specs.Reading.{Comes, IsProof, NotByFile}
-use Rattle.lane_run.specs.Starting.{IsFrontOf, NoStart, ReadsScript}
+use Rattle.lane_run.specs.Starting.{EndsWaiting, IsFrontOf, NoStart, ReadsScript}
 use Rattle.lane_run.proofs.Plains.{plain_bad, plain_found, plain_unknown}
 use Rattle.lane_run.proofs.Reasons.{called_by_look, skipped_by_look}
 use Rattle.lane_run.specs.Complete.{ComesTo}
 use Rattle.lane_run.specs.Started.{starts_upto}
 use Rattle.std.proofs.lemmas.Option.{slice_get_within}
+use Rattle.jobs_pool.specs.Places.{PoolOf}
 use Rattle.task_race.specs.Fates.{Ends, Proves, Stands, most_bytes, most_output, stays_law}
 use Rattle.task_race.specs.Serving.{IsServing}
-use Rattle.task_race.specs.Bays.{AreCountsOf, BackOf, YardAt, counts_in, none_failed}
+use Rattle.task_race.specs.Bays.{AreCountsOf, BackOf, YardAt, counts_in}
 use Rattle.task_race.proofs.BackLemmas.{counts_told}
 use Rattle.task_race.specs.Ends.{HasEndCause, IsJudgedAs, IsLimitShown, IsCalledOffBy, IsProofOf, IsSkippedBy, IsStreamOf, script_of}
 use Rattle.task_race.specs.Ran.{RacingOf, IsStart, LanesRan, Serves, evidence_in, job_count, name_in, terms_in}
@@ -71,8 +72,8 @@ limit_shown may_read (Some millis) (Some begun) t began may shows =
 above : (n : ℕ) → Rose 0 n → 0 < n
 above n rose = omega (rose, arith)
 
-module _ (racing : RacingOf) (may_read : ℕ → Type 0) (before now : YardAt) (start : Option ℕ) (reports : List (ReportOf FindingOf))
-    (ran : LanesRan racing may_read before now start reports) where
+module _ (racing : RacingOf) (pool : Option PoolOf) (may_read : ℕ → Type 0) (before now : YardAt) (start : Option ℕ) (reports : List (ReportOf FindingOf))
+    (ran : LanesRan racing pool may_read before now start reports) where
   -- what a lane's bay left
   pub back_of : (lane : ℕ) (r : ReportOf FindingOf) → slice_get reports lane ≡ Some r → (back : BackOf) × (slice_get ran.backs lane ≡ Some back)
   back_of lane r at = stands_at ran.backs lane (omega (slice_get_within reports lane r at, ran.consistent.lanes_are, ran.backs_are, arith))
@@ -84,8 +85,8 @@ module _ (racing : RacingOf) (may_read : ℕ → Type 0) (before now : YardAt) (
         (at_contains ran.backs lane back is) (ran.starts lane r back at is).told ran.logged;
   }
 
-module _ (racing : RacingOf) (may_read : ℕ → Type 0) (before now : YardAt) (start : Option ℕ) (reports : List (ReportOf FindingOf))
-    (ran : LanesRan racing may_read before now start reports) (lane place : ℕ) (r : ReportOf FindingOf) (back : BackOf) (at : slice_get reports lane ≡ Some r)
+module _ (racing : RacingOf) (pool : Option PoolOf) (may_read : ℕ → Type 0) (before now : YardAt) (start : Option ℕ) (reports : List (ReportOf FindingOf))
+    (ran : LanesRan racing pool may_read before now start reports) (lane place : ℕ) (r : ReportOf FindingOf) (back : BackOf) (at : slice_get reports lane ≡ Some r)
     (is_back : slice_get ran.backs lane ≡ Some back) (lt : place < job_count racing) where
   -- an end that ends no lane's work follows from the job's events
   replayed : (e : JobEnd FindingOf) → end_at r place ≡ e → (IsLast e → ⊥) → Replayed (Serves racing lane place) (terms_in racing start place) (KnewBy (events_at r) place) (events_at r place) e
@@ -99,14 +100,17 @@ module _ (racing : RacingOf) (may_read : ℕ → Type 0) (before now : YardAt) (
   of_problem e f is carries = (ran.consistent.carried lane place r f at lt (subst (λ (x : JobEnd FindingOf). Carries x f) (sym is) carries)).1.0
 
   -- an end of a child that ran, and what its reader read
-  read_out : (e : JobEnd FindingOf) → end_at r place ≡ e → (IsLast e → ⊥) → (NoStart e → ⊥) → (e ≡ end.StartFailed → ⊥)
+  read_out : (e : JobEnd FindingOf) → end_at r place ≡ e → (IsLast e → ⊥) → (NoStart e → ⊥) → (EndsWaiting e → ⊥) → (e ≡ end.StartFailed → ⊥)
       → ReadsScript (Stands racing.problem (name_in racing place) (evidence_in racing lane)) (Ends racing.problem (name_in racing place) (evidence_in racing lane))
       (Proves racing.problem (name_in racing place) (evidence_in racing lane)) (new_bay before.scripts racing.task lane) (name_in racing place) most_bytes (most_output (evidence_in racing lane))
       (events_at r place).reader
-  read_out e is goes_on started ran_on = elim ((ran.starts lane r back at is_back).each place lt) [
+  read_out e is goes_on started placed ran_on = elim ((ran.starts lane r back at is_back).each place lt) [
     | inl late ↦ absurd (goes_on (subst (λ (x : JobEnd FindingOf). IsLast x) (sym late.0.3 ∙ is) late.0.2))
     | inr own ↦ elim own [
-      | inl none ↦ absurd (started (subst (λ (x : JobEnd FindingOf). NoStart x) is none.0))
+      | inl none ↦ absurd (elim none.0 [
+        | inl unasked ↦ started (subst (λ (x : JobEnd FindingOf). NoStart x) is unasked)
+        | inr waits ↦ placed (subst (λ (x : JobEnd FindingOf). EndsWaiting x) is waits.1)
+      ])
       | inr some ↦ elim some [
         | inl failed ↦ absurd (ran_on (sym is ∙ failed.0))
         | inr child ↦ child.1
@@ -114,15 +118,15 @@ module _ (racing : RacingOf) (may_read : ℕ → Type 0) (before now : YardAt) (
     ]
   ]
 
-  judged_as : (said : Judged FindingOf) (e : JobEnd FindingOf) → end_at r place ≡ e → (IsLast e → ⊥) → (NoStart e → ⊥) → (e ≡ end.StartFailed → ⊥) → Serves racing lane place
+  judged_as : (said : Judged FindingOf) (e : JobEnd FindingOf) → end_at r place ≡ e → (IsLast e → ⊥) → (NoStart e → ⊥) → (EndsWaiting e → ⊥) → (e ≡ end.StartFailed → ⊥) → Serves racing lane place
       → ((output rest proof : List ℕ) → IsProofOf (script_of before.scripts racing.task lane (name_in racing place)) proof ⊎ ((proof ≡ []) × NotByFile (reader_of (events_at r place)))
       → Comes (Stands racing.problem (name_in racing place) (evidence_in racing lane)) (Ends racing.problem (name_in racing place) (evidence_in racing lane))
       (Proves racing.problem (name_in racing place) (evidence_in racing lane)) (rest ≡ []) output proof (reader_of (events_at r place))
       → ComesTo (Ends racing.problem (name_in racing place) (evidence_in racing lane)) (Proves racing.problem (name_in racing place) (evidence_in racing lane))
       (IsProofOf (script_of before.scripts racing.task lane (name_in racing place))) (output ++ rest) said)
       → IsJudgedAs racing before.scripts lane (name_in racing place) said
-  judged_as said e is goes_on started ran_on serves comes =
-      let read = read_out e is goes_on started ran_on in (
+  judged_as said e is goes_on started placed ran_on serves comes =
+      let read = read_out e is goes_on started placed ran_on in (
         serves,
         (
           read.output ++ read.rest,
@@ -133,7 +137,7 @@ module _ (racing : RacingOf) (may_read : ℕ → Type 0) (before now : YardAt) (
 
   found_cause : (f : FindingOf) → end_at r place ≡ end.Found f → IsJudgedAs racing before.scripts lane (name_in racing place) (judged.Found f)
   found_cause f is = elim (replayed (end.Found f) is (λ last. last)) [
-    | inl own ↦ judged_as (judged.Found f) (end.Found f) is (λ last. last) (λ none. none) (λ failed. cc) own.0
+    | inl own ↦ judged_as (judged.Found f) (end.Found f) is (λ last. last) (λ none. none) (λ waits. waits) (λ failed. cc) own.0
         (λ output rest proof got comes. plain_found (Stands racing.problem (name_in racing place) (evidence_in racing lane)) (Ends racing.problem (name_in racing place) (evidence_in racing lane))
         (Proves racing.problem (name_in racing place) (evidence_in racing lane)) (stays_law racing.problem (name_in racing place) (evidence_in racing lane))
         (IsProofOf (script_of before.scripts racing.task lane (name_in racing place))) output rest proof (output ++ rest) refl f (reader_of (events_at r place)) own.1 got comes)
@@ -142,7 +146,7 @@ module _ (racing : RacingOf) (may_read : ℕ → Type 0) (before now : YardAt) (
 
   unknown_cause : end_at r place ≡ end.Unknown → IsJudgedAs racing before.scripts lane (name_in racing place) judged.Unknown
   unknown_cause is = elim (replayed end.Unknown is (λ last. last)) [
-    | inl own ↦ judged_as judged.Unknown end.Unknown is (λ last. last) (λ none. none) (λ failed. cc) own.0
+    | inl own ↦ judged_as judged.Unknown end.Unknown is (λ last. last) (λ none. none) (λ waits. waits) (λ failed. cc) own.0
         (λ output rest proof got comes. plain_unknown (Stands racing.problem (name_in racing place) (evidence_in racing lane)) (Ends racing.problem (name_in racing place) (evidence_in racing lane))
         (Proves racing.problem (name_in racing place) (evidence_in racing lane)) (stays_law racing.problem (name_in racing place) (evidence_in racing lane))
         (IsProofOf (script_of before.scripts racing.task lane (name_in racing place))) output rest proof (output ++ rest) refl (reader_of (events_at r place)) own.1.0 got comes)
@@ -151,7 +155,7 @@ module _ (racing : RacingOf) (may_read : ℕ → Type 0) (before now : YardAt) (
 
   bad_cause : (number place_in : ℕ) → end_at r place ≡ end.Bad number place_in → IsJudgedAs racing before.scripts lane (name_in racing place) (judged.Bad number place_in)
   bad_cause number place_in is = elim (replayed (end.Bad number place_in) is (λ last. last)) [
-    | inl own ↦ judged_as (judged.Bad number place_in) (end.Bad number place_in) is (λ last. last) (λ none. none) (λ failed. cc) own.0
+    | inl own ↦ judged_as (judged.Bad number place_in) (end.Bad number place_in) is (λ last. last) (λ none. none) (λ waits. waits) (λ failed. cc) own.0
         (λ output rest proof got comes. plain_bad (Stands racing.problem (name_in racing place) (evidence_in racing lane)) (Ends racing.problem (name_in racing place) (evidence_in racing lane))
         (Proves racing.problem (name_in racing place) (evidence_in racing lane)) (stays_law racing.problem (name_in racing place) (evidence_in racing lane))
         (IsProofOf (script_of before.scripts racing.task lane (name_in racing place))) output rest proof (output ++ rest) refl number place_in (reader_of (events_at r place)) own.1.0 got comes)
@@ -212,14 +216,14 @@ module _ (racing : RacingOf) (may_read : ℕ → Type 0) (before now : YardAt) (
   end_cause end.Memory is = tt
 
 -- the cause of an end, with the counts of the lane's bay
-pub lane_cause : (racing : RacingOf) (may_read : ℕ → Type 0) (before now : YardAt) (start : Option ℕ) (reports : List (ReportOf FindingOf)) → LanesRan racing may_read before now start reports
+pub lane_cause : (racing : RacingOf) {pool : Option PoolOf} (may_read : ℕ → Type 0) (before now : YardAt) (start : Option ℕ) (reports : List (ReportOf FindingOf)) → LanesRan racing pool may_read before now start reports
     → (lane place : ℕ) (r : ReportOf FindingOf) → slice_get reports lane ≡ Some r → place < job_count racing → (e : JobEnd FindingOf) → end_at r place ≡ e
     → (counts : CountsOf) × AreCountsOf racing.task lane before now counts × HasEndCause racing may_read before.scripts counts start lane (name_in racing place) e
-lane_cause racing may_read before now start reports ran lane place r at lt e is =
-    let back = back_of racing may_read before now start reports ran lane r at in (
+lane_cause racing {pool} may_read before now start reports ran lane place r at lt e is =
+    let back = back_of racing pool may_read before now start reports ran lane r at in (
       back.0.counts,
-      counts_of_lane racing may_read before now start reports ran lane r back.0 at back.1,
-      end_cause racing may_read before now start reports ran lane place r back.0 at back.1 lt e is,
+      counts_of_lane racing pool may_read before now start reports ran lane r back.0 at back.1,
+      end_cause racing pool may_read before now start reports ran lane place r back.0 at back.1 lt e is,
     )
 
 -- ---- stops
@@ -232,9 +236,9 @@ not_past (e ∷ ends) (suc place) t is = let rest = not_past ends place t is in 
 given : (may_read : ℕ → Type 0) (limit start : Option ℕ) (t : ℕ) → IsLimitShown may_read limit start t → IsSome start × IsSome limit
 given may_read limit start t shown = (subst (λ (o : Option ℕ). IsSome o) (sym shown.start_is) refl, subst (λ (o : Option ℕ). IsSome o) (sym shown.limit_is) refl)
 
-pub limited : (racing : RacingOf) (may_read : ℕ → Type 0) (before now : YardAt) (start : Option ℕ) (reports : List (ReportOf FindingOf))
-    → LanesRan racing may_read before now start reports → (r : ReportOf FindingOf) (place t : ℕ) → Contains reports r → end_at r place ≡ end.Stopped t → IsSome start × IsSome racing.limit
-limited racing may_read before now start reports ran r place t among is =
+pub limited : (racing : RacingOf) {pool : Option PoolOf} (may_read : ℕ → Type 0) (before now : YardAt) (start : Option ℕ) (reports : List (ReportOf FindingOf))
+    → LanesRan racing pool may_read before now start reports → (r : ReportOf FindingOf) (place t : ℕ) → Contains reports r → end_at r place ≡ end.Stopped t → IsSome start × IsSome racing.limit
+limited racing {pool} may_read before now start reports ran r place t among is =
     let at = contains_at reports r among in
     let within : place < job_count racing = omega (not_past r.ends place t is, (ran.consistent.replays among.0 r at).ends, arith) in
-    given may_read racing.limit start t (stopped_cause racing may_read before now start reports ran among.0 place r (back_of racing may_read before now start reports ran among.0 r at).0 at (back_of racing may_read before now start reports ran among.0 r at).1 within t is)
+    given may_read racing.limit start t (stopped_cause racing pool may_read before now start reports ran among.0 place r (back_of racing pool may_read before now start reports ran among.0 r at).0 at (back_of racing pool may_read before now start reports ran among.0 r at).1 within t is)

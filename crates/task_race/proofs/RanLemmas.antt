@@ -2,6 +2,7 @@
 use Rattle.std.proofs.Common.{◌≡◌, ℕ, ◌<◌, List, length, map, refl, sym, subst, ◌∙◌, arith}
 use Rattle.std.specs.Prelude.{Option, Some, None, All, Contains, IfSome, slice_get, unwrap_or}
 use Rattle.std.proofs.lemmas.Option.{slice_get_within}
+use Rattle.jobs_pool.specs.Places.{PoolOf}
 use Rattle.sby_edge.specs.Cause.{CountsOf}
 use Rattle.sby_edge.specs.Child.{BayOf, IsLogged, YardOf, new_bay}
 use Rattle.judge.specs.Finding.{FindingOf, IsTrueFinding}
@@ -28,7 +29,7 @@ use Rattle.task_race.proofs.PlaceLemmas.{all_at, at_map, contains_at, stands_at}
 use Rattle.task_race.proofs.WonLemmas.{winner_finds}
 use Rattle.std.proofs.lemmas.List.{get_or_default, length-map}
 
-module _ {B : Type 0} (counts : B → CountsOf) (tells : B → Option BayOf) (racing : RacingOf) (may_read : ℕ → Type 0) (before now : YardAt) (start : Option ℕ)
+module _ {B : Type 0} (counts : B → CountsOf) (tells : B → Option BayOf) (racing : RacingOf) (pool : Option PoolOf) (may_read : ℕ → Type 0) (before now : YardAt) (start : Option ℕ)
     (bays backs : List B) (reports : List (ReportOf FindingOf))
     (consistent : AreConsistent racing start reports)
     (many : length bays ≡ length racing.engines) (same : length backs ≡ length bays)
@@ -59,14 +60,14 @@ module _ {B : Type 0} (counts : B → CountsOf) (tells : B → Option BayOf) (ra
       subst (λ (x : BackOf). LaneFaults none_failed x.counts (job_count racing) r) (left_of lane d.0 back d.1 is)
       (subst (λ (c : CountsOf). LaneFaults c (counts d.0) (job_count racing) r) (fresh lane b.0 b.1).1 (faults lane b.0 d.0 r b.1 d.1 at))
 
-  lane_starts : ((i : ℕ) (b d : B) (q : ReportOf FindingOf) → slice_get bays i ≡ Some b → slice_get backs i ≡ Some d → slice_get reports i ≡ Some q → AreStarts racing (tells b) (tells d) i q)
-      → EachBack reports (map view backs) (λ lane r back. AreStarts racing (new_bay before.scripts racing.task lane) back.told lane r)
+  lane_starts : ((i : ℕ) (b d : B) (q : ReportOf FindingOf) → slice_get bays i ≡ Some b → slice_get backs i ≡ Some d → slice_get reports i ≡ Some q → AreStarts racing pool (tells b) (tells d) i q)
+      → EachBack reports (map view backs) (λ lane r back. AreStarts racing pool (new_bay before.scripts racing.task lane) back.told lane r)
   unfolding view
   lane_starts starts = λ lane r back at is.
       let b = bay_of lane r at in
       let d = back_of lane r at in
-      subst (λ (x : BackOf). AreStarts racing (new_bay before.scripts racing.task lane) x.told lane r) (left_of lane d.0 back d.1 is)
-      (subst (λ (was : Option BayOf). AreStarts racing was (tells d.0) lane r) (fresh lane b.0 b.1).0 (starts lane b.0 d.0 r b.1 d.1 at))
+      subst (λ (x : BackOf). AreStarts racing pool (new_bay before.scripts racing.task lane) x.told lane r) (left_of lane d.0 back d.1 is)
+      (subst (λ (was : Option BayOf). AreStarts racing pool was (tells d.0) lane r) (fresh lane b.0 b.1).0 (starts lane b.0 d.0 r b.1 d.1 at))
 
   -- what an end carries is of the problem
   carried_problem : (r : ReportOf FindingOf) (f : FindingOf) → Contains reports r → CarriedIn r.ends f → f.problem ≡ racing.problem.problem
@@ -79,11 +80,11 @@ module _ {B : Type 0} (counts : B → CountsOf) (tells : B → Option BayOf) (ra
   pub lanes_ran : IsStart may_read racing.limit start → (notes : List (NoteOf FindingOf)) → AreDone racing may_read start notes reports
       → ((r : ReportOf FindingOf) (f : FindingOf) → Contains reports r → CarriedIn r.ends f → IsTrueFinding f)
       → ((i : ℕ) (b d : B) (q : ReportOf FindingOf) → slice_get bays i ≡ Some b → slice_get backs i ≡ Some d → slice_get reports i ≡ Some q → LaneFaults (counts b) (counts d) (job_count racing) q)
-      → ((i : ℕ) (b d : B) (q : ReportOf FindingOf) → slice_get bays i ≡ Some b → slice_get backs i ≡ Some d → slice_get reports i ≡ Some q → AreStarts racing (tells b) (tells d) i q)
+      → ((i : ℕ) (b d : B) (q : ReportOf FindingOf) → slice_get bays i ≡ Some b → slice_get backs i ≡ Some d → slice_get reports i ≡ Some q → AreStarts racing pool (tells b) (tells d) i q)
       → All (λ q. LaneStops may_read (limit_from racing start) (job_count racing) q) reports
       → CameBack (map counts backs) before.counts now.counts
       → IsLogged (left_all (map (λ b. record { told = tells b; counts = counts b }) backs)) before.started now.started
-      → LanesRan racing may_read before now start reports
+      → LanesRan racing pool may_read before now start reports
   unfolding view
   lanes_ran began notes done are_true faults starts stopped back logged = record {
     backs = map view backs;
@@ -100,19 +101,19 @@ module _ {B : Type 0} (counts : B → CountsOf) (tells : B → Option BayOf) (ra
   }
 
 -- what lanes leave that were raced in new bays of these scripts, wherever the bays come back
-pub have_raced : {B : Type 0} (counts : B → CountsOf) (tells : B → Option BayOf) (racing : RacingOf) (may_read : ℕ → Type 0) (scripts : Option YardOf) (start : Option ℕ)
+pub have_raced : {B : Type 0} (counts : B → CountsOf) (tells : B → Option BayOf) (racing : RacingOf) (pool : Option PoolOf) (may_read : ℕ → Type 0) (scripts : Option YardOf) (start : Option ℕ)
     (bays backs : List B) (reports : List (ReportOf FindingOf))
     → AreNew scripts racing.task (map (λ b. record { told = tells b; counts = counts b }) bays)
     → AreConsistent racing start reports → length bays ≡ length racing.engines → length backs ≡ length bays
     → IsStart may_read racing.limit start → (notes : List (NoteOf FindingOf)) → AreDone racing may_read start notes reports
     → ((r : ReportOf FindingOf) (f : FindingOf) → Contains reports r → CarriedIn r.ends f → IsTrueFinding f)
     → ((i : ℕ) (b d : B) (q : ReportOf FindingOf) → slice_get bays i ≡ Some b → slice_get backs i ≡ Some d → slice_get reports i ≡ Some q → LaneFaults (counts b) (counts d) (job_count racing) q)
-    → ((i : ℕ) (b d : B) (q : ReportOf FindingOf) → slice_get bays i ≡ Some b → slice_get backs i ≡ Some d → slice_get reports i ≡ Some q → AreStarts racing (tells b) (tells d) i q)
+    → ((i : ℕ) (b d : B) (q : ReportOf FindingOf) → slice_get bays i ≡ Some b → slice_get backs i ≡ Some d → slice_get reports i ≡ Some q → AreStarts racing pool (tells b) (tells d) i q)
     → All (λ q. LaneStops may_read (limit_from racing start) (job_count racing) q) reports
-    → HaveRaced racing may_read scripts start reports (map (λ b. record { told = tells b; counts = counts b }) backs)
-have_raced {B} counts tells racing may_read scripts start bays backs reports new consistent many same began notes done are_true faults starts stopped = λ before now is back logged.
+    → HaveRaced racing pool may_read scripts start reports (map (λ b. record { told = tells b; counts = counts b }) backs)
+have_raced {B} counts tells racing pool may_read scripts start bays backs reports new consistent many same began notes done are_true faults starts stopped = λ before now is back logged.
     let view : B → BackOf = λ b. record { told = tells b; counts = counts b } in
-    lanes_ran counts tells racing may_read before now start bays backs reports consistent many same
+    lanes_ran counts tells racing pool may_read before now start bays backs reports consistent many same
     (λ lane b at. subst (λ (s : Option YardOf). (tells b ≡ new_bay s racing.task lane) × (counts b ≡ none_failed)) (sym is) (new lane (view b) (at_map view bays lane b at)))
     began notes done are_true faults starts stopped
     (subst (λ (parts : List CountsOf). CameBack parts before.counts now.counts) (counts_left view counts backs (λ b. refl)) back) logged
@@ -153,13 +154,13 @@ module _ (racing : RacingOf) (start : Option ℕ) (mode : Mode) (begun jobs : �
       (subst (λ (n : ℕ). LanesDone (IsFor problem_in job_in racing.problem.problem mode) (λ lane place. IsServed racing.engines racing.problem lane (name_at mode place))
       (λ place. terms_of job_in answer_in (terms_at mode (record { start = begun; millis = racing.limit; wait = racing.wait }) place)) may_read n notes reports) jobs_are done))
 
-  pub raced_starts : (before now : Option BayOf) (lane : ℕ) (r : ReportOf FindingOf)
-      → LaneStarts (words_in racing lane) (file_of racing.problem)
-      (λ job. Stands racing.problem job (evidence_in racing lane)) (λ job. Ends racing.problem job (evidence_in racing lane)) (λ job. Proves racing.problem job (evidence_in racing lane)) most_bytes (most_output (evidence_in racing lane)) mode before now jobs r → AreStarts racing before now lane r
-  raced_starts before now lane r starts =
-      subst (λ (m : Mode). LaneStarts (words_in racing lane) (file_of racing.problem)
+  pub raced_starts : (pool : Option PoolOf) (before now : Option BayOf) (lane : ℕ) (r : ReportOf FindingOf)
+      → LaneStarts pool (words_in racing lane) (file_of racing.problem)
+      (λ job. Stands racing.problem job (evidence_in racing lane)) (λ job. Ends racing.problem job (evidence_in racing lane)) (λ job. Proves racing.problem job (evidence_in racing lane)) most_bytes (most_output (evidence_in racing lane)) mode before now jobs r → AreStarts racing pool before now lane r
+  raced_starts pool before now lane r starts =
+      subst (λ (m : Mode). LaneStarts pool (words_in racing lane) (file_of racing.problem)
       (λ job. Stands racing.problem job (evidence_in racing lane)) (λ job. Ends racing.problem job (evidence_in racing lane)) (λ job. Proves racing.problem job (evidence_in racing lane)) most_bytes (most_output (evidence_in racing lane)) m before now (job_count racing) r) mode_is
-      (subst (λ (n : ℕ). LaneStarts (words_in racing lane) (file_of racing.problem)
+      (subst (λ (n : ℕ). LaneStarts pool (words_in racing lane) (file_of racing.problem)
       (λ job. Stands racing.problem job (evidence_in racing lane)) (λ job. Ends racing.problem job (evidence_in racing lane)) (λ job. Proves racing.problem job (evidence_in racing lane)) most_bytes (most_output (evidence_in racing lane)) mode before now n r) jobs_are starts)
 
   pub raced_stopped : (may_read : ℕ → Type 0) (reports : List (ReportOf FindingOf))

@@ -1,5 +1,6 @@
 -- What the lanes of a task leave.
 use Rattle.std.specs.Prelude.{◌≡◌, ℕ, Bool, List, Option, None, Some, length, map, slice_get, unwrap_or}
+use Rattle.jobs_pool.specs.Places.{PoolOf}
 use Rattle.sby_edge.specs.Child.{BayOf, IsLogged, YardOf, new_bay}
 use Rattle.sby_edge.specs.Files.{Store}
 use Rattle.sby_terms.specs.Path.{job_path}
@@ -107,10 +108,11 @@ abbrev pub words_in : RacingOf → ℕ → JobName → List (List ℕ)
 words_in racing lane job = words_at (slice_get racing.engines lane) (job_path racing.folder (slices_of racing.problem.problem.span) job)
     (proof_path racing.folder lane (slices_of racing.problem.problem.span) job)
 
--- The starts of a lane's jobs, with the words of its engine line, over the scripts that are told for it, up to what its bay tells then.
-abbrev pub AreStarts : RacingOf → Option BayOf → Option BayOf → ℕ → ReportOf FindingOf → Type 0
-AreStarts racing before now lane r =
-    LaneStarts (words_in racing lane) (file_of racing.problem)
+-- The starts of a lane's jobs, with the words of its engine line, under the allowance of this pool, or none, over the scripts that are told
+-- for it, up to what its bay tells then.
+abbrev pub AreStarts : RacingOf → Option PoolOf → Option BayOf → Option BayOf → ℕ → ReportOf FindingOf → Type 0
+AreStarts racing pool before now lane r =
+    LaneStarts pool (words_in racing lane) (file_of racing.problem)
     (λ job. Stands racing.problem job (evidence_in racing lane)) (λ job. Ends racing.problem job (evidence_in racing lane)) (λ job. Proves racing.problem job (evidence_in racing lane))
     most_bytes (most_output (evidence_in racing lane)) racing.problem.problem.mode before now (job_count racing) r
 
@@ -118,10 +120,10 @@ AreStarts racing before now lane r =
 abbrev pub EachBack : List (ReportOf FindingOf) → List BackOf → (ℕ → ReportOf FindingOf → BackOf → Type 0) → Type 0
 EachBack reports backs P = (lane : ℕ) (r : ReportOf FindingOf) (back : BackOf) → slice_get reports lane ≡ Some r → slice_get backs lane ≡ Some back → P lane r back
 
--- What lanes that started at this reading report, over their yard at two moments. What they carry is true; their bays came back, one for
+-- What lanes that started at this reading report, under the allowance of this pool, or none, over their yard at two moments. What they carry is true; their bays came back, one for
 -- each engine line, and the yard counts their failed calls and tells what they left; an end that tells of a failed call comes only where
 -- the lane's own bay counted one; what each started is what its bay left; and they stop by readings alone which the clock may give.
-pub record LanesRan (racing : RacingOf) (may_read : ℕ → Type 0) (before now : YardAt) (start : Option ℕ) (reports : List (ReportOf FindingOf)) : Type 0 where
+pub record LanesRan (racing : RacingOf) (pool : Option PoolOf) (may_read : ℕ → Type 0) (before now : YardAt) (start : Option ℕ) (reports : List (ReportOf FindingOf)) : Type 0 where
   pub start_is : IsStart may_read racing.limit start
   pub consistent : AreConsistent racing start reports
   pub done : (notes : List (NoteOf FindingOf)) × AreDone racing may_read start notes reports
@@ -131,16 +133,16 @@ pub record LanesRan (racing : RacingOf) (may_read : ℕ → Type 0) (before now 
   pub came_back : CameBack (map counts_in backs) before.counts now.counts
   pub logged : IsLogged (left_all backs) before.started now.started
   pub faults : EachBack reports backs (λ lane r back. LaneFaults none_failed back.counts (job_count racing) r)
-  pub starts : EachBack reports backs (λ lane r back. AreStarts racing (new_bay before.scripts racing.task lane) back.told lane r)
+  pub starts : EachBack reports backs (λ lane r back. AreStarts racing pool (new_bay before.scripts racing.task lane) back.told lane r)
   pub stopped : EachLane reports (λ lane r. LaneStops may_read (limit_from racing start) (job_count racing) r)
 
 -- the store has the file of each job, at its path in the work folder
 abbrev pub HasJobFiles : RacingOf → Store → Type 0
 HasJobFiles racing store = (job : JobName) (file : List ℕ) → IsJobFile racing.problem job file → store (job_path racing.folder (slices_of racing.problem.problem.span) job) ≡ Some file
 
--- Lanes were raced in bays of these scripts, and left these reports and these bays: wherever the bays come back to their yard, that is what
+-- Lanes were raced under this allowance, or none, in bays of these scripts, and left these reports and these bays: wherever the bays come back to their yard, that is what
 -- lanes leave that ran.
-abbrev pub HaveRaced : RacingOf → (ℕ → Type 0) → Option YardOf → Option ℕ → List (ReportOf FindingOf) → List BackOf → Type 0
-HaveRaced racing may_read scripts start reports backs =
+abbrev pub HaveRaced : RacingOf → Option PoolOf → (ℕ → Type 0) → Option YardOf → Option ℕ → List (ReportOf FindingOf) → List BackOf → Type 0
+HaveRaced racing pool may_read scripts start reports backs =
     (before now : YardAt) → before.scripts ≡ scripts → CameBack (map counts_in backs) before.counts now.counts → IsLogged (left_all backs) before.started now.started
-    → LanesRan racing may_read before now start reports
+    → LanesRan racing pool may_read before now start reports

@@ -21,5 +21,5 @@ pub use laws::{
 };
 pub use prepare::{PreparedRace, cancel_race, prepare_race};
 pub use racing::{Racing, RanLanes, race_task};
-pub use run::{RacedLanes, finish_race, run_race};
+pub use run::{RacedLanes, finish_race, race_prepared, run_race};
 pub use subject::JobJudge;

@@ -1,6 +1,6 @@
 // The race of a task's lanes.
 
-ghost use Rattle.std.specs.Prelude.{◌≡◌, IfOk, OnErr, Some};
+ghost use Rattle.std.specs.Prelude.{◌≡◌, IfOk, None, OnErr, Some};
 ghost use Rattle.sby_edge.specs.Files.{Store};
 ghost use Rattle.task_race.specs.Bays.{AreLater, NoneStarted, counts_at, yard_at};
 ghost use Rattle.task_race.specs.Ran.{HasJobFiles, LanesRan, racing_seen};
@@ -8,6 +8,7 @@ ghost use Rattle.task_race.specs.Ran.{HasJobFiles, LanesRan, racing_seen};
 use crate::prepare::prepare_race;
 use crate::run::{finish_race, run_race};
 use judge::{Finding, Problem};
+use lane_berth::Allowance;
 use race_core::Report;
 use sby_edge::{Clock, Files, Yard};
 use sby_terms::Engine;
@@ -47,13 +48,15 @@ pub fn race_task<R: Threads + Wait + Sync, F: Files, Y: Yard, C: Clock>(
     requires files { (store : Store) → F.told files.now ≡ Some store → HasJobFiles (racing_seen racing.now) store }
     ensures told { Y.told yard.new ≡ Y.told yard.old }
     ensures later { AreLater (counts_at (Y.start_faults yard.old) (Y.read_faults yard.old) (Y.hold_faults yard.old)) (counts_at (Y.start_faults yard.new) (Y.read_faults yard.new) (Y.hold_faults yard.new)) }
-    ensures ran { IfOk result (λ ran. LanesRan (racing_seen racing.now) (C.may_read clock.now)
+    ensures ran { IfOk result (λ ran. LanesRan (racing_seen racing.now) None (C.may_read clock.now)
         (yard_at (Y.told yard.old) (Y.started yard.old) (counts_at (Y.start_faults yard.old) (Y.read_faults yard.old) (Y.hold_faults yard.old)))
         (yard_at (Y.told yard.new) (Y.started yard.new) (counts_at (Y.start_faults yard.new) (Y.read_faults yard.new) (Y.hold_faults yard.new))) ran.start ran.reports.items) }
     ensures memory { OnErr result (NoneStarted (yard_at (Y.told yard.old) (Y.started yard.old) (counts_at (Y.start_faults yard.old) (Y.read_faults yard.old) (Y.hold_faults yard.old)))
         (yard_at (Y.told yard.new) (Y.started yard.new) (counts_at (Y.start_faults yard.new) (Y.read_faults yard.new) (Y.hold_faults yard.new)))) }
 {
-    let prepared = prepare_race(alloc, yard, racing)?;
-    let raced = run_race(rt, alloc, files, clock, racing, prepared);
+    let mut alone = Allowance::none();
+    let prepared = prepare_race(alloc, yard, racing, &mut alone);
+    alone.end();
+    let raced = run_race(rt, alloc, files, clock, racing, prepared?);
     Ok(finish_race(yard, raced))
 }

@@ -1,10 +1,11 @@
 // The race of a task's lanes, once all memory for it is taken.
 
-ghost use Rattle.std.specs.Prelude.{◌≡◌, ℕ, All, None, Option, Some, length, map, slice_get};
+ghost use Rattle.std.specs.Prelude.{◌≡◌, ℕ, All, Option, Some, length, map, slice_get};
+ghost use Rattle.jobs_pool.specs.Places.{PoolOf};
 ghost use Rattle.judge.specs.Finding.{FindingOf};
 ghost use Rattle.race_core.specs.Report.{ReportOf};
 ghost use Rattle.lane_run.specs.Done.{LaneFaults, LaneStops};
-ghost use Rattle.lane_run.specs.Raced.{AreReady, bays_of};
+ghost use Rattle.lane_run.specs.Raced.{AreReady, bays_of, pool_of};
 ghost use Rattle.sby_edge.specs.Child.{IsLogged, YardOf};
 ghost use Rattle.sby_edge.specs.Files.{Store};
 ghost use Rattle.task_race.specs.Bays.{CameBack, counts_at, left_all};
@@ -48,7 +49,7 @@ fn race_lanes<R: Threads + Wait + Sync, L: Launch + Send, C: Clock>(
     racing: &Racing<'_>,
     start: Option<u64>,
     cells: &Cells<Finding>,
-    lanes: FreshLanes<L, Finding>,
+    lanes: FreshLanes<'_, L, Finding>,
 ) -> Raced<L, Finding>
     requires cells { length cells.now ≡ job_count (racing_seen racing.now) }
     requires ready { AreReady cells.now lanes }
@@ -56,11 +57,11 @@ fn race_lanes<R: Threads + Wait + Sync, L: Launch + Send, C: Clock>(
     requires start { IsStart (C.may_read clock.now) racing.now.limit start }
     ensures consistent { AreConsistent (racing_seen racing.now) start result.reports.items }
     ensures done { AreDone (racing_seen racing.now) (C.may_read clock.now) start result.notes result.reports.items }
-    ensures bays { length result.bays.items ≡ length (bays_of lanes) }
-    ensures faults { (i : ℕ) (b d : L) (q : ReportOf FindingOf) → slice_get (bays_of lanes) i ≡ Some b → slice_get result.bays.items i ≡ Some d → slice_get result.reports.items i ≡ Some q
+    ensures bays { length result.bays.items ≡ length (bays_of lanes.entry) }
+    ensures faults { (i : ℕ) (b d : L) (q : ReportOf FindingOf) → slice_get (bays_of lanes.entry) i ≡ Some b → slice_get result.bays.items i ≡ Some d → slice_get result.reports.items i ≡ Some q
         → LaneFaults (counts_at (L.start_faults b) (L.read_faults b) (L.hold_faults b)) (counts_at (L.start_faults d) (L.read_faults d) (L.hold_faults d)) (job_count (racing_seen racing.now)) q }
-    ensures starts { (i : ℕ) (b d : L) (q : ReportOf FindingOf) → slice_get (bays_of lanes) i ≡ Some b → slice_get result.bays.items i ≡ Some d → slice_get result.reports.items i ≡ Some q
-        → AreStarts (racing_seen racing.now) (L.told b) (L.told d) i q }
+    ensures starts { (i : ℕ) (b d : L) (q : ReportOf FindingOf) → slice_get (bays_of lanes.entry) i ≡ Some b → slice_get result.bays.items i ≡ Some d → slice_get result.reports.items i ≡ Some q
+        → AreStarts (racing_seen racing.now) (pool_of lanes.entry) (L.told b) (L.told d) i q }
     ensures stopped { All (λ q. LaneStops (C.may_read clock.now) (limit_from (racing_seen racing.now) start) (job_count (racing_seen racing.now)) q) result.reports.items }
 {
     let makes = ProblemLanes {
@@ -82,19 +83,18 @@ fn race_lanes<R: Threads + Wait + Sync, L: Launch + Send, C: Clock>(
     race_fresh(rt, alloc, &task, lanes)
 }
 
-/// Runs the lanes of a prepared race to their ends. A store that tells has the files of all jobs before.
-pub fn run_race<R: Threads + Wait + Sync, F: Files, L: Launch + Send, C: Clock>(
+/// Runs the lanes of a prepared race to their ends.
+pub fn race_prepared<R: Threads + Wait + Sync, L: Launch + Send, C: Clock>(
     rt: &R,
     alloc: Global,
-    files: &F,
     clock: &C,
     racing: &Racing<'_>,
-    prepared: PreparedRace<L>,
+    prepared: PreparedRace<'_, L>,
 ) -> RacedLanes<L>
-    requires files { (store : Store) → F.told files.now ≡ Some store → HasJobFiles (racing_seen racing.now) store }
-    requires prepared { IsPrepared (racing_seen racing.now) prepared }
-    ensures { (scripts : Option YardOf) → AreNew scripts racing.now.task (map (λ b. record { told = L.told b; counts = counts_at (L.start_faults b) (L.read_faults b) (L.hold_faults b) }) (bays_in prepared))
-        → HaveRaced (racing_seen racing.now) (C.may_read clock.now) scripts result.ran.start result.ran.reports.items (map (λ b. record { told = L.told b; counts = counts_at (L.start_faults b) (L.read_faults b) (L.hold_faults b) }) result.bays.items) }
+    requires prepared { (pool : Option PoolOf) × IsPrepared (racing_seen racing.now) pool prepared }
+    ensures { (pool : Option PoolOf) (scripts : Option YardOf) → IsPrepared (racing_seen racing.now) pool prepared.entry
+        → AreNew scripts racing.now.task (map (λ b. record { told = L.told b; counts = counts_at (L.start_faults b) (L.read_faults b) (L.hold_faults b) }) (bays_in prepared.entry))
+        → HaveRaced (racing_seen racing.now) pool (C.may_read clock.now) scripts result.ran.start result.ran.reports.items (map (λ b. record { told = L.told b; counts = counts_at (L.start_faults b) (L.read_faults b) (L.hold_faults b) }) result.bays.items) }
 {
     let PreparedRace { cells, lanes } = prepared;
     let start = start_of(clock, racing.limit);
@@ -108,6 +108,24 @@ pub fn run_race<R: Threads + Wait + Sync, F: Files, L: Launch + Send, C: Clock>(
         bays,
         ran: RanLanes { reports, start },
     }
+}
+
+/// Runs the lanes of a prepared race to their ends. A store that tells has the files of all jobs before.
+pub fn run_race<R: Threads + Wait + Sync, F: Files, L: Launch + Send, C: Clock>(
+    rt: &R,
+    alloc: Global,
+    files: &F,
+    clock: &C,
+    racing: &Racing<'_>,
+    prepared: PreparedRace<'_, L>,
+) -> RacedLanes<L>
+    requires files { (store : Store) → F.told files.now ≡ Some store → HasJobFiles (racing_seen racing.now) store }
+    requires prepared { (pool : Option PoolOf) × IsPrepared (racing_seen racing.now) pool prepared }
+    ensures { (pool : Option PoolOf) (scripts : Option YardOf) → IsPrepared (racing_seen racing.now) pool prepared.entry
+        → AreNew scripts racing.now.task (map (λ b. record { told = L.told b; counts = counts_at (L.start_faults b) (L.read_faults b) (L.hold_faults b) }) (bays_in prepared.entry))
+        → HaveRaced (racing_seen racing.now) pool (C.may_read clock.now) scripts result.ran.start result.ran.reports.items (map (λ b. record { told = L.told b; counts = counts_at (L.start_faults b) (L.read_faults b) (L.hold_faults b) }) result.bays.items) }
+{
+    race_prepared(rt, alloc, clock, racing, prepared)
 }
 
 /// Gives the bays of lanes that ran back to their yard.

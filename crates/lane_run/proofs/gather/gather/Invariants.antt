@@ -10,7 +10,7 @@ invariant-loop-lane g l = record {
   taken : List (Lane g.row.L.Denot g.row.T.Denot);
   order : taken ++ into_iter_items l.left ≡ l.fn.lanes.items;
   left : into_iter_len l.left ≡ length (into_iter_items l.left);
-  bays : l.raced.bays.items ≡ map (λ x. x.bay) taken;
+  bays : l.raced.bays.items ≡ map (λ x. x.bay.bay) taken;
   reports : l.raced.reports.items ≡ map (λ x. x.report) taken;
   notes : All (λ x. Remember x.notes l.raced.notes) taken;
   cells : map (λ n. n.cell) l.raced.notes ≡ map (λ n. n.cell) l.fn.raced.notes;

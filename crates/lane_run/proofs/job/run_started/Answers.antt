@@ -30,14 +30,14 @@ returns-clause-ran g c =
       r.4.took,
       c.conclude.ensures.read ∙ r.4.counted,
       asks.1,
-      proof_finished (g.L.Launch.told c.live-lived.new.bay) (g.L.Launch.told c.conclude.new.bay) c.args.asked.now.job c.args.asked.now.most asks.0
+      proof_finished (g.L.Launch.told c.live-lived.new.berth.bay) (g.L.Launch.told c.conclude.new.berth.bay) c.args.asked.now.job c.args.asked.now.most asks.0
           c.live-lived.result.part f.0 (reader_from reader.Fresh c.conclude.result.events.events)
           (c.live-lived.result.part ≡ reader.Asking → IsKilled (kept_by c.conclude.ensures.finishes.0))
           (c.live-lived.result.part ≡ reader.Asking) (Proves (g.S.Subject.proves c.live-lived.result.subject) asks.0 f.0) c.conclude.ensures.told c.live-lived.ensures.has_read asks.2 f.2,
       comes_finished (g.S.Subject.stands c.args.subject) (g.S.Subject.ends c.args.subject) (g.S.Subject.proves c.args.subject) (g.S.Subject.proves c.live-lived.result.subject)
           (NoneLeft r.0) (g.S.Subject.taken c.live-lived.result.subject) asks.0 c.live-lived.result.part f.0 (reader_from reader.Fresh c.conclude.result.events.events)
           (c.live-lived.result.part ≡ reader.Asking → IsKilled (kept_by c.conclude.ensures.finishes.0))
-          (TookProof (g.L.Launch.told c.live-lived.new.bay) c.args.asked.now.job c.args.asked.now.most asks.0 f.0)
+          (TookProof (g.L.Launch.told c.live-lived.new.berth.bay) c.args.asked.now.job c.args.asked.now.most asks.0 f.0)
           r.5 c.live-lived.ensures.proves asks.2 f.2,
       (λ some. r.4.closed (subst (λ (n : ℕ). 0 < n) c.conclude.ensures.empty some)),
       c.live-lived.ensures.most,

@@ -14,5 +14,6 @@ invariant-loop g l = AtTurn
     (AreNotesOf l.watch.cells.now l.notes)
     (TakesTurns (keeper_from (terms_of g.T.Settled.job g.T.Settled.answer l.watch.terms.now) keeper.Fresh l.events.events))
     (place_from Away l.events.events ≡ place_from Away l.fn.events.events)
+    l.reserved
     l.events.room
     ((g.H.Hold.killed l.hold ≡ g.H.Hold.killed l.fn.hold) × (g.H.Hold.is_reaped l.hold ≡ g.H.Hold.is_reaped l.fn.hold) × (g.H.Hold.faults l.fn.hold ≤ g.H.Hold.faults l.hold))

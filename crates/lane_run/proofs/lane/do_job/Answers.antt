@@ -58,20 +58,20 @@ returns-then-serves-clause-faults g c =
 pub returns-else-serves-clause-faults : goal.returns-else-serves-clause-faults
 returns-else-serves-clause-faults g c =
     let L = g.L.Launch in
-    none_failed (record { starts = L.start_faults c.args.bay.now; reads = L.read_faults c.args.bay.now; holds = L.hold_faults c.args.bay.now }) c.pass_job.result c.pass_job.ensures.no_start
+    none_failed (record { starts = L.start_faults c.args.berth.now.bay; reads = L.read_faults c.args.berth.now.bay; holds = L.hold_faults c.args.berth.now.bay }) c.pass_job.result c.pass_job.ensures.no_start
 
 pub returns-then-serves-clause-starts : goal.returns-then-serves-clause-starts
 returns-then-serves-clause-starts g c =
     let m = c.args.task.now.makes.now in
     let L = g.L.Launch in
-    let bay = L.told c.args.bay.now in
-    let bay' = L.told c.run_child.new.bay in
+    let bay = L.told c.args.berth.now.bay in
+    let bay' = L.told c.run_child.new.berth.bay in
     let events : EventsOf g.row.T.Denot = record { reader = c.run_child.result.events.events; keeper = c.run_child.new.keeper_events.events } in
     subst (λ (l : ℕ). (starts : List StartOf) × (bay' ≡ option_map (with_starts starts) bay)
-    × JobStarts (g.M.Makes.words m l) (g.M.Makes.file m) (g.M.Makes.stands m l) (g.M.Makes.ends m l) (g.M.Makes.proves m l) (g.M.Makes.most m) (g.M.Makes.most_output m l) (name_at c.args.task.now.mode c.args.place) bay events c.run_child.result.end starts) c.lane-then-serves.ensures
+    × JobStarts c.args.berth.now.pool (g.M.Makes.words m l) (g.M.Makes.file m) (g.M.Makes.stands m l) (g.M.Makes.ends m l) (g.M.Makes.proves m l) (g.M.Makes.most m) (g.M.Makes.most_output m l) (name_at c.args.task.now.mode c.args.place) bay events c.run_child.result.end starts) c.lane-then-serves.ensures
     (subst (λ (x : JobTerms). (starts : List StartOf) × (bay' ≡ option_map (with_starts starts) bay)
-    × JobStarts (g.M.Makes.words m c.lane-then-serves.result) (g.M.Makes.file m) (g.M.Makes.stands m c.lane-then-serves.result) (g.M.Makes.ends m c.lane-then-serves.result) (g.M.Makes.proves m c.lane-then-serves.result) (g.M.Makes.most m) (g.M.Makes.most_output m c.lane-then-serves.result) x.job bay events c.run_child.result.end starts)
+    × JobStarts c.args.berth.now.pool (g.M.Makes.words m c.lane-then-serves.result) (g.M.Makes.file m) (g.M.Makes.stands m c.lane-then-serves.result) (g.M.Makes.ends m c.lane-then-serves.result) (g.M.Makes.proves m c.lane-then-serves.result) (g.M.Makes.most m) (g.M.Makes.most_output m c.lane-then-serves.result) x.job bay events c.run_child.result.end starts)
     c.terms-terms.ensures c.run_child.ensures.starts)
 
 pub returns-else-serves-clause-starts : goal.returns-else-serves-clause-starts
-returns-else-serves-clause-starts g c = ([], no_more (g.L.Launch.told c.args.bay.now), inl (c.pass_job.ensures.no_start, c.requires.fresh.0, refl))
+returns-else-serves-clause-starts g c = ([], no_more (g.L.Launch.told c.args.berth.now.bay), inl (inl c.pass_job.ensures.no_start, c.requires.fresh.0, refl))

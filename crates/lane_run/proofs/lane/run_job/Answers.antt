@@ -66,7 +66,7 @@ returns-in_default-clause-faults g c =
     let L = g.L.Launch in (
       end.Memory,
       ap (λ (x : ReportOf g.row.T.Denot). x.ends) c.want_lists.ensures.report,
-      none_failed (record { starts = L.start_faults c.args.bay.now; reads = L.read_faults c.args.bay.now; holds = L.hold_faults c.args.bay.now }) end.Memory tt,
+      none_failed (record { starts = L.start_faults c.args.berth.now.bay; reads = L.read_faults c.args.berth.now.bay; holds = L.hold_faults c.args.berth.now.bay }) end.Memory tt,
     )
 
 pub returns-in_default-new-clause-faults : goal.returns-in_default-new-clause-faults
@@ -74,7 +74,7 @@ returns-in_default-new-clause-faults g c =
     let L = g.L.Launch in (
       end.Memory,
       ap (λ (x : ReportOf g.row.T.Denot). x.ends) c.want_lists-in_default-new.ensures.report,
-      none_failed (record { starts = L.start_faults c.args.bay.now; reads = L.read_faults c.args.bay.now; holds = L.hold_faults c.args.bay.now }) end.Memory tt,
+      none_failed (record { starts = L.start_faults c.args.berth.now.bay; reads = L.read_faults c.args.berth.now.bay; holds = L.hold_faults c.args.berth.now.bay }) end.Memory tt,
     )
 
 pub returns-clause-faults : goal.returns-clause-faults
@@ -97,9 +97,9 @@ returns-in_default-clause-starts g c =
     let es : EventsOf g.row.T.Denot = record { reader = []; keeper = event.KeeperMemory ∷ [] } in
     let few : n < length r.events = omega (c.requires.place.1, c.requires.so_far.events, arith) in (
       [],
-      no_more (g.L.Launch.told c.args.bay.now),
-      in_report (g.M.Makes.words m lane) (g.M.Makes.file m) (g.M.Makes.stands m lane) (g.M.Makes.ends m lane) (g.M.Makes.proves m lane) (g.M.Makes.most m) (g.M.Makes.most_output m lane) (name_at t.mode n) (g.L.Launch.told c.args.bay.now) n now end.Memory es []
-          (one_end n r now end.Memory es c.requires.so_far.ends c.want_lists.ensures.report) (one_events n r now end.Memory es c.requires.so_far.ends c.want_lists.ensures.report few) (inl (tt, refl, refl)),
+      no_more (g.L.Launch.told c.args.berth.now.bay),
+      in_report c.args.berth.now.pool (g.M.Makes.words m lane) (g.M.Makes.file m) (g.M.Makes.stands m lane) (g.M.Makes.ends m lane) (g.M.Makes.proves m lane) (g.M.Makes.most m) (g.M.Makes.most_output m lane) (name_at t.mode n) (g.L.Launch.told c.args.berth.now.bay) n now end.Memory es []
+          (one_end n r now end.Memory es c.requires.so_far.ends c.want_lists.ensures.report) (one_events n r now end.Memory es c.requires.so_far.ends c.want_lists.ensures.report few) (inl (inl tt, refl, refl)),
     )
 
 pub returns-in_default-new-clause-stand : goal.returns-in_default-new-clause-stand
@@ -117,9 +117,9 @@ returns-in_default-new-clause-starts g c =
     let es : EventsOf g.row.T.Denot = record { reader = []; keeper = event.KeeperMemory ∷ [] } in
     let few : n < length r.events = omega (c.requires.place.1, c.requires.so_far.events, arith) in (
       [],
-      no_more (g.L.Launch.told c.args.bay.now),
-      in_report (g.M.Makes.words m lane) (g.M.Makes.file m) (g.M.Makes.stands m lane) (g.M.Makes.ends m lane) (g.M.Makes.proves m lane) (g.M.Makes.most m) (g.M.Makes.most_output m lane) (name_at t.mode n) (g.L.Launch.told c.args.bay.now) n now end.Memory es []
-          (one_end n r now end.Memory es c.requires.so_far.ends c.want_lists-in_default-new.ensures.report) (one_events n r now end.Memory es c.requires.so_far.ends c.want_lists-in_default-new.ensures.report few) (inl (tt, refl, refl)),
+      no_more (g.L.Launch.told c.args.berth.now.bay),
+      in_report c.args.berth.now.pool (g.M.Makes.words m lane) (g.M.Makes.file m) (g.M.Makes.stands m lane) (g.M.Makes.ends m lane) (g.M.Makes.proves m lane) (g.M.Makes.most m) (g.M.Makes.most_output m lane) (name_at t.mode n) (g.L.Launch.told c.args.berth.now.bay) n now end.Memory es []
+          (one_end n r now end.Memory es c.requires.so_far.ends c.want_lists-in_default-new.ensures.report) (one_events n r now end.Memory es c.requires.so_far.ends c.want_lists-in_default-new.ensures.report few) (inl (inl tt, refl, refl)),
     )
 
 pub returns-clause-stand : goal.returns-clause-stand
@@ -143,6 +143,6 @@ returns-clause-starts g c =
     let h = c.do_job-end.ensures.starts in (
       h.0,
       h.1,
-      in_report (g.M.Makes.words m lane) (g.M.Makes.file m) (g.M.Makes.stands m lane) (g.M.Makes.ends m lane) (g.M.Makes.proves m lane) (g.M.Makes.most m) (g.M.Makes.most_output m lane) (name_at t.mode n) (g.L.Launch.told c.args.bay.now) n now e es h.0
+      in_report c.args.berth.now.pool (g.M.Makes.words m lane) (g.M.Makes.file m) (g.M.Makes.stands m lane) (g.M.Makes.ends m lane) (g.M.Makes.proves m lane) (g.M.Makes.most m) (g.M.Makes.most_output m lane) (name_at t.mode n) (g.L.Launch.told c.args.berth.now.bay) n now e es h.0
           (one_end n r now e es c.requires.so_far.ends is) (one_events n r now e es c.requires.so_far.ends is few) h.2,
     )

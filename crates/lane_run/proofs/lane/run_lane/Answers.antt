@@ -1,10 +1,13 @@
-use Rattle.std.proofs.Common.{◌≡◌, ◌⊎◌, ℕ, ◌+◌, [], refl, sym, subst, ◌∙◌, arith}
+use Rattle.std.proofs.Common.{◌≡◌, ◌⊎◌, ℕ, ◌+◌, [], Option, refl, sym, ap, subst, ◌∙◌, arith}
+use Rattle.jobs_pool.specs.Places.{PoolOf}
 use Rattle.race_core.specs.Consistent.{end_at, events_at}
 use Rattle.race_core.specs.Consistent.{Replays}
 use Rattle.race_core.specs.Asking.{name_at, terms_of}
 use Rattle.lane_run.specs.Asked.{IsFor, terms_at}
 use Rattle.lane_run.specs.Done.{CameLate, LaneFaults, LaneSoFar}
 use Rattle.lane_run.proofs.Wholes.{lane_fresh, lane_replays}
+use Rattle.lane_berth.specs.Berths.{BerthOf}
+use Rattle.lane_run.proofs.PlaceLemmas.{bay_alone}
 use Rattle.lane_run.proofs.Faults.{faults_more}
 use Rattle.lane_run.proofs.Starts.{lane_unstarted, starts_more}
 use Rattle.lane_run.proofs.Stops.{lane_stopped}
@@ -20,8 +23,9 @@ loop-place-init g c =
       remember = record { cells = refl; knows = λ place f h. h };
       same = (refl, refl);
       faults = record { later = (omega arith, omega arith, omega arith); each = λ j lt. absurd (omega (lt, arith)) };
-      starts = lane_unstarted (g.M.Makes.words t.makes.now c.args.report.now.lane) (g.M.Makes.file t.makes.now) (g.M.Makes.stands t.makes.now c.args.report.now.lane) (g.M.Makes.ends t.makes.now c.args.report.now.lane) (g.M.Makes.proves t.makes.now c.args.report.now.lane) (g.M.Makes.most t.makes.now) (g.M.Makes.most_output t.makes.now c.args.report.now.lane) t.mode (g.L.Launch.told c.args.bay.now) c.args.report.now;
+      starts = lane_unstarted c.args.berth.now.pool (g.M.Makes.words t.makes.now c.args.report.now.lane) (g.M.Makes.file t.makes.now) (g.M.Makes.stands t.makes.now c.args.report.now.lane) (g.M.Makes.ends t.makes.now c.args.report.now.lane) (g.M.Makes.proves t.makes.now c.args.report.now.lane) (g.M.Makes.most t.makes.now) (g.M.Makes.most_output t.makes.now c.args.report.now.lane) t.mode (g.L.Launch.told c.args.berth.now.bay) c.args.report.now;
       of = c.requires.notes;
+      berth = refl;
     }
 
 pub run_next-requires-clause-so_far : goal.run_next-requires-clause-so_far
@@ -31,6 +35,11 @@ run_next-requires-clause-so_far g c κs within =
     subst (λ (lane : ℕ). LaneSoFar (IsFor g.T.Settled.problem g.T.Settled.job (g.M.Asks.problem t.makes.now) t.mode) (λ k. g.M.Makes.is_served t.makes.now lane (name_at t.mode k))
     (λ k. terms_of g.T.Settled.job g.T.Settled.answer (terms_at t.mode t.limit k)) (g.C.Clock.may_read t.clock.now) l.place l.notes l.report)
     (sym l.invariant.same.0) l.invariant.so_far
+
+pub run_next-requires-clause-idle : goal.run_next-requires-clause-idle
+run_next-requires-clause-idle g c κs within =
+    let at = c.loop-place.invariant.berth in
+    (ap (λ (b : BerthOf g.row.L.Denot). b.holds) at ∙ c.requires.idle.0, ap (λ (b : BerthOf g.row.L.Denot). b.stands) at ∙ c.requires.idle.1)
 
 pub loop-place-preserved : goal.loop-place-preserved
 loop-place-preserved g c =
@@ -43,13 +52,16 @@ loop-place-preserved g c =
           l.invariant.same.0 e.so_far;
       remember = record { cells = e.remember.cells ∙ l.invariant.remember.cells; knows = λ place f h. e.remember.knows place f (l.invariant.remember.knows place f h) };
       same = (e.same.0 ∙ l.invariant.same.0, e.same.1 ∙ l.invariant.same.1);
-      faults = faults_more (record { starts = g.L.Launch.start_faults c.args.bay.now; reads = g.L.Launch.read_faults c.args.bay.now; holds = g.L.Launch.hold_faults c.args.bay.now }) (record { starts = g.L.Launch.start_faults l.bay; reads = g.L.Launch.read_faults l.bay; holds = g.L.Launch.hold_faults l.bay }) (record { starts = g.L.Launch.start_faults c.run_next.new.bay; reads = g.L.Launch.read_faults c.run_next.new.bay; holds = g.L.Launch.hold_faults c.run_next.new.bay })
+      faults = faults_more (record { starts = g.L.Launch.start_faults c.args.berth.now.bay; reads = g.L.Launch.read_faults c.args.berth.now.bay; holds = g.L.Launch.hold_faults c.args.berth.now.bay }) (record { starts = g.L.Launch.start_faults l.berth.bay; reads = g.L.Launch.read_faults l.berth.bay; holds = g.L.Launch.hold_faults l.berth.bay }) (record { starts = g.L.Launch.start_faults c.run_next.new.berth.bay; reads = g.L.Launch.read_faults c.run_next.new.berth.bay; holds = g.L.Launch.hold_faults c.run_next.new.berth.bay })
           l.place l.report c.run_next.new.report e.faults.0 l.invariant.faults l.invariant.so_far.ends e.faults.1 e.faults.2;
-      starts = starts_more (g.M.Makes.words t.makes.now c.args.report.now.lane) (g.M.Makes.file t.makes.now) (g.M.Makes.stands t.makes.now c.args.report.now.lane) (g.M.Makes.ends t.makes.now c.args.report.now.lane) (g.M.Makes.proves t.makes.now c.args.report.now.lane) (g.M.Makes.most t.makes.now) (g.M.Makes.most_output t.makes.now c.args.report.now.lane) t.mode
-          (g.L.Launch.told c.args.bay.now) (g.L.Launch.told l.bay) (g.L.Launch.told c.run_next.new.bay) l.place l.report c.run_next.new.report e.starts.0 l.invariant.starts e.stand e.starts.1
-          (subst (λ (lane : ℕ). (CameLate c.run_next.new.report l.place × (e.starts.0 ≡ [])) ⊎ JobStarts (g.M.Makes.words t.makes.now lane) (g.M.Makes.file t.makes.now) (g.M.Makes.stands t.makes.now lane) (g.M.Makes.ends t.makes.now lane) (g.M.Makes.proves t.makes.now lane) (g.M.Makes.most t.makes.now) (g.M.Makes.most_output t.makes.now lane) (name_at t.mode l.place)
-          (g.L.Launch.told l.bay) (events_at c.run_next.new.report l.place) (end_at c.run_next.new.report l.place) e.starts.0) l.invariant.same.0 e.starts.2);
+      starts = starts_more c.args.berth.now.pool (g.M.Makes.words t.makes.now c.args.report.now.lane) (g.M.Makes.file t.makes.now) (g.M.Makes.stands t.makes.now c.args.report.now.lane) (g.M.Makes.ends t.makes.now c.args.report.now.lane) (g.M.Makes.proves t.makes.now c.args.report.now.lane) (g.M.Makes.most t.makes.now) (g.M.Makes.most_output t.makes.now c.args.report.now.lane) t.mode
+          (g.L.Launch.told c.args.berth.now.bay) (g.L.Launch.told l.berth.bay) (g.L.Launch.told c.run_next.new.berth.bay) l.place l.report c.run_next.new.report e.starts.0 l.invariant.starts e.stand e.starts.1
+          (subst (λ (lane : ℕ). (CameLate c.run_next.new.report l.place × (e.starts.0 ≡ [])) ⊎ JobStarts c.args.berth.now.pool (g.M.Makes.words t.makes.now lane) (g.M.Makes.file t.makes.now) (g.M.Makes.stands t.makes.now lane) (g.M.Makes.ends t.makes.now lane) (g.M.Makes.proves t.makes.now lane) (g.M.Makes.most t.makes.now) (g.M.Makes.most_output t.makes.now lane) (name_at t.mode l.place)
+          (g.L.Launch.told l.berth.bay) (events_at c.run_next.new.report l.place) (end_at c.run_next.new.report l.place) e.starts.0) l.invariant.same.0
+          (subst (λ (p : Option PoolOf). (CameLate c.run_next.new.report l.place × (e.starts.0 ≡ [])) ⊎ JobStarts p (g.M.Makes.words t.makes.now l.report.lane) (g.M.Makes.file t.makes.now) (g.M.Makes.stands t.makes.now l.report.lane) (g.M.Makes.ends t.makes.now l.report.lane) (g.M.Makes.proves t.makes.now l.report.lane) (g.M.Makes.most t.makes.now) (g.M.Makes.most_output t.makes.now l.report.lane) (name_at t.mode l.place)
+          (g.L.Launch.told l.berth.bay) (events_at c.run_next.new.report l.place) (end_at c.run_next.new.report l.place) e.starts.0) (ap (λ (b : BerthOf g.row.L.Denot). b.pool) l.invariant.berth) e.starts.2));
       of = e.remember.cells ∙ l.invariant.of;
+      berth = bay_alone c.args.berth.now l.berth c.run_next.new.berth l.invariant.berth e.berth;
     }
 
 pub returns-clause-replays : goal.returns-clause-replays
@@ -73,15 +85,15 @@ pub returns-clause-faults : goal.returns-clause-faults
 returns-clause-faults g c =
     let l = c.loop-place in
     let at : l.place ≡ c.args.report.now.jobs = omega (c.loop-place-test.false, c.loop-place.auto.place-end, c.jobs-place-end.ensures.jobs, arith) in
-    subst (λ (n : ℕ). LaneFaults (record { starts = g.L.Launch.start_faults c.args.bay.now; reads = g.L.Launch.read_faults c.args.bay.now; holds = g.L.Launch.hold_faults c.args.bay.now }) (record { starts = g.L.Launch.start_faults l.bay; reads = g.L.Launch.read_faults l.bay; holds = g.L.Launch.hold_faults l.bay }) n l.report) at l.invariant.faults
+    subst (λ (n : ℕ). LaneFaults (record { starts = g.L.Launch.start_faults c.args.berth.now.bay; reads = g.L.Launch.read_faults c.args.berth.now.bay; holds = g.L.Launch.hold_faults c.args.berth.now.bay }) (record { starts = g.L.Launch.start_faults l.berth.bay; reads = g.L.Launch.read_faults l.berth.bay; holds = g.L.Launch.hold_faults l.berth.bay }) n l.report) at l.invariant.faults
 
 pub returns-clause-starts : goal.returns-clause-starts
 returns-clause-starts g c =
     let t = c.args.task.now in
     let l = c.loop-place in
     let at : l.place ≡ c.args.report.now.jobs = omega (c.loop-place-test.false, c.loop-place.auto.place-end, c.jobs-place-end.ensures.jobs, arith) in
-    subst (λ (n : ℕ). LaneStarts (g.M.Makes.words t.makes.now c.args.report.now.lane) (g.M.Makes.file t.makes.now) (g.M.Makes.stands t.makes.now c.args.report.now.lane) (g.M.Makes.ends t.makes.now c.args.report.now.lane) (g.M.Makes.proves t.makes.now c.args.report.now.lane) (g.M.Makes.most t.makes.now) (g.M.Makes.most_output t.makes.now c.args.report.now.lane) t.mode
-    (g.L.Launch.told c.args.bay.now) (g.L.Launch.told l.bay) n l.report) at l.invariant.starts
+    subst (λ (n : ℕ). LaneStarts c.args.berth.now.pool (g.M.Makes.words t.makes.now c.args.report.now.lane) (g.M.Makes.file t.makes.now) (g.M.Makes.stands t.makes.now c.args.report.now.lane) (g.M.Makes.ends t.makes.now c.args.report.now.lane) (g.M.Makes.proves t.makes.now c.args.report.now.lane) (g.M.Makes.most t.makes.now) (g.M.Makes.most_output t.makes.now c.args.report.now.lane) t.mode
+    (g.L.Launch.told c.args.berth.now.bay) (g.L.Launch.told l.berth.bay) n l.report) at l.invariant.starts
 
 pub returns-clause-stopped : goal.returns-clause-stopped
 returns-clause-stopped g c = λ j k lt is.

@@ -38,7 +38,7 @@ returns-in-Some-clause-faults g c =
     let x = rw c.ends.ensures at c.in-Some.ensures in (
       c.in-Some.end,
       ap (λ (y : ReportOf g.row.T.Denot). y.ends) c.push_end.ensures,
-      late_failed (record { starts = L.start_faults c.args.bay.now; reads = L.read_faults c.args.bay.now; holds = L.hold_faults c.args.bay.now }) c.in-Some.end x.2,
+      late_failed (record { starts = L.start_faults c.args.berth.now.bay; reads = L.read_faults c.args.berth.now.bay; holds = L.hold_faults c.args.berth.now.bay }) c.in-Some.end x.2,
     )
 
 pub returns-in-Some-clause-stand : goal.returns-in-Some-clause-stand
@@ -52,7 +52,7 @@ returns-in-Some-clause-starts g c =
     let ends = c.requires.so_far.ends in
     let lt : x.0 < n = omega (x.1, ends, arith) in (
       [],
-      no_more (g.L.Launch.told c.args.bay.now),
+      no_more (g.L.Launch.told c.args.berth.now.bay),
       inl (came_late n r c.push_end.new.self c.in-Some.end ends c.push_end.ensures x.0 lt x.2 x.3 (c.requires.so_far.left n (omega arith)), refl),
     )
 

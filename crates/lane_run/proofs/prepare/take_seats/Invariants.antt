@@ -1,4 +1,4 @@
-use Rattle.std.proofs.Common.{◌≡◌, ◌≤◌, ◌++◌, length, map}
+use Rattle.std.proofs.Common.{◌≡◌, ◌≤◌, ◌++◌, false, length, map}
 use Rattle.std.specs.Prelude.{vec_capacity}
 use Rattle.std.specs.Vec.Iter.{into_iter_items, into_iter_len}
 use Rattle.lane_run.proofs.prepare.take_seats.Given as goal
@@ -9,9 +9,13 @@ invariant-loop-seat g l = record {
   seats : into_iter_len l.seat-iterator ≡ length (into_iter_items l.seat-iterator);
   left : into_iter_len l.left ≡ length (into_iter_items l.left);
   same : length (into_iter_items l.seat-iterator) ≡ length (into_iter_items l.left);
-  bays : map (λ x. x.bay) l.lanes.items ++ into_iter_items l.left ≡ l.fn.bays.items;
+  bays : map (λ x. x.bay.bay) l.lanes.items ++ into_iter_items l.left ≡ l.fn.bays.items;
   reports : map (λ x. x.report) l.lanes.items ≡ map (λ x. x.report) l.yielded;
   notes : map (λ x. x.notes) l.lanes.items ≡ map (λ x. x.notes) l.yielded;
+  pools : map (λ x. x.bay.pool) l.lanes.items ≡ map (λ _. l.fn.allowance) l.yielded;
+  away : map (λ x. x.bay.holds) l.lanes.items ≡ map (λ _. false) l.yielded;
+  none : map (λ x. x.bay.stands) l.lanes.items ≡ map (λ _. false) l.yielded;
+  allowance : l.allowance ≡ l.fn.allowance;
   lanes : length l.lanes.items ≡ length l.yielded;
   room : length l.fn.seats.items ≤ vec_capacity l.lanes;
 }

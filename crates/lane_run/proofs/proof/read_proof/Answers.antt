@@ -6,7 +6,7 @@ use Rattle.lane_run.proofs.proof.read_proof.Goals as goal
 
 pub returns-clause-asks : goal.returns-clause-asks
 returns-clause-asks g c =
-    let bay = g.L.Launch.told c.args.bay.now in
+    let bay = g.L.Launch.told c.args.berth.now.bay in
     let asked = c.args.asked.now in
     let got = subst (λ (proof : List ℕ). IsProof bay asked.job asked.most proof) (sym (c.as_slice.ensures.value ∙ c.bytes_of-bytes.ensures)) (proof_got bay asked.job asked.most c.in-Ok.got c.in-Ok.ensures.content) in
     let none = ap (λ (l : List (LaneEvent g.row.T.Denot)). bytes_filed l) c.take_room.ensures.events ∙ c.requires.unfiled in

@@ -1,12 +1,14 @@
 use Rattle.std.proofs.Common.{◌≡◌, ◌<◌, ℕ, zero, suc, All, List, [], ◌∷◌, ◌++◌, length, map, take, drop, refl, sym, ap, subst, ◌∙◌, arith}
-use Rattle.std.specs.Prelude.{slice_get, slice_index_or}
+use Rattle.std.specs.Prelude.{Option, slice_get, slice_index_or}
 use Rattle.race_core.specs.Asking.{name_at, terms_of}
 use Rattle.race_core.specs.Consistent.{Consistent}
 use Rattle.race_core.specs.Report.{ReportOf}
+use Rattle.jobs_pool.specs.Places.{PoolOf}
+use Rattle.lane_berth.specs.Berths.{IsIdle}
 use Rattle.lane_run.specs.Keeping.{Remember}
 use Rattle.lane_run.specs.Asked.{IsFor, terms_at}
 use Rattle.lane_run.specs.Done.{LaneFaults, LaneStops}
-use Rattle.lane_run.specs.Raced.{LanesDone}
+use Rattle.lane_run.specs.Raced.{LanesDone, pool_of}
 use Rattle.lane_run.specs.Started.{LaneStarts}
 use Rattle.lane_run.specs.declared.racing.Lane.{Lane}
 use Rattle.std.proofs.lemmas.List.Elements.{All-map}
@@ -63,9 +65,9 @@ returns-clause-consistent g c =
     let many : c.args.fresh.lanes.len ≡ length now = omega arith in
     let whole : take c.args.fresh.lanes.len (now ++ drop (length now) c.args.fresh.lanes.items) ≡ now = take_whole now (drop (length now) c.args.fresh.lanes.items) c.args.fresh.lanes.len many in
     let same : length c.run_lanes.new.lanes ≡ length c.as_mut_slice.result.now = omega arith in
-    let all : length reports ≡ length (map (λ (l : Lane g.row.L.Denot g.row.T.Denot). l.bay) c.args.fresh.lanes.items) =
+    let all : length reports ≡ length (map (λ (l : Lane g.row.L.Denot g.row.T.Denot). l.bay.bay) c.args.fresh.lanes.items) =
     ap length (c.gather.ensures.reports ∙ ap (λ (ls : List (Lane g.row.L.Denot g.row.T.Denot)). map (λ l. l.report) ls) whole) ∙ (map_length (λ (l : Lane g.row.L.Denot g.row.T.Denot). l.report) c.run_lanes.new.lanes
-    ∙ (same ∙ (ap length c.as_mut_slice.ensures.value ∙ sym (map_length (λ (l : Lane g.row.L.Denot g.row.T.Denot). l.bay) c.args.fresh.lanes.items)))) in
+    ∙ (same ∙ (ap length c.as_mut_slice.ensures.value ∙ sym (map_length (λ (l : Lane g.row.L.Denot g.row.T.Denot). l.bay.bay) c.args.fresh.lanes.items)))) in
     subst (λ (n : ℕ). Consistent for serves terms n (length t.cells.now) reports) all
     (lanes_consistent for serves terms may (length t.cells.now) c.gather.new.raced.notes reports (returns-clause-done g c))
 
@@ -75,15 +77,15 @@ returns-clause-bays g c =
     let many : c.args.fresh.lanes.len ≡ length now = omega arith in
     let whole : take c.args.fresh.lanes.len (now ++ drop (length now) c.args.fresh.lanes.items) ≡ now = take_whole now (drop (length now) c.args.fresh.lanes.items) c.args.fresh.lanes.len many in
     let same : length now ≡ length c.as_mut_slice.result.now = omega arith in
-    ap length (c.gather.ensures.bays ∙ ap (λ (ls : List (Lane g.row.L.Denot g.row.T.Denot)). map (λ l. l.bay) ls) whole) ∙ (map_length (λ (l : Lane g.row.L.Denot g.row.T.Denot). l.bay) now
-    ∙ (same ∙ (ap length c.as_mut_slice.ensures.value ∙ sym (map_length (λ (l : Lane g.row.L.Denot g.row.T.Denot). l.bay) c.args.fresh.lanes.items))))
+    ap length (c.gather.ensures.bays ∙ ap (λ (ls : List (Lane g.row.L.Denot g.row.T.Denot)). map (λ l. l.bay.bay) ls) whole) ∙ (map_length (λ (l : Lane g.row.L.Denot g.row.T.Denot). l.bay.bay) now
+    ∙ (same ∙ (ap length c.as_mut_slice.ensures.value ∙ sym (map_length (λ (l : Lane g.row.L.Denot g.row.T.Denot). l.bay.bay) c.args.fresh.lanes.items))))
 
 pub returns-clause-faults : goal.returns-clause-faults
 returns-clause-faults g c = λ i b d q was is told.
     let now = c.run_lanes.new.lanes in
     let many : c.args.fresh.lanes.len ≡ length now = omega arith in
     let whole : take c.args.fresh.lanes.len (now ++ drop (length now) c.args.fresh.lanes.items) ≡ now = take_whole now (drop (length now) c.args.fresh.lanes.items) c.args.fresh.lanes.len many in
-    let bay = λ (l : Lane g.row.L.Denot g.row.T.Denot). l.bay in
+    let bay = λ (l : Lane g.row.L.Denot g.row.T.Denot). l.bay.bay in
     let report = λ (l : Lane g.row.L.Denot g.row.T.Denot). l.report in
     let bays = c.gather.ensures.bays ∙ ap (λ (ls : List (Lane g.row.L.Denot g.row.T.Denot)). map bay ls) whole in
     let reports = c.gather.ensures.reports ∙ ap (λ (ls : List (Lane g.row.L.Denot g.row.T.Denot)). map report ls) whole in
@@ -94,15 +96,15 @@ returns-clause-faults g c = λ i b d q was is told.
     let faults = c.run_lanes.ensures.faults i x.0 x.1 in
     let n = length c.args.task.now.cells.now in
     subst (λ (k : g.row.L.Denot). LaneFaults (record { starts = g.L.Launch.start_faults k; reads = g.L.Launch.read_faults k; holds = g.L.Launch.hold_faults k }) (record { starts = g.L.Launch.start_faults d; reads = g.L.Launch.read_faults d; holds = g.L.Launch.hold_faults d }) n q) (ap bay (x.2 x.0) ∙ x.3)
-    (subst (λ (k : g.row.L.Denot). LaneFaults (record { starts = g.L.Launch.start_faults (slice_index_or c.as_mut_slice.result.now i x.0).bay; reads = g.L.Launch.read_faults (slice_index_or c.as_mut_slice.result.now i x.0).bay; holds = g.L.Launch.hold_faults (slice_index_or c.as_mut_slice.result.now i x.0).bay }) (record { starts = g.L.Launch.start_faults k; reads = g.L.Launch.read_faults k; holds = g.L.Launch.hold_faults k }) n q) (ap bay (y.2 x.0) ∙ y.3)
-    (subst (λ (r : ReportOf g.row.T.Denot). LaneFaults (record { starts = g.L.Launch.start_faults (slice_index_or c.as_mut_slice.result.now i x.0).bay; reads = g.L.Launch.read_faults (slice_index_or c.as_mut_slice.result.now i x.0).bay; holds = g.L.Launch.hold_faults (slice_index_or c.as_mut_slice.result.now i x.0).bay }) (record { starts = g.L.Launch.start_faults (slice_index_or now i x.0).bay; reads = g.L.Launch.read_faults (slice_index_or now i x.0).bay; holds = g.L.Launch.hold_faults (slice_index_or now i x.0).bay }) n r) (ap report (z.2 x.0) ∙ z.3) faults))
+    (subst (λ (k : g.row.L.Denot). LaneFaults (record { starts = g.L.Launch.start_faults (slice_index_or c.as_mut_slice.result.now i x.0).bay.bay; reads = g.L.Launch.read_faults (slice_index_or c.as_mut_slice.result.now i x.0).bay.bay; holds = g.L.Launch.hold_faults (slice_index_or c.as_mut_slice.result.now i x.0).bay.bay }) (record { starts = g.L.Launch.start_faults k; reads = g.L.Launch.read_faults k; holds = g.L.Launch.hold_faults k }) n q) (ap bay (y.2 x.0) ∙ y.3)
+    (subst (λ (r : ReportOf g.row.T.Denot). LaneFaults (record { starts = g.L.Launch.start_faults (slice_index_or c.as_mut_slice.result.now i x.0).bay.bay; reads = g.L.Launch.read_faults (slice_index_or c.as_mut_slice.result.now i x.0).bay.bay; holds = g.L.Launch.hold_faults (slice_index_or c.as_mut_slice.result.now i x.0).bay.bay }) (record { starts = g.L.Launch.start_faults (slice_index_or now i x.0).bay.bay; reads = g.L.Launch.read_faults (slice_index_or now i x.0).bay.bay; holds = g.L.Launch.hold_faults (slice_index_or now i x.0).bay.bay }) n r) (ap report (z.2 x.0) ∙ z.3) faults))
 
 pub returns-clause-starts : goal.returns-clause-starts
 returns-clause-starts g c = λ i b d q was is told.
     let now = c.run_lanes.new.lanes in
     let many : c.args.fresh.lanes.len ≡ length now = omega arith in
     let whole : take c.args.fresh.lanes.len (now ++ drop (length now) c.args.fresh.lanes.items) ≡ now = take_whole now (drop (length now) c.args.fresh.lanes.items) c.args.fresh.lanes.len many in
-    let bay = λ (l : Lane g.row.L.Denot g.row.T.Denot). l.bay in
+    let bay = λ (l : Lane g.row.L.Denot g.row.T.Denot). l.bay.bay in
     let report = λ (l : Lane g.row.L.Denot g.row.T.Denot). l.report in
     let bays = c.gather.ensures.bays ∙ ap (λ (ls : List (Lane g.row.L.Denot g.row.T.Denot)). map bay ls) whole in
     let reports = c.gather.ensures.reports ∙ ap (λ (ls : List (Lane g.row.L.Denot g.row.T.Denot)). map report ls) whole in
@@ -110,14 +112,18 @@ returns-clause-starts g c = λ i b d q was is told.
     let m = c.args.task.now.makes.now in
     let n = length c.args.task.now.cells.now in
     let told_of = g.L.Launch.told in
+    let pool = pool_of c.args.fresh in
     let old = c.as_mut_slice.result.now in
-    related bay report (λ (k h : g.row.L.Denot) (r : ReportOf g.row.T.Denot). LaneStarts (g.M.Makes.words m i) (g.M.Makes.file m) (g.M.Makes.stands m i) (g.M.Makes.ends m i) (g.M.Makes.proves m i) (g.M.Makes.most m) (g.M.Makes.most_output m i) c.args.task.now.mode (told_of k) (told_of h) n r)
+    related bay report (λ (k h : g.row.L.Denot) (r : ReportOf g.row.T.Denot). LaneStarts pool (g.M.Makes.words m i) (g.M.Makes.file m) (g.M.Makes.stands m i) (g.M.Makes.ends m i) (g.M.Makes.proves m i) (g.M.Makes.most m) (g.M.Makes.most_output m i) c.args.task.now.mode (told_of k) (told_of h) n r)
     old now i b d q (ap (λ (l : List g.row.L.Denot). slice_get l i) before ∙ was) (ap (λ (l : List g.row.L.Denot). slice_get l i) (sym bays) ∙ is) (ap (λ (l : List (ReportOf g.row.T.Denot)). slice_get l i) (sym reports) ∙ told)
     (λ x lt.
     let at : (slice_index_or old i x).report.lane ≡ i = ap (λ (l : List (Lane g.row.L.Denot g.row.T.Denot)). (slice_index_or l i x).report.lane) c.as_mut_slice.ensures.value
     ∙ c.requires.ready.places i x (subst (λ (l : List (Lane g.row.L.Denot g.row.T.Denot)). i < length l) c.as_mut_slice.ensures.value lt) in
-    subst (λ (lane : ℕ). LaneStarts (g.M.Makes.words m lane) (g.M.Makes.file m) (g.M.Makes.stands m lane) (g.M.Makes.ends m lane) (g.M.Makes.proves m lane) (g.M.Makes.most m) (g.M.Makes.most_output m lane) c.args.task.now.mode (told_of (slice_index_or old i x).bay) (told_of (slice_index_or now i x).bay) n (slice_index_or now i x).report) at
-    (c.run_lanes.ensures.starts i x lt))
+    let under : (slice_index_or old i x).bay.pool ≡ pool = ap (λ (l : List (Lane g.row.L.Denot g.row.T.Denot)). (slice_index_or l i x).bay.pool) c.as_mut_slice.ensures.value
+    ∙ (c.requires.ready.free i x (subst (λ (l : List (Lane g.row.L.Denot g.row.T.Denot)). i < length l) c.as_mut_slice.ensures.value lt)).0 in
+    subst (λ (p : Option PoolOf). LaneStarts p (g.M.Makes.words m i) (g.M.Makes.file m) (g.M.Makes.stands m i) (g.M.Makes.ends m i) (g.M.Makes.proves m i) (g.M.Makes.most m) (g.M.Makes.most_output m i) c.args.task.now.mode (told_of (slice_index_or old i x).bay.bay) (told_of (slice_index_or now i x).bay.bay) n (slice_index_or now i x).report) under
+    (subst (λ (lane : ℕ). LaneStarts (slice_index_or old i x).bay.pool (g.M.Makes.words m lane) (g.M.Makes.file m) (g.M.Makes.stands m lane) (g.M.Makes.ends m lane) (g.M.Makes.proves m lane) (g.M.Makes.most m) (g.M.Makes.most_output m lane) c.args.task.now.mode (told_of (slice_index_or old i x).bay.bay) (told_of (slice_index_or now i x).bay.bay) n (slice_index_or now i x).report) at
+    (c.run_lanes.ensures.starts i x lt)))
 
 pub returns-clause-stopped : goal.returns-clause-stopped
 returns-clause-stopped g c =
@@ -129,3 +135,14 @@ returns-clause-stopped g c =
     let reports = c.gather.ensures.reports ∙ ap (λ (ls : List (Lane g.row.L.Denot g.row.T.Denot)). map report ls) whole in
     let Stops = λ (r : ReportOf g.row.T.Denot). LaneStops (g.C.Clock.may_read t.clock.now) t.limit (length t.cells.now) r in
     subst (λ (rs : List (ReportOf g.row.T.Denot)). All Stops rs) (sym reports) (All-map Stops report now c.run_lanes.ensures.stopped)
+
+pub run_lanes-requires-clause-idle : goal.run_lanes-requires-clause-idle
+run_lanes-requires-clause-idle g c κs within =
+    subst (λ (ls : List (Lane g.row.L.Denot g.row.T.Denot)). All (λ l. IsIdle l.bay) ls) (sym c.as_mut_slice.ensures.value) (λ k d lt. (c.requires.ready.free k d lt).1)
+
+pub gather-requires-clause-idle : goal.gather-requires-clause-idle
+gather-requires-clause-idle g c =
+    let now = c.run_lanes.new.lanes in
+    let many : c.args.fresh.lanes.len ≡ length now = omega arith in
+    let whole : take c.args.fresh.lanes.len (now ++ drop (length now) c.args.fresh.lanes.items) ≡ now = take_whole now (drop (length now) c.args.fresh.lanes.items) c.args.fresh.lanes.len many in
+    subst (λ (ls : List (Lane g.row.L.Denot g.row.T.Denot)). All (λ l. IsIdle l.bay) ls) (sym whole) c.run_lanes.ensures.idle

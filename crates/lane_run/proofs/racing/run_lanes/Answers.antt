@@ -2,6 +2,7 @@ use Rattle.std.proofs.Common.{◌<◌, length, sym, ap, subst, ◌∙◌, arith}
 use Rattle.race_core.specs.Asking.{name_at, terms_of}
 use Rattle.lane_run.specs.Asked.{IsFor, terms_at}
 use Rattle.std.specs.Prelude.{slice_index_or}
+use Rattle.lane_berth.specs.Berths.{IsIdle}
 use Rattle.lane_run.specs.Done.{LaneFaults, LaneStops}
 use Rattle.lane_run.specs.Raced.{HasDone}
 use Rattle.lane_run.specs.Started.{LaneStarts}
@@ -25,8 +26,8 @@ pub returns-clause-faults : goal.returns-clause-faults
 returns-clause-faults g c = λ k d lt.
     let at = (c.for_each_mut.ensures k d lt).1 in
     let n = length c.args.task.now.cells.now in
-    subst (λ (l : Lane g.row.L.Denot g.row.T.Denot). LaneFaults (record { starts = g.L.Launch.start_faults l.bay; reads = g.L.Launch.read_faults l.bay; holds = g.L.Launch.hold_faults l.bay }) (record { starts = g.L.Launch.start_faults (slice_index_or c.for_each_mut.new.s k d).bay; reads = g.L.Launch.read_faults (slice_index_or c.for_each_mut.new.s k d).bay; holds = g.L.Launch.hold_faults (slice_index_or c.for_each_mut.new.s k d).bay }) n (slice_index_or c.for_each_mut.new.s k d).report) at.argument_is
-    (subst (λ (l : Lane g.row.L.Denot g.row.T.Denot). LaneFaults (record { starts = g.L.Launch.start_faults at.argument.now.bay; reads = g.L.Launch.read_faults at.argument.now.bay; holds = g.L.Launch.hold_faults at.argument.now.bay }) (record { starts = g.L.Launch.start_faults l.bay; reads = g.L.Launch.read_faults l.bay; holds = g.L.Launch.hold_faults l.bay }) n l.report) at.left at.call.1.1.0)
+    subst (λ (l : Lane g.row.L.Denot g.row.T.Denot). LaneFaults (record { starts = g.L.Launch.start_faults l.bay.bay; reads = g.L.Launch.read_faults l.bay.bay; holds = g.L.Launch.hold_faults l.bay.bay }) (record { starts = g.L.Launch.start_faults (slice_index_or c.for_each_mut.new.s k d).bay.bay; reads = g.L.Launch.read_faults (slice_index_or c.for_each_mut.new.s k d).bay.bay; holds = g.L.Launch.hold_faults (slice_index_or c.for_each_mut.new.s k d).bay.bay }) n (slice_index_or c.for_each_mut.new.s k d).report) at.argument_is
+    (subst (λ (l : Lane g.row.L.Denot g.row.T.Denot). LaneFaults (record { starts = g.L.Launch.start_faults at.argument.now.bay.bay; reads = g.L.Launch.read_faults at.argument.now.bay.bay; holds = g.L.Launch.hold_faults at.argument.now.bay.bay }) (record { starts = g.L.Launch.start_faults l.bay.bay; reads = g.L.Launch.read_faults l.bay.bay; holds = g.L.Launch.hold_faults l.bay.bay }) n l.report) at.left at.call.1.1.0)
 
 pub returns-clause-starts : goal.returns-clause-starts
 returns-clause-starts g c = λ k d lt.
@@ -34,14 +35,20 @@ returns-clause-starts g c = λ k d lt.
     let n = length c.args.task.now.cells.now in
     let m = c.args.task.now.makes.now in
     let told = g.L.Launch.told in
-    subst (λ (l : Lane g.row.L.Denot g.row.T.Denot). LaneStarts (g.M.Makes.words m l.report.lane) (g.M.Makes.file m) (g.M.Makes.stands m l.report.lane) (g.M.Makes.ends m l.report.lane) (g.M.Makes.proves m l.report.lane) (g.M.Makes.most m) (g.M.Makes.most_output m l.report.lane) c.args.task.now.mode
-    (told l.bay) (told (slice_index_or c.for_each_mut.new.s k d).bay) n (slice_index_or c.for_each_mut.new.s k d).report) at.argument_is
-    (subst (λ (l : Lane g.row.L.Denot g.row.T.Denot). LaneStarts (g.M.Makes.words m at.argument.now.report.lane) (g.M.Makes.file m) (g.M.Makes.stands m at.argument.now.report.lane) (g.M.Makes.ends m at.argument.now.report.lane) (g.M.Makes.proves m at.argument.now.report.lane) (g.M.Makes.most m) (g.M.Makes.most_output m at.argument.now.report.lane) c.args.task.now.mode
-    (told at.argument.now.bay) (told l.bay) n l.report) at.left at.call.1.1.1.0)
+    subst (λ (l : Lane g.row.L.Denot g.row.T.Denot). LaneStarts l.bay.pool (g.M.Makes.words m l.report.lane) (g.M.Makes.file m) (g.M.Makes.stands m l.report.lane) (g.M.Makes.ends m l.report.lane) (g.M.Makes.proves m l.report.lane) (g.M.Makes.most m) (g.M.Makes.most_output m l.report.lane) c.args.task.now.mode
+    (told l.bay.bay) (told (slice_index_or c.for_each_mut.new.s k d).bay.bay) n (slice_index_or c.for_each_mut.new.s k d).report) at.argument_is
+    (subst (λ (l : Lane g.row.L.Denot g.row.T.Denot). LaneStarts at.argument.now.bay.pool (g.M.Makes.words m at.argument.now.report.lane) (g.M.Makes.file m) (g.M.Makes.stands m at.argument.now.report.lane) (g.M.Makes.ends m at.argument.now.report.lane) (g.M.Makes.proves m at.argument.now.report.lane) (g.M.Makes.most m) (g.M.Makes.most_output m at.argument.now.report.lane) c.args.task.now.mode
+    (told at.argument.now.bay.bay) (told l.bay.bay) n l.report) at.left at.call.1.1.1.0)
 
 pub returns-clause-stopped : goal.returns-clause-stopped
 returns-clause-stopped g c = λ k d lt.
     let t = c.args.task.now in
     let less : k < length c.args.lanes.now = omega (lt, arith) in
     let at = (c.for_each_mut.ensures k d less).1 in
-    subst (λ (l : Lane g.row.L.Denot g.row.T.Denot). LaneStops (g.C.Clock.may_read t.clock.now) t.limit (length t.cells.now) l.report) at.left at.call.1.1.1.1
+    subst (λ (l : Lane g.row.L.Denot g.row.T.Denot). LaneStops (g.C.Clock.may_read t.clock.now) t.limit (length t.cells.now) l.report) at.left at.call.1.1.1.1.0
+
+pub returns-clause-idle : goal.returns-clause-idle
+returns-clause-idle g c = λ k d lt.
+    let less : k < length c.args.lanes.now = omega (lt, arith) in
+    let at = (c.for_each_mut.ensures k d less).1 in
+    subst (λ (l : Lane g.row.L.Denot g.row.T.Denot). IsIdle l.bay) at.left at.call.1.1.1.1.1

@@ -14,8 +14,8 @@ returns-in-Ok-fresh_lanes-clause-bays g c =
     subst (λ (bays : List g.row.Y-Bay.Denot). AreNew (g.Y.Yard.told c.args.yard.now) c.args.racing.now.task (map view bays)) (sym c.in-Ok-fresh_lanes.ensures.bays)
     (new_bays count g.Y.Bay.Launch.told c.args.racing.now.task c.in_ok-bays.bays.items (g.Y.Yard.told c.args.yard.now) c.in_ok-bays.ensures.fresh)
 
-pub returns-in-Err-clause-memory : goal.returns-in-Err-clause-memory
-returns-in-Err-clause-memory g c =
+pub returns-clause-memory : goal.returns-clause-memory
+returns-clause-memory g c =
     let count = λ (b : g.row.Y-Bay.Denot). counts_at (g.Y.Bay.Launch.start_faults b) (g.Y.Bay.Launch.read_faults b) (g.Y.Bay.Launch.hold_faults b) in
     let view : g.row.Y-Bay.Denot → BackOf = λ b. record { told = g.Y.Bay.Launch.told b; counts = count b } in
     let back = c.give_back.ensures in
@@ -29,5 +29,5 @@ returns-in-Err-clause-memory g c =
     (subst (λ (counts : CountsOf). CameBack (map count given) counts (counts_at (g.Y.Yard.start_faults c.give_back.new.yard) (g.Y.Yard.read_faults c.give_back.new.yard) (g.Y.Yard.hold_faults c.give_back.new.yard))) c.take_bays.ensures.counts back.counts)
     (subst (λ (started : Option (List LaneOf)). IsLogged (left_all (map view given)) started (g.Y.Yard.started c.give_back.new.yard)) c.in_ok-bays.ensures.started back.started)
 
-pub returns-in-Err-clause-counts : goal.returns-in-Err-clause-counts
-returns-in-Err-clause-counts g c = (returns-in-Err-clause-memory g c).counts
+pub returns-clause-counts : goal.returns-clause-counts
+returns-clause-counts g c = (returns-clause-memory g c).counts

@@ -3,7 +3,7 @@ use Rattle.lane_run.specs.Done.{LaneFaults}
 use Rattle.std.proofs.Common.{ℕ}
 use Rattle.task_race.specs.Bays.{counts_at}
 use Rattle.task_race.specs.Ran.{racing_seen}
-use Rattle.lane_run.specs.Raced.{bays_of}
+use Rattle.lane_run.specs.Raced.{bays_of, pool_of}
 use Rattle.std.proofs.Common.{length}
 use Rattle.task_race.proofs.RanLemmas.{raced_consistent, raced_done, raced_starts}
 use Rattle.task_race.proofs.run.race_lanes.Goals as goal
@@ -26,4 +26,4 @@ returns-clause-faults g c = λ i b d q was is told.
 pub returns-clause-starts : goal.returns-clause-starts
 returns-clause-starts g c = λ i b d q was is told.
     raced_starts (racing_seen c.args.racing.now) c.args.start c.mode.result c.unwrap_or.result (length c.args.cells.now) c.mode.ensures c.unwrap_or.ensures c.requires.cells
-    (g.L.Launch.told b) (g.L.Launch.told d) i q (c.race_fresh.ensures.starts i b d q was is told)
+    (pool_of c.args.lanes) (g.L.Launch.told b) (g.L.Launch.told d) i q (c.race_fresh.ensures.starts i b d q was is told)
