@@ -5,7 +5,8 @@ use run_scenes::first_wrong;
 use std::test::Fail;
 
 // Lanes of one task that need each other, under two places and under one.
-const LANES_SHARE: &str = "file two.sby [options]|mode bmc|depth 1|[engines]|drup solver|sat|[script]|read_rtlil t.il|[files]|t.il|
+const LANES_SHARE: &str =
+    "file two.sby [options]|mode bmc|depth 1|[engines]|drup solver|sat|[script]|read_rtlil t.il|[files]|t.il|
 child gate=1
 child lane=1;text=s UNKNOWN|;gate=0
 words -j 2 two.sby
@@ -25,12 +26,16 @@ rc 4
 
 #[test]
 fn lanes_share_places(rt: HostRuntime) -> Result<(), Fail> {
-    assert_eq!(rt; first_wrong(&rt, NAMES, "file t.il <T>\nclock 1000", LANES_SHARE)?, None);
+    assert_eq!(rt;
+        first_wrong(&rt, NAMES, "file t.il <T>\nclock 1000", LANES_SHARE)?,
+        None
+    );
     Ok(())
 }
 
 // Tasks that need each other: at the same time, and one after the other.
-const TASKS_BESIDE: &str = "file two.sby [tasks]|a|b|[options]|mode bmc|depth 1|[engines]|drup solver|[script]|read_rtlil t.il|[files]|t.il|
+const TASKS_BESIDE: &str =
+    "file two.sby [tasks]|a|b|[options]|mode bmc|depth 1|[engines]|drup solver|[script]|read_rtlil t.il|[files]|t.il|
 child gate=0;other=1
 child task=1;gate=0;other=0
 words -j 2 two.sby
@@ -64,7 +69,10 @@ rc 4
 
 #[test]
 fn tasks_run_at_the_same_time(rt: HostRuntime) -> Result<(), Fail> {
-    assert_eq!(rt; first_wrong(&rt, NAMES, "file t.il <T>\nclock 1000", TASKS_BESIDE)?, None);
+    assert_eq!(rt;
+        first_wrong(&rt, NAMES, "file t.il <T>\nclock 1000", TASKS_BESIDE)?,
+        None
+    );
     Ok(())
 }
 
@@ -112,6 +120,9 @@ rc 16
 
 #[test]
 fn told_as_alone(rt: HostRuntime) -> Result<(), Fail> {
-    assert_eq!(rt; first_wrong(&rt, NAMES, "file t.il <T>\nclock 1000", AS_ALONE)?, None);
+    assert_eq!(rt;
+        first_wrong(&rt, NAMES, "file t.il <T>\nclock 1000", AS_ALONE)?,
+        None
+    );
     Ok(())
 }
