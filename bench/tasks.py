@@ -48,12 +48,13 @@ def times(sby, line, size):
 
 def memory(sby):
     """Of 200 tasks of one design under -j 4, beside one task alone."""
-    made = []
-    for tasks, words in ((HUNDREDS[:1], []), (HUNDREDS, ["-j", "4"])):
-        with tempfile.TemporaryDirectory() as folder:
-            put(folder, bank(40, 50, "assert", 1), tasks, "mode bmc\ndepth 30\nexpect unknown\n", "btor true")
-            made.append(measured(sby, folder, words, 3600)[0].mb)
-    print(f"one task {made[0]:.0f} MB, 200 tasks under -j 4 {made[1]:.0f} MB")
+    for registers in (40, 400):
+        made = []
+        for tasks, words in ((HUNDREDS[:1], []), (HUNDREDS, ["-j", "4"])):
+            with tempfile.TemporaryDirectory() as folder:
+                put(folder, bank(registers, 50, "assert", 1), tasks, "mode bmc\ndepth 30\nexpect unknown\n", "btor true")
+                made.append(measured(sby, folder, words, 3600)[0].mb)
+        print(f"{registers * 50} bits of state: one task {made[0]:.0f} MB, 200 tasks under -j 4 {made[1]:.0f} MB")
 
 
 def main():

@@ -1,6 +1,7 @@
 -- Problems, and their jobs' places.
 use Rattle.std.proofs.Common.{◌≡◌, ℕ, zero, suc, ◌+◌, ◌<◌, List, length, map, Some, sym, ap, ◌∙◌, arith}
 use Rattle.std.specs.Prelude.{slice_get}
+use Rattle.std.proofs.lemmas.List.FromFn.{length-map-range_with_len}
 use Rattle.std.specs.List.{range_with_len}
 use Rattle.cnf_form.specs.Cnf.{FormulaOf}
 use Rattle.cnf_form.specs.Dimacs.{dimacs_text}
@@ -35,3 +36,7 @@ one_job_file p job a b v w = v.2 ∙ ap dimacs_text (one_formula p job v.0 w.0 v
 -- how many jobs there are
 pub jobs_count : (p : AskedOf) (names : List JobName) → IsStored p names → length names ≡ length (jobs_of p.problem p.design)
 jobs_count p names stored = ap length stored.names
+
+-- the first of the jobs that are numbered from 0
+pub first-numbered : (make : ℕ → JobName) (n : ℕ) → 0 < length (map make (range_with_len 0 n)) → slice_get (map make (range_with_len 0 n)) 0 ≡ Some (make 0)
+first-numbered make n some = numbered-at make n 0 0 0 (omega (arith, some, length-map-range_with_len make 0 n)) (omega arith)

@@ -7,6 +7,7 @@ pub mod Finding
 pub mod Agree
 pub mod Rows
 pub mod Stored
+pub mod Basis
 pub mod Played
 pub mod Judging
 pub mod Solver

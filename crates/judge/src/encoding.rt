@@ -74,7 +74,7 @@ pub(crate) fn names_for(
 }
 
 // What the jobs of a mode ask.
-fn asked_in(mode: Mode) -> Asked
+pub(crate) fn asked_in(mode: Mode) -> Asked
     ensures { result ≡ asked_by_mode mode }
 {
     match mode {
@@ -99,7 +99,7 @@ fn fits(alloc: Global, net: &TaskNet, job: JobName, span: Span) -> Result<bool, 
 }
 
 // The first of the jobs that has too many variables, if one has.
-fn first_unfit(
+pub(crate) fn first_unfit(
     alloc: Global,
     flat: &Flat,
     model: &WordModel,
@@ -122,31 +122,4 @@ fn first_unfit(
         }
     }
     Ok(None)
-}
-
-// The net of what a mode asks, over which each of its jobs fits; or the first job that has too many variables.
-pub(crate) fn net_for(
-    alloc: Global,
-    flat: &Flat,
-    model: &WordModel,
-    mode: Mode,
-    span: Span,
-    names: &[JobName],
-) -> Result<Result<TaskNet, JobName>, AllocError>
-    requires built { IsBuiltFor flat.now model.now }
-    requires span { IsSpan span }
-    requires most { span.depth ≤ 100000 }
-    requires names { names.now ≡ jobs_in mode span flat.now }
-    ensures net { IfOk result (λ r. IfOk r (λ t. IsTaskNet model.now (asked_by_mode mode) t)) }
-    ensures fits { IfOk result (λ r. IfOk r (λ t. FitUpTo t span names.now (length names.now))) }
-    ensures refused { IfOk result (λ r. IfErr r (λ job. IsRefusedAmong flat.now model.now span names.now job)) }
-{
-    let net = match TaskNet::new(alloc, model, asked_in(mode))? {
-        Ok(net) => net,
-        Err(_) => return Ok(Err(names[0])),
-    };
-    match first_unfit(alloc, flat, model, &net, mode, span, names)? {
-        Some(job) => Ok(Err(job)),
-        None => Ok(Ok(net)),
-    }
 }

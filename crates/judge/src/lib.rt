@@ -1,6 +1,8 @@
 //! The judge: a stream becomes a finding about the design, and a finding is true wherever it is.
 #![tactic(auto)]
 
+mod basis;
+mod designs;
 mod encoding;
 mod finding;
 mod job_file;
@@ -11,6 +13,7 @@ mod run;
 mod solver;
 mod text;
 
+pub use designs::Designs;
 pub use finding::Finding;
 pub use job_file::JobFile;
 pub use judging::{Judge, Progress, State};

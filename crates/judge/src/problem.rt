@@ -9,17 +9,17 @@ ghost use Rattle.judge.specs.Jobs.{jobs_of, span_of};
 ghost use Rattle.net_jobs.specs.Jobs.{job_encoding};
 ghost use Rattle.net_unroll.specs.Encoding.{formula_of};
 ghost use Rattle.judge.specs.Played.{IsPlayed};
-ghost use Rattle.judge.specs.Problem.{AskedOf, IsEncodedOf, IsFormulaOf, IsJob, IsJobFile, IsProblem};
+ghost use Rattle.judge.specs.Problem.{AskedOf, IsEncodedOf, IsFormulaOf, IsJob, IsJobFile, IsProblem, asked_in};
 ghost use Rattle.sby_terms.specs.Span.{IsSpan, whole};
 
-use crate::encoding::{model_of, names_for, net_for};
+use crate::basis::Basis;
+use crate::encoding::{first_unfit, names_for};
 use crate::job_file::JobFile;
 use crate::run::PlayedRun;
 use crate::text::Text;
-use design_check::check::{DesignFault, check};
+use design_check::check::DesignFault;
 use design_check::flat::Flat;
-use design_reader::{ReadFault, read};
-use model_core::model::WordModel;
+use design_reader::ReadFault;
 use model_play::whole::play;
 use net_jobs::encode_again;
 use net_text::EncodedClauses;
@@ -27,31 +27,30 @@ use net_unroll::Encoded;
 use sby_terms::{JobName, Mode, Span};
 use std::alloc::{AllocError, Global};
 use std::marker::Model;
-use task_net::TaskNet;
+use std::sync::Arc;
 
 /// What is asked: a design's text, a mode and the cycles to look at; with the design that the text reads, its model, and the net of
-/// what the mode asks. No job is kept: each is made from the net when it is wanted.
+/// what the mode asks, which problems can share. No job is kept: each is made from the net when it is wanted.
 #[derive(Drop)]
 pub struct Problem {
     text: Text,
     mode: Mode,
     span: Span,
-    flat: Flat,
-    model: WordModel,
-    net: TaskNet,
+    basis: Arc<Basis, Global>,
     names: Vec<JobName>,
 }
 
 impl Model for Problem {
+    ghost use Rattle.std.specs.Arc.{arc_value};
     ghost use Rattle.judge.specs.Problem.{AskedOf};
 
     ghost Value = { AskedOf };
 
     ghost use Rattle.judge.specs.Stored.{IsStored, asked_by};
 
-    ghost view = { λ a. asked_by a.text a.mode a.span a.flat a.model a.net };
+    ghost view = { λ a. asked_by a.text a.mode a.span (arc_value a.basis).design (arc_value a.basis).model (arc_value a.basis).net };
 
-    ghost invariant = { λ a. IsStored (asked_by a.text a.mode a.span a.flat a.model a.net) a.names.items };
+    ghost invariant = { λ a. IsStored (asked_by a.text a.mode a.span (arc_value a.basis).design (arc_value a.basis).model (arc_value a.basis).net) a.names.items };
 }
 
 /// Why a problem is refused: the text reads no design, the design has a fault, or a job has too many variables.
@@ -79,32 +78,53 @@ impl Problem {
             (λ p. (p.problem ≡ record { text = text.items; mode = mode; span = span }) × IsProblem p)
             (IsProblemFault (record { text = text.items; mode = mode; span = span }))) }
     {
-        let design = match read(alloc, text.as_slice())? {
-            Ok(design) => design,
-            Err(fault) => return Ok(Err(ProblemFault::Read(fault))),
+        let basis = match Basis::new(alloc, text, mode, span)? {
+            Ok(basis) => basis,
+            Err(fault) => return Ok(Err(fault)),
         };
-        let flat = match check(alloc, design)? {
-            Ok(flat) => flat,
-            Err(fault) => return Ok(Err(ProblemFault::Design(fault))),
-        };
-        let model = model_of(alloc, &flat)?;
-        let names = names_for(alloc, &flat, &model, mode, span)?;
-        let net = match net_for(alloc, &flat, &model, mode, span, names.as_slice())? {
-            Ok(net) => net,
-            Err(job) => return Ok(Err(ProblemFault::TooMany(job))),
-        };
-        let text = Text::new(alloc, text)?;
+        match Arc::new(alloc, basis) {
+            Ok(basis) => Problem::over(alloc, basis, mode, span),
+            Err(_) => Err(AllocError),
+        }
+    }
+
+    // The problem over what was made of its text for what its mode asks.
+    pub(crate) fn over(
+        alloc: Global,
+        basis: Arc<Basis, Global>,
+        mode: Mode,
+        span: Span,
+    ) -> Result<Result<Problem, ProblemFault>, AllocError>
+        requires span { IsSpan span }
+        requires most { span.depth ≤ 100000 }
+        requires mode { mode ≢ Mode.Bmc → span ≡ whole span.depth }
+        requires asked { basis.value.asked ≡ asked_in mode }
+        ensures problem { IfOk result (λ r. MatchResult r
+            (λ p. (p.problem ≡ record { text = basis.value.text; mode = mode; span = span }) × IsProblem p)
+            (IsProblemFault (record { text = basis.value.text; mode = mode; span = span }))) }
+    {
+        let made = &*basis;
+        let (flat, model, net) = (made.flat(), made.model(), made.net());
+        let names = names_for(alloc, flat, model, mode, span)?;
+        if let Some(job) = first_unfit(alloc, flat, model, net, mode, span, names.as_slice())? {
+            return Ok(Err(ProblemFault::TooMany(job)));
+        }
+        let text = made.text().share()?;
         let problem = Problem {
             text,
             mode,
             span,
-            flat,
-            model,
-            net,
+            basis,
             names,
         };
         let _ = problem.flat();
         Ok(Ok(problem))
+    }
+
+    // What was made of the text, with one more owner.
+    pub(crate) fn share_basis(&self) -> Result<Arc<Basis, Global>, AllocError> {
+        let basis = Arc::try_clone(&self.basis)?;
+        Ok(basis)
     }
 
     /// The design's text.
@@ -148,7 +168,7 @@ impl Problem {
         ensures flat { result.now ≡ self.now.design }
         ensures problem { IsProblem self.now }
     {
-        &self.flat
+        self.basis.flat()
     }
 
     /// How many jobs there are.
@@ -190,7 +210,7 @@ impl Problem {
         ensures { IfOk result (λ e. e ≡ job_encoding self.now.net.net job (span_of self.now.problem)) }
     {
         let _flat = self.flat();
-        encode_again(alloc, self.net.net(), job, self.span)
+        encode_again(alloc, self.basis.net().net(), job, self.span)
     }
 
     // The job's formula, which gives its clauses as they are asked for.
@@ -214,10 +234,11 @@ impl Problem {
         ensures { IfOk result (λ run. (e : EncodedOf) × IsEncodedOf self.now job e × IsPlayed self.now e (values_of values.now) run) }
     {
         let encoded = self.encoded(alloc, job)?;
-        let choices = self.net.decode(alloc, job, self.span, &encoded, values)?;
-        let model = &self.model;
+        let basis = &*self.basis;
+        let (flat, model, net) = (basis.flat(), basis.model(), basis.net());
+        let choices = net.decode(alloc, job, self.span, &encoded, values)?;
         let rows = play(alloc, model, &choices)?;
-        let design = self.flat.design();
+        let design = flat.design();
         let wires = design.bits();
         let free = design.free();
         let kept = model.size() - (wires + free + 2);

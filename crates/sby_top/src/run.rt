@@ -27,7 +27,7 @@ use crate::serve::{Raced, Served};
 use crate::task::Task;
 use crate::traces::{Shown, put_traces, shown_runs};
 use judge::{
-    Problem, Text, base_and_step_show_that_nothing_breaks, slices_show_that_nothing_breaks,
+    Designs, Problem, Text, base_and_step_show_that_nothing_breaks, slices_show_that_nothing_breaks,
 };
 use lane_berth::Allowance;
 use sby_edge::{Clock, Files, Sink, Yard};
@@ -335,7 +335,10 @@ impl<R: Threads + Wait + Sync, F: Files, S: Sink, Y: Yard, C: Clock> Host<'_, R,
         ensures keeps { ⟦<Self as Outside>⟧.keeps self.old self.new }
     {
         let mut alone = Allowance::none();
-        let prepared = self.prepare(number, &task, &mut alone);
+        let prepared = {
+            let mut designs = Designs::new(self.alloc);
+            self.prepare(number, &task, &mut designs, &mut alone)
+        };
         alone.end();
         match prepared {
             Ok(ready) => {

@@ -28,7 +28,7 @@ ghost use Rattle.sby_top.specs.Task.{Lanes};
 use crate::host::{Host, Outside};
 use crate::judge_stream::judge_stored;
 use crate::task::{DesignAt, Service, Task};
-use judge::{Finding, Problem, ProblemFault, one_file};
+use judge::{Designs, Finding, Problem, ProblemFault, one_file};
 use lane_berth::Allowance;
 use net_text::Text;
 use race_core::{JobEnd, Report, Room};
@@ -190,12 +190,17 @@ fn refusal(fault: ProblemFault) -> Early
     }
 }
 
-fn problem_of(alloc: Global, text: Vec<u8>, task: &Task) -> Result<Problem, Early>
+fn problem_of(
+    alloc: Global,
+    designs: &mut Designs,
+    text: Vec<u8>,
+    task: &Task,
+) -> Result<Problem, Early>
     requires { IsAskable (task_seen task.now) }
     ensures ok { IfOk result (λ p. (p.problem ≡ problem_of (task_seen task.now) text.items) × IsProblem p) }
     ensures err { IfErr result (IsRefusal (problem_of (task_seen task.now) text.items)) }
 {
-    match Problem::new(alloc, text, task.mode, task.span) {
+    match designs.problem(alloc, text, task.mode, task.span) {
         Ok(Ok(problem)) => Ok(problem),
         Ok(Err(fault)) => Err(refusal(fault)),
         Err(_) => Err(Early::Memory),
@@ -213,7 +218,12 @@ fn stream_count(service: &Service) -> usize
 }
 
 // Gets the design. It is accepted, and there is a job for each stream, or nothing was put.
-fn accept<F: Files>(alloc: Global, files: &mut F, task: &Task) -> Result<Problem, Early>
+fn accept<F: Files>(
+    alloc: Global,
+    files: &mut F,
+    designs: &mut Designs,
+    task: &Task,
+) -> Result<Problem, Early>
     requires { IsAskable (task_seen task.now) }
     ensures ok { IfOk result (IsServed (F.told files.old) (task_seen task.now)) }
     ensures err { IfErr result (HasReason (task_seen task.now) (files_at (F.told files.old) (F.faults files.old) (F.blamed files.old)) (files_at (F.told files.new) (F.faults files.new) (F.blamed files.new))) }
@@ -223,7 +233,7 @@ fn accept<F: Files>(alloc: Global, files: &mut F, task: &Task) -> Result<Problem
     ensures later { F.faults files.old ≤ F.faults files.new }
 {
     let text = design_text(alloc, files, &task.design)?;
-    let problem = problem_of(alloc, text, task)?;
+    let problem = problem_of(alloc, designs, text, task)?;
     if stream_count(&task.service) > problem.jobs() {
         return Err(Early::Streams);
     }
@@ -492,12 +502,13 @@ impl<R: Threads + Wait + Sync, F: Files, S: Sink, Y: Yard, C: Clock> Host<'_, R,
         }
     }
 
-    /// Gets the design, puts the jobs' files, and judges the stored streams, or takes all that the race needs: after this memory runs out
-    /// for none of the reports.
+    /// Gets the design, which may be one of these already, puts the jobs' files, and judges the stored streams, or takes all that the race
+    /// needs: after this memory runs out for none of the reports.
     pub fn prepare<'p>(
         &mut self,
         number: u32,
         task: &Task,
+        designs: &mut Designs,
         allowance: &mut Allowance<'p>,
     ) -> Result<Ready<'p, Y::Bay>, Early>
         requires { IsAskable (task_seen task.now) }
@@ -519,7 +530,7 @@ impl<R: Threads + Wait + Sync, F: Files, S: Sink, Y: Yard, C: Clock> Host<'_, R,
     {
         // A job has one file, and the problem is one.
         one_file();
-        let problem = accept(self.alloc, self.files, task)?;
+        let problem = accept(self.alloc, self.files, designs, task)?;
         let Ok(room) = Room::new(self.alloc, job_count(&problem), report_count(&task.service))
         else {
             return Err(Early::Memory);

@@ -85,8 +85,8 @@ fn race_slot<R: Threads + Wait + Sync, L: Launch + Send, C: Clock>(
     }
 }
 
-// At most this many tasks are raced at the same time, each with a thread for each of its lanes: as many as an allowance has places, so that
-// a place is never free while a task waits, and threads don't grow with the number of tasks.
+// At most this many tasks are raced at the same time, each with a thread for each of its lanes, so that threads don't grow with the number
+// of tasks: as many as an allowance has places.
 const MOST_RACES: usize = 64;
 
 /// Races the tasks of slots at the same time.

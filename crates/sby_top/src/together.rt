@@ -21,6 +21,7 @@ use crate::slot::{Slot, Stage, race_slots};
 use crate::top::out_of_memory;
 use crate::turns::{Book, Turn, turn_of};
 use jobs_pool::{Pool, PoolSeat};
+use judge::Designs;
 use lane_berth::Allowance;
 use sby_edge::{Clock, Files, Sink, Yard};
 use std::alloc::{AllocError, Global};
@@ -51,6 +52,7 @@ impl<R: Threads + Wait + Sync, F: Files, S: Sink, Y: Yard, C: Clock> Host<'_, R,
         &mut self,
         number: u32,
         turn: Turn,
+        designs: &mut Designs,
         allowance: &mut Allowance<'p>,
     ) -> Stage<'p, Y::Bay>
         requires { IsSound (turn_seen turn) }
@@ -63,7 +65,7 @@ impl<R: Threads + Wait + Sync, F: Files, S: Sink, Y: Yard, C: Clock> Host<'_, R,
     {
         match turn {
             Turn::Refused(name, early) => Stage::Refused(name, early),
-            Turn::Run(task) => match self.prepare(number, &task, allowance) {
+            Turn::Run(task) => match self.prepare(number, &task, designs, allowance) {
                 Ok(ready) => Stage::Ready(task, ready),
                 Err(early) => Stage::Ended(task, early),
             },
@@ -75,6 +77,7 @@ impl<R: Threads + Wait + Sync, F: Files, S: Sink, Y: Yard, C: Clock> Host<'_, R,
         &mut self,
         number: u32,
         turn: Turn,
+        designs: &mut Designs,
         allowance: &mut Allowance<'p>,
     ) -> Slot<'p, Y::Bay>
         requires { IsSound (turn_seen turn) }
@@ -86,7 +89,7 @@ impl<R: Threads + Wait + Sync, F: Files, S: Sink, Y: Yard, C: Clock> Host<'_, R,
         ensures allowance { allowance.new ≡ allowance.old }
         ensures keeps { ⟦<Self as Outside>⟧.keeps self.old self.new }
     {
-        let stage = self.prepare_stage(number, turn, allowance);
+        let stage = self.prepare_stage(number, turn, designs, allowance);
         Slot {
             number,
             stage: Some(stage),
@@ -98,6 +101,7 @@ impl<R: Threads + Wait + Sync, F: Files, S: Sink, Y: Yard, C: Clock> Host<'_, R,
         &mut self,
         book: &Book<'_>,
         asked: Option<&str>,
+        designs: &mut Designs,
         allowance: &mut Allowance<'p>,
         slots: &mut Vec<Slot<'p, Y::Bay>>,
     ) -> bool
@@ -116,7 +120,7 @@ impl<R: Threads + Wait + Sync, F: Files, S: Sink, Y: Yard, C: Clock> Host<'_, R,
         else {
             return false;
         };
-        let slot = self.prepare_turn(number, turn, allowance);
+        let slot = self.prepare_turn(number, turn, designs, allowance);
         slots.push_reserved(slot);
         true
     }
@@ -126,6 +130,7 @@ impl<R: Threads + Wait + Sync, F: Files, S: Sink, Y: Yard, C: Clock> Host<'_, R,
         &mut self,
         book: &Book<'_>,
         names: &[String],
+        designs: &mut Designs,
         allowance: &mut Allowance<'p>,
         slots: &mut Vec<Slot<'p, Y::Bay>>,
     ) -> bool
@@ -142,7 +147,7 @@ impl<R: Threads + Wait + Sync, F: Files, S: Sink, Y: Yard, C: Clock> Host<'_, R,
         ensures keeps { ⟦<Self as Outside>⟧.keeps self.old self.new }
     {
         for name in names {
-            if !self.prepare_asked(book, Some(name.as_str()), allowance, slots) {
+            if !self.prepare_asked(book, Some(name.as_str()), designs, allowance, slots) {
                 return false;
             }
         }
@@ -177,7 +182,9 @@ impl<R: Threads + Wait + Sync, F: Files, S: Sink, Y: Yard, C: Clock> Host<'_, R,
                 return Err(error);
             }
         };
-        let is_all = self.prepare_named(book, names, &mut allowance, &mut slots);
+        // Tasks of one design share it.
+        let mut designs = Designs::new(self.alloc);
+        let is_all = self.prepare_named(book, names, &mut designs, &mut allowance, &mut slots);
         allowance.end();
         Ok((slots, is_all))
     }
@@ -315,7 +322,8 @@ impl<R: Threads + Wait + Sync, F: Files, S: Sink, Y: Yard, C: Clock> Host<'_, R,
             allowance.end();
             return out_of_memory(self.alloc);
         };
-        let slot = self.prepare_turn(0, turn, &mut allowance);
+        let mut designs = Designs::new(self.alloc);
+        let slot = self.prepare_turn(0, turn, &mut designs, &mut allowance);
         slots.push_reserved(slot);
         allowance.end();
         self.race_and_show(slots, true, ends)
