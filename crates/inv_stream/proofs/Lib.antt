@@ -1,0 +1,5 @@
+pub mod Cutting
+pub mod Lining
+pub mod Taking
+pub mod Counting
+pub mod Pieces

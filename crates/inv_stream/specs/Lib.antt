@@ -1,0 +1,4 @@
+pub mod Spelling
+pub mod Machine
+pub mod Telling
+pub mod Taking
