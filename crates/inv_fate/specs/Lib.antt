@@ -1,0 +1,3 @@
+pub mod Fate
+pub mod Cert
+pub mod Number
