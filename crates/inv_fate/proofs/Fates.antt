@@ -1,6 +1,6 @@
 -- Fates: for good, one, and none missing.
 use Rattle.std.proofs.Common.{◌≡◌, ◌≢◌, ◌⊎◌, ℕ, List, [], ◌∷◌, ◌++◌, Some, None, refl, inl, inr, sym, ◌∙◌}
-use Rattle.std.specs.Prelude.{Option, Contains}
+use Rattle.std.specs.Prelude.{Option}
 use Rattle.cnf_form.specs.Cnf.{LitOf, IsAdmitted}
 use Rattle.pair_form.specs.Pair.{PairOf}
 use Rattle.cert_judge.proofs.Deletions.{Alike, alike_itself, alike_admitted, admitted_alike, alike_more, alike_deleted, some_deletion}

@@ -1,5 +1,5 @@
 -- What a stream that is found holds.
-use Rattle.std.proofs.Common.{◌≡◌, ◌≢◌, ◌⊎◌, ℕ, List, [], ◌∷◌, ◌++◌, Some, None, refl, inl, inr, subst}
+use Rattle.std.proofs.Common.{List, [], ◌∷◌, ◌++◌, Some, refl, inl, inr, subst}
 use Rattle.std.specs.Prelude.{Contains}
 use Rattle.std.proofs.lemmas.List.Elements.{Contains-push_cases}
 use Rattle.cnf_form.proofs.Members.{Contains-empty}
@@ -10,7 +10,7 @@ use Rattle.inv_stream.specs.Machine.{InvSaying, IsFault, IsNext, Says}
 use Rattle.inv_stream.specs.declared.mode.Part.{Part}
 use Rattle.inv_stream.specs.declared.mode.Part.TheVariants.{Head, Inv, Start, Step, Safe}
 use Rattle.inv_fate.specs.Fate.{AreAdmitted, ComesTo, Found, IsOverBits, opened, owed}
-use Rattle.inv_fate.specs.Cert.{IsCertOf, Shows}
+use Rattle.inv_fate.specs.Cert.{IsCertOf}
 
 abbrev pub Clauses : Type 0
 Clauses = List (List LitOf)

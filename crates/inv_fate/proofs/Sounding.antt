@@ -1,19 +1,19 @@
 -- A certificate as a stream, and what it is worth.
-use Rattle.std.proofs.Common.{◌≡◌, ◌≢◌, ◌⊎◌, ℕ, true, List, [], ◌∷◌, ◌++◌, Some, None, refl, inl, inr, subst, sym}
+use Rattle.std.proofs.Common.{◌≡◌, ◌≢◌, ◌⊎◌, true, List, [], ◌∷◌, ◌++◌, Some, refl, inl, inr, subst, sym}
 use Rattle.std.specs.Prelude.{Contains}
-use Rattle.cnf_form.specs.Cnf.{LitOf, Assignment, Satisfies, SatisfiesClause, lit_in, IsAdmitted, Deletes, Drup, Line, Addition, Deletion}
+use Rattle.cnf_form.specs.Cnf.{LitOf, Assignment, Satisfies, SatisfiesClause, lit_in, IsAdmitted, Drup, Line, Addition, Deletion}
 use Rattle.cnf_form.proofs.Members.{Contains-head, Contains-tail}
 use Rattle.cnf_form.proofs.Removal.{Drup-sound, Drup-refutes}
 use Rattle.cnf_form.proofs.Rup.{Admitted-true, Satisfies-append, Satisfies-push}
 use Rattle.pair_form.specs.Pair.{PairOf, IsInvariant, clauses_over}
-use Rattle.pair_form.specs.declared.pair.Frame.TheVariants.{First, Second}
+use Rattle.pair_form.specs.declared.pair.Frame.TheVariants.{First}
 use Rattle.cert_stream.specs.Telling.{IsClause, IsDelete}
 use Rattle.inv_stream.specs.Machine.{InvSaying, IsNext, Says}
 use Rattle.inv_stream.specs.declared.mode.Part.{Part}
-use Rattle.inv_stream.specs.declared.mode.Part.TheVariants.{Head, Inv, Start, Step, Safe}
+use Rattle.inv_stream.specs.declared.mode.Part.TheVariants.{Inv, Start, Step, Safe}
 use Rattle.inv_fate.specs.Fate.{AreAdmitted, Comes, ComesTo, Found, IsOverBits, opened, owed}
 use Rattle.inv_fate.specs.Cert.{IsCertOf, Shows}
-use Rattle.inv_fate.proofs.Finding.{Clauses, Leads, Refutes}
+use Rattle.inv_fate.proofs.Finding.{Clauses}
 
 unit_true : (x : Assignment) (l : LitOf) → lit_in x l ≡ true → SatisfiesClause x (l ∷ [])
 unit_true x l t = (l, Contains-head l [], t)

@@ -1,5 +1,5 @@
 -- A certificate of an invariant, whole.
-use Rattle.std.specs.Prelude.{◌≡◌, List, [], ◌∷◌, ◌++◌, Contains}
+use Rattle.std.specs.Prelude.{List, [], Contains}
 use Rattle.cnf_form.specs.Cnf.{LitOf, IsAdmitted, Drup, Line}
 use Rattle.pair_form.specs.Pair.{PairOf}
 use Rattle.inv_stream.specs.declared.mode.Part.{Part}

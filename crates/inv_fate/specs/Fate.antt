@@ -1,7 +1,7 @@
 -- What a stream of an invariant comes to: a certificate, or why it is none.
 use Rattle.std.specs.Prelude.{◌≡◌, ◌≢◌, ◌⊎◌, ℕ, ◌<◌, ◌≤◌, Bool, true, false, List, [], ◌∷◌, ◌++◌, Option, Some, None, Contains, length, take}
 use Rattle.cnf_form.specs.Cnf.{LitOf, IsAdmitted, Deletes}
-use Rattle.cert_stream.specs.Telling.{Saying, IsClause, IsDelete, IsValue, IsValuesEnd, IsUnknown, IsFault as IsParseFault}
+use Rattle.cert_stream.specs.Telling.{IsClause, IsDelete, IsValue, IsValuesEnd, IsUnknown, IsFault as IsParseFault}
 use Rattle.cert_judge.specs.Fate.{cert_kind}
 use Rattle.cert_judge.specs.declared.stream.CertKind.TheVariants.{BadLiteral, NotRup, TooLong, EarlyEnd}
 use Rattle.pair_form.specs.Pair.{PairOf, bit_lits, clauses_over}
