@@ -1,5 +1,5 @@
 -- The comment lines of a pair's text stand before its formula.
-use Rattle.std.proofs.Common.{◌≡◌, ◌≢◌, ℕ, ◌+◌, ◌<◌, ◌≤◌, ◌^◌, Bool, true, false, cond, suc, List, [], ◌∷◌, ◌++◌, Option, Some, None, length, refl, sym, ap, ◌∙◌, subst, inl, inr, arith, append_assoc, lit<}
+use Rattle.std.proofs.Common.{◌≡◌, ◌≢◌, ℕ, ◌+◌, ◌<◌, ◌^◌, Bool, true, false, cond, suc, List, [], ◌∷◌, ◌++◌, Option, Some, None, length, refl, sym, ap, ◌∙◌, subst, arith, append_assoc, lit<}
 use Rattle.std.specs.Prelude.{All, codes, decimal, slice_index_or}
 use Rattle.std.specs.Str.Parse.{AllDigits}
 use Rattle.std.specs.Char.{digit_value}
@@ -9,7 +9,7 @@ use Rattle.std.proofs.lemmas.Bool.Decides.{nat_tests}
 use Rattle.cnf_form.specs.Cnf.{LitOf, LitWithin}
 use Rattle.cnf_form.specs.Dimacs.{Skips, feed, comment, IsDimacs, dimacs_text, literal_text}
 use Rattle.cnf_form.proofs.Writing.{dimacs_text_is_IsDimacs}
-use Rattle.pair_form.specs.Pair.{PairOf, IsPair, bit_at}
+use Rattle.pair_form.specs.Pair.{PairOf, IsPair}
 use Rattle.pair_form.specs.Text.{bit_text, bits_text, named_text, bad_text, next_text, start_text, pair_text}
 use Rattle.pair_form.specs.declared.pair.BitLits.{BitLits}
 

@@ -1,2 +1,3 @@
 pub mod Writing
 pub mod Leading
+pub mod Unambiguous

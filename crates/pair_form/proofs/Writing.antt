@@ -1,14 +1,13 @@
 -- The text of a pair, piece by piece.
 use Rattle.std.proofs.Common.{◌≡◌, ℕ, zero, suc, ◌+◌, ◌-◌, ◌<◌, ◌≤◌, List, [], ◌∷◌, ◌++◌, Option, Some, None, refl, sym, ap, ◌∙◌, arith, length, length-append, take, drop, append_assoc, take-append-drop}
-use Rattle.std.specs.Prelude.{slice_get, slice_index_or, codes}
+use Rattle.std.specs.Prelude.{slice_get}
 use Rattle.std.proofs.lemmas.List.{drop-drop, drop_more, length-drop, length-take-le, take-append-le}
 use Rattle.std.proofs.lemmas.Option.{get_or_from_slice_get, slice_get_within}
 use Rattle.std.proofs.Math.ListN.{drop_of_length-le}
 use Rattle.std.proofs.Math.Seq.{take-length}
 use Rattle.cnf_form.specs.Cnf.{LitOf}
 use Rattle.cnf_form.specs.Dimacs.{body_text, clause_text, header_text, literal_text}
-use Rattle.pair_form.specs.Pair.{PairOf}
-use Rattle.pair_form.specs.Text.{bit_text, bits_text, clauses_text, named_text}
+use Rattle.pair_form.specs.Text.{bit_text, bits_text, clauses_text}
 use Rattle.pair_form.specs.declared.pair.BitLits.{BitLits}
 
 -- the first element of what is left

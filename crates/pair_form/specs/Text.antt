@@ -1,8 +1,8 @@
 -- The text of a pair: comment lines with its literals, then its formula in DIMACS.
-use Rattle.std.specs.Prelude.{◌≡◌, ℕ, ◌+◌, ◌<◌, ◌≤◌, List, [], ◌∷◌, ◌++◌, length, drop, Option, Some, None, slice_get, codes, decimal}
+use Rattle.std.specs.Prelude.{◌≡◌, ℕ, ◌+◌, ◌≤◌, List, [], ◌∷◌, ◌++◌, length, drop, Option, Some, None, slice_get, codes, decimal}
 use Rattle.cnf_form.specs.Cnf.{LitOf}
 use Rattle.cnf_form.specs.Dimacs.{body_text, clause_text, dimacs_text, literal_text}
-use Rattle.pair_form.specs.Pair.{PairOf, bit_at}
+use Rattle.pair_form.specs.Pair.{PairOf}
 use Rattle.pair_form.specs.declared.pair.BitLits.{BitLits}
 use Rattle.pair_form.specs.declared.pieces.Front.{Front}
 use Rattle.pair_form.specs.declared.pieces.Place.{Place}

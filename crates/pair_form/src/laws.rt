@@ -10,3 +10,9 @@ ghost use Rattle.pair_form.specs.Text.{pair_text};
 pub fn texts_are_dimacs()
     ensures { (p : PairOf) → IsPair p → IsDimacs (pair_text p) p.formula }
 {}
+
+/// Two pairs of one text are the same, but for bits without literals after the last that has some.
+#[tactic(auto, using(crate::proofs::Unambiguous::one_pair))]
+pub fn texts_have_one_pair()
+    ensures { (p q : PairOf) → IsPair p → IsPair q → pair_text p ≡ pair_text q → IsSamePair p q }
+{}

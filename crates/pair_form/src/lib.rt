@@ -6,6 +6,6 @@ mod pair;
 mod pieces;
 mod text;
 
-pub use laws::texts_are_dimacs;
+pub use laws::{texts_are_dimacs, texts_have_one_pair};
 pub use pair::{BitLits, Frame, Pair};
 pub use text::Text;
