@@ -3,3 +3,4 @@ pub mod Lining
 pub mod Taking
 pub mod Counting
 pub mod Pieces
+pub mod Faults

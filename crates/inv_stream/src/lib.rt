@@ -8,6 +8,6 @@ mod mode;
 mod parser;
 
 pub use feeding::InvReceiver;
-pub use laws::{pieces_join, pieces_say_the_same};
+pub use laws::{faults_stay, pieces_join, pieces_say_the_same};
 pub use mode::{InvFault, InvFaultKind, Line, Part, Spell};
 pub use parser::InvParser;
