@@ -149,8 +149,8 @@ impl Checker {
         }
     }
 
-    // Whether the present clauses admit a clause.
-    fn admits(&mut self, clause: &[Lit]) -> Result<bool, AllocError>
+    /// Whether the clauses admit a clause over the formula's variables, which isn't kept: whether it is RUP (see `add`).
+    pub fn admits(&mut self, clause: &[Lit]) -> Result<bool, AllocError>
         requires { ClauseWithin self.old.vars clause.now }
         ensures same { self.new ≡ self.old }
         ensures exact { IfOk result (λ b. IsTrue b ↔ IsAdmitted self.old.clauses clause.now) }
