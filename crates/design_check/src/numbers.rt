@@ -2,8 +2,7 @@
 
 ghost use Rattle.std.specs.Prelude.{◌≡◌, ◌+◌, ◌-◌, ◌*◌, ◌<◌, ◌≤◌, ◌^◌, All, drop, leb, length};
 ghost use Rattle.design_core.specs.Asked.{has_number, number_at};
-ghost use Rattle.design_core.specs.Digits.{digit_number, digits_number, is_binary, is_number, is_value};
-ghost use Rattle.std.specs.List.{list_all};
+ghost use Rattle.design_core.specs.Digits.{digit_number, digits_number};
 ghost use Rattle.design_check.specs.Faults.{flag};
 ghost use Rattle.design_check.specs.Numbers.{IsNumber};
 ghost use Rattle.design_signals.specs.Chunks.{IsChunk, bits_of};
@@ -12,42 +11,6 @@ use design_core::cell::Cell;
 use design_core::digit::{Constant, Digit};
 use design_core::names::ParameterName;
 use design_signals::chunk::Chunk;
-
-fn is_binary(digit: Digit) -> bool
-    ensures { result ≡ is_binary digit }
-{
-    matches!(digit, Digit::Const(_))
-}
-
-// Whether a constant has no digit but 0 and 1.
-fn is_number(constant: &Constant) -> bool
-    ensures { result ≡ is_number constant.now }
-{
-    for place in 0..constant.len() {
-        if !is_binary(constant.digit(place)) {
-            return false;
-        }
-    }
-    true
-}
-
-fn is_value(digit: Digit) -> bool
-    ensures { result ≡ is_value digit }
-{
-    matches!(digit, Digit::Const(_) | Digit::Free(_))
-}
-
-// Whether each digit of a constant is 0, 1 or a free bit.
-pub(crate) fn are_values(constant: &Constant) -> bool
-    ensures { result ≡ list_all is_value constant.now }
-{
-    for place in 0..constant.len() {
-        if !is_value(constant.digit(place)) {
-            return false;
-        }
-    }
-    true
-}
 
 fn digit_number(digit: Digit) -> u64
     ensures value { result ≡ digit_number digit }
@@ -79,7 +42,7 @@ fn value(constant: &Constant) -> Option<u64>
         return Some(number);
     }
     let mut number = 0u64;
-    for place in (0..constant.len()).rev() {
+    for place in (0..constant.kept()).rev() {
         let digit = digit_at(constant, place);
         if number > (u64::MAX - digit) / 2 {
             return None;
@@ -104,7 +67,7 @@ pub(crate) fn has_number(cell: &Cell, name: ParameterName) -> bool
     ensures { result ≡ has_number cell.now.parameters name }
 {
     match cell.parameter(name) {
-        Some(constant) => is_number(constant),
+        Some(constant) => constant.is_number(),
         None => false,
     }
 }
@@ -122,7 +85,7 @@ pub(crate) fn is_sum_within(left: &Constant, right: &Constant, whole: &Constant)
     ensures { result ≡ leb (digits_number left.now + digits_number right.now) (digits_number whole.now) }
 {
     let mut spare = 1u64;
-    let places = left.len().max(right.len()).max(whole.len());
+    let places = left.kept().max(right.kept()).max(whole.kept());
     for place in (0..places).rev() {
         let more = 2 * spare + digit_at(whole, place);
         let less = 1 + digit_at(left, place) + digit_at(right, place);

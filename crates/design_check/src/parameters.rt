@@ -7,7 +7,7 @@ ghost use Rattle.design_core.specs.Digits.{digits_number};
 ghost use Rattle.design_core.specs.declared.table.ParameterForm.{ParameterForm};
 ghost use Rattle.design_core.specs.Table.{form_of};
 
-use crate::numbers::{are_values, has_number, is_sum_within, number};
+use crate::numbers::{has_number, is_sum_within, number};
 use cell_table::kind::Kind;
 use design_core::cell::Cell;
 use design_core::digit::Constant;
@@ -20,7 +20,7 @@ fn is_value(cell: &Cell, name: ParameterName) -> bool
 {
     match cell.parameter(name) {
         Some(constant) => {
-            are_values(constant)
+            constant.are_values()
                 && number(cell, ParameterName::Width) == Some(constant.len() as u64)
         }
         None => false,

@@ -6,9 +6,13 @@ use Rattle.std.proofs.Math.Nat.{mod-eq_of_lt}
 use Rattle.sby_bits.specs.Rows.{Row, num, low_bits}
 use Rattle.sby_bits.proofs.Numbers.{length-low_bits, low_bits-at}
 use Rattle.sby_bits.proofs.RowLaws.{num-low_bits}
-use Rattle.design_core.specs.Digits.{digit_number, digits_number, is_binary, is_number, number_digits}
+use Rattle.std.proofs.Math.Seq.{drop-append_seam}
+use Rattle.std.specs.List.{list_all}
+use Rattle.design_core.specs.Digits.{above_digits, digit_number, digits_number, is_binary, is_number, is_value, number_digits}
 use Rattle.design_core.specs.declared.digit.Digit.{Digit}
-use Rattle.design_core.specs.declared.digit.Digit.TheVariants.{Const}
+use Rattle.design_core.specs.declared.digit.Digit.TheVariants.{Const, Marker}
+use Rattle.design_core.specs.declared.digit.Extension.{Extension}
+use Rattle.design_core.specs.declared.digit.Extension.TheVariants.{Zeros, Markers}
 
 pub digits_number-drop-le : (i : ℕ) (xs : List Digit) → digits_number (drop i xs) ≤ digits_number xs
 digits_number-drop-le zero xs = omega arith
@@ -67,10 +71,44 @@ pub zeros-above : (xs : List Digit) (n : ℕ) → digits_number (xs ++ replicate
 zeros-above [] n = zeros-number n
 zeros-above (x ∷ xs) n = ap (λ (k : ℕ). digit_number x + 2 * k) (zeros-above xs n)
 
-zeros-binary : (n : ℕ) → is_number (replicate n (Const false)) ≡ true
+pub zeros-binary : (n : ℕ) → is_number (replicate n (Const false)) ≡ true
 zeros-binary zero = refl
 zeros-binary (suc n) = zeros-binary n
 
 pub binary-above : (xs : List Digit) (n : ℕ) → is_number (xs ++ replicate n (Const false)) ≡ is_number xs
 binary-above [] n = zeros-binary n
 binary-above (x ∷ xs) n = ap (λ (b : Bool). is_binary x && b) (binary-above xs n)
+
+-- digits that have no value
+
+markers-number : (n : ℕ) → digits_number (replicate n Marker) ≡ 0
+markers-number zero = refl
+markers-number (suc n) = let rest : digits_number (replicate n Marker) ≡ 0 = markers-number n in omega arith
+
+pub above-number : (above : Extension) → digits_number (above_digits above) ≡ 0
+above-number (Zeros n) = zeros-number n
+above-number (Markers n) = markers-number n
+
+-- nothing above the digits of a number counts, nor above those that are kept one by one
+pub number-above : (w v : ℕ) → digits_number (drop w (number_digits w v)) ≡ 0
+number-above zero v = refl
+number-above (suc w) v = number-above w (v / 2)
+
+pub kept-above : (xs : List Digit) (above : Extension) → digits_number (drop (length xs) (xs ++ above_digits above)) ≡ 0
+kept-above xs above = ap digits_number (drop-append_seam xs (above_digits above)) ∙ above-number above
+
+-- and from a place on where nothing counts nothing does
+pub number-later : (xs : List Digit) (i j : ℕ) → i ≤ j → digits_number (drop i xs) ≡ 0 → digits_number (drop j xs) ≡ 0
+number-later xs zero j le none = let few : digits_number (drop j xs) ≤ digits_number xs = digits_number-drop-le j xs in omega (arith, few, none)
+number-later xs (suc i) zero le none = absurd (omega (arith, le))
+number-later [] (suc i) (suc j) le none = refl
+number-later (x ∷ xs) (suc i) (suc j) le none = number-later xs i j (omega (arith, le)) none
+
+-- a number's digits have values
+pub number-are_values : (w v : ℕ) → list_all is_value (number_digits w v) ≡ true
+number-are_values zero v = refl
+number-are_values (suc w) v = number-are_values w (v / 2)
+
+pub zeros-values : (n : ℕ) → list_all is_value (replicate n (Const false)) ≡ true
+zeros-values zero = refl
+zeros-values (suc n) = zeros-values n

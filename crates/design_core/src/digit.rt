@@ -1,7 +1,8 @@
 // The constants of parameters.
 
-ghost use Rattle.std.specs.Prelude.{◌≡◌, ◌≤◌, ◌<◌, ◌^◌, ◌⊎◌, ◌++◌, length, slice_get, Some, IfOk, IfSome, IfNone, true, false};
-ghost use Rattle.design_core.specs.Digits.{digit_number, digits_number, is_binary, is_number, number_digits};
+ghost use Rattle.std.specs.Prelude.{◌≡◌, ◌≤◌, ◌<◌, ◌^◌, ◌⊎◌, ◌++◌, drop, length, slice_get, Some, IfOk, IfSome, IfNone, true, false};
+ghost use Rattle.std.specs.List.{list_all};
+ghost use Rattle.design_core.specs.Digits.{digit_number, digits_number, is_binary, is_number, is_value, number_digits};
 ghost use Rattle.design_core.specs.Digits.{above_digit, above_digits};
 
 use std::alloc::{AllocError, Global};
@@ -108,6 +109,40 @@ impl Constant {
         }
     }
 
+    /// Whether it has no digit but 0 and 1.
+    pub fn is_number(&self) -> bool
+        ensures { result ≡ is_number self.now }
+    {
+        match &self.parts {
+            ConstantParts::Number(_, _) => true,
+            ConstantParts::Digits(long) => {
+                are_binary(long.digits.as_slice()) && has_values(long.above)
+            }
+        }
+    }
+
+    /// Whether each digit is 0, 1 or a free bit.
+    pub fn are_values(&self) -> bool
+        ensures { result ≡ list_all is_value self.now }
+    {
+        match &self.parts {
+            ConstantParts::Number(_, _) => true,
+            ConstantParts::Digits(long) => are_values(long.digits.as_slice())
+                && has_values(long.above),
+        }
+    }
+
+    /// How many of its digits, from the lowest, are kept one by one: none above them counts for its number.
+    pub fn kept(&self) -> usize
+        ensures within { result ≤ length self.now }
+        ensures above { digits_number (drop result self.now) ≡ 0 }
+    {
+        match &self.parts {
+            ConstantParts::Number(_, width) => *width as usize,
+            ConstantParts::Digits(long) => long.digits.as_slice().len(),
+        }
+    }
+
     /// The constant as a number, where it has no digit but 0 and 1, and 64 bits hold it.
     pub fn number(&self) -> Option<u64>
         ensures some { IfSome result (λ n. (is_number self.now ≡ true) × (n ≡ digits_number self.now)) }
@@ -126,6 +161,17 @@ fn above_count(above: Extension) -> usize
 {
     match above {
         Extension::Zeros(count) | Extension::Markers(count) => count as usize,
+    }
+}
+
+// Whether each digit that stands above others, if there are some, has a value: it is 0.
+fn has_values(above: Extension) -> bool
+    ensures binary { result ≡ is_number (above_digits above) }
+    ensures values { result ≡ list_all is_value (above_digits above) }
+{
+    match above {
+        Extension::Zeros(_) => true,
+        Extension::Markers(count) => count == 0,
     }
 }
 
@@ -203,6 +249,18 @@ fn are_binary(digits: &[Digit]) -> bool
     ensures { result ≡ is_number digits.now }
 {
     digits.iter().all(|digit| is_binary(*digit))
+}
+
+fn are_values(digits: &[Digit]) -> bool
+    ensures { result ≡ list_all is_value digits.now }
+{
+    digits.iter().all(|digit| is_value(*digit))
+}
+
+fn is_value(digit: Digit) -> bool
+    ensures { result ≡ is_value digit }
+{
+    matches!(digit, Digit::Const(_) | Digit::Free(_))
 }
 
 fn is_binary(digit: Digit) -> bool

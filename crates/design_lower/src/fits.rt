@@ -1,10 +1,9 @@
 // Whether a register with an asynchronous reset fits its line of the table.
 
 ghost use Rattle.std.specs.Prelude.{◌≡◌, ◌↔◌, IsTrue, IfSome, IfNone, true, false, length};
-ghost use Rattle.std.specs.List.{list_all, list_any};
+ghost use Rattle.std.specs.List.{list_any};
 ghost use Rattle.cell_table.specs.declared.kind.Kind.TheVariants.{Adff, Adffe};
 ghost use Rattle.design_core.specs.Asked.{are_values, count_of, has_number, number_at};
-ghost use Rattle.design_core.specs.Digits.{is_binary, is_number, is_value};
 ghost use Rattle.design_core.specs.Ports.{digits_at, is_port, signal_at};
 ghost use Rattle.design_core.specs.Table.{ports_of};
 ghost use Rattle.design_lower.specs.Asks.{HasEnabling, HasLine, HasReset, HasSignal, HasSignals, has_only};
@@ -12,53 +11,16 @@ ghost use Rattle.design_lower.specs.Lowering.{FitsReset};
 
 use cell_table::kind::Kind;
 use design_core::cell::Cell;
-use design_core::digit::{Constant, Digit};
 use design_core::names::{ParameterName, PortName};
 use design_core::parts::is_port;
 use design_core::table::ports;
-
-fn is_binary(digit: Digit) -> bool
-    ensures { result ≡ is_binary digit }
-{
-    matches!(digit, Digit::Const(_))
-}
-
-// Whether a constant has no digit but 0 and 1.
-fn is_number(constant: &Constant) -> bool
-    ensures { result ≡ is_number constant.now }
-{
-    for place in 0..constant.len() {
-        if !is_binary(constant.digit(place)) {
-            return false;
-        }
-    }
-    true
-}
-
-fn is_value(digit: Digit) -> bool
-    ensures { result ≡ is_value digit }
-{
-    matches!(digit, Digit::Const(_) | Digit::Free(_))
-}
-
-// Whether each digit of a constant is 0, 1 or a free bit.
-fn are_values(constant: &Constant) -> bool
-    ensures { result ≡ list_all is_value constant.now }
-{
-    for place in 0..constant.len() {
-        if !is_value(constant.digit(place)) {
-            return false;
-        }
-    }
-    true
-}
 
 // Whether a parameter is there and has no digit but 0 and 1.
 fn has_number(cell: &Cell, name: ParameterName) -> bool
     ensures { result ≡ has_number cell.now.parameters name }
 {
     match cell.parameter(name) {
-        Some(constant) => is_number(constant),
+        Some(constant) => constant.is_number(),
         None => false,
     }
 }
@@ -69,7 +31,7 @@ fn value_width(cell: &Cell) -> Option<usize>
     ensures none { IfNone result (are_values (digits_at cell.now.parameters ParameterName.ArstValue) ≡ false) }
 {
     match cell.parameter(ParameterName::ArstValue) {
-        Some(constant) if are_values(constant) => Some(constant.len()),
+        Some(constant) if constant.are_values() => Some(constant.len()),
         Some(_) | None => None,
     }
 }
