@@ -21,7 +21,7 @@ use Rattle.design_reader.specs.declared.spot.NumberedOption.TheVariants.{Width, 
 use Rattle.design_reader.specs.declared.spot.Target.{Target}
 use Rattle.design_reader.specs.declared.spot.Target.TheVariants.{Port as ToPort, Left, Right}
 use Rattle.design_reader.specs.declared.spot.Spot.{Spot}
-use Rattle.design_reader.specs.declared.spot.Spot.TheVariants.{File, AutoIdx, FileAttribute, FileValue, Module, Line, Attribute, Value, ModuleParameter, ModuleParameterName, ModuleParameterValue, WireOption, WireNumber, CellType, CellName, CellLine, CellParameter, CellParameterName, CellParameterValue, Port, Signal, Part}
+use Rattle.design_reader.specs.declared.spot.Spot.TheVariants.{File, AutoIdx, FileAttribute, FileValue, Module, Line, Attribute, Value, ModuleParameter, ModuleParameterValue, WireOption, WireNumber, CellType, CellName, CellLine, CellParameter, CellParameterName, CellParameterValue, Port, Signal, Part}
 use Rattle.design_reader.proofs.WordLemmas.{step_name}
 use Rattle.design_reader.proofs.Room.{Kept}
 
@@ -219,10 +219,6 @@ module_parameter_closes : (d : DraftOf) → Closes d ModuleParameter
 unfolding name_step
 module_parameter_closes d = name_closes d ModuleParameter 0 (then_closes d ModuleParameterValue (module_value_closes d))
 
-module_parameter_name_closes : (d : DraftOf) → Closes d ModuleParameterName
-unfolding name_step
-module_parameter_name_closes d = name_closes d ModuleParameterName 0 (then_closes d ModuleParameterValue (module_value_closes d))
-
 module_name_closes : (d : DraftOf) → Closes d Module
 unfolding name_step
 module_name_closes d = name_closes d Module 0 (then_closes (new_draft (fresh 0)) (Line no_attributes) (module_closes _))
@@ -368,7 +364,6 @@ spot_closes d (Line a) k = line_closes d a
 spot_closes d (Attribute a) k = attribute_closes d a
 spot_closes d (Value a is_init) k = value_closes d a is_init
 spot_closes d ModuleParameter k = module_parameter_closes d
-spot_closes d ModuleParameterName k = module_parameter_name_closes d
 spot_closes d ModuleParameterValue k = module_value_closes d
 spot_closes d (WireOption a o) k = wire_closes d a o
 spot_closes d (WireNumber a o option) k = wire_number_closes d a o option k.at

@@ -15,7 +15,7 @@ use Rattle.design_reader.specs.declared.fault.ReadFault.{ReadFault}
 use Rattle.design_reader.specs.declared.fault.ReadFaultKind.{ReadFaultKind}
 use Rattle.design_reader.specs.declared.fault.ReadFaultKind.TheVariants.{Syntax}
 use Rattle.design_reader.specs.declared.spot.Spot.{Spot}
-use Rattle.design_reader.specs.declared.spot.Spot.TheVariants.{File, AutoIdx, FileAttribute, FileValue, Module, Line, Attribute, Value, ModuleParameter, ModuleParameterName, ModuleParameterValue, WireOption, WireNumber, CellType, CellName, CellLine, CellParameter, CellParameterName, CellParameterValue, Port, Signal, Part}
+use Rattle.design_reader.specs.declared.spot.Spot.TheVariants.{File, AutoIdx, FileAttribute, FileValue, Module, Line, Attribute, Value, ModuleParameter, ModuleParameterValue, WireOption, WireNumber, CellType, CellName, CellLine, CellParameter, CellParameterName, CellParameterValue, Port, Signal, Part}
 use Rattle.design_reader.specs.Outcome.{Answers, ending}
 use Rattle.design_reader.proofs.Wholes.{reading_push, one_read, never_both}
 
@@ -76,7 +76,6 @@ whole_spot (Line a) e = absurd cc
 whole_spot (Attribute a) e = absurd cc
 whole_spot (Value a is_init) e = absurd cc
 whole_spot ModuleParameter e = absurd cc
-whole_spot ModuleParameterName e = absurd cc
 whole_spot ModuleParameterValue e = absurd cc
 whole_spot (WireOption a o) e = absurd cc
 whole_spot (WireNumber a o n) e = absurd cc

@@ -22,7 +22,7 @@ use Rattle.design_reader.specs.declared.spot.NumberedOption.TheVariants.{Width, 
 use Rattle.design_reader.specs.declared.spot.Target.{Target}
 use Rattle.design_reader.specs.declared.spot.Target.TheVariants.{Port as ToPort, Left, Right}
 use Rattle.design_reader.specs.declared.spot.Spot.{Spot}
-use Rattle.design_reader.specs.declared.spot.Spot.TheVariants.{File, AutoIdx, FileAttribute, FileValue, Module, Line, Attribute, Value, ModuleParameter, ModuleParameterName, ModuleParameterValue, WireOption, WireNumber, CellType, CellName, CellLine, CellParameter, CellParameterName, CellParameterValue, Port, Signal, Part}
+use Rattle.design_reader.specs.declared.spot.Spot.TheVariants.{File, AutoIdx, FileAttribute, FileValue, Module, Line, Attribute, Value, ModuleParameter, ModuleParameterValue, WireOption, WireNumber, CellType, CellName, CellLine, CellParameter, CellParameterName, CellParameterValue, Port, Signal, Part}
 
 abbrev Row : Type 0
 Row = List SigBit
@@ -176,8 +176,7 @@ word_keeps d Module w k = keeps_err _
 word_keeps d (Line a) w k = line_keeps d a w k.bits
 word_keeps d (Attribute a) w k = keeps_err _
 word_keeps d (Value a is_init) w k = keeps_then (needs Syntax (constant_of 0 w)) _ (λ digits. keeps_ok d (Line (with_attribute a is_init digits)) k.bits tt)
-word_keeps d ModuleParameter w k = keeps_cond (is_form w) _ _ (keeps_ok d ModuleParameterName k.bits tt) (keeps_err Syntax)
-word_keeps d ModuleParameterName w k = keeps_err _
+word_keeps d ModuleParameter w k = keeps_err _
 word_keeps d ModuleParameterValue w k = module_keeps d w (constant_of 1 w) k.bits
 word_keeps d (WireOption a o) w k = option_keeps d a o w k.bits k.at
 word_keeps d (WireNumber a o option) w k = number_keeps d a o option w k.bits k.at
@@ -236,7 +235,6 @@ name_keeps d (Line a) name k = keeps_err _
 name_keeps d (Attribute a) name k = keeps_ok d (Value a _) k.bits tt
 name_keeps d (Value a is_init) name k = keeps_err _
 name_keeps d ModuleParameter name k = keeps_ok d ModuleParameterValue k.bits tt
-name_keeps d ModuleParameterName name k = keeps_ok d ModuleParameterValue k.bits tt
 name_keeps d ModuleParameterValue name k = keeps_err _
 name_keeps d (WireOption a o) name k = wire_name_keeps d a o name k.at
 name_keeps d (WireNumber a o option) name k = keeps_err _

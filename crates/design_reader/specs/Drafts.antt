@@ -16,7 +16,7 @@ use Rattle.design_reader.specs.declared.spot.WireOptions.{WireOptions}
 use Rattle.design_reader.specs.declared.spot.Target.{Target}
 use Rattle.design_reader.specs.declared.spot.Target.TheVariants.{Port as ToPort, Left, Right}
 use Rattle.design_reader.specs.declared.spot.Spot.{Spot}
-use Rattle.design_reader.specs.declared.spot.Spot.TheVariants.{File, AutoIdx, FileAttribute, FileValue, Module, Line, Attribute, Value, ModuleParameter, ModuleParameterName, ModuleParameterValue, WireOption, WireNumber, CellType, CellName, CellLine, CellParameter, CellParameterName, CellParameterValue, Port, Signal, Part}
+use Rattle.design_reader.specs.declared.spot.Spot.TheVariants.{File, AutoIdx, FileAttribute, FileValue, Module, Line, Attribute, Value, ModuleParameter, ModuleParameterValue, WireOption, WireNumber, CellType, CellName, CellLine, CellParameter, CellParameterName, CellParameterValue, Port, Signal, Part}
 
 -- What a function returned, seen by view, is what the grammar gives, unless memory ran out.
 abbrev pub Stops : {Y : Type 0} → Stop → Result Y ReadFaultKind → Type 0
@@ -83,7 +83,6 @@ Fits d (Line a) = Unit {0}
 Fits d (Attribute a) = Unit {0}
 Fits d (Value a is_init) = Unit {0}
 Fits d ModuleParameter = Unit {0}
-Fits d ModuleParameterName = Unit {0}
 Fits d ModuleParameterValue = Unit {0}
 Fits d CellType = Unit {0}
 Fits d (CellName kind ignored) = Unit {0}

@@ -6,7 +6,7 @@ use Rattle.design_reader.specs.Grammar.{reading, step}
 use Rattle.design_reader.specs.declared.fault.ReadFaultKind.{ReadFaultKind}
 use Rattle.design_reader.specs.declared.fault.ReadFaultKind.TheVariants.{Limit, Syntax, NoModule}
 use Rattle.design_reader.specs.declared.spot.Spot.{Spot}
-use Rattle.design_reader.specs.declared.spot.Spot.TheVariants.{File, AutoIdx, FileAttribute, FileValue, Module, Line, Attribute, Value, ModuleParameter, ModuleParameterName, ModuleParameterValue, WireOption, WireNumber, CellType, CellName, CellLine, CellParameter, CellParameterName, CellParameterValue, Port, Signal, Part}
+use Rattle.design_reader.specs.declared.spot.Spot.TheVariants.{File, AutoIdx, FileAttribute, FileValue, Module, Line, Attribute, Value, ModuleParameter, ModuleParameterValue, WireOption, WireNumber, CellType, CellName, CellLine, CellParameter, CellParameterName, CellParameterValue, Port, Signal, Part}
 
 -- why a text that ends at this spot is refused, unless a line of the file may come there after the module
 abbrev pub at_end : Spot → Option ReadFaultKind
@@ -23,7 +23,6 @@ at_end (Line a) = Some Syntax
 at_end (Attribute a) = Some Syntax
 at_end (Value a is_init) = Some Syntax
 at_end ModuleParameter = Some Syntax
-at_end ModuleParameterName = Some Syntax
 at_end ModuleParameterValue = Some Syntax
 at_end (WireOption a o) = Some Syntax
 at_end (WireNumber a o option) = Some Syntax

@@ -29,7 +29,7 @@ use Rattle.design_reader.specs.declared.spot.NumberedOption.TheVariants.{Width, 
 use Rattle.design_reader.specs.declared.spot.Target.{Target}
 use Rattle.design_reader.specs.declared.spot.Target.TheVariants.{Port as ToPort, Left, Right}
 use Rattle.design_reader.specs.declared.spot.Spot.{Spot}
-use Rattle.design_reader.specs.declared.spot.Spot.TheVariants.{File, AutoIdx, FileAttribute, FileValue, Module, Line, Attribute, Value, ModuleParameter, ModuleParameterName, ModuleParameterValue, WireOption, WireNumber, CellType, CellName, CellLine, CellParameter, CellParameterName, CellParameterValue, Port, Signal, Part}
+use Rattle.design_reader.specs.declared.spot.Spot.TheVariants.{File, AutoIdx, FileAttribute, FileValue, Module, Line, Attribute, Value, ModuleParameter, ModuleParameterValue, WireOption, WireNumber, CellType, CellName, CellLine, CellParameter, CellParameterName, CellParameterValue, Port, Signal, Part}
 
 -- what is read so far and what comes next, or a refusal
 abbrev pub Outcome : Type 0
@@ -307,8 +307,7 @@ word_step d Module w = Err Syntax
 word_step d (Line a) w = line d a w
 word_step d (Attribute a) w = Err Syntax
 word_step d (Value a is_init) w = needs Syntax (constant_of 0 w) ⊳ λ digits. goes_on d (Line (with_attribute a is_init digits))
-word_step d ModuleParameter w = cond (is_form w) (goes_on d ModuleParameterName) (Err Syntax)
-word_step d ModuleParameterName w = Err Syntax
+word_step d ModuleParameter w = Err Syntax
 word_step d ModuleParameterValue w = module_value d w (constant_of 1 w)
 word_step d (WireOption a o) w = wire_option d a o w
 word_step d (WireNumber a o option) w = wire_number d a o option w
@@ -373,7 +372,6 @@ name_step d (Line a) name = Err Syntax
 name_step d (Attribute a) name = goes_on d (Value a (bytes_eq name (codes "\\init")))
 name_step d (Value a is_init) name = Err Syntax
 name_step d ModuleParameter name = goes_on d ModuleParameterValue
-name_step d ModuleParameterName name = goes_on d ModuleParameterValue
 name_step d ModuleParameterValue name = Err Syntax
 name_step d (WireOption a o) name = wire_name d a o name
 name_step d (WireNumber a o option) name = Err Syntax

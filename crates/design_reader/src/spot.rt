@@ -114,10 +114,8 @@ pub enum Spot<'a> {
     Attribute(Attributes<'a>),
     /// Its constant, and whether it is `\init`.
     Value(Attributes<'a>, bool),
-    /// `signed`, `real` or the name of a parameter of the module.
+    /// The name of a parameter of the module.
     ModuleParameter,
-    /// Its name.
-    ModuleParameterName,
     /// Its constant, or the next line.
     ModuleParameterValue,
     /// An option of a wire, or its name.

@@ -40,7 +40,6 @@ fn word_step<'a>(
         Spot::FileValue(behind) if is_constant(0, word) => Ok(Spot::File(behind)),
         Spot::Line(attributes) => line(alloc, draft, attributes, word),
         Spot::Value(attributes, is_init) => { attribute_value(draft, attributes, is_init, word) }
-        Spot::ModuleParameter if is_form(word) => Ok(Spot::ModuleParameterName),
         Spot::ModuleParameterValue => module_value(alloc, draft, word),
         Spot::WireOption(attributes, options) => wire_option(draft, attributes, options, word),
         Spot::WireNumber(attributes, options, option) => {
@@ -88,7 +87,7 @@ fn name_step<'a>(
         Spot::FileAttribute(behind) => Ok(Spot::FileValue(behind)),
         Spot::Module => module_name(alloc, draft, name),
         Spot::Attribute(attributes) => Ok(Spot::Value(attributes, name == r"\init")),
-        Spot::ModuleParameter | Spot::ModuleParameterName => Ok(Spot::ModuleParameterValue),
+        Spot::ModuleParameter => Ok(Spot::ModuleParameterValue),
         Spot::WireOption(attributes, options) => {
             add_wire(alloc, draft, &attributes, options, name)?;
             Ok(Spot::Line(Attributes::none(alloc)))
