@@ -12,7 +12,7 @@ use Rattle.cert_judge.specs.Kinds.{FateSoFar, IsFate}
 use Rattle.cert_judge.specs.declared.stream.StreamKind.TheVariants.{Drup}
 use Rattle.sby_terms.specs.declared.names.Answer.{Answer}
 use Rattle.sby_terms.specs.declared.names.Answer.TheVariants.{Sat, Unsat}
-use Rattle.cert_judge.specs.declared.stream.CertKind.TheVariants.{BadLine, BadLiteral, LineTooLong, NotRup, NotSatisfying, TooLong, EarlyEnd, BadId, BadHint, NotHinted}
+use Rattle.cert_judge.specs.declared.stream.CertKind.TheVariants.{BadLine, BadLiteral, LineTooLong, NotRup, NotSatisfying, NotPlaying, TooLong, EarlyEnd, BadWitness, BadId, BadHint, NotHinted}
 use Rattle.cert_judge.specs.Values.{named, unnamed}
 use Rattle.cert_judge.proofs.Bounding.{some_same}
 use Rattle.cert_judge.proofs.Bounding.{sides}
@@ -114,8 +114,10 @@ own_same false (Bad BadLiteral n) y e = some_same (Bad BadLiteral n) y (sym e)
 own_same false (Bad LineTooLong n) y e = some_same (Bad LineTooLong n) y (sym e)
 own_same false (Bad NotRup n) y e = some_same (Bad NotRup n) y (sym e)
 own_same false (Bad NotSatisfying n) y e = some_same (Bad NotSatisfying n) y (sym e)
+own_same false (Bad NotPlaying n) y e = some_same (Bad NotPlaying n) y (sym e)
 own_same false (Bad TooLong n) y e = some_same (Bad TooLong n) y (sym e)
 own_same false (Bad EarlyEnd n) y e = absurd (let k = e in cc)
+own_same false (Bad BadWitness n) y e = some_same (Bad BadWitness n) y (sym e)
 own_same false (Bad BadId n) y e = some_same (Bad BadId n) y (sym e)
 own_same false (Bad BadHint n) y e = some_same (Bad BadHint n) y (sym e)
 own_same false (Bad NotHinted n) y e = some_same (Bad NotHinted n) y (sym e)

@@ -4,7 +4,7 @@ use Rattle.cert_judge.specs.Fate.{Fate, Found, Unknown, Bad}
 use Rattle.cert_judge.specs.Kinds.{IsFate, IsFateSoFar}
 use Rattle.cert_judge.specs.declared.stream.StreamKind.TheVariants.{Drup}
 use Rattle.cert_judge.specs.declared.stream.CertKind.{CertKind}
-use Rattle.cert_judge.specs.declared.stream.CertKind.TheVariants.{BadLine, BadLiteral, LineTooLong, NotRup, NotSatisfying, TooLong, EarlyEnd, BadId, BadHint, NotHinted}
+use Rattle.cert_judge.specs.declared.stream.CertKind.TheVariants.{BadLine, BadLiteral, LineTooLong, NotRup, NotSatisfying, NotPlaying, TooLong, EarlyEnd, BadWitness, BadId, BadHint, NotHinted}
 use Rattle.cert_judge.specs.Output.{stream_of, has_values}
 
 -- an early end is no fate
@@ -14,8 +14,10 @@ unless_early BadLiteral byte = Some (Bad BadLiteral byte)
 unless_early LineTooLong byte = Some (Bad LineTooLong byte)
 unless_early NotRup byte = Some (Bad NotRup byte)
 unless_early NotSatisfying clause = Some (Bad NotSatisfying clause)
+unless_early NotPlaying frame = Some (Bad NotPlaying frame)
 unless_early TooLong byte = Some (Bad TooLong byte)
 unless_early EarlyEnd byte = None
+unless_early BadWitness byte = Some (Bad BadWitness byte)
 unless_early BadId byte = Some (Bad BadId byte)
 unless_early BadHint byte = Some (Bad BadHint byte)
 unless_early NotHinted byte = Some (Bad NotHinted byte)

@@ -33,10 +33,14 @@ pub enum CertKind {
     NotRup,
     /// The values don't satisfy the formula.
     NotSatisfying,
+    /// The witness's run doesn't show what the job asks.
+    NotPlaying,
     /// The stream has more bytes than are taken.
     TooLong,
     /// The stream ends without a certificate.
     EarlyEnd,
+    /// The line is none of a witness.
+    BadWitness,
     /// The clause's id isn't above all earlier ones.
     BadId,
     /// A hint is negative, or no clause has its id.
@@ -56,8 +60,10 @@ impl CertKind {
             CertKind::LineTooLong => 43,
             CertKind::NotRup => 44,
             CertKind::NotSatisfying => 45,
+            CertKind::NotPlaying => 46,
             CertKind::TooLong => 47,
             CertKind::EarlyEnd => 48,
+            CertKind::BadWitness => 49,
             CertKind::BadId => 58,
             CertKind::BadHint => 59,
             CertKind::NotHinted => 60,
@@ -77,8 +83,10 @@ impl CertKind {
             43 => Some(CertKind::LineTooLong),
             44 => Some(CertKind::NotRup),
             45 => Some(CertKind::NotSatisfying),
+            46 => Some(CertKind::NotPlaying),
             47 => Some(CertKind::TooLong),
             48 => Some(CertKind::EarlyEnd),
+            49 => Some(CertKind::BadWitness),
             58 => Some(CertKind::BadId),
             59 => Some(CertKind::BadHint),
             60 => Some(CertKind::NotHinted),
@@ -98,8 +106,8 @@ pub fn cert_kind(kind: ParseFaultKind) -> CertKind
     }
 }
 
-/// A stream is no certificate: why, and where. The place is a byte of the stream, counted from 0, or for values a clause, counted
-/// from 1.
+/// A stream is no certificate: why, and where. The place is a byte of the stream, counted from 0; for values a clause, counted
+/// from 1; for a witness that doesn't play a frame, counted from 0.
 #[derive(Clone, Copy, Debug, PartialEq, Eq)]
 pub struct BadCert {
     pub kind: CertKind,

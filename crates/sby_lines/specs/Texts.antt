@@ -6,7 +6,7 @@ use Rattle.design_check.specs.declared.fault.FaultKind.TheVariants.{UnknownCell,
 use Rattle.design_reader.specs.declared.fault.ReadFaultKind.{ReadFaultKind}
 use Rattle.design_reader.specs.declared.fault.ReadFaultKind.TheVariants.{Limit, Syntax, NotUtf8Name, DoubleName, UnknownWire, Index, LeftOut, NoModule, SeveralModules}
 use Rattle.cert_judge.specs.declared.stream.CertKind.{CertKind}
-use Rattle.cert_judge.specs.declared.stream.CertKind.TheVariants.{BadLine, BadLiteral, LineTooLong, NotRup, NotSatisfying, TooLong, EarlyEnd, BadId, BadHint, NotHinted}
+use Rattle.cert_judge.specs.declared.stream.CertKind.TheVariants.{BadLine, BadLiteral, LineTooLong, NotRup, NotSatisfying, NotPlaying, TooLong, EarlyEnd, BadWitness, BadId, BadHint, NotHinted}
 use Rattle.sby_terms.specs.declared.names.Answer.{Answer}
 use Rattle.sby_terms.specs.declared.names.Answer.TheVariants.{Sat, Unsat}
 use Rattle.sby_terms.specs.declared.names.Status.{Status}
@@ -69,8 +69,10 @@ cert_kind_text BadLiteral = codes "BadLiteral at byte"
 cert_kind_text LineTooLong = codes "LineTooLong at byte"
 cert_kind_text NotRup = codes "NotRup at byte"
 cert_kind_text NotSatisfying = codes "NotSatisfying clause"
+cert_kind_text NotPlaying = codes "NotPlaying frame"
 cert_kind_text TooLong = codes "TooLong at byte"
 cert_kind_text EarlyEnd = codes "EarlyEnd at byte"
+cert_kind_text BadWitness = codes "BadWitness at byte"
 cert_kind_text BadId = codes "BadId at byte"
 cert_kind_text BadHint = codes "BadHint at byte"
 cert_kind_text NotHinted = codes "NotHinted at byte"
