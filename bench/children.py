@@ -1,4 +1,4 @@
-"""Engines that misbehave, under the built sby: what a kill, a limit, an interrupt and a crash leave behind.
+"""Engines that misbehave, under the built sby: what is left after a kill, a limit, an interrupt and a crash.
 
     python3 -B bench/children.py --sby PATH [--engine PATH] [--only NAME]
 
@@ -78,7 +78,7 @@ class Bench:
                                 stdout=subprocess.PIPE, text=True, start_new_session=True, **how)
 
     def run(self, seconds, **how):
-        """The last line of a run, and the seconds that it took; it is to end within these."""
+        """The last line of a run that has to end within these seconds, and the seconds that it took."""
         start, child = time.monotonic(), self.start(**how)
         try:
             out, _ = child.communicate(timeout=seconds)
@@ -88,7 +88,7 @@ class Bench:
         return out.splitlines()[-1] if out else "", time.monotonic() - start
 
     def left(self, allowed=0):
-        """Waits until no process of the run is left but those allowed, a second at most; the number of those that are."""
+        """Waits at most a second until only the allowed processes of the run are left; the number of all that are left."""
         for _ in range(20):
             found = 0
             for it in os.listdir("/proc"):

@@ -1,9 +1,9 @@
-"""Each growth of memory of the built sby refused in turn: no other verdict, and no process left.
+"""Each allocation of the built sby refused in turn: no other verdict, and no process left.
 
     python3 -B bench/growths.py --sby PATH --engine PATH [--only NAME]
 
-Prints a row for each run: how many of its growths, refused, left everything as it was, and how the others ended. Exit
-status 1 where one told another verdict, didn't end within 4 seconds, or left a process.
+Prints a row for each run: how many of its allocations, refused, left everything as it was, and how the others ended.
+Exit status 1 where one gave another verdict, didn't end within 4 seconds, or left a process.
 """
 import argparse
 import os
@@ -37,7 +37,7 @@ KINDS = ["as without", "a line MEMORY", "exit status 32 alone", "ERROR"]
 
 
 def library(folder):
-    """The library that refuses, made from growths.c."""
+    """The library that refuses allocations, compiled from growths.c."""
     path = os.path.join(folder, "growths.so")
     source = os.path.join(os.path.dirname(os.path.abspath(__file__)), "growths.c")
     subprocess.run([os.environ.get("CC", "cc"), "-O2", "-shared", "-fPIC", "-o", path, source], check=True)
@@ -50,7 +50,7 @@ def verdicts(out):
 
 
 def kind(first, now):
-    """How a run ended, beside the first one, in which nothing was refused; None where it told what isn't so."""
+    """How a run ended, compared with the first one, in which nothing was refused; None where its output is wrong."""
     if now == first:
         return "as without"
     (out, status), known = now, dict(verdicts(first[0]))
@@ -71,7 +71,7 @@ class Growths(Bench):
         self.library = library(folder)
 
     def run_with(self, words, number):
-        """Output and exit status of one run whose growth of this number is refused, and whether there was one."""
+        """Output and exit status of a run whose allocation of this number is refused, and whether it came to that one."""
         if os.path.exists(self.mark):
             os.remove(self.mark)
         for it in ("two_a", "two_b", "prove", "t"):
@@ -88,7 +88,7 @@ class Growths(Bench):
         return (out, child.returncode), os.path.exists(self.mark)
 
     def row(self, name, words):
-        """Prints a run's row; the number of its growths that were answered wrongly."""
+        """Prints a run's row, and returns how many refused allocations ended wrong."""
         first, _ = self.run_with(words, 0)
         counts, wrong, number = dict.fromkeys(KINDS, 0), 0, 1
         while True:

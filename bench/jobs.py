@@ -1,4 +1,4 @@
-"""Jobs of large tasks up to their first lane: what making and putting all of them takes, by a task whose one engine line serves none."""
+"""Seconds and memory of making and writing all jobs of large tasks, whose one engine line serves none of them."""
 import argparse
 import os
 import subprocess

@@ -1,4 +1,4 @@
-"""Tasks of 200 jobs under an allocator that refuses whatever is past the need of their largest job.
+"""Tasks of 200 jobs under an allocator that refuses more than their largest job needs.
 
     python3 -B bench/limits.py --sby PATH
 
@@ -33,7 +33,7 @@ def put(folder, design, options):
 
 
 def ended(sby, shim, design, options, limit):
-    """The last status line of a task, its files, and the bytes that were in use at most."""
+    """The last status line of a task, its files, and the most bytes in use."""
     with tempfile.TemporaryDirectory() as folder:
         put(folder, design, options)
         told = os.path.join(folder, "most")

@@ -36,7 +36,7 @@ LOCK = None
 
 
 def run(words, seconds, out=os.devnull, cwd=None, env=None, alone=False):
-    """As run_now, in its turn: with a lock single programs of several calls go beside each other, whole runs don't."""
+    """run_now, with the lock held: single programs of several calls may run at the same time, whole runs alone."""
     if LOCK is None:
         return run_now(words, seconds, out, cwd, env, alone)
     with open(LOCK, "a") as lock:
@@ -45,7 +45,7 @@ def run(words, seconds, out=os.devnull, cwd=None, env=None, alone=False):
 
 
 def run_now(words, seconds, out, cwd, env, several):
-    """As measure.run, but on a machine with much other work a run has twelve times its limit by the clock."""
+    """measure.run, but with twelve times the limit by the clock, for a loaded machine."""
     def limits():
         resource.setrlimit(resource.RLIMIT_CPU, (seconds, seconds + 2))
         resource.setrlimit(resource.RLIMIT_FSIZE, (FILE_LIMIT, FILE_LIMIT))
@@ -75,7 +75,7 @@ def run_now(words, seconds, out, cwd, env, several):
 
 
 def stat(pid):
-    """State, parent, user seconds of a process, or None."""
+    """A process's state, parent and user seconds, or None."""
     try:
         words = read(f"/proc/{pid}/stat").rsplit(")", 1)[1].split()
     except (OSError, IndexError):

@@ -1,5 +1,5 @@
 #!/usr/bin/env python3
-"""Formulas with their clauses in other orders: what a single time of the engine is worth.
+"""Formulas with their clauses in other orders: how much the engine's time varies.
 
     python3 -B bench/orders.py [--orders 4] [--seconds 60] [--only NAME] ENGINE [ENGINE ..]
 

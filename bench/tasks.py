@@ -47,7 +47,7 @@ def times(sby, line, size):
 
 
 def memory(sby):
-    """Of 200 tasks of one design under -j 4, beside one task alone."""
+    """Memory of 200 tasks of one design under -j 4, and of one task alone."""
     for registers in (40, 400):
         made = []
         for tasks, words in ((HUNDREDS[:1], []), (HUNDREDS, ["-j", "4"])):

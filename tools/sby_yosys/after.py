@@ -1,4 +1,4 @@
-"""What a task leaves behind: explanations by source lines, status files, a report for CI, traces for viewers and simulators."""
+"""What a task leaves: explanations by source lines, status files, a report for CI, traces for viewers and simulators."""
 import os
 import re
 import sys
@@ -35,7 +35,7 @@ def explain_fault(design, line, log):
 
 
 def explain(task, design, folder, status, log):
-    """Says of each line of sby that names a cell where it stands in the source, and writes the traces."""
+    """Adds to each line of sby that names a cell where it is in the source, and writes the traces."""
     for line in task.said:
         found = re.fullmatch(r"(broken|reached): (\S+) at cycle (\d+)", line)
         if found:

@@ -12,7 +12,7 @@ import rtlil
 HEAD = ["proc", "flatten", "tribuf -logic", "delete -output o:* t:$tribuf %co:+[Y] %i", "tribuf -logic"]
 ONE_CLOCK = ["async2sync", "memory_map"]
 CLOCKS = ["memory_map", "write_rtlil ../model/clocks.il", "clk2fflogic"]
-# What a black box gives may be anything.
+# The outputs of a black box may have any value.
 BOXES = ["cutpoint t:* t:$* %d", "delete =A:blackbox"]
 TAIL = ["chformal -early", "chformal -live -fair -remove", "opt_clean"]
 
@@ -78,7 +78,7 @@ def prepare(task, folder, yosys, log):
 
 
 def look_at(task, design, log):
-    """Warns of a design in which there is nothing to prove."""
+    """Warns of a design with nothing to prove."""
     log.say("design: " + ", ".join(f"{design.count('$' + it)} {it}" for it in ("assert", "assume", "cover")))
     if task.mode() == "cover" and not design.count("$cover"):
         log.say("WARNING: the design has no cover statement: PASS says nothing")

@@ -77,7 +77,7 @@ class Design:
         return sum(1 for it in self.types.values() if it == kind)
 
     def place(self, name):
-        """Where a cell stands in the source, as fifo.v:31, or its name."""
+        """Where a cell is in the source, as fifo.v:31, or its name."""
         source = self.sources.get(name)
         if source is None:
             return unescaped(name)

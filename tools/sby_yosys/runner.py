@@ -1,4 +1,4 @@
-"""Runs sby on a prepared task, and tells what happens while it runs."""
+"""Runs sby on a prepared task, and logs what happens."""
 import os
 import re
 import subprocess
