@@ -128,12 +128,12 @@ module _ (count : ℕ) (d e : DesignOf) (wired : IsWired d) (steps : LowersSome 
         let ports = same-ports (λ (x : CellOf). is_cover x.kind) k b.0 b.1 in
         (b.0, there, subst (λ (q : Ports). is_set (q En) ≡ true) ports b.2, subst (λ (q : Ports). is_set (q A) ≡ true) ports b.3)
 
-  shows-from : (n : ℕ) (ws : ℕ → Valuation) (a : ℕ) → Shows e n ws a → (vs : ℕ → Valuation) × Shows d n vs a
+  pub shows-from : (n : ℕ) (ws : ℕ → Valuation) (a : ℕ) → Shows e n ws a → (vs : ℕ → Valuation) × Shows d n vs a
   shows-from n ws a s =
       let r = runs-from count d e wired steps n ws s.run in
       (r.0, record { run = r.1; assumed = λ t lt. assumed-from (r.0 t) (ws t) (r.2 t) (s.assumed t lt); last = λ t h. broken-from (r.0 t) (ws t) (r.2 t) a (s.last t h) })
 
-  shows-to : (n : ℕ) (vs : ℕ → Valuation) (a : ℕ) → Shows d n vs a → (ws : ℕ → Valuation) × Shows e n ws a
+  pub shows-to : (n : ℕ) (vs : ℕ → Valuation) (a : ℕ) → Shows d n vs a → (ws : ℕ → Valuation) × Shows e n ws a
   shows-to n vs a s =
       let r = runs-to count d e wired steps n vs s.run in
       (r.0, record { run = r.1; assumed = λ t lt. assumed-to (vs t) (r.0 t) (r.2 t) (s.assumed t lt); last = λ t h. broken-to (vs t) (r.0 t) (r.2 t) a (s.last t h) })

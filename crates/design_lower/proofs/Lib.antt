@@ -29,3 +29,4 @@ pub mod Clocking
 pub mod Sound
 pub mod Flatness
 pub mod Numbers
+pub mod CellCount

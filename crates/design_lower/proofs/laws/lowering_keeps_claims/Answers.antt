@@ -1,5 +1,5 @@
 use Rattle.design_lower.proofs.Alike.{IsWired-design}
-use Rattle.design_lower.proofs.Claiming.{break-from, break-to, reach-from, reach-to, unreached-from, unreached-to}
+use Rattle.design_lower.proofs.Claiming.{break-from, break-to, reach-from, reach-to, shows-from, shows-to, unreached-from, unreached-to}
 use Rattle.design_lower.proofs.laws.lowering_keeps_claims.Goals as goal
 
 pub returns-clause-spans : goal.returns-clause-spans
@@ -21,3 +21,8 @@ pub returns-clause-reached : goal.returns-clause-reached
 returns-clause-reached c = λ d e shape low n k.
     let wired = IsWired-design d shape in
     (λ r. reach-to low.count d e wired low.steps n k r.0 r.1, λ r. reach-from low.count d e wired low.steps n k r.0 r.1)
+
+pub returns-clause-shown : goal.returns-clause-shown
+returns-clause-shown c = λ d e shape low n a.
+    let wired = IsWired-design d shape in
+    (λ s. shows-to low.count d e wired low.steps n s.0 a s.1, λ s. shows-from low.count d e wired low.steps n s.0 a s.1)
