@@ -1,0 +1,13 @@
+use Rattle.std.proofs.Common.{◌≤◌, ◌^◌, ap, ◌∙◌, arith}
+use Rattle.net_pair.specs.Pairing.{later, made}
+use Rattle.net_pair.proofs.Forming.{is_pair_by}
+use Rattle.net_pair.proofs.pairing.pair_of_net.Goals as goal
+
+pub new-requires : goal.new-requires
+new-requires c =
+    let v = c.vars_of.ensures in
+    let f = c.from.ensures in
+    let t = c.if-vars_of-from.false in
+    let few : made c.args.net.now c.args.bits.now ≤ 2 ^ 27 = omega arith in
+    is_pair_by c.args.net.now c.args.bits.now c.in_ok-formula.formula c.in_ok-formula.start c.later-next.result c.bad_of.result c.in_ok-lits.lits.items c.promise.ensures few
+    c.in_ok-formula.ensures.formula c.in_ok-formula.ensures.start (c.later-next.ensures ∙ ap (later c.args.net.now) c.assumed.ensures) c.bad_of.ensures c.in_ok-lits.ensures
