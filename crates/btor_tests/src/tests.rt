@@ -1,4 +1,6 @@
-// Small models, made, written and read.
+// Small models, made, written and read, and designs' models as lines.
+
+mod emission;
 
 use btor_core::draft::{Draft, DraftFault};
 use btor_core::line::{Node, Unary};

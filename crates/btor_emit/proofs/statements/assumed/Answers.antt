@@ -1,0 +1,20 @@
+use Rattle.std.proofs.Common.{[], ◌∷◌, ap, arith}
+use Rattle.std.specs.Prelude.{◌||◌, map, not}
+use Rattle.sby_bits.specs.Rows.{Row}
+use Rattle.cell_table.specs.Cells.{bitwise}
+use Rattle.btor_words.proofs.Emitting.{last, still}
+use Rattle.btor_emit.proofs.OperandRows.{put_by_two}
+use Rattle.btor_emit.proofs.statements.assumed.Goals as goal
+
+pub apply-requires-clause-a : goal.apply-requires-clause-a
+apply-requires-clause-a c = c.in_ok-value.ensures.row.right_word
+
+pub join-requires-clause-b : goal.join-requires-clause-b
+join-requires-clause-b c = still c.in_ok-off.ensures.row.adds c.in_ok-value.ensures.row.left_word
+
+pub returns : goal.returns
+returns c = record {
+  row = (let p = c.in_ok-value.ensures.row in
+      let e = last 4 (λ vs. bitwise ◌||◌ (map not (vs c.in_ok-value.enable.nid)) (vs c.in_ok-value.value.nid)) p.left_word.btor c.in_ok-off.ensures.row.adds c.in_ok-bit.ensures.row (omega arith) (λ vs h q. ap (λ (z : Row). bitwise ◌||◌ z (vs c.in_ok-value.value.nid)) q) in
+      put_by_two c.args.draft.now c.pair.new.draft c.join.new.draft c.args.table.now c.pair.new.table (c.args.a ∷ []) (c.args.en ∷ []) c.in_ok-value.value c.in_ok-value.enable c.in_ok-bit.bit 4 12 1 (λ (r s : Row). bitwise ◌||◌ (map not (s)) (r)) p e (omega arith));
+}

@@ -1,0 +1,12 @@
+pub mod Goals
+pub mod Reads
+pub mod Marks
+pub mod States
+pub mod Emission
+pub mod Drawing
+pub mod Table
+pub mod Stretching
+pub mod Nodes
+pub mod Emitting
+pub mod Nexts
+pub mod Said

@@ -1,0 +1,20 @@
+// What the lines leave open.
+
+use btor_core::line::Word;
+
+/// A state of the lines: so many of the model's state bits as its word is wide.
+#[derive(Clone, Copy, Debug, PartialEq, Eq)]
+pub struct State {
+    pub word: Word,
+    /// Where its bits begin among the model's state bits.
+    pub first: usize,
+    /// Whether it has an `init`.
+    pub has_start: bool,
+}
+
+/// The states, whose bits are the model's state bits one after the other, and the places of the inputs, all in file order.
+#[derive(Debug, Drop)]
+pub struct Shape {
+    pub states: Vec<State>,
+    pub inputs: Vec<u32>,
+}

@@ -1,0 +1,110 @@
+// Designs as text of BTOR2.
+
+use btor_emit::emit::emit;
+use btor_emit::goal::Goal;
+use btor_text::write;
+use design_check::check::check;
+use design_reader::read;
+use model_core::model::WordModel;
+use std::alloc::Global;
+use std::test::Fail;
+use word_model::build::build;
+
+// A bit that is turned in each cycle, from 0 on, and must be 1 before it is.
+const TURNED: &str = r"module \t
+  wire input 1 \clk
+  attribute \init 1'0
+  wire \q
+  wire \d
+  cell $not $n
+    parameter \A_SIGNED 0 parameter \A_WIDTH 1 parameter \Y_WIDTH 1
+    connect \A \q connect \Y \d
+  end
+  cell $dff $r
+    parameter \CLK_POLARITY 1'1 parameter \WIDTH 1
+    connect \CLK \clk connect \D \d connect \Q \q
+  end
+  cell $assert \a0 connect \A \d connect \EN 1'1 end
+end
+";
+
+const TURNED_LINES: &str =
+    "1 sort bitvec 1\n2 zero 1\n3 state 1\n4 init 1 3 2\n5 not 1 3\n6 next 1 3 5\n7 ones 1\n8 not 1 5\n9 and 1 7 8\n10 bad 9\n";
+
+// A counter of two bits that must not come to 3.
+const COUNTED: &str = r"module \t
+  wire input 1 \clk
+  attribute \init 2'00
+  wire width 2 \c
+  wire width 2 \n
+  wire \ok
+  cell $add $n
+    parameter \A_SIGNED 0 parameter \A_WIDTH 2 parameter \B_SIGNED 0 parameter \B_WIDTH 2 parameter \Y_WIDTH 2
+    connect \A \c connect \B 2'01 connect \Y \n
+  end
+  cell $dff $r
+    parameter \CLK_POLARITY 1'1 parameter \WIDTH 2
+    connect \CLK \clk connect \D \n connect \Q \c
+  end
+  cell $ne $k
+    parameter \A_SIGNED 0 parameter \A_WIDTH 2 parameter \B_SIGNED 0 parameter \B_WIDTH 2 parameter \Y_WIDTH 1
+    connect \A \c connect \B 2'11 connect \Y \ok
+  end
+  cell $assert \a0 connect \A \ok connect \EN 1'1 end
+end
+";
+
+// A register of three bits, of which the middle one may start with either value, with an enable, under an assumption on an input.
+const KEPT: &str = r"module \t
+  wire input 1 \clk
+  wire input 2 \e
+  wire width 3 input 3 \d
+  attribute \init 3'1x0
+  wire width 3 \q
+  cell $dffe $r
+    parameter \CLK_POLARITY 1'1 parameter \EN_POLARITY 1'0 parameter \WIDTH 3
+    connect \CLK \clk connect \D \d connect \EN \e connect \Q \q
+  end
+  cell $assume \m connect \A \e connect \EN \d [0] end
+  cell $cover \v connect \A \q [1] connect \EN \q [2] end
+end
+";
+
+const COUNTED_LINES: &str =
+    "1 sort bitvec 2\n2 zero 1\n3 state 1\n4 init 1 3 2\n5 const 1 01\n6 add 1 3 5\n7 ones 1\n\
+8 sort bitvec 1\n9 neq 8 3 7\n10 next 1 3 6\n11 ones 8\n12 not 8 9\n13 and 8 11 12\n14 bad 13\n";
+
+const KEPT_LINES: &str =
+    "1 sort bitvec 1\n2 zero 1\n3 state 1\n4 init 1 3 2\n5 state 1\n6 ones 1\n7 state 1\n8 init 1 7 6\n\
+9 input 1\n10 input 1\n11 input 1\n12 input 1\n13 sort bitvec 2\n14 concat 13 11 10\n15 sort bitvec 3\n16 concat 15 12 14\n\
+17 concat 13 5 3\n18 concat 15 7 17\n19 ite 15 9 18 16\n20 slice 1 19 0 0\n21 next 1 3 20\n22 slice 1 19 1 1\n23 next 1 5 22\n\
+24 slice 1 19 2 2\n25 next 1 7 24\n26 slice 1 16 0 0\n27 not 1 26\n28 or 1 27 9\n29 constraint 28\n\
+30 slice 1 18 1 1\n31 slice 1 18 2 2\n32 and 1 31 30\n33 bad 32\n";
+
+fn model_of(alloc: Global, text: &str) -> Result<WordModel, Fail> {
+    let Ok(design) = read(alloc, text.as_bytes())? else {
+        return Err(Fail::from("not read"));
+    };
+    match check(alloc, design)? {
+        Ok(flat) => Ok(build(alloc, &flat)?),
+        Err(_) => Err(Fail::from("not flat")),
+    }
+}
+
+fn text_of(alloc: Global, design: &str, goal: Goal) -> Result<Vec<u8>, Fail> {
+    let model = model_of(alloc, design)?;
+    let emitted = emit(alloc, &model, goal)?;
+    let text = write(alloc, &emitted.model)?;
+    Ok(text)
+}
+
+#[test]
+fn designs_are_written_whole(rt: HostRuntime) -> Result<(), Fail> {
+    let text = text_of(rt.alloc(), TURNED, Goal::Asserts)?;
+    assert!(rt; text.as_slice() == TURNED_LINES.as_bytes());
+    let text = text_of(rt.alloc(), COUNTED, Goal::Asserts)?;
+    assert!(rt; text.as_slice() == COUNTED_LINES.as_bytes());
+    let text = text_of(rt.alloc(), KEPT, Goal::Cover(0))?;
+    assert!(rt; text.as_slice() == KEPT_LINES.as_bytes());
+    Ok(())
+}

@@ -1,0 +1,12 @@
+pub mod Cutting
+pub mod Words
+pub mod Lines
+pub mod Kept
+pub mod Runs
+pub mod Placing
+pub mod Passing
+pub mod Forth
+pub mod Bytes
+pub mod Closing
+pub mod Exact
+pub mod Sound
