@@ -6,3 +6,4 @@ pub mod Fixing
 pub mod Numbering
 pub mod Forming
 pub mod Making
+pub mod Coning

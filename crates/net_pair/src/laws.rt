@@ -3,6 +3,9 @@
 ghost use Rattle.std.specs.Prelude.{◌≡◌, ◌↔◌, ◌+◌, ◌*◌, ◌^◌, ◌<◌, ◌≤◌, ◌++◌, ℕ, List, Option, None, Some, Contains, length, max, slice_get};
 ghost use Rattle.cnf_form.specs.Cnf.{LitOf, Within};
 ghost use Rattle.gate_graph.specs.Circuit.{IsFixed};
+ghost use Rattle.model_cone.specs.Cone.{IsInCone};
+ghost use Rattle.model_cone.specs.Slice.{IsSliceOf};
+ghost use Rattle.model_cone.specs.declared.asked.Asked.{Asked};
 ghost use Rattle.model_core.specs.Served.{IsModel};
 ghost use Rattle.model_core.specs.Shape.{ModelOf, states};
 ghost use Rattle.bit_net.specs.Net.{IsNet, NetOf, gate_var, vars};
@@ -22,6 +25,13 @@ pub fn pairs_are_of_models()
 pub fn states_have_literals()
     ensures { (m : ModelOf) (n : NetOf) (places : List ℕ) (bits : List (Option ℕ)) → IsModel m → IsNetOf m n → HaveStates m places bits
         → (i place : ℕ) → slice_get places i ≡ Some place → (bit_at (pair_of n bits) i ≡ None) ↔ (Contains (states m) place → ⊥) }
+{}
+
+/// Of the pair of a model's slice, to what is asked of the model, the number of a state bit has no literals exactly where the bit is outside
+/// the cone of that.
+pub fn state_bits_in_the_cone_have_literals()
+    ensures { (m s : ModelOf) (asked : Asked) (n : NetOf) (places : List ℕ) (bits : List (Option ℕ)) → IsModel s → IsSliceOf m asked s → IsNetOf s n → HaveStates s places bits
+        → (i place : ℕ) → slice_get places i ≡ Some place → Contains (states m) place → (bit_at (pair_of n bits) i ≡ None) ↔ (IsInCone m asked place → ⊥) }
 {}
 
 /// Unit propagation from the states and inputs of the first cycle and the inputs of the second fixes every variable, whatever is added. The

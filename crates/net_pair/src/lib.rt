@@ -8,7 +8,8 @@ mod numbers;
 mod pairing;
 
 pub use laws::{
-    pairs_are_of_models, states_and_inputs_fix_all, states_have_literals, what_is_made_is_counted,
+    pairs_are_of_models, state_bits_in_the_cone_have_literals, states_and_inputs_fix_all,
+    states_have_literals, what_is_made_is_counted,
 };
 pub use numbers::states_at;
 pub use pairing::{TooMany, pair_of_net};
