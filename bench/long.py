@@ -22,7 +22,7 @@ from measure import FILE_LIMIT, Run, compile_rup, last_line, program
 
 FLOW = ("read_verilog -formal -sv x.v; prep -flatten -top top; async2sync; memory_map; chformal -early; opt_clean; "
         "rename -enumerate; write_rtlil x.il")
-TASK = "[options]\nmode {mode}\ndepth {depth}\n[engines]\nsat\n[script]\nread_rtlil x.il\n[files]\nx.il\n"
+TASK = "[options]\nmode {mode}\ndepth {depth}\n[engines]\n{line}\n[script]\nread_rtlil x.il\n[files]\nx.il\n"
 SHORT = 25  # seconds of cadical up to which a formula is of the short mode
 TICK = os.sysconf("SC_CLK_TCK")
 
@@ -198,6 +198,7 @@ def main():
     words.add_argument("--seconds", type=int, default=300, help="limit of CPU seconds of each run")
     words.add_argument("--only", default="", help="formulas whose name has this in it, or one of some words with commas")
     words.add_argument("--skip", default="", help="programs left out: minisat, cadical, whole, rup (with commas)")
+    words.add_argument("--hints", action="store_true", help="the engine writes hinted proofs: the engine line is `lrat cdcl_program --hints`")
     words.add_argument("--list", action="store_true", help="names, answers and sizes of the designs, and end")
     words.add_argument("--write", nargs=2, metavar=("NAME", "FILE"), help="write one formula, or one design's RTLIL, and end")
     words.add_argument("--lock", metavar="FILE", help="of several calls beside each other, whole runs go alone")
@@ -246,7 +247,7 @@ def main():
             faults, runs, checks = [], {"cadical": None, "minisat": None, "engine": None}, {}
 
             def check(formula, proof, tool):
-                if "rup" in skip or runs[tool] is None or runs[tool].code != 20 or runs[tool].over:
+                if "rup" in skip or (words.hints and tool == "engine") or runs[tool] is None or runs[tool].code != 20 or runs[tool].over:
                     return
                 checks[tool] = run([rup, formula, proof], limit, at["r"])
                 if not checks[tool].over and checks[tool].code != 20:
@@ -267,7 +268,7 @@ def main():
                 extra["minisat"] = conflicts(at["mi"], "minisat")
             r = runs["minisat"]
             print(f"{shown(r, limit):>8}{r.mb if r else 0:6.0f}{extra.get('minisat') or 0:9} |", end="", flush=True)
-            r = runs["engine"] = run([engine, at["f.cnf"]], limit, at["stream"])
+            r = runs["engine"] = run([engine, *(["--hints"] if words.hints else []), at["f.cnf"]], limit, at["stream"])
             check(at["f.cnf"], at["stream"], "engine")
             if r.code == 10 and not r.over:
                 fault = values_fault(at["f.cnf"], at["stream"])
@@ -281,7 +282,7 @@ def main():
             if name in DESIGNS and "whole" not in skip:
                 _, _, _, _, mode, depth = DESIGNS[name]
                 with open(os.path.join(folder, "x.sby"), "w") as file:
-                    file.write(TASK.format(mode=mode, depth=depth))
+                    file.write(TASK.format(mode=mode, depth=depth, line="lrat cdcl_program --hints" if words.hints else "sat"))
                 watch.start()
                 whole = run([sby, "-f", "-d", "out", "x.sby"], 2 * limit, at["said"], folder, env, alone=True)
                 watch.ended = True
@@ -299,6 +300,8 @@ def main():
             row = {"name": name, "answer": answer, **{t: par2(x, limit) for t, x in runs.items() if x}}
             if whole:
                 row["whole"] = 2.0 * limit if whole.over else max(whole.user, 0.01)
+                if not whole.over and not runs["engine"].over:
+                    row["judging"], row["wall"], row["alone"] = judge, whole.wall, runs["engine"].wall
             if "engine" in checks and whole and not whole.over:
                 row["judge"], row["rup"] = judge, par2(checks["engine"], limit)
             table.append(row)
@@ -314,6 +317,11 @@ def main():
             if rows:
                 print(f"{a}/{b}, {what}: geometric mean {middle([r[a] / max(r[b], 0.01) for r in rows]):.2f} over {len(rows)}", end="; ")
         print()
+    rows = [r for r in table if "wall" in r and r["alone"] > 1.0]
+    if rows:
+        print(f"by the clock, whole run/engine alone: geometric mean {middle([r['wall'] / r['alone'] for r in rows]):.2f}, "
+              f"greatest {max(r['wall'] / r['alone'] for r in rows):.2f}; judging/engine: geometric mean "
+              f"{middle([max(r['judging'], 0.01) / r['engine'] for r in rows]):.2f}, over {len(rows)} of more than a second")
     for tool in ("cadical", "minisat", "engine", "whole"):
         rows = [r for r in table if tool in r]
         if rows:

@@ -1,4 +1,5 @@
 pub mod Logged
+pub mod Lines
 pub mod Levels
 pub mod Analysis
 pub mod Solving

@@ -1,12 +1,14 @@
 -- A search on its way: the solver's state, and how far its log leads.
-use Rattle.std.specs.Prelude.{◌≡◌, ◌≢◌, ℕ, ◌<◌, ◌+◌, ◌≤◌, false, List, [], length, Option, Some, slice_index_or}
-use Rattle.cnf_form.specs.Cnf.{LitOf, FormulaOf, IsAdmitted, Line}
+use Rattle.std.specs.Prelude.{◌≡◌, ◌≢◌, ℕ, ◌<◌, ◌+◌, ◌≤◌, Bool, IsTrue, false, List, [], length, Option, Some, slice_index_or}
+use Rattle.cnf_form.specs.Cnf.{LitOf, FormulaOf, IsAdmitted}
 use Rattle.sby_edge.specs.Cause.{Rose}
 use Rattle.unit_propagation.specs.Propagation.{IsFixpoint}
 use Rattle.unit_propagation.specs.Propagator.{PropagatorOf, clauses_of, slot_at}
 use Rattle.frozen_clauses.specs.Frozen.{FrozenOf}
 use Rattle.cdcl_core.specs.Present.{all_of, Reorders, SameOrders}
 use Rattle.cdcl_core.specs.Levels.{IsDriven, IsPending}
+use Rattle.hint_chain.specs.Ids.{IsNamed}
+use Rattle.cdcl_core.specs.Lines.{LogLine, HeldOf}
 use Rattle.cdcl_core.specs.Logged.{IsNew, IsContingent, IsProper}
 use Rattle.cdcl_core.specs.Analysis.{IsIdle}
 use Rattle.cdcl_core.specs.Solving.{IsSearch, IsStopped, IsBroken, SolvedFits}
@@ -45,21 +47,28 @@ pub record IsOf (f : FormulaOf) (s : Solver) : Type 0 where
   pub given : s.given ≡ length f.clauses
   pub begun : IsBegun f.clauses s.core.slots
 
--- lines were logged that lead to these clauses, in some order: this many additions and deletions
-pub record IsHeld {A : Type 0} (takes : A → Line → A → Type 0) (f : FormulaOf) (first now : A) (present : List (List LitOf)) (count deleted : ℕ) : Type 0 where
+-- lines were logged that lead to these clauses, in some order, and, where the log is hinted, to these live ones: this many additions and deletions
+pub record IsHeld {A : Type 0} (takes : A → LogLine → A → Type 0) (hinted : Bool) (f : FormulaOf) (first now : A) (present : List (List LitOf)) (count deleted : ℕ) (held : HeldOf) : Type 0 where
   pub order : List (List LitOf)
   pub reorders : Reorders present order
-  pub search : IsSearch takes f first now order count
+  pub search : IsSearch takes hinted f first now order count held
   pub deletions : search.deletions ≡ deleted
 
+-- where ids are wanted, a solver has those of the live clauses
+abbrev pub IsNamedBy : HeldOf → Solver → Type 0
+IsNamedBy h s = IsTrue s.ids.wanted → IsNamed h.live s.core.slots s.frozen.slots s.ids × (s.ids.last ≡ h.last)
+
 -- what a log took since it was begun leads from a formula to a solver's clauses
-pub record HasLogged {A : Type 0} (takes : A → Line → A → Type 0) (f : FormulaOf) (first now : A) (s : Solver) : Type 0 where
+pub record HasLogged {A : Type 0} (takes : A → LogLine → A → Type 0) (f : FormulaOf) (first now : A) (s : Solver) : Type 0 where
   pub of : IsOf f s
-  pub held : IsHeld takes f first now (present_of s) s.conflicts s.deletions
+  pub live : HeldOf
+  pub held : IsHeld takes s.ids.wanted f first now (present_of s) s.conflicts s.deletions live
+  pub named : IsNamedBy live s
 
 -- What was logged since a solver's old state leads on to its new one; no call of the log failed the less.
-pub record Leads {A : Type 0} (takes : A → Line → A → Type 0) (faults : A → ℕ) (old new : Solver) (now next : A) : Type 0 where
+pub record Leads {A : Type 0} (takes : A → LogLine → A → Type 0) (faults : A → ℕ) (old new : Solver) (now next : A) : Type 0 where
   pub on : (f : FormulaOf) (first : A) → HasLogged takes f first now old → HasLogged takes f first next new
+  pub wanted : new.ids.wanted ≡ old.ids.wanted
   pub later : faults now ≤ faults next
 
 -- the same where clauses were only moved between the watched and the frozen ones
@@ -68,31 +77,33 @@ pub record Moves (old new : Solver) : Type 0 where
   pub orders : SameOrders (present_of old) (present_of new)
   pub conflicts : new.conflicts ≡ old.conflicts
   pub deletions : new.deletions ≡ old.deletions
+  pub wanted : new.ids.wanted ≡ old.ids.wanted
+  pub named : (h : HeldOf) → IsNamedBy h old → IsNamedBy h new
 
 -- the same of a reduction: no clause is learnt in it, and it leaves the solver at rest
-pub record Reduces {A : Type 0} (takes : A → Line → A → Type 0) (faults : A → ℕ) (old new : Solver) (now next : A) : Type 0 where
+pub record Reduces {A : Type 0} (takes : A → LogLine → A → Type 0) (faults : A → ℕ) (old new : Solver) (now next : A) : Type 0 where
   pub leads : Leads takes faults old new now next
   pub solver : IsSolver new
   pub rest : IsAtRest new
   pub conflicts : new.conflicts ≡ old.conflicts
 
 -- why a search stops without an answer, where the log led to a solver's old state before the budget was spent
-abbrev pub Stops : {A : Type 0} → (A → Line → A → Type 0) → (A → Line → A → Type 0) → (A → ℕ) → Solver → A → A → Stop → Type 0
+abbrev pub Stops : {A : Type 0} → (A → LogLine → A → Type 0) → (A → LogLine → A → Type 0) → (A → ℕ) → Solver → A → A → Stop → Type 0
 Stops takes fails faults old now next OutOfMemory =
-    (f : FormulaOf) (first : _) (budget : ℕ) → old.conflicts < budget → HasLogged takes f first now old → IsStopped takes f budget first next
+    (f : FormulaOf) (first : _) (budget : ℕ) → old.conflicts < budget → HasLogged takes f first now old → IsStopped takes old.ids.wanted f budget first next
 Stops takes fails faults old now next Failed =
-    ((f : FormulaOf) (first : _) (budget : ℕ) → old.conflicts < budget → HasLogged takes f first now old → IsBroken takes fails f budget first next)
+    ((f : FormulaOf) (first : _) (budget : ℕ) → old.conflicts < budget → HasLogged takes f first now old → IsBroken takes fails old.ids.wanted f budget first next)
     × Rose (faults now) (faults next)
 
 -- how a search ended that stopped
-abbrev pub EndsBy : {A : Type 0} → (A → Line → A → Type 0) → (A → Line → A → Type 0) → FormulaOf → ℕ → A → A → Stop → Type 0
-EndsBy takes fails f budget first now OutOfMemory = IsStopped takes f budget first now
-EndsBy takes fails f budget first now Failed = IsBroken takes fails f budget first now
+abbrev pub EndsBy : {A : Type 0} → (A → LogLine → A → Type 0) → (A → LogLine → A → Type 0) → Bool → FormulaOf → ℕ → A → A → Stop → Type 0
+EndsBy takes fails hinted f budget first now OutOfMemory = IsStopped takes hinted f budget first now
+EndsBy takes fails hinted f budget first now Failed = IsBroken takes fails hinted f budget first now
 
 -- what a step comes to: an answer, one more clause that was learnt, or a frozen one that was put back
-abbrev pub StepFits : {A : Type 0} → (A → Line → A → Type 0) → (A → Line → A → Type 0) → (A → ℕ) → Solver → Solver → A → A → Step → Type 0
+abbrev pub StepFits : {A : Type 0} → (A → LogLine → A → Type 0) → (A → LogLine → A → Type 0) → (A → ℕ) → Solver → Solver → A → A → Step → Type 0
 StepFits takes fails faults old new now next (Answered s) =
-    (s ≢ LogFailed) × ((f : FormulaOf) (first : _) (budget : ℕ) → old.conflicts < budget → HasLogged takes f first now old → SolvedFits takes fails f budget first next s)
+    (s ≢ LogFailed) × ((f : FormulaOf) (first : _) (budget : ℕ) → old.conflicts < budget → HasLogged takes f first now old → SolvedFits takes fails old.ids.wanted f budget first next s)
 StepFits takes fails faults old new now next Learnt = Leads takes faults old new now next × (new.conflicts ≡ old.conflicts + 1)
 StepFits takes fails faults old new now next Thawed =
     Leads takes faults old new now next × (new.conflicts ≡ old.conflicts)

@@ -1,12 +1,14 @@
 // What a search learns from a falsified clause.
 
-ghost use Rattle.std.specs.Prelude.{◌≡◌, ◌+◌, ◌*◌, ◌-◌, ◌^◌, ◌<◌, ◌≤◌, ◌++◌, ◌∷◌, [], List, length, Contains, IfOk, IfErr, IfSome, OnOk, Some};
+ghost use Rattle.std.specs.Prelude.{◌≡◌, ◌+◌, ◌*◌, ◌-◌, ◌^◌, ◌<◌, ◌≤◌, ◌++◌, ◌∷◌, [], ℕ, List, length, Contains, IsTrue, IfOk, IfErr, IfSome, OnOk, Some};
 ghost use Rattle.cnf_form.specs.Cnf.{LitOf};
 ghost use Rattle.unit_propagation.specs.Propagator.{clauses_of, slot_at};
 ghost use Rattle.cdcl_core.specs.Levels.{IsDriven, IsPending, base_of, end_of};
 ghost use Rattle.cdcl_core.specs.Logged.{IsContingent, IsNew};
 ghost use Rattle.cdcl_core.specs.Analysis.{IsIdle, IsListed, Supports, IsLearnt};
-ghost use Rattle.cdcl_core.specs.Searching.{IsAddable, IsSolver, Leads, Moves, StepFits, Stops};
+ghost use Rattle.hint_chain.specs.Chains.{Hints};
+ghost use Rattle.cdcl_core.specs.Lines.{Adds, HeldOf, held_after};
+ghost use Rattle.cdcl_core.specs.Searching.{IsAddable, IsNamedBy, IsSolver, Leads, Moves, StepFits, Stops};
 
 use crate::analysis::Analysis;
 use crate::learn::{assert_learnt, back_to_root, negate_trail};
@@ -77,6 +79,7 @@ impl Solver {
         ensures pending { self.new.pending ≡ self.old.pending }
         ensures conflicts { self.new.conflicts ≡ self.old.conflicts }
         ensures deletions { self.new.deletions ≡ self.old.deletions }
+        ensures ids { self.new.ids ≡ self.old.ids }
         ensures idle { OnOk result (IsIdle self.old.core.vars self.new.analysis.seen.items self.new.analysis.lower.items self.new.analysis.current.items) }
         ensures learnt { IfOk result (λ first. IsLearnt self.old.core (base_of self.old.core) self.new.analysis.clause.items first) }
     {
@@ -115,6 +118,7 @@ impl Solver {
         ensures pending { self.new.pending ≡ self.old.pending }
         ensures conflicts { self.new.conflicts ≡ self.old.conflicts }
         ensures deletions { self.new.deletions ≡ self.old.deletions }
+        ensures ids { self.new.ids ≡ self.old.ids }
         ensures idle { OnOk result (IsIdle self.old.core.vars self.new.analysis.seen.items self.new.analysis.lower.items self.new.analysis.current.items) }
         ensures learnt { IfOk result (λ first. IsLearnt self.old.core (base_of self.old.core) self.new.analysis.clause.items first) }
         ensures new { OnOk result (IsNew (clauses_of self.old.core.slots) self.new.analysis.clause.items) }
@@ -126,7 +130,7 @@ impl Solver {
     }
 
     // Puts the clause that was learnt, and goes back to where it makes a literal true.
-    fn put_learnt(&mut self, first: Lit, glue: u32) -> Result<(), AllocError>
+    fn put_learnt(&mut self, first: Lit, glue: u32, id: u64) -> Result<(), AllocError>
         requires frozen { self.old.frozen.vars ≡ self.old.core.vars }
         requires idle { IsIdle self.old.core.vars self.old.analysis.seen.items self.old.analysis.lower.items self.old.analysis.current.items }
         requires driven { IsDriven self.old.core }
@@ -140,12 +144,41 @@ impl Solver {
         ensures frozen { OnOk result (self.new.frozen ≡ self.old.frozen) }
         ensures conflicts { OnOk result (self.new.conflicts ≡ self.old.conflicts + 1) }
         ensures deletions { OnOk result (self.new.deletions ≡ self.old.deletions) }
+        ensures wanted { OnOk result (self.new.ids.wanted ≡ self.old.ids.wanted) }
+        ensures named { OnOk result ((h : HeldOf) (hints : List ℕ) → (IsTrue self.old.ids.wanted → self.old.ids.last < id) → IsNamedBy h self.old
+            → IsNamedBy (held_after h (Adds self.old.analysis.clause.items id hints)) self.new) }
     {
         let clause = self.analysis.clause();
         self.pending = assert_learnt(&mut self.core, &mut self.order, clause, first)?;
         self.learnts.push(glue, clause.len())?;
+        self.ids.push(id)?;
         self.conflicts += 1;
         Ok(())
+    }
+
+    // The hints of the clause that was learnt, where they are wanted.
+    fn find_hints(&mut self) -> Result<(), AllocError>
+        requires addable { IsAddable self.old.core self.old.frozen self.old.analysis.clause.items }
+        ensures given { self.new.given ≡ self.old.given }
+        ensures core { self.new.core ≡ self.old.core }
+        ensures frozen { self.new.frozen ≡ self.old.frozen }
+        ensures pending { self.new.pending ≡ self.old.pending }
+        ensures conflicts { self.new.conflicts ≡ self.old.conflicts }
+        ensures deletions { self.new.deletions ≡ self.old.deletions }
+        ensures analysis { self.new.analysis ≡ self.old.analysis }
+        ensures ids { self.new.ids ≡ self.old.ids }
+        ensures hints { OnOk result (IsTrue self.old.ids.wanted → Hints self.old.core.slots self.old.ids self.old.analysis.clause.items self.new.chain) }
+    {
+        if !self.ids.are_wanted() {
+            return Ok(());
+        }
+        self.chain.find(
+            &self.core,
+            &self.ids,
+            self.analysis.clause(),
+            self.minimizer.implied(),
+            self.analysis.used(),
+        )
     }
 
     // Logs the clause that was learnt, and puts it.
@@ -162,12 +195,14 @@ impl Solver {
         ensures leads { OnOk result (Leads L.takes L.faults self.old self.new log.old log.new) }
         ensures stopped { IfErr result (λ e. Stops L.takes L.fails L.faults self.old log.old log.new e) }
     {
+        self.find_hints()?;
+        let id = self.ids.next()?;
         let clause = self.analysis.clause();
         let glue = self.restarts.count(&self.core, clause);
-        if log.clause(clause).is_err() {
+        if log.clause(clause, id, self.chain.hints()).is_err() {
             return Err(Stop::Failed);
         }
-        self.put_learnt(first, glue)?;
+        self.put_learnt(first, glue, id)?;
         Ok(())
     }
 
@@ -187,7 +222,7 @@ impl Solver {
     }
 
     // Learns from a falsified clause, unless a frozen clause is a subset of what would be learnt: that one is put back then.
-    pub(crate) fn learn<L: Log>(&mut self, log: &mut L, k: u32) -> Result<Step, Stop>
+    fn learn_from<L: Log>(&mut self, log: &mut L, k: u32) -> Result<Step, Stop>
         requires solver { IsSolver self.old }
         requires levels { 0 < length self.old.core.limits }
         requires conflict { IsPending self.old.core (Some k) }
@@ -206,5 +241,19 @@ impl Solver {
         }
         self.add(log, first)?;
         Ok(Step::Learnt)
+    }
+
+    // The same, once the literals of level 0 are noted.
+    pub(crate) fn learn<L: Log>(&mut self, log: &mut L, k: u32) -> Result<Step, Stop>
+        requires solver { IsSolver self.old }
+        requires levels { 0 < length self.old.core.limits }
+        requires conflict { IsPending self.old.core (Some k) }
+        requires room { self.old.conflicts < 2 ^ 64 - 1 }
+        ensures solver { OnOk result (IsSolver self.new) }
+        ensures fits { IfOk result (λ s. StepFits L.takes L.fails L.faults self.old self.new log.old log.new s) }
+        ensures stopped { IfErr result (λ e. Stops L.takes L.fails L.faults self.old log.old log.new e) }
+    {
+        self.note_facts(log)?;
+        self.learn_from(log, k)
     }
 }

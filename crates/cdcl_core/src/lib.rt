@@ -4,6 +4,7 @@
 mod analysis;
 mod choose;
 mod conflict;
+mod facts;
 mod laws;
 mod learn;
 mod learnts;
@@ -11,6 +12,7 @@ mod load;
 mod log;
 mod minimizer;
 mod reduce;
+mod refute;
 mod restarts;
 mod search;
 mod solver;

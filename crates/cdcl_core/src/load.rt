@@ -52,6 +52,7 @@ fn put_all(core: &mut Propagator, formula: &Formula) -> Result<(), AllocError>
 pub(crate) fn load(alloc: Global, formula: &Formula) -> Result<Propagator, AllocError>
     ensures vars { IfOk result (λ p. p.vars ≡ formula.now.vars) }
     ensures clauses { IfOk result (λ p. clauses_of p.slots ≡ formula.now.clauses) }
+    ensures slots { IfOk result (λ p. p.slots ≡ map Some formula.now.clauses) }
     ensures begun { IfOk result (λ p. IsBegun formula.now.clauses p.slots) }
     ensures level { IfOk result (λ p. p.limits ≡ []) }
     ensures driven { IfOk result (λ p. IsDriven p) }

@@ -26,6 +26,13 @@ fn may_delete(additions: u64, deletions: u64) -> bool
     deletions < additions / 2
 }
 
+// Whether a line may have an id.
+fn is_writable(id: u64) -> bool
+    ensures { IsTrue result → id < 2 ^ 63 }
+{
+    id < 1 << 63
+}
+
 // Whether a clause has no true literal, and no more literals than there are variables.
 fn is_loose(core: &Propagator, clause: &[Lit]) -> bool
     requires { ClauseWithin core.now.vars clause.now }
@@ -70,8 +77,12 @@ impl Solver {
         if !is_loose(&self.core, clause) {
             return Ok(());
         }
+        let id = self.ids.watched(k);
+        if !is_writable(id) {
+            return Ok(());
+        }
         let _fixpoint = self.core.conflict();
-        if log.delete(clause).is_err() {
+        if log.delete(clause, id).is_err() {
             return Err(Stop::Failed);
         }
         self.core.take_out(k);
@@ -97,6 +108,7 @@ impl Solver {
         }
         let _fixpoint = self.core.conflict();
         self.frozen.push(clause)?;
+        self.ids.freeze(k)?;
         self.core.take_out(k);
         Ok(())
     }
@@ -151,8 +163,12 @@ impl Solver {
         if !is_loose(&self.core, clause) {
             return Ok(());
         }
+        let id = self.ids.frozen(k);
+        if !is_writable(id) {
+            return Ok(());
+        }
         let _fixpoint = self.core.conflict();
-        if log.delete(clause).is_err() {
+        if log.delete(clause, id).is_err() {
             return Err(Stop::Failed);
         }
         self.frozen.take_out(k);
@@ -185,6 +201,7 @@ impl Solver {
             return Ok(());
         }
         self.learnts.renumber(self.alloc, &self.core)?;
+        self.ids.collect(&self.core)?;
         self.core.collect()?;
         Ok(())
     }
@@ -196,6 +213,7 @@ impl Solver {
         ensures moves { OnOk result (Moves self.old self.new) }
     {
         if is_sparse(&self.frozen) {
+            self.ids.collect_frozen(&self.frozen)?;
             self.frozen.collect()?;
         }
         Ok(())
@@ -246,6 +264,7 @@ impl Solver {
         if !self.come_to_rest()? {
             return Ok(());
         }
+        self.note_facts(log)?;
         self.shrink(log)?;
         self.tidy()?;
         self.tidy_frozen()?;
@@ -260,7 +279,10 @@ impl Solver {
         ensures leads { OnOk result (Leads L.takes L.faults self.old self.new log.old log.new) }
         ensures stopped { IfErr result (λ e. Stops L.takes L.fails L.faults self.old log.old log.new e) }
     {
-        if self.pending.is_some() || self.core.conflict() || !self.learnts.is_due(self.conflicts) {
+        if self.pending.is_some() || self.core.conflict() {
+            return Ok(());
+        }
+        if !self.learnts.is_due(self.conflicts) {
             return Ok(());
         }
         self.reduce(log)

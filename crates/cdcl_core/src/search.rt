@@ -74,6 +74,7 @@ impl Solver {
         ensures conflicts { self.new.conflicts ≡ self.old.conflicts }
         ensures deletions { self.new.deletions ≡ self.old.deletions }
         ensures analysis { self.new.analysis ≡ self.old.analysis }
+        ensures ids { self.new.ids ≡ self.old.ids }
     {
         let guesses = self.order.lucky.is_left();
         if guesses {

@@ -2,12 +2,13 @@
 // 2001) in the crate unit_propagation.
 
 ghost use Rattle.std.specs.Prelude.{◌≡◌, ◌+◌, ◌-◌, ◌^◌, ◌<◌, ◌≤◌, [], true, length, Contains, IfOk, IfErr, IfSome, IfNone, OnOk, OnErr, Ok, Err};
-ghost use Rattle.cnf_form.specs.Cnf.{LitOf, Satisfies, lit_in, Addition};
+ghost use Rattle.cnf_form.specs.Cnf.{LitOf, Satisfies, lit_in};
 ghost use Rattle.unit_propagation.specs.Propagator.{clauses_of};
 ghost use Rattle.sby_edge.specs.Cause.{Rose};
 ghost use Rattle.cdcl_core.specs.Levels.{FoundFits};
+ghost use Rattle.cdcl_core.specs.Lines.{held_first};
 ghost use Rattle.cdcl_core.specs.declared.search.Found.TheVariants.{Assigned};
-ghost use Rattle.cdcl_core.specs.Searching.{EndsBy, HasLogged, IsOf, IsSolver, Leads, StepFits, Stops, present_of};
+ghost use Rattle.cdcl_core.specs.Searching.{EndsBy, HasLogged, IsNamedBy, IsOf, IsSolver, Leads, StepFits, Stops, present_of};
 ghost use Rattle.cdcl_core.specs.Solving.{IsStopped, SolvedFits, valued};
 
 use crate::analysis::Analysis;
@@ -22,6 +23,7 @@ use crate::stop::Stop;
 use cnf_form::{Formula, Lit};
 use decision_order::Order;
 use frozen_clauses::Frozen;
+use hint_chain::{Chain, Ids};
 use std::alloc::{AllocError, Global};
 use unit_propagation::Propagator;
 
@@ -48,7 +50,8 @@ pub(crate) enum Step {
 
 // What a search stands on: the watched clauses with the trail, of which this many, the formula's, come first; the frozen clauses; the
 // number of a falsified clause; how many clauses were logged, one for each conflict, and how many of them were deleted. The rest
-// chooses, and nothing is promised of it; `fixed` is how many literals level 0 had when frozen clauses were gone through last.
+// chooses, and nothing is promised of it; `fixed` is how many literals level 0 had when frozen clauses were gone through last, and `noted`
+// how many of them were noted as facts. Where the log wants hints, `ids` has the ids of all clauses, and `chain` finds hints.
 #[derive(Drop)]
 pub(crate) struct Solver {
     pub(crate) alloc: Global,
@@ -64,6 +67,9 @@ pub(crate) struct Solver {
     pub(crate) restarts: Restarts,
     pub(crate) learnts: Learnts,
     pub(crate) fixed: usize,
+    pub(crate) ids: Ids,
+    pub(crate) chain: Chain,
+    pub(crate) noted: usize,
 }
 
 // The values of all variables, that of each at its number.
@@ -93,24 +99,15 @@ fn satisfying(alloc: Global, core: &Propagator) -> Result<Vec<bool>, AllocError>
     Ok(values)
 }
 
-// Logs the empty clause.
-fn refute<L: Log>(log: &mut L) -> Result<Solved, Stop>
-    ensures unsat { IfOk result (λ s. (s ≡ Solved.Unsat) × L.takes log.old (Addition []) log.new) }
-    ensures failed { IfErr result (λ e. (e ≡ Stop.Failed) × L.fails log.old (Addition []) log.new × Rose (L.faults log.old) (L.faults log.new)) }
-{
-    if log.clause(&[]).is_err() {
-        return Err(Stop::Failed);
-    }
-    Ok(Solved::Unsat)
-}
-
 impl Solver {
-    fn new(alloc: Global, formula: &Formula) -> Result<Self, AllocError>
+    fn new(alloc: Global, formula: &Formula, hinted: bool) -> Result<Self, AllocError>
         ensures solver { IfOk result (λ s. IsSolver s) }
         ensures of { IfOk result (λ s. IsOf formula.now s) }
         ensures present { IfOk result (λ s. present_of s ≡ formula.now.clauses) }
         ensures conflicts { IfOk result (λ s. s.conflicts ≡ 0) }
         ensures deletions { IfOk result (λ s. s.deletions ≡ 0) }
+        ensures wanted { IfOk result (λ s. s.ids.wanted ≡ hinted) }
+        ensures named { IfOk result (λ s. IsNamedBy (held_first formula.now.clauses) s) }
     {
         let vars = formula.vars();
         let analysis = Analysis::new(alloc, vars)?;
@@ -119,6 +116,7 @@ impl Solver {
         let restarts = Restarts::new(alloc, vars, has_goal)?;
         let minimizer = Minimizer::new(alloc, vars)?;
         let frozen = Frozen::new(alloc, vars)?;
+        let ids = Ids::new(alloc, hinted, vars, formula.clauses().len())?;
         Ok(Solver {
             alloc,
             core: load(alloc, formula)?,
@@ -133,6 +131,9 @@ impl Solver {
             restarts,
             learnts: Learnts::new(alloc, formula),
             fixed: 0,
+            ids,
+            chain: Chain::new(alloc),
+            noted: 0,
         })
     }
 
@@ -151,7 +152,7 @@ impl Solver {
                 Ok(Step::Answered(Solved::Sat(values)))
             }
             Found::Refuted => {
-                let solved = refute(log)?;
+                let solved = self.refute(log)?;
                 Ok(Step::Answered(solved))
             }
             Found::Falsified(k) => self.learn(log, k),
@@ -190,8 +191,8 @@ impl Solver {
         requires solver { IsSolver self.old }
         requires none { self.old.conflicts ≡ 0 }
         requires logged { HasLogged L.takes formula.now log.old log.old self.old }
-        ensures solved { IfOk result (λ s. SolvedFits L.takes L.fails formula.now budget log.old log.new s) }
-        ensures stopped { IfErr result (λ e. EndsBy L.takes L.fails formula.now budget log.old log.new e) }
+        ensures solved { IfOk result (λ s. SolvedFits L.takes L.fails self.old.ids.wanted formula.now budget log.old log.new s) }
+        ensures stopped { IfErr result (λ e. EndsBy L.takes L.fails self.old.ids.wanted formula.now budget log.old log.new e) }
         ensures cause { result ≡ Err Stop.Failed → Rose (L.faults log.old) (L.faults log.new) }
         ensures never { result ≡ Ok Solved.LogFailed → ⊥ }
     {
@@ -207,7 +208,8 @@ impl Solver {
 
 /// Searches for values that satisfy the formula, and logs what it learns, until as many conflicts above level 0 were counted
 /// as the budget has. Each logged clause is admitted by those that are present, none of those is a subset of it, and it is no
-/// tautology; it has at most as many literals as there are variables. An answer that there are no values ends with the empty
+/// tautology; it has at most as many literals as there are variables. Where the log wants hints, each line's hints admit its clause,
+/// and each literal of level 0 is noted as a fact, which is no conflict. An answer that there are no values ends with the empty
 /// clause. An error is out of memory; what was logged until then is the beginning of such a search.
 pub fn solve<L: Log>(
     alloc: Global,
@@ -215,11 +217,11 @@ pub fn solve<L: Log>(
     budget: u64,
     log: &mut L,
 ) -> Result<Solved, AllocError>
-    ensures solved { IfOk result (λ s. SolvedFits L.takes L.fails formula.now budget log.old log.new s) }
+    ensures solved { IfOk result (λ s. SolvedFits L.takes L.fails L.hinted formula.now budget log.old log.new s) }
     ensures cause { result ≡ Ok Solved.LogFailed → Rose (L.faults log.old) (L.faults log.new) }
-    ensures memory { OnErr result (IsStopped L.takes formula.now budget log.old log.new) }
+    ensures memory { OnErr result (IsStopped L.takes L.hinted formula.now budget log.old log.new) }
 {
-    let mut solver = Solver::new(alloc, formula)?;
+    let mut solver = Solver::new(alloc, formula, log.is_hinted())?;
     match solver.search(formula, budget, log) {
         Ok(solved) => Ok(solved),
         Err(Stop::Failed) => Ok(Solved::LogFailed),

@@ -87,6 +87,7 @@ impl Solver {
         };
         put_next(&mut self.core, clause)?;
         self.learnts.push_thawed(clause.len())?;
+        self.ids.thaw(k)?;
         self.frozen.take_out(k);
         Ok(())
     }

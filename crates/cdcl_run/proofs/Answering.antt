@@ -1,18 +1,22 @@
 -- What a search and its end come to.
-use Rattle.std.proofs.Common.{◌≡◌, ◌⊎◌, ℕ, ◌+◌, ◌<◌, ◌≤◌, List, [], ◌∷◌, ◌++◌, length, take, refl, ap, ◌∙◌, sym, subst, inl, inr, append-nil, arith}
+use Rattle.std.proofs.Common.{◌≡◌, ◌⊎◌, ℕ, ◌+◌, ◌<◌, ◌≤◌, Bool, true, false, List, [], ◌∷◌, ◌++◌, length, take, refl, ap, ◌∙◌, sym, subst, inl, inr, append-nil, arith}
 use Rattle.std.proofs.Math.Seq.{take-append_seam}
 use Rattle.std.proofs.lemmas.List.Elements.{All-nil, All-push}
 use Rattle.cnf_form.specs.Cnf.{FormulaOf, LitOf, Line, Addition, Deletion}
 use Rattle.cnf_form.specs.Dimacs.{IsDimacs}
 use Rattle.sby_edge.specs.Cause.{Rose}
-use Rattle.cdcl_core.specs.Logged.{IsProper, MayFollow, additions, clause_of, none}
+use Rattle.cdcl_core.specs.Logged.{Logged, IsProper, MayFollow, additions, clause_of, none}
+use Rattle.cdcl_core.specs.Lines.{LogLine, Adds, Notes, Drops, plain, IsProperLine, HeldOf, held_first, held_after, IsHintedLine, LineFollows}
 use Rattle.cdcl_core.specs.declared.solver.Solved.{Solved}
 use Rattle.cdcl_core.specs.declared.solver.Solved.TheVariants.{Sat, Unsat, Budget, LogFailed}
-use Rattle.cdcl_core.proofs.Solutions.{logged_count}
-use Rattle.cdcl_run.specs.Answer.{IsAnswer, IsSearchText}
-use Rattle.cdcl_run.specs.Searching.{EndBreaks, IsEnd, IsProof, Searches, Stops}
+use Rattle.cdcl_core.proofs.Solutions.{logged_count, plain_push, hinted_push}
+use Rattle.cdcl_run.specs.HintedAnswer.{IsAnswerBy, IsHintedSearchText, IsSearchTextBy}
+use Rattle.cdcl_run.specs.HintedText.{hinted_text}
+use Rattle.cdcl_run.specs.Searching.{EndBreaks, IsEnd, IsLogged, IsProof, Searches, Stops, text_by}
 use Rattle.cdcl_run.specs.Output.{Breaks, GrownByFirst, GrownBySome, OutputOf, Puts, grown}
-use Rattle.cdcl_run.specs.Text.{proof_text, unsatisfiable_line}
+use Rattle.cdcl_run.specs.Text.{log_text, proof_text, unsatisfiable_line}
+use Rattle.cdcl_run.proofs.HintedStreams.{hinted_of, hinted_sat, hinted_unsat}
+use Rattle.cdcl_run.proofs.Plain.{plain_proof, plain_text}
 use Rattle.cdcl_run.proofs.Proofs.{searched_of}
 use Rattle.cdcl_run.proofs.Putting.{breaks_more, puts_both, puts_breaks}
 use Rattle.cdcl_run.proofs.Sat.{sat_stream}
@@ -23,54 +27,79 @@ begun_split : (old new : OutputOf) (text : List ℕ) → old.gathered ≡ [] →
 begun_split old new text begun p = ap (λ z. z ++ text) (sym begun) ∙ p.split
 
 -- a stream was written whole
-pub record Wrote (job : List ℕ) (budget : ℕ) (old new : OutputOf) (exit : ℕ) : Type 0 where
+pub record Wrote (hinted : Bool) (job : List ℕ) (budget : ℕ) (old new : OutputOf) (exit : ℕ) : Type 0 where
   pub stream : List ℕ
   pub taken : new.taken ≡ grown old.taken stream
   pub still : new.faults ≡ old.faults
-  pub answer : IsAnswer job budget stream exit
+  pub answer : IsAnswerBy hinted job budget stream exit
 
-wrote : (job : List ℕ) (budget : ℕ) (old new : OutputOf) (exit : ℕ) (stream : List ℕ) → old.gathered ≡ [] → new.gathered ≡ [] → Puts old new stream → IsAnswer job budget stream exit → Wrote job budget old new exit
-wrote job budget old new exit stream begun done p a =
+wrote : (hinted : Bool) (job : List ℕ) (budget : ℕ) (old new : OutputOf) (exit : ℕ) (stream : List ℕ) → old.gathered ≡ [] → new.gathered ≡ [] → Puts old new stream → IsAnswerBy hinted job budget stream exit → Wrote hinted job budget old new exit
+wrote hinted job budget old new exit stream begun done p a =
     let is : stream ≡ p.written = begun_split old new stream begun p ∙ ap (λ z. p.written ++ z) done ∙ append-nil p.written in
     record { stream = stream; taken = p.taken ∙ ap (grown old.taken) (sym is); still = p.still; answer = a }
 
 -- what a search put, and an end of its answer, are the stream of an answer
-pub record Whole (job : List ℕ) (budget : ℕ) (old mid : OutputOf) (text : List ℕ) (exit : ℕ) : Type 0 where
+pub record Whole (hinted : Bool) (job : List ℕ) (budget : ℕ) (old mid : OutputOf) (text : List ℕ) (exit : ℕ) : Type 0 where
   pub first : List ℕ
   pub puts : Puts old mid first
-  pub answer : IsAnswer job budget (first ++ text) exit
+  pub answer : IsAnswerBy hinted job budget (first ++ text) exit
 
-whole : (job : List ℕ) (f : FormulaOf) (budget : ℕ) (old mid : OutputOf) (s : Solved) (text : List ℕ) (exit : ℕ) → IsDimacs job f → Searches f budget old mid s → IsEnd s text exit → Whole job budget old mid text exit
-whole job f budget old mid (Sat values) text exit d s e =
+-- the text of the lines and of the empty clause
+last_text : (ls : List LogLine) (id : ℕ) (hints : List ℕ) → log_text (ls ++ Adds [] id hints ∷ []) ≡ proof_text (plain ls ++ Addition [] ∷ [])
+last_text ls id hints = plain_text (ls ++ Adds [] id hints ∷ []) ∙ ap proof_text (plain_push ls (Adds [] id hints))
+
+whole : (hinted : Bool) (job : List ℕ) (f : FormulaOf) (budget : ℕ) (old mid : OutputOf) (s : Solved) (text : List ℕ) (exit : ℕ) → IsDimacs job f → Searches hinted f budget old mid s → IsEnd s text exit → Whole hinted job budget old mid text exit
+whole false job f budget old mid (Sat values) text exit d s e =
     let v = e.1 in
-    let stream = proof_text s.0 ++ text in
+    let first = log_text s.0 in
     record {
-      first = proof_text s.0;
-      puts = s.5;
-      answer = inr (inl (e.0, sat_stream job f budget s.0 s.1 s.2 values.items v.0 stream d s.3 s.4 s.6 s.7 v.1 (ap (λ z. proof_text s.0 ++ z) v.2)));
+      first = first;
+      puts = s.6;
+      answer = inr (inl (e.0, sat_stream job f budget (plain s.0) s.1 s.2 values.items v.0 (first ++ text) d (plain_proof f s.0 s.1 s.2 s.3 s.4) s.5 s.7 s.8 v.1 (ap (λ z. z ++ text) (plain_text s.0) ∙ ap (λ z. proof_text (plain s.0) ++ z) v.2)));
     }
-whole job f budget old mid Unsat text exit d s e =
-    let first = proof_text (s.0 ++ Addition [] ∷ []) in
-    record { first = first; puts = s.5; answer = inl (e.0, unsat_stream job f budget s.0 s.1 s.2 (first ++ text) d s.3 s.4 s.6 (ap (λ z. first ++ z) e.1)) }
-whole job f budget old mid Budget text exit d s e =
-    record { first = proof_text s.0; puts = s.3; answer = inr (inr (e.0, record { proof = s.0; searched = searched_of job f s.0 s.1 budget d s.2; is = ap (λ z. proof_text s.0 ++ z) e.1 })) }
-whole job f budget old mid LogFailed text exit d s e = absurd e
+whole false job f budget old mid Unsat text exit d s e =
+    let first = log_text (s.0 ++ Adds [] s.6 s.7 ∷ []) in
+    record {
+      first = first;
+      puts = s.8;
+      answer = inl (e.0, unsat_stream job f budget (plain s.0) s.1 s.2 (first ++ text) d (plain_proof f s.0 s.1 s.2 s.3 s.4) s.5 s.9 (ap (λ z. z ++ text) (last_text s.0 s.6 s.7) ∙ ap (λ z. proof_text (plain s.0 ++ Addition [] ∷ []) ++ z) e.1));
+    }
+whole false job f budget old mid Budget text exit d s e =
+    let first = log_text s.0 in
+    record {
+      first = first;
+      puts = s.4;
+      answer = inr (inr (e.0, record { proof = plain s.0; searched = searched_of job f (plain s.0) s.1 budget d (plain_proof f s.0 s.1 budget s.2 s.3); is = ap (λ z. z ++ text) (plain_text s.0) ∙ ap (λ z. proof_text (plain s.0) ++ z) e.1 }));
+    }
+whole true job f budget old mid (Sat values) text exit d s e =
+    let v = e.1 in
+    record {
+      first = hinted_text s.0;
+      puts = s.6;
+      answer = inr (inl (e.0, hinted_sat job f budget s.0 s.1 s.2 s.3 values.items v.0 (hinted_text s.0 ++ text) d s.4 s.5 s.7 s.8 v.1 (ap (λ z. hinted_text s.0 ++ z) v.2)));
+    }
+whole true job f budget old mid Unsat text exit d s e =
+    let first = hinted_text (s.0 ++ Adds [] s.6 s.7 ∷ []) in
+    record { first = first; puts = s.8; answer = inl (e.0, hinted_unsat job f budget s.0 s.1 s.2 s.3 s.6 s.7 (first ++ text) d s.4 s.5 s.9 s.10 (s.11 refl) (ap (λ z. first ++ z) e.1)) }
+whole true job f budget old mid Budget text exit d s e =
+    record { first = hinted_text s.0; puts = s.4; answer = inr (inr (e.0, record { lines = s.0; searched = hinted_of job f s.0 s.1 budget s.2 d s.3; is = ap (λ z. hinted_text s.0 ++ z) e.1 })) }
+whole hinted job f budget old mid LogFailed text exit d s e = absurd e
 
-pub answer_written : (job : List ℕ) (f : FormulaOf) (budget : ℕ) (old mid new : OutputOf) (s : Solved) (text : List ℕ) (exit : ℕ) → IsDimacs job f → old.gathered ≡ [] → new.gathered ≡ [] → Searches f budget old mid s
-    → IsEnd s text exit → Puts mid new text → Wrote job budget old new exit
-answer_written job f budget old mid new s text exit d begun done h e p =
-    let w = whole job f budget old mid s text exit d h e in
-    wrote job budget old new exit (w.first ++ text) begun done (puts_both old mid new w.first text w.puts p) w.answer
+pub answer_written : (hinted : Bool) (job : List ℕ) (f : FormulaOf) (budget : ℕ) (old mid new : OutputOf) (s : Solved) (text : List ℕ) (exit : ℕ) → IsDimacs job f → old.gathered ≡ [] → new.gathered ≡ [] → Searches hinted f budget old mid s
+    → IsEnd s text exit → Puts mid new text → Wrote hinted job budget old new exit
+answer_written hinted job f budget old mid new s text exit d begun done h e p =
+    let w = whole hinted job f budget old mid s text exit d h e in
+    wrote hinted job budget old new exit (w.first ++ text) begun done (puts_both old mid new w.first text w.puts p) w.answer
 
 -- a call failed, and a first part of the lines of a search or of an answer was written
-pub record Cut (job : List ℕ) (budget : ℕ) (old new : OutputOf) : Type 0 where
+pub record Cut (hinted : Bool) (job : List ℕ) (budget : ℕ) (old new : OutputOf) : Type 0 where
   pub rose : Rose old.faults new.faults
   pub text : List ℕ
   pub part : GrownBySome old.taken new.taken text
-  pub of : IsSearchText job budget text ⊎ ((exit : ℕ) × IsAnswer job budget text exit)
+  pub of : IsSearchTextBy hinted job budget text ⊎ ((exit : ℕ) × IsAnswerBy hinted job budget text exit)
 
-cut : (job : List ℕ) (budget : ℕ) (old new : OutputOf) (text : List ℕ) → old.gathered ≡ [] → Breaks old new text → IsSearchText job budget text ⊎ ((exit : ℕ) × IsAnswer job budget text exit) → Cut job budget old new
-cut job budget old new text begun b of = record { rose = b.rose; text = text; part = subst (λ z. GrownBySome old.taken new.taken (z ++ text)) begun b.part; of = of }
+cut : (hinted : Bool) (job : List ℕ) (budget : ℕ) (old new : OutputOf) (text : List ℕ) → old.gathered ≡ [] → Breaks old new text → IsSearchTextBy hinted job budget text ⊎ ((exit : ℕ) × IsAnswerBy hinted job budget text exit) → Cut hinted job budget old new
+cut hinted job budget old new text begun b of = record { rose = b.rose; text = text; part = subst (λ z. GrownBySome old.taken new.taken (z ++ text)) begun b.part; of = of }
 
 additions_push : (ls : List Line) (l : Line) → additions (ls ++ l ∷ []) ≤ additions ls + 1
 additions_push [] (Addition c) = omega arith
@@ -78,69 +107,128 @@ additions_push [] (Deletion c) = omega arith
 additions_push (Addition d ∷ ls) l = let h = additions_push ls l in omega (arith, h)
 additions_push (Deletion d ∷ ls) l = additions_push ls l
 
--- the log failed
+-- a line more is within the budget
+one_more : {F : List (List LitOf)} (ls : List Line) (l : Line) (G H : List (List LitOf)) (n m d e budget : ℕ) → Logged F ls G n d → Logged F (ls ++ l ∷ []) H m e → n < budget → m ≤ budget
+one_more ls l G H n m d e budget a b h = let had = (logged_count a).0 in let has = (logged_count b).0 in let more = additions_push ls l in omega (arith, had, has, more, h)
+
+-- the log failed at a line of the search
 log_cut : (job : List ℕ) (f : FormulaOf) (budget : ℕ) (old new : OutputOf) (proof : List Line) (present : List (List LitOf)) (count : ℕ) (line : Line) → IsDimacs job f → old.gathered ≡ [] → IsProof f proof present count → count < budget
-    → MayFollow f.clauses proof present line → IsProper f.vars (clause_of line) → Breaks old new (proof_text (proof ++ line ∷ [])) → Cut job budget old new
+    → MayFollow f.clauses proof present line → IsProper f.vars (clause_of line) → Breaks old new (proof_text (proof ++ line ∷ [])) → Cut false job budget old new
 log_cut job f budget old new proof present count line d begun p h (inl m) proper b =
     let lines = proof ++ line ∷ [] in
-    let had = (logged_count p.logged).0 in
-    let has = (logged_count m.3).0 in
-    let more = additions_push proof line in
-    cut job budget old new (proof_text lines) begun b (inl (record {
+    cut false job budget old new (proof_text lines) begun b (inl (record {
       proof = lines;
       count = m.1;
       searched = record { formula = f; is_formula = d; present = m.0; deletions = m.2; logged = m.3; proper = All-push (λ l. IsProper f.vars (clause_of l)) proof line p.proper proper };
-      within = omega (arith, had, has, more, h);
+      within = one_more proof line present m.0 count m.1 p.deletions m.2 budget p.logged m.3 h;
       is = refl;
     }))
 log_cut job f budget old new proof present count line d begun p h (inr m) proper b =
     let lines = proof ++ line ∷ [] in
     let text = proof_text lines ++ unsatisfiable_line in
     let is : text ≡ proof_text (proof ++ Addition [] ∷ []) ++ unsatisfiable_line = ap (λ z. proof_text (proof ++ z ∷ []) ++ unsatisfiable_line) m.0 in
-    cut job budget old new text begun (breaks_more old new (proof_text lines) unsatisfiable_line b) (inr (20, inl (refl, unsat_stream job f budget proof present count text d p h m.1 is)))
+    cut false job budget old new text begun (breaks_more old new (proof_text lines) unsatisfiable_line b) (inr (20, inl (refl, unsat_stream job f budget proof present count text d p h m.1 is)))
+
+-- the text of the lines and of one more
+more_text : (ls : List LogLine) (l : LogLine) (m : Line) → plain (l ∷ []) ≡ m ∷ [] → log_text (ls ++ l ∷ []) ≡ proof_text (plain ls ++ m ∷ [])
+more_text ls l m e = plain_text (ls ++ l ∷ []) ∙ ap proof_text (plain_push ls l ∙ ap (λ z. plain ls ++ z) e)
+
+plain_cut : (job : List ℕ) (f : FormulaOf) (budget : ℕ) (old new : OutputOf) (ls : List LogLine) (present : List (List LitOf)) (count : ℕ) (held : HeldOf) (line : LogLine) → IsDimacs job f → old.gathered ≡ [] → IsLogged false f ls present count held → count < budget
+    → LineFollows f.clauses (plain ls) present line → IsProperLine f.vars line → Breaks old new (log_text (ls ++ line ∷ [])) → Cut false job budget old new
+plain_cut job f budget old new ls present count held (Adds c id hints) d begun p h m proper b =
+    log_cut job f budget old new (plain ls) present count (Addition c) d begun (plain_proof f ls present count held p) h m proper.0 (subst (Breaks old new) (more_text ls (Adds c id hints) (Addition c) refl) b)
+plain_cut job f budget old new ls present count held (Drops c id) d begun p h m proper b =
+    log_cut job f budget old new (plain ls) present count (Deletion c) d begun (plain_proof f ls present count held p) h m proper.0 (subst (Breaks old new) (more_text ls (Drops c id) (Deletion c) refl) b)
+plain_cut job f budget old new ls present count held (Notes l id hints) d begun p h m proper b =
+    cut false job budget old new (log_text (ls ++ Notes l id hints ∷ [])) begun b (inl (record {
+      proof = plain ls;
+      count = count;
+      searched = searched_of job f (plain ls) present count d (plain_proof f ls present count held p);
+      within = omega (arith, h);
+      is = plain_text (ls ++ Notes l id hints ∷ []) ∙ ap proof_text (plain_push ls (Notes l id hints) ∙ append-nil (plain ls));
+    }))
+
+-- a hinted search with a line more
+more_searched : (job : List ℕ) (f : FormulaOf) (budget : ℕ) (ls : List LogLine) (present : List (List LitOf)) (count : ℕ) (held : HeldOf) (line : LogLine) (H : List (List LitOf)) (m e : ℕ) → IsDimacs job f → IsLogged true f ls present count held → IsProperLine f.vars line
+    → IsHintedLine held line → Logged f.clauses (plain (ls ++ line ∷ [])) H m e → m ≤ budget → IsHintedSearchText job budget (hinted_text (ls ++ line ∷ []))
+more_searched job f budget ls present count held line H m e d p proper by l h = record {
+  lines = ls ++ line ∷ [];
+  count = m;
+  searched = record {
+    formula = f;
+    is_formula = d;
+    present = H;
+    deletions = e;
+    logged = l;
+    proper = All-push (IsProperLine f.vars) ls line p.proper proper;
+    held = held_after held line;
+    hinted = hinted_push (held_first f.clauses) held ls line (p.hints refl) by;
+  };
+  within = h;
+  is = refl;
+}
+
+hinted_cut : (job : List ℕ) (f : FormulaOf) (budget : ℕ) (old new : OutputOf) (ls : List LogLine) (present : List (List LitOf)) (count : ℕ) (held : HeldOf) (line : LogLine) → IsDimacs job f → old.gathered ≡ [] → IsLogged true f ls present count held → count < budget
+    → LineFollows f.clauses (plain ls) present line → IsProperLine f.vars line → IsHintedLine held line → Breaks old new (hinted_text (ls ++ line ∷ [])) → Cut true job budget old new
+hinted_cut job f budget old new ls present count held (Adds c id hints) d begun p h (inl m) proper by b =
+    cut true job budget old new (hinted_text (ls ++ Adds c id hints ∷ [])) begun b
+    (inl (more_searched job f budget ls present count held (Adds c id hints) m.0 m.1 m.2 d p proper by (subst (λ z. Logged f.clauses z m.0 m.1 m.2) (sym (plain_push ls (Adds c id hints))) m.3) (one_more (plain ls) (Addition c) present m.0 count m.1 p.deletions m.2 budget p.logged m.3 h)))
+hinted_cut job f budget old new ls present count held (Adds c id hints) d begun p h (inr m) proper by b =
+    let none : c ≡ [] = (let e = m.0 in cc) in
+    let text = hinted_text (ls ++ Adds c id hints ∷ []) ++ unsatisfiable_line in
+    cut true job budget old new text begun (breaks_more old new (hinted_text (ls ++ Adds c id hints ∷ [])) unsatisfiable_line b)
+    (inr (20, inl (refl, hinted_unsat job f budget ls present count held id hints text d p h m.1 (subst (λ z. IsProperLine f.vars (Adds z id hints)) none proper) (subst (λ z. IsHintedLine held (Adds z id hints)) none by) (ap (λ z. hinted_text (ls ++ Adds z id hints ∷ []) ++ unsatisfiable_line) none))))
+hinted_cut job f budget old new ls present count held (Drops c id) d begun p h (inl m) proper by b =
+    cut true job budget old new (hinted_text (ls ++ Drops c id ∷ [])) begun b
+    (inl (more_searched job f budget ls present count held (Drops c id) m.0 m.1 m.2 d p proper by (subst (λ z. Logged f.clauses z m.0 m.1 m.2) (sym (plain_push ls (Drops c id))) m.3) (one_more (plain ls) (Deletion c) present m.0 count m.1 p.deletions m.2 budget p.logged m.3 h)))
+hinted_cut job f budget old new ls present count held (Drops c id) d begun p h (inr m) proper by b = absurd (let e = m.0 in cc)
+hinted_cut job f budget old new ls present count held (Notes l id hints) d begun p h m proper by b =
+    cut true job budget old new (hinted_text (ls ++ Notes l id hints ∷ [])) begun b
+    (inl (more_searched job f budget ls present count held (Notes l id hints) present count p.deletions d p proper by (subst (λ z. Logged f.clauses z present count p.deletions) (sym (plain_push ls (Notes l id hints) ∙ append-nil (plain ls))) p.logged) (omega (arith, h))))
 
 -- the end of an answer failed
-end_cut : (job : List ℕ) (f : FormulaOf) (budget : ℕ) (old mid new : OutputOf) (s : Solved) (text : List ℕ) (exit : ℕ) → IsDimacs job f → old.gathered ≡ [] → Searches f budget old mid s → IsEnd s text exit → Breaks mid new text → Cut job budget old new
-end_cut job f budget old mid new s text exit d begun h e b =
-    let w = whole job f budget old mid s text exit d h e in
-    cut job budget old new (w.first ++ text) begun (puts_breaks old mid new w.first text w.puts b) (inr (exit, w.answer))
+end_cut : (hinted : Bool) (job : List ℕ) (f : FormulaOf) (budget : ℕ) (old mid new : OutputOf) (s : Solved) (text : List ℕ) (exit : ℕ) → IsDimacs job f → old.gathered ≡ [] → Searches hinted f budget old mid s → IsEnd s text exit → Breaks mid new text → Cut hinted job budget old new
+end_cut hinted job f budget old mid new s text exit d begun h e b =
+    let w = whole hinted job f budget old mid s text exit d h e in
+    cut hinted job budget old new (w.first ++ text) begun (puts_breaks old mid new w.first text w.puts b) (inr (exit, w.answer))
 
 -- nothing more came after a fault
 same_breaks : (old mid new : OutputOf) (text : List ℕ) → new.taken ≡ mid.taken → new.faults ≡ mid.faults → Breaks old mid text → Breaks old new text
 same_breaks old mid new text t f b = record { part = subst (λ z. GrownBySome old.taken z (old.gathered ++ text)) (sym t) b.part; rose = subst (Rose old.faults) (sym f) b.rose }
 
-pub answer_cut : (job : List ℕ) (f : FormulaOf) (budget : ℕ) (old mid new : OutputOf) (s : Solved) → IsDimacs job f → old.gathered ≡ [] → Searches f budget old mid s → EndBreaks mid new s → Cut job budget old new
-answer_cut job f budget old mid new s d begun h (inr e) = end_cut job f budget old mid new s e.0 e.1 d begun h e.2 e.3
-answer_cut job f budget old mid new (Sat values) d begun h (inl e) = absurd (let k = e.0 in cc)
-answer_cut job f budget old mid new Unsat d begun h (inl e) = absurd (let k = e.0 in cc)
-answer_cut job f budget old mid new Budget d begun h (inl e) = absurd (let k = e.0 in cc)
-answer_cut job f budget old mid new LogFailed d begun h (inl e) = log_cut job f budget old new h.0 h.1 h.2 h.5 d begun h.3 h.4 h.6 h.7 (same_breaks old mid new (proof_text (h.0 ++ h.5 ∷ [])) e.1 e.2 h.8)
+pub answer_cut : (hinted : Bool) (job : List ℕ) (f : FormulaOf) (budget : ℕ) (old mid new : OutputOf) (s : Solved) → IsDimacs job f → old.gathered ≡ [] → Searches hinted f budget old mid s → EndBreaks mid new s → Cut hinted job budget old new
+answer_cut hinted job f budget old mid new s d begun h (inr e) = end_cut hinted job f budget old mid new s e.0 e.1 d begun h e.2 e.3
+answer_cut hinted job f budget old mid new (Sat values) d begun h (inl e) = absurd (let k = e.0 in cc)
+answer_cut hinted job f budget old mid new Unsat d begun h (inl e) = absurd (let k = e.0 in cc)
+answer_cut hinted job f budget old mid new Budget d begun h (inl e) = absurd (let k = e.0 in cc)
+answer_cut false job f budget old mid new LogFailed d begun h (inl e) = plain_cut job f budget old new h.0 h.1 h.2 h.3 h.6 d begun h.4 h.5 h.7 h.8 (same_breaks old mid new (log_text (h.0 ++ h.6 ∷ [])) e.1 e.2 h.10)
+answer_cut true job f budget old mid new LogFailed d begun h (inl e) = hinted_cut job f budget old new h.0 h.1 h.2 h.3 h.6 d begun h.4 h.5 h.7 h.8 (h.9 refl) (same_breaks old mid new (hinted_text (h.0 ++ h.6 ∷ [])) e.1 e.2 h.10)
 
 -- memory ran out, and a first part of the lines of a search was written
-pub record LeftOff (job : List ℕ) (budget : ℕ) (old new : OutputOf) : Type 0 where
+pub record LeftOff (hinted : Bool) (job : List ℕ) (budget : ℕ) (old new : OutputOf) : Type 0 where
   pub still : new.faults ≡ old.faults
   pub text : List ℕ
   pub part : GrownByFirst old.taken new.taken text
-  pub of : IsSearchText job budget text
+  pub of : IsSearchTextBy hinted job budget text
 
-pub search_left : (job : List ℕ) (f : FormulaOf) (budget : ℕ) (old new : OutputOf) → IsDimacs job f → old.gathered ≡ [] → Stops f budget old new → LeftOff job budget old new
-search_left job f budget old new d begun s =
-    let p = s.5 in
-    let text = proof_text s.0 in
+-- the text of a search is one
+search_text : (hinted : Bool) (job : List ℕ) (f : FormulaOf) (budget : ℕ) (ls : List LogLine) (present : List (List LitOf)) (count : ℕ) (held : HeldOf) → IsDimacs job f → IsLogged hinted f ls present count held → count ≤ budget → IsSearchTextBy hinted job budget (text_by hinted ls)
+search_text false job f budget ls present count held d p h = record { proof = plain ls; count = count; searched = searched_of job f (plain ls) present count d (plain_proof f ls present count held p); within = h; is = plain_text ls }
+search_text true job f budget ls present count held d p h = record { lines = ls; count = count; searched = hinted_of job f ls present count held d p; within = h; is = refl }
+
+pub search_left : (hinted : Bool) (job : List ℕ) (f : FormulaOf) (budget : ℕ) (old new : OutputOf) → IsDimacs job f → old.gathered ≡ [] → Stops hinted f budget old new → LeftOff hinted job budget old new
+search_left hinted job f budget old new d begun s =
+    let p = s.6 in
+    let text = text_by hinted s.0 in
     let first : take (length p.written) text ≡ p.written = ap (take (length p.written)) (begun_split old new text begun p) ∙ take-append_seam p.written new.gathered in
     record {
       still = p.still;
       text = text;
       part = (length p.written, p.taken ∙ ap (grown old.taken) (sym first));
-      of = record { proof = s.0; count = s.2; searched = searched_of job f s.0 s.1 s.2 d s.3; within = s.4; is = refl };
+      of = search_text hinted job f budget s.0 s.1 s.2 s.3 d s.4 s.5;
     }
 
 -- the lines of a search that wasn't begun
-pub none_searched : (job : List ℕ) (f : FormulaOf) (budget : ℕ) → IsDimacs job f → IsSearchText job budget []
-none_searched job f budget d = record {
-  proof = [];
-  count = 0;
-  searched = record { formula = f; is_formula = d; present = f.clauses; deletions = 0; logged = none; proper = All-nil (λ l. IsProper f.vars (clause_of l)) };
-  within = omega arith;
-  is = refl;
-}
+pub none_searched : (hinted : Bool) (job : List ℕ) (f : FormulaOf) (budget : ℕ) → IsDimacs job f → IsSearchTextBy hinted job budget []
+none_searched false job f budget d = search_text false job f budget [] f.clauses 0 (held_first f.clauses) d (record { deletions = 0; logged = none; proper = All-nil (IsProperLine f.vars); hints = λ h. refl }) (omega arith)
+none_searched true job f budget d = search_text true job f budget [] f.clauses 0 (held_first f.clauses) d (record { deletions = 0; logged = none; proper = All-nil (IsProperLine f.vars); hints = λ h. refl }) (omega arith)

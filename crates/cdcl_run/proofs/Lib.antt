@@ -7,6 +7,10 @@ pub mod Proofs
 pub mod Unsat
 pub mod Naming
 pub mod Sat
+pub mod Plain
+pub mod HintedClauses
+pub mod HintedProofs
+pub mod HintedStreams
 pub mod Answering
 pub mod Contents
 pub mod Promise

@@ -33,7 +33,7 @@ values_fed rows last =
 v_word : IsWord (codes "v")
 v_word = record { head = 118; tail = []; are = refl; visible = (refl, refl, tt) }
 
-no_lines : (t : List ℕ) → NoFeed t → lines t ≡ words t ∷ []
+pub no_lines : (t : List ℕ) → NoFeed t → lines t ≡ words t ∷ []
 no_lines t h = ap (map words) (last_of t h)
   where
     last_of : (t : List ℕ) → NoFeed t → lines_of t ≡ t ∷ []

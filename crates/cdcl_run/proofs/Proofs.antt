@@ -10,7 +10,7 @@ use Rattle.cnf_form.proofs.Rup.{Admitted-true, Satisfies-push}
 use Rattle.cert_stream.specs.Text.{NoFeed}
 use Rattle.cert_stream.proofs.Apart.{fed_lines}
 use Rattle.cert_judge.specs.DrupCert.{Leads, lines, words}
-use Rattle.cdcl_core.specs.Logged.{AreProper, IsProper, clause_of}
+use Rattle.cdcl_core.specs.Logged.{Logged, none, added, deleted, AreProper, IsProper, clause_of}
 use Rattle.cdcl_run.specs.Answer.{IsSearched}
 use Rattle.cdcl_run.specs.Searching.{IsProof}
 use Rattle.cdcl_run.specs.Text.{proof_line, proof_text}
@@ -33,6 +33,22 @@ AreFull (Deletion c ∷ ls) = AreFull ls
 
 d_word : IsWord (codes "d")
 d_word = record { head = 100; tail = []; are = refl; visible = (refl, refl, tt) }
+
+-- lines that were logged add no empty clause
+full_add : (ls : List Line) (c : List LitOf) → AreFull ls → c ≢ [] → AreFull (ls ++ Addition c ∷ [])
+full_add [] c h n = (n, tt)
+full_add (Addition d ∷ ls) c h n = (h.0, full_add ls c h.1 n)
+full_add (Deletion d ∷ ls) c h n = full_add ls c h n
+
+full_delete : (ls : List Line) (c : List LitOf) → AreFull ls → AreFull (ls ++ Deletion c ∷ [])
+full_delete [] c h = tt
+full_delete (Addition d ∷ ls) c h = (h.0, full_delete ls c h.1)
+full_delete (Deletion d ∷ ls) c h = full_delete ls c h
+
+pub logged_full : {F : List (List LitOf)} {ls : List Line} {G : List (List LitOf)} {n d : ℕ} → Logged F ls G n d → AreFull ls
+logged_full none = tt
+logged_full {F} (added ls G n d c w a new k) = full_add ls c (logged_full w) k.full
+logged_full {F} (deleted ls G H n d c w a few) = full_delete ls c (logged_full w)
 
 module _ (vars : ℕ) (small : vars < 2 ^ 64) where
   proof_line_first : (l : Line) (rest : List ℕ) → IsProper vars (clause_of l) → lines (proof_line l ++ rest) ≡ line_words l ∷ lines rest

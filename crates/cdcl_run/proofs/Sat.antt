@@ -15,10 +15,10 @@ use Rattle.cdcl_run.proofs.Words.{AreIn}
 use Rattle.cdcl_run.proofs.Rows.{length-literals_from}
 
 -- the words of the status line
-abbrev status : List (List ℕ)
+abbrev pub status : List (List ℕ)
 status = codes "s" ∷ codes "SATISFIABLE" ∷ []
 
-idle : IsIdle status
+pub idle : IsIdle status
 idle = inr (refl, λ e. (let k : codes "SATISFIABLE" ≡ codes "UNKNOWN" = cc in let j : ◌≡◌ {A = ℕ} 83 85 = cc in omega (arith, j)))
 
 pub sat_stream : (job : List ℕ) (f : FormulaOf) (budget : ℕ) (ls : List Line) (G : List (List LitOf)) (n : ℕ) (values : List Bool) (text stream : List ℕ) → IsDimacs job f → IsProof f ls G n → n < budget → length values ≡ f.vars + 1 → Satisfies (valued values) f.clauses

@@ -1,5 +1,5 @@
 -- The fate of a stream that doesn't know.
-use Rattle.std.proofs.Common.{◌≡◌, ◌≢◌, ℕ, ◌+◌, ◌≤◌, ◌<◌, ◌^◌, true, false, List, [], ◌∷◌, ◌++◌, length, refl, sym, ap, ◌∙◌, subst, inl, inr, append_assoc, arith}
+use Rattle.std.proofs.Common.{◌≡◌, ℕ, ◌+◌, ◌≤◌, ◌<◌, ◌^◌, true, false, List, [], ◌∷◌, ◌++◌, length, refl, sym, ap, ◌∙◌, subst, inl, inr, append_assoc, arith}
 use Rattle.std.specs.Prelude.{codes, flat_map, map, Some}
 use Rattle.std.proofs.lemmas.List.Elements.{All-head, All-tail}
 use Rattle.cnf_form.specs.Cnf.{LitOf, Line, Addition, Deletion, Drup}
@@ -19,28 +19,12 @@ use Rattle.cert_judge.specs.Fate.{Unknown}
 use Rattle.cert_judge.specs.Kinds.{IsFate}
 use Rattle.cert_judge.specs.declared.stream.StreamKind.TheVariants.{Drup as DrupKind}
 use Rattle.cert_judge.proofs.DrupLines.{texts, line_texts, done_all, ends_at, done_last, writes_read}
-use Rattle.cdcl_core.specs.Logged.{Logged, none, added, deleted, AreProper, IsProper, clause_of}
+use Rattle.cdcl_core.specs.Logged.{AreProper, IsProper, clause_of}
 use Rattle.cdcl_core.proofs.Solutions.{logged_drup}
 use Rattle.cdcl_run.specs.Answer.{IsUnknownStream}
 use Rattle.cdcl_run.specs.Text.{proof_line, proof_text, unknown_line}
-use Rattle.cdcl_run.proofs.Proofs.{AreFull}
+use Rattle.cdcl_run.proofs.Proofs.{AreFull, logged_full}
 use Rattle.cdcl_run.proofs.Words.{IsWord, bare, bare_words, bare_feed, bare_line, ended_texts, in_of, words_then}
-
--- lines that were logged add no empty clause
-full_add : (ls : List Line) (c : List LitOf) → AreFull ls → c ≢ [] → AreFull (ls ++ Addition c ∷ [])
-full_add [] c h n = (n, tt)
-full_add (Addition d ∷ ls) c h n = (h.0, full_add ls c h.1 n)
-full_add (Deletion d ∷ ls) c h n = full_add ls c h n
-
-full_delete : (ls : List Line) (c : List LitOf) → AreFull ls → AreFull (ls ++ Deletion c ∷ [])
-full_delete [] c h = tt
-full_delete (Addition d ∷ ls) c h = (h.0, full_delete ls c h.1)
-full_delete (Deletion d ∷ ls) c h = full_delete ls c h
-
-logged_full : {F : List (List LitOf)} {ls : List Line} {G : List (List LitOf)} {n d : ℕ} → Logged F ls G n d → AreFull ls
-logged_full none = tt
-logged_full {F} (added ls G n d c w a new k) = full_add ls c (logged_full w) k.full
-logged_full {F} (deleted ls G H n d c w a few) = full_delete ls c (logged_full w)
 
 -- literals of clauses and deletions say nothing by themselves
 none_heard : (lits : List LitOf) → (flat_map (heard_says ClauseList) lits ≡ []) × (flat_map (heard_says DeletionList) lits ≡ [])

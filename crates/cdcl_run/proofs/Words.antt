@@ -54,7 +54,7 @@ some_word : (w : List ℕ) → 0 < length w → Visible w → IsWord w
 some_word [] h v = absurd (omega (arith, h))
 some_word (b ∷ bs) h v = record { head = b; tail = bs; are = refl; visible = v }
 
-signed_word : (s : Bool) (n : ℕ) → n < 2 ^ 64 → IsWord (cond s (45 ∷ decimal n) (decimal n))
+pub signed_word : (s : Bool) (n : ℕ) → n < 2 ^ 64 → IsWord (cond s (45 ∷ decimal n) (decimal n))
 signed_word false n h = let d = (decimal_is_IsNumeral n h).0 in some_word (decimal n) d.0 (digits_visible (decimal n) d.1)
 signed_word true n h = let d = (decimal_is_IsNumeral n h).0 in record { head = 45; tail = decimal n; are = refl; visible = (refl, refl, digits_visible (decimal n) d.1) }
 
@@ -102,7 +102,7 @@ in_split vars [] d h = (tt, h)
 in_split vars (l ∷ c) d h = let k = in_split vars c d h.2 in ((h.0, h.1, k.0), k.1)
 
 -- the number's text is a number
-decimal_number : (n : ℕ) → 0 < n → n < 2 ^ 64 → is_number (decimal n) ≡ true
+pub decimal_number : (n : ℕ) → 0 < n → n < 2 ^ 64 → is_number (decimal n) ≡ true
 decimal_number n p h = by (decimal n) (first_decimal n p h) (digits_back (decimal n) (decimal_is_IsNumeral n h).0.1)
   where
     by : (w : List ℕ) → 48 < get_or w 0 0 → list_all is_digit w ≡ true → is_number w ≡ true
@@ -141,7 +141,7 @@ module _ (vars : ℕ) (small : vars < 2 ^ 64) where
   pub ended_texts : (c : List LitOf) → AreIn vars c → length c ≤ vars → IsEnded vars (map literal_text c ++ codes "0" ∷ []) c
   ended_texts c h short = (map literal_text c, refl, writes_texts c h, short)
 
-  lit_word : (l : LitOf) → l.var ≤ vars → IsWord (literal_text l)
+  pub lit_word : (l : LitOf) → l.var ≤ vars → IsWord (literal_text l)
   lit_word l h = literal_word l (omega (arith, h, small))
 
   -- literals with a space after each, and 0

@@ -4,3 +4,5 @@ pub mod Text
 pub mod Answer
 pub mod Run
 pub mod Searching
+pub mod HintedText
+pub mod HintedAnswer

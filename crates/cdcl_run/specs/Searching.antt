@@ -1,13 +1,15 @@
 -- What a search puts, and how its stream ends.
-use Rattle.std.specs.Prelude.{◌≡◌, ◌⊎◌, ℕ, ◌^◌, ◌+◌, ◌<◌, ◌≤◌, drop, List, [], ◌∷◌, ◌++◌, length}
-use Rattle.cnf_form.specs.Cnf.{LitOf, FormulaOf, Satisfies, IsAdmitted, Line, Addition}
-use Rattle.cdcl_core.specs.Logged.{Logged, AreProper, IsProper, MayFollow, clause_of}
+use Rattle.std.specs.Prelude.{◌≡◌, ◌⊎◌, ℕ, ◌^◌, ◌+◌, ◌<◌, ◌≤◌, Bool, IsTrue, true, false, drop, List, [], ◌∷◌, ◌++◌, length}
+use Rattle.cnf_form.specs.Cnf.{LitOf, FormulaOf, Satisfies, IsAdmitted, Line}
+use Rattle.cdcl_core.specs.Logged.{Logged, AreProper}
+use Rattle.cdcl_core.specs.Lines.{LogLine, Adds, plain, AreProperLines, IsProperLine, HeldOf, held_first, AreHinted, IsHintedLine, LineFollows}
 use Rattle.cdcl_core.specs.Solving.{valued}
 use Rattle.cdcl_core.specs.declared.solver.Solved.{Solved}
 use Rattle.cdcl_core.specs.declared.solver.Solved.TheVariants.{Sat, Unsat, Budget, LogFailed}
 use Rattle.cdcl_run.specs.Answer.{literals_from}
 use Rattle.cdcl_run.specs.Output.{OutputOf, Puts, Breaks}
-use Rattle.cdcl_run.specs.Text.{proof_text, satisfiable_line, unsatisfiable_line, unknown_line, AreValueLines}
+use Rattle.cdcl_run.specs.HintedText.{hinted_line, hinted_text}
+use Rattle.cdcl_run.specs.Text.{log_line, log_text, satisfiable_line, unsatisfiable_line, unknown_line, AreValueLines}
 
 -- the lines of a search, this many of which add clauses, that lead to the present clauses
 pub record IsProof (f : FormulaOf) (proof : List Line) (present : List (List LitOf)) (count : ℕ) : Type 0 where
@@ -15,22 +17,40 @@ pub record IsProof (f : FormulaOf) (proof : List Line) (present : List (List Lit
   pub logged : Logged f.clauses proof present count deletions
   pub proper : AreProper f.vars proof
 
+-- the same of a log's lines, which lead to the live clauses where they are hinted
+pub record IsLogged (hinted : Bool) (f : FormulaOf) (lines : List LogLine) (present : List (List LitOf)) (count : ℕ) (held : HeldOf) : Type 0 where
+  pub deletions : ℕ
+  pub logged : Logged f.clauses (plain lines) present count deletions
+  pub proper : AreProperLines f.vars lines
+  pub hints : IsTrue hinted → AreHinted (held_first f.clauses) lines held
+
+-- the text of a line, and of lines, with hints or without
+abbrev pub line_by : Bool → LogLine → List ℕ
+line_by false l = log_line l
+line_by true l = hinted_line l
+
+abbrev pub text_by : Bool → List LogLine → List ℕ
+text_by false ls = log_text ls
+text_by true ls = hinted_text ls
+
 -- what a search put, by its answer
-abbrev pub Searches : FormulaOf → ℕ → OutputOf → OutputOf → Solved → Type 0
-Searches f budget old new (Sat values) =
-    (proof : List Line) × (present : List (List LitOf)) × (count : ℕ) × IsProof f proof present count × (count < budget) × Puts old new (proof_text proof)
+abbrev pub Searches : Bool → FormulaOf → ℕ → OutputOf → OutputOf → Solved → Type 0
+Searches hinted f budget old new (Sat values) =
+    (lines : List LogLine) × (present : List (List LitOf)) × (count : ℕ) × (held : HeldOf) × IsLogged hinted f lines present count held × (count < budget) × Puts old new (text_by hinted lines)
     × (length values.items ≡ f.vars + 1) × Satisfies (valued values.items) f.clauses
-Searches f budget old new Unsat =
-    (proof : List Line) × (present : List (List LitOf)) × (count : ℕ) × IsProof f proof present count × (count < budget)
-    × Puts old new (proof_text (proof ++ Addition [] ∷ [])) × IsAdmitted present []
-Searches f budget old new Budget = (proof : List Line) × (present : List (List LitOf)) × IsProof f proof present budget × Puts old new (proof_text proof)
-Searches f budget old new LogFailed =
-    (proof : List Line) × (present : List (List LitOf)) × (count : ℕ) × IsProof f proof present count × (count < budget)
-    × (line : Line) × MayFollow f.clauses proof present line × IsProper f.vars (clause_of line) × Breaks old new (proof_text (proof ++ line ∷ []))
+Searches hinted f budget old new Unsat =
+    (lines : List LogLine) × (present : List (List LitOf)) × (count : ℕ) × (held : HeldOf) × IsLogged hinted f lines present count held × (count < budget)
+    × (id : ℕ) × (hints : List ℕ) × Puts old new (text_by hinted (lines ++ Adds [] id hints ∷ [])) × IsAdmitted present [] × IsProperLine f.vars (Adds [] id hints) × (IsTrue hinted → IsHintedLine held (Adds [] id hints))
+Searches hinted f budget old new Budget =
+    (lines : List LogLine) × (present : List (List LitOf)) × (held : HeldOf) × IsLogged hinted f lines present budget held × Puts old new (text_by hinted lines)
+Searches hinted f budget old new LogFailed =
+    (lines : List LogLine) × (present : List (List LitOf)) × (count : ℕ) × (held : HeldOf) × IsLogged hinted f lines present count held × (count < budget)
+    × (line : LogLine) × LineFollows f.clauses (plain lines) present line × IsProperLine f.vars line × (IsTrue hinted → IsHintedLine held line) × Breaks old new (text_by hinted (lines ++ line ∷ []))
 
 -- what a search put that was stopped by out of memory
-abbrev pub Stops : FormulaOf → ℕ → OutputOf → OutputOf → Type 0
-Stops f budget old new = (proof : List Line) × (present : List (List LitOf)) × (count : ℕ) × IsProof f proof present count × (count ≤ budget) × Puts old new (proof_text proof)
+abbrev pub Stops : Bool → FormulaOf → ℕ → OutputOf → OutputOf → Type 0
+Stops hinted f budget old new =
+    (lines : List LogLine) × (present : List (List LitOf)) × (count : ℕ) × (held : HeldOf) × IsLogged hinted f lines present count held × (count ≤ budget) × Puts old new (text_by hinted lines)
 
 -- how the stream of an answer ends, and with which exit status
 abbrev pub IsEnd : Solved → List ℕ → ℕ → Type 0

@@ -2,6 +2,7 @@
 use Rattle.std.specs.Prelude.{◌≡◌, ◌≢◌, ℕ, ◌<◌, ◌≤◌, ◌%◌, ◌==◌, ◌&&◌, nat_lt, if◌then◌else◌, List, [], ◌∷◌, ◌++◌, length, flat_map, codes, decimal, All}
 use Rattle.cnf_form.specs.Cnf.{LitOf, Line, Addition, Deletion}
 use Rattle.cnf_form.specs.Dimacs.{literal_text, clause_text}
+use Rattle.cdcl_core.specs.Lines.{LogLine, Adds, Notes, Drops}
 use Rattle.cnf_form.specs.declared.reader.DimacsFaultKind.{DimacsFaultKind}
 use Rattle.cnf_form.specs.declared.reader.DimacsFaultKind.TheVariants.{Header, Literal, Count}
 
@@ -17,6 +18,16 @@ proof_line (Deletion c) = codes "d " ++ clause_text c
 abbrev pub proof_text : List Line → List ℕ
 proof_text [] = []
 proof_text (l ∷ ls) = proof_line l ++ proof_text ls
+
+-- what a log's line is as lines of a proof without hints: a fact is none
+abbrev pub log_line : LogLine → List ℕ
+log_line (Adds c id hints) = clause_text c
+log_line (Notes l id hints) = []
+log_line (Drops c id) = codes "d " ++ clause_text c
+
+abbrev pub log_text : List LogLine → List ℕ
+log_text [] = []
+log_text (l ∷ ls) = log_line l ++ log_text ls
 
 -- the sign of a literal
 abbrev pub sign_text : LitOf → List ℕ
@@ -50,7 +61,7 @@ break_text v = if nat_lt 1 v && (v % 10 == 1) then 10 ∷ codes "v" else []
 
 -- the other lines
 abbrev pub usage_line : List ℕ
-usage_line = line (codes "c usage: cdcl_program [--conflicts n] FILE.cnf")
+usage_line = line (codes "c usage: cdcl_program [--conflicts n] FILE.cnf | cdcl_program --hints [--conflicts n] FILE.cnf")
 
 abbrev pub file_line : List ℕ
 file_line = line (codes "c fault: file")

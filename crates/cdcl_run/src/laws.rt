@@ -1,11 +1,12 @@
 // What a call promises.
 
-ghost use Rattle.std.specs.Prelude.{◌≡◌, ◌≢◌, ◌⊎◌, ◌≤◌, ◌^◌, ℕ, List, Option, Some, length};
+ghost use Rattle.std.specs.Prelude.{◌≡◌, ◌≢◌, ◌⊎◌, ◌≤◌, ◌^◌, ℕ, Bool, List, Option, Some, length};
 ghost use Rattle.cnf_form.specs.Cnf.{FormulaOf};
 ghost use Rattle.cnf_form.specs.Dimacs.{IsDimacs};
 ghost use Rattle.cdcl_words.specs.Asking.{Asks};
 ghost use Rattle.sby_edge.specs.Files.{Store};
-ghost use Rattle.cdcl_run.specs.Answer.{IsAnswer, IsUnknownStream, budget_of};
+ghost use Rattle.cdcl_run.specs.Answer.{IsUnknownStream, budget_of};
+ghost use Rattle.cdcl_run.specs.HintedAnswer.{IsAnswerBy};
 ghost use Rattle.cert_judge.specs.Fate.{Unknown};
 ghost use Rattle.cert_judge.specs.Kinds.{IsFate};
 ghost use Rattle.cert_judge.specs.declared.stream.StreamKind.TheVariants.{Drup};
@@ -20,21 +21,21 @@ pub fn unknown_streams_are_unknown()
 {}
 
 /// Where a store tells a file of at most 2^32 bytes that is a formula, and words ask for it, a call of `run_engine` writes a
-/// whole stream with the answer of its exit status, unless that is 1 or 32; what was written is then a first part of such a stream, of
-/// the lines of a search for values of the formula, or of the line that says that the file can't be got. The last comes only where a call
-/// of the store failed, and the exit status is 1; at 32 it is the lines of a search. Else it is 1 only where a call of the sink failed,
-/// and at least one byte is missing.
+/// whole stream with the answer of its exit status, with hints where the words ask for them, unless that is 1 or 32; what was
+/// written is then a first part of such a stream, of the lines of a search for values of the formula, or of the line that says
+/// that the file can't be got. The last comes only where a call of the store failed, and the exit status is 1; at 32 it is the
+/// lines of a search. Else it is 1 only where a call of the sink failed, and at least one byte is missing.
 pub fn promise_is_kept()
-    ensures answer { (before after : World) (words : List (List ℕ)) (exit : ℕ) (conflicts : Option ℕ) (file job : List ℕ) (store : Store) (f : FormulaOf)
-        → Did before after words exit → Asks words conflicts file → before.told ≡ Some store → store file ≡ Some job → length job ≤ 2 ^ 32 → IsDimacs job f
+    ensures answer { (before after : World) (words : List (List ℕ)) (exit : ℕ) (hinted : Bool) (conflicts : Option ℕ) (file job : List ℕ) (store : Store) (f : FormulaOf)
+        → Did before after words exit → Asks words hinted conflicts file → before.told ≡ Some store → store file ≡ Some job → length job ≤ 2 ^ 32 → IsDimacs job f
         → exit ≢ 1 → exit ≢ 32
-        → (stream : List ℕ) × (after.taken ≡ grown before.taken stream) × IsAnswer job (budget_of conflicts) stream exit }
-    ensures failed { (before after : World) (words : List (List ℕ)) (exit : ℕ) (conflicts : Option ℕ) (file job : List ℕ) (store : Store) (f : FormulaOf)
-        → Did before after words exit → Asks words conflicts file → before.told ≡ Some store → store file ≡ Some job → length job ≤ 2 ^ 32 → IsDimacs job f
-        → exit ≡ 1 → IsCutShort before after job (budget_of conflicts) ⊎ IsUngot before after exit }
-    ensures memory { (before after : World) (words : List (List ℕ)) (exit : ℕ) (conflicts : Option ℕ) (file job : List ℕ) (store : Store) (f : FormulaOf)
-        → Did before after words exit → Asks words conflicts file → before.told ≡ Some store → store file ≡ Some job → length job ≤ 2 ^ 32 → IsDimacs job f
-        → exit ≡ 32 → IsLeftOff before after job (budget_of conflicts) }
+        → (stream : List ℕ) × (after.taken ≡ grown before.taken stream) × IsAnswerBy hinted job (budget_of conflicts) stream exit }
+    ensures failed { (before after : World) (words : List (List ℕ)) (exit : ℕ) (hinted : Bool) (conflicts : Option ℕ) (file job : List ℕ) (store : Store) (f : FormulaOf)
+        → Did before after words exit → Asks words hinted conflicts file → before.told ≡ Some store → store file ≡ Some job → length job ≤ 2 ^ 32 → IsDimacs job f
+        → exit ≡ 1 → IsCutShort hinted before after job (budget_of conflicts) ⊎ IsUngot before after exit }
+    ensures memory { (before after : World) (words : List (List ℕ)) (exit : ℕ) (hinted : Bool) (conflicts : Option ℕ) (file job : List ℕ) (store : Store) (f : FormulaOf)
+        → Did before after words exit → Asks words hinted conflicts file → before.told ≡ Some store → store file ≡ Some job → length job ≤ 2 ^ 32 → IsDimacs job f
+        → exit ≡ 32 → IsLeftOff hinted before after job (budget_of conflicts) }
 {
     dimacs_faults_are_decided();
 }

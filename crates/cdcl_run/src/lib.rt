@@ -1,6 +1,7 @@
 //! The engine: the solver at work on a file, its answer a stream.
 #![tactic(auto)]
 
+mod hinted;
 mod laws;
 mod output;
 mod piece;

@@ -1,7 +1,6 @@
 // The proof, written while the solver searches.
 
-ghost use Rattle.std.specs.Prelude.{◌≡◌, ◌≤◌, ◌++◌, ◌∷◌, [], IfOk, OnErr, OnOk};
-ghost use Rattle.cnf_form.specs.Cnf.{Addition};
+ghost use Rattle.std.specs.Prelude.{◌≡◌, ◌≤◌, ◌++◌, ◌∷◌, [], false, IfOk, OnErr, OnOk};
 ghost use Rattle.cnf_form.specs.Dimacs.{literal_text, clause_text};
 ghost use Rattle.sby_edge.specs.Cause.{Rose, greatest};
 ghost use Rattle.cdcl_run.specs.Searching.{Searches, Stops};
@@ -15,7 +14,7 @@ use sby_edge::{Failed, Sink};
 use std::alloc::{AllocError, Global};
 
 // Gathers a literal and a space.
-fn put_word<S: Sink>(sink: &mut S, piece: &mut Piece, l: Lit) -> Result<(), Failed>
+pub(crate) fn put_word<S: Sink>(sink: &mut S, piece: &mut Piece, l: Lit) -> Result<(), Failed>
     ensures ok { OnOk result (Puts
         (record { taken = S.taken sink.old; faults = S.faults sink.old; gathered = piece.old })
         (record { taken = S.taken sink.new; faults = S.faults sink.new; gathered = piece.new }) (literal_text l ++ 32 ∷ [])) }
@@ -55,23 +54,33 @@ struct ProofLog<'a, S: Sink> {
 
 impl<'a, S: Sink> Log for ProofLog<'a, S> {
     ghost use Rattle.cdcl_run.specs.Output.{Breaks, Puts};
-    ghost use Rattle.cdcl_run.specs.Text.{proof_line};
+    ghost use Rattle.cdcl_run.specs.Text.{log_line};
 
     ghost takes = { λ a l b. (b.sink.ghost_name ≡ a.sink.ghost_name) × (b.piece.ghost_name ≡ a.piece.ghost_name)
         × Puts (record { taken = S.taken a.sink.now; faults = S.faults a.sink.now; gathered = a.piece.now })
-        (record { taken = S.taken b.sink.now; faults = S.faults b.sink.now; gathered = b.piece.now }) (proof_line l) };
+        (record { taken = S.taken b.sink.now; faults = S.faults b.sink.now; gathered = b.piece.now }) (log_line l) };
 
     ghost fails = { λ a l b. (b.sink.ghost_name ≡ a.sink.ghost_name) × (b.piece.ghost_name ≡ a.piece.ghost_name)
         × Breaks (record { taken = S.taken a.sink.now; faults = S.faults a.sink.now; gathered = a.piece.now })
-        (record { taken = S.taken b.sink.now; faults = S.faults b.sink.now; gathered = b.piece.now }) (proof_line l) };
+        (record { taken = S.taken b.sink.now; faults = S.faults b.sink.now; gathered = b.piece.now }) (log_line l) };
 
     ghost faults = { λ a. S.faults a.sink.now };
 
-    fn clause(&mut self, clause: &[Lit]) -> Result<(), Failed> {
+    ghost hinted = { false };
+
+    fn is_hinted(&self) -> bool {
+        false
+    }
+
+    fn clause(&mut self, clause: &[Lit], _id: u64, _hints: &[u64]) -> Result<(), Failed> {
         put_clause(self.sink, self.piece, clause)
     }
 
-    fn delete(&mut self, clause: &[Lit]) -> Result<(), Failed> {
+    fn fact(&mut self, _l: Lit, _id: u64, _hints: &[u64]) -> Result<(), Failed> {
+        Ok(())
+    }
+
+    fn delete(&mut self, clause: &[Lit], _id: u64) -> Result<(), Failed> {
         put(self.sink, self.piece, b"d ")?;
         put_clause(self.sink, self.piece, clause)
     }
@@ -86,10 +95,10 @@ fn solve_to<S: Sink>(
 ) -> Result<Solved, AllocError>
     ensures same_sink { log.new.sink.ghost_name ≡ log.old.sink.ghost_name }
     ensures same_piece { log.new.piece.ghost_name ≡ log.old.piece.ghost_name }
-    ensures searches { IfOk result (λ solved. Searches formula.now budget
+    ensures searches { IfOk result (λ solved. Searches false formula.now budget
         (record { taken = S.taken log.old.sink.now; faults = S.faults log.old.sink.now; gathered = log.old.piece.now })
         (record { taken = S.taken log.new.sink.now; faults = S.faults log.new.sink.now; gathered = log.new.piece.now }) solved) }
-    ensures stops { OnErr result (Stops formula.now budget
+    ensures stops { OnErr result (Stops false formula.now budget
         (record { taken = S.taken log.old.sink.now; faults = S.faults log.old.sink.now; gathered = log.old.piece.now })
         (record { taken = S.taken log.new.sink.now; faults = S.faults log.new.sink.now; gathered = log.new.piece.now })) }
 {
@@ -104,10 +113,10 @@ pub(crate) fn search<S: Sink>(
     sink: &mut S,
     piece: &mut Piece,
 ) -> Result<Solved, AllocError>
-    ensures searches { IfOk result (λ solved. Searches formula.now budget
+    ensures searches { IfOk result (λ solved. Searches false formula.now budget
         (record { taken = S.taken sink.old; faults = S.faults sink.old; gathered = piece.old })
         (record { taken = S.taken sink.new; faults = S.faults sink.new; gathered = piece.new }) solved) }
-    ensures stops { OnErr result (Stops formula.now budget
+    ensures stops { OnErr result (Stops false formula.now budget
         (record { taken = S.taken sink.old; faults = S.faults sink.old; gathered = piece.old })
         (record { taken = S.taken sink.new; faults = S.faults sink.new; gathered = piece.new })) }
 {

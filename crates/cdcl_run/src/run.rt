@@ -6,11 +6,12 @@ ghost use Rattle.cnf_form.specs.Dimacs.{IsDimacs};
 ghost use Rattle.cdcl_core.specs.declared.solver.Solved.TheVariants.{LogFailed};
 ghost use Rattle.sby_edge.specs.Cause.{Rose};
 ghost use Rattle.cdcl_run.specs.Answer.{budget_of};
-ghost use Rattle.cdcl_run.specs.Searching.{EndBreaks, HasFew, IsEnd};
+ghost use Rattle.cdcl_run.specs.Searching.{EndBreaks, HasFew, IsEnd, Searches, Stops};
 ghost use Rattle.cdcl_run.specs.Output.{Puts};
 ghost use Rattle.cdcl_run.specs.Run.{Answers, Did, IsDone, IsOutOfMemory, IsServed, World, Writes};
 ghost use Rattle.cdcl_run.specs.Text.{fault_line, file_line, kind_text, long_line, usage_line};
 
+use crate::hinted::search_hinted;
 use crate::output::{flush, offer, put};
 use crate::piece::Piece;
 use crate::proof::search;
@@ -101,9 +102,32 @@ fn finish<S: Sink>(sink: &mut S, piece: &mut Piece, solved: &Solved) -> Result<u
     Ok(exit)
 }
 
+// Searches, and writes the proof, with hints or without.
+fn search_by<S: Sink>(
+    alloc: Global,
+    formula: &Formula,
+    hinted: bool,
+    budget: u64,
+    sink: &mut S,
+    piece: &mut Piece,
+) -> Result<Solved, AllocError>
+    ensures searches { IfOk result (λ solved. Searches hinted formula.now budget
+        (record { taken = S.taken sink.old; faults = S.faults sink.old; gathered = piece.old })
+        (record { taken = S.taken sink.new; faults = S.faults sink.new; gathered = piece.new }) solved) }
+    ensures stops { OnErr result (Stops hinted formula.now budget
+        (record { taken = S.taken sink.old; faults = S.faults sink.old; gathered = piece.old })
+        (record { taken = S.taken sink.new; faults = S.faults sink.new; gathered = piece.new })) }
+{
+    if hinted {
+        search_hinted(alloc, formula, budget, sink, piece)
+    } else {
+        search(alloc, formula, budget, sink, piece)
+    }
+}
+
 // Searches, and writes the stream with the answer.
-fn answer<S: Sink>(alloc: Global, formula: &Formula, budget: u64, sink: &mut S) -> u8
-    ensures { (told : _) (faults : ℕ) (job : List ℕ) → IsDimacs job formula.now → Answers
+fn answer<S: Sink>(alloc: Global, formula: &Formula, hinted: bool, budget: u64, sink: &mut S) -> u8
+    ensures { (told : _) (faults : ℕ) (job : List ℕ) → IsDimacs job formula.now → Answers hinted
         (record { told = told; file_faults = faults; taken = S.taken sink.old; sink_faults = S.faults sink.old })
         (record { told = told; file_faults = faults; taken = S.taken sink.new; sink_faults = S.faults sink.new }) job budget result }
 {
@@ -112,7 +136,7 @@ fn answer<S: Sink>(alloc: Global, formula: &Formula, budget: u64, sink: &mut S) 
         Err(AllocError) => return OUT_OF_MEMORY,
     };
     let _few = formula.vars();
-    let solved = match search(alloc, formula, budget, sink, &mut piece) {
+    let solved = match search_by(alloc, formula, hinted, budget, sink, &mut piece) {
         Ok(solved) => solved,
         Err(AllocError) => return OUT_OF_MEMORY,
     };
@@ -136,17 +160,17 @@ fn tell_fault<S: Sink>(alloc: Global, fault: DimacsFault, sink: &mut S) -> u8
 }
 
 // Serves the bytes of a file, whose memory is given back before the search.
-fn serve<S: Sink>(alloc: Global, bytes: Vec<u8>, budget: u64, sink: &mut S) -> u8
+fn serve<S: Sink>(alloc: Global, bytes: Vec<u8>, hinted: bool, budget: u64, sink: &mut S) -> u8
     requires { length bytes.items ≤ 2 ^ 32 }
     ensures { (told : _) (faults : ℕ) →
         let before : World = record { told = told; file_faults = faults; taken = S.taken sink.old; sink_faults = S.faults sink.old } in
         let after : World = record { told = told; file_faults = faults; taken = S.taken sink.new; sink_faults = S.faults sink.new } in
-        IsOutOfMemory before after result ⊎ IsServed before after bytes.items budget result }
+        IsOutOfMemory before after result ⊎ IsServed hinted before after bytes.items budget result }
 {
     let read = read_dimacs(alloc, &bytes);
     drop(bytes);
     match read {
-        Ok(Ok(formula)) => answer(alloc, &formula, budget, sink),
+        Ok(Ok(formula)) => answer(alloc, &formula, hinted, budget, sink),
         Ok(Err(fault)) => tell_fault(alloc, fault, sink),
         Err(AllocError) => OUT_OF_MEMORY,
     }
@@ -165,6 +189,7 @@ fn budget_of(conflicts: Option<u32>) -> u64
 // Does what the words ask for.
 fn run_asked<F: Files, S: Sink>(
     alloc: Global,
+    hinted: bool,
     conflicts: Option<u32>,
     file: &str,
     files: &mut F,
@@ -174,10 +199,10 @@ fn run_asked<F: Files, S: Sink>(
     ensures done { IsDone
         (record { told = F.told files.old; file_faults = F.faults files.old; taken = S.taken sink.old; sink_faults = S.faults sink.old })
         (record { told = F.told files.new; file_faults = F.faults files.new; taken = S.taken sink.new; sink_faults = S.faults sink.new })
-        conflicts file.now result }
+        hinted conflicts file.now result }
 {
     match files.get(alloc, file, MOST) {
-        Ok(Got::All(bytes)) => serve(alloc, bytes, budget_of(conflicts), sink),
+        Ok(Got::All(bytes)) => serve(alloc, bytes, hinted, budget_of(conflicts), sink),
         Ok(Got::Long(_)) => refuse(sink, b"c fault: long\n"),
         Err(Fail::Failed) => refuse(sink, b"c fault: file\n"),
         Err(Fail::Memory) => OUT_OF_MEMORY,
@@ -191,7 +216,8 @@ fn run_asked<F: Files, S: Sink>(
 /// values of the file's formula, or, where the output failed, of a whole answer.
 ///
 /// Words are a file, or `--conflicts`, a number of conflicts from 1 to 1,000,000,000 and a file; without a number there are
-/// 2^64 - 1 conflicts. Output is written in pieces of 64 KiB, while the solver searches, and what is left at the end.
+/// 2^64 - 1 conflicts. After `--hints` the stream is one with hints. Output is written in pieces of 64 KiB, while the solver
+/// searches, and what is left at the end.
 pub fn run_engine<F: Files, S: Sink>(
     alloc: Global,
     words: &[String],
@@ -204,7 +230,17 @@ pub fn run_engine<F: Files, S: Sink>(
         (map string_bytes words.now) result }
 {
     match read_words(words) {
-        Some(asked) => run_asked(alloc, asked.conflicts, asked.file, files, sink),
-        None => refuse(sink, b"c usage: cdcl_program [--conflicts n] FILE.cnf\n"),
+        Some(asked) => run_asked(
+            alloc,
+            asked.hinted,
+            asked.conflicts,
+            asked.file,
+            files,
+            sink,
+        ),
+        None => refuse(
+            sink,
+            b"c usage: cdcl_program [--conflicts n] FILE.cnf | cdcl_program --hints [--conflicts n] FILE.cnf\n",
+        ),
     }
 }

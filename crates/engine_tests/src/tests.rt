@@ -3,4 +3,5 @@
 mod asking;
 mod engine;
 mod freezing;
+mod hints;
 mod solving;

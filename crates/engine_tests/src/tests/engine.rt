@@ -69,7 +69,7 @@ fn tells_faults(rt: HostRuntime) -> Result<(), Fail> {
         (
             "--conflicts 0 f.cnf",
             "",
-            "c usage: cdcl_program [--conflicts n] FILE.cnf\n",
+            "c usage: cdcl_program [--conflicts n] FILE.cnf | cdcl_program --hints [--conflicts n] FILE.cnf\n",
         ),
     ] {
         let (exit, sink) = run(rt.alloc(), asked, text.as_bytes(), 0)?;

@@ -1,6 +1,6 @@
 // Frozen clauses, and a search that is long enough for them.
 
-ghost use Rattle.std.specs.Prelude.{◌≤◌};
+ghost use Rattle.std.specs.Prelude.{◌≤◌, false};
 ghost use Rattle.cnf_form.specs.Cnf.{LitWithin};
 
 use cdcl_core::{Log, Solved, solve};
@@ -52,13 +52,23 @@ impl Log for FairLog {
 
     ghost faults = { λ log. 0 };
 
-    fn clause(&mut self, clause: &[Lit]) -> Result<(), Failed> {
+    ghost hinted = { false };
+
+    fn is_hinted(&self) -> bool {
+        false
+    }
+
+    fn clause(&mut self, clause: &[Lit], _id: u64, _hints: &[u64]) -> Result<(), Failed> {
         self.additions = self.additions.saturating_add(1);
         self.ends_empty = clause.is_empty();
         Ok(())
     }
 
-    fn delete(&mut self, _clause: &[Lit]) -> Result<(), Failed> {
+    fn fact(&mut self, _l: Lit, _id: u64, _hints: &[u64]) -> Result<(), Failed> {
+        Ok(())
+    }
+
+    fn delete(&mut self, _clause: &[Lit], _id: u64) -> Result<(), Failed> {
         self.deletions = self.deletions.saturating_add(1);
         if self.deletions > self.additions / 2 {
             self.unfair = self.unfair.saturating_add(1);
@@ -80,7 +90,7 @@ fn lit(base: u32, dice: u64) -> Lit
 }
 
 // Clauses of four literals by dice.
-fn by_dice(alloc: Global, count: u32) -> Result<Formula, AllocError> {
+pub(crate) fn by_dice(alloc: Global, count: u32) -> Result<Formula, AllocError> {
     let mut formula = Formula::new(alloc, 80);
     let mut dice = 2;
     for _ in 0..count {

@@ -1,5 +1,7 @@
 // The solver at work, over a log in memory.
 
+ghost use Rattle.std.specs.Prelude.{false};
+
 use cdcl_core::{Log, Solved, solve};
 use cnf_form::{Formula, Lit, read_dimacs};
 use sby_edge::Failed;
@@ -22,7 +24,13 @@ impl Log for CountingLog {
 
     ghost faults = { λ log. log.faults };
 
-    fn clause(&mut self, clause: &[Lit]) -> Result<(), Failed> {
+    ghost hinted = { false };
+
+    fn is_hinted(&self) -> bool {
+        false
+    }
+
+    fn clause(&mut self, clause: &[Lit], _id: u64, _hints: &[u64]) -> Result<(), Failed> {
         if self.lines >= self.room {
             self.faults = self.faults.saturating_add(1);
             return Err(Failed);
@@ -32,8 +40,12 @@ impl Log for CountingLog {
         Ok(())
     }
 
-    fn delete(&mut self, clause: &[Lit]) -> Result<(), Failed> {
-        self.clause(clause)
+    fn fact(&mut self, _l: Lit, _id: u64, _hints: &[u64]) -> Result<(), Failed> {
+        Ok(())
+    }
+
+    fn delete(&mut self, clause: &[Lit], id: u64) -> Result<(), Failed> {
+        self.clause(clause, id, &[])
     }
 }
 
@@ -101,7 +113,7 @@ fn read(alloc: Global, text: &str) -> Result<Formula, Fail> {
 const FOUR: &str = "p cnf 2 4\n1 2 0\n-1 2 0\n1 -2 0\n-1 -2 0\n";
 
 // Four pigeons in three holes: variable 3 p + h + 1 says that pigeon p is in hole h.
-const PIGEONS: &str =
+pub(crate) const PIGEONS: &str =
     "p cnf 12 22\n1 2 3 0\n4 5 6 0\n7 8 9 0\n10 11 12 0\n-1 -4 0\n-1 -7 0\n-1 -10 0\n-4 -7 0\n-4 -10 0\n-7 -10 0\n-2 -5 0\n-2 -8 0\n-2 -11 0\n-5 -8 0\n-5 -11 0\n-8 -11 0\n-3 -6 0\n-3 -9 0\n-3 -12 0\n-6 -9 0\n-6 -12 0\n-9 -12 0\n";
 
 #[test]

@@ -1,6 +1,6 @@
-use Rattle.std.proofs.Common.{◌≡◌}
+use Rattle.std.proofs.Common.{◌≡◌, false}
 use Rattle.cdcl_run.specs.Output.{Breaks, OutputOf, Puts}
-use Rattle.cdcl_run.specs.Text.{proof_line}
+use Rattle.cdcl_run.specs.Text.{log_line}
 use Rattle.cdcl_run.specs.declared.proof.ProofLog.{ProofLog}
 use Rattle.cdcl_run.proofs.Chains.{Searched, answered}
 use Rattle.cdcl_run.proofs.proof.solve_to.Given as given
@@ -12,11 +12,11 @@ State g = ProofLog g.row.S.Denot
 abbrev out : (g : given.Over) → State g → OutputOf
 out g a = record { taken = g.S.Sink.taken a.sink.now; faults = g.S.Sink.faults a.sink.now; gathered = a.piece.now }
 
-whole : (g : given.Over) (c : goal.After-solve g) → Searched (λ (a : State g). a.sink.ghost_name) (λ (a : State g). a.piece.ghost_name) (out g) c.args.formula.now c.args.budget c.args.log.now c.solve.new.log c.solve.result
+whole : (g : given.Over) (c : goal.After-solve g) → Searched false (λ (a : State g). a.sink.ghost_name) (λ (a : State g). a.piece.ghost_name) (out g) c.args.formula.now c.args.budget c.args.log.now c.solve.new.log c.solve.result
 whole g c =
-    answered (λ (a : State g). a.sink.ghost_name) (λ (a : State g). a.piece.ghost_name) (out g)
-    (λ a l b. (b.sink.ghost_name ≡ a.sink.ghost_name) × (b.piece.ghost_name ≡ a.piece.ghost_name) × Puts (out g a) (out g b) (proof_line l))
-    (λ a l b. (b.sink.ghost_name ≡ a.sink.ghost_name) × (b.piece.ghost_name ≡ a.piece.ghost_name) × Breaks (out g a) (out g b) (proof_line l))
+    answered false (λ (a : State g). a.sink.ghost_name) (λ (a : State g). a.piece.ghost_name) (out g)
+    (λ a l b. (b.sink.ghost_name ≡ a.sink.ghost_name) × (b.piece.ghost_name ≡ a.piece.ghost_name) × Puts (out g a) (out g b) (log_line l))
+    (λ a l b. (b.sink.ghost_name ≡ a.sink.ghost_name) × (b.piece.ghost_name ≡ a.piece.ghost_name) × Breaks (out g a) (out g b) (log_line l))
     (λ a b l w. record { same_sink = w.0; same_piece = w.1; puts = w.2 }) (λ a b l w. record { same_sink = w.0; same_piece = w.1; breaks = w.2 })
     c.args.formula.now c.args.budget c.args.log.now c.solve.new.log c.solve.result c.solve.ensures.solved c.solve.ensures.memory
 

@@ -5,28 +5,28 @@ use Rattle.cdcl_run.proofs.Putting.{grown-nil}
 use Rattle.cdcl_run.proofs.run.answer.Goals as goal
 
 pub returns-in-Err : goal.returns-in-Err
-returns-in-Err g c = λ told faults job is. inr (inr (refl, (refl, ([], (0, sym (grown-nil (g.S.Sink.taken c.args.sink.now))), none_searched job c.args.formula.now c.args.budget is))))
+returns-in-Err g c = λ told faults job is. inr (inr (refl, (refl, ([], (0, sym (grown-nil (g.S.Sink.taken c.args.sink.now))), none_searched c.args.hinted job c.args.formula.now c.args.budget is))))
 
-pub returns-in-Err-search : goal.returns-in-Err-search
-returns-in-Err-search g c = λ told faults job is.
+pub returns-in-Err-search_by : goal.returns-in-Err-search_by
+returns-in-Err-search_by g c = λ told faults job is.
     let old : OutputOf = record { taken = g.S.Sink.taken c.args.sink.now; faults = g.S.Sink.faults c.args.sink.now; gathered = c.in-Ok.piece } in
-    let new : OutputOf = record { taken = g.S.Sink.taken c.search.new.sink; faults = g.S.Sink.faults c.search.new.sink; gathered = c.search.new.piece } in
-    let w = search_left job c.args.formula.now c.args.budget old new is c.in-Ok.ensures c.in-Err-search.ensures.stops in
+    let new : OutputOf = record { taken = g.S.Sink.taken c.search_by.new.sink; faults = g.S.Sink.faults c.search_by.new.sink; gathered = c.search_by.new.piece } in
+    let w = search_left c.args.hinted job c.args.formula.now c.args.budget old new is c.in-Ok.ensures c.in-Err-search_by.ensures.stops in
     inr (inr (refl, (w.still, (w.text, w.part, w.of))))
 
 pub returns-in-Ok-finish : goal.returns-in-Ok-finish
 returns-in-Ok-finish g c = λ told faults job is.
     let old : OutputOf = record { taken = g.S.Sink.taken c.args.sink.now; faults = g.S.Sink.faults c.args.sink.now; gathered = c.in-Ok.piece } in
-    let mid : OutputOf = record { taken = g.S.Sink.taken c.search.new.sink; faults = g.S.Sink.faults c.search.new.sink; gathered = c.search.new.piece } in
+    let mid : OutputOf = record { taken = g.S.Sink.taken c.search_by.new.sink; faults = g.S.Sink.faults c.search_by.new.sink; gathered = c.search_by.new.piece } in
     let new : OutputOf = record { taken = g.S.Sink.taken c.finish.new.sink; faults = g.S.Sink.faults c.finish.new.sink; gathered = [] } in
     let e = c.in-Ok-finish.ensures.end in
-    let w = answer_written job c.args.formula.now c.args.budget old mid new c.in-Ok-search.solved e.0 c.in-Ok-finish.exit is c.in-Ok.ensures refl c.in-Ok-search.ensures.searches e.1 e.2 in
+    let w = answer_written c.args.hinted job c.args.formula.now c.args.budget old mid new c.in-Ok-search_by.solved e.0 c.in-Ok-finish.exit is c.in-Ok.ensures refl c.in-Ok-search_by.ensures.searches e.1 e.2 in
     inl (w.stream, w.taken, w.still, w.answer)
 
 pub returns : goal.returns
 returns g c = λ told faults job is.
     let old : OutputOf = record { taken = g.S.Sink.taken c.args.sink.now; faults = g.S.Sink.faults c.args.sink.now; gathered = c.in-Ok.piece } in
-    let mid : OutputOf = record { taken = g.S.Sink.taken c.search.new.sink; faults = g.S.Sink.faults c.search.new.sink; gathered = c.search.new.piece } in
+    let mid : OutputOf = record { taken = g.S.Sink.taken c.search_by.new.sink; faults = g.S.Sink.faults c.search_by.new.sink; gathered = c.search_by.new.piece } in
     let new : OutputOf = record { taken = g.S.Sink.taken c.finish.new.sink; faults = g.S.Sink.faults c.finish.new.sink; gathered = c.finish.new.piece } in
-    let w = answer_cut job c.args.formula.now c.args.budget old mid new c.in-Ok-search.solved is c.in-Ok.ensures c.in-Ok-search.ensures.searches c.in-Err-finish.ensures.failed in
+    let w = answer_cut c.args.hinted job c.args.formula.now c.args.budget old mid new c.in-Ok-search_by.solved is c.in-Ok.ensures c.in-Ok-search_by.ensures.searches c.in-Err-finish.ensures.failed in
     inr (inl (refl, (w.rose, (w.text, w.part, w.of))))

@@ -13,7 +13,7 @@ returns-in-Ok-All-clause-done g c =
     let a : AreAll c.in-Ok-All.field-0 bytes = subst (λ z. AreAll z bytes) (sym c.in-Ok-All.field-0-is) refl in
     elim (c.serve.ensures told (g.F.Files.faults c.args.files.now)) [
       | inl n ↦ inl (record { exit_is = n.exit_is; taken = n.taken; sink_faults = n.sink_faults; file_faults = e.cause.ok refl })
-      | inr s ↦ inr (inr (bytes, content_all told c.args.file.now (2 ^ 32) c.in-Ok-All.field-0 bytes a e.content, e.cause.ok refl, subst (λ z. IsServed before after bytes z c.serve.result) c.budget_of.ensures s))
+      | inr s ↦ inr (inr (bytes, content_all told c.args.file.now (2 ^ 32) c.in-Ok-All.field-0 bytes a e.content, e.cause.ok refl, subst (λ z. IsServed c.args.hinted before after bytes z c.serve.result) c.budget_of.ensures s))
     ]
 
 pub returns-in-Ok-Long-clause-done : goal.returns-in-Ok-Long-clause-done

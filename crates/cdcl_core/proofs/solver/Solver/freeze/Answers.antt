@@ -8,7 +8,7 @@ use Rattle.cdcl_core.specs.Levels.{IsDriven}
 use Rattle.cdcl_core.specs.Analysis.{IsIdle}
 use Rattle.cdcl_core.specs.declared.solver.Solver.{Solver}
 use Rattle.cdcl_core.proofs.Reductions.{deletes_at, driven_less}
-use Rattle.cdcl_core.proofs.Steps.{moves_freeze, pending_rest}
+use Rattle.cdcl_core.proofs.Steps.{moves_freeze, named_freeze_by, pending_rest}
 use Rattle.cdcl_core.proofs.Thawing.{fixpoint_push}
 use Rattle.cdcl_core.proofs.solver.Solver.freeze.Goals as goal
 
@@ -54,5 +54,7 @@ returns-clause-moves c =
     let s = c.args.self.now in
     let e = c.in-Some.ensures in
     let push = c.in_ok-push.ensures in
-    let new : Solver = record s { core = c.take_out.new.self; frozen = c.push.new.self } in
-    moves_freeze s new c.args.k c.in-Some.clause.now e.there c.requires.learnt (ap (λ (x : PropagatorOf). x.vars) c.take_out.ensures) (ap (λ (x : PropagatorOf). x.slots) c.take_out.ensures) refl (ap (λ (y : FrozenOf). y.slots) push.ok) refl refl
+    let new : Solver = record s { core = c.take_out.new.self; frozen = c.push.new.self; ids = c.freeze.new.self } in
+    let z = c.in_ok-freeze.ensures in
+    moves_freeze s new c.args.k c.in-Some.clause.now e.there c.requires.learnt (ap (λ (x : PropagatorOf). x.vars) c.take_out.ensures) (ap (λ (x : PropagatorOf). x.slots) c.take_out.ensures) refl (ap (λ (y : FrozenOf). y.slots) push.ok) refl refl z.wanted
+    (named_freeze_by s new c.args.k c.in-Some.clause.now e.there (ap (λ (x : PropagatorOf). x.slots) c.take_out.ensures) (ap (λ (y : FrozenOf). y.slots) push.ok) z.wanted z.last z.named)

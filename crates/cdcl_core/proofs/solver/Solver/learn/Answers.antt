@@ -1,75 +1,29 @@
-use Rattle.std.proofs.Common.{◌≡◌, ◌+◌, List, length, sym, ◌∙◌, ap, subst}
-use Rattle.std.specs.Prelude.{Contains, ◌<◌}
-use Rattle.cnf_form.specs.Cnf.{LitOf}
-use Rattle.unit_propagation.specs.Propagator.{PropagatorOf, clauses_of, slot_at}
+use Rattle.std.proofs.Common.{◌≤◌, length, subst, sym, arith}
+use Rattle.std.proofs.lemmas.Result.{IfOk-weaker, IfErr-weaker}
+use Rattle.unit_propagation.specs.Propagator.{clauses_of}
 use Rattle.frozen_clauses.specs.Frozen.{FrozenOf}
-use Rattle.cdcl_core.specs.Levels.{IsDriven, IsPending}
-use Rattle.cdcl_core.specs.Analysis.{IsIdle}
-use Rattle.cdcl_core.specs.Searching.{IsAddable, Moves}
-use Rattle.cdcl_core.specs.declared.solver.Solver.{Solver}
-use Rattle.cdcl_core.proofs.Steps.{moves_same, moves_both, leads_moves, leads_both, new_both}
+use Rattle.cdcl_core.specs.Searching.{StepFits, Stops}
+use Rattle.cdcl_core.proofs.Steps.{step_later, stops_later}
 use Rattle.cdcl_core.proofs.solver.Solver.learn.Goals as goal
-
-pub back_and_thaw-requires-clause-solver : goal.back_and_thaw-requires-clause-solver
-back_and_thaw-requires-clause-solver g c =
-    let r = c.requires.solver in
-    let e = c.in_ok-first.ensures in
-    let n = c.in-Some.ensures in
-    let s = c.analyze.new.self in
-    record {
-      frozen = ap (λ (z : FrozenOf). z.vars) (n.same ∙ e.frozen) ∙ r.frozen ∙ sym (ap (λ (p : PropagatorOf). p.vars) e.core);
-      idle = subst (λ (p : PropagatorOf). IsIdle p.vars s.analysis.seen.items s.analysis.lower.items s.analysis.current.items) (sym e.core) e.idle;
-      driven = subst IsDriven (sym e.core) r.driven;
-      pending = subst (λ o. IsPending s.core o) (sym e.pending) (subst (λ p. IsPending p c.args.self.now.pending) (sym e.core) r.pending);
-    }
-
-pub returns-in-Some-clause-fits : goal.returns-in-Some-clause-fits
-returns-in-Some-clause-fits g c =
-    let old = c.args.self.now in
-    let e = c.in_ok-first.ensures in
-    let n = c.in-Some.ensures in
-    let t = c.in_ok-back_and_thaw.ensures in
-    let s = c.analyze.new.self in
-    let z = c.subset_of.new.self in
-    let mid : Solver = record s { frozen = z; learnts = c.use_all.new.self; restarts = c.use_all.new.restarts } in
-    let first : Moves old mid = moves_same old mid (ap (λ (p : PropagatorOf). p.vars) e.core) (ap (λ (p : PropagatorOf). p.slots) e.core) e.given (n.same ∙ e.frozen) e.conflicts e.deletions in
-    let all : Moves old c.back_and_thaw.new.self = moves_both old mid c.back_and_thaw.new.self first t.moves in
-    let w = n.some in
-    let same : z ≡ old.frozen = n.same ∙ e.frozen in
-    let at = ap (λ (y : FrozenOf). y.slots) n.same in (
-      leads_moves g.L.Log.takes g.L.Log.faults old c.back_and_thaw.new.self c.args.log.now all,
-      all.conflicts,
-      subst (λ (y : FrozenOf). length (clauses_of c.back_and_thaw.new.self.frozen.slots) < length (clauses_of y.slots)) same (t.fewer w.0 (ap (λ y. slot_at y c.in-Some.frozen) at ∙ w.1)),
-    )
-
-pub add-requires-clause-addable : goal.add-requires-clause-addable
-add-requires-clause-addable g c =
-    let old = c.args.self.now in
-    let e = c.in_ok-first.ensures in
-    let n = c.in_default.ensures in
-    let w = e.learnt in
-    let cl = c.analyze.new.self.analysis.clause.items in
-    let is : c.clause-clause.result.now ≡ cl = c.clause-clause.ensures in
-    let none : (d : List LitOf) → Contains (clauses_of old.frozen.slots) d → ((l : LitOf) → Contains d l → Contains cl l) → ⊥ =
-    subst (λ (z : FrozenOf). (d : List LitOf) → Contains (clauses_of z.slots) d → ((l : LitOf) → Contains d l → Contains cl l) → ⊥) e.frozen
-    (subst (λ y. (d : List LitOf) → Contains (clauses_of c.analyze.new.self.frozen.slots) d → ((l : LitOf) → Contains d l → Contains y l) → ⊥) is n.none) in
-    let a : IsAddable old.core old.frozen cl = record {
-      admitted = w.admitted;
-      new = new_both (clauses_of old.core.slots) (clauses_of old.frozen.slots) cl e.new none;
-      contingent = e.contingent;
-      proper = record { within = w.within; short = w.short };
-    } in
-    subst (λ p. IsAddable p c.subset_of.new.self cl) (sym e.core) (subst (λ z. IsAddable old.core z cl) (sym (n.same ∙ e.frozen)) a)
 
 pub returns-clause-fits : goal.returns-clause-fits
 returns-clause-fits g c =
-    let old = c.args.self.now in
-    let e = c.in_ok-first.ensures in
-    let n = c.in_default.ensures in
-    let t = c.in_ok-add.ensures in
-    let s = c.analyze.new.self in
-    let mid : Solver = record s { frozen = c.subset_of.new.self; learnts = c.use_all.new.self; restarts = c.use_all.new.restarts } in
-    let first : Moves old mid = moves_same old mid (ap (λ (p : PropagatorOf). p.vars) e.core) (ap (λ (p : PropagatorOf). p.slots) e.core) e.given (n.same ∙ e.frozen) e.conflicts e.deletions in (
-      leads_both g.L.Log.takes g.L.Log.faults old mid c.add.new.self c.args.log.now c.args.log.now c.add.new.log (leads_moves g.L.Log.takes g.L.Log.faults old mid c.args.log.now first) t.leads,
-      t.conflicts ∙ ap (λ z. z + 1) e.conflicts,
-    )
+    let s = c.args.self.now in
+    let t = c.note_facts.new.self in
+    let a = c.args.log.now in
+    let m = c.note_facts.new.log in
+    let e = c.in_ok-note_facts.ensures in
+    let few : length (clauses_of t.frozen.slots) ≤ length (clauses_of s.frozen.slots) = subst (λ (z : FrozenOf). length (clauses_of z.slots) ≤ length (clauses_of s.frozen.slots)) (sym e.frozen) (omega arith) in
+    IfOk-weaker c.learn_from.result (λ o. StepFits g.L.Log.takes g.L.Log.fails g.L.Log.faults t c.learn_from.new.self m c.learn_from.new.log o) (λ o. StepFits g.L.Log.takes g.L.Log.fails g.L.Log.faults s c.learn_from.new.self a c.learn_from.new.log o)
+    (λ o w. step_later g.L.Log.takes g.L.Log.faults g.L.Log.fails s t c.learn_from.new.self a m c.learn_from.new.log o e.leads e.conflicts few w) c.learn_from.ensures.fits
+
+pub returns-clause-stopped : goal.returns-clause-stopped
+returns-clause-stopped g c =
+    let s = c.args.self.now in
+    let t = c.note_facts.new.self in
+    let a = c.args.log.now in
+    let m = c.note_facts.new.log in
+    let b = c.learn_from.new.log in
+    let e = c.in_ok-note_facts.ensures in
+    IfErr-weaker c.learn_from.result (λ o. Stops g.L.Log.takes g.L.Log.fails g.L.Log.faults t m b o) (λ o. Stops g.L.Log.takes g.L.Log.fails g.L.Log.faults s a b o)
+    (λ o w. stops_later g.L.Log.takes g.L.Log.faults g.L.Log.fails s t a m b o e.leads e.conflicts w) c.learn_from.ensures.stopped

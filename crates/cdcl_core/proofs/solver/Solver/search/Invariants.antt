@@ -1,4 +1,4 @@
-use Rattle.std.proofs.Common.{◌-◌, ◌≤◌}
+use Rattle.std.proofs.Common.{◌≡◌, ◌-◌, ◌≤◌}
 use Rattle.cdcl_core.specs.Searching.{IsSolver, HasLogged}
 use Rattle.cdcl_core.proofs.solver.Solver.search.Given as goal
 
@@ -6,6 +6,7 @@ abbrev pub invariant-loop-self : goal.invariant-loop-self
 invariant-loop-self g l = record {
   solver : IsSolver l.self;
   logged : HasLogged g.L.Log.takes l.formula l.fn.log l.log l.self;
+  wanted : l.self.ids.wanted ≡ l.fn.self.ids.wanted;
   within : l.self.conflicts ≤ l.budget;
   later : g.L.Log.faults l.fn.log ≤ g.L.Log.faults l.log;
 }

@@ -1,14 +1,13 @@
 use Rattle.std.proofs.Common.{[], sym, subst}
 use Rattle.std.proofs.lemmas.Result.{err_from_is_err_and, IfOk-weaker, IfErr-weaker}
-use Rattle.cnf_form.specs.Cnf.{IsAdmitted}
 use Rattle.unit_propagation.specs.Propagator.{clauses_of}
 use Rattle.frozen_clauses.specs.Frozen.{FrozenOf}
 use Rattle.std.specs.Prelude.{length, ◌≤◌}
 use Rattle.cdcl_core.specs.Levels.{FoundFits}
 use Rattle.cdcl_core.specs.Searching.{Moves, StepFits, Stops}
-use Rattle.cdcl_core.specs.Solving.{SolvedFits}
+use Rattle.cdcl_core.specs.declared.solver.Step.TheVariants.{Answered}
 use Rattle.cdcl_core.proofs.Answering.{root_admits}
-use Rattle.cdcl_core.proofs.Steps.{moves_both, leads_moves, step_later, step_finds, step_refutes, fails_empty, stops_moves}
+use Rattle.cdcl_core.proofs.Steps.{moves_both, leads_moves, step_later, step_finds, stops_moves}
 use Rattle.cdcl_core.proofs.solver.Solver.step.Goals as goal
 
 pub returns-in_ok-values-in-Assigned-clause-fits : goal.returns-in_ok-values-in-Assigned-clause-fits
@@ -21,21 +20,25 @@ returns-in_ok-values-in-Assigned-clause-fits g c =
     let m : Moves s t = moves_both s c.restart_if_due.new.self t r.moves f.moves in
     ((λ q. cc), step_finds g.L.Log.takes g.L.Log.faults g.L.Log.fails s t c.args.log.now c.in_ok-values-in-Assigned.values.items m e.sized e.satisfies)
 
+pub refute-requires-clause-admitted : goal.refute-requires-clause-admitted
+refute-requires-clause-admitted g c =
+    let t = c.find.new.self in
+    let f = c.in_ok-find.ensures in
+    let i = f.solver in
+    let w = subst (FoundFits t.core) c.in-Refuted.is f.found in
+    root_admits t.core i.driven w.0 w.1
+
 pub returns-in_ok-solved-in-Refuted-clause-fits : goal.returns-in_ok-solved-in-Refuted-clause-fits
 returns-in_ok-solved-in-Refuted-clause-fits g c =
     let s = c.args.self.now in
     let t = c.find.new.self in
+    let a = c.args.log.now in
     let r = c.in_ok-restart_if_due.ensures in
     let f = c.in_ok-find.ensures in
-    let i = f.solver in
-    let u = c.in_ok-solved-in-Refuted.ensures.unsat in
+    let u = c.in_ok-solved-in-Refuted.ensures in
     let m : Moves s t = moves_both s c.restart_if_due.new.self t r.moves f.moves in
-    let w = subst (FoundFits t.core) c.in-Refuted.is f.found in
-    let admits : IsAdmitted (clauses_of t.core.slots) [] = root_admits t.core i.driven w.0 w.1 in (
-      (λ q. let e = sym u.0 in let k = q in cc),
-      λ x first budget h k. subst (SolvedFits g.L.Log.takes g.L.Log.fails x budget first c.refute.new.log) (sym u.0)
-          (step_refutes g.L.Log.takes g.L.Log.faults g.L.Log.fails s t c.args.log.now c.refute.new.log m admits u.1 x first budget h k),
-    )
+    let few : length (clauses_of t.frozen.slots) ≤ length (clauses_of s.frozen.slots) = subst (λ (z : FrozenOf). length (clauses_of z.slots) ≤ length (clauses_of s.frozen.slots)) (sym f.frozen) r.few in
+    step_later g.L.Log.takes g.L.Log.faults g.L.Log.fails s t c.refute.new.self a a c.refute.new.log (Answered c.in_ok-solved-in-Refuted.solved) (leads_moves g.L.Log.takes g.L.Log.faults s t a m) m.conflicts few u.fits
 
 pub returns-in_err-solved-in-Refuted-clause-stopped : goal.returns-in_err-solved-in-Refuted-clause-stopped
 returns-in_err-solved-in-Refuted-clause-stopped g c =
@@ -43,13 +46,10 @@ returns-in_err-solved-in-Refuted-clause-stopped g c =
     let t = c.find.new.self in
     let r = c.in_ok-restart_if_due.ensures in
     let f = c.in_ok-find.ensures in
-    let i = f.solver in
-    let u = c.in_err-solved-in-Refuted.ensures.failed in
+    let u = c.in_err-solved-in-Refuted.ensures in
     let m : Moves s t = moves_both s c.restart_if_due.new.self t r.moves f.moves in
-    let w = subst (FoundFits t.core) c.in-Refuted.is f.found in
-    let admits : IsAdmitted (clauses_of t.core.slots) [] = root_admits t.core i.driven w.0 w.1 in
     let p = err_from_is_err_and c.from_residual-in_err-solved-in-Refuted.result c.from_residual-in_err-solved-in-Refuted.ensures.1 in
-    rw (p.1, p.2, u.0) (fails_empty g.L.Log.takes g.L.Log.faults g.L.Log.fails s t c.args.log.now c.refute.new.log m admits u.1 u.2)
+    rw (p.1, p.2) (stops_moves g.L.Log.takes g.L.Log.faults g.L.Log.fails s t c.args.log.now c.refute.new.log c.in_err-solved-in-Refuted.field-0.0 m u.stopped)
 
 pub returns-in-Falsified-clause-fits : goal.returns-in-Falsified-clause-fits
 returns-in-Falsified-clause-fits g c =

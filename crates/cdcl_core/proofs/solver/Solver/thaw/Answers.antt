@@ -4,7 +4,7 @@ use Rattle.unit_propagation.specs.Propagator.{clauses_of}
 use Rattle.frozen_clauses.specs.Frozen.{FrozenOf}
 use Rattle.cdcl_core.specs.declared.solver.Solver.{Solver}
 use Rattle.cdcl_core.proofs.Orders.{clauses_less}
-use Rattle.cdcl_core.proofs.Steps.{moves_thaw}
+use Rattle.cdcl_core.proofs.Steps.{moves_thaw, named_thaw_by}
 use Rattle.cdcl_core.proofs.solver.Solver.thaw.Goals as goal
 
 pub returns-clause-moves : goal.returns-clause-moves
@@ -13,8 +13,9 @@ returns-clause-moves c =
     let e = c.in_ok-put_next.ensures in
     let f = c.in-Some.ensures in
     let rest : c.take_out.new.self.slots ≡ set s.frozen.slots c.args.k None = ap (λ (y : FrozenOf). y.slots) c.take_out.ensures in
-    let new : Solver = record s { core = c.put_next.new.core; frozen = c.take_out.new.self; learnts = c.push_thawed.new.self } in
-    moves_thaw s new c.args.k c.in-Some.clause.now f.there e.vars e.slots refl rest refl refl
+    let new : Solver = record s { core = c.put_next.new.core; frozen = c.take_out.new.self; learnts = c.push_thawed.new.self; ids = c.thaw.new.self } in
+    let z = c.in_ok-thaw.ensures in
+    moves_thaw s new c.args.k c.in-Some.clause.now f.there e.vars e.slots refl rest refl refl z.wanted (named_thaw_by s new c.args.k c.in-Some.clause.now f.there e.slots rest z.wanted z.last z.named)
 
 pub returns-clause-few : goal.returns-clause-few
 returns-clause-few c =

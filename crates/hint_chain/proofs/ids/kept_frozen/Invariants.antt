@@ -1,0 +1,6 @@
+use Rattle.std.proofs.Common.{◌≡◌, take}
+use Rattle.hint_chain.specs.Kept.{kept}
+use Rattle.hint_chain.proofs.ids.kept_frozen.Given as goal
+
+abbrev pub invariant-loop-k : goal.invariant-loop-k
+invariant-loop-k l = record { so_far : l.kept.items ≡ kept l.ids 0 (take l.k l.frozen.slots) }

@@ -1,0 +1,4 @@
+pub mod Ids
+pub mod Kept
+pub mod Standing
+pub mod Chains
