@@ -1,0 +1,4 @@
+pub mod Link
+pub mod Frame
+pub mod Doors
+pub mod Memory
