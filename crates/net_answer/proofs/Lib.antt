@@ -1,0 +1,4 @@
+mod Stages
+pub mod Answers
+mod Sinks
+mod Pipes

@@ -1,0 +1,3 @@
+pub mod Piped
+pub mod Written
+pub mod Sent
