@@ -35,7 +35,7 @@ filter_split : (keep : ℕ → Bool) (x : ℕ) (xs ys : List ℕ) (b : Bool) →
 filter_split keep x xs ys true e rest = rw e (ap (λ (zs : List ℕ). x ∷ zs) rest)
 filter_split keep x xs ys false e rest = rw e rest
 
-filter_append : (keep : ℕ → Bool) (xs ys : List ℕ) → filter keep (xs ++ ys) ≡ filter keep xs ++ filter keep ys
+pub filter_append : (keep : ℕ → Bool) (xs ys : List ℕ) → filter keep (xs ++ ys) ≡ filter keep xs ++ filter keep ys
 filter_append keep [] ys = refl
 filter_append keep (x ∷ xs) ys = filter_split keep x xs ys (keep x) refl (filter_append keep xs ys)
 

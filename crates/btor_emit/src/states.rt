@@ -30,8 +30,8 @@ fn is_known(starts: &[Option<bool>], bit: usize) -> bool
     starts[bit].is_some()
 }
 
-// Where the stretch ends that begins at this state bit and goes no further than to `end`.
-fn stretch(starts: &[Option<bool>], first: usize, end: usize) -> usize
+/// Where the stretch ends of state bits that all have, or all lack, a start digit: it begins at this one, and goes no further than to `end`.
+pub fn stretch(starts: &[Option<bool>], first: usize, end: usize) -> usize
     requires first { first < end }
     requires end { end ≤ length starts.now }
     ensures some { first < result }

@@ -30,5 +30,5 @@ pub use outputs::{
     output_readings_go_on, outputs_are_read_by_lines, outputs_have_one_fate, proof_decides,
 };
 pub use spot::{AmidSpot, Spot};
-pub use stream::{BadCert, CertKind, Outcome, StreamKind, cert_kind};
+pub use stream::{BadCert, CertKind, Kind, Outcome, StreamKind, cert_kind};
 pub use values::Values;

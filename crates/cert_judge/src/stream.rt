@@ -20,6 +20,13 @@ pub enum StreamKind {
     ProofBinary,
 }
 
+/// What a stream is judged as: a certificate, written in one of these ways, or a witness: a run of the design, by what it leaves open.
+#[derive(Clone, Copy, Debug, PartialEq, Eq)]
+pub enum Kind {
+    Certificate(StreamKind),
+    Witness,
+}
+
 /// Why a stream, of whatever kind, is no certificate.
 #[derive(Clone, Copy, Debug, PartialEq, Eq)]
 pub enum CertKind {

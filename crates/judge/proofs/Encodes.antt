@@ -34,7 +34,7 @@ use Rattle.judge.proofs.Refusing.{earlier_at, past_cost}
 use Rattle.judge.proofs.Slices.{slices-some}
 use Rattle.judge.specs.Fault.{IsProblemFault, IsTooMany}
 use Rattle.judge.specs.Jobs.{IsSpanFor, jobs_in, jobs_of, span_of}
-use Rattle.judge.specs.Problem.{AskedOf, IsEncodedJob, IsEncodedOf, IsProblem, asked_in}
+use Rattle.judge.specs.Problem.{AskedOf, IsEncodedJob, IsEncodedOf, IsShapeOf, IsProblem, ShapeOf, asked_in}
 use Rattle.judge.specs.Stored.{FitUpTo, IsBuiltFor, IsRefusedAmong, IsStored, asked_by}
 use Rattle.judge.specs.declared.problem.ProblemFault.TheVariants.{TooMany}
 
@@ -176,9 +176,9 @@ fit_more t span names k job at few fit i other lt here = by (nat_case i k (omega
         subst (λ (j : JobName). job_made t.net j span ≤ 2 ^ 27) same few
 
 -- the problem of a design that is read and flat, whose jobs all fit
-pub stored : (text : List ℕ) (mode : Mode) (span : Span) (d : DesignOf) (m : ModelOf) (t : TaskNetOf) (names : List JobName) → IsSpanFor mode span → Reads text d → ((e : DesignOf) → Reads text e → e ≡ d) → IsFlat d
-    → IsBuiltFor d m → names ≡ jobs_in mode span d → IsTaskNet m (asked_in mode) t → FitUpTo t span names (length names) → IsStored (asked_by text mode span d m t) names
-stored text mode span d m t names fits reads only flat built named net fit = record {
+pub stored : (text : List ℕ) (mode : Mode) (span : Span) (d : DesignOf) (m : ModelOf) (shape : ShapeOf) (t : TaskNetOf) (names : List JobName) → IsSpanFor mode span → Reads text d → ((e : DesignOf) → Reads text e → e ≡ d) → IsFlat d
+    → IsBuiltFor d m → IsShapeOf m shape → names ≡ jobs_in mode span d → IsTaskNet m (asked_in mode) t → FitUpTo t span names (length names) → IsStored (asked_by text mode span d m shape t) names
+stored text mode span d m shape t names fits reads only flat built shaped named net fit = record {
   problem = record {
     span = fits;
     reads = reads;
@@ -188,6 +188,7 @@ stored text mode span d m t names fits reads only flat built named net fit = rec
     is_model = built.is_model;
     built = built.built;
     model = built.model;
+    shape = shaped;
     net = net;
     fits = λ job w.
         let at : slice_get names w.0 ≡ Some job = subst (λ (ns : List JobName). slice_get ns w.0 ≡ Some job) (sym named) w.1 in

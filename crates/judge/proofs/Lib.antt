@@ -12,3 +12,8 @@ pub mod Files
 pub mod Claims
 pub mod Solving
 pub mod WireRows
+pub mod StreamFates
+pub mod Witnesses
+pub mod Reading
+pub mod Streams
+pub mod Joining

@@ -25,7 +25,7 @@ use Rattle.cert_judge.specs.declared.stream.Outcome.TheVariants.{Refuted, Satisf
 use Rattle.cert_judge.specs.declared.stream.StreamKind.TheVariants.{Drup}
 use Rattle.judge.proofs.Problems.{one_formula}
 use Rattle.judge.proofs.Telling.{finds_run}
-use Rattle.judge.specs.Judging.{Finds, FindsPlayed, IsTrueOutcome, fate_told}
+use Rattle.judge.specs.Answers.{Finds, FindsPlayed, IsTrueOutcome, fate_told}
 use Rattle.judge.specs.Problem.{AskedOf, IsEncodedOf, IsFormulaOf, IsJob, IsJobFile}
 use Rattle.judge.specs.Solver.{Ends, Feeds, IsForJob, IsSolver, OutputOf, SolverOf, is_more, is_open}
 use Rattle.judge.specs.declared.judging.Progress.{Progress}

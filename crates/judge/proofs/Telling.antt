@@ -19,7 +19,9 @@ use Rattle.cert_judge.specs.declared.stream.Outcome.{Outcome}
 use Rattle.cert_judge.specs.declared.stream.Outcome.TheVariants.{Refuted, Satisfied, Unknown as UnknownOutcome, Bad as BadOutcome}
 use Rattle.cert_judge.specs.declared.stream.StreamKind.{StreamKind}
 use Rattle.judge.proofs.Problems.{one_formula}
-use Rattle.judge.specs.Judging.{Ends, Feeds, Finds, FindsPlayed, FindsRunOf, Heard, IsForJob, IsJudge, IsTrueOutcome, JudgeOf, StreamOf, fate_told, state_behind, state_told}
+use Rattle.cert_judge.specs.declared.stream.Kind.TheVariants.{Certificate}
+use Rattle.judge.specs.Answers.{Finds, FindsPlayed, FindsRunOf, IsTrueOutcome, fate_told, state_behind, state_told}
+use Rattle.judge.specs.Certificate.{Ends, Feeds, Heard, IsForJob, IsJudge, JudgeOf, StreamOf}
 use Rattle.judge.specs.Played.{IsPlayed}
 use Rattle.judge.specs.Problem.{AskedOf, IsEncodedOf, IsFormulaOf}
 use Rattle.judge.specs.declared.judging.Progress.{Progress}
@@ -51,7 +53,7 @@ values_found f x bits (Some (BadOutcome b)) answer told sat v = cc
 
 -- a run that is found is the stream's
 pub finds_run : (p : AskedOf) (job : JobName) (kind : StreamKind) (most : ℕ) (g : FormulaOf) (ended : Bool) (bytes : List ℕ) (bits : List Bool) (o : Option Outcome) (r : Result Progress BadCert) → IsFormulaOf p job g
-    → FindsPlayed p job (values_of bits) r → fate_told r ≡ outcome_told o → AreValuesTold g (stream_values kind g.vars ended bytes most) bits o → FindsRunOf p job kind ended bytes most r
+    → FindsPlayed p job (values_of bits) r → fate_told r ≡ outcome_told o → AreValuesTold g (stream_values kind g.vars ended bytes most) bits o → FindsRunOf p job (Certificate kind) ended bytes most r
 finds_run p job kind most g ended bytes bits o (Ok More) formula played told v = tt
 finds_run p job kind most g ended bytes bits o (Ok (Done f)) formula played told v = λ sat apart.
     let s = played sat apart in

@@ -33,7 +33,7 @@ use Rattle.judge.proofs.Problems.{one_encoded}
 use Rattle.judge.proofs.Cycles.{alike-on, rows-alike, rows-fit, runs-same, valued-alike}
 use Rattle.judge.specs.Finding.{Claim, FindingOf, IsTrueFinding}
 use Rattle.judge.specs.Jobs.{Solvable, span_of}
-use Rattle.judge.specs.Played.{IsPlayed, IsStreamsRun}
+use Rattle.judge.specs.Played.{IsPlayed, IsValuesRun}
 use Rattle.judge.specs.Problem.{AskedOf, IsEncodedOf, IsFormulaOf, IsProblem}
 use Rattle.judge.specs.Rows.{AreRowsOf, cycle_in, cycles_in}
 
@@ -131,14 +131,14 @@ module _ (d : DesignOf) (shape : IsDesign d) (n : ℕ) (vs ws : ℕ → Valuatio
     starts = starts-alike d shape (vs 0) (ws 0) (same 0 r.window.some) r.starts;
   }
 
-  shows-alike : (a : ℕ) → Shows d n vs a → Shows d n ws a
+  pub shows-alike : (a : ℕ) → Shows d n vs a → Shows d n ws a
   shows-alike a s = record {
     run = run-alike s.run;
     assumed = λ t lt. assumed-alike d shape (vs t) (ws t) (same t lt) (s.assumed t lt);
     last = λ t e. broken-alike d shape (vs t) (ws t) (same t (omega (arith, e))) a (s.last t e);
   }
 
-  reach-alike : (k : ℕ) → ReachRun d n vs k → ReachRun d n ws k
+  pub reach-alike : (k : ℕ) → ReachRun d n vs k → ReachRun d n ws k
   reach-alike k s = record {
     run = run-alike s.run;
     assumed = λ t lt. assumed-alike d shape (vs t) (ws t) (same t lt) (s.assumed t lt);
@@ -244,8 +244,8 @@ one_run_played p h e x run other a b =
     (alike-turned p.design (valuations p.design other t) (valued p.design (es t)) (b.plays.2 t now))))
 
 -- and so a stream has one run of a job
-pub one_stream_run : (p : AskedOf) (job : JobName) (kind : StreamKind) (ended : Bool) (bytes : List ℕ) (most : ℕ) (run other : List CycleOf) → IsProblem p → IsStreamsRun p job kind ended bytes most run
-    → IsStreamsRun p job kind ended bytes most other → run ≡ other
+pub one_stream_run : (p : AskedOf) (job : JobName) (kind : StreamKind) (ended : Bool) (bytes : List ℕ) (most : ℕ) (run other : List CycleOf) → IsProblem p → IsValuesRun p job kind ended bytes most run
+    → IsValuesRun p job kind ended bytes most other → run ≡ other
 one_stream_run p job kind ended bytes most run other h a b =
     let one : b.0 ≡ a.0 = one_encoded p job b.0 a.0 b.1 a.1 in
     one_run_played p h a.0 (stream_values kind a.0.formula.vars ended bytes most) run other a.2

@@ -6,20 +6,23 @@ use Rattle.design_reader.specs.Grammar.{Reads}
 use Rattle.model_cone.specs.declared.asked.Asked.{Asked}
 use Rattle.model_core.specs.Shape.{ModelOf}
 use Rattle.task_net.specs.Net.{IsTaskNet, TaskNetOf}
+use Rattle.judge.specs.Problem.{IsShapeOf, ShapeOf}
 use Rattle.judge.specs.Stored.{IsBuiltFor}
 
--- a text, what is asked of it, the design that it reads, its model, and the net of what is asked
+-- a text, what is asked of it, the design that it reads, its model, what a witness may say of that, and the net of what is asked
 pub record BasisOf : Type 0 where
   pub text : List ℕ
   pub asked : Asked
   pub design : DesignOf
   pub model : ModelOf
+  pub shape : ShapeOf
   pub net : TaskNetOf
 
--- the text reads the design and no other, which is flat; the model is the design's, made of its parts; the net is that of what is asked
+-- the text reads the design and no other, which is flat; the model is the design's, made of its parts; a witness may say what is open in it; the net is that of what is asked
 pub record IsBasis (b : BasisOf) : Type 0 where
   pub reads : Reads b.text b.design
   pub only : (d : DesignOf) → Reads b.text d → d ≡ b.design
   pub flat : IsFlat b.design
   pub built : IsBuiltFor b.design b.model
+  pub shape : IsShapeOf b.model b.shape
   pub net : IsTaskNet b.model b.asked b.net

@@ -9,5 +9,11 @@ pub mod Rows
 pub mod Stored
 pub mod Basis
 pub mod Played
+pub mod Witness
+pub mod Fates
+pub mod Answers
+pub mod Certificate
+pub mod Reading
+pub mod Telling
 pub mod Judging
 pub mod Solver

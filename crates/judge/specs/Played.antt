@@ -22,8 +22,8 @@ pub record IsPlayed (p : AskedOf) (e : EncodedOf) (x : Assignment) (run : List C
 
 -- the run is played from the values that the bytes of a stream of a kind name, `most` of them at most: where it ends with them, or where
 -- more may follow
-abbrev pub IsStreamsRun : AskedOf → JobName → StreamKind → Bool → List ℕ → ℕ → List CycleOf → Type 0
-IsStreamsRun p job kind ended bytes most run = (e : EncodedOf) × IsEncodedOf p job e × IsPlayed p e (stream_values kind e.formula.vars ended bytes most) run
+abbrev pub IsValuesRun : AskedOf → JobName → StreamKind → Bool → List ℕ → ℕ → List CycleOf → Type 0
+IsValuesRun p job kind ended bytes most run = (e : EncodedOf) × IsEncodedOf p job e × IsPlayed p e (stream_values kind e.formula.vars ended bytes most) run
 
 -- but for Step, the run is there, and is played from the values
 abbrev pub ShowsPlayed : AskedOf → JobName → Assignment → Option (List CycleOf) → Type 0

@@ -15,6 +15,9 @@ use Rattle.model_core.specs.Served.{IsModel}
 use Rattle.model_core.specs.Shape.{ModelOf}
 use Rattle.design_graph.specs.Order.{IsOrder}
 use Rattle.design_graph.specs.declared.driver.Driver.{Driver}
+use Rattle.btor_emit.specs.Reads.{AreReadInputs}
+use Rattle.btor_emit.specs.States.{AreStretches}
+use Rattle.btor_emit.specs.declared.shape.State.{State}
 use Rattle.word_model.specs.Built.{IsBuilt}
 use Rattle.word_model.specs.Model.{IsModelOf}
 use Rattle.sby_terms.specs.Problem.{ProblemOf}
@@ -26,11 +29,21 @@ use Rattle.sby_terms.specs.declared.span.Span.{Span}
 use Rattle.net_jobs.specs.Jobs.{job_made}
 use Rattle.judge.specs.Jobs.{AsksNothing, IsSpanFor, Solvable, jobs_of, span_of}
 
--- what is asked, the design, its model, and the net of what the mode asks
+-- what a witness may say of a model: its state bits by longest stretches, and its inputs that are read
+pub record ShapeOf : Type 0 where
+  pub states : List State
+  pub inputs : List ℕ
+
+pub record IsShapeOf (m : ModelOf) (s : ShapeOf) : Type 0 where
+  pub stretches : AreStretches m s.states
+  pub read : AreReadInputs m s.inputs
+
+-- what is asked, the design, its model, what a witness may say of that, and the net of what the mode asks
 pub record AskedOf : Type 0 where
   pub problem : ProblemOf
   pub design : DesignOf
   pub model : ModelOf
+  pub shape : ShapeOf
   pub net : TaskNetOf
 
 -- the job at place i
@@ -73,7 +86,7 @@ pub record IsEncodedJob (d : DesignOf) (m : ModelOf) (job : JobName) (span : Spa
   pub decodes : (job ≡ Step → ⊥) → (x : Assignment) → Satisfies x e.formula.clauses → IsDecoded m job span (decoded e x)
 
 -- the span is one that the mode may have; the text reads the design and no other, which is flat; the model is the design's, made of its
--- parts; the net is that of what the mode asks, and each job fits
+-- parts; a witness may say what is open in it; the net is that of what the mode asks, and each job fits
 pub record IsProblem (p : AskedOf) : Type 0 where
   pub span : IsSpanFor p.problem.mode (span_of p.problem)
   pub reads : Reads p.problem.text p.design
@@ -83,5 +96,6 @@ pub record IsProblem (p : AskedOf) : Type 0 where
   pub is_model : IsModel p.model
   pub model : IsModelOf p.design p.model
   pub built : (order : List Driver) × IsOrder p.design order × IsBuilt p.design order p.model
+  pub shape : IsShapeOf p.model p.shape
   pub net : IsTaskNet p.model (asked_in p.problem.mode) p.net
   pub fits : (job : JobName) → IsJob p job → job_made p.net.net job (span_of p.problem) ≤ 2 ^ 27

@@ -9,7 +9,8 @@ use Rattle.sby_terms.specs.declared.names.JobName.{JobName}
 use Rattle.cert_judge.specs.declared.stream.BadCert.{BadCert}
 use Rattle.cert_judge.specs.declared.stream.StreamKind.TheVariants.{Drup}
 use Rattle.net_unroll.specs.Encoding.{EncodedOf}
-use Rattle.judge.specs.Judging.{Finds, FindsRunOf, fate_told}
+use Rattle.cert_judge.specs.declared.stream.Kind.TheVariants.{Certificate}
+use Rattle.judge.specs.Answers.{Finds, FindsRunOf, fate_told}
 use Rattle.judge.specs.Problem.{AskedOf, IsFormulaOf, IsJobFile}
 use Rattle.judge.specs.declared.judging.Progress.{Progress}
 use Rattle.judge.specs.declared.judging.Progress.TheVariants.{More, Done, Unknown}
@@ -62,11 +63,11 @@ pub record Feeds (old new : SolverOf) (bytes : List ℕ) (r : Result Progress Ba
   pub reading : new.reading ≡ is_more r
   pub took : new.reading ≡ true → Took new bytes
   pub finds : Finds old.asked old.job r
-  pub run : FindsRunOf old.asked old.job Drup false (stream_of false bytes) old.most r
+  pub run : FindsRunOf old.asked old.job (Certificate Drup) false (stream_of false bytes) old.most r
   pub fate : (file : List ℕ) → IsJobFile old.asked old.job file → IsOutputFateSoFar file bytes old.most (fate_told r)
 
 -- The judge answers the fate of the bytes taken, as the whole output, for its job's file; More where the proof file decides.
 pub record Ends (old : SolverOf) (bytes : List ℕ) (r : Result Progress BadCert) : Type 0 where
   pub finds : Finds old.asked old.job r
-  pub run : FindsRunOf old.asked old.job Drup true (stream_of true bytes) old.most r
+  pub run : FindsRunOf old.asked old.job (Certificate Drup) true (stream_of true bytes) old.most r
   pub fate : (file : List ℕ) → IsJobFile old.asked old.job file → IsOutputFate file bytes old.most (fate_told r)

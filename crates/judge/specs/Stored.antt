@@ -14,11 +14,11 @@ use Rattle.sby_terms.specs.declared.names.JobName.{JobName}
 use Rattle.sby_terms.specs.declared.names.Mode.{Mode}
 use Rattle.sby_terms.specs.declared.span.Span.{Span}
 use Rattle.judge.specs.Jobs.{jobs_of}
-use Rattle.judge.specs.Problem.{AskedOf, IsEncodedJob, IsProblem}
+use Rattle.judge.specs.Problem.{AskedOf, IsEncodedJob, IsProblem, ShapeOf}
 
 -- what is asked, from what is kept
-abbrev pub asked_by : List ℕ → Mode → Span → DesignOf → ModelOf → TaskNetOf → AskedOf
-asked_by text mode span d m net = record { problem = record { text = text; mode = mode; span = span }; design = d; model = m; net = net }
+abbrev pub asked_by : List ℕ → Mode → Span → DesignOf → ModelOf → ShapeOf → TaskNetOf → AskedOf
+asked_by text mode span d m shape net = record { problem = record { text = text; mode = mode; span = span }; design = d; model = m; shape = shape; net = net }
 
 -- it is a problem, and these are its jobs
 pub record IsStored (p : AskedOf) (kept : List JobName) : Type 0 where

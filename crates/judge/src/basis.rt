@@ -11,6 +11,7 @@ ghost use Rattle.sby_terms.specs.Span.{IsSpan};
 use crate::encoding::{asked_in, model_of};
 use crate::problem::ProblemFault;
 use crate::text::Text;
+use btor_emit::shape::Shape;
 use design_check::check::check;
 use design_check::flat::Flat;
 use design_reader::read;
@@ -20,14 +21,16 @@ use sby_terms::{JobName, Mode, Span};
 use std::alloc::{AllocError, Global};
 use std::marker::Model;
 use task_net::TaskNet;
+use witness_judge::open_shape;
 
-// A text, what is asked of it, the design that it reads, its model, and the net of what is asked.
+// A text, what is asked of it, the design that it reads, its model, what a witness may say of that, and the net of what is asked.
 #[derive(Drop)]
 pub(crate) struct Basis {
     text: Text,
     asked: Asked,
     flat: Flat,
     model: WordModel,
+    shape: Shape,
     net: TaskNet,
 }
 
@@ -36,9 +39,9 @@ impl Model for Basis {
 
     ghost Value = { BasisOf };
 
-    ghost view = { λ a. record { text = a.text; asked = a.asked; design = a.flat; model = a.model; net = a.net } };
+    ghost view = { λ a. record { text = a.text; asked = a.asked; design = a.flat; model = a.model; shape = record { states = a.shape.states.items; inputs = a.shape.inputs.items }; net = a.net } };
 
-    ghost invariant = { λ a. IsBasis (record { text = a.text; asked = a.asked; design = a.flat; model = a.model; net = a.net }) };
+    ghost invariant = { λ a. IsBasis (record { text = a.text; asked = a.asked; design = a.flat; model = a.model; shape = record { states = a.shape.states.items; inputs = a.shape.inputs.items }; net = a.net }) };
 }
 
 // The first job of a mode that has jobs.
@@ -78,12 +81,14 @@ impl Basis {
             Ok(net) => net,
             Err(_) => return Ok(Err(ProblemFault::TooMany(first_job(mode)))),
         };
+        let shape = open_shape(alloc, &model)?;
         let text = Text::new(alloc, text)?;
         Ok(Ok(Basis {
             text,
             asked,
             flat,
             model,
+            shape,
             net,
         }))
     }
@@ -115,6 +120,14 @@ impl Basis {
         ensures { result.now ≡ self.now.model }
     {
         &self.model
+    }
+
+    // What a witness may say of the model.
+    pub(crate) fn shape(&self) -> &Shape
+        ensures states { result.now.states.items ≡ self.now.shape.states }
+        ensures inputs { result.now.inputs.items ≡ self.now.shape.inputs }
+    {
+        &self.shape
     }
 
     // The net of what is asked.

@@ -118,6 +118,27 @@ fn shown(
     }
 }
 
+// The finding that a job can be solved, which this run shows, where one is shown.
+pub(crate) fn sat_shown(
+    problem: &Problem,
+    job: JobName,
+    run: Option<PlayedRun>,
+) -> Result<Finding, AllocError>
+    requires { Claim problem.now.design (span_of problem.now.problem) job Answer.Sat run }
+    ensures { IfOk result (λ f. f ≡ record { problem = problem.now.problem; job = job; answer = Answer.Sat; run = run }) }
+{
+    let _flat = problem.flat();
+    let text = problem.share_text()?;
+    Ok(Finding {
+        text,
+        mode: problem.mode(),
+        span: problem.span(),
+        job,
+        answer: Answer::Sat,
+        run,
+    })
+}
+
 // The finding that a job can be solved, where these values satisfy its formula.
 pub(crate) fn sat(
     alloc: Global,
@@ -132,16 +153,7 @@ pub(crate) fn sat(
     ensures run { IfOk result (λ f. ShowsPlayed problem.now job (values_of values.now) f.run) }
 {
     let run = shown(alloc, problem, job, values)?;
-    let _flat = problem.flat();
-    let text = problem.share_text()?;
-    Ok(Finding {
-        text,
-        mode: problem.mode(),
-        span: problem.span(),
-        job,
-        answer: Answer::Sat,
-        run,
-    })
+    sat_shown(problem, job, run)
 }
 
 // Another owner of a run, where there is one.

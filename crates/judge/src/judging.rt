@@ -1,17 +1,17 @@
 // The judge of one stream.
 
-ghost use Rattle.std.specs.Prelude.{◌≡◌, ◌≢◌, ◌≤◌, ◌^◌, ◌++◌, List, ℕ, [], IfOk, IsErr, OnErr, Ok, Err};
-ghost use Rattle.job_terms.specs.Decoding.{values_of};
-ghost use Rattle.job_terms.specs.Encoding.{EncodedOf};
-ghost use Rattle.judge.specs.Judging.{Ends, Feeds, Finds, FindsPlayed, IsTrueOutcome, Took, TookAll, fate_told, state_told};
-ghost use Rattle.judge.specs.Problem.{IsEncodedOf, IsJob};
-ghost use Rattle.cert_judge.specs.Outcomes.{fate_told as outcome_told};
+ghost use Rattle.std.specs.Prelude.{◌≡◌, ◌≢◌, ◌≤◌, ◌^◌, ◌++◌, List, ℕ, [], IfOk, IsErr, OnErr, MatchBool, Ok, Err};
+ghost use Rattle.judge.specs.Answers.{state_told};
+ghost use Rattle.judge.specs.Fates.{Serves};
+ghost use Rattle.judge.specs.Judging.{Ends, Feeds, Took, TookAll};
+ghost use Rattle.judge.specs.Problem.{IsJob};
 ghost use Rattle.cert_judge.specs.declared.stream.BadCert.{BadCert};
 
-use crate::finding::{Finding, sat, unsat};
+use crate::certificate::CertificateJudge;
+use crate::finding::Finding;
 use crate::problem::Problem;
-use cert_judge::{BadCert, Judge as StreamJudge, Outcome, StreamKind};
-use net_text::EncodedClauses;
+use crate::witness::WitnessReader;
+use cert_judge::{BadCert, Kind};
 use sby_terms::JobName;
 use std::alloc::{AllocError, Global};
 use std::marker::Model;
@@ -40,28 +40,37 @@ pub enum State {
     Wanting,
 }
 
-/// A judge of one stream, of any kind, as a certificate for a job of a problem. It keeps no bytes of the stream: each is looked at once.
+/// Whether streams of a kind are judged for a job: certificates for each, witnesses for those that ask for a run from the start, which Step
+/// doesn't.
+pub fn serves(kind: Kind, job: JobName) -> bool
+    ensures { MatchBool result (Serves kind job) (Serves kind job → ⊥) }
+{
+    match kind {
+        Kind::Certificate(_) => true,
+        Kind::Witness => job != JobName::Step,
+    }
+}
+
+// Who judges the stream.
+#[derive(Drop)]
+pub(crate) enum Reader<'a> {
+    Certificate(CertificateJudge<'a>),
+    Witness(WitnessReader<'a>),
+}
+
+/// A judge of one stream, of any kind, as evidence for a job of a problem. It keeps no bytes of the stream: each is looked at once. Of a
+/// witness it keeps what its frames choose, for no more frames than the job has.
 #[derive(Drop)]
 pub struct Judge<'a> {
-    alloc: Global,
-    problem: &'a Problem,
-    job: JobName,
-    kind: StreamKind,
-    most: u64,
-    stream: StreamJudge<EncodedClauses>,
-    state: State,
+    reader: Reader<'a>,
 }
 
 impl<'a> Model for Judge<'a> {
-    ghost use Rattle.judge.specs.Judging.{JudgeOf};
+    ghost use Rattle.judge.specs.Judging.{JudgeOf, judge_of};
 
     ghost Value = { JudgeOf };
 
-    ghost use Rattle.judge.specs.Judging.{IsJudge};
-
-    ghost view = { λ a. record { asked = a.problem.now; job = a.job; kind = a.kind; most = a.most; stream = a.stream; state = a.state } };
-
-    ghost invariant = { λ a. IsJudge (record { asked = a.problem.now; job = a.job; kind = a.kind; most = a.most; stream = a.stream; state = a.state }) };
+    ghost view = { λ a. judge_of a.reader };
 }
 
 impl<'a> Judge<'a> {
@@ -70,10 +79,11 @@ impl<'a> Judge<'a> {
         alloc: Global,
         problem: &'a Problem,
         job: JobName,
-        kind: StreamKind,
+        kind: Kind,
         most: u64,
     ) -> Result<Self, AllocError>
         requires job { IsJob problem.now job }
+        requires serves { Serves kind job }
         requires least { 1 ≤ most }
         requires limit { most ≤ 2 ^ 32 }
         ensures asked { IfOk result (λ j. j.asked ≡ problem.now) }
@@ -82,21 +92,17 @@ impl<'a> Judge<'a> {
         ensures most { IfOk result (λ j. j.most ≡ most) }
         ensures took { IfOk result (λ j. Took j []) }
     {
-        let clauses = problem.clauses(alloc, job)?;
-        let stream = StreamJudge::new(alloc, clauses, kind, most)?;
-        Ok(Judge {
-            alloc,
-            problem,
-            job,
-            kind,
-            most,
-            stream,
-            state: State::Reading,
-        })
+        let reader = match kind {
+            Kind::Certificate(kind) => {
+                Reader::Certificate(CertificateJudge::new(alloc, problem, job, kind, most)?)
+            }
+            Kind::Witness => Reader::Witness(WitnessReader::new(alloc, problem, job, most)?),
+        };
+        Ok(Judge { reader })
     }
 
-    /// Takes a piece of the stream, and answers the fate of all bytes so far, or More where there is none yet. What follows a
-    /// complete certificate isn't read.
+    /// Takes the next piece of the stream, and answers the fate of all bytes so far, or More where there is none yet. What follows a
+    /// complete certificate or witness isn't read.
     ///
     /// After a BadCert every call answers it again, and after an answer out of memory every call answers that. After Done or Unknown no
     /// more bytes may come.
@@ -107,20 +113,10 @@ impl<'a> Judge<'a> {
         ensures wanting { self.old.state ≡ State.Wanting → IsErr result }
         ensures err { OnErr result (self.new.state ≡ State.Wanting) }
     {
-        match self.state {
-            State::Refused(bad) => return Ok(Err(bad)),
-            State::Wanting => return Err(AllocError),
-            State::Over => unreachable!(),
-            State::Reading => {}
+        match &mut self.reader {
+            Reader::Certificate(judge) => judge.feed(piece),
+            Reader::Witness(judge) => judge.feed(piece),
         }
-        let Ok(outcome) = self.stream.feed(piece) else {
-            self.state = State::Wanting;
-            return Err(AllocError);
-        };
-        let values = self.stream.values();
-        let told = answer(self.alloc, self.problem, self.job, values, outcome);
-        self.state = state_told(&told);
-        told
     }
 
     /// The stream ends. Answers its fate, and never More; where Done or Unknown was answered, that again.
@@ -131,54 +127,15 @@ impl<'a> Judge<'a> {
         ensures wanting { self.old.state ≡ State.Wanting → IsErr result }
         ensures err { OnErr result (self.new.state ≡ State.Wanting) }
     {
-        match self.state {
-            State::Refused(bad) => return Ok(Err(bad)),
-            State::Wanting => return Err(AllocError),
-            State::Reading | State::Over => {}
+        match &mut self.reader {
+            Reader::Certificate(judge) => judge.end(),
+            Reader::Witness(judge) => judge.end(),
         }
-        let Ok(outcome) = self.stream.end() else {
-            self.state = State::Wanting;
-            return Err(AllocError);
-        };
-        let values = self.stream.values();
-        let told = answer(self.alloc, self.problem, self.job, values, Some(outcome));
-        self.state = state_told(&told);
-        told
-    }
-}
-
-// The answer to an outcome of a stream for a job, with these values where it is Satisfied.
-pub(crate) fn answer(
-    alloc: Global,
-    problem: &Problem,
-    job: JobName,
-    values: &[bool],
-    outcome: Option<Outcome>,
-) -> Result<Result<Progress, BadCert>, AllocError>
-    requires { (e : EncodedOf) × IsEncodedOf problem.now job e × IsTrueOutcome e.formula values.now outcome }
-    ensures finds { IfOk result (λ r. Finds problem.now job r) }
-    ensures run { IfOk result (λ r. FindsPlayed problem.now job (values_of values.now) r) }
-    ensures fate { IfOk result (λ r. fate_told r ≡ outcome_told outcome) }
-{
-    let Some(outcome) = outcome else {
-        return Ok(Ok(Progress::More));
-    };
-    match outcome {
-        Outcome::Refuted => {
-            let finding = unsat(problem, job)?;
-            Ok(Ok(Progress::Done(finding)))
-        }
-        Outcome::Satisfied => {
-            let finding = sat(alloc, problem, job, values)?;
-            Ok(Ok(Progress::Done(finding)))
-        }
-        Outcome::Unknown => Ok(Ok(Progress::Unknown)),
-        Outcome::Bad(bad) => Ok(Err(bad)),
     }
 }
 
 // How a judge stands after what it told.
-fn state_told(told: &Result<Result<Progress, BadCert>, AllocError>) -> State
+pub(crate) fn state_told(told: &Result<Result<Progress, BadCert>, AllocError>) -> State
     ensures { result ≡ state_told told.now }
 {
     match told {

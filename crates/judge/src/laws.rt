@@ -1,6 +1,6 @@
 // Laws of problems, and of what their findings say.
 
-ghost use Rattle.std.specs.Prelude.{◌≡◌, ◌↔◌, ◌<◌, ◌≤◌, ◌*◌, ◌^◌, ◌++◌, ◌∷◌, [], ℕ, suc, Bool, false, Contains, List, codes, length, Some, slice_get};
+ghost use Rattle.std.specs.Prelude.{◌≡◌, ◌↔◌, ◌<◌, ◌≤◌, ◌*◌, ◌^◌, ◌++◌, ◌∷◌, [], ℕ, suc, Bool, false, Contains, List, None, codes, length, Some, slice_get};
 ghost use Rattle.cnf_form.specs.Cnf.{FormulaOf};
 ghost use Rattle.cnf_form.specs.Dimacs.{IsDimacs};
 ghost use Rattle.task_net.specs.Asking.{HasOriginsInCone};
@@ -29,14 +29,19 @@ ghost use Rattle.sby_terms.specs.declared.names.JobName.TheVariants.{Base, Cover
 ghost use Rattle.sby_terms.specs.declared.names.Mode.{Mode};
 ghost use Rattle.sby_terms.specs.declared.names.Mode.TheVariants.{Bmc};
 ghost use Rattle.sby_terms.specs.declared.span.Span.{Span};
+ghost use Rattle.cert_judge.specs.Fate.{Fate, Found};
+ghost use Rattle.cert_judge.specs.declared.stream.Kind.{Kind};
+ghost use Rattle.cert_judge.specs.declared.stream.Kind.TheVariants.{Certificate};
 ghost use Rattle.cert_judge.specs.declared.stream.StreamKind.{StreamKind};
 ghost use Rattle.word_model.specs.Layout.{state_place, valued};
 ghost use Rattle.word_model.specs.Registers.{BeginsWith};
 ghost use Rattle.judge.specs.Fault.{IsTooMany};
 ghost use Rattle.judge.specs.Finding.{FindingOf, IsTrueFinding};
 ghost use Rattle.judge.specs.Jobs.{AsksNothing, IsEarlier, Solvable, jobs_in, span_of};
-ghost use Rattle.judge.specs.Played.{IsStreamsRun};
+ghost use Rattle.judge.specs.Fates.{IsFate, IsFateSoFar, IsStreamsRun, Serves};
 ghost use Rattle.judge.specs.Problem.{AskedOf, IsEncodedJob, IsEncodedOf, IsFormulaOf, IsJobFile, IsProblem};
+
+use witness_judge::some_fate as some_witness_fate;
 
 /// A job of a problem has one formula, and one file.
 pub fn one_file()
@@ -76,23 +81,23 @@ pub fn findings_tell_what_can_be_solved()
 {}
 
 /// A stream's run of a job shows what the job asks for, in its last cycle: of Base(i) a broken assertion in a cycle of slice i, of Cover(k)
-/// that statement k is reached; and no earlier cycle that counts has it.
+/// that statement k is reached; and where it is played from the values of a certificate, no earlier cycle that counts has it.
 pub fn played_run_ends_at_first_goal()
-    ensures base { (p : AskedOf) (i : ℕ) (kind : StreamKind) (ended : Bool) (bytes : List ℕ) (most : ℕ) (run : List CycleOf) → IsProblem p → IsStreamsRun p (Base i) kind ended bytes most run
+    ensures base { (p : AskedOf) (i : ℕ) (kind : Kind) (ended : Bool) (bytes : List ℕ) (most : ℕ) (run : List CycleOf) → IsProblem p → IsStreamsRun p (Base i) kind ended bytes most run
         → (a : ℕ) × Shows p.design (length run) (valuations p.design run) a }
-    ensures slice { (p : AskedOf) (i : ℕ) (kind : StreamKind) (ended : Bool) (bytes : List ℕ) (most : ℕ) (run : List CycleOf) → IsProblem p → IsStreamsRun p (Base i) kind ended bytes most run
+    ensures slice { (p : AskedOf) (i : ℕ) (kind : Kind) (ended : Bool) (bytes : List ℕ) (most : ℕ) (run : List CycleOf) → IsProblem p → IsStreamsRun p (Base i) kind ended bytes most run
         → (first_of (span_of p.problem) i < length run) × (length run ≤ last_of (span_of p.problem) i) }
-    ensures first { (p : AskedOf) (i : ℕ) (kind : StreamKind) (ended : Bool) (bytes : List ℕ) (most : ℕ) (run : List CycleOf) → IsProblem p → IsStreamsRun p (Base i) kind ended bytes most run
+    ensures first { (p : AskedOf) (i : ℕ) (kind : StreamKind) (ended : Bool) (bytes : List ℕ) (most : ℕ) (run : List CycleOf) → IsProblem p → IsStreamsRun p (Base i) (Certificate kind) ended bytes most run
         → (t a : ℕ) → first_of (span_of p.problem) i ≤ t → suc t < length run → Broken p.design (valuations p.design run t) a → ⊥ }
-    ensures cover { (p : AskedOf) (k : ℕ) (kind : StreamKind) (ended : Bool) (bytes : List ℕ) (most : ℕ) (run : List CycleOf) → IsProblem p → IsStreamsRun p (Cover k) kind ended bytes most run
+    ensures cover { (p : AskedOf) (k : ℕ) (kind : Kind) (ended : Bool) (bytes : List ℕ) (most : ℕ) (run : List CycleOf) → IsProblem p → IsStreamsRun p (Cover k) kind ended bytes most run
         → ReachRun p.design (length run) (valuations p.design run) k × (length run ≤ (span_of p.problem).depth) }
-    ensures first_reach { (p : AskedOf) (k : ℕ) (kind : StreamKind) (ended : Bool) (bytes : List ℕ) (most : ℕ) (run : List CycleOf) → IsProblem p → IsStreamsRun p (Cover k) kind ended bytes most run
+    ensures first_reach { (p : AskedOf) (k : ℕ) (kind : StreamKind) (ended : Bool) (bytes : List ℕ) (most : ℕ) (run : List CycleOf) → IsProblem p → IsStreamsRun p (Cover k) (Certificate kind) ended bytes most run
         → (t : ℕ) → suc t < length run → Reached p.design (valuations p.design run t) k → ⊥ }
 {}
 
 /// A stream has one run of a job.
 pub fn one_played_run()
-    ensures { (p : AskedOf) (job : JobName) (kind : StreamKind) (ended : Bool) (bytes : List ℕ) (most : ℕ) (run other : List CycleOf) → IsProblem p
+    ensures { (p : AskedOf) (job : JobName) (kind : Kind) (ended : Bool) (bytes : List ℕ) (most : ℕ) (run other : List CycleOf) → IsProblem p
         → IsStreamsRun p job kind ended bytes most run → IsStreamsRun p job kind ended bytes most other → run ≡ other }
 {}
 
@@ -114,12 +119,12 @@ pub fn free_variables_are_read()
         → (s : StateBit) → Contains (state_bits p.design) s → Contains o.has.origins (First (state_place p.design s)) → IsStateRead p.design s }
 {}
 
-/// In a stream's run what is open and isn't read is 0: the inputs in each cycle, and the state bits without a start digit in the first. A
+/// In a run that is played from the values of a certificate what is open and isn't read is 0: the inputs in each cycle, and the state bits without a start digit in the first. A
 /// bit that only clocks read isn't read.
 pub fn played_run_is_zero_where_nothing_reads()
-    ensures inputs { (p : AskedOf) (job : JobName) (kind : StreamKind) (ended : Bool) (bytes : List ℕ) (most : ℕ) (run : List CycleOf) → IsProblem p → IsStreamsRun p job kind ended bytes most run → (job ≡ Step → ⊥)
+    ensures inputs { (p : AskedOf) (job : JobName) (kind : StreamKind) (ended : Bool) (bytes : List ℕ) (most : ℕ) (run : List CycleOf) → IsProblem p → IsStreamsRun p job (Certificate kind) ended bytes most run → (job ≡ Step → ⊥)
         → (t : ℕ) (b : SigBit) → t < length run → Contains (input_bits p.design) b → ¬ IsReadOtherwise p.design b → bit_in (valuations p.design run t) b ≡ false }
-    ensures starts { (p : AskedOf) (job : JobName) (kind : StreamKind) (ended : Bool) (bytes : List ℕ) (most : ℕ) (run : List CycleOf) → IsProblem p → IsStreamsRun p job kind ended bytes most run → (job ≡ Step → ⊥)
+    ensures starts { (p : AskedOf) (job : JobName) (kind : StreamKind) (ended : Bool) (bytes : List ℕ) (most : ℕ) (run : List CycleOf) → IsProblem p → IsStreamsRun p job (Certificate kind) ended bytes most run → (job ≡ Step → ⊥)
         → (i k : ℕ) (c : CellOf) (s : StateBit) → IsCell p.design i c → slice_get (state_of (i, c)) k ≡ Some s → ((x : Bool) → BeginsWith (role_of c.kind) p.design i k x → ⊥)
         → (IsStateRead p.design s → ⊥) → state_in (valuations p.design run 0) s ≡ false }
 {}
@@ -138,4 +143,30 @@ pub fn slices_show_that_nothing_breaks()
 /// length.
 pub fn base_and_step_show_that_nothing_breaks()
     ensures { (d : DesignOf) (n : ℕ) → 0 < n → (Solvable d (Base 0) (whole n) → ⊥) → (Solvable d Step (whole n) → ⊥) → NeverBreak d }
+{}
+
+/// A stream has one fate at most as evidence for a job.
+pub fn one_fate()
+    ensures { (p : AskedOf) (job : JobName) (kind : Kind) (file stream : List ℕ) (most : ℕ) (x y : Fate) → IsProblem p → IsFate p job kind file stream most x → IsFate p job kind file stream most y → x ≡ y }
+{}
+
+/// It has one, if streams of its kind are judged for the job: it can't be that none is its fate.
+pub fn some_fate()
+    ensures { (p : AskedOf) (job : JobName) (kind : Kind) (file stream : List ℕ) (most : ℕ) (f : FormulaOf) → IsProblem p → IsDimacs file f → Serves kind job
+        → ((x : Fate) → IsFate p job kind file stream most x → ⊥) → ⊥ }
+{
+    some_witness_fate();
+}
+
+/// A fate stays, whatever follows; without one there are at most `most` bytes.
+#[tactic(auto, using(crate::proofs::StreamFates::stays, crate::proofs::StreamFates::within_most))]
+pub fn fates_stay()
+    ensures stays { (p : AskedOf) (job : JobName) (kind : Kind) (file bytes more : List ℕ) (most : ℕ) (fate : Fate) → IsFateSoFar p job kind file bytes most (Some fate) → IsFate p job kind file (bytes ++ more) most fate }
+    ensures none { (p : AskedOf) (job : JobName) (kind : Kind) (file bytes : List ℕ) (most : ℕ) → IsFateSoFar p job kind file bytes most None → length bytes ≤ most }
+{}
+
+/// What is found in a stream tells whether the job can be solved.
+pub fn found_fates_tell_what_can_be_solved()
+    ensures sat { (p : AskedOf) (job : JobName) (kind : Kind) (file stream : List ℕ) (most : ℕ) → IsProblem p → IsJobFile p job file → IsFate p job kind file stream most (Found Sat) → Solvable p.design job (span_of p.problem) }
+    ensures unsat { (p : AskedOf) (job : JobName) (kind : Kind) (file stream : List ℕ) (most : ℕ) → IsProblem p → IsJobFile p job file → IsFate p job kind file stream most (Found Unsat) → Solvable p.design job (span_of p.problem) → ⊥ }
 {}

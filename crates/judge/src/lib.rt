@@ -2,6 +2,7 @@
 #![tactic(auto)]
 
 mod basis;
+mod certificate;
 mod designs;
 mod encoding;
 mod finding;
@@ -12,16 +13,18 @@ mod problem;
 mod run;
 mod solver;
 mod text;
+mod witness;
 
 pub use designs::Designs;
 pub use finding::Finding;
 pub use job_file::JobFile;
-pub use judging::{Judge, Progress, State};
+pub use judging::{Judge, Progress, State, serves};
 pub use laws::{
-    base_and_step_show_that_nothing_breaks, every_choice_has_a_run_of_the_design,
-    files_tell_what_jobs_ask, findings_tell_what_can_be_solved, free_variables_are_read,
-    jobs_stand_in_their_order, one_file, one_played_run, played_run_ends_at_first_goal,
-    played_run_is_zero_where_nothing_reads, slices_show_that_nothing_breaks,
+    base_and_step_show_that_nothing_breaks, every_choice_has_a_run_of_the_design, fates_stay,
+    files_tell_what_jobs_ask, findings_tell_what_can_be_solved,
+    found_fates_tell_what_can_be_solved, free_variables_are_read, jobs_stand_in_their_order,
+    one_fate, one_file, one_played_run, played_run_ends_at_first_goal,
+    played_run_is_zero_where_nothing_reads, slices_show_that_nothing_breaks, some_fate,
     too_many_only_past_the_cost,
 };
 pub use problem::{Problem, ProblemFault};

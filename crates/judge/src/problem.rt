@@ -1,6 +1,6 @@
 // A problem: a text, its design and model, and the net from which its jobs are made.
 
-ghost use Rattle.std.specs.Prelude.{◌≡◌, ◌≢◌, ◌+◌, ◌<◌, ◌≤◌, ℕ, List, IfOk, MatchResult, Some, length, slice_get};
+ghost use Rattle.std.specs.Prelude.{◌≡◌, ◌≢◌, ◌+◌, ◌<◌, ◌≤◌, ℕ, All, List, IfOk, MatchResult, Some, length, slice_get};
 ghost use Rattle.cnf_form.specs.Cnf.{Satisfies};
 ghost use Rattle.job_terms.specs.Decoding.{values_of};
 ghost use Rattle.job_terms.specs.Encoding.{EncodedOf};
@@ -9,7 +9,9 @@ ghost use Rattle.judge.specs.Jobs.{jobs_of, span_of};
 ghost use Rattle.net_jobs.specs.Jobs.{job_encoding};
 ghost use Rattle.net_unroll.specs.Encoding.{formula_of};
 ghost use Rattle.judge.specs.Played.{IsPlayed};
+ghost use Rattle.judge.specs.Telling.{design_run};
 ghost use Rattle.judge.specs.Problem.{AskedOf, IsEncodedOf, IsFormulaOf, IsJob, IsJobFile, IsProblem, asked_in};
+ghost use Rattle.judge.specs.Witness.{IsLinesFile};
 ghost use Rattle.sby_terms.specs.Span.{IsSpan, whole};
 
 use crate::basis::Basis;
@@ -17,9 +19,15 @@ use crate::encoding::{first_unfit, names_for};
 use crate::job_file::JobFile;
 use crate::run::PlayedRun;
 use crate::text::Text;
+use crate::witness::sought_of;
+use btor_emit::emit::emit;
+use btor_emit::shape::Shape;
+use btor_text::write;
 use design_check::check::DesignFault;
 use design_check::flat::Flat;
 use design_reader::ReadFault;
+use model_core::model::WordModel;
+use model_play::kept::Kept;
 use model_play::whole::play;
 use net_jobs::encode_again;
 use net_text::EncodedClauses;
@@ -48,9 +56,9 @@ impl Model for Problem {
 
     ghost use Rattle.judge.specs.Stored.{IsStored, asked_by};
 
-    ghost view = { λ a. asked_by a.text a.mode a.span (arc_value a.basis).design (arc_value a.basis).model (arc_value a.basis).net };
+    ghost view = { λ a. asked_by a.text a.mode a.span (arc_value a.basis).design (arc_value a.basis).model (arc_value a.basis).shape (arc_value a.basis).net };
 
-    ghost invariant = { λ a. IsStored (asked_by a.text a.mode a.span (arc_value a.basis).design (arc_value a.basis).model (arc_value a.basis).net) a.names.items };
+    ghost invariant = { λ a. IsStored (asked_by a.text a.mode a.span (arc_value a.basis).design (arc_value a.basis).model (arc_value a.basis).shape (arc_value a.basis).net) a.names.items };
 }
 
 /// Why a problem is refused: the text reads no design, the design has a fault, or a job has too many variables.
@@ -204,6 +212,22 @@ impl Problem {
         let _flat = self.flat();
     }
 
+    /// What is put as the job's file for engines that print witnesses: the model in BTOR2, made for it. Its one bad, or one for each
+    /// assertion in file order, is what the job asks for.
+    pub fn lines_file(&self, alloc: Global, job: JobName) -> Result<Vec<u8>, AllocError>
+        requires job { IsJob self.now job }
+        requires run { job ≢ JobName.Step }
+        ensures { IfOk result (λ bytes. IsLinesFile self.now job bytes.items) }
+    {
+        let _flat = self.flat();
+        let Some(sought) = sought_of(self.span, job) else {
+            unreachable!()
+        };
+        let emitted = emit(alloc, self.model(), sought.goal)?;
+        let text = write(alloc, &emitted.model)?;
+        Ok(text)
+    }
+
     // The job as it is encoded, made from the net.
     fn encoded(&self, alloc: Global, job: JobName) -> Result<Encoded, AllocError>
         requires { IsJob self.now job }
@@ -238,6 +262,17 @@ impl Problem {
         let (flat, model, net) = (basis.flat(), basis.model(), basis.net());
         let choices = net.decode(alloc, job, self.span, &encoded, values)?;
         let rows = play(alloc, model, &choices)?;
+        let run = self.run_of(alloc, rows)?;
+        Ok(run)
+    }
+
+    // The design's run in the rows of its model.
+    pub(crate) fn run_of(&self, alloc: Global, rows: Kept) -> Result<PlayedRun, AllocError>
+        requires { All (λ row. length row ≡ self.now.model.size) rows }
+        ensures { IfOk result (λ run. run ≡ design_run self.now.design rows) }
+    {
+        let basis = &*self.basis;
+        let (flat, model) = (basis.flat(), basis.model());
         let design = flat.design();
         let wires = design.bits();
         let free = design.free();
@@ -245,4 +280,31 @@ impl Problem {
         let run = PlayedRun::new(alloc, rows, wires, free, kept)?;
         Ok(run)
     }
+
+    // The design's model.
+    pub(crate) fn model(&self) -> &WordModel
+        ensures { result.now ≡ self.now.model }
+    {
+        self.basis.model()
+    }
+
+    // What a witness may say of the model.
+    pub(crate) fn shape(&self, alloc: Global) -> Result<Shape, AllocError>
+        ensures states { IfOk result (λ s. s.states.items ≡ self.now.shape.states) }
+        ensures inputs { IfOk result (λ s. s.inputs.items ≡ self.now.shape.inputs) }
+    {
+        copied(alloc, self.basis.shape())
+    }
+}
+
+// A copy of a shape.
+fn copied(alloc: Global, shape: &Shape) -> Result<Shape, AllocError>
+    ensures states { IfOk result (λ s. s.states.items ≡ shape.now.states.items) }
+    ensures inputs { IfOk result (λ s. s.inputs.items ≡ shape.now.inputs.items) }
+{
+    let mut states = Vec::new(alloc);
+    states.extend_from_slice(&shape.states)?;
+    let mut inputs = Vec::new(alloc);
+    inputs.extend_from_slice(&shape.inputs)?;
+    Ok(Shape { states, inputs })
 }

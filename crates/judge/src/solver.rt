@@ -4,8 +4,9 @@ ghost use Rattle.std.specs.Prelude.{◌≡◌, ◌≤◌, ◌^◌, ◌++◌, tru
 ghost use Rattle.judge.specs.Problem.{IsJob};
 ghost use Rattle.judge.specs.Solver.{Ends, Feeds, Took, is_open};
 
+use crate::certificate::answer;
 use crate::finding::Finding;
-use crate::judging::{Progress, answer};
+use crate::judging::Progress;
 use crate::problem::Problem;
 use cert_judge::{BadCert, OutputJudge};
 use net_text::EncodedClauses;

@@ -1,10 +1,11 @@
 // A judge fed by hand: streams in three pieces at each place, and what the end answers after that.
 
 ghost use Rattle.std.specs.Prelude.{◌≡◌, ◌≤◌, ◌^◌, ℕ, List, IfOk, None, Ok};
+ghost use Rattle.judge.specs.Fates.{Serves};
 ghost use Rattle.judge.specs.Judging.{Took};
 ghost use Rattle.judge.specs.Problem.{IsJob};
 
-use cert_judge::{BadCert, StreamKind};
+use cert_judge::{BadCert, Kind, StreamKind};
 use judge::{Finding, Judge, Problem, Progress};
 use run_scenes::T;
 use sby_terms::{Answer, JobName, Mode, Settled, Span};
@@ -73,15 +74,17 @@ fn fed_pieces(judge: &mut Judge, one: &[u8], two: &[u8], three: &[u8]) -> Option
 fn judged(
     alloc: Global,
     problem: &Problem,
+    kind: Kind,
     most: u32,
     one: &[u8],
     two: &[u8],
     three: &[u8],
 ) -> Result<Option<Told>, AllocError>
-    requires { IsJob problem.now (JobName.Base 0) }
+    requires job { IsJob problem.now (JobName.Base 0) }
+    requires serves { Serves kind (JobName.Base 0) }
 {
     let most = u64::from(most.max(1));
-    let mut judge = Judge::new(alloc, problem, JobName::Base(0), StreamKind::Drup, most)?;
+    let mut judge = Judge::new(alloc, problem, JobName::Base(0), kind, most)?;
     Ok(fed_whole(&mut judge, one, two, three))
 }
 
@@ -89,16 +92,18 @@ fn judged(
 fn comes_to(
     alloc: Global,
     problem: &Problem,
+    kind: Kind,
     most: u32,
     stream: &[u8],
     wanted: Told,
 ) -> Result<bool, AllocError>
-    requires { IsJob problem.now (JobName.Base 0) }
+    requires job { IsJob problem.now (JobName.Base 0) }
+    requires serves { Serves kind (JobName.Base 0) }
 {
     for cut in 0..=stream.len() {
         let (one, rest) = stream.split_at(cut.min(stream.len()));
         let (two, three) = rest.split_at(rest.len().min(1));
-        if judged(alloc, problem, most, one, two, three)? != Some(wanted) {
+        if judged(alloc, problem, kind, most, one, two, three)? != Some(wanted) {
             return Ok(false);
         }
     }
@@ -121,12 +126,14 @@ fn problem_of(alloc: Global, depth: u32) -> Result<Problem, Fail>
 fn wrong_row<'a>(
     alloc: Global,
     problem: &Problem,
+    kind: Kind,
     rows: &[(u32, &'a str, Told)],
 ) -> Result<Option<&'a str>, AllocError>
-    requires { IsJob problem.now (JobName.Base 0) }
+    requires job { IsJob problem.now (JobName.Base 0) }
+    requires serves { Serves kind (JobName.Base 0) }
 {
     for (most, stream, wanted) in rows {
-        if !comes_to(alloc, problem, *most, stream.as_bytes(), *wanted)? {
+        if !comes_to(alloc, problem, kind, *most, stream.as_bytes(), *wanted)? {
             return Ok(Some(*stream));
         }
     }
@@ -152,11 +159,32 @@ const OF_TWO_CYCLES: [(u32, &str, Told); 3] = [
     (100, "v -1 0\n", (45, 1)),
 ];
 
+// Witnesses of two cycles: the design has one state, which starts, and no input that is read.
+const WITNESSES: [(u32, &str, Told); 9] = [
+    (100, "log\nsat\nb0\n#0\n@0\n@1\n.\nrest", (b'S', 2)),
+    (100, "sat\nb0\n@0\n.\n", (46, 0)),
+    (100, "sat\nb1\n@0\n@1\n.\n", (46, 1)),
+    (100, "sat\nb0\n@0\n@1\n@2\n.\n", (46, 2)),
+    (100, "sat\nj0\n", (49, 4)),
+    (100, "unsat\n", (b'N', 0)),
+    (100, "sat\nb0\n#0\n", (48, 10)),
+    (10, "sat\nb0\n#0\n@0\n", (47, 10)),
+    (15, "sat\nb0\n@0\n@1\n.\n", (b'S', 2)),
+];
+
 #[test]
 fn pieces_change_nothing(rt: HostRuntime) -> Result<(), Fail> {
+    let drup = Kind::Certificate(StreamKind::Drup);
     let problem = problem_of(rt.alloc(), 1)?;
-    assert_eq!(rt; wrong_row(rt.alloc(), &problem, &OF_ONE_CYCLE)?, None);
+    assert_eq!(rt; wrong_row(rt.alloc(), &problem, drup, &OF_ONE_CYCLE)?, None);
     let problem = problem_of(rt.alloc(), 2)?;
-    assert_eq!(rt; wrong_row(rt.alloc(), &problem, &OF_TWO_CYCLES)?, None);
+    assert_eq!(rt;
+        wrong_row(rt.alloc(), &problem, drup, &OF_TWO_CYCLES)?,
+        None
+    );
+    assert_eq!(rt;
+        wrong_row(rt.alloc(), &problem, Kind::Witness, &WITNESSES)?,
+        None
+    );
     Ok(())
 }

@@ -1,6 +1,6 @@
 // Words that are asked, and words that are refused.
 
-use cert_judge::StreamKind;
+use cert_judge::{Kind, StreamKind};
 use run_scenes::owned;
 use sby_terms::Mode;
 use sby_words::{Asked, JudgeWords, TaskWords, asked_of, stream_kind};
@@ -45,7 +45,6 @@ t.sby -j
 --judge .il bmc 1
 -d out --judge .rtlil bmc 1
 -d  --judge t.il bmc 1
---judge t.il bmc 1 t.wit
 --judge --judge t.il bmc 1
 --judge t.il bmc 1 -d
 --judge t.il bmc 1 -x";
@@ -66,6 +65,7 @@ const ASKED: &str = "--judge t.il bmc 1 : t t.il bmc 1
 -d out --judge a/b.il bmc 3 x y : out a/b.il bmc 3 x y
 a/b.rtlil -f bmc --judge 100000 x -d o : o a/b.rtlil bmc 100000 x
 --judge a/b.rtlil bmc 20 t.drup : a/b a/b.rtlil bmc 20 t.drup
+--judge t.il prove 2 t.wit s0 : t t.il prove 2 t.wit s0
 --judge -fdo t bmc 1 : o t bmc 1
 --judge -- t.il.il bmc 7 : t.il t.il.il bmc 7";
 
@@ -159,7 +159,8 @@ fn streams_are_of_the_kinds_of_their_names(rt: HostRuntime) -> Result<(), Fail> 
         ("lrat", StreamKind::Drup),
         ("", StreamKind::Drup),
     ] {
-        assert_eq!(rt; stream_kind(name), kind, "{name}");
+        assert_eq!(rt; stream_kind(name), Kind::Certificate(kind), "{name}");
     }
+    assert_eq!(rt; stream_kind("a/t.wit"), Kind::Witness);
     Ok(())
 }

@@ -2,14 +2,15 @@
 use Rattle.std.proofs.Common.{◌≡◌, ℕ, List, length, Option, None, Result, Ok, Err, refl, sym, subst, ◌∙◌}
 use Rattle.std.specs.Prelude.{◌≤◌, IfOk}
 use Rattle.std.specs.declared.alloc.AllocError.{AllocError}
-use Rattle.cert_judge.proofs.KindFates.{within_most}
-use Rattle.cert_judge.specs.Kinds.{IsFateSoFar}
 use Rattle.lane_run.specs.Judging.{Says}
 use Rattle.race_core.specs.declared.event.Judged.TheVariants as judged
 use Rattle.sby_terms.specs.declared.names.JobName.{JobName}
 use Rattle.cert_judge.specs.Fate.{Fate}
 use Rattle.cert_judge.specs.declared.stream.BadCert.{BadCert}
-use Rattle.judge.specs.Judging.{Ends, Feeds, Finds, JudgeOf, fate_told, state_behind}
+use Rattle.judge.proofs.StreamFates.{within_most}
+use Rattle.judge.specs.Answers.{Finds, fate_told, state_behind}
+use Rattle.judge.specs.Fates.{IsFateSoFar}
+use Rattle.judge.specs.Judging.{Ends, Feeds, JudgeOf}
 use Rattle.judge.specs.Problem.{AskedOf, IsJobFile}
 use Rattle.judge.specs.declared.judging.Progress.{Progress}
 use Rattle.judge.specs.declared.judging.Progress.TheVariants as progress
@@ -41,9 +42,9 @@ module _ (p : AskedOf) (job : JobName) (most : ℕ) (old new : JudgeOf) (before 
 
   within : (r : Result Progress BadCert) (file : List ℕ) → IsJobFile p job file → Feeds old new bytes r → fate_told r ≡ None → length bytes ≤ most
   within r file is fed none =
-      within_most old.kind file bytes most
-      (subst (λ (n : ℕ). IsFateSoFar old.kind file bytes n None) took.limit
-      (subst (λ (o : Option Fate). IsFateSoFar old.kind file bytes old.most o) none (fed.fate file (file_for file is))))
+      within_most old.asked old.job old.kind file bytes most
+      (subst (λ (n : ℕ). IsFateSoFar old.asked old.job old.kind file bytes n None) took.limit
+      (subst (λ (o : Option Fate). IsFateSoFar old.asked old.job old.kind file bytes old.most o) none (fed.fate file (file_for file is))))
 
   goes_on : (r : Result Progress BadCert) → Feeds old new bytes r → judged_as r ≡ judged.More → HasTaken p job most new bytes
   goes_on r fed said = record {

@@ -1,14 +1,11 @@
 // Lanes whose judges take fewer bytes than a stream may have.
 
-ghost use Rattle.std.specs.Prelude.{◌≡◌, ◌≢◌, ◌++◌, ℕ, List};
-ghost use Rattle.judge.specs.Problem.{AskedOf, IsJobFile};
+ghost use Rattle.std.specs.Prelude.{◌≡◌, ◌≢◌, ◌≤◌, ◌^◌, ◌++◌, [], IfOk, ℕ, List};
+ghost use Rattle.judge.specs.Problem.{AskedOf, IsJob, IsJobFile};
 ghost use Rattle.lane_run.specs.Judging.{Says};
 ghost use Rattle.task_race.specs.Serving.{IsServed, file_of};
 ghost use Rattle.task_race.specs.Watching.{told_as};
-ghost use Rattle.task_race.specs.Words.{proof_path, words_at};
 ghost use Rattle.lane_tests.specs.Short.{HasTaken, IsOurs, SaysShort};
-ghost use Rattle.sby_terms.specs.Path.{job_path};
-ghost use Rattle.sby_terms.specs.Span.{slices_of};
 ghost use Rattle.sby_terms.specs.declared.names.JobName.{JobName};
 
 use super::tests::{
@@ -89,6 +86,33 @@ struct ShortJudge<'a> {
     output: ToldBytes,
 }
 
+// A judge of a job's stream that has taken nothing.
+fn short_judge<'a>(
+    alloc: Global,
+    problem: &'a Problem,
+    job: JobName,
+    most: u64,
+) -> Result<ShortJudge<'a>, AllocError>
+    requires job { IsJob problem.now job }
+    requires least { 1 ≤ most }
+    requires limit { most ≤ 2 ^ 32 }
+    ensures problem { IfOk result (λ s. s.problem.now ≡ problem.now) }
+    ensures job { IfOk result (λ s. s.job ≡ job) }
+    ensures most { IfOk result (λ s. s.most ≡ most) }
+    ensures none { IfOk result (λ s. s.output.bytes ≡ []) }
+    ensures took { IfOk result (λ s. HasTaken s.problem.now s.job s.most s.judge s.output.bytes) }
+{
+    let kind = cert_judge::Kind::Certificate(StreamKind::Drup);
+    let judge = Judge::new(alloc, problem, job, kind, most)?;
+    Ok(ShortJudge {
+        problem,
+        job,
+        most,
+        judge,
+        output: ToldBytes::of(&Nothing),
+    })
+}
+
 impl<'a> Subject<Finding> for ShortJudge<'a> {
     ghost use Rattle.lane_tests.specs.Short.{ours_law};
 
@@ -143,7 +167,7 @@ impl<'a> Subject<Finding> for ShortJudge<'a> {
     ghost is_for = { λ s. ours_law s.problem.now.problem s.job };
 }
 
-// The lanes of a problem, each with a judge of a stream of at most this many bytes.
+// The lanes of a problem, each with a judge of a stream of at most this many bytes. A child in memory needs no words.
 #[derive(Clone, Copy)]
 struct ShortLanes<'a> {
     lanes: ProblemLanes<'a>,
@@ -159,16 +183,15 @@ impl<'a> Asks<Finding> for ShortLanes<'a> {
 }
 
 impl<'a> Makes<Finding> for ShortLanes<'a> {
-    ghost use Rattle.std.specs.Prelude.{◌≤◌, ◌^◌, slice_get};
+    ghost use Rattle.std.specs.Prelude.{◌≤◌, ◌^◌, []};
 
     type Subject = ShortJudge<'a>;
 
     ghost is_served = { λ l lane job. IsServed l.lanes.engines.now l.lanes.problem.now lane job × (1 ≤ l.most) × (l.most ≤ 2 ^ 32) };
 
-    ghost words = { λ l lane job. words_at (slice_get l.lanes.engines.now lane) (job_path l.lanes.folder.now (slices_of l.lanes.problem.now.problem.span) job)
-        (proof_path l.lanes.folder.now lane (slices_of l.lanes.problem.now.problem.span) job) };
+    ghost words = { λ l lane job. [] };
 
-    ghost proof = { λ l lane job. proof_path l.lanes.folder.now lane (slices_of l.lanes.problem.now.problem.span) job };
+    ghost proof = { λ l lane job. [] };
 
     ghost file = { λ l job. file_of l.lanes.problem.now job };
 
@@ -189,27 +212,14 @@ impl<'a> Makes<Finding> for ShortLanes<'a> {
     fn make(
         &self,
         alloc: Global,
-        lane: u32,
+        _lane: u32,
         job: JobName,
     ) -> Result<Child<ShortJudge<'a>>, AllocError> {
-        let Child {
-            subject: _,
-            words,
-            proof,
-        } = self.lanes.make(alloc, lane, job)?;
-        let problem = self.lanes.problem;
-        let judge = Judge::new(alloc, problem, job, StreamKind::Drup, self.most)?;
-        let subject = ShortJudge {
-            problem,
-            job,
-            most: self.most,
-            judge,
-            output: ToldBytes::of(&Nothing),
-        };
+        let subject = short_judge(alloc, self.lanes.problem, job, self.most)?;
         Ok(Child {
             subject,
-            words,
-            proof,
+            words: Vec::new(alloc),
+            proof: String::new(alloc),
         })
     }
 

@@ -71,7 +71,7 @@ file two.sby [options]|mode bmc|depth 1|[engines]|btor solver|drup solver|[scrip
 clock 1000
 rc 4
 > SBY [two] design: 1 register bits, 1 assert, 0 assume, 0 cover
-> SBY [two] engine_0 base: not served
+> SBY [two] engine_0 base: unknown
 > SBY [two] engine_1 base: unknown
 > SBY [two] DONE (UNKNOWN, rc=4)
 

@@ -21,3 +21,5 @@ mod streams;
 mod tasks;
 #[cfg(test)]
 mod together;
+#[cfg(test)]
+mod witnesses;

@@ -3,11 +3,11 @@ use Rattle.std.proofs.Common.{◌≡◌, ◌≢◌, ℕ, zero, suc, List, [], �
 use Rattle.std.specs.Prelude.{Option, Some, None, slice_get}
 use Rattle.std.proofs.lemmas.List.{length-map}
 use Rattle.sby_edge.specs.Files.{Store}
-use Rattle.cert_judge.specs.Kinds.{IsFate}
 use Rattle.cert_judge.specs.Fate.{Fate}
 use Rattle.design_core.specs.Shape.{DesignOf}
 use Rattle.design_reader.specs.Grammar.{Reads}
-use Rattle.judge.specs.Problem.{AskedOf}
+use Rattle.judge.specs.Fates.{IsFate, Serves}
+use Rattle.judge.specs.Problem.{AskedOf, IsProblem, IsJobFile}
 use Rattle.race_core.specs.Told.{Decided}
 use Rattle.sby_terms.specs.Decide.{Decides}
 use Rattle.sby_terms.specs.Status.{HasStatus}
@@ -32,6 +32,11 @@ use Rattle.sby_top.proofs.KindLemmas.{one_kind}
 use Rattle.sby_top.proofs.LawLemmas.{OneFate, OneFile, one_some}
 use Rattle.sby_top.proofs.PlainLemmas.{FatesGive, done_gives}
 use Rattle.sby_top.proofs.StatusLemmas.{verdict_status}
+use Rattle.cert_judge.specs.declared.stream.Kind.{Kind}
+use Rattle.cert_judge.specs.declared.stream.Kind.TheVariants.{Certificate, Witness}
+use Rattle.sby_top.specs.Judged.{IsUnserved}
+use Rattle.sby_terms.specs.declared.names.JobName.TheVariants.{Base, Step, Cover}
+use Rattle.sby_words.specs.Kinds.{IsKindNamed}
 
 -- fates answer as those of which none is left out
 record AreKept (own given : List (Option Fate)) : Type 0 where
@@ -58,37 +63,56 @@ none_kept own given none empty = record {
 unanswered : (g : Option Fate) (a : Answer) → fate_answer None ≡ Some a → fate_answer g ≡ Some a
 unanswered g a is = let no : ◌≡◌ {A = Option Answer} None (Some a) = is in cc
 
-fates_kept : OneFate → OneFile → (p : AskedOf) (now : Store) (jobs : List JobName) (paths : List (List ℕ)) (own given : List (Option Fate)) → AreFates p now jobs paths own → AreFates p now jobs paths given
-    → AreWhole paths given → AreKept own given
-fates_kept one_fate one_file p now [] paths own given mine are whole = none_kept own given mine are
-fates_kept one_fate one_file p now (job ∷ jobs) [] [] given mine are whole = absurd mine
-fates_kept one_fate one_file p now (job ∷ jobs) [] (None ∷ own) [] mine are whole = absurd are
-fates_kept one_fate one_file p now (job ∷ jobs) [] (None ∷ own) (None ∷ given) mine are whole = kept_more None None own given (unanswered None) (fates_kept one_fate one_file p now jobs [] own given mine are tt)
-fates_kept one_fate one_file p now (job ∷ jobs) [] (None ∷ own) (Some fate ∷ given) mine are whole = absurd are
-fates_kept one_fate one_file p now (job ∷ jobs) [] (Some fate ∷ own) given mine are whole = absurd mine
-fates_kept one_fate one_file p now (job ∷ jobs) (path ∷ paths) [] given mine are whole = absurd mine
-fates_kept one_fate one_file p now (job ∷ jobs) (path ∷ paths) (o ∷ own) [] mine are whole = absurd are
-fates_kept one_fate one_file p now (job ∷ jobs) (path ∷ paths) (o ∷ own) (None ∷ given) mine are whole = absurd whole
-fates_kept one_fate one_file p now (job ∷ jobs) (path ∷ paths) (None ∷ own) (Some fate ∷ given) mine are whole =
-    kept_more None (Some fate) own given (unanswered (Some fate)) (fates_kept one_fate one_file p now jobs paths own given mine are.1 whole)
-fates_kept one_fate one_file p now (job ∷ jobs) (path ∷ paths) (Some x ∷ own) (Some y ∷ given) mine are whole =
+-- nothing is left out where there is no stream
+none_whole : (jobs : List JobName) (fates : List (Option Fate)) → AreWhole jobs [] fates
+none_whole [] fates = tt
+none_whole (job ∷ jobs) fates = tt
+
+-- a stream that isn't judged for a job has no fate for it
+fate_serves : (p : AskedOf) (job : JobName) (kind : Kind) (file stream : List ℕ) (most : ℕ) (x : Fate) → IsFate p job kind file stream most x → Serves kind job
+fate_serves p job (Certificate kind) file stream most x is = tt
+fate_serves p (Base i) Witness file stream most x is = tt
+fate_serves p Step Witness file stream most x is = is
+fate_serves p (Cover k) Witness file stream most x is = tt
+
+none_of_unserved : (p : AskedOf) (now : Store) (job : JobName) (path : List ℕ) (x : Fate) → IsUnserved path job
+    → ((kind : Kind) × (stream : List ℕ) × (file : List ℕ) × IsKindNamed path kind × (now path ≡ Some stream) × IsJobFile p job file × IsFate p job kind file stream most_stream x) → ⊥
+none_of_unserved p now job path x unserved has =
+    unserved.2 (subst (λ (k : Kind). Serves k job) (one_kind path has.0 unserved.0 has.3 unserved.1) (fate_serves p job has.0 has.2 has.1 most_stream x has.6))
+
+fates_kept : OneFate → OneFile → (p : AskedOf) → IsProblem p → (now : Store) (jobs : List JobName) (paths : List (List ℕ)) (own given : List (Option Fate)) → AreFates p now jobs paths own → AreFates p now jobs paths given
+    → AreWhole jobs paths given → AreKept own given
+fates_kept one_fate one_file p problem now [] paths own given mine are whole = none_kept own given mine are
+fates_kept one_fate one_file p problem now (job ∷ jobs) [] [] given mine are whole = absurd mine
+fates_kept one_fate one_file p problem now (job ∷ jobs) [] (None ∷ own) [] mine are whole = absurd are
+fates_kept one_fate one_file p problem now (job ∷ jobs) [] (None ∷ own) (None ∷ given) mine are whole = kept_more None None own given (unanswered None) (fates_kept one_fate one_file p problem now jobs [] own given mine are (none_whole jobs given))
+fates_kept one_fate one_file p problem now (job ∷ jobs) [] (None ∷ own) (Some fate ∷ given) mine are whole = absurd are
+fates_kept one_fate one_file p problem now (job ∷ jobs) [] (Some fate ∷ own) given mine are whole = absurd mine
+fates_kept one_fate one_file p problem now (job ∷ jobs) (path ∷ paths) [] given mine are whole = absurd mine
+fates_kept one_fate one_file p problem now (job ∷ jobs) (path ∷ paths) (o ∷ own) [] mine are whole = absurd are
+fates_kept one_fate one_file p problem now (job ∷ jobs) (path ∷ paths) (None ∷ own) (None ∷ given) mine are whole =
+    kept_more None None own given (unanswered None) (fates_kept one_fate one_file p problem now jobs paths own given mine are whole.1)
+fates_kept one_fate one_file p problem now (job ∷ jobs) (path ∷ paths) (Some x ∷ own) (None ∷ given) mine are whole = absurd (none_of_unserved p now job path x whole.0 mine.0)
+fates_kept one_fate one_file p problem now (job ∷ jobs) (path ∷ paths) (None ∷ own) (Some fate ∷ given) mine are whole =
+    kept_more None (Some fate) own given (unanswered (Some fate)) (fates_kept one_fate one_file p problem now jobs paths own given mine are.1 whole)
+fates_kept one_fate one_file p problem now (job ∷ jobs) (path ∷ paths) (Some x ∷ own) (Some y ∷ given) mine are whole =
     let a = mine.0 in
     let b = are.0 in
     let kind : a.0 ≡ b.0 = one_kind path a.0 b.0 a.3 b.3 in
     let stream : a.1 ≡ b.1 = one_some (now path) a.1 b.1 a.4 b.4 in
     let file : a.2 ≡ b.2 = one_file p job a.2 b.2 a.5 b.5 in
-    let here : IsFate b.0 b.2 b.1 most_stream x =
-    subst (λ k. IsFate k b.2 b.1 most_stream x) kind (subst (λ s. IsFate a.0 b.2 s most_stream x) stream (subst (λ f. IsFate a.0 f a.1 most_stream x) file a.6)) in
-    let same : x ≡ y = one_fate b.0 b.2 b.1 most_stream x y here b.6 in
-    kept_more (Some x) (Some y) own given (λ c is. subst (λ (z : Fate). fate_answer (Some z) ≡ Some c) same is) (fates_kept one_fate one_file p now jobs paths own given mine.1 are.1 whole)
+    let here : IsFate p job b.0 b.2 b.1 most_stream x =
+    subst (λ k. IsFate p job k b.2 b.1 most_stream x) kind (subst (λ s. IsFate p job a.0 b.2 s most_stream x) stream (subst (λ f. IsFate p job a.0 f a.1 most_stream x) file a.6)) in
+    let same : x ≡ y = one_fate p job b.0 b.2 b.1 most_stream x y problem here b.6 in
+    kept_more (Some x) (Some y) own given (λ c is. subst (λ (z : Fate). fate_answer (Some z) ≡ Some c) same is) (fates_kept one_fate one_file p problem now jobs paths own given mine.1 are.1 whole)
 
 answers_count : (own given : List (Option Fate)) → AreKept own given → length (map fate_answer own) ≡ length (map fate_answer given)
 answers_count own given kept = length-map own fate_answer ∙ kept.size ∙ sym (length-map given fate_answer)
 
 -- fates that are left out nowhere give the verdict that they decide
-verdict_given : (mode : Mode) (paths : List (List ℕ)) (own given : List (Option Fate)) (v : Verdict) (status : Status) → AreKept own given → (AreWhole paths own → AreKept given own) → Decides mode (map fate_answer given) v
-    → FatesGive mode paths own status → HasStatus (Some v) [] status
-verdict_given mode paths own given v status kept back decides (whole, (o, decided, has)) = by_verdict o decided has
+verdict_given : (mode : Mode) (jobs : List JobName) (paths : List (List ℕ)) (own given : List (Option Fate)) (v : Verdict) (status : Status) → AreKept own given → (AreWhole jobs paths own → AreKept given own) → Decides mode (map fate_answer given) v
+    → FatesGive mode jobs paths own status → HasStatus (Some v) [] status
+verdict_given mode jobs paths own given v status kept back decides (whole, (o, decided, has)) = by_verdict o decided has
   where
     by_verdict : (o : Option Verdict) → Decided mode (map fate_answer own) o → HasStatus o (map fate_event own) status → HasStatus (Some v) [] status
     by_verdict (Some w) decided has =
@@ -102,7 +126,7 @@ verdict_given mode paths own given v status kept back decides (whole, (o, decide
 
 pub certificates_give : OneFate → OneFile → (may_read : ℕ → Type 0) (number : ℕ) (moments : Moments) (j : JudgeRequest) (end : TaskEnd) (exit : Exit) (now : Store) (fates : List (Option Fate)) (v : Verdict)
     → TaskRan may_read number moments (judge_task j) end exit → (judged : IsJudgedAt may_read number moments (judge_task j) end now) → end.status ≢ Memory
-    → AreFates judged.done.problem now (jobs_in judged.done.problem) j.streams fates → AreWhole j.streams fates → Decides j.mode (map fate_answer fates) v → HasStatus (Some v) [] end.status
+    → AreFates judged.done.problem now (jobs_in judged.done.problem) j.streams fates → AreWhole (jobs_in judged.done.problem) j.streams fates → Decides j.mode (map fate_answer fates) v → HasStatus (Some v) [] end.status
 certificates_give one_fate one_file may_read number moments j end exit now fates v ran judged apart are whole decides = elim ran.named.status [
   | inl own ↦
       by_race own.0 (own.1 judged.early) (subst (λ e. IsStatus (judge_task j).request e (record { design = own.0; reports = end.reports.items; start = end.start }) end.status) judged.early own.2)
@@ -112,6 +136,6 @@ certificates_give one_fate one_file may_read number moments j end exit now fates
     by_race : (d : DesignOf) → Reads end.text d → IsRaceStatus (judge_task j).request (record { design = d; reports = end.reports.items; start = end.start }) end.status → HasStatus (Some v) [] end.status
     by_race d reads race =
         let gives = done_gives may_read (judge_task j) moments.got moments.put (race_of number moments.pool moments.before moments.after end.start) now end.text end.reports.items d end.start end.status j.streams refl judged.told apart reads race judged.done in
-        verdict_given j.mode j.streams gives.fates fates v end.status
-        (fates_kept one_fate one_file judged.done.problem now (jobs_in judged.done.problem) j.streams gives.fates fates gives.are are whole)
-        (λ all. fates_kept one_fate one_file judged.done.problem now (jobs_in judged.done.problem) j.streams fates gives.fates are gives.are all) decides gives.give
+        verdict_given j.mode (jobs_in judged.done.problem) j.streams gives.fates fates v end.status
+        (fates_kept one_fate one_file judged.done.problem judged.done.served.0.problem now (jobs_in judged.done.problem) j.streams gives.fates fates gives.are are whole)
+        (λ all. fates_kept one_fate one_file judged.done.problem judged.done.served.0.problem now (jobs_in judged.done.problem) j.streams fates gives.fates are gives.are all) decides gives.give

@@ -42,13 +42,13 @@ use Rattle.task_race.specs.Ran.{LanesRan}
 use Rattle.sby_top.specs.Claims.{AreValidChildren, HasOwnEnd, HasOwnFailedCall, IsInTime, IsJudgedAt, IsStoppedEnd, IsValidChild, IsVerdictInTime, status_for}
 use Rattle.sby_top.specs.Headline.{Exit, TaskRan}
 use Rattle.sby_top.specs.Judged.{AreReports, racing_of}
-use Rattle.sby_top.specs.Served.{ArePut, jobs_in}
+use Rattle.sby_top.specs.Served.{ArePut, jobs_in, files_from}
 use Rattle.sby_top.specs.Task.{Lanes, TaskOf}
 use Rattle.sby_top.specs.World.{Moments, race_of}
 use Rattle.sby_top.specs.declared.outcome.TaskEnd.{TaskEnd}
 use Rattle.sby_top.proofs.AnswerLemmas.{kept_or_else, kept_verdict, pass_apart}
 use Rattle.sby_top.proofs.EventLemmas.{none_carried}
-use Rattle.sby_top.proofs.EvidenceLemmas.{FileLaws, answers_agree, fate_says}
+use Rattle.sby_top.proofs.EvidenceLemmas.{FindingLaws, answers_agree, fate_says}
 use Rattle.sby_top.proofs.FailLemmas.{fail_status}
 use Rattle.sby_top.proofs.LawLemmas.{all_one, one_put_stands, pass_status}
 use Rattle.sby_top.proofs.ReportLemmas.{job_count}
@@ -56,7 +56,7 @@ use Rattle.sby_top.proofs.SettleLemmas.{Hinders, child_hindered}
 use Rattle.sby_top.proofs.StatusLemmas.{verdict_status}
 use Rattle.sby_top.proofs.TruthLemmas.{own_design}
 
-module _ (laws : FileLaws) (may_read : ℕ → Type 0) (number : ℕ) (moments : Moments) (task : TaskOf) (end : TaskEnd) (exit : Exit) (engines : List Engine) (now : Store) (answers : List (Option Answer)) (lane_of : ℕ → ℕ) (verdict : Verdict)
+module _ (laws : FindingLaws) (may_read : ℕ → Type 0) (number : ℕ) (moments : Moments) (task : TaskOf) (end : TaskEnd) (exit : Exit) (engines : List Engine) (now : Store) (answers : List (Option Answer)) (lane_of : ℕ → ℕ) (verdict : Verdict)
     (ran : TaskRan may_read number moments task end exit) (judged : IsJudgedAt may_read number moments task end now) (service : task.service ≡ Lanes engines) (size : length answers ≡ length (jobs_in judged.done.problem))
     (valid : AreValidChildren moments.before.yard.scripts number lane_of engines judged.done.problem task.request.mode answers) (decides : Decides task.request.mode answers verdict) where
   abbrev Given : Type 0
@@ -100,8 +100,9 @@ module _ (laws : FileLaws) (may_read : ℕ → Type 0) (number : ℕ) (moments :
         let child = valid k a at in
         let found = race.1.entry k (Some b) found_at in
         let true_of = lanes_ran.are_true found.1.0 found.0 found.1.1 found.1.2 in
-        let says = fate_says (evidence_at (slice_get engines (lane_of k))) child.file (up_to child.script.stalls child.script.bytes) (take (most_bytes + 1) child.script.proof) child.is_file.0 a child.is_file.3 child.valid in
-        sym (answers_agree laws judged.done.problem (name_at task.request.mode k) child.file found.0 judged.done.served.0.problem child.is_file true_of.0 true_of.1 found.1.3 a says) ∙ found.2
+        let says = fate_says judged.done.problem judged.done.served.0.problem (name_at task.request.mode k) child.file child.is_file (evidence_at (slice_get engines (lane_of k))) (up_to child.script.stalls child.script.bytes)
+        (take (most_bytes + 1) child.script.proof) a child.valid in
+        sym (answers_agree laws judged.done.problem (name_at task.request.mode k) found.0 judged.done.served.0.problem true_of.0 true_of.1 found.1.3 a says) ∙ found.2
 
     one_verdict : (v w : Verdict) → Decides task.request.mode answers v → Decides task.request.mode race.0 w → v ≡ w
     one_verdict PassVerdict PassVerdict own other = refl
@@ -161,34 +162,35 @@ status_of_one : (answer : Answer) (status : Status) → HasStatus (Some (verdict
 status_of_one Sat status has = fail_status [] status has
 status_of_one Unsat status has = pass_status [] status has
 
-module _ (laws : FileLaws) (may_read : ℕ → Type 0) (number : ℕ) (moments : Moments) (task : TaskOf) (end : TaskEnd) (exit : Exit) (engines : List Engine) (lane : ℕ) (script : ScriptOf) (now : Store) (file : List ℕ)
+module _ (laws : FindingLaws) (may_read : ℕ → Type 0) (number : ℕ) (moments : Moments) (task : TaskOf) (end : TaskEnd) (exit : Exit) (engines : List Engine) (lane : ℕ) (script : ScriptOf) (now : Store) (file : List ℕ)
     (answer : Answer) (ran : TaskRan may_read number moments task end exit) (judged : IsJudgedAt may_read number moments task end now) (bmc : task.request.mode ≡ Bmc) (one : slices_of task.request.span ≡ 1)
-    (service : task.service ≡ Lanes engines) (serving : IsServing (slice_get engines lane)) (script_is : script_of moments.before.yard.scripts number lane (Base 0) ≡ Some script) (no_gate : script.gate ≡ None)
+    (service : task.service ≡ Lanes engines) (serving : IsServing (slice_get engines lane) (Base 0)) (script_is : script_of moments.before.yard.scripts number lane (Base 0) ≡ Some script) (no_gate : script.gate ≡ None)
     (stands : now (job_path task.request.name 1 (Base 0)) ≡ Some file)
-    (valid : IsFateOf (evidence_at (slice_get engines lane)) file (up_to script.stalls script.bytes) (take (most_bytes + 1) script.proof) (FoundFate answer)) where
+    (valid : IsFateOf judged.done.problem (Base 0) (evidence_at (slice_get engines lane)) file (up_to script.stalls script.bytes) (take (most_bytes + 1) script.proof) (FoundFate answer)) where
   jobs_are : jobs_in judged.done.problem ≡ Base 0 ∷ []
   jobs_are = ap (λ (q : ProblemOf). jobs_of_mode q.mode q.span judged.done.problem.design) judged.done.served.0.asked ∙ ap (λ m. jobs_of_mode m task.request.span judged.done.problem.design) bmc
       ∙ ap (λ n. map Base (range_with_len 0 n)) one
 
   own_file : IsJobFile judged.done.problem (Base 0) file
   own_file =
-      let put : ArePut judged.done.problem task.request.name (Base 0 ∷ []) moments.got.told (Some now) =
-      subst (λ t. ArePut judged.done.problem task.request.name (Base 0 ∷ []) moments.got.told t) judged.told
-      (subst (λ js. ArePut judged.done.problem task.request.name js moments.got.told moments.put.told) jobs_are judged.done.put) in
-      one_put_stands judged.done.problem task.request.name moments.got.told now file (ap (λ (q : ProblemOf). slices_of q.span) judged.done.served.0.asked ∙ one) put stands
+      let put : ArePut judged.done.problem task.request.name (files_from task.service 0 (Base 0 ∷ [])) moments.got.told (Some now) =
+      subst (λ t. ArePut judged.done.problem task.request.name (files_from task.service 0 (Base 0 ∷ [])) moments.got.told t) judged.told
+      (subst (λ js. ArePut judged.done.problem task.request.name (files_from task.service 0 js) moments.got.told moments.put.told) jobs_are judged.done.put) in
+      one_put_stands task.service judged.done.problem task.request.name moments.got.told now file (ap (λ (q : ProblemOf). slices_of q.span) judged.done.served.0.asked ∙ one) put stands
 
   own_child : (place : ℕ) (a : Answer) → slice_get (Some answer ∷ []) place ≡ Some (Some a) → IsValidChild moments.before.yard.scripts number lane engines judged.done.problem task.request.mode place a
   own_child zero a at =
       let first : name_at task.request.mode 0 ≡ Base 0 = ap (λ m. name_at m 0) bmc in
       let same : answer ≡ a = cc in
       record {
-        serving = serving;
+        serving = subst (λ j. IsServing (slice_get engines lane) j) (sym first) serving;
         script = script;
         script_is = subst (λ j. script_of moments.before.yard.scripts number lane j ≡ Some script) (sym first) script_is;
         ungated = no_gate;
         file = file;
         is_file = subst (λ j. IsJobFile judged.done.problem j file) (sym first) own_file;
-        valid = subst (λ x. IsFateOf (evidence_at (slice_get engines lane)) file (up_to script.stalls script.bytes) (take (most_bytes + 1) script.proof) (FoundFate x)) same valid;
+        valid = subst (λ j. IsFateOf judged.done.problem j (evidence_at (slice_get engines lane)) file (up_to script.stalls script.bytes) (take (most_bytes + 1) script.proof) (FoundFate a)) (sym first)
+            (subst (λ x. IsFateOf judged.done.problem (Base 0) (evidence_at (slice_get engines lane)) file (up_to script.stalls script.bytes) (take (most_bytes + 1) script.proof) (FoundFate x)) same valid);
       }
   own_child (suc place) a at = let no : ◌≡◌ {A = Option (Option Answer)} None (Some (Some a)) = at in cc
 

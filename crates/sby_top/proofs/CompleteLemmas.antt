@@ -1,5 +1,5 @@
 -- Lanes that nothing disturbed come to Plain's status.
-use Rattle.std.proofs.Common.{◌≡◌, ℕ, zero, suc, ◌<◌, List, [], ◌∷◌, refl, ap, sym, ◌∙◌, subst, inl, inr, ◌⊎◌, length, arith}
+use Rattle.std.proofs.Common.{◌≡◌, ℕ, ◌<◌, List, refl, ap, sym, ◌∙◌, subst, inl, inr, ◌⊎◌, length, arith}
 use Rattle.std.specs.Prelude.{Contains, IsSome, Option, Some, None, slice_get}
 use Rattle.sby_edge.specs.Cause.{CountsOf}
 use Rattle.sby_edge.specs.Child.{YardOf}
@@ -8,7 +8,7 @@ use Rattle.sby_edge.specs.Script.{ScriptOf}
 use Rattle.cert_judge.specs.Fate.{Fate, Found as FoundFate, Unknown as UnknownFate, Bad as BadFate}
 use Rattle.judge.specs.Finding.{FindingOf}
 use Rattle.judge.specs.Jobs.{jobs_in as jobs_of_mode}
-use Rattle.judge.specs.Problem.{AskedOf, IsJobFile}
+use Rattle.judge.specs.Problem.{IsJobFile}
 use Rattle.race_core.specs.Asking.{name_at}
 use Rattle.race_core.specs.Carrying.{Carries}
 use Rattle.race_core.specs.Collect.{SettledIn}
@@ -20,7 +20,6 @@ use Rattle.race_core.specs.declared.end.JobEnd.TheVariants.{Found, Unknown, NotS
 use Rattle.task_race.specs.Serving.{IsServing}
 use Rattle.sby_terms.specs.Problem.{ProblemOf}
 use Rattle.sby_terms.specs.declared.engine.Engine.{Engine}
-use Rattle.sby_terms.specs.declared.names.JobName.{JobName}
 use Rattle.sby_terms.specs.declared.names.Status.{Status}
 use Rattle.sby_lines.specs.Lines.{IsStatus}
 use Rattle.sby_lines.specs.Told.{AreReported, IsRaceStatus, job_of}
@@ -34,24 +33,19 @@ use Rattle.sby_top.specs.Claims.{IsJudgedAt}
 use Rattle.sby_top.specs.Complete.{ArePlain, IsByLook, IsPlainEnd, IsUndisturbed, IsVerdictStatus, PassesOn}
 use Rattle.sby_top.specs.Headline.{Exit, TaskRan, fate_answer, fate_event}
 use Rattle.sby_top.specs.Judged.{AreReports, racing_of}
-use Rattle.sby_top.specs.Served.{ArePut, jobs_in}
+use Rattle.sby_top.specs.Served.{jobs_in}
 use Rattle.sby_top.specs.Task.{Lanes, TaskOf}
 use Rattle.sby_top.specs.World.{Moments, race_of}
 use Rattle.sby_top.specs.declared.outcome.TaskEnd.{TaskEnd}
 use Rattle.sby_top.proofs.AnswerLemmas.{IsPlace, Spares, calling_spares, skipping_spares}
 use Rattle.sby_top.proofs.LookLemmas.{found_or_shown}
-use Rattle.sby_top.proofs.EvidenceLemmas.{FileLaws, answers_agree, judged_job, judged_says, plain_fate}
+use Rattle.sby_top.proofs.EvidenceLemmas.{FindingLaws, answers_agree, judged_job, judged_says, plain_fate}
 use Rattle.sby_top.proofs.MatchLemmas.{AreMatched, Matches, plain_or_look, plain_verdict}
 use Rattle.sby_top.proofs.OpenLemmas.{is_place}
 use Rattle.sby_top.proofs.PlainLemmas.{end_answer}
+use Rattle.sby_top.proofs.PutLemmas.{file_put}
 use Rattle.sby_top.proofs.ReportLemmas.{job_count as own_count, reported}
 use Rattle.sby_top.proofs.TruthLemmas.{own_design}
-
--- the file that was put for a job
-pub file_put : (p : AskedOf) (folder : List ℕ) (jobs : List JobName) (before after : Option Store) → ArePut p folder jobs before after → (k : ℕ) (job : JobName) → slice_get jobs k ≡ Some job → (file : List ℕ) × IsJobFile p job file
-file_put p folder [] before after put k job at = let none : None ≡ Some job = at in cc
-file_put p folder (j ∷ jobs) before after put zero job at = let same : j ≡ job = cc in (put.0, subst (λ x. IsJobFile p x put.0) same put.1)
-file_put p folder (j ∷ jobs) before after put (suc k) job at = file_put p folder jobs _ after put.2 k job at
 
 -- an end by a fate says what the fate says
 module _ (fate : Fate) where
@@ -66,7 +60,7 @@ module _ (fate : Fate) where
       let same : BadFate is.0 at ≡ fate = sym is.2 in
       subst (λ x. (end_answer (Bad number at) ≡ fate_answer (Some x)) × (told_by {T = FindingOf} (Bad number at) ≡ fate_event (Some x))) same (refl, refl)
 
-module _ (laws : FileLaws) (may_read : ℕ → Type 0) (number : ℕ) (moments : Moments) (task : TaskOf) (end : TaskEnd) (exit : Exit) (engines : List Engine) (now : Store)
+module _ (laws : FindingLaws) (may_read : ℕ → Type 0) (number : ℕ) (moments : Moments) (task : TaskOf) (end : TaskEnd) (exit : Exit) (engines : List Engine) (now : Store)
     (ran : TaskRan may_read number moments task end exit) (judged : IsJudgedAt may_read number moments task end now) (service : task.service ≡ Lanes engines)
     (calm : IsUndisturbed may_read number moments task end) (plain : List (ReportOf FindingOf)) (are_plain : ArePlain (racing_of task judged.done.problem number engines) moments.before.yard.scripts plain) where
   lanes_ran : LanesRan (racing_of task judged.done.problem number engines) moments.pool may_read moments.before.yard moments.after.yard end.start end.reports.items
@@ -85,7 +79,7 @@ module _ (laws : FileLaws) (may_read : ℕ → Type 0) (number : ℕ) (moments :
   module _ (lane k : ℕ) (lt : k < length (jobs_in judged.done.problem)) where
     own_file : (file : List ℕ) × IsJobFile judged.done.problem (name_at judged.done.problem.problem.mode k) file
     own_file =
-        file_put judged.done.problem task.request.name (jobs_in judged.done.problem) moments.got.told moments.put.told judged.done.put k (name_at judged.done.problem.problem.mode k)
+        file_put task.service judged.done.problem task.request.name moments.got.told moments.put.told judged.done.put k (name_at judged.done.problem.problem.mode k)
         (job_named judged.done.problem.problem.mode judged.done.problem.problem.span judged.done.problem.design k lt)
 
     place : IsPlace judged.done.problem.problem.mode k
@@ -113,7 +107,7 @@ module _ (laws : FileLaws) (may_read : ℕ → Type 0) (number : ℕ) (moments :
     by_fate r among fate MemoryEnd is counts own cause of = absurd (calm.lanes_memory r k among is)
 
     -- an end of a job that isn't served says so, or passes on a finding
-    unserved : (e : JobEnd FindingOf) → (IsServing (slice_get engines lane) → ⊥) → (r : ReportOf FindingOf) → Contains end.reports.items r → end_at r k ≡ e → (counts : CountsOf) → AreCountsOf number lane moments.before.yard moments.after.yard counts
+    unserved : (e : JobEnd FindingOf) → (IsServing (slice_get engines lane) (name_at judged.done.problem.problem.mode k) → ⊥) → (r : ReportOf FindingOf) → Contains end.reports.items r → end_at r k ≡ e → (counts : CountsOf) → AreCountsOf number lane moments.before.yard moments.after.yard counts
         → HasEndCause (racing_of task judged.done.problem number engines) may_read moments.before.yard.scripts counts end.start lane (name_at judged.done.problem.problem.mode k) e
         → ((end_answer NotServed ≡ end_answer e) × (told_by {T = FindingOf} NotServed ≡ told_by e)) ⊎ ((f : FindingOf) × PassesOn e f × Spares judged.done.problem.problem.mode k f.job f.answer)
     unserved NotServed apart r among is counts own cause = inl (refl, refl)
@@ -147,7 +141,7 @@ module _ (laws : FileLaws) (may_read : ℕ → Type 0) (number : ℕ) (moments :
           | inr served ↦
               let fate = served.1.0 in
               let of = end_of_fate (racing_of task judged.done.problem number engines) may_read moments.before.yard.scripts cause.0 end.start lane (name_at judged.done.problem.problem.mode k) script.0 file.0 fate
-              served.0 script.1 free file.1 served.1.1 (end_at r k) cause.2 in
+              served.0 script.1 free file.1 judged.done.served.0.problem served.1.1 (end_at r k) cause.2 in
               by_own fate (end_at q k) served.1.2 own (by_fate r among fate (end_at r k) refl cause.0 cause.1 cause.2 of)
         ]
       where
@@ -188,9 +182,9 @@ module _ (laws : FileLaws) (may_read : ℕ → Type 0) (number : ℕ) (moments :
     agrees q f g at_q is settled =
         let own = subst (λ (e : JobEnd FindingOf). IsPlainEnd (racing_of task judged.done.problem number engines) moments.before.yard.scripts lane (name_at judged.done.problem.problem.mode k) e) is ((are_plain.each lane q at_q).1 k lt) in
         let file = own_file in
-        let says = judged_says (racing_of task judged.done.problem number engines) moments.before.yard.scripts lane (name_at judged.done.problem.problem.mode k) f file.0 file.1.0 file.1 file.1.3 own in
+        let says = judged_says (racing_of task judged.done.problem number engines) judged.done.served.0.problem moments.before.yard.scripts lane (name_at judged.done.problem.problem.mode k) f file.0 file.1 own in
         let true_of = lanes_ran.are_true settled.0 g settled.1 settled.2 in
-        sym (answers_agree laws judged.done.problem (name_at judged.done.problem.problem.mode k) file.0 g judged.done.served.0.problem file.1 true_of.0 true_of.1 settled.3 f.answer says)
+        sym (answers_agree laws judged.done.problem (name_at judged.done.problem.problem.mode k) g judged.done.served.0.problem true_of.0 true_of.1 settled.3 f.answer says)
 
   -- ---- all of them
 

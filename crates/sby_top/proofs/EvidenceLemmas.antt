@@ -1,19 +1,19 @@
--- What is judged of a lane's child shows what the job's file is.
+-- What is judged of a lane's child tells whether the job can be solved.
 use Rattle.std.proofs.Common.{◌≡◌, ℕ, ◌+◌, List, refl, sym, subst, inl, inr, ◌⊎◌, take}
-use Rattle.std.specs.Prelude.{◌↔◌, IsSomeAnd, Option, Some, None, slice_get}
-use Rattle.cnf_form.specs.Cnf.{Assignment, FormulaOf, IsUnsatisfiable, Satisfies}
-use Rattle.cnf_form.specs.Dimacs.{IsDimacs}
+use Rattle.std.specs.Prelude.{true, IsSomeAnd, Option, Some, None, slice_get}
 use Rattle.design_core.specs.Shape.{DesignOf}
 use Rattle.design_reader.specs.Grammar.{Reads}
-use Rattle.job_terms.specs.Encoding.{CanBeSatisfied}
 use Rattle.sby_edge.specs.Child.{YardOf, up_to}
 use Rattle.sby_edge.specs.Script.{GateOf, ScriptOf}
 use Rattle.cert_judge.specs.Fate.{Fate, Found as FoundFate, Unknown as UnknownFate, Bad as BadFate}
-use Rattle.cert_judge.specs.declared.stream.StreamKind.{StreamKind}
-use Rattle.cert_judge.proofs.KindFates.{found_refuted, found_satisfied}
-use Rattle.cert_judge.specs.Kinds.{IsFate}
-use Rattle.cert_judge.proofs.OutputFates.{output_refuted, output_satisfied}
+use Rattle.cert_judge.specs.Output.{has_values, stream_of}
 use Rattle.cert_judge.specs.OutputFate.{IsOutputFate}
+use Rattle.cert_judge.specs.declared.stream.Kind.{Kind}
+use Rattle.cert_judge.specs.declared.stream.Kind.TheVariants.{Certificate}
+use Rattle.cert_judge.specs.declared.stream.StreamKind.TheVariants.{Drup}
+use Rattle.cert_judge.proofs.OutputFates.{own_same}
+use Rattle.judge.proofs.Streams.{found_sat, found_unsat}
+use Rattle.judge.specs.Fates.{IsFate}
 use Rattle.judge.specs.Finding.{FindingOf, IsTrueFinding}
 use Rattle.judge.specs.Jobs.{Solvable, span_of}
 use Rattle.judge.specs.Problem.{AskedOf, IsJobFile, IsProblem}
@@ -33,52 +33,50 @@ use Rattle.task_race.specs.Ends.{IsEndOfFate, IsFateOf, IsJudgedAs, IsProofOf, I
 use Rattle.task_race.specs.Ran.{RacingOf, evidence_in}
 use Rattle.sby_top.specs.Complete.{IsPlainEnd}
 
--- what an answer says of a formula
-abbrev pub Says : FormulaOf → Answer → Type 0
-Says f Sat = (x : Assignment) × Satisfies x f.clauses
-Says f Unsat = IsUnsatisfiable f.clauses
+-- what an answer says of a job
+abbrev pub Says : AskedOf → JobName → Answer → Type 0
+Says p job Sat = Solvable p.design job (span_of p.problem)
+Says p job Unsat = Solvable p.design job (span_of p.problem) → ⊥
 
-pub kind_says : (kind : StreamKind) (file stream : List ℕ) (most : ℕ) (f : FormulaOf) (a : Answer) → IsDimacs file f → IsFate kind file stream most (FoundFate a) → Says f a
-kind_says kind file stream most f Sat d fate = found_satisfied kind file stream most f d fate
-kind_says kind file stream most f Unsat d fate = found_refuted kind file stream most f d fate
+module _ (p : AskedOf) (problem : IsProblem p) (job : JobName) (file : List ℕ) (is_file : IsJobFile p job file) where
+  stream_says : (kind : Kind) (stream : List ℕ) (most : ℕ) (a : Answer) → IsFate p job kind file stream most (FoundFate a) → Says p job a
+  stream_says kind stream most Sat fate = found_sat p problem job kind file stream most is_file fate
+  stream_says kind stream most Unsat fate = found_unsat p problem job kind file stream most is_file fate
 
-output_says : (file output : List ℕ) (most : ℕ) (f : FormulaOf) (a : Answer) → IsDimacs file f → IsOutputFate file output most (Some (FoundFate a)) → Says f a
-output_says file output most f Sat d fate = output_satisfied file output most f d fate
-output_says file output most f Unsat d fate = output_refuted file output most f d fate
+  output_says : (output : List ℕ) (most : ℕ) (a : Answer) → IsOutputFate file output most (Some (FoundFate a)) → Says p job a
+  output_says output most a (x, fate, own) =
+      stream_says (Certificate Drup) (stream_of true output) most a
+      (subst (λ (y : Fate). IsFate p job (Certificate Drup) file (stream_of true output) most y) (own_same (has_values output) x (FoundFate a) own) fate)
 
-whole_says : (by : Evidence) (file output : List ℕ) (f : FormulaOf) (a : Answer) → IsDimacs file f → IsWhole by file output (Some (FoundFate a)) → Says f a
-whole_says (Output kind) file output f a d fate = kind_says kind file output most_bytes f a d fate
-whole_says (ProofFile kind) file output f a d fate = output_says file output most_bytes f a d fate
+  whole_says : (by : Evidence) (output : List ℕ) (a : Answer) → IsWhole p job by file output (Some (FoundFate a)) → Says p job a
+  whole_says (Output kind) output a fate = stream_says kind output most_bytes a fate
+  whole_says (ProofFile kind) output a fate = output_says output most_bytes a fate
 
-module _ (p : AskedOf) (job : JobName) (by : Evidence) (g : FindingOf) (file : List ℕ) (f : FormulaOf) (is_file : IsJobFile p job file) (d : IsDimacs file f) where
-  ends_say : (output : List ℕ) → Ends p job by output (judged.Found g) → Says f g.answer
-  ends_say output (fate, tells, is) = whole_says by file output f g.answer d (subst (λ (x : Option Fate). IsWhole by file output x) tells.0 (is file is_file))
+  ends_say : (by : Evidence) (g : FindingOf) (output : List ℕ) → Ends p job by output (judged.Found g) → Says p job g.answer
+  ends_say by g output (fate, tells, is) = whole_says by output g.answer (subst (λ (x : Option Fate). IsWhole p job by file output x) tells.0 (is file is_file))
 
-  proves_say : (proof : List ℕ) → Proves p job by proof (judged.Found g) → Says f g.answer
-  proves_say proof h = by_kind by h
-    where
-      by_kind : (b : Evidence) → Proves p job b proof (judged.Found g) → Says f g.answer
-      by_kind (Output kind) h = absurd h
-      by_kind (ProofFile kind) (fate, tells, is) =
-          let same : fate ≡ FoundFate g.answer = let e = tells.0 in cc in
-          kind_says kind file proof most_bytes f g.answer d (subst (λ (x : Fate). IsFate kind file proof most_bytes x) same (is file is_file))
+  proves_say : (by : Evidence) (g : FindingOf) (proof : List ℕ) → Proves p job by proof (judged.Found g) → Says p job g.answer
+  proves_say (Output kind) g proof h = absurd h
+  proves_say (ProofFile kind) g proof (fate, tells, is) =
+      let same : fate ≡ FoundFate g.answer = let e = tells.0 in cc in
+      stream_says (Certificate kind) proof most_bytes g.answer (subst (λ (x : Fate). IsFate p job (Certificate kind) file proof most_bytes x) same (is file is_file))
 
--- what is found of what a child leaves is for the job, and says what the job's file is
+  -- the fate of what a child leaves says what it finds
+  pub fate_says : (by : Evidence) (stream proof : List ℕ) (a : Answer) → IsFateOf p job by file stream proof (FoundFate a) → Says p job a
+  fate_says (Output kind) stream proof a fate = stream_says kind stream most_bytes a fate
+  fate_says (ProofFile kind) stream proof a (inl output) = output_says stream most_bytes a output
+  fate_says (ProofFile kind) stream proof a (inr (none, fate)) = stream_says (Certificate kind) proof most_bytes a fate
+
+-- what is found of what a child leaves is for the job, and is so
 pub judged_job : (racing : RacingOf) (told : Option YardOf) (lane : ℕ) (job : JobName) (g : FindingOf) → IsJudgedAs racing told lane job (judged.Found g) → g.job ≡ job
 judged_job racing told lane job g (served, (stream, of_script, inl ends)) = (for_law racing.problem job (evidence_in racing lane) stream g (inr (inl ends))).1
 judged_job racing told lane job g (served, (stream, of_script, inr (none, (proof, of_proof, proves)))) = (for_law racing.problem job (evidence_in racing lane) proof g (inr (inr proves))).1
 
-pub judged_says : (racing : RacingOf) (told : Option YardOf) (lane : ℕ) (job : JobName) (g : FindingOf) (file : List ℕ) (f : FormulaOf) → IsJobFile racing.problem job file → IsDimacs file f
-    → IsJudgedAs racing told lane job (judged.Found g) → Says f g.answer
-judged_says racing told lane job g file f is_file d (served, (stream, of_script, inl ends)) = ends_say racing.problem job (evidence_in racing lane) g file f is_file d stream ends
-judged_says racing told lane job g file f is_file d (served, (stream, of_script, inr (none, (proof, of_proof, proves)))) =
-    proves_say racing.problem job (evidence_in racing lane) g file f is_file d proof proves
-
--- and so does its fate
-pub fate_says : (by : Evidence) (file stream proof : List ℕ) (f : FormulaOf) (a : Answer) → IsDimacs file f → IsFateOf by file stream proof (FoundFate a) → Says f a
-fate_says (Output kind) file stream proof f a d fate = kind_says kind file stream most_bytes f a d fate
-fate_says (ProofFile kind) file stream proof f a d (inl output) = output_says file stream most_bytes f a d output
-fate_says (ProofFile kind) file stream proof f a d (inr (none, fate)) = kind_says kind file proof most_bytes f a d fate
+pub judged_says : (racing : RacingOf) → IsProblem racing.problem → (told : Option YardOf) (lane : ℕ) (job : JobName) (g : FindingOf) (file : List ℕ) → IsJobFile racing.problem job file
+    → IsJudgedAs racing told lane job (judged.Found g) → Says racing.problem job g.answer
+judged_says racing problem told lane job g file is_file (served, (stream, of_script, inl ends)) = ends_say racing.problem problem job file is_file (evidence_in racing lane) g stream ends
+judged_says racing problem told lane job g file is_file (served, (stream, of_script, inr (none, (proof, of_proof, proves)))) =
+    proves_say racing.problem problem job file is_file (evidence_in racing lane) g proof proves
 
 -- ---- what is judged of a script is its fate
 
@@ -90,26 +88,26 @@ none_told p job (judged.Bad number at) tells = let no : ◌≡◌ {A = Option Fa
 none_told p job judged.Failed tells = absurd tells
 none_told p job judged.Unjudged tells = absurd tells
 
-whole_left : (by : Evidence) (file stream proof : List ℕ) (fate : Fate) → IsWhole by file stream (Some fate) → IsFateOf by file stream proof fate
-whole_left (Output kind) file stream proof fate h = h
-whole_left (ProofFile kind) file stream proof fate h = inl h
+whole_left : (p : AskedOf) (job : JobName) (by : Evidence) (file stream proof : List ℕ) (fate : Fate) → IsWhole p job by file stream (Some fate) → IsFateOf p job by file stream proof fate
+whole_left p job (Output kind) file stream proof fate h = h
+whole_left p job (ProofFile kind) file stream proof fate h = inl h
 
 proof_left : (p : AskedOf) (job : JobName) (by : Evidence) (file stream proof : List ℕ) (said : Judged FindingOf) → IsJobFile p job file → Ends p job by stream judged.More → Proves p job by proof said
-    → (fate : Fate) × IsFateOf by file stream proof fate × Tells p.problem job said (Some fate)
+    → (fate : Fate) × IsFateOf p job by file stream proof fate × Tells p.problem job said (Some fate)
 proof_left p job (Output kind) file stream proof said is_file none proves = absurd proves
 proof_left p job (ProofFile kind) file stream proof said is_file (o, tells, is) (fate, says, are) =
     (fate, inr (subst (λ (x : Option Fate). IsOutputFate file stream most_bytes x) tells (is file is_file), are file is_file), says)
 
 stream_left : (p : AskedOf) (job : JobName) (by : Evidence) (file stream proof : List ℕ) (said : Judged FindingOf) → (said ≡ judged.More → ⊥) → IsJobFile p job file → Ends p job by stream said
-    → (fate : Fate) × IsFateOf by file stream proof fate × Tells p.problem job said (Some fate)
+    → (fate : Fate) × IsFateOf p job by file stream proof fate × Tells p.problem job said (Some fate)
 stream_left p job by file stream proof said some is_file (None, tells, is) = absurd (some (none_told p.problem job said tells))
-stream_left p job by file stream proof said some is_file (Some fate, tells, is) = (fate, whole_left by file stream proof fate (is file is_file), tells)
+stream_left p job by file stream proof said some is_file (Some fate, tells, is) = (fate, whole_left p job by file stream proof fate (is file is_file), tells)
 
 module _ (racing : RacingOf) (told : Option YardOf) (lane : ℕ) (job : JobName) (script : ScriptOf) (file : List ℕ) (script_is : script_of told racing.task lane job ≡ Some script) (no_gate : script.gate ≡ None)
     (is_file : IsJobFile racing.problem job file) where
   -- the fate of what it leaves
   abbrev pub IsLeft : Fate → Type 0
-  IsLeft fate = IsFateOf (evidence_in racing lane) file (up_to script.stalls script.bytes) (take (most_bytes + 1) script.proof) fate
+  IsLeft fate = IsFateOf racing.problem job (evidence_in racing lane) file (up_to script.stalls script.bytes) (take (most_bytes + 1) script.proof) fate
 
   one_stream : (stream : List ℕ) → IsStreamOf (Some script) stream → stream ≡ up_to script.stalls script.bytes
   one_stream stream (inl is) = is
@@ -131,7 +129,7 @@ module _ (racing : RacingOf) (told : Option YardOf) (lane : ℕ) (job : JobName)
       (subst (λ (s : List ℕ). Proves racing.problem job (evidence_in racing lane) s said) (own_proof proof of_proof) proves)
 
   -- Plain's end is by that fate
-  pub plain_fate : (e : JobEnd FindingOf) → IsPlainEnd racing told lane job e → ((e ≡ NotServed) × (IsServing (slice_get racing.engines lane) → ⊥)) ⊎ (IsServing (slice_get racing.engines lane) × ((fate : Fate) × IsLeft fate × IsEndOfFate fate e))
+  pub plain_fate : (e : JobEnd FindingOf) → IsPlainEnd racing told lane job e → ((e ≡ NotServed) × (IsServing (slice_get racing.engines lane) job → ⊥)) ⊎ (IsServing (slice_get racing.engines lane) job × ((fate : Fate) × IsLeft fate × IsEndOfFate fate e))
   plain_fate (Found f) h =
       let left = said_left (judged.Found f) (λ is. cc) h in
       let told_is = left.2.0 in
@@ -159,13 +157,11 @@ module _ (racing : RacingOf) (told : Option YardOf) (lane : ℕ) (job : JobName)
 -- ---- a true finding answers as what is judged does
 
 -- the laws of the judge
-pub record FileLaws : Type 0 where
-  pub solvable : (p : AskedOf) (job : JobName) (bytes : List ℕ) (f : FormulaOf) → IsProblem p → IsJobFile p job bytes → IsDimacs bytes f → CanBeSatisfied f ↔ Solvable p.design job (span_of p.problem)
+pub record FindingLaws : Type 0 where
   pub sat : (f : FindingOf) (d : DesignOf) → IsTrueFinding f → Reads f.problem.text d → f.answer ≡ Sat → Solvable d f.job (span_of f.problem)
   pub unsat : (f : FindingOf) (d : DesignOf) → IsTrueFinding f → Reads f.problem.text d → f.answer ≡ Unsat → Solvable d f.job (span_of f.problem) → ⊥
 
-module _ (laws : FileLaws) (p : AskedOf) (job : JobName) (file : List ℕ) (f : FindingOf) (problem : IsProblem p) (is_file : IsJobFile p job file) (is_true : IsTrueFinding f)
-    (same : f.problem ≡ p.problem) (of_job : f.job ≡ job) where
+module _ (laws : FindingLaws) (p : AskedOf) (job : JobName) (f : FindingOf) (problem : IsProblem p) (is_true : IsTrueFinding f) (same : f.problem ≡ p.problem) (of_job : f.job ≡ job) where
   own_reads : Reads f.problem.text p.design
   own_reads = subst (λ (q : ProblemOf). Reads q.text p.design) (sym same) problem.reads
 
@@ -175,13 +171,11 @@ module _ (laws : FileLaws) (p : AskedOf) (job : JobName) (file : List ℕ) (f : 
   as_job : Solvable p.design f.job (span_of f.problem) → Solvable p.design job (span_of p.problem)
   as_job s = subst (λ (q : ProblemOf). Solvable p.design job (span_of q)) same (subst (λ j. Solvable p.design j (span_of f.problem)) of_job s)
 
-  agree_by : (a b : Answer) → Says is_file.0 a → f.answer ≡ b → b ≡ a
+  agree_by : (a b : Answer) → Says p job a → f.answer ≡ b → b ≡ a
   agree_by Sat Sat says is = refl
   agree_by Unsat Unsat says is = refl
-  agree_by Sat Unsat says is = absurd (laws.unsat f p.design is_true own_reads is (as_finding ((laws.solvable p job file is_file.0 problem is_file is_file.3).0 says)))
-  agree_by Unsat Sat says is =
-      let can = (laws.solvable p job file is_file.0 problem is_file is_file.3).1 (as_job (laws.sat f p.design is_true own_reads is)) in
-      absurd (says can.0 can.1)
+  agree_by Sat Unsat says is = absurd (laws.unsat f p.design is_true own_reads is (as_finding says))
+  agree_by Unsat Sat says is = absurd (says (as_job (laws.sat f p.design is_true own_reads is)))
 
-  pub answers_agree : (a : Answer) → Says is_file.0 a → f.answer ≡ a
+  pub answers_agree : (a : Answer) → Says p job a → f.answer ≡ a
   answers_agree a says = agree_by a f.answer says refl

@@ -4,24 +4,20 @@ use Rattle.std.specs.Prelude.{◌≢◌, Bool, true, false, IsTrue, Option, Some
 use Rattle.std.proofs.lemmas.List.{append-nil, drop_all, length-take-le, take-append-drop}
 use Rattle.std.proofs.lemmas.Bool.{cases_lt}
 use Rattle.std.proofs.Math.Seq.{drop-append_seam}
-use Rattle.cnf_form.specs.Cnf.{Assignment}
-use Rattle.cnf_form.specs.Dimacs.{IsDimacs}
-use Rattle.cert_judge.proofs.KindFates.{within_most}
-use Rattle.cert_judge.specs.Kinds.{IsFate, IsFateSoFar}
 use Rattle.sby_edge.specs.Files.{PieceAt, PieceFrom, Store}
 use Rattle.cert_judge.specs.Fate.{Fate, Found as FoundFate, Unknown as UnknownFate, Bad as BadFate}
-use Rattle.cert_judge.specs.declared.stream.StreamKind.{StreamKind}
-use Rattle.judge.proofs.Problems.{one_formula}
+use Rattle.cert_judge.specs.declared.stream.Kind.{Kind}
+use Rattle.judge.proofs.StreamFates.{within_most}
+use Rattle.judge.specs.Answers.{Finds, fate_told, state_behind}
+use Rattle.judge.specs.Fates.{IsFate, IsFateSoFar, IsStreamsRun, Serves}
 use Rattle.judge.specs.Finding.{FindingOf}
 use Rattle.race_core.specs.declared.end.JobEnd.{JobEnd}
 use Rattle.race_core.specs.declared.end.JobEnd.TheVariants.{Memory}
-use Rattle.judge.specs.Judging.{Ends, Feeds, Finds, FindsRun, IsSameJudge, JudgeOf, Took, fate_told, state_behind}
-use Rattle.judge.specs.Played.{IsPlayed, IsStreamsRun}
+use Rattle.judge.specs.Judging.{Ends, Feeds, FindsRun, IsSameJudge, JudgeOf, Took}
 use Rattle.judge.specs.Problem.{AskedOf, IsJobFile}
 use Rattle.judge.specs.declared.judging.Progress.{Progress}
 use Rattle.judge.specs.declared.judging.Progress.TheVariants.{More, Done, Unknown as UnknownProgress}
 use Rattle.cert_judge.specs.declared.stream.BadCert.{BadCert}
-use Rattle.design_meaning.specs.Runs.{CycleOf}
 use Rattle.sby_terms.specs.declared.names.Answer.TheVariants.{Sat}
 use Rattle.sby_terms.specs.declared.names.JobName.{JobName}
 use Rattle.judge.specs.declared.judging.State.TheVariants.{Over}
@@ -29,13 +25,13 @@ use Rattle.sby_words.specs.Kinds.{IsKindNamed}
 use Rattle.sby_top.specs.Judged.{EndsWithRun, Has, IsEndOf, IsFateEnd, IsJudged}
 use Rattle.sby_top.specs.Steps.{end_of, IsTrueEnd, PathEnds, PieceEnds, StreamEnds}
 use Rattle.sby_top.specs.Served.{most_stream}
-use Rattle.sby_top.proofs.ValueLemmas.{values_stay}
+use Rattle.sby_top.proofs.ValueLemmas.{run_stays}
 
 -- ---- a judge's answers
 
 -- the law that fates stay
 abbrev pub Stay : Type 0
-Stay = (kind : StreamKind) (job bytes rest : List ℕ) (most : ℕ) (fate : Fate) → IsFateSoFar kind job bytes most (Some fate) → IsFate kind job (bytes ++ rest) most fate
+Stay = (p : AskedOf) (job : JobName) (kind : Kind) (file bytes rest : List ℕ) (most : ℕ) (fate : Fate) → IsFateSoFar p job kind file bytes most (Some fate) → IsFate p job kind file (bytes ++ rest) most fate
 
 -- the job of a judge has a file
 abbrev pub HasFile : JudgeOf → Type 0
@@ -56,23 +52,23 @@ pub goes_on : (j new : JudgeOf) (bytes : List ℕ) (r : Result Progress BadCert)
 goes_on j new bytes r file most none fed = (
   fed.same,
   fed.stands (fed.state ∙ ap state_behind (more_only r none)),
-  subst (λ n. length bytes ≤ n) most (within_most j.kind file.0 bytes j.most (subst (IsFateSoFar j.kind file.0 bytes j.most) none (fed.fate file.0 file.1))),
+  subst (λ n. length bytes ≤ n) most (within_most j.asked j.job j.kind file.0 bytes j.most (subst (IsFateSoFar j.asked j.job j.kind file.0 bytes j.most) none (fed.fate file.0 file.1))),
 )
 
 -- the end by the fate that a judge told
-end_by_fate : (kind : StreamKind) (file stream : List ℕ) (r : Result Progress BadCert) → MatchOption (fate_told r) ⊥ (IsFate kind file stream most_stream) → IsFateEnd kind file stream (end_of r)
-end_by_fate kind file stream (Ok More) h = absurd h
-end_by_fate kind file stream (Ok (Done f)) h = h
-end_by_fate kind file stream (Ok UnknownProgress) h = h
-end_by_fate kind file stream (Err bad) h = (bad.kind, refl, h)
+end_by_fate : (p : AskedOf) (job : JobName) (kind : Kind) (file stream : List ℕ) (r : Result Progress BadCert) → MatchOption (fate_told r) ⊥ (IsFate p job kind file stream most_stream) → IsFateEnd p job kind file stream (end_of r)
+end_by_fate p job kind file stream (Ok More) h = absurd h
+end_by_fate p job kind file stream (Ok (Done f)) h = h
+end_by_fate p job kind file stream (Ok UnknownProgress) h = h
+end_by_fate p job kind file stream (Err bad) h = (bad.kind, refl, h)
 
 -- a fate in the first bytes is the stream's
-told_fate : Stay → (kind : StreamKind) (file bytes rest : List ℕ) (most : ℕ) (r : Result Progress BadCert) → (fate_told r ≡ None → ⊥) → IsFateSoFar kind file bytes most (fate_told r)
-    → MatchOption (fate_told r) ⊥ (IsFate kind file (bytes ++ rest) most)
-told_fate stay kind file bytes rest most (Ok More) some h = absurd (some refl)
-told_fate stay kind file bytes rest most (Ok (Done f)) some h = stay kind file bytes rest most (FoundFate f.answer) h
-told_fate stay kind file bytes rest most (Ok UnknownProgress) some h = stay kind file bytes rest most UnknownFate h
-told_fate stay kind file bytes rest most (Err bad) some h = stay kind file bytes rest most (BadFate bad.kind bad.at) h
+told_fate : Stay → (p : AskedOf) (job : JobName) (kind : Kind) (file bytes rest : List ℕ) (most : ℕ) (r : Result Progress BadCert) → (fate_told r ≡ None → ⊥) → IsFateSoFar p job kind file bytes most (fate_told r)
+    → MatchOption (fate_told r) ⊥ (IsFate p job kind file (bytes ++ rest) most)
+told_fate stay p job kind file bytes rest most (Ok More) some h = absurd (some refl)
+told_fate stay p job kind file bytes rest most (Ok (Done f)) some h = stay p job kind file bytes rest most (FoundFate f.answer) h
+told_fate stay p job kind file bytes rest most (Ok UnknownProgress) some h = stay p job kind file bytes rest most UnknownFate h
+told_fate stay p job kind file bytes rest most (Err bad) some h = stay p job kind file bytes rest most (BadFate bad.kind bad.at) h
 
 end_kind : (j : JudgeOf) (r : Result Progress BadCert) → Finds j.asked j.job r → IsTrueEnd (end_of r) → IsEndOf j.asked j.job (end_of r)
 end_kind j (Ok More) finds holds = tt
@@ -80,20 +76,12 @@ end_kind j (Ok (Done f)) finds holds = record { problem = finds.0; of_job = find
 end_kind j (Ok UnknownProgress) finds holds = tt
 end_kind j (Err bad) finds holds = tt
 
--- a run that is played from the values of the first bytes is the stream's
-run_stays : (p : AskedOf) (job : JobName) (kind : StreamKind) (bytes rest file : List ℕ) (most : ℕ) (run : List CycleOf) → IsJobFile p job file → IsFateSoFar kind file bytes most (Some (FoundFate Sat))
-    → IsStreamsRun p job kind false bytes most run → IsStreamsRun p job kind false (bytes ++ rest) most run
-run_stays p job kind bytes rest file most run is fate h =
-    let same : is.0 ≡ h.0.formula = one_formula p job is.0 h.0.formula is.1 (h.0, h.1, refl) in
-    let own : IsDimacs file h.0.formula = subst (IsDimacs file) same is.3 in
-    (h.0, h.1, subst (λ (x : Assignment). IsPlayed p h.0 x run) (values_stay kind file bytes rest most h.0.formula own fate) h.2)
-
-fed_run : (j : JudgeOf) (bytes rest : List ℕ) (r : Result Progress BadCert) → HasFile j → j.most ≡ most_stream → ((file : List ℕ) → IsJobFile j.asked j.job file → IsFateSoFar j.kind file bytes j.most (fate_told r))
+fed_run : (j : JudgeOf) (bytes rest : List ℕ) (r : Result Progress BadCert) → HasFile j → j.most ≡ most_stream → ((file : List ℕ) → IsJobFile j.asked j.job file → IsFateSoFar j.asked j.job j.kind file bytes j.most (fate_told r))
     → FindsRun j false bytes r → EndsWithRun j.asked j.job j.kind (bytes ++ rest) (end_of r)
 fed_run j bytes rest (Ok More) file most fate found = tt
 fed_run j bytes rest (Ok (Done f)) file most fate found = λ sat step.
     let h = found sat step in
-    let own : IsFateSoFar j.kind file.0 bytes j.most (Some (FoundFate Sat)) = subst (λ answer. IsFateSoFar j.kind file.0 bytes j.most (Some (FoundFate answer))) sat (fate file.0 file.1) in
+    let own : IsFateSoFar j.asked j.job j.kind file.0 bytes j.most (Some (FoundFate Sat)) = subst (λ answer. IsFateSoFar j.asked j.job j.kind file.0 bytes j.most (Some (FoundFate answer))) sat (fate file.0 file.1) in
     let run : IsStreamsRun j.asked j.job j.kind false (bytes ++ rest) j.most h.0 = run_stays j.asked j.job j.kind bytes rest file.0 j.most h.0 file.1 own h.2 in
     (false, h.0, h.1, subst (λ m. IsStreamsRun j.asked j.job j.kind false (bytes ++ rest) m h.0) most run)
 fed_run j bytes rest (Ok UnknownProgress) file most fate found = tt
@@ -103,8 +91,8 @@ fed_end : Stay → (j new : JudgeOf) (bytes rest : List ℕ) (r : Result Progres
     → StreamEnds j (bytes ++ rest) (end_of r)
 fed_end stay j new bytes rest r file most some holds fed = record {
   of = end_kind j r fed.finds holds;
-  fate = λ own is. end_by_fate j.kind own (bytes ++ rest) r
-      (subst (λ m. MatchOption (fate_told r) ⊥ (IsFate j.kind own (bytes ++ rest) m)) most (told_fate stay j.kind own bytes rest j.most r some (fed.fate own is)));
+  fate = λ own is. end_by_fate j.asked j.job j.kind own (bytes ++ rest) r
+      (subst (λ m. MatchOption (fate_told r) ⊥ (IsFate j.asked j.job j.kind own (bytes ++ rest) m)) most (told_fate stay j.asked j.job j.kind own bytes rest j.most r some (fed.fate own is)));
   run = fed_run j bytes rest r file most fed.fate fed.run;
 }
 
@@ -125,7 +113,7 @@ ended_run j bytes (Err bad) most found = tt
 pub stream_ended : (j new : JudgeOf) (bytes : List ℕ) (r : Result Progress BadCert) (end : JobEnd FindingOf) → j.most ≡ most_stream → end ≡ end_of r → IsTrueEnd end → Ends j new bytes r → StreamEnds j bytes end
 stream_ended j new bytes r end most is holds ended = rw is (record {
   of = end_kind j r ended.finds (subst IsTrueEnd is holds);
-  fate = λ file own. end_by_fate j.kind file bytes r (subst (λ m. MatchOption (fate_told r) ⊥ (IsFate j.kind file bytes m)) most (ended.fate file own));
+  fate = λ file own. end_by_fate j.asked j.job j.kind file bytes r (subst (λ m. MatchOption (fate_told r) ⊥ (IsFate j.asked j.job j.kind file bytes m)) most (ended.fate file own));
   run = ended_run j bytes r most ended.run;
 })
 
@@ -195,7 +183,7 @@ path_ends : (told : Option Store) (path before piece : List ℕ) (most : ℕ) (j
     → ((rest : List ℕ) → (length piece < most → rest ≡ []) → StreamEnds j (before ++ piece ++ rest) end) → PathEnds j told path end
 path_ends told path before piece most j end is each = record {
   of = (each [] (λ short. refl)).of;
-  fate = λ file own. has_next told path before piece most (λ stream. IsFateEnd j.kind file stream end) is (λ rest last. (each rest last).fate file own);
+  fate = λ file own. has_next told path before piece most (λ stream. IsFateEnd j.asked j.job j.kind file stream end) is (λ rest last. (each rest last).fate file own);
   run = has_next told path before piece most (λ stream. EndsWithRun j.asked j.job j.kind stream end) is (λ rest last. (each rest last).run);
 }
 
@@ -219,24 +207,25 @@ same_judge told path j mid end same ends = record {
   of = rw (← same.0, ← same.1) ends.of;
   fate = λ file is.
       let its : IsJobFile mid.asked j.job file = subst (λ (a : AskedOf). IsJobFile a j.job file) (sym same.0) is in
-      rw (← same.3) (ends.fate file (subst (λ (k : JobName). IsJobFile mid.asked k file) (sym same.1) its));
+      rw (← same.0, ← same.1, ← same.3) (ends.fate file (subst (λ (k : JobName). IsJobFile mid.asked k file) (sym same.1) its));
   run = rw (← same.0, ← same.1, ← same.3) ends.run;
 }
 
 -- memory ran out for the judge of a stream of which a piece was got
-pub wanting_at : (p : AskedOf) (told : Option Store) (job : JobName) (path piece : List ℕ) (most : ℕ) (kind : StreamKind) → IsKindNamed path kind → PieceFrom told path 0 most piece → IsJudged p told job path Memory
-wanting_at p told job path piece most kind named got =
+pub wanting_at : (p : AskedOf) (told : Option Store) (job : JobName) (path piece : List ℕ) (most : ℕ) (kind : Kind) → IsKindNamed path kind → Serves kind job → PieceFrom told path 0 most piece → IsJudged p told job path Memory
+wanting_at p told job path piece most kind named serves got =
     let is = first_next told path piece most got in
     record {
       kind = kind;
       named = named;
+      serves = serves;
       of = tt;
-      fate = λ file own. has_next told path [] piece most (λ stream. IsFateEnd kind file stream Memory) is (λ rest last. tt);
+      fate = λ file own. has_next told path [] piece most (λ stream. IsFateEnd p job kind file stream Memory) is (λ rest last. tt);
       run = has_next told path [] piece most (λ stream. EndsWithRun p job kind stream Memory) is (λ rest last. tt);
     }
 
 -- the stream was judged
-pub path_judged : (p : AskedOf) (told : Option Store) (job : JobName) (path : List ℕ) (kind : StreamKind) (j : JudgeOf) (end : JobEnd FindingOf) → IsKindNamed path kind → j.asked ≡ p → j.job ≡ job → j.kind ≡ kind
+pub path_judged : (p : AskedOf) (told : Option Store) (job : JobName) (path : List ℕ) (kind : Kind) (j : JudgeOf) (end : JobEnd FindingOf) → IsKindNamed path kind → Serves kind job → j.asked ≡ p → j.job ≡ job → j.kind ≡ kind
     → PathEnds j told path end → IsJudged p told job path end
-path_judged p told job path kind j end named asked is_job is_kind ends =
-    rw (← asked, ← is_job) (record { kind = j.kind; named = rw is_kind named; of = ends.of; fate = ends.fate; run = ends.run })
+path_judged p told job path kind j end named serves asked is_job is_kind ends =
+    rw (← asked, ← is_job) (record { kind = j.kind; named = rw is_kind named; serves = rw (is_kind, is_job) serves; of = ends.of; fate = ends.fate; run = ends.run })

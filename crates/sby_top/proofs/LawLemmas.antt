@@ -1,16 +1,16 @@
 -- What `--judge` makes of stored certificates.
-use Rattle.std.proofs.Common.{◌≡◌, ◌≢◌, ℕ, ◌+◌, ◌≤◌, true, List, [], ◌∷◌, refl, ap, sym, ◌∙◌, subst, inl, inr, ◌⊎◌, length, take, arith}
-use Rattle.std.specs.Prelude.{Option, Some, None, map, option_map}
+use Rattle.std.proofs.Common.{◌≡◌, ◌≢◌, ℕ, ◌+◌, ◌≤◌, true, List, [], ◌∷◌, refl, ap, sym, ◌∙◌, subst, inl, inr, ◌⊎◌, length, take, arith, Bool, false, ◌++◌}
+use Rattle.std.specs.Prelude.{Option, Some, None, map, option_map, cond}
 use Rattle.std.specs.Str.{bytes_eq}
 use Rattle.std.proofs.lemmas.Slice.Eq.{bytes_eq-Decides}
 use Rattle.cnf_form.proofs.Members.{Contains-head, Contains-one}
 use Rattle.sby_edge.specs.Files.{Store, put_at}
-use Rattle.cert_judge.specs.Kinds.{IsFate}
 use Rattle.cert_judge.specs.Fate.{Fate, Found}
-use Rattle.cert_judge.specs.declared.stream.StreamKind.{StreamKind}
+use Rattle.cert_judge.specs.declared.stream.Kind.{Kind}
+use Rattle.judge.specs.Fates.{IsFate, Serves}
 use Rattle.judge.specs.Fault.{IsProblemFault}
 use Rattle.judge.specs.Jobs.{jobs_in as jobs_of_mode}
-use Rattle.judge.specs.Problem.{AskedOf, IsJobFile}
+use Rattle.judge.specs.Problem.{AskedOf, IsJobFile, IsProblem}
 use Rattle.judge.specs.declared.problem.ProblemFault.{ProblemFault}
 use Rattle.design_core.specs.Shape.{DesignOf}
 use Rattle.design_reader.specs.Grammar.{Reads}
@@ -38,19 +38,23 @@ use Rattle.sby_words.specs.Requests.{JudgeRequest}
 use Rattle.sby_top.specs.Claims.{IsJudgedAt, status_for}
 use Rattle.sby_top.specs.Causes.{IsOutcome}
 use Rattle.sby_top.specs.Headline.{AreFates, AreWhole, Exit, IsDecided, IsFateStatus, IsServedStatus, IsSmooth, TaskRan, WasStopped, fate_answer}
-use Rattle.sby_top.specs.Served.{ArePut, IsAccepted, IsTextOf, jobs_in, most_design, most_stream, slices_in}
+use Rattle.sby_top.specs.Served.{ArePut, IsAccepted, IsTextOf, jobs_in, most_design, most_stream, slices_in, Btor, Formula, files_from, files_in, takes_witness}
 use Rattle.sby_top.specs.Task.{DesignAt, Given, Lanes, Service, Stored, Streams, TaskOf, problem_of, streams_in}
 use Rattle.sby_top.specs.Turns.{judge_task}
 use Rattle.sby_top.specs.World.{Moments, race_of}
 use Rattle.sby_top.specs.declared.outcome.TaskEnd.{TaskEnd}
 use Rattle.sby_top.proofs.FailLemmas.{fail_status}
 use Rattle.sby_top.proofs.KindLemmas.{one_kind}
-use Rattle.sby_top.proofs.PlainLemmas.{done_gives, put_told}
+use Rattle.sby_top.proofs.PlainLemmas.{done_gives}
 use Rattle.sby_top.proofs.ReportLemmas.{job_count}
+use Rattle.sby_top.proofs.PutLemmas.{put_told}
+use Rattle.cert_judge.specs.declared.stream.Kind.TheVariants.{Certificate, Witness}
+use Rattle.task_race.specs.Words.{btor_path}
+use Rattle.sby_top.proofs.PathLemmas.{btor_apart}
 
 -- the judge's laws
 abbrev pub OneFate : Type 0
-OneFate = (kind : StreamKind) (job stream : List ℕ) (most : ℕ) (x y : Fate) → IsFate kind job stream most x → IsFate kind job stream most y → x ≡ y
+OneFate = (p : AskedOf) (job : JobName) (kind : Kind) (file stream : List ℕ) (most : ℕ) (x y : Fate) → IsProblem p → IsFate p job kind file stream most x → IsFate p job kind file stream most y → x ≡ y
 
 abbrev pub OneFile : Type 0
 OneFile = (p : AskedOf) (job : JobName) (a b : List ℕ) → IsJobFile p job a → IsJobFile p job b → a ≡ b
@@ -95,31 +99,56 @@ put_one_stands path bytes file (Some store) now put stands =
     let is : now ≡ put_at path bytes store = cc in
     one_some (now path) bytes file (ap (λ (s : Store). s path) is ∙ put_stands path bytes store) stands
 
-pub one_put_stands : (p : AskedOf) (folder : List ℕ) (told : Option Store) (now : Store) (file : List ℕ) → slices_in p ≡ 1 → ArePut p folder (Base 0 ∷ []) told (Some now) → now (job_path folder 1 (Base 0)) ≡ Some file → IsJobFile p (Base 0) file
-one_put_stands p folder told now file one put stands =
+-- where lines were put at another path, too
+put_two_stands : (path other bytes lines file : List ℕ) (told : Option Store) (now : Store) → (other ≡ path → ⊥) → Some now ≡ option_map (put_at other lines) (option_map (put_at path bytes) told) → now path ≡ Some file → bytes ≡ file
+put_two_stands path other bytes lines file None now apart put stands = cc
+put_two_stands path other bytes lines file (Some store) now apart put stands =
+    let is : now ≡ put_at other lines (put_at path bytes store) = cc in
+    one_some (now path) bytes file (ap (λ (s : Store). s path) is ∙ (put_past other path lines (put_at path bytes store) (bytes_eq other path) refl apart ∙ put_stands path bytes store)) stands
+  where
+    put_past : (other path lines : List ℕ) (store : Store) (same : Bool) → bytes_eq other path ≡ same → (other ≡ path → ⊥) → put_at other lines store path ≡ store path
+    put_past other path lines store false is apart = rw is refl
+    put_past other path lines store true is apart = absurd (apart ((bytes_eq-Decides other path).0 is))
+
+put_stood : (p : AskedOf) (folder : List ℕ) (told : Option Store) (now : Store) (file : List ℕ) (lines : Bool) → now (job_path folder (slices_in p) (Base 0)) ≡ Some file
+    → ArePut p folder (Formula (Base 0) ∷ (cond lines (Btor (Base 0) ∷ []) [] ++ [])) told (Some now) → IsJobFile p (Base 0) file
+put_stood p folder told now file false stands put = subst (IsJobFile p (Base 0)) (put_one_stands (job_path folder (slices_in p) (Base 0)) put.0 file told now put.2 stands) put.1
+put_stood p folder told now file true stands put =
+    subst (IsJobFile p (Base 0))
+    (put_two_stands (job_path folder (slices_in p) (Base 0)) (btor_path folder (slices_in p) (Base 0)) put.0 put.2.0 file told now (btor_apart folder (slices_in p) (Base 0) (Base 0)) put.2.2 stands) put.1
+
+pub one_put_stands : (service : Service) (p : AskedOf) (folder : List ℕ) (told : Option Store) (now : Store) (file : List ℕ) → slices_in p ≡ 1 → ArePut p folder (files_from service 0 (Base 0 ∷ [])) told (Some now)
+    → now (job_path folder 1 (Base 0)) ≡ Some file → IsJobFile p (Base 0) file
+one_put_stands service p folder told now file one put stands =
     let there : now (job_path folder (slices_in p) (Base 0)) ≡ Some file = subst (λ n. now (job_path folder n (Base 0)) ≡ Some file) (sym one) stands in
-    subst (IsJobFile p (Base 0)) (put_one_stands (job_path folder (slices_in p) (Base 0)) put.0 file told now put.2 there) put.1
+    put_stood p folder told now file (takes_witness service 0) there put
 
 -- ---- the fate of the one stream
 
-fate_is_found : OneFate → OneFile → (p : AskedOf) (now : Store) (path : List ℕ) (kind : StreamKind) (stream file : List ℕ) (answer : Answer) (fates : List (Option Fate)) → IsJobFile p (Base 0) file
-    → IsKindNamed path kind → now path ≡ Some stream → IsFate kind file stream most_stream (Found answer) → AreFates p now (Base 0 ∷ []) (path ∷ []) fates
-    → AreWhole (path ∷ []) fates ⊎ IsDecided Bmc (map fate_answer fates) → fates ≡ Some (Found answer) ∷ []
-fate_is_found one_fate one_file p now path kind stream file answer [] own named has valid fates_are whole = absurd fates_are
-fate_is_found one_fate one_file p now path kind stream file answer (None ∷ fates) own named has valid fates_are whole = elim whole [
-  | inl all ↦ absurd all
+-- streams of each kind are judged for a job that asks for a run from the start
+start_serves : (kind : Kind) → Serves kind (Base 0)
+start_serves (Certificate kind) = tt
+start_serves Witness = tt
+
+fate_is_found : OneFate → OneFile → (p : AskedOf) → IsProblem p → (now : Store) (path : List ℕ) (kind : Kind) (stream file : List ℕ) (answer : Answer) (fates : List (Option Fate)) → IsJobFile p (Base 0) file
+    → IsKindNamed path kind → now path ≡ Some stream → IsFate p (Base 0) kind file stream most_stream (Found answer) → AreFates p now (Base 0 ∷ []) (path ∷ []) fates
+    → AreWhole (Base 0 ∷ []) (path ∷ []) fates ⊎ IsDecided Bmc (map fate_answer fates) → fates ≡ Some (Found answer) ∷ []
+fate_is_found one_fate one_file p problem now path kind stream file answer [] own named has valid fates_are whole = absurd fates_are
+fate_is_found one_fate one_file p problem now path kind stream file answer (None ∷ fates) own named has valid fates_are whole = elim whole [
+  | inl all ↦ absurd (all.0.2 (subst (λ (k : Kind). Serves k (Base 0)) (one_kind path kind all.0.0 named all.0.1) (start_serves kind)))
   | inr decided ↦
       let none : fates ≡ [] = fates_are in
       absurd (nothing_decides decided.0 (subst (λ fs. Decides Bmc (None ∷ map fate_answer fs) decided.0) none decided.1))
 ]
-fate_is_found one_fate one_file p now path kind stream file answer (Some fate ∷ fates) own named has valid fates_are whole =
+fate_is_found one_fate one_file p problem now path kind stream file answer (Some fate ∷ fates) own named has valid fates_are whole =
     let told = fates_are.0 in
     let same_kind : told.0 ≡ kind = one_kind path told.0 kind told.3 named in
     let same_stream : told.1 ≡ stream = one_some (now path) told.1 stream told.4 has in
     let same_file : told.2 ≡ file = one_file p (Base 0) told.2 file told.5 own in
-    let here : IsFate kind file stream most_stream fate =
-    subst (λ k. IsFate k file stream most_stream fate) same_kind (subst (λ s. IsFate told.0 file s most_stream fate) same_stream (subst (λ f. IsFate told.0 f told.1 most_stream fate) same_file told.6)) in
-    let is : fate ≡ Found answer = one_fate kind file stream most_stream fate (Found answer) here valid in
+    let here : IsFate p (Base 0) kind file stream most_stream fate =
+    subst (λ k. IsFate p (Base 0) k file stream most_stream fate) same_kind
+    (subst (λ s. IsFate p (Base 0) told.0 file s most_stream fate) same_stream (subst (λ f. IsFate p (Base 0) told.0 f told.1 most_stream fate) same_file told.6)) in
+    let is : fate ≡ Found answer = one_fate p (Base 0) kind file stream most_stream fate (Found answer) problem here valid in
     let none : fates ≡ [] = fates_are.1 in
     ap (λ f. Some f ∷ fates) is ∙ ap (λ fs. Some (Found answer) ∷ fs) none
 
@@ -132,26 +161,29 @@ one_slice : (told : Option Store) (j : JudgeRequest) (p : AskedOf) → IsAccepte
 one_slice told j p accepted = ap (λ (q : ProblemOf). slices_of q.span) accepted.asked
 
 -- a task that was judged has the verdict of its one certificate
-race_gives : OneFate → OneFile → (may_read : ℕ → Type 0) (number : ℕ) (moments : Moments) (j : JudgeRequest) (end : TaskEnd) (now : Store) (d : DesignOf) (path : List ℕ) (kind : StreamKind) (stream file : List ℕ) (answer : Answer)
+race_gives : OneFate → OneFile → (may_read : ℕ → Type 0) (number : ℕ) (moments : Moments) (j : JudgeRequest) (end : TaskEnd) (now : Store) (d : DesignOf) (path : List ℕ) (kind : Kind) (stream file : List ℕ) (answer : Answer)
     → (judged : IsJudgedAt may_read number moments (judge_task j) end now) → Reads end.text d → IsRaceStatus (judge_task j).request (record { design = d; reports = end.reports.items; start = end.start }) end.status → j.mode ≡ Bmc → end.status ≢ Memory
-    → j.streams ≡ path ∷ [] → IsKindNamed path kind → now path ≡ Some stream → now (job_path j.folder 1 (Base 0)) ≡ Some file → IsFate kind file stream most_stream (Found answer) → end.status ≡ status_for answer
+    → j.streams ≡ path ∷ [] → IsKindNamed path kind → now path ≡ Some stream → now (job_path j.folder 1 (Base 0)) ≡ Some file → IsFate judged.done.problem (Base 0) kind file stream most_stream (Found answer) → end.status ≡ status_for answer
 race_gives one_fate one_file may_read number moments j end now d path kind stream file answer judged reads race bmc apart streams named has stands valid =
     let jobs = one_job moments.got.told j judged.done.problem judged.done.served.0 bmc in
-    let put : ArePut judged.done.problem j.folder (Base 0 ∷ []) moments.got.told (Some now) =
-    subst (λ t. ArePut judged.done.problem j.folder (Base 0 ∷ []) moments.got.told t) judged.told (subst (λ js. ArePut judged.done.problem j.folder js moments.got.told moments.put.told) jobs judged.done.put) in
-    let own = one_put_stands judged.done.problem j.folder moments.got.told now file (one_slice moments.got.told j judged.done.problem judged.done.served.0) put stands in
+    let put : ArePut judged.done.problem j.folder (files_from (judge_task j).service 0 (Base 0 ∷ [])) moments.got.told (Some now) =
+    subst (λ t. ArePut judged.done.problem j.folder (files_from (judge_task j).service 0 (Base 0 ∷ [])) moments.got.told t) judged.told
+    (subst (λ js. ArePut judged.done.problem j.folder (files_from (judge_task j).service 0 js) moments.got.told moments.put.told) jobs judged.done.put) in
+    let own = one_put_stands (judge_task j).service judged.done.problem j.folder moments.got.told now file (one_slice moments.got.told j judged.done.problem judged.done.served.0) put stands in
     let gives = done_gives may_read (judge_task j) moments.got moments.put (race_of number moments.pool moments.before moments.after end.start) now end.text end.reports.items d end.start end.status j.streams refl judged.told apart reads race judged.done in
     let fates : AreFates judged.done.problem now (Base 0 ∷ []) (path ∷ []) gives.fates =
     subst (λ js. AreFates judged.done.problem now js (path ∷ []) gives.fates) jobs (subst (λ ps. AreFates judged.done.problem now (jobs_in judged.done.problem) ps gives.fates) streams gives.are) in
-    let whole : AreWhole (path ∷ []) gives.fates ⊎ IsDecided Bmc (map fate_answer gives.fates) =
-    subst (λ m. AreWhole (path ∷ []) gives.fates ⊎ IsDecided m (map fate_answer gives.fates)) bmc (subst (λ ps. AreWhole ps gives.fates ⊎ IsDecided j.mode (map fate_answer gives.fates)) streams gives.give.0) in
-    let found = fate_is_found one_fate one_file judged.done.problem now path kind stream file answer gives.fates own named has valid fates whole in
+    let whole : AreWhole (Base 0 ∷ []) (path ∷ []) gives.fates ⊎ IsDecided Bmc (map fate_answer gives.fates) =
+    subst (λ m. AreWhole (Base 0 ∷ []) (path ∷ []) gives.fates ⊎ IsDecided m (map fate_answer gives.fates)) bmc
+    (subst (λ js. AreWhole js (path ∷ []) gives.fates ⊎ IsDecided j.mode (map fate_answer gives.fates)) jobs
+    (subst (λ ps. AreWhole (jobs_in judged.done.problem) ps gives.fates ⊎ IsDecided j.mode (map fate_answer gives.fates)) streams gives.give.0)) in
+    let found = fate_is_found one_fate one_file judged.done.problem judged.done.served.0.problem now path kind stream file answer gives.fates own named has valid fates whole in
     let s : IsFateStatus Bmc (Some (Found answer) ∷ []) end.status = subst (λ fs. IsFateStatus Bmc fs end.status) found (subst (λ m. IsFateStatus m gives.fates end.status) bmc gives.give.1) in
     answer_gives answer s.0 _ end.status s.1 s.2
 
-pub certificate_gives : OneFate → OneFile → (may_read : ℕ → Type 0) (number : ℕ) (moments : Moments) (j : JudgeRequest) (end : TaskEnd) (exit : Exit) (now : Store) (path : List ℕ) (kind : StreamKind) (stream file : List ℕ) (answer : Answer) → TaskRan may_read number moments (judge_task j) end exit
-    → IsJudgedAt may_read number moments (judge_task j) end now → j.mode ≡ Bmc → end.status ≢ Memory → j.streams ≡ path ∷ [] → IsKindNamed path kind → now path ≡ Some stream
-    → now (job_path j.folder 1 (Base 0)) ≡ Some file → IsFate kind file stream most_stream (Found answer) → end.status ≡ status_for answer
+pub certificate_gives : OneFate → OneFile → (may_read : ℕ → Type 0) (number : ℕ) (moments : Moments) (j : JudgeRequest) (end : TaskEnd) (exit : Exit) (now : Store) (path : List ℕ) (kind : Kind) (stream file : List ℕ) (answer : Answer) → TaskRan may_read number moments (judge_task j) end exit
+    → (judged : IsJudgedAt may_read number moments (judge_task j) end now) → j.mode ≡ Bmc → end.status ≢ Memory → j.streams ≡ path ∷ [] → IsKindNamed path kind → now path ≡ Some stream
+    → now (job_path j.folder 1 (Base 0)) ≡ Some file → IsFate judged.done.problem (Base 0) kind file stream most_stream (Found answer) → end.status ≡ status_for answer
 certificate_gives one_fate one_file may_read number moments j end exit now path kind stream file answer ran judged bmc apart streams named has stands valid = elim ran.named.status [
   | inl own ↦
       race_gives one_fate one_file may_read number moments j end now own.0 path kind stream file answer judged (own.1 judged.early)
@@ -163,7 +195,7 @@ certificate_gives one_fate one_file may_read number moments j end exit now path 
 pub judged_at : (may_read : ℕ → Type 0) (number : ℕ) (moments : Moments) (task : TaskOf) (end : TaskEnd) (exit : Exit) (store : Store) → TaskRan may_read number moments task end exit → moments.got.told ≡ Some store → end.early ≡ None → (now : Store) × IsJudgedAt may_read number moments task end now
 judged_at may_read number moments task end exit store ran told early =
     let came = subst (λ e. IsOutcome may_read task moments (race_of number moments.pool moments.before moments.after end.start) e end.text end.reports.items end.unput.items (WasStopped moments end)) early ran.named.cause in
-    let now = put_told came.0.problem task.request.name (jobs_in came.0.problem) moments.got.told moments.put.told store told came.0.put in
+    let now = put_told came.0.problem task.request.name (files_in task.service came.0.problem) moments.got.told moments.put.told store told came.0.put in
     (now.0, record { early = early; done = came.0; traced = came.1; told = now.1 })
 
 -- ---- designs that aren't refused

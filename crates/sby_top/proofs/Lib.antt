@@ -40,3 +40,4 @@ pub mod TraceLemmas
 pub mod TruthLemmas
 pub mod TurnLemmas
 pub mod ValueLemmas
+pub mod PutLemmas

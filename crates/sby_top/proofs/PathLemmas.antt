@@ -1,4 +1,4 @@
--- The paths of jobs' files differ as the jobs do.
+-- The paths of jobs' files differ as the files do.
 use Rattle.std.proofs.Common.{◌≡◌, ℕ, ◌<◌, ◌^◌, ◌==◌, Bool, true, false, List, [], ◌∷◌, ◌++◌, refl, sym, ap, ◌∙◌, eqb-true, arith}
 use Rattle.std.specs.Prelude.{codes}
 use Rattle.std.specs.Fmt.{decimal}
@@ -7,6 +7,9 @@ use Rattle.std.proofs.lemmas.List.{append_cancel_left, append_cancel_right}
 use Rattle.sby_terms.specs.Path.{job_path, job_text, path_text}
 use Rattle.sby_terms.specs.declared.names.JobName.{JobName}
 use Rattle.sby_terms.specs.declared.names.JobName.TheVariants.{Base, Step, Cover}
+use Rattle.task_race.specs.Words.{btor_path, btor_file}
+use Rattle.sby_top.specs.Served.{Btor, Formula, JobFile}
+use Rattle.sby_top.proofs.KindLemmas.{last_but_one, last_but_one_of}
 
 -- a job as a task of this many slices has it
 unfoldable pub IsNumbered : ℕ → JobName → Type 0
@@ -54,3 +57,26 @@ unfolding path_text
 path_same folder slices a b ha hb same =
     text_same slices a b ha hb (append_cancel_left (folder ++ codes "/model/") (job_text slices a) (job_text slices b)
     (append_cancel_right ((folder ++ codes "/model/") ++ job_text slices a) ((folder ++ codes "/model/") ++ job_text slices b) (codes ".cnf") same))
+
+-- no model is put where a job's formula is
+pub btor_apart : (folder : List ℕ) (slices : ℕ) (a b : JobName) → btor_path folder slices a ≡ job_path folder slices b → ⊥
+unfolding path_text btor_file
+btor_apart folder slices a b same =
+    let btor : last_but_one (btor_path folder slices a) ≡ 111 = last_but_one_of ((folder ++ codes "/model/") ++ job_text slices a) 46 98 (codes "tor") in
+    let cnf : last_but_one (job_path folder slices b) ≡ 110 = last_but_one_of ((folder ++ codes "/model/") ++ job_text slices b) 46 99 (codes "nf") in
+    let no : ◌≡◌ {A = ℕ} 111 110 = sym btor ∙ (ap last_but_one same ∙ cnf) in absurd (omega (arith, no))
+
+pub btor_same : (folder : List ℕ) (slices : ℕ) (a b : JobName) → IsNumbered slices a → IsNumbered slices b → btor_path folder slices a ≡ btor_path folder slices b → a ≡ b
+unfolding btor_file
+btor_same folder slices a b ha hb same =
+    text_same slices a b ha hb (append_cancel_left (folder ++ codes "/model/") (job_text slices a) (job_text slices b)
+    (append_cancel_right ((folder ++ codes "/model/") ++ job_text slices a) ((folder ++ codes "/model/") ++ job_text slices b) (codes ".btor") same))
+
+-- the jobs of files are such
+abbrev pub IsNumberedFile : ℕ → JobFile → Type 0
+IsNumberedFile slices (Formula job) = IsNumbered slices job
+IsNumberedFile slices (Btor job) = IsNumbered slices job
+
+abbrev pub AllNumbered : ℕ → List JobFile → Type 0
+AllNumbered slices [] = Unit {0}
+AllNumbered slices (f ∷ files) = IsNumberedFile slices f × AllNumbered slices files

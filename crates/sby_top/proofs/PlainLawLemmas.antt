@@ -26,7 +26,7 @@ use Rattle.sby_top.specs.Served.{jobs_in}
 use Rattle.sby_top.specs.Task.{TaskOf}
 use Rattle.sby_top.specs.World.{Moments}
 use Rattle.sby_top.specs.declared.outcome.TaskEnd.{TaskEnd}
-use Rattle.sby_top.proofs.CompleteLemmas.{file_put}
+use Rattle.sby_top.proofs.PutLemmas.{file_put}
 use Rattle.sby_top.proofs.ExistLemmas.{some_answers, status_exists}
 use Rattle.sby_top.proofs.LawLemmas.{OneFate, OneFile}
 use Rattle.sby_top.proofs.PlainOnceLemmas.{once}
@@ -45,12 +45,12 @@ module _ (may_read : ℕ → Type 0) (number : ℕ) (moments : Moments) (task : 
 
   file_at : (k : ℕ) → k < length (jobs_in judged.done.problem) → (file : List ℕ) × IsJobFile judged.done.problem (name_at judged.done.problem.problem.mode k) file
   file_at k lt =
-      file_put judged.done.problem task.request.name (jobs_in judged.done.problem) moments.got.told moments.put.told judged.done.put k (name_at judged.done.problem.problem.mode k)
+      file_put task.service judged.done.problem task.request.name moments.got.told moments.put.told judged.done.put k (name_at judged.done.problem.problem.mode k)
       (job_named judged.done.problem.problem.mode judged.done.problem.problem.span judged.done.problem.design k lt)
 
   exists_by : SomeFate → OneFile → (o : Option YardOf) → moments.before.yard.scripts ≡ o → IsSome o → ((status : Status) → IsPlainLanesStatus moments task judged.done.problem number engines status → ⊥) → ⊥
   exists_by some_fate one_file None is some none = absurd (cc)
-  exists_by some_fate one_file (Some scripts) is some none = some_reports some_fate one_file Racing scripts file_at (λ reports are.
+  exists_by some_fate one_file (Some scripts) is some none = some_reports some_fate one_file Racing judged.done.served.0.problem scripts file_at (λ reports are.
       let answers = some_answers job_of answer_of task.request.mode (length (jobs_for task.request judged.done.problem.design)) reports in
       let status = status_exists job_of task.request.mode reports answers.0 in
       none status.0 (record { reports = reports; are_plain = subst (λ o. ArePlain Racing o reports) (sym is) are; is_status = (answers.0, answers.1, status.1) }))
@@ -74,7 +74,7 @@ module _ (may_read : ℕ → Type 0) (number : ℕ) (moments : Moments) (task : 
   pub plain_once : OneFate → IsSome moments.before.yard.scripts → ((lane : ℕ) (job : JobName) (script : ScriptOf) → script_of moments.before.yard.scripts number lane job ≡ Some script → script.gate ≡ None) → (s t : Status)
       → IsPlainLanesStatus moments task judged.done.problem number engines s → IsPlainLanesStatus moments task judged.done.problem number engines t → s ≡ t
   plain_once one some ungated s t is too =
-      once one Racing moments.before.yard.scripts (λ lane job. let script = script_at moments.before.yard.scripts refl some lane job in (script.0, script.1, ungated lane job script.0 script.1)) file_at
+      once one Racing judged.done.served.0.problem moments.before.yard.scripts (λ lane job. let script = script_at moments.before.yard.scripts refl some lane job in (script.0, script.1, ungated lane job script.0 script.1)) file_at
       judged.done.problem.problem.span judged.done.problem.design refl is.reports too.reports is.are_plain too.are_plain is.is_status.0 too.is_status.0
       (own_answers is.reports is.is_status.0 is.is_status.1) (own_answers too.reports too.is_status.0 too.is_status.1) s t
       (own_status is.reports is.is_status.0 s is.is_status.2) (own_status too.reports too.is_status.0 t too.is_status.2)

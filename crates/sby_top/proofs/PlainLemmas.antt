@@ -6,9 +6,9 @@ use Rattle.std.proofs.lemmas.Option.{get_or_from_slice_get, slice_get-get_or, sl
 use Rattle.cnf_form.proofs.Members.{Contains-cases, Contains-empty, Contains-head, Contains-tail}
 use Rattle.sby_edge.specs.Cause.{Rose}
 use Rattle.sby_edge.specs.Files.{Store}
-use Rattle.cert_judge.specs.Kinds.{IsFate}
 use Rattle.cert_judge.specs.Fate.{Fate, Found as FoundFate, Unknown as UnknownFate, Bad as BadFate}
-use Rattle.cert_judge.specs.declared.stream.StreamKind.{StreamKind}
+use Rattle.cert_judge.specs.declared.stream.Kind.{Kind}
+use Rattle.judge.specs.Fates.{IsFate}
 use Rattle.design_core.specs.Shape.{DesignOf}
 use Rattle.design_reader.specs.Grammar.{Reads}
 use Rattle.judge.specs.Finding.{FindingOf}
@@ -46,12 +46,13 @@ use Rattle.sby_lines.proofs.PlaceLemmas.{at_contains, contains_at, job_named}
 use Rattle.sby_lines.proofs.ShownLemmas.{answers_same, some_same}
 use Rattle.sby_top.specs.Causes.{IsDone, IsOutcome}
 use Rattle.sby_top.specs.Headline.{AreFates, AreWhole, IsComplete, IsDecided, IsFateStatus, IsJudgedStatus, IsPlainStatus, IsServedStatus, NamesEvent, fate_answer, fate_event}
-use Rattle.sby_top.specs.Judged.{AreJudged, AreReports, AreStreamReports, IsEndOf, IsFateEnd}
-use Rattle.sby_top.specs.Served.{ArePut, IsAccepted, IsRefused, jobs_in, most_stream}
+use Rattle.sby_top.specs.Judged.{AreJudged, AreReports, AreStreamReports, IsEndOf, IsFateEnd, IsStreamEnd, IsUnserved}
+use Rattle.sby_top.specs.Served.{ArePut, IsAccepted, IsRefused, files_in, jobs_in, most_stream}
 use Rattle.sby_top.specs.Task.{Lanes, Service, Streams, TaskOf, streams_in}
 use Rattle.sby_top.specs.World.{FilesOf, Moments, RaceOf, race_of}
 use Rattle.sby_top.specs.declared.outcome.TaskEnd.{TaskEnd}
 use Rattle.sby_top.proofs.JobLemmas.{judged_count}
+use Rattle.sby_top.proofs.PutLemmas.{file_put, put_told}
 use Rattle.sby_top.proofs.ReportLemmas.{job_count, reported}
 use Rattle.sby_top.proofs.StatusLemmas.{no_memory, verdict_status}
 use Rattle.sby_top.proofs.TruthLemmas.{own_design}
@@ -84,16 +85,16 @@ record HasFates (p : AskedOf) (now : Store) (jobs : List JobName) (paths : List 
   fates : List (Option Fate)
   are : AreFates p now jobs paths fates
   answers : map fate_answer fates ≡ map end_answer ends
-  whole : (Contains (map event_of ends) MemoryEvent → ⊥) → AreWhole paths fates × (map fate_event fates ≡ map event_of ends)
+  whole : (Contains (map event_of ends) MemoryEvent → ⊥) → AreWhole jobs paths fates × (map fate_event fates ≡ map event_of ends)
 
 -- a job's file, and the stream at its path, which names its kind
-record IsStream (p : AskedOf) (now : Store) (job : JobName) (path : List ℕ) (kind : StreamKind) (file stream : List ℕ) : Type 0 where
+record IsStream (p : AskedOf) (now : Store) (job : JobName) (path : List ℕ) (kind : Kind) (file stream : List ℕ) : Type 0 where
   named : IsKindNamed path kind
   file_is : IsJobFile p job file
   at : now path ≡ Some stream
 
-with_fate : (p : AskedOf) (now : Store) (job : JobName) (jobs : List JobName) (path : List ℕ) (kind : StreamKind) (file stream : List ℕ) (paths : List (List ℕ)) (end : JobEnd FindingOf) (ends : List (JobEnd FindingOf)) (fate : Fate)
-    → IsStream p now job path kind file stream → IsFate kind file stream most_stream fate → fate_answer (Some fate) ≡ end_answer end → fate_event (Some fate) ≡ event_of end
+with_fate : (p : AskedOf) (now : Store) (job : JobName) (jobs : List JobName) (path : List ℕ) (kind : Kind) (file stream : List ℕ) (paths : List (List ℕ)) (end : JobEnd FindingOf) (ends : List (JobEnd FindingOf)) (fate : Fate)
+    → IsStream p now job path kind file stream → IsFate p job kind file stream most_stream fate → fate_answer (Some fate) ≡ end_answer end → fate_event (Some fate) ≡ event_of end
     → HasFates p now jobs paths ends → HasFates p now (job ∷ jobs) (path ∷ paths) (end ∷ ends)
 with_fate p now job jobs path kind file stream paths end ends fate is of answer event rest = record {
   fates = Some fate ∷ rest.fates;
@@ -103,8 +104,8 @@ with_fate p now job jobs path kind file stream paths end ends fate is of answer 
       (w.0, ap₂ (λ (e : Event) (es : List Event). e ∷ es) event w.1);
 }
 
-with_end : (p : AskedOf) (now : Store) (job : JobName) (jobs : List JobName) (path : List ℕ) (kind : StreamKind) (file stream : List ℕ) (paths : List (List ℕ)) (end : JobEnd FindingOf) (ends : List (JobEnd FindingOf))
-    → IsStream p now job path kind file stream → IsFateEnd kind file stream end → HasFates p now jobs paths ends → HasFates p now (job ∷ jobs) (path ∷ paths) (end ∷ ends)
+with_end : (p : AskedOf) (now : Store) (job : JobName) (jobs : List JobName) (path : List ℕ) (kind : Kind) (file stream : List ℕ) (paths : List (List ℕ)) (end : JobEnd FindingOf) (ends : List (JobEnd FindingOf))
+    → IsStream p now job path kind file stream → IsFateEnd p job kind file stream end → HasFates p now jobs paths ends → HasFates p now (job ∷ jobs) (path ∷ paths) (end ∷ ends)
 with_end p now job jobs path kind file stream paths (Found f) ends is of rest = with_fate p now job jobs path kind file stream paths (Found f) ends (FoundFate f.answer) is of refl refl rest
 with_end p now job jobs path kind file stream paths Unknown ends is of rest = with_fate p now job jobs path kind file stream paths Unknown ends UnknownFate is of refl refl rest
 with_end p now job jobs path kind file stream paths (Bad number at) ends is of rest = with_fate p now job jobs path kind file stream paths (Bad number at) ends (BadFate of.0 at) is of.2 refl refl rest
@@ -122,16 +123,36 @@ with_end p now job jobs path kind file stream paths (Skipped f) ends is of rest 
 with_end p now job jobs path kind file stream paths (CalledOff f) ends is of rest = absurd of
 with_end p now job jobs path kind file stream paths (Stopped reading) ends is of rest = absurd of
 
-no_fates_whole : (paths : List (List ℕ)) → AreWhole paths []
-no_fates_whole [] = tt
-no_fates_whole (path ∷ paths) = tt
+-- an end of a job that isn't served says nothing
+with_none : (p : AskedOf) (now : Store) (job : JobName) (jobs : List JobName) (path : List ℕ) (paths : List (List ℕ)) (end : JobEnd FindingOf) (ends : List (JobEnd FindingOf)) → IsUnserved path job → end ≡ NotServed
+    → HasFates p now jobs paths ends → HasFates p now (job ∷ jobs) (path ∷ paths) (end ∷ ends)
+with_none p now job jobs path paths end ends unserved is rest =
+    let answer : None ≡ end_answer end = sym (ap end_answer is) in
+    let event : Quiet ≡ event_of end = sym (ap event_of is) in
+    record {
+      fates = None ∷ rest.fates;
+      are = rest.are;
+      answers = ap₂ (λ (a : Option Answer) (xs : List (Option Answer)). a ∷ xs) answer rest.answers;
+      whole = λ none. let w = rest.whole (λ among. none (Contains-tail (event_of end) MemoryEvent (map event_of ends) among)) in
+          ((unserved, w.0), ap₂ (λ (e : Event) (es : List Event). e ∷ es) event w.1);
+    }
 
-fates_exist : (p : AskedOf) (folder : List ℕ) (now : Store) (jobs : List JobName) (before after : Option Store) (paths : List (List ℕ)) (ends : List (JobEnd FindingOf)) → ArePut p folder jobs before after
-    → AreJudged p (Some now) jobs paths ends → HasFates p now jobs paths ends
-fates_exist p folder now [] before after paths ends put judged = record { fates = []; are = refl; answers = rw judged refl; whole = λ none. (no_fates_whole paths, rw judged refl) }
-fates_exist p folder now (job ∷ jobs) before after paths [] put judged = absurd judged
-fates_exist p folder now (job ∷ jobs) before after [] (end ∷ ends) put judged =
-    let rest = fates_exist p folder now jobs _ after [] ends put.2 judged.1 in
+-- each of these jobs has a file
+abbrev HaveFiles : AskedOf → List JobName → Type 0
+HaveFiles p jobs = (k : ℕ) (job : JobName) → slice_get jobs k ≡ Some job → (file : List ℕ) × IsJobFile p job file
+
+with_stream : (p : AskedOf) (now : Store) (job : JobName) (jobs : List JobName) (path : List ℕ) (paths : List (List ℕ)) (end : JobEnd FindingOf) (ends : List (JobEnd FindingOf)) → (file : List ℕ) × IsJobFile p job file
+    → IsStreamEnd p (Some now) job path end → HasFates p now jobs paths ends → HasFates p now (job ∷ jobs) (path ∷ paths) (end ∷ ends)
+with_stream p now job jobs path paths end ends file (inl judged) rest =
+    let at = has_some (now path) (λ stream. IsFateEnd p job judged.kind file.0 stream end) (judged.fate file.0 file.1) in
+    with_end p now job jobs path judged.kind file.0 at.0 paths end ends (record { named = judged.named; file_is = file.1; at = at.1 }) at.2 rest
+with_stream p now job jobs path paths end ends file (inr (unserved, is)) rest = with_none p now job jobs path paths end ends unserved is rest
+
+fates_exist : (p : AskedOf) (now : Store) (jobs : List JobName) (paths : List (List ℕ)) (ends : List (JobEnd FindingOf)) → HaveFiles p jobs → AreJudged p (Some now) jobs paths ends → HasFates p now jobs paths ends
+fates_exist p now [] paths ends files judged = record { fates = []; are = refl; answers = rw judged refl; whole = λ none. (tt, rw judged refl) }
+fates_exist p now (job ∷ jobs) paths [] files judged = absurd judged
+fates_exist p now (job ∷ jobs) [] (end ∷ ends) files judged =
+    let rest = fates_exist p now jobs [] ends (λ k. files (suc k)) judged.1 in
     let answer : None ≡ end_answer end = sym (ap end_answer judged.0) in
     let event : Quiet ≡ event_of end = sym (ap event_of judged.0) in
     record {
@@ -141,15 +162,8 @@ fates_exist p folder now (job ∷ jobs) before after [] (end ∷ ends) put judge
       whole = λ none. let w = rest.whole (λ among. none (Contains-tail (event_of end) MemoryEvent (map event_of ends) among)) in
           (tt, ap₂ (λ (e : Event) (es : List Event). e ∷ es) event w.1);
     }
-fates_exist p folder now (job ∷ jobs) before after (path ∷ paths) (end ∷ ends) put judged =
-    let at = has_some (now path) (λ stream. IsFateEnd judged.0.kind put.0 stream end) (judged.0.fate put.0 put.1) in
-    with_end p now job jobs path judged.0.kind put.0 at.0 paths end ends (record { named = judged.0.named; file_is = put.1; at = at.1 }) at.2 (fates_exist p folder now jobs _ after paths ends put.2 judged.1)
-
--- the store tells on, when files were put
-pub put_told : (p : AskedOf) (folder : List ℕ) (jobs : List JobName) (before after : Option Store) (store : Store) → before ≡ Some store → ArePut p folder jobs before after → (now : Store) × (after ≡ Some now)
-put_told p folder [] before after store told put = (store, put ∙ told)
-put_told p folder (job ∷ jobs) (Some s) after store told put = put_told p folder jobs _ after _ refl put.2
-put_told p folder (job ∷ jobs) None after store told put = cc
+fates_exist p now (job ∷ jobs) (path ∷ paths) (end ∷ ends) files judged =
+    with_stream p now job jobs path paths end ends (files 0 job refl) judged.0 (fates_exist p now jobs paths ends (λ k. files (suc k)) judged.1)
 
 -- ---- the answers are those of the ends
 
@@ -166,6 +180,10 @@ own_carried p job (CalledOff g) f of carries = absurd of
 own_carried p job (Stopped reading) f of carries = absurd carries
 own_carried p job MemoryEnd f of carries = absurd carries
 
+stream_carried : (p : AskedOf) (told : Option Store) (job : JobName) (path : List ℕ) (end : JobEnd FindingOf) (f : FindingOf) → IsStreamEnd p told job path end → Carries end f → (end ≡ Found f) × (f.job ≡ job)
+stream_carried p told job path end f (inl judged) carries = own_carried p job end f judged.of carries
+stream_carried p told job path end f (inr (unserved, is)) carries = absurd (subst (λ x. Carries x f) is carries)
+
 pub carried_at : (p : AskedOf) (told : Option Store) (jobs : List JobName) (paths : List (List ℕ)) (ends : List (JobEnd FindingOf)) (k : ℕ) (e : JobEnd FindingOf) (f : FindingOf) → AreJudged p told jobs paths ends
     → slice_get ends k ≡ Some e → Carries e f → (e ≡ Found f) × (slice_get jobs k ≡ Some f.job)
 carried_at p told [] paths ends k e f judged at carries = absurd (Contains-empty e (subst (λ es. Contains es e) judged (at_contains ends k e at)))
@@ -175,7 +193,7 @@ carried_at p told (job ∷ jobs) [] (end ∷ ends) zero e f judged at carries =
 carried_at p told (job ∷ jobs) [] (end ∷ ends) (suc k) e f judged at carries = carried_at p told jobs [] ends k e f judged.1 at carries
 carried_at p told (job ∷ jobs) (path ∷ paths) (end ∷ ends) zero e f judged at carries =
     let here = some_same end e at in
-    let own = own_carried p job end f judged.0.of (subst (λ x. Carries x f) (sym here) carries) in
+    let own = stream_carried p told job path end f judged.0 (subst (λ x. Carries x f) (sym here) carries) in
     (sym here ∙ own.0, ap Some (sym own.1))
 carried_at p told (job ∷ jobs) (path ∷ paths) (end ∷ ends) (suc k) e f judged at carries = carried_at p told jobs paths ends k e f judged.1 at carries
 
@@ -310,11 +328,11 @@ event_forth mode r answers s is same e apart among =
 -- ---- what the fates give
 
 -- none is left out, unless the others decide, and they give the status
-abbrev pub FatesGive : Mode → List (List ℕ) → List (Option Fate) → Status → Type 0
-FatesGive mode paths fates status = (AreWhole paths fates ⊎ IsDecided mode (map fate_answer fates)) × IsFateStatus mode fates status
+abbrev pub FatesGive : Mode → List JobName → List (List ℕ) → List (Option Fate) → Status → Type 0
+FatesGive mode jobs paths fates status = (AreWhole jobs paths fates ⊎ IsDecided mode (map fate_answer fates)) × IsFateStatus mode fates status
 
 fates_by : (mode : Mode) (p : AskedOf) (now : Store) (jobs : List JobName) (paths : List (List ℕ)) (r : ReportOf FindingOf) (answers : List (Option Answer)) (status : Status) (has : HasFates p now jobs paths r.ends)
-    (is : IsStatusOf job_of mode (r ∷ []) answers status) (verdict : Option Verdict) → is.decided ≡ verdict → status ≢ Memory → answers ≡ map end_answer r.ends → FatesGive mode paths has.fates status
+    (is : IsStatusOf job_of mode (r ∷ []) answers status) (verdict : Option Verdict) → is.decided ≡ verdict → status ≢ Memory → answers ≡ map end_answer r.ends → FatesGive mode jobs paths has.fates status
 fates_by mode p now jobs paths r answers status has is (Some v) at apart same =
     let decided : Decided mode answers (Some v) = subst (Decided mode answers) at is.decides in
     let by : Decides mode (map fate_answer has.fates) v = subst (λ xs. Decides mode xs v) (same ∙ sym has.answers) decided in
@@ -331,7 +349,7 @@ fates_by mode p now jobs paths r answers status has is None at apart same =
 pub record GivesFates (task : TaskOf) (p : AskedOf) (now : Store) (service : Service) (status : Status) : Type 0 where
   pub fates : List (Option Fate)
   pub are : AreFates p now (jobs_in p) (streams_in service) fates
-  pub give : FatesGive task.request.mode (streams_in service) fates status
+  pub give : FatesGive task.request.mode (jobs_in p) (streams_in service) fates status
 
 -- the answers that are collected are these
 record IsOwn (task : TaskOf) (p : AskedOf) (reports : List (ReportOf FindingOf)) (status : Status) : Type 0 where
@@ -340,16 +358,16 @@ record IsOwn (task : TaskOf) (p : AskedOf) (reports : List (ReportOf FindingOf))
   count : length (jobs_in p) ≡ length (jobs_of_mode task.request.mode task.request.span p.design)
   named : (k : ℕ) → k < length (jobs_in p) → slice_get (jobs_in p) k ≡ Some (name_at task.request.mode k)
 
-stream_gives : (task : TaskOf) (p : AskedOf) (folder : List ℕ) (before after : Option Store) (now : Store) (paths : List (List ℕ)) (reports : List (ReportOf FindingOf)) (status : Status) → status ≢ Memory
-    → ArePut p folder (jobs_in p) before after → AreStreamReports p (Some now) paths reports → IsOwn task p reports status → GivesFates task p now (Streams paths) status
-stream_gives task p folder before after now paths reports status apart put are own =
+stream_gives : (task : TaskOf) (p : AskedOf) (now : Store) (paths : List (List ℕ)) (reports : List (ReportOf FindingOf)) (status : Status) → status ≢ Memory
+    → HaveFiles p (jobs_in p) → AreStreamReports p (Some now) paths reports → IsOwn task p reports status → GivesFates task p now (Streams paths) status
+stream_gives task p now paths reports status apart files are own =
     let lane : IsLane task p (Some now) paths are.0 = record { count = own.count; named = own.named; judged = are.1.ends } in
     let one : reports ≡ are.0 ∷ [] = are.2 in
     let race = subst (λ rs. IsRaceStatus task.request (record { design = p.design; reports = rs; start = None }) status) one own.race in
     let reported = subst (AreReported task.request.mode task.request.span p.design) one own.reported in
     let same : race.0 ≡ map end_answer are.0.ends = answers_same task.request.mode task.request.span p.design (are.0 ∷ []) reported (length (jobs_of_mode task.request.mode task.request.span p.design))
     race.0 (map end_answer are.0.ends) race.1 (ends_collected task p (Some now) paths are.0 lane) in
-    let has = fates_exist p folder now (jobs_in p) before after paths are.0.ends put are.1.ends in
+    let has = fates_exist p now (jobs_in p) paths are.0.ends files are.1.ends in
     record {
       fates = has.fates;
       are = has.are;
@@ -370,19 +388,20 @@ done_gives may_read task before middle race now text reports d start status path
       count = job_count before.told task done.problem done.served.0;
       named = λ k lt. job_named done.problem.problem.mode done.problem.problem.span done.problem.design k lt ∙ ap (λ (q : ProblemOf). Some (name_at q.mode k)) done.served.0.asked;
     } in
-    subst (λ s. GivesFates task done.problem now s status) (sym stored) (stream_gives task done.problem task.request.name before.told middle.told now paths reports status apart done.put are own)
+    subst (λ s. GivesFates task done.problem now s status) (sym stored) (stream_gives task done.problem now paths reports status apart
+    (λ k job at. file_put task.service done.problem task.request.name before.told middle.told done.put k job at) are own)
 
 pub done_judged : (may_read : ℕ → Type 0) (task : TaskOf) (before middle : FilesOf) (race : RaceOf) (store : Store) (text : List ℕ) (reports : List (ReportOf FindingOf)) (d : DesignOf) (start : Option ℕ) (status : Status)
     (paths : List (List ℕ)) → task.service ≡ Streams paths → before.told ≡ Some store → status ≢ Memory → Reads text d
     → IsRaceStatus task.request (record { design = d; reports = reports; start = start }) status → IsDone may_read task before middle race text reports → IsJudgedStatus store task None status
 done_judged may_read task before middle race store text reports d start status paths stored told apart reads is done =
-    let now = put_told done.problem task.request.name (jobs_in done.problem) before.told middle.told store told done.put in
+    let now = put_told done.problem task.request.name (files_in task.service done.problem) before.told middle.told store told done.put in
     let gives = done_gives may_read task before middle race now.0 text reports d start status paths stored now.1 apart reads is done in (
       done.problem,
       gives.fates,
       now.0,
       (subst (λ t. IsAccepted t task done.problem) told done.served.0, done.served.1),
-      subst (λ t. ArePut done.problem task.request.name (jobs_in done.problem) t (Some now.0)) told (subst (ArePut done.problem task.request.name (jobs_in done.problem) before.told) now.1 done.put),
+      subst (λ t. ArePut done.problem task.request.name (files_in task.service done.problem) t (Some now.0)) told (subst (ArePut done.problem task.request.name (files_in task.service done.problem) before.told) now.1 done.put),
       gives.are,
       gives.give.0,
       refl,

@@ -6,14 +6,12 @@ use Rattle.std.proofs.lemmas.Option.{slice_get-get_or, slice_get_within}
 use Rattle.sby_edge.specs.Child.{YardOf}
 use Rattle.sby_edge.specs.Script.{ScriptOf}
 use Rattle.cert_judge.specs.Fate.{Fate, Found as FoundFate, Unknown as UnknownFate, Bad as BadFate}
-use Rattle.cert_judge.specs.declared.stream.StreamKind.TheVariants.{Drup}
-use Rattle.cert_judge.specs.OutputFate.{IsOutputFate, own_fate}
-use Rattle.cert_judge.specs.Output.{has_values}
-use Rattle.cnf_form.specs.Cnf.{FormulaOf}
+use Rattle.cert_judge.proofs.OutputFates.{output_fate}
+use Rattle.cert_judge.specs.declared.stream.Kind.TheVariants.{Certificate}
 use Rattle.design_core.specs.Shape.{DesignOf}
 use Rattle.judge.specs.Finding.{FindingOf}
 use Rattle.judge.specs.Jobs.{jobs_in as jobs_of_mode}
-use Rattle.judge.specs.Problem.{IsJobFile}
+use Rattle.judge.specs.Problem.{AskedOf, IsJobFile, IsProblem}
 use Rattle.race_core.specs.Carrying.{Carries}
 use Rattle.race_core.specs.Collect.{AreCollected, IsStatus, SettledIn}
 use Rattle.race_core.specs.Consistent.{end_at}
@@ -51,21 +49,18 @@ use Rattle.sby_top.proofs.PlainLemmas.{answer_found, end_answer, one_place}
 some_fate_same : (x y : Fate) → ◌≡◌ {A = Option Fate} (Some x) (Some y) → x ≡ y
 some_fate_same x y is = cc
 
-one_output : OneFate → (file stream : List ℕ) (most : ℕ) (a b : Option Fate) → IsOutputFate file stream most a → IsOutputFate file stream most b → a ≡ b
-one_output one file stream most a b x y = x.2 ∙ ap (own_fate (has_values stream)) (one Drup file _ most x.0 y.0 x.1 y.1) ∙ sym y.2
+one_left : OneFate → (p : AskedOf) → IsProblem p → (job : JobName) (by : Evidence) (file stream proof : List ℕ) (x y : Fate) → IsFateOf p job by file stream proof x → IsFateOf p job by file stream proof y → x ≡ y
+one_left one p problem job (Output kind) file stream proof x y h k = one p job kind file stream most_bytes x y problem h k
+one_left one p problem job (ProofFile kind) file stream proof x y (inl h) (inl k) = some_fate_same x y (output_fate file stream most_bytes (Some x) (Some y) h k)
+one_left one p problem job (ProofFile kind) file stream proof x y (inl h) (inr k) = let no : ◌≡◌ {A = Option Fate} (Some x) None = output_fate file stream most_bytes (Some x) None h k.0 in cc
+one_left one p problem job (ProofFile kind) file stream proof x y (inr h) (inl k) = let no : ◌≡◌ {A = Option Fate} None (Some y) = output_fate file stream most_bytes None (Some y) h.0 k in cc
+one_left one p problem job (ProofFile kind) file stream proof x y (inr h) (inr k) = one p job (Certificate kind) file proof most_bytes x y problem h.1 k.1
 
-one_left : OneFate → (by : Evidence) (file stream proof : List ℕ) (x y : Fate) → IsFateOf by file stream proof x → IsFateOf by file stream proof y → x ≡ y
-one_left one (Output kind) file stream proof x y h k = one kind file stream most_bytes x y h k
-one_left one (ProofFile kind) file stream proof x y (inl h) (inl k) = some_fate_same x y (one_output one file stream most_bytes (Some x) (Some y) h k)
-one_left one (ProofFile kind) file stream proof x y (inl h) (inr k) = let no : ◌≡◌ {A = Option Fate} (Some x) None = one_output one file stream most_bytes (Some x) None h k.0 in cc
-one_left one (ProofFile kind) file stream proof x y (inr h) (inl k) = let no : ◌≡◌ {A = Option Fate} None (Some y) = one_output one file stream most_bytes None (Some y) h.0 k in cc
-one_left one (ProofFile kind) file stream proof x y (inr h) (inr k) = one kind file proof most_bytes x y h.1 k.1
-
-one_says : (f : FormulaOf) (a b : Answer) → Says f a → Says f b → a ≡ b
-one_says f Sat Sat h k = refl
-one_says f Unsat Unsat h k = refl
-one_says f Sat Unsat h k = absurd (k h.0 h.1)
-one_says f Unsat Sat h k = absurd (h k.0 k.1)
+one_says : (p : AskedOf) (job : JobName) (a b : Answer) → Says p job a → Says p job b → a ≡ b
+one_says p job Sat Sat h k = refl
+one_says p job Unsat Unsat h k = refl
+one_says p job Sat Unsat h k = absurd (k h)
+one_says p job Unsat Sat h k = absurd (h k)
 
 -- ---- statuses of the same events
 
@@ -81,7 +76,8 @@ one_status : (o : Option Verdict) (E F : List Event) (s t : Status) → ((e : Ev
 one_status (Some v) E F s t forth back h k = one_closed v E F s t h k
 one_status None E F s t forth back h k = one_open F s t (with_events E F s forth back h) k
 
-module _ (one : OneFate) (racing : RacingOf) (told : Option YardOf) (some_script : (lane : ℕ) (job : JobName) → (script : ScriptOf) × (script_of told racing.task lane job ≡ Some script) × (script.gate ≡ None))
+module _ (one : OneFate) (racing : RacingOf) (problem : IsProblem racing.problem) (told : Option YardOf)
+    (some_script : (lane : ℕ) (job : JobName) → (script : ScriptOf) × (script_of told racing.task lane job ≡ Some script) × (script.gate ≡ None))
     (file_at : (k : ℕ) → k < job_count racing → (file : List ℕ) × IsJobFile racing.problem (name_in racing k) file) where
   -- an end by a fate says what the fate says
   says_fate : (lane k : ℕ) (fate : Fate) (e : JobEnd FindingOf) → IsEndOfFate fate e → IsPlainEnd racing told lane (name_in racing k) e → (end_answer e ≡ fate_answer (Some fate)) × (told_by e ≡ fate_event (Some fate))
@@ -115,7 +111,7 @@ module _ (one : OneFate) (racing : RacingOf) (told : Option YardOf) (some_script
         | inr served ↦ elim (plain_fate racing told lane (name_in racing k) script.0 file.0 script.1 script.2 file.1 d other) [
           | inl none ↦ absurd (none.1 served.0)
           | inr too ↦
-              let same : served.1.0 ≡ too.1.0 = one_left one _ file.0 _ _ served.1.0 too.1.0 served.1.1 too.1.1 in
+              let same : served.1.0 ≡ too.1.0 = one_left one racing.problem problem (name_in racing k) _ file.0 _ _ served.1.0 too.1.0 served.1.1 too.1.1 in
               let x = says_fate lane k served.1.0 e served.1.2 own in
               let y = says_fate lane k too.1.0 d too.1.2 other in
               (x.0 ∙ ap (λ z. fate_answer (Some z)) same ∙ sym y.0, x.1 ∙ ap (λ z. fate_event (Some z)) same ∙ sym y.1)
@@ -167,7 +163,8 @@ module _ (one : OneFate) (racing : RacingOf) (told : Option YardOf) (some_script
         let file = file_at k lt in
         let own = subst (IsPlainEnd racing told x.lane (name_in racing k)) x.is ((plain.each x.lane x.report x.at).1 k lt) in
         let its = subst (IsPlainEnd racing told y.lane (name_in racing k)) y.is ((other.each y.lane y.report y.at).1 k lt) in
-        one_says file.1.0 f.answer g.answer (judged_says racing told x.lane (name_in racing k) f file.0 file.1.0 file.1 file.1.3 own) (judged_says racing told y.lane (name_in racing k) g file.0 file.1.0 file.1 file.1.3 its)
+        one_says racing.problem (name_in racing k) f.answer g.answer (judged_says racing problem told x.lane (name_in racing k) f file.0 file.1 own)
+        (judged_says racing problem told y.lane (name_in racing k) g file.0 file.1 its)
 
     module _ (P Q : List (ReportOf FindingOf)) (plain : ArePlain racing told P) (other : ArePlain racing told Q) (A B : List (Option Answer))
         (own : AreCollected job_of answer_of racing.problem.problem.mode (job_count racing) P A) (its : AreCollected job_of answer_of racing.problem.problem.mode (job_count racing) Q B) where

@@ -5,29 +5,30 @@ use Rattle.std.proofs.lemmas.Option.{slice_get-get_or}
 use Rattle.sby_edge.specs.Child.{YardOf, up_to}
 use Rattle.sby_edge.specs.Script.{ScriptOf}
 use Rattle.cert_judge.specs.Fate.{Fate, Found as FoundFate, Unknown as UnknownFate, Bad as BadFate}
-use Rattle.cert_judge.specs.Kinds.{IsFate}
 use Rattle.cert_judge.specs.Numbers.{number_of}
 use Rattle.cert_judge.specs.Output.{has_values, stream_of}
 use Rattle.cert_judge.specs.OutputFate.{IsOutputFate, own_fate}
+use Rattle.cert_judge.specs.declared.stream.Kind.{Kind}
+use Rattle.cert_judge.specs.declared.stream.Kind.TheVariants.{Certificate, Witness}
 use Rattle.cert_judge.specs.declared.stream.StreamKind.{StreamKind}
 use Rattle.cert_judge.specs.declared.stream.StreamKind.TheVariants.{Drup}
 use Rattle.cnf_form.specs.Cnf.{FormulaOf}
 use Rattle.cnf_form.specs.Dimacs.{IsDimacs}
+use Rattle.judge.specs.Fates.{IsFate, Serves}
 use Rattle.judge.specs.Finding.{FindingOf}
-use Rattle.judge.specs.Problem.{AskedOf, IsJob, IsJobFile}
+use Rattle.judge.specs.Problem.{AskedOf, IsJob, IsJobFile, IsProblem}
 use Rattle.race_core.specs.Report.{ReportOf}
 use Rattle.race_core.specs.declared.end.JobEnd.{JobEnd}
 use Rattle.race_core.specs.declared.end.JobEnd.TheVariants.{Found, Unknown, NotServed, Bad}
 use Rattle.race_core.specs.declared.event.Judged.{Judged}
 use Rattle.race_core.specs.declared.event.Judged.TheVariants as judged
 use Rattle.sby_terms.specs.declared.engine.Engine.{Engine}
-use Rattle.sby_terms.specs.declared.engine.Engine.TheVariants as engine
 use Rattle.sby_terms.specs.declared.names.Answer.{Answer}
 use Rattle.sby_terms.specs.declared.names.JobName.{JobName}
 use Rattle.sby_lines.proofs.PlaceLemmas.{job_named}
 use Rattle.lane_run.specs.Complete.{ComesTo}
 use Rattle.task_race.specs.Fates.{Ends, Proves, Tells, most_bytes}
-use Rattle.task_race.specs.Serving.{IsServing}
+use Rattle.task_race.specs.Serving.{IsJudgeable, IsServing, evidence_at, evidence_of}
 use Rattle.task_race.specs.declared.evidence.Evidence.{Evidence}
 use Rattle.task_race.specs.declared.evidence.Evidence.TheVariants.{Output, ProofFile}
 use Rattle.task_race.specs.Ends.{IsJudgedAs, IsProofOf}
@@ -35,10 +36,12 @@ use Rattle.task_race.specs.Ran.{RacingOf, evidence_in, job_count, name_in}
 use Rattle.sby_top.specs.Complete.{ArePlain, IsPlainEnd, IsPlainReport}
 use Rattle.sby_top.proofs.ExistLemmas.{Known}
 use Rattle.sby_top.proofs.LawLemmas.{OneFile}
+use Rattle.sby_terms.specs.declared.names.JobName.TheVariants.{Base, Step, Cover}
 
--- no stream is without a fate
+-- no stream of a kind that is judged for a job is without a fate
 abbrev pub SomeFate : Type 0
-SomeFate = (kind : StreamKind) (job stream : List ℕ) (most : ℕ) (f : FormulaOf) → IsDimacs job f → ((x : Fate) → IsFate kind job stream most x → ⊥) → ⊥
+SomeFate = (p : AskedOf) (job : JobName) (kind : Kind) (file stream : List ℕ) (most : ℕ) (f : FormulaOf) → IsProblem p → IsDimacs file f → Serves kind job
+    → ((x : Fate) → IsFate p job kind file stream most x → ⊥) → ⊥
 
 -- ---- lists whose elements can't be missing
 
@@ -52,14 +55,16 @@ listed {X} P (suc n) each none =
     by x first xs others zero y at = let same : x ≡ y = cc in subst (P 0) same first
     by x first xs others (suc k) y at = others k y at
 
-serves_or_not : (o : Option Engine) → Known (IsServing o)
-serves_or_not None = inr (λ no. no)
-serves_or_not (Some (engine.Sat conflicts)) = inl tt
-serves_or_not (Some (engine.Drup words)) = inl tt
-serves_or_not (Some (engine.Btor words)) = inr (λ no. no)
-serves_or_not (Some (engine.Lrat words)) = inl tt
-serves_or_not (Some (engine.Proof words)) = inl tt
-serves_or_not (Some (engine.ProofBinary words)) = inl tt
+judgeable_or_not : (by : Evidence) (job : JobName) → Known (IsJudgeable by job)
+judgeable_or_not (Output (Certificate kind)) job = inl tt
+judgeable_or_not (Output Witness) (Base i) = inl tt
+judgeable_or_not (Output Witness) Step = inr (λ no. no)
+judgeable_or_not (Output Witness) (Cover k) = inl tt
+judgeable_or_not (ProofFile kind) job = inl tt
+
+serves_or_not : (o : Option Engine) (job : JobName) → Known (IsServing o job)
+serves_or_not None job = inr (λ no. no)
+serves_or_not (Some e) job = judgeable_or_not (evidence_of e) job
 
 -- ---- the end of a job by a fate
 
@@ -82,31 +87,37 @@ module _ (p : AskedOf) where
   tells job UnknownFate = refl
   tells job (BadFate kind at) = (kind, refl, refl)
 
-module _ (some_fate : SomeFate) (one_file : OneFile) (p : AskedOf) (job : JobName) (script : ScriptOf) (file : List ℕ) (is_file : IsJobFile p job file) where
+-- evidence of a lane that serves a job is judged for it
+lane_judgeable : (o : Option Engine) (job : JobName) → IsServing o job → IsJudgeable (evidence_at o) job
+lane_judgeable None job serving = absurd serving
+lane_judgeable (Some e) job serving = serving
+
+module _ (some_fate : SomeFate) (one_file : OneFile) (p : AskedOf) (problem : IsProblem p) (job : JobName) (script : ScriptOf) (file : List ℕ) (is_file : IsJobFile p job file) where
   abbrev Comes : Evidence → Fate → Type 0
   Comes by fate = ComesTo (Ends p job by) (Proves p job by) (IsProofOf (Some script)) (up_to script.stalls script.bytes) (said_of p job fate)
 
-  of_output : (kind : StreamKind) (x : Fate) → IsFate Drup file (stream_of true (up_to script.stalls script.bytes)) most_bytes x → (o : Option Fate) → own_fate (has_values (up_to script.stalls script.bytes)) x ≡ o
+  of_output : (kind : StreamKind) (x : Fate) → IsFate p job (Certificate Drup) file (stream_of true (up_to script.stalls script.bytes)) most_bytes x → (o : Option Fate) → own_fate (has_values (up_to script.stalls script.bytes)) x ≡ o
       → ((fate : Fate) → Comes (ProofFile kind) fate → ⊥) → ⊥
   of_output kind x is (Some y) own none =
       none y (inl (Some y, tells p job y, (λ other is_other. subst (λ z. IsOutputFate z (up_to script.stalls script.bytes) most_bytes (Some y)) (one_file p job file other is_file is_other) (x, is, sym own))))
   of_output kind x is None own none =
-      some_fate kind file (take (most_bytes + 1) script.proof) most_bytes is_file.0 is_file.3 (λ y left.
+      some_fate p job (Certificate kind) file (take (most_bytes + 1) script.proof) most_bytes is_file.0 problem is_file.3 tt (λ y left.
       none y (inr (
         (None, refl, (λ other is_other. subst (λ z. IsOutputFate z (up_to script.stalls script.bytes) most_bytes None) (one_file p job file other is_file is_other) (x, is, sym own))),
-        (take (most_bytes + 1) script.proof, refl, (y, tells p job y, (λ other is_other. subst (λ z. IsFate kind z (take (most_bytes + 1) script.proof) most_bytes y) (one_file p job file other is_file is_other) left))),
+        (take (most_bytes + 1) script.proof, refl, (y, tells p job y, (λ other is_other. subst (λ z. IsFate p job (Certificate kind) z (take (most_bytes + 1) script.proof) most_bytes y) (one_file p job file other is_file is_other) left))),
       )))
 
-  comes : (by : Evidence) → ((fate : Fate) → Comes by fate → ⊥) → ⊥
-  comes (Output kind) none =
-      some_fate kind file (up_to script.stalls script.bytes) most_bytes is_file.0 is_file.3 (λ x is.
-      none x (inl (Some x, tells p job x, (λ other is_other. subst (λ z. IsFate kind z (up_to script.stalls script.bytes) most_bytes x) (one_file p job file other is_file is_other) is))))
-  comes (ProofFile kind) none =
-      some_fate Drup file (stream_of true (up_to script.stalls script.bytes)) most_bytes is_file.0 is_file.3 (λ x is. of_output kind x is (own_fate (has_values (up_to script.stalls script.bytes)) x) refl none)
+  comes : (by : Evidence) → IsJudgeable by job → ((fate : Fate) → Comes by fate → ⊥) → ⊥
+  comes (Output kind) serves none =
+      some_fate p job kind file (up_to script.stalls script.bytes) most_bytes is_file.0 problem is_file.3 serves (λ x is.
+      none x (inl (Some x, tells p job x, (λ other is_other. subst (λ z. IsFate p job kind z (up_to script.stalls script.bytes) most_bytes x) (one_file p job file other is_file is_other) is))))
+  comes (ProofFile kind) serves none =
+      some_fate p job (Certificate Drup) file (stream_of true (up_to script.stalls script.bytes)) most_bytes is_file.0 problem is_file.3 tt (λ x is.
+      of_output kind x is (own_fate (has_values (up_to script.stalls script.bytes)) x) refl none)
 
 -- ---- Plain's reports
 
-module _ (some_fate : SomeFate) (one_file : OneFile) (racing : RacingOf) (scripts : YardOf) (file_at : (k : ℕ) → k < job_count racing → (file : List ℕ) × IsJobFile racing.problem (name_in racing k) file) where
+module _ (some_fate : SomeFate) (one_file : OneFile) (racing : RacingOf) (problem : IsProblem racing.problem) (scripts : YardOf) (file_at : (k : ℕ) → k < job_count racing → (file : List ℕ) × IsJobFile racing.problem (name_in racing k) file) where
   by_fate : (lane : ℕ) (job : JobName) (fate : Fate) → IsJudgedAs racing (Some scripts) lane job (said_of racing.problem job fate) → IsPlainEnd racing (Some scripts) lane job (end_of racing.problem job fate)
   by_fate lane job (FoundFate a) is = is
   by_fate lane job UnknownFate is = is
@@ -116,10 +127,11 @@ module _ (some_fate : SomeFate) (one_file : OneFile) (racing : RacingOf) (script
   is_job k lt = (k, job_named racing.problem.problem.mode racing.problem.problem.span racing.problem.design k lt)
 
   some_end : (lane k : ℕ) → k < job_count racing → ((e : JobEnd FindingOf) → IsPlainEnd racing (Some scripts) lane (name_in racing k) e → ⊥) → ⊥
-  some_end lane k lt none = elim (serves_or_not (slice_get racing.engines lane)) [
+  some_end lane k lt none = elim (serves_or_not (slice_get racing.engines lane) (name_in racing k)) [
     | inl serving ↦
         let file = file_at k lt in
-        comes some_fate one_file racing.problem (name_in racing k) (scripts racing.task lane (name_in racing k)) file.0 file.1 (evidence_in racing lane) (λ fate left.
+        comes some_fate one_file racing.problem problem (name_in racing k) (scripts racing.task lane (name_in racing k)) file.0 file.1 (evidence_in racing lane)
+        (lane_judgeable (slice_get racing.engines lane) (name_in racing k) serving) (λ fate left.
         none (end_of racing.problem (name_in racing k) fate) (by_fate lane (name_in racing k) fate
         ((serving, is_job k lt), (up_to (scripts racing.task lane (name_in racing k)).stalls (scripts racing.task lane (name_in racing k)).bytes, inl refl, left))))
     | inr apart ↦ none NotServed apart

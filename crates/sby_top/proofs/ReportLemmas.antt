@@ -22,9 +22,9 @@ use Rattle.sby_terms.specs.declared.engine.Engine.{Engine}
 use Rattle.sby_terms.specs.declared.names.JobName.{JobName}
 use Rattle.sby_terms.specs.declared.names.Mode.{Mode}
 use Rattle.sby_lines.specs.Told.{AreLimited, AreReported, IsGiven, job_of}
-use Rattle.sby_lines.proofs.PlaceLemmas.{at_contains, contains_at}
+use Rattle.sby_lines.proofs.PlaceLemmas.{at_contains, contains_at, job_named}
 use Rattle.sby_top.specs.Claims.{IsCausedEnd, IsStoredEnd}
-use Rattle.sby_top.specs.Judged.{AreJudged, AreReports, AreStreamReports, IsEndOf, IsReport, racing_of}
+use Rattle.sby_top.specs.Judged.{AreJudged, AreReports, AreStreamReports, IsEndOf, IsReport, IsStreamEnd, racing_of}
 use Rattle.sby_top.specs.Ready.{report_count}
 use Rattle.sby_top.specs.Served.{IsAccepted, jobs_in}
 use Rattle.sby_top.specs.Task.{Lanes, Service, Streams, TaskOf}
@@ -64,6 +64,10 @@ first_or_later y x xs (suc k, lt, is) = inr (k, omega (arith, lt), is)
 pub nothing_in : {X : Type 0} (x : X) → Contains [] x → ⊥
 nothing_in x c = omega (arith, c.1)
 
+stream_carries : (p : AskedOf) (told : Option Store) (job : JobName) (path : List ℕ) (end : JobEnd FindingOf) (f : FindingOf) → IsStreamEnd p told job path end → Carries end f → IsTrueFinding f × (f.problem ≡ p.problem)
+stream_carries p told job path end f (inl judged) carries = end_carries p job end f judged.of carries
+stream_carries p told job path end f (inr (unserved, is)) carries = absurd (subst (λ x. Carries x f) is carries)
+
 ends_carry : (p : AskedOf) (told : Option Store) (jobs : List JobName) (paths : List (List ℕ)) (ends : List (JobEnd FindingOf)) → AreJudged p told jobs paths ends
     → (f : FindingOf) (e : JobEnd FindingOf) → Contains ends e → Carries e f → IsTrueFinding f × (f.problem ≡ p.problem)
 ends_carry p told [] paths ends judged f e among carries = absurd (nothing_in e (subst (λ es. Contains es e) judged among))
@@ -73,7 +77,7 @@ ends_carry p told (job ∷ jobs) [] (end ∷ ends) judged f e among carries = el
   | inr later ↦ ends_carry p told jobs [] ends judged.1 f e later carries
 ]
 ends_carry p told (job ∷ jobs) (path ∷ paths) (end ∷ ends) judged f e among carries = elim (first_or_later end e ends among) [
-  | inl here ↦ end_carries p job end f judged.0.of (subst (λ x. Carries x f) (sym here) carries)
+  | inl here ↦ stream_carries p told job path end f judged.0 (subst (λ x. Carries x f) (sym here) carries)
   | inr later ↦ ends_carry p told jobs paths ends judged.1 f e later carries
 ]
 
@@ -111,6 +115,10 @@ not_won p i k r plain won =
 end_not_stopped : (p : AskedOf) (job : JobName) (end : JobEnd FindingOf) (t : ℕ) → IsEndOf p job end → end ≡ Stopped t → ⊥
 end_not_stopped p job end t of is = subst (IsEndOf p job) is of
 
+stream_not_stopped : (p : AskedOf) (told : Option Store) (job : JobName) (path : List ℕ) (end : JobEnd FindingOf) (t : ℕ) → IsStreamEnd p told job path end → end ≡ Stopped t → ⊥
+stream_not_stopped p told job path end t (inl judged) is = end_not_stopped p job end t judged.of is
+stream_not_stopped p told job path end t (inr (unserved, none)) is = let both : ◌≡◌ {A = JobEnd FindingOf} NotServed (Stopped t) = sym none ∙ is in cc
+
 ends_not_stopped : (p : AskedOf) (told : Option Store) (jobs : List JobName) (paths : List (List ℕ)) (ends : List (JobEnd FindingOf)) → AreJudged p told jobs paths ends
     → (k t : ℕ) → slice_index_or ends k NotServed ≡ Stopped t → ⊥
 ends_not_stopped p told [] paths ends judged k t is =
@@ -119,7 +127,7 @@ ends_not_stopped p told [] paths ends judged k t is =
 ends_not_stopped p told (job ∷ jobs) paths [] judged k t is = absurd judged
 ends_not_stopped p told (job ∷ jobs) [] (end ∷ ends) judged zero t is = let both : ◌≡◌ {A = JobEnd FindingOf} NotServed (Stopped t) = sym judged.0 ∙ is in cc
 ends_not_stopped p told (job ∷ jobs) [] (end ∷ ends) judged (suc k) t is = ends_not_stopped p told jobs [] ends judged.1 k t is
-ends_not_stopped p told (job ∷ jobs) (path ∷ paths) (end ∷ ends) judged zero t is = end_not_stopped p job end t judged.0.of is
+ends_not_stopped p told (job ∷ jobs) (path ∷ paths) (end ∷ ends) judged zero t is = stream_not_stopped p told job path end t judged.0 is
 ends_not_stopped p told (job ∷ jobs) (path ∷ paths) (end ∷ ends) judged (suc k) t is = ends_not_stopped p told jobs paths ends judged.1 k t is
 
 not_stopped : (p : AskedOf) (told : Option Store) (paths : List (List ℕ)) (reports : List (ReportOf FindingOf)) → AreStreamReports p told paths reports → (r : ReportOf FindingOf) → Contains reports r
@@ -131,35 +139,40 @@ not_stopped p told paths reports are r among k t is = elim (first_or_later are.0
 
 -- ---- why jobs end so
 
-own_stored : (p : AskedOf) (job : JobName) (end : JobEnd FindingOf) → IsEndOf p job end → IsStoredEnd end
-own_stored p job (Found f) of = tt
-own_stored p job Unknown of = tt
-own_stored p job NotServed of = tt
-own_stored p job (Bad number at) of = tt
-own_stored p job ReadFailed of = of
-own_stored p job StartFailed of = of
-own_stored p job HoldFailed of = of
-own_stored p job (Skipped f) of = of
-own_stored p job (CalledOff f) of = of
-own_stored p job (Stopped reading) of = of
-own_stored p job MemoryEnd of = tt
+own_stored : (p : AskedOf) (job : JobName) (path : Option (List ℕ)) (end : JobEnd FindingOf) → IsEndOf p job end → IsStoredEnd job path end
+own_stored p job path (Found f) of = tt
+own_stored p job path Unknown of = tt
+own_stored p job path NotServed of = absurd of
+own_stored p job path (Bad number at) of = tt
+own_stored p job path ReadFailed of = of
+own_stored p job path StartFailed of = of
+own_stored p job path HoldFailed of = of
+own_stored p job path (Skipped f) of = of
+own_stored p job path (CalledOff f) of = of
+own_stored p job path (Stopped reading) of = of
+own_stored p job path MemoryEnd of = tt
 
-unserved_stored : (end : JobEnd FindingOf) → end ≡ NotServed → IsStoredEnd end
-unserved_stored end none = subst IsStoredEnd (sym none) tt
+unserved_stored : (job : JobName) (end : JobEnd FindingOf) → end ≡ NotServed → IsStoredEnd job None end
+unserved_stored job end none = subst (IsStoredEnd job None) (sym none) tt
+
+stream_stored : (p : AskedOf) (told : Option Store) (job : JobName) (path : List ℕ) (end : JobEnd FindingOf) → IsStreamEnd p told job path end → IsStoredEnd job (Some path) end
+stream_stored p told job path end (inl judged) = own_stored p job (Some path) end judged.of
+stream_stored p told job path end (inr (unserved, none)) = subst (IsStoredEnd job (Some path)) (sym none) unserved
 
 ends_stored : (p : AskedOf) (told : Option Store) (jobs : List JobName) (paths : List (List ℕ)) (ends : List (JobEnd FindingOf)) → AreJudged p told jobs paths ends
-    → (k : ℕ) → IsStoredEnd (slice_index_or ends k NotServed)
-ends_stored p told [] paths ends judged k = unserved_stored (slice_index_or ends k NotServed) (ap (λ (es : List (JobEnd FindingOf)). slice_index_or es k NotServed) judged)
-ends_stored p told (job ∷ jobs) paths [] judged k = absurd judged
-ends_stored p told (job ∷ jobs) [] (end ∷ ends) judged zero = unserved_stored end judged.0
-ends_stored p told (job ∷ jobs) [] (end ∷ ends) judged (suc k) = ends_stored p told jobs [] ends judged.1 k
-ends_stored p told (job ∷ jobs) (path ∷ paths) (end ∷ ends) judged zero = own_stored p job end judged.0.of
-ends_stored p told (job ∷ jobs) (path ∷ paths) (end ∷ ends) judged (suc k) = ends_stored p told jobs paths ends judged.1 k
+    → (k : ℕ) (job : JobName) → slice_get jobs k ≡ Some job → IsStoredEnd job (slice_get paths k) (slice_index_or ends k NotServed)
+ends_stored p told [] paths ends judged k job at = let none : ◌≡◌ {A = Option JobName} None (Some job) = at in cc
+ends_stored p told (j ∷ jobs) paths [] judged k job at = absurd judged
+ends_stored p told (j ∷ jobs) [] (end ∷ ends) judged zero job at = unserved_stored job end judged.0
+ends_stored p told (j ∷ jobs) [] (end ∷ ends) judged (suc k) job at = ends_stored p told jobs [] ends judged.1 k job at
+ends_stored p told (j ∷ jobs) (path ∷ paths) (end ∷ ends) judged zero job at =
+    let same : j ≡ job = cc in subst (λ (x : JobName). IsStoredEnd x (Some path) end) same (stream_stored p told j path end judged.0)
+ends_stored p told (j ∷ jobs) (path ∷ paths) (end ∷ ends) judged (suc k) job at = ends_stored p told jobs paths ends judged.1 k job at
 
 one_stored : (p : AskedOf) (told : Option Store) (paths : List (List ℕ)) (reports : List (ReportOf FindingOf)) → AreStreamReports p told paths reports → (r : ReportOf FindingOf) → Contains reports r
-    → (k : ℕ) → IsStoredEnd (end_at r k)
-one_stored p told paths reports are r among k = elim (first_or_later are.0 r [] (subst (λ rs. Contains rs r) are.2 among)) [
-  | inl here ↦ subst (λ (q : ReportOf FindingOf). IsStoredEnd (end_at q k)) here (ends_stored p told (jobs_in p) paths are.0.ends are.1.ends k)
+    → (k : ℕ) (job : JobName) → slice_get (jobs_in p) k ≡ Some job → IsStoredEnd job (slice_get paths k) (end_at r k)
+one_stored p told paths reports are r among k job at = elim (first_or_later are.0 r [] (subst (λ rs. Contains rs r) are.2 among)) [
+  | inl here ↦ subst (λ (q : ReportOf FindingOf). IsStoredEnd job (slice_get paths k) (end_at q k)) here (ends_stored p told (jobs_in p) paths are.0.ends are.1.ends k job at)
   | inr later ↦ absurd (nothing_in r later)
 ]
 
@@ -167,7 +180,10 @@ one_stored p told paths reports are r among k = elim (first_or_later are.0 r [] 
 pub caused : (may_read : ℕ → Type 0) (now : Option Store) (task : TaskOf) (p : AskedOf) (race : RaceOf) (service : Service) (reports : List (ReportOf FindingOf)) → AreReports service may_read task p now race reports
     → p.problem.mode ≡ task.request.mode → (lane place : ℕ) (r : ReportOf FindingOf) (e : JobEnd FindingOf) → slice_get reports lane ≡ Some r → place < length (jobs_in p) → end_at r place ≡ e
     → IsCausedEnd service may_read task p race lane place e
-caused may_read now task p race (Streams paths) reports are mode lane place r e at lt is = subst IsStoredEnd is (one_stored p now paths reports are.0 r (at_contains reports lane r at) place)
+caused may_read now task p race (Streams paths) reports are mode lane place r e at lt is =
+    subst (IsStoredEnd (name_at task.request.mode place) (slice_get paths place)) is
+    (one_stored p now paths reports are.0 r (at_contains reports lane r at) place (name_at task.request.mode place)
+    (job_named p.problem.mode p.problem.span p.design place lt ∙ ap (λ (m : Mode). Some (name_at m place)) mode))
 caused may_read now task p race (Lanes engines) reports ran mode lane place r e at lt is =
     let cause = lane_cause (racing_of task p race.task engines) may_read race.before race.after race.start reports ran lane place r at lt e is in (
       cause.0,

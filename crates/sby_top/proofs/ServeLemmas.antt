@@ -1,20 +1,18 @@
 -- What came of a task's files.
-use Rattle.std.proofs.Common.{◌≡◌, ℕ, ◌≤◌, List, refl, ap, sym, ◌∙◌, subst, inl, inr, length, take, arith}
-use Rattle.std.specs.Prelude.{Option, Some, None, Contains, map, option_map, slice_get, string_bytes}
+use Rattle.std.proofs.Common.{◌≡◌, ℕ, ◌≤◌, List, refl, ap, sym, ◌∙◌, subst, inl, inr, length, arith}
+use Rattle.std.specs.Prelude.{Option, Some, None, map, option_map, slice_get, string_bytes}
 use Rattle.std.specs.Borrow.{Bor}
 use Rattle.std.specs.Slice.{IsItemAt}
 use Rattle.std.proofs.lemmas.Option.{slice_get-get_or, slice_get-map, slice_get_past}
-use Rattle.design_core.proofs.Lists.{Contains-from_place}
 use Rattle.std.proofs.lemmas.List.{take_all}
 use Rattle.sby_edge.specs.Files.{Store}
 use Rattle.judge.specs.Problem.{AskedOf, IsProblem}
-use Rattle.sby_terms.specs.declared.names.JobName.{JobName}
-use Rattle.sby_terms.specs.Path.{job_path}
 use Rattle.sby_lines.specs.declared.early.Early.{Early}
 use Rattle.sby_lines.specs.declared.early.Early.TheVariants.{File, Sby, Task, Read, Design, TooMany, Streams, Memory}
 use Rattle.sby_top.specs.Causes.{HasReason, IsHalted}
+use Rattle.sby_top.specs.Judged.{IsGotFor}
 use Rattle.sby_top.specs.Steps.{files_at, IsCutShort, IsFailedCall, IsPutFailed, IsRefusal, IsTextFailed}
-use Rattle.sby_top.specs.Served.{ArePut, IsAccepted, IsServed, IsTextOf, jobs_in, slices_in}
+use Rattle.sby_top.specs.Served.{ArePut, IsAccepted, IsServed, IsTextOf, JobFile, files_in}
 use Rattle.sby_top.specs.Task.{Stored, TaskOf, problem_of, streams_in}
 use Rattle.sby_top.specs.World.{FilesOf, IsFailedAt}
 
@@ -36,8 +34,8 @@ path_given {X} v xs i (Some r) h =
     let at : slice_get xs i ≡ Some r.now = slice_get-get_or xs i r.now h.3.0 ∙ ap Some (sym h.1) in
     sym (slice_get-map v xs i ∙ ap (λ (o : Option X). option_map v o) at)
 
-pub path_among : {X Y : Type 0} (v : X → Y) (xs : List X) (i : ℕ) (r : Option (Bor X)) (path : Y) → IsItemAt xs i r → option_map (λ (s : Bor X). v s.now) r ≡ Some path → Contains (map v xs) path
-path_among v xs i r path h is = Contains-from_place (map v xs) i path (sym (path_given v xs i r h) ∙ is)
+pub path_at : {X Y : Type 0} (v : X → Y) (xs : List X) (i : ℕ) (r : Option (Bor X)) (path : Y) → IsItemAt xs i r → option_map (λ (s : Bor X). v s.now) r ≡ Some path → slice_get (map v xs) i ≡ Some path
+path_at v xs i r path h is = sym (path_given v xs i r h) ∙ is
 
 -- ---- failed calls
 
@@ -63,9 +61,14 @@ named_at b a name path is h = subst (λ x. IsFailedAt b a x) (sym is) h
 -- ---- reasons
 
 -- memory ran out when all files were put
-pub all_halted : (task : TaskOf) (before after : Option Store) (p : AskedOf) → IsServed before task p → ArePut p task.request.name (jobs_in p) before after → IsHalted task before after
+pub all_halted : (task : TaskOf) (before after : Option Store) (p : AskedOf) → IsServed before task p → ArePut p task.request.name (files_in task.service p) before after → IsHalted task before after
 all_halted task before after p served put =
-    inr (p, length (jobs_in p), served, subst (λ js. ArePut p task.request.name js before after) (sym (take_all (length (jobs_in p)) (jobs_in p) (omega arith))) put)
+    inr (
+      p,
+      length (files_in task.service p),
+      served,
+      subst (λ (fs : List JobFile). ArePut p task.request.name fs before after) (sym (take_all (length (files_in task.service p)) (files_in task.service p) (omega arith))) put,
+    )
 
 path_not_got : (task : TaskOf) (before after : FilesOf) (path : List ℕ) (early : Early) → task.design ≡ Stored path → IsFailedCall before after path early → HasReason task before after early
 path_not_got task before after path (File p) at h =
@@ -96,9 +99,9 @@ text_refused task before after (Task x) text got h same = absurd h
 text_refused task before after Streams text got h same = absurd h
 
 file_not_put : (task : TaskOf) (before after : FilesOf) (early : Early) (p : AskedOf) → IsServed before.told task p
-    → IsPutFailed p task.request.name before after early → HasReason task before after early
+    → IsPutFailed p task.request.name (files_in task.service p) before after early → HasReason task before after early
 file_not_put task before after (File path) p served h =
-    (named_at _ after (string_bytes path) _ h.failed.0 h.failed.1, inr (inl (p, h.place, h.job, served, h.at, h.failed.0, h.put)))
+    (named_at _ after (string_bytes path) _ h.failed.0 h.failed.1, inr (inl (p, h.place, h.file, served, h.at, h.failed.0, h.put)))
 file_not_put task before after Memory p served h = inr (p, h.place, served, h.put)
 file_not_put task before after (Sby x) p served h = absurd h.failed
 file_not_put task before after (Task x) p served h = absurd h.failed
@@ -108,10 +111,10 @@ file_not_put task before after (TooMany job) p served h = absurd h.failed
 file_not_put task before after Streams p served h = absurd h.failed
 
 stream_not_got : (task : TaskOf) (before after : FilesOf) (early : Early) (p : AskedOf) (path : List ℕ) → IsServed before.told task p
-    → ArePut p task.request.name (jobs_in p) before.told after.told → Contains (streams_in task.service) path → IsFailedCall (record before { told = after.told }) after path early
+    → ArePut p task.request.name (files_in task.service p) before.told after.told → IsGotFor p (streams_in task.service) path → IsFailedCall (record before { told = after.told }) after path early
     → HasReason task before after early
 stream_not_got task before after (File q) p path served put among h =
-    (named_at _ after (string_bytes q) path h.0 h.1, inr (inr (p, served, subst (Contains (streams_in task.service)) (sym h.0) among, put)))
+    (named_at _ after (string_bytes q) path h.0 h.1, inr (inr (p, served, subst (λ (x : List ℕ). IsGotFor p (streams_in task.service) x) (sym h.0) among, put)))
 stream_not_got task before after Memory p path served put among h = all_halted task before.told after.told p served put
 stream_not_got task before after (Sby x) p path served put among h = absurd h
 stream_not_got task before after (Task x) p path served put among h = absurd h
@@ -122,7 +125,7 @@ stream_not_got task before after Streams p path served put among h = absurd h
 
 -- the jobs of an accepted design were cut short
 pub cut_short : (task : TaskOf) (before after : FilesOf) (early : Early) (p : AskedOf) → IsServed before.told task p
-    → IsCutShort p task.request.name (streams_in task.service) before after early → HasReason task before after early
+    → IsCutShort p task.request.name task.service before after early → HasReason task before after early
 cut_short task before after early p served (inl h) = subst (HasReason task before after) (sym h.0) (inl (ap (λ (f : FilesOf). f.told) h.1))
 cut_short task before after early p served (inr (inl h)) = file_not_put task before after early p served h
 cut_short task before after early p served (inr (inr (put, inl h))) = stream_not_got task before after early p h.0 served put h.1 h.2
@@ -130,27 +133,14 @@ cut_short task before after early p served (inr (inr (put, inr memory))) = subst
 
 -- ---- what was put
 
--- the call for the file of a job failed
-pub put_failed : (p : AskedOf) (folder : List ℕ) (slices place : ℕ) (t0 tm ta : Option Store) (f0 fm fa : ℕ) (b0 bm ba : Option (List ℕ)) (job : JobName) (early : Early) → slices ≡ slices_in p
-    → slice_get (jobs_in p) place ≡ Some job → ArePut p folder (take place (jobs_in p)) t0 tm → ta ≡ tm → fm ≡ f0 → IsFailedCall (files_at tm fm bm) (files_at ta fa ba) (job_path folder slices job) early
-    → IsPutFailed p folder (files_at t0 f0 b0) (files_at ta fa ba) early
-put_failed p folder slices place t0 tm ta f0 fm fa b0 bm ba job early count at put same still failed = record {
-  place = place;
-  job = job;
-  at = at;
-  put = subst (ArePut p folder (take place (jobs_in p)) t0) (sym same) put;
-  failed = failed_since (files_at t0 f0 b0) (files_at tm fm bm) (files_at ta fa ba) (job_path folder (slices_in p) job) early (omega (arith, still))
-      (subst (λ n. IsFailedCall (files_at tm fm bm) (files_at ta fa ba) (job_path folder n job) early) count failed);
-}
-
 -- the jobs were cut short, since a moment at which the files were the same
 pub short_since : (task : TaskOf) (p : AskedOf) (t0 t1 ta : Option Store) (f0 f1 fa : ℕ) (b0 b1 ba : Option (List ℕ)) (early : Early) → IsServed t0 task p → t1 ≡ t0 → f1 ≡ f0 → b1 ≡ b0
-    → IsCutShort p task.request.name (streams_in task.service) (files_at t1 f1 b1) (files_at ta fa ba) early
+    → IsCutShort p task.request.name task.service (files_at t1 f1 b1) (files_at ta fa ba) early
     → HasReason task (files_at t0 f0 b0) (files_at ta fa ba) early
 short_since task p t0 t1 ta f0 f1 fa b0 b1 ba early served told faults blamed short =
-    let own = subst (λ b. IsCutShort p task.request.name (streams_in task.service) b (files_at ta fa ba) early) (same_files t0 t1 f0 f1 b0 b1 told faults blamed) short in
+    let own = subst (λ b. IsCutShort p task.request.name task.service b (files_at ta fa ba) early) (same_files t0 t1 f0 f1 b0 b1 told faults blamed) short in
     cut_short task (files_at t0 f0 b0) (files_at ta fa ba) early p served own
 
 -- the files of all jobs were put, since then
-pub all_since : (task : TaskOf) (p : AskedOf) (t0 t1 ta : Option Store) → t1 ≡ t0 → ArePut p task.request.name (jobs_in p) t1 ta → ArePut p task.request.name (jobs_in p) t0 ta
-all_since task p t0 t1 ta told put = subst (λ t. ArePut p task.request.name (jobs_in p) t ta) told put
+pub all_since : (task : TaskOf) (p : AskedOf) (t0 t1 ta : Option Store) → t1 ≡ t0 → ArePut p task.request.name (files_in task.service p) t1 ta → ArePut p task.request.name (files_in task.service p) t0 ta
+all_since task p t0 t1 ta told put = subst (λ t. ArePut p task.request.name (files_in task.service p) t ta) told put

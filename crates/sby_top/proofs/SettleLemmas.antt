@@ -38,11 +38,12 @@ use Rattle.sby_top.specs.Task.{Lanes, TaskOf}
 use Rattle.sby_top.specs.World.{Moments, race_of}
 use Rattle.sby_top.specs.declared.outcome.TaskEnd.{TaskEnd}
 use Rattle.sby_top.proofs.EvidenceLemmas.{judged_job}
+use Rattle.sby_terms.specs.declared.names.JobName.{JobName}
 
-pub serving_within : (engines : List Engine) (lane : ℕ) → IsServing (slice_get engines lane) → lane < length engines
-serving_within [] lane serving = absurd serving
-serving_within (e ∷ engines) zero serving = omega arith
-serving_within (e ∷ engines) (suc lane) serving = let rest = serving_within engines lane serving in omega (rest, arith)
+pub serving_within : (engines : List Engine) (lane : ℕ) (job : JobName) → IsServing (slice_get engines lane) job → lane < length engines
+serving_within [] lane job serving = absurd serving
+serving_within (e ∷ engines) zero job serving = omega arith
+serving_within (e ∷ engines) (suc lane) job serving = let rest = serving_within engines lane job serving in omega (rest, arith)
 
 -- the ends of a job with a valid certificate that don't settle it
 abbrev pub Hinders : (ℕ → Type 0) → Option ℕ → Type 0 → Option ℕ → JobEnd FindingOf → Type 0
@@ -50,14 +51,14 @@ Hinders may_read limit Failed start e =
     ((told_by e ≡ FaultEvent) × Failed) ⊎ ((t : ℕ) × (e ≡ Stopped t) × IsLimitShown may_read limit start t) ⊎ (told_by e ≡ MemoryEvent)
 
 module _ (may_read : ℕ → Type 0) (number : ℕ) (moments : Moments) (task : TaskOf) (end : TaskEnd) (engines : List Engine) (lane place : ℕ) (script : ScriptOf) (now : Store) (file : List ℕ) (answer : Answer)
-    (judged : IsJudgedAt may_read number moments task end now) (service : task.service ≡ Lanes engines) (lt : place < length (jobs_in judged.done.problem)) (serving : IsServing (slice_get engines lane))
+    (judged : IsJudgedAt may_read number moments task end now) (service : task.service ≡ Lanes engines) (lt : place < length (jobs_in judged.done.problem)) (serving : IsServing (slice_get engines lane) (name_at task.request.mode place))
     (script_is : script_of moments.before.yard.scripts number lane (name_at task.request.mode place) ≡ Some script) (no_gate : script.gate ≡ None) (own_file : IsJobFile judged.done.problem (name_at task.request.mode place) file)
-    (valid : IsFateOf (evidence_at (slice_get engines lane)) file (up_to script.stalls script.bytes) (take (most_bytes + 1) script.proof) (FoundFate answer)) where
+    (valid : IsFateOf judged.done.problem (name_at task.request.mode place) (evidence_at (slice_get engines lane)) file (up_to script.stalls script.bytes) (take (most_bytes + 1) script.proof) (FoundFate answer)) where
   lanes_ran : LanesRan (racing_of task judged.done.problem number engines) moments.pool may_read moments.before.yard moments.after.yard end.start end.reports.items
   lanes_ran = subst (λ s. AreReports s may_read task judged.done.problem moments.put.told (race_of number moments.pool moments.before moments.after end.start) end.reports.items) service judged.done.reports_are
 
   own_report : (r : ReportOf FindingOf) × (slice_get end.reports.items lane ≡ Some r)
-  own_report = let count = lanes_ran.consistent.lanes_are in let within = serving_within engines lane serving in stands_at end.reports.items lane (omega (arith, count, within))
+  own_report = let count = lanes_ran.consistent.lanes_are in let within = serving_within engines lane (name_at task.request.mode place) serving in stands_at end.reports.items lane (omega (arith, count, within))
 
   own_cause : (counts : CountsOf) × AreCountsOf number lane moments.before.yard moments.after.yard counts
       × HasEndCause (racing_of task judged.done.problem number engines) may_read moments.before.yard.scripts counts end.start lane (name_at task.request.mode place) (end_at own_report.0 place)
@@ -71,7 +72,7 @@ module _ (may_read : ℕ → Type 0) (number : ℕ) (moments : Moments) (task : 
 
   own_fate : IsEndOfFate (FoundFate answer) (end_at own_report.0 place)
   own_fate = end_of_fate (racing_of task judged.done.problem number engines) may_read moments.before.yard.scripts own_cause.0 end.start lane (name_at task.request.mode place) script file (FoundFate answer) serving script_is no_gate own_file
-      valid (end_at own_report.0 place) own_cause.2
+      judged.done.served.0.problem valid (end_at own_report.0 place) own_cause.2
 
   among : Contains end.reports.items own_report.0
   among = at_contains end.reports.items lane own_report.0 own_report.1

@@ -10,7 +10,7 @@ use Rattle.sby_lines.specs.declared.early.Early.TheVariants.{File, Sby, Task, Re
 use Rattle.sby_top.specs.Causes.{HasReason, IsFailedPath, IsHalted, IsOutcome}
 use Rattle.sby_top.specs.Claims.{AreStored, IsStored}
 use Rattle.sby_top.specs.Headline.{NamesEvent}
-use Rattle.sby_top.specs.Served.{ArePut, jobs_in}
+use Rattle.sby_top.specs.Served.{ArePut, JobFile, files_in}
 use Rattle.sby_top.specs.Task.{TaskOf}
 use Rattle.sby_top.specs.Traces.{ArePutTraces, TraceOf, with_trace}
 use Rattle.sby_top.specs.World.{FilesOf, Moments, RaceOf, files_of, race_of}
@@ -25,7 +25,7 @@ put_stored task d (t ∷ traces) b a unput (inr put) = let rest = put_stored tas
 
 halted_stored : (task : TaskOf) (moments : Moments) → moments.after.told ≡ moments.before.told → IsHalted task moments.got.told moments.put.told → IsStored task moments
 halted_stored task moments still (inl same) = inl (same, still)
-halted_stored task moments still (inr put) = inr (record { problem = put.0; jobs = put.1; traces = []; served = put.2; put = put.3; traced = still })
+halted_stored task moments still (inr put) = inr (record { problem = put.0; count = put.1; traces = []; served = put.2; put = put.3; traced = still })
 
 path_stored : (task : TaskOf) (moments : Moments) (path : List ℕ) → moments.after.told ≡ moments.before.told → IsFailedPath task moments.got.told moments.put.told path → IsStored task moments
 path_stored task moments path still (inl got) = inl (got.1, still)
@@ -50,10 +50,10 @@ outcome_stored may_read race task moments None text reports unput stopped came =
     let traces = put_stored task done.problem.design (take came.1.count came.1.traces) (files_of moments.before) (files_of moments.after) unput came.1.put in
     inr (record {
       problem = done.problem;
-      jobs = length (jobs_in done.problem);
+      count = length (files_in task.service done.problem);
       traces = traces.0;
       served = done.served;
-      put = subst (λ js. ArePut done.problem task.request.name js moments.got.told moments.put.told) (sym (take_all (length (jobs_in done.problem)) (jobs_in done.problem) (omega arith))) done.put;
+      put = subst (λ (fs : List JobFile). ArePut done.problem task.request.name fs moments.got.told moments.put.told) (sym (take_all (length (files_in task.service done.problem)) (files_in task.service done.problem) (omega arith))) done.put;
       traced = traces.1;
     })
 

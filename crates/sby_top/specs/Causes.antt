@@ -1,34 +1,32 @@
 -- What a task came to, and why.
-use Rattle.std.specs.Prelude.{◌≡◌, ◌⊎◌, ℕ, ◌<◌, List, [], length, take, string_bytes, Option, Some, None, slice_get, Contains}
+use Rattle.std.specs.Prelude.{◌≡◌, ◌⊎◌, ℕ, ◌<◌, List, [], length, take, string_bytes, Option, Some, None, slice_get}
 use Rattle.sby_edge.specs.Files.{Store}
 use Rattle.judge.specs.Finding.{FindingOf}
 use Rattle.judge.specs.Problem.{AskedOf}
 use Rattle.judge.specs.declared.problem.ProblemFault.TheVariants.{Read as ReadFault, Design as DesignFault, TooMany as TooManyFault}
 use Rattle.race_core.specs.Report.{ReportOf}
-use Rattle.sby_terms.specs.declared.names.JobName.{JobName}
-use Rattle.sby_terms.specs.Path.{job_path}
 use Rattle.sby_lines.specs.declared.early.Early.{Early}
 use Rattle.sby_lines.specs.declared.early.Early.TheVariants.{File, Sby, Task, Read, Design, TooMany, Streams, Memory}
-use Rattle.sby_top.specs.Judged.{AreReports}
-use Rattle.sby_top.specs.Served.{ArePut, IsAccepted, IsRefused, IsServed, jobs_in, slices_in}
+use Rattle.sby_top.specs.Judged.{AreReports, IsGotFor}
+use Rattle.sby_top.specs.Served.{ArePut, IsAccepted, IsRefused, IsServed, JobFile, file_path, files_in, jobs_in, slices_in}
 use Rattle.sby_top.specs.Task.{Stored, TaskOf, streams_in}
 use Rattle.task_race.specs.Bays.{NoneStarted, YardAt}
 use Rattle.sby_top.specs.Traces.{ArePutTraces, AreTraces, TraceOf}
 use Rattle.sby_top.specs.World.{FilesOf, IsFailedAt, Moments, RaceOf, files_of}
 
--- A file call of a task failed at this path: of its design, before anything was put; of a job's file, when those before it were put; or
--- of a stream, when all were.
+-- A file call of a task failed at this path: of its design, before anything was put; of a file of its jobs, when those before it were put;
+-- or of a stream, when all were.
 abbrev pub IsFailedPath : TaskOf → Option Store → Option Store → List ℕ → Type 0
 IsFailedPath task before after path =
     ((task.design ≡ Stored path) × (after ≡ before))
-    ⊎ ((p : AskedOf) × (i : ℕ) × (job : JobName) × IsServed before task p × (slice_get (jobs_in p) i ≡ Some job)
-    × (path ≡ job_path task.request.name (slices_in p) job) × ArePut p task.request.name (take i (jobs_in p)) before after)
-    ⊎ ((p : AskedOf) × IsServed before task p × Contains (streams_in task.service) path × ArePut p task.request.name (jobs_in p) before after)
+    ⊎ ((p : AskedOf) × (i : ℕ) × (file : JobFile) × IsServed before task p × (slice_get (files_in task.service p) i ≡ Some file)
+    × (path ≡ file_path task.request.name (slices_in p) file) × ArePut p task.request.name (take i (files_in task.service p)) before after)
+    ⊎ ((p : AskedOf) × IsServed before task p × IsGotFor p (streams_in task.service) path × ArePut p task.request.name (files_in task.service p) before after)
 
--- what was put when memory ran out: nothing; or the files of the first jobs of the accepted design, in their order
+-- what was put when memory ran out: nothing; or the first files of the jobs of the accepted design, in their order
 abbrev pub IsHalted : TaskOf → Option Store → Option Store → Type 0
 IsHalted task before after =
-    (after ≡ before) ⊎ ((p : AskedOf) × (i : ℕ) × IsServed before task p × ArePut p task.request.name (take i (jobs_in p)) before after)
+    (after ≡ before) ⊎ ((p : AskedOf) × (i : ℕ) × IsServed before task p × ArePut p task.request.name (take i (files_in task.service p)) before after)
 
 -- Why a task ended before its lanes: a file call failed, at this path, which is one of the task's; the design's text is refused so; or it
 -- is accepted, with more streams than jobs. These two put no file, and no call failed. A task that is run has a sound task file.
@@ -45,12 +43,12 @@ HasReason task before after Streams =
     ((p : AskedOf) × IsAccepted before.told task p × (length (jobs_in p) < length (streams_in task.service))) × (after ≡ before)
 HasReason task before after Memory = IsHalted task before.told after.told
 
--- The design was accepted, with this text; each job's file was put, and the reports are those of the jobs.
+-- The design was accepted, with this text; the files of all jobs were put, and the reports are those of the jobs.
 pub record IsDone (may_read : ℕ → Type 0) (task : TaskOf) (before after : FilesOf) (race : RaceOf) (text : List ℕ) (reports : List (ReportOf FindingOf)) : Type 0 where
   pub problem : AskedOf
   pub served : IsServed before.told task problem
   pub text_is : text ≡ problem.problem.text
-  pub put : ArePut problem task.request.name (jobs_in problem) before.told after.told
+  pub put : ArePut problem task.request.name (files_in task.service problem) before.told after.told
   pub reports_are : AreReports task.service may_read task problem after.told race reports
   pub faults : after.faults ≡ before.faults
   pub blamed : after.blamed ≡ before.blamed

@@ -28,6 +28,7 @@ use Rattle.design_reader.specs.Grammar.{Reads}
 use Rattle.sby_terms.specs.declared.engine.Engine.{Engine}
 use Rattle.sby_terms.specs.declared.names.Answer.{Answer}
 use Rattle.sby_terms.specs.declared.names.Answer.TheVariants.{Sat, Unsat}
+use Rattle.sby_terms.specs.declared.names.JobName.{JobName}
 use Rattle.sby_terms.specs.declared.names.JobName.TheVariants.{Base, Cover as CoverJob}
 use Rattle.sby_terms.specs.declared.names.Status.{Status}
 use Rattle.sby_terms.specs.declared.names.Status.TheVariants.{Pass, Fail, Unknown, Error, Timeout, Memory}
@@ -42,8 +43,8 @@ use Rattle.sby_words.specs.Words.{IsAsked}
 use Rattle.sby_top.specs.Causes.{AreTracesPut, HasReason, IsDone, IsOutcome}
 use Rattle.sby_top.specs.Headline.{AreLines, ArePrintedOf, Exit, IsCarried, IsReachPrinted, WasStopped}
 use Rattle.sby_top.specs.Run.{Follows, Had, SameSink, allowance_of, TurnRan, rc_of_exit}
-use Rattle.sby_top.specs.Served.{ArePut, IsServed, IsTextOf, jobs_in, most_stream}
-use Rattle.sby_top.specs.Judged.{racing_of}
+use Rattle.sby_top.specs.Served.{ArePut, IsServed, IsTextOf, files_in, most_stream}
+use Rattle.sby_top.specs.Judged.{IsUnserved, racing_of}
 use Rattle.sby_top.specs.Task.{Lanes, Service, Streams, TaskOf}
 use Rattle.sby_top.specs.Asked.{HasTurns}
 use Rattle.sby_top.specs.Turns.{Refused, Run, Turn}
@@ -84,13 +85,13 @@ abbrev pub AreStored : TaskOf → DesignOf → List TraceOf → Option Store →
 AreStored task d [] before after = after ≡ before
 AreStored task d (t ∷ traces) before after = AreStored task d traces (with_trace task.request d t before) after
 
--- files were put: of the first jobs of the problem, as the task was prepared; then trace files, with its lines
+-- files were put: the first of those of the problem's jobs, as the task was prepared; then trace files, with its lines
 pub record AreFilesPut (task : TaskOf) (m : Moments) : Type 0 where
   pub problem : AskedOf
-  pub jobs : ℕ
+  pub count : ℕ
   pub traces : List TraceOf
   pub served : IsServed m.got.told task problem
-  pub put : ArePut problem task.request.name (take jobs (jobs_in problem)) m.got.told m.put.told
+  pub put : ArePut problem task.request.name (take count (files_in task.service problem)) m.got.told m.put.told
   pub traced : AreStored task problem.design traces m.before.told m.after.told
 
 -- No file changed; or every file that did is a job's or a trace file.
@@ -236,19 +237,24 @@ IsFaultyEnd (CalledOff f) = ⊥
 IsFaultyEnd (Stopped reading) = ⊥
 IsFaultyEnd MemoryEnd = ⊥
 
--- a job with a stored stream has no child: no call for one failed, and nothing stopped it
-abbrev pub IsStoredEnd : JobEnd FindingOf → Type 0
-IsStoredEnd (Found f) = Unit {0}
-IsStoredEnd UnknownEnd = Unit {0}
-IsStoredEnd NotServed = Unit {0}
-IsStoredEnd (Bad number at) = Unit {0}
-IsStoredEnd MemoryEnd = Unit {0}
-IsStoredEnd ReadFailed = ⊥
-IsStoredEnd StartFailed = ⊥
-IsStoredEnd HoldFailed = ⊥
-IsStoredEnd (Skipped f) = ⊥
-IsStoredEnd (CalledOff f) = ⊥
-IsStoredEnd (Stopped reading) = ⊥
+-- a job that isn't served has no stored stream, or one of a kind that isn't judged for it
+abbrev pub IsStoredUnserved : JobName → Option (List ℕ) → Type 0
+IsStoredUnserved job None = Unit {0}
+IsStoredUnserved job (Some path) = IsUnserved path job
+
+-- A job with a stored stream at this path, or none, has no child: no call for one failed, and nothing stopped it.
+abbrev pub IsStoredEnd : JobName → Option (List ℕ) → JobEnd FindingOf → Type 0
+IsStoredEnd job path (Found f) = Unit {0}
+IsStoredEnd job path UnknownEnd = Unit {0}
+IsStoredEnd job path NotServed = IsStoredUnserved job path
+IsStoredEnd job path (Bad number at) = Unit {0}
+IsStoredEnd job path MemoryEnd = Unit {0}
+IsStoredEnd job path ReadFailed = ⊥
+IsStoredEnd job path StartFailed = ⊥
+IsStoredEnd job path HoldFailed = ⊥
+IsStoredEnd job path (Skipped f) = ⊥
+IsStoredEnd job path (CalledOff f) = ⊥
+IsStoredEnd job path (Stopped reading) = ⊥
 
 -- The task was judged: its files were put, and these are its reports; each call that failed was for a trace file.
 pub record WasJudged (may_read : ℕ → Type 0) (number : ℕ) (m : Moments) (task : TaskOf) (end : TaskEnd) : Type 0 where
@@ -269,7 +275,7 @@ pub record IsUnsettledEnd (reports : List (ReportOf FindingOf)) (answers : List 
 -- Why the job at a place ended so, by what serves the jobs: by its stored stream; or, in a lane, by its child, a call for it that failed,
 -- or the limit. A call that failed is one of the lane's own bay.
 abbrev pub IsCausedEnd : Service → (ℕ → Type 0) → TaskOf → AskedOf → RaceOf → ℕ → ℕ → JobEnd FindingOf → Type 0
-IsCausedEnd (Streams paths) may_read task p race lane place e = IsStoredEnd e
+IsCausedEnd (Streams paths) may_read task p race lane place e = IsStoredEnd (name_at task.request.mode place) (slice_get paths place) e
 IsCausedEnd (Lanes engines) may_read task p race lane place e =
     (counts : CountsOf) × AreCountsOf race.task lane race.before race.after counts
     × HasEndCause (racing_of task p race.task engines) may_read race.before.scripts counts race.start lane (name_at task.request.mode place) e
@@ -334,18 +340,18 @@ IsInTime may_read number lane m task end status =
     ⊎ (((end.status ≡ Timeout) ⊎ (end.status ≡ Error)) × HasOwnFailedCall number lane m.before.yard m.after.yard)
     ⊎ ((end.status ≡ Timeout) × HasOwnEnd end lane 0 (IsStoppedEnd may_read task end))
 
--- The job at this place has a valid certificate for this answer in this lane: the lane's engine serves jobs; its child's script for the job
--- is told, and has no gate; and what the child leaves is a certificate of the job's file.
+-- The job at this place has valid evidence for this answer in this lane: the lane's engine serves the job; its child's script for the job is
+-- told, and has no gate; and what the child leaves is a certificate of the job's file, or a witness that plays.
 pub record IsValidChild (told : Option YardOf) (number lane : ℕ) (engines : List Engine) (p : AskedOf) (mode : Mode) (place : ℕ) (answer : Answer) : Type 0 where
-  pub serving : IsServing (slice_get engines lane)
+  pub serving : IsServing (slice_get engines lane) (name_at mode place)
   pub script : ScriptOf
   pub script_is : script_of told number lane (name_at mode place) ≡ Some script
   pub ungated : script.gate ≡ None
   pub file : List ℕ
   pub is_file : IsJobFile p (name_at mode place) file
-  pub valid : IsFateOf (evidence_at (slice_get engines lane)) file (up_to script.stalls script.bytes) (take (most_stream + 1) script.proof) (FoundFate answer)
+  pub valid : IsFateOf p (name_at mode place) (evidence_at (slice_get engines lane)) file (up_to script.stalls script.bytes) (take (most_stream + 1) script.proof) (FoundFate answer)
 
--- each of these answers has a valid certificate in the lane that is named for its job
+-- each of these answers has valid evidence in the lane that is named for its job
 abbrev pub AreValidChildren : Option YardOf → ℕ → (ℕ → ℕ) → List Engine → AskedOf → Mode → List (Option Answer) → Type 0
 AreValidChildren told number lane_of engines p mode answers =
     (place : ℕ) (answer : Answer) → slice_get answers place ≡ Some (Some answer) → IsValidChild told number (lane_of place) engines p mode place answer

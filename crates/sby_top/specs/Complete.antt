@@ -26,12 +26,12 @@ use Rattle.task_race.specs.Ends.{IsJudgedAs, script_of}
 use Rattle.task_race.specs.Ran.{EachLane, RacingOf, job_count, name_in}
 use Rattle.sby_top.specs.declared.outcome.TaskEnd.{TaskEnd}
 
--- Plain's end of a lane's job: what its child's script comes to as a certificate for the job's file, or that it isn't served
+-- Plain's end of a lane's job: what its child's script comes to as evidence for the job, or that it isn't served
 abbrev pub IsPlainEnd : RacingOf → Option YardOf → ℕ → JobName → JobEnd FindingOf → Type 0
 IsPlainEnd racing told lane job (Found f) = IsJudgedAs racing told lane job (judged.Found f)
 IsPlainEnd racing told lane job Unknown = IsJudgedAs racing told lane job judged.Unknown
 IsPlainEnd racing told lane job (Bad number at) = IsJudgedAs racing told lane job (judged.Bad number at)
-IsPlainEnd racing told lane job NotServed = IsServing (slice_get racing.engines lane) → ⊥
+IsPlainEnd racing told lane job NotServed = IsServing (slice_get racing.engines lane) job → ⊥
 IsPlainEnd racing told lane job ReadFailed = ⊥
 IsPlainEnd racing told lane job StartFailed = ⊥
 IsPlainEnd racing told lane job HoldFailed = ⊥

@@ -4,9 +4,9 @@ use Rattle.std.specs.List.{concat}
 use Rattle.sby_edge.specs.Cause.{Rose}
 use Rattle.sby_edge.specs.Sink.{AreAll}
 use Rattle.sby_edge.specs.Files.{Store}
-use Rattle.cert_judge.specs.Kinds.{IsFate}
 use Rattle.cert_judge.specs.Fate.{Fate, Found, Unknown, Bad}
-use Rattle.cert_judge.specs.declared.stream.StreamKind.{StreamKind}
+use Rattle.cert_judge.specs.declared.stream.Kind.{Kind}
+use Rattle.judge.specs.Fates.{IsFate}
 use Rattle.judge.specs.Finding.{FindingOf}
 use Rattle.judge.specs.Problem.{AskedOf, IsJobFile}
 use Rattle.judge.specs.declared.problem.ProblemFault.{ProblemFault}
@@ -42,7 +42,8 @@ use Rattle.sby_lines.specs.Told.{job_of}
 use Rattle.sby_lines.specs.declared.early.Early.{Early}
 use Rattle.sby_lines.specs.declared.early.Early.TheVariants.{Read, Design, TooMany, Streams}
 use Rattle.sby_top.specs.Causes.{IsOutcome}
-use Rattle.sby_top.specs.Served.{ArePut, IsAccepted, IsRefused, IsServed, IsTextOf, jobs_in, most_stream}
+use Rattle.sby_top.specs.Judged.{IsUnserved}
+use Rattle.sby_top.specs.Served.{ArePut, IsAccepted, IsRefused, IsServed, IsTextOf, files_in, jobs_in, most_stream}
 use Rattle.sby_top.specs.Task.{Lanes, Service, Streams as StoredStreams, TaskOf, streams_in}
 use Rattle.sby_top.specs.World.{Moments, race_of}
 use Rattle.task_race.specs.Bays.{AreLater}
@@ -169,25 +170,26 @@ fate_event (Some Unknown) = Quiet
 fate_event (Some (Bad kind at)) = Fault
 fate_event None = Quiet
 
--- the fates of the stored streams, each of the kind that its path names, as certificates for the jobs' files, in the order of the jobs;
+-- the fates of the stored streams, each of the kind that its path names, as evidence for the jobs with their files, in the order of the jobs;
 -- none for a job without a stream, nor for a stream that is left out
 abbrev pub AreFates : AskedOf → Store → List JobName → List (List ℕ) → List (Option Fate) → Type 0
 AreFates p store [] paths fates = fates ≡ []
 AreFates p store (job ∷ jobs) [] (None ∷ fates) = AreFates p store jobs [] fates
 AreFates p store (job ∷ jobs) (path ∷ paths) (None ∷ fates) = AreFates p store jobs paths fates
 AreFates p store (job ∷ jobs) (path ∷ paths) (Some fate ∷ fates) =
-    ((kind : StreamKind) × (stream : List ℕ) × (file : List ℕ) × IsKindNamed path kind × (store path ≡ Some stream) × IsJobFile p job file
-    × IsFate kind file stream most_stream fate)
+    ((kind : Kind) × (stream : List ℕ) × (file : List ℕ) × IsKindNamed path kind × (store path ≡ Some stream) × IsJobFile p job file
+    × IsFate p job kind file stream most_stream fate)
     × AreFates p store jobs paths fates
 AreFates p store (job ∷ jobs) [] (Some fate ∷ fates) = ⊥
 AreFates p store (job ∷ jobs) paths [] = ⊥
 
--- no stream is left out
-abbrev pub AreWhole : List (List ℕ) → List (Option Fate) → Type 0
-AreWhole [] fates = Unit {0}
-AreWhole (path ∷ paths) [] = Unit {0}
-AreWhole (path ∷ paths) (None ∷ fates) = ⊥
-AreWhole (path ∷ paths) (Some fate ∷ fates) = AreWhole paths fates
+-- each stream has its fate, but those whose kind isn't judged for their job
+abbrev pub AreWhole : List JobName → List (List ℕ) → List (Option Fate) → Type 0
+AreWhole [] paths fates = Unit {0}
+AreWhole (job ∷ jobs) [] fates = Unit {0}
+AreWhole (job ∷ jobs) (path ∷ paths) [] = Unit {0}
+AreWhole (job ∷ jobs) (path ∷ paths) (None ∷ fates) = IsUnserved path job × AreWhole jobs paths fates
+AreWhole (job ∷ jobs) (path ∷ paths) (Some fate ∷ fates) = AreWhole jobs paths fates
 
 -- the answers decide a verdict
 abbrev pub IsDecided : Mode → List (Option Answer) → Type 0
@@ -206,8 +208,8 @@ early_of (TooManyFault job) = TooMany job
 abbrev pub IsJudgedStatus : Store → TaskOf → Option Early → Status → Type 0
 IsJudgedStatus before task early status =
     (p : AskedOf) × (fates : List (Option Fate)) × (put : Store) × IsServed (Some before) task p
-    × ArePut p task.request.name (jobs_in p) (Some before) (Some put) × AreFates p put (jobs_in p) (streams_in task.service) fates
-    × (AreWhole (streams_in task.service) fates ⊎ IsDecided task.request.mode (map fate_answer fates))
+    × ArePut p task.request.name (files_in task.service p) (Some before) (Some put) × AreFates p put (jobs_in p) (streams_in task.service) fates
+    × (AreWhole (jobs_in p) (streams_in task.service) fates ⊎ IsDecided task.request.mode (map fate_answer fates))
     × (early ≡ None) × IsFateStatus task.request.mode fates status
 
 -- the status of a task that comes to its lanes, by what serves its jobs: of stored streams that of their fates

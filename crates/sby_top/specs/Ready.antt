@@ -7,7 +7,7 @@ use Rattle.sby_edge.specs.Child.{BayOf, YardOf}
 use Rattle.sby_edge.specs.Files.{Store}
 use Rattle.sby_terms.specs.declared.engine.Engine.{Engine}
 use Rattle.sby_top.specs.Judged.{AreStreamReports, racing_of}
-use Rattle.sby_top.specs.Served.{ArePut, IsServed, jobs_in}
+use Rattle.sby_top.specs.Served.{ArePut, IsServed, files_in, jobs_in}
 use Rattle.sby_top.specs.Task.{Lanes, Service, Streams, TaskOf}
 use Rattle.sby_top.specs.World.{FilesOf}
 use Rattle.sby_top.specs.declared.serve.Came.{Came}
@@ -39,7 +39,7 @@ IsServing back task p number pool told scripts (LanesReady prepared) =
 -- its design was accepted, its jobs' files stand in the store, what serves its jobs is ready, and there is room for what the reports come to
 pub record IsReady {L : Type 0} (back : L → BackOf) (task : TaskOf) (number : ℕ) (pool : Option PoolOf) (told : Option Store) (scripts : Option YardOf) (ready : Ready L) : Type 0 where
   pub served : (before : Option Store) × IsServed before task ready.problem
-  pub files : (engines : List Engine) (store : Store) → told ≡ Some store → HasJobFiles (racing_of task ready.problem number engines) store
+  pub files : (engines : List Engine) (store : Store) → task.service ≡ Lanes engines → told ≡ Some store → HasJobFiles (racing_of task ready.problem number engines) store
   pub serving : IsServing back task ready.problem number pool told scripts ready.serving
   pub room : HasRoom (length (jobs_in ready.problem)) (report_count task.service) ready.room
 
@@ -58,6 +58,6 @@ pub record WasRaced {L : Type 0} (back : L → BackOf) (task : TaskOf) (number :
 -- A task was prepared, from these files to those: its design was accepted, as this problem, and its jobs' files were put.
 pub record WasPrepared (task : TaskOf) (got put : FilesOf) (p : AskedOf) : Type 0 where
   pub served : IsServed got.told task p
-  pub put_is : ArePut p task.request.name (jobs_in p) got.told put.told
+  pub put_is : ArePut p task.request.name (files_in task.service p) got.told put.told
   pub faults : put.faults ≡ got.faults
   pub blamed : put.blamed ≡ got.blamed

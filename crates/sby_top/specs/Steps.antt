@@ -1,5 +1,5 @@
 -- What the steps of a task answer, for the contracts of private functions.
-use Rattle.std.specs.Prelude.{◌≡◌, ◌⊎◌, ℕ, ◌≤◌, List, ◌++◌, length, take, string_bytes, Option, Some, None, slice_get, Result, Ok, Err, Contains}
+use Rattle.std.specs.Prelude.{◌≡◌, ◌⊎◌, ℕ, ◌≤◌, List, ◌++◌, length, take, string_bytes, Option, Some, None, slice_get, Result, Ok, Err}
 use Rattle.sby_edge.specs.Files.{Store}
 use Rattle.sby_edge.specs.declared.outside.Got.{Got}
 use Rattle.sby_edge.specs.declared.outside.Got.TheVariants.{All as Whole, Long}
@@ -16,12 +16,11 @@ use Rattle.race_core.specs.declared.end.JobEnd.{JobEnd}
 use Rattle.race_core.specs.declared.end.JobEnd.TheVariants.{Found, Unknown, NotServed, Bad, ReadFailed, StartFailed, HoldFailed, Skipped, CalledOff, Stopped, Memory as MemoryEnd}
 use Rattle.sby_terms.specs.Problem.{ProblemOf}
 use Rattle.sby_terms.specs.declared.names.JobName.{JobName}
-use Rattle.sby_terms.specs.Path.{job_path}
 use Rattle.sby_lines.specs.declared.early.Early.{Early}
 use Rattle.sby_lines.specs.declared.early.Early.TheVariants.{File, Sby, Task, Read, Design, TooMany, Streams, Memory}
-use Rattle.sby_top.specs.Judged.{EndsWithRun, Has, IsEndOf, IsFateEnd, IsJudged}
-use Rattle.sby_top.specs.Served.{ArePut, jobs_in, most_stream, slices_in}
-use Rattle.sby_top.specs.Task.{DesignAt, Stored}
+use Rattle.sby_top.specs.Judged.{EndsWithRun, Has, IsEndOf, IsFateEnd, IsGotFor, IsStreamEnd}
+use Rattle.sby_top.specs.Served.{ArePut, JobFile, file_path, files_in, most_stream, slices_in}
+use Rattle.sby_top.specs.Task.{DesignAt, Service, Stored, streams_in}
 use Rattle.sby_top.specs.World.{FilesOf, IsFailedAt}
 
 -- the file store at a moment
@@ -59,28 +58,27 @@ IsRefusal p (Sby fault) = ⊥
 IsRefusal p (Task fault) = ⊥
 IsRefusal p Streams = ⊥
 
--- the stream at a job's path was judged, or it has none
+-- the end of a job by the stream at its path, or it has none
 abbrev pub IsPathJudged : AskedOf → Option Store → JobName → Option (List ℕ) → JobEnd FindingOf → Type 0
 IsPathJudged p told job None end = end ≡ NotServed
-IsPathJudged p told job (Some path) end = IsJudged p told job path end
+IsPathJudged p told job (Some path) end = IsStreamEnd p told job path end
 
--- The call for the file of the job at a place failed, when the files of the jobs before it were put, and with them the files were such;
--- or memory ran out.
-pub record IsPutFailed (p : AskedOf) (folder : List ℕ) (before after : FilesOf) (early : Early) : Type 0 where
+-- The put of one of these files failed at its path, when those before it were put; or memory ran out there.
+pub record IsPutFailed (p : AskedOf) (folder : List ℕ) (files : List JobFile) (before after : FilesOf) (early : Early) : Type 0 where
   pub place : ℕ
-  pub job : JobName
-  pub at : slice_get (jobs_in p) place ≡ Some job
-  pub put : ArePut p folder (take place (jobs_in p)) before.told after.told
-  pub failed : IsFailedCall (record before { told = after.told }) after (job_path folder (slices_in p) job) early
+  pub file : JobFile
+  pub at : slice_get files place ≡ Some file
+  pub put : ArePut p folder (take place files) before.told after.told
+  pub failed : IsFailedCall (record before { told = after.told }) after (file_path folder (slices_in p) file) early
 
 -- The jobs of an accepted design were cut short: memory ran out before their files were put; the file of one couldn't be put; or all
 -- were, and a stream couldn't be got, or memory ran out for racing their lanes.
-abbrev pub IsCutShort : AskedOf → List ℕ → List (List ℕ) → FilesOf → FilesOf → Early → Type 0
-IsCutShort p folder paths before after early =
+abbrev pub IsCutShort : AskedOf → List ℕ → Service → FilesOf → FilesOf → Early → Type 0
+IsCutShort p folder service before after early =
     ((early ≡ Memory) × (after ≡ before))
-    ⊎ IsPutFailed p folder before after early
-    ⊎ (ArePut p folder (jobs_in p) before.told after.told
-    × (((path : List ℕ) × Contains paths path × IsFailedCall (record before { told = after.told }) after path early) ⊎ (early ≡ Memory)))
+    ⊎ IsPutFailed p folder (files_in service p) before after early
+    ⊎ (ArePut p folder (files_in service p) before.told after.told
+    × (((path : List ℕ) × IsGotFor p (streams_in service) path × IsFailedCall (record before { told = after.told }) after path early) ⊎ (early ≡ Memory)))
 
 -- the finding of an end, if it is one, is true
 abbrev pub IsTrueEnd : JobEnd FindingOf → Type 0
@@ -106,7 +104,7 @@ end_of (Err bad) = Bad (number_of bad.kind) bad.at
 -- this stream, as one for a judge's job and of its kind, ends the job so
 pub record StreamEnds (j : JudgeOf) (stream : List ℕ) (end : JobEnd FindingOf) : Type 0 where
   pub of : IsEndOf j.asked j.job end
-  pub fate : (file : List ℕ) → IsJobFile j.asked j.job file → IsFateEnd j.kind file stream end
+  pub fate : (file : List ℕ) → IsJobFile j.asked j.job file → IsFateEnd j.asked j.job j.kind file stream end
   pub run : EndsWithRun j.asked j.job j.kind stream end
 
 -- a judge took these bytes, and goes on; or they end its job so, whatever follows
@@ -117,5 +115,5 @@ PieceEnds old new bytes (Some end) = (rest : List ℕ) → StreamEnds old (bytes
 -- the stream at this path ends a judge's job so
 pub record PathEnds (j : JudgeOf) (told : Option Store) (path : List ℕ) (end : JobEnd FindingOf) : Type 0 where
   pub of : IsEndOf j.asked j.job end
-  pub fate : (file : List ℕ) → IsJobFile j.asked j.job file → Has told path (λ stream. IsFateEnd j.kind file stream end)
+  pub fate : (file : List ℕ) → IsJobFile j.asked j.job file → Has told path (λ stream. IsFateEnd j.asked j.job j.kind file stream end)
   pub run : Has told path (λ stream. EndsWithRun j.asked j.job j.kind stream end)

@@ -1,21 +1,23 @@
 // The stored stream of a job is judged piece by piece, as it is read.
 
 ghost use Rattle.std.specs.Prelude.{◌≡◌, ◌↔◌, ◌++◌, ◌≤◌, [], ℕ, List, IfErr, IfOk, IsTrue, None, OnOk};
-ghost use Rattle.judge.specs.Judging.{Took, fate_told};
+ghost use Rattle.judge.specs.Answers.{fate_told};
+ghost use Rattle.judge.specs.Fates.{Serves};
+ghost use Rattle.judge.specs.Judging.{Took};
 ghost use Rattle.judge.specs.Problem.{IsJob, IsJobFile};
 ghost use Rattle.sby_edge.specs.Files.{PieceFrom};
+ghost use Rattle.sby_words.specs.Kinds.{IsKindNamed};
 ghost use Rattle.sby_top.specs.Judged.{IsJudged};
 ghost use Rattle.sby_top.specs.Served.{most_stream};
 ghost use Rattle.sby_top.specs.Steps.{end_of, files_at, IsFailedCall, IsTrueEnd, PathEnds, PieceEnds, StreamEnds};
 
 use crate::serve::get_piece;
-use cert_judge::{BadCert, fates_stay};
-use judge::{Finding, Judge, Problem, Progress};
+use cert_judge::{BadCert, Kind};
+use judge::{Finding, Judge, Problem, Progress, fates_stay};
 use race_core::JobEnd;
 use sby_edge::Files;
 use sby_lines::Early;
 use sby_terms::{JobName, MAX_STREAM};
-use sby_words::stream_kind;
 use std::alloc::Global;
 
 // How many bytes are got at once.
@@ -108,16 +110,19 @@ fn feed_all<F: Files>(
     }
 }
 
-/// The end of a job by the stream at this path: by its fate as a certificate for the job's file, of the kind that the path names. The
-/// stream is read as far as its judge needs it.
+/// The end of a job by the stream at this path: by its fate as evidence for the job, of the kind that the path names. The stream is read as
+/// far as its judge needs it.
 pub fn judge_stored<F: Files>(
     alloc: Global,
     files: &mut F,
     problem: &Problem,
     job: JobName,
+    kind: Kind,
     path: &str,
 ) -> Result<JobEnd<Finding>, Early>
-    requires { IsJob problem.now job }
+    requires job { IsJob problem.now job }
+    requires named { IsKindNamed path.now kind }
+    requires serves { Serves kind job }
     ensures ok { IfOk result (λ end. IsJudged problem.now (F.told files.old) job path.now end) }
     ensures failed { IfErr result (IsFailedCall (files_at (F.told files.old) (F.faults files.old) (F.blamed files.old)) (files_at (F.told files.new) (F.faults files.new) (F.blamed files.new)) path.now) }
     ensures told { F.told files.new ≡ F.told files.old }
@@ -125,7 +130,6 @@ pub fn judge_stored<F: Files>(
     ensures blamed { OnOk result (F.blamed files.new ≡ F.blamed files.old) }
     ensures later { F.faults files.old ≤ F.faults files.new }
 {
-    let kind = stream_kind(path);
     let first = get_piece(alloc, files, path, 0, PIECE)?;
     let Ok(mut judge) = Judge::new(alloc, problem, job, kind, MAX_STREAM) else {
         return Ok(JobEnd::Memory);

@@ -6,6 +6,7 @@ mod host;
 mod judge_stream;
 mod laws;
 mod outcome;
+mod put;
 mod run;
 mod serve;
 mod slot;
@@ -23,7 +24,7 @@ pub use claims::{
     printed_verdicts_are_true, refused_words_give_the_usage_line, sink_grows_by_lines,
 };
 pub use laws::{
-    accepted_design_is_judged, one_plain_status, some_plain_status,
+    accepted_design_is_judged, models_are_put_for_witnesses, one_plain_status, some_plain_status,
     stored_certificate_gives_its_verdict, undisturbed_lanes_give_the_plain_status,
     valid_certificate_gives_its_verdict, valid_certificates_give_their_verdict,
     valid_child_gives_its_verdict, valid_child_settles_its_job, valid_children_give_their_verdict,

@@ -1,21 +1,20 @@
 // A task's design is got, its jobs' files are put, and its streams judged, or its lanes raced.
 
-ghost use Rattle.std.specs.Prelude.{◌≡◌, ◌⊎◌, ◌<◌, ◌≤◌, [], ℕ, List, None, Option, Some, IfErr, IfOk, OnErr, OnOk, Contains, length, map, option_map, slice_get, string_bytes};
-ghost use Rattle.judge.specs.Problem.{AskedOf, IsJob, IsJobFile, IsProblem};
+ghost use Rattle.std.specs.Prelude.{◌≡◌, ◌⊎◌, ◌<◌, ◌≤◌, [], ℕ, List, None, Option, Some, IfErr, IfOk, OnErr, OnOk, Contains, length, map, slice_get, string_bytes};
+ghost use Rattle.judge.specs.Problem.{AskedOf, IsProblem};
 ghost use Rattle.sby_terms.specs.declared.names.JobName.{JobName};
 ghost use Rattle.sby_top.specs.Causes.{HasReason, IsSpared};
-ghost use Rattle.sby_top.specs.Judged.{AreJudged, AreReports, AreStreamReports, racing_of};
+ghost use Rattle.sby_top.specs.Judged.{AreJudged, AreReports, AreStreamReports, IsGotFor, racing_of};
 ghost use Rattle.jobs_pool.specs.Places.{PoolOf};
 ghost use Rattle.sby_edge.specs.Child.{YardOf};
 ghost use Rattle.sby_top.specs.Ready.{HasCome, IsReady, IsServing, WasRaced, back_by, report_count};
 ghost use Rattle.sby_lines.specs.declared.early.Early.TheVariants.{Memory as EarlyMemory};
-ghost use Rattle.sby_top.specs.Steps.{files_at, got_items, IsCutShort, IsFailedCall, IsPathJudged, IsPutFailed, IsRefusal, IsTextFailed};
-ghost use Rattle.sby_top.specs.Served.{ArePut, IsGot, IsServed, IsTextOf, jobs_in, slices_in};
-ghost use Rattle.sby_edge.specs.Files.{PieceFrom, put_at};
+ghost use Rattle.sby_top.specs.Steps.{files_at, got_items, IsCutShort, IsFailedCall, IsPathJudged, IsRefusal, IsTextFailed};
+ghost use Rattle.sby_top.specs.Served.{ArePut, IsGot, IsServed, IsTextOf, files_in, jobs_in};
+ghost use Rattle.sby_edge.specs.Files.{PieceFrom};
 ghost use Rattle.sby_top.specs.Headline.{early_of};
 ghost use Rattle.judge.specs.Fault.{IsProblemFault};
 ghost use Rattle.sby_terms.specs.Problem.{ProblemOf};
-ghost use Rattle.sby_terms.specs.Path.{job_path};
 ghost use Rattle.sby_lines.specs.Told.{AreLimited, AreReported, IsCollected};
 ghost use Rattle.sby_top.specs.World.{files_of, race_of};
 ghost use Rattle.sby_top.specs.Task.{IsAskable, TaskOf, problem_of, design_seen, service_seen, streams_in, task_seen};
@@ -23,18 +22,19 @@ ghost use Rattle.sby_terms.specs.declared.engine.Engine.{Engine as EngineOf};
 ghost use Rattle.sby_edge.specs.Files.{Store};
 ghost use Rattle.task_race.specs.Bays.{AreLater};
 ghost use Rattle.task_race.specs.Ran.{racing_seen};
-ghost use Rattle.sby_top.specs.Task.{Lanes};
+ghost use Rattle.sby_top.specs.Task.{Lanes, Streams};
 
 use crate::host::{Host, Outside};
 use crate::judge_stream::judge_stored;
+use crate::put::put_jobs;
 use crate::task::{DesignAt, Service, Task};
-use judge::{Designs, Finding, Problem, ProblemFault, one_file};
+use judge::{Designs, Finding, Problem, ProblemFault, one_file, serves};
 use lane_berth::Allowance;
-use net_text::Text;
 use race_core::{JobEnd, Report, Room};
-use sby_edge::{Clock, Fail, Files, Got, Launch, Sink, Source, Yard};
+use sby_edge::{Clock, Fail, Files, Got, Launch, Sink, Yard};
 use sby_lines::{Collected, Early};
-use sby_terms::{Engine, JobName, job_path};
+use sby_terms::{Engine, JobName};
+use sby_words::stream_kind;
 use std::alloc::Global;
 use std::sync::Wait;
 use std::thread::Threads;
@@ -84,7 +84,7 @@ pub struct Served {
     pub collected: Collected,
 }
 
-fn file_fault(alloc: Global, path: &str) -> Early
+pub(crate) fn file_fault(alloc: Global, path: &str) -> Early
     ensures { IsFailedCall (files_at None 0 None) (files_at None 1 None) path.now result }
 {
     match String::from_str(alloc, path) {
@@ -135,27 +135,6 @@ pub fn get_piece<F: Files>(
 {
     match files.get_piece(alloc, path, from, most) {
         Ok(piece) => Ok(piece),
-        Err(Fail::Failed) => Err(file_fault(alloc, path)),
-        Err(Fail::Memory) => Err(Early::Memory),
-    }
-}
-
-// Puts all that a source gives.
-fn put_from<F: Files, S: Source>(
-    alloc: Global,
-    files: &mut F,
-    path: &str,
-    source: &mut S,
-) -> Result<(), Early>
-    ensures ok { OnOk result (F.told files.new ≡ option_map (put_at path.now (S.rest source.old)) (F.told files.old)) }
-    ensures failed { IfErr result (IsFailedCall (files_at (F.told files.old) (F.faults files.old) (F.blamed files.old)) (files_at (F.told files.new) (F.faults files.new) (F.blamed files.new)) path.now) }
-    ensures told { OnErr result (F.told files.new ≡ F.told files.old) }
-    ensures still { OnOk result (F.faults files.new ≡ F.faults files.old) }
-    ensures blamed { OnOk result (F.blamed files.new ≡ F.blamed files.old) }
-    ensures later { F.faults files.old ≤ F.faults files.new }
-{
-    match files.put_from(alloc, path, source) {
-        Ok(()) => Ok(()),
         Err(Fail::Failed) => Err(file_fault(alloc, path)),
         Err(Fail::Memory) => Err(Early::Memory),
     }
@@ -249,78 +228,7 @@ fn job_count(problem: &Problem) -> u32
     problem.jobs() as u32
 }
 
-// The text of a job's file, which is put by pieces.
-#[derive(Drop)]
-struct FileText<'a> {
-    text: Text<'a>,
-}
-
-impl<'a> Source for FileText<'a> {
-    ghost rest = { λ t. t.text };
-
-    fn next(&mut self, buffer: &mut [u8]) -> usize {
-        self.text.next(buffer)
-    }
-}
-
-// Puts the file of a job.
-fn put_job<F: Files>(
-    alloc: Global,
-    files: &mut F,
-    problem: &Problem,
-    folder: &str,
-    slices: u32,
-    job: JobName,
-) -> Result<(), Early>
-    requires { IsJob problem.now job }
-    ensures ok { OnOk result ((file : List ℕ) × IsJobFile problem.now job file × (F.told files.new ≡ option_map (put_at (job_path folder.now slices job) file) (F.told files.old))) }
-    ensures failed { IfErr result (IsFailedCall (files_at (F.told files.old) (F.faults files.old) (F.blamed files.old)) (files_at (F.told files.new) (F.faults files.new) (F.blamed files.new)) (job_path folder.now slices job)) }
-    ensures told { OnErr result (F.told files.new ≡ F.told files.old) }
-    ensures still { OnOk result (F.faults files.new ≡ F.faults files.old) }
-    ensures blamed { OnOk result (F.blamed files.new ≡ F.blamed files.old) }
-    ensures later { F.faults files.old ≤ F.faults files.new }
-{
-    let path = match job_path(alloc, folder, slices, job) {
-        Ok(path) => path,
-        Err(_) => return Err(Early::Memory),
-    };
-    let Ok(file) = problem.job_file(alloc, job) else {
-        return Err(Early::Memory);
-    };
-    let mut text = FileText { text: file.text() };
-    put_from(alloc, files, path.as_str(), &mut text)
-}
-
-// How many slices there are.
-fn slice_count(problem: &Problem) -> u32
-    ensures { result ≡ slices_in problem.now }
-{
-    // The span is one.
-    let _ = problem.flat();
-    problem.span().slices()
-}
-
-// Puts the files of all jobs, in their order, up to a call that fails.
-fn put_jobs<F: Files>(
-    alloc: Global,
-    files: &mut F,
-    problem: &Problem,
-    folder: &str,
-) -> Result<(), Early>
-    ensures ok { OnOk result (ArePut problem.now folder.now (jobs_in problem.now) (F.told files.old) (F.told files.new)) }
-    ensures err { IfErr result (IsPutFailed problem.now folder.now (files_at (F.told files.old) (F.faults files.old) (F.blamed files.old)) (files_at (F.told files.new) (F.faults files.new) (F.blamed files.new))) }
-    ensures still { OnOk result (F.faults files.new ≡ F.faults files.old) }
-    ensures blamed { OnOk result (F.blamed files.new ≡ F.blamed files.old) }
-    ensures later { F.faults files.old ≤ F.faults files.new }
-{
-    let slices = slice_count(problem);
-    for place in 0..problem.jobs() {
-        put_job(alloc, files, problem, folder, slices, problem.job(place))?;
-    }
-    Ok(())
-}
-
-// Judges the stream of the job at a place, if there is one.
+// Judges the stream of the job at a place, if there is one that is judged for such a job.
 fn judge_place<F: Files>(
     alloc: Global,
     files: &mut F,
@@ -331,7 +239,7 @@ fn judge_place<F: Files>(
     requires { place < length (jobs_in problem.now) }
     ensures ok { IfOk result (λ end. (job : JobName) × (slice_get (jobs_in problem.now) place ≡ Some job)
         × IsPathJudged problem.now (F.told files.old) job (slice_get (map string_bytes paths.now) place) end) }
-    ensures err { IfErr result (λ early. (path : List ℕ) × Contains (map string_bytes paths.now) path
+    ensures err { IfErr result (λ early. (path : List ℕ) × IsGotFor problem.now (map string_bytes paths.now) path
         × IsFailedCall (files_at (F.told files.old) (F.faults files.old) (F.blamed files.old)) (files_at (F.told files.new) (F.faults files.new) (F.blamed files.new)) path early) }
     ensures told { F.told files.new ≡ F.told files.old }
     ensures still { OnOk result (F.faults files.new ≡ F.faults files.old) }
@@ -339,13 +247,18 @@ fn judge_place<F: Files>(
     ensures later { F.faults files.old ≤ F.faults files.new }
 {
     let job = problem.job(place);
-    match paths.get(place) {
-        Some(path) => judge_stored(alloc, files, problem, job, path.as_str()),
-        None => Ok(JobEnd::NotServed),
+    let Some(path) = paths.get(place) else {
+        return Ok(JobEnd::NotServed);
+    };
+    let kind = stream_kind(path.as_str());
+    if serves(kind, job) {
+        judge_stored(alloc, files, problem, job, kind, path.as_str())
+    } else {
+        Ok(JobEnd::NotServed)
     }
 }
 
-// Judges the streams, in the order of the jobs. A job without one isn't served.
+// Judges the streams, in the order of the jobs. A job without one that is judged for it isn't served.
 fn judge_jobs<F: Files>(
     alloc: Global,
     files: &mut F,
@@ -357,7 +270,7 @@ fn judge_jobs<F: Files>(
     requires room { report.old.jobs ≡ length (jobs_in problem.now) }
     ensures ok { OnOk result (AreJudged problem.now (F.told files.old) (jobs_in problem.now) (map string_bytes paths.now) report.new.ends) }
     ensures report { OnOk result (report.new ≡ record report.old { ends = report.new.ends }) }
-    ensures err { IfErr result (λ early. (path : List ℕ) × Contains (map string_bytes paths.now) path
+    ensures err { IfErr result (λ early. (path : List ℕ) × IsGotFor problem.now (map string_bytes paths.now) path
         × IsFailedCall (files_at (F.told files.old) (F.faults files.old) (F.blamed files.old)) (files_at (F.told files.new) (F.faults files.new) (F.blamed files.new)) path early) }
     ensures told { F.told files.new ≡ F.told files.old }
     ensures still { OnOk result (F.faults files.new ≡ F.faults files.old) }
@@ -376,12 +289,13 @@ fn judge_streams<F: Files>(
     alloc: Global,
     files: &mut F,
     problem: &Problem,
-    folder: &str,
+    task: &Task,
     paths: &[String],
 ) -> Result<Vec<Report<Finding>>, Early>
-    ensures put { OnOk result (ArePut problem.now folder.now (jobs_in problem.now) (F.told files.old) (F.told files.new)) }
+    requires { (service_seen task.now.service) ≡ Streams (map string_bytes paths.now) }
+    ensures put { OnOk result (ArePut problem.now (task_seen task.now).request.name (files_in (task_seen task.now).service problem.now) (F.told files.old) (F.told files.new)) }
     ensures ok { IfOk result (λ reports. AreStreamReports problem.now (F.told files.new) (map string_bytes paths.now) reports.items) }
-    ensures err { IfErr result (IsCutShort problem.now folder.now (map string_bytes paths.now) (files_at (F.told files.old) (F.faults files.old) (F.blamed files.old)) (files_at (F.told files.new) (F.faults files.new) (F.blamed files.new))) }
+    ensures err { IfErr result (IsCutShort problem.now (task_seen task.now).request.name (task_seen task.now).service (files_at (F.told files.old) (F.faults files.old) (F.blamed files.old)) (files_at (F.told files.new) (F.faults files.new) (F.blamed files.new))) }
     ensures still { OnOk result (F.faults files.new ≡ F.faults files.old) }
     ensures blamed { OnOk result (F.blamed files.new ≡ F.blamed files.old) }
     ensures later { F.faults files.old ≤ F.faults files.new }
@@ -394,7 +308,7 @@ fn judge_streams<F: Files>(
     };
     let mut report = report;
     let mut reports = reports;
-    put_jobs(alloc, files, problem, folder)?;
+    put_jobs(alloc, files, problem, task)?;
     judge_jobs(alloc, files, problem, paths, &mut report)?;
     reports.push(report).unwrap();
     Ok(reports)
@@ -439,12 +353,12 @@ impl<R: Threads + Wait + Sync, F: Files, S: Sink, Y: Yard, C: Clock> Host<'_, R,
         number: u32,
         allowance: &mut Allowance<'p>,
     ) -> Result<Serving<'p, Y::Bay>, Early>
-        ensures put { OnOk result (ArePut problem.now (task_seen task.now).request.name (jobs_in problem.now) (⟦<Self as Outside>⟧.world self.old).told (⟦<Self as Outside>⟧.world self.new).told) }
+        ensures put { OnOk result (ArePut problem.now (task_seen task.now).request.name (files_in (task_seen task.now).service problem.now) (⟦<Self as Outside>⟧.world self.old).told (⟦<Self as Outside>⟧.world self.new).told) }
         ensures serving { IfOk result (λ s. (task_seen task.now).service ≡ Lanes engines.now → IsServing (back_by Y.Bay.told Y.Bay.start_faults Y.Bay.read_faults Y.Bay.hold_faults)
             (task_seen task.now) problem.now number allowance.old (⟦<Self as Outside>⟧.world self.new).told (⟦<Self as Outside>⟧.world self.old).yard.scripts s) }
         ensures allowance { allowance.new ≡ allowance.old }
         ensures yard { OnOk result ((⟦<Self as Outside>⟧.world self.new).yard ≡ (⟦<Self as Outside>⟧.world self.old).yard) }
-        ensures err { IfErr result (IsCutShort problem.now (task_seen task.now).request.name [] (files_of (⟦<Self as Outside>⟧.world self.old)) (files_of (⟦<Self as Outside>⟧.world self.new))) }
+        ensures err { IfErr result (IsCutShort problem.now (task_seen task.now).request.name (task_seen task.now).service (files_of (⟦<Self as Outside>⟧.world self.old)) (files_of (⟦<Self as Outside>⟧.world self.new))) }
         ensures spared { IfErr result (IsSpared (⟦<Self as Outside>⟧.world self.old).yard (⟦<Self as Outside>⟧.world self.new).yard) }
         ensures still { OnOk result ((⟦<Self as Outside>⟧.world self.new).file_faults ≡ (⟦<Self as Outside>⟧.world self.old).file_faults) }
         ensures blamed { OnOk result ((⟦<Self as Outside>⟧.world self.new).blamed ≡ (⟦<Self as Outside>⟧.world self.old).blamed) }
@@ -454,7 +368,7 @@ impl<R: Threads + Wait + Sync, F: Files, S: Sink, Y: Yard, C: Clock> Host<'_, R,
         ensures out { self.new.out.now ≡ self.old.out.now }
         ensures keeps { ⟦<Self as Outside>⟧.keeps self.old self.new }
     {
-        put_jobs(self.alloc, self.files, problem, task.name.as_str())?;
+        put_jobs(self.alloc, self.files, problem, task)?;
         let racing = racing(problem, task, engines, number);
         match prepare_race(self.alloc, self.yard, &racing, allowance) {
             Ok(prepared) => Ok(Serving::Lanes(prepared)),
@@ -470,12 +384,12 @@ impl<R: Threads + Wait + Sync, F: Files, S: Sink, Y: Yard, C: Clock> Host<'_, R,
         number: u32,
         allowance: &mut Allowance<'p>,
     ) -> Result<Serving<'p, Y::Bay>, Early>
-        ensures put { OnOk result (ArePut problem.now (task_seen task.now).request.name (jobs_in problem.now) (⟦<Self as Outside>⟧.world self.old).told (⟦<Self as Outside>⟧.world self.new).told) }
+        ensures put { OnOk result (ArePut problem.now (task_seen task.now).request.name (files_in (task_seen task.now).service problem.now) (⟦<Self as Outside>⟧.world self.old).told (⟦<Self as Outside>⟧.world self.new).told) }
         ensures serving { IfOk result (IsServing (back_by Y.Bay.told Y.Bay.start_faults Y.Bay.read_faults Y.Bay.hold_faults)
             (task_seen task.now) problem.now number allowance.old (⟦<Self as Outside>⟧.world self.new).told (⟦<Self as Outside>⟧.world self.old).yard.scripts) }
         ensures allowance { allowance.new ≡ allowance.old }
         ensures yard { OnOk result ((⟦<Self as Outside>⟧.world self.new).yard ≡ (⟦<Self as Outside>⟧.world self.old).yard) }
-        ensures err { IfErr result (IsCutShort problem.now (task_seen task.now).request.name (streams_in (service_seen task.now.service)) (files_of (⟦<Self as Outside>⟧.world self.old)) (files_of (⟦<Self as Outside>⟧.world self.new))) }
+        ensures err { IfErr result (IsCutShort problem.now (task_seen task.now).request.name (task_seen task.now).service (files_of (⟦<Self as Outside>⟧.world self.old)) (files_of (⟦<Self as Outside>⟧.world self.new))) }
         ensures spared { IfErr result (IsSpared (⟦<Self as Outside>⟧.world self.old).yard (⟦<Self as Outside>⟧.world self.new).yard) }
         ensures still { OnOk result ((⟦<Self as Outside>⟧.world self.new).file_faults ≡ (⟦<Self as Outside>⟧.world self.old).file_faults) }
         ensures blamed { OnOk result ((⟦<Self as Outside>⟧.world self.new).blamed ≡ (⟦<Self as Outside>⟧.world self.old).blamed) }
@@ -487,13 +401,7 @@ impl<R: Threads + Wait + Sync, F: Files, S: Sink, Y: Yard, C: Clock> Host<'_, R,
     {
         match &task.service {
             Service::Streams(paths) => {
-                let reports = judge_streams(
-                    self.alloc,
-                    self.files,
-                    problem,
-                    task.name.as_str(),
-                    paths,
-                )?;
+                let reports = judge_streams(self.alloc, self.files, problem, task, paths)?;
                 Ok(Serving::Judged(reports))
             }
             Service::Lanes(engines) => {
@@ -513,7 +421,7 @@ impl<R: Threads + Wait + Sync, F: Files, S: Sink, Y: Yard, C: Clock> Host<'_, R,
     ) -> Result<Ready<'p, Y::Bay>, Early>
         requires { IsAskable (task_seen task.now) }
         ensures served { IfOk result (λ r. IsServed (⟦<Self as Outside>⟧.world self.old).told (task_seen task.now) r.problem) }
-        ensures put { IfOk result (λ r. ArePut r.problem (task_seen task.now).request.name (jobs_in r.problem) (⟦<Self as Outside>⟧.world self.old).told (⟦<Self as Outside>⟧.world self.new).told) }
+        ensures put { IfOk result (λ r. ArePut r.problem (task_seen task.now).request.name (files_in (task_seen task.now).service r.problem) (⟦<Self as Outside>⟧.world self.old).told (⟦<Self as Outside>⟧.world self.new).told) }
         ensures ready { IfOk result (IsReady (back_by Y.Bay.told Y.Bay.start_faults Y.Bay.read_faults Y.Bay.hold_faults)
             (task_seen task.now) number allowance.old (⟦<Self as Outside>⟧.world self.new).told (⟦<Self as Outside>⟧.world self.old).yard.scripts) }
         ensures allowance { allowance.new ≡ allowance.old }

@@ -1,12 +1,10 @@
 -- Numbers, texts and lists of words.
-use Rattle.std.proofs.Common.{◌≡◌, ◌∙◌, ◌<◌, ◌≤◌, ◌+◌, ◌-◌, ◌^◌, ℕ, Bool, false, zero, suc, List, [], ◌∷◌, ◌++◌, Option, Some, None, length, get_or, take, drop, refl, sym, ap, subst, arith, true≢false}
-use Rattle.std.proofs.lemmas.List.{length-map, take_all}
+use Rattle.std.proofs.Common.{◌≡◌, ◌∙◌, ◌<◌, ◌≤◌, ◌-◌, ◌^◌, ℕ, Bool, false, zero, suc, List, [], ◌∷◌, Option, Some, None, length, get_or, take, drop, refl, sym, ap, arith, true≢false}
+use Rattle.std.proofs.lemmas.List.{take_all}
 use Rattle.std.specs.Str.Parse.{digits_value}
 use Rattle.std.proofs.lemmas.Fmt.{decimal_is_IsNumeral}
-use Rattle.std.specs.Prelude.{◌↔◌, All, IsTrue, bytes_eq, is_some, option_map, slice_index_or}
+use Rattle.std.specs.Prelude.{◌↔◌, IsTrue, bytes_eq, is_some, option_map, slice_index_or}
 use Rattle.std.specs.Borrow.{Bor}
-use Rattle.std.proofs.lemmas.Grind.{common_steps}
-use Rattle.std.proofs.lemmas.List.Elements.{All-push}
 use Rattle.std.proofs.lemmas.Slice.Eq.{bytes_eq-Decides}
 use Rattle.clap.specs.Walk.{texts}
 use Rattle.sby_terms.specs.declared.names.Mode.{Mode}
@@ -53,18 +51,6 @@ pub text_at : (xs : List (Bor (List ℕ))) (i : ℕ) (d : Bor (List ℕ)) → i 
 text_at [] i d lt = absurd (omega (arith, lt))
 text_at (x ∷ xs) zero d lt = refl
 text_at (x ∷ xs) (suc i) d lt = text_at xs i d (omega (arith, lt))
-
-pub text_fails : (P : List ℕ → Type 0) (xs : List (Bor (List ℕ))) (i : ℕ) (d : Bor (List ℕ)) → i < length xs → P (slice_index_or xs i d).now → All (λ t. P t → ⊥) (texts xs) → ⊥
-text_fails P xs i d lt p all = all i d.now (simp length-map lt) (subst P (sym (text_at xs i d lt)) p)
-
-pub one_more_passes : (P : List ℕ → Type 0) (xs : List (Bor (List ℕ))) (i : ℕ) (d : Bor (List ℕ)) → i < length xs → P (slice_index_or xs i d).now
-    → All P (texts (take i xs)) → All P (texts (take (i + 1) xs))
-one_more_passes P xs i d lt p all =
-    let parts : texts (take (i + 1) xs) ≡ texts (take i xs) ++ (slice_index_or xs i d).now ∷ [] = grind (arith, common_steps) in
-    subst (All P) (sym parts) (All-push P _ _ all p)
-
-pub all_pass : (P : List ℕ → Type 0) (xs : List (Bor (List ℕ))) (i : ℕ) → length xs ≤ i → All P (texts (take i xs)) → All P (texts xs)
-all_pass P xs i past all = subst (λ (ys : List (Bor (List ℕ))). All P (texts ys)) (take_all i xs past) all
 
 -- what a read past a list gives
 abbrev pub nowhere : Bor (List ℕ)

@@ -1,5 +1,5 @@
 -- What the words of the command line ask: the flags, DIR, M and the list that `clap` finds in them, read form by form.
-use Rattle.std.specs.Prelude.{◌≡◌, ◌≤◌, ◌↔◌, ℕ, Bool, true, false, List, [], ◌∷◌, ◌++◌, Option, Some, None, All, IfSome, IsTrue, codes}
+use Rattle.std.specs.Prelude.{◌≡◌, ◌≤◌, ◌↔◌, ℕ, Bool, true, false, List, [], ◌∷◌, ◌++◌, Option, Some, None, IfSome, IsTrue, codes}
 use Rattle.std.specs.Fmt.{decimal}
 use Rattle.clap.specs.Walk.{Row, all_of, first_of}
 use Rattle.clap.specs.Simple.{matches_of}
@@ -8,7 +8,7 @@ use Rattle.sby_terms.specs.declared.names.Mode.TheVariants.{Bmc, Prove, Cover}
 use Rattle.sby_words.specs.declared.form.Form.{Form}
 use Rattle.sby_words.specs.declared.form.Form.TheVariants.{Judge, Tasks, Names, Gen}
 use Rattle.sby_words.specs.Command.{IsGiven, Taken, command}
-use Rattle.sby_words.specs.Folders.{EndsIn, HasStem, IsFolder, IsNamed}
+use Rattle.sby_words.specs.Folders.{HasStem, IsFolder, IsNamed}
 use Rattle.sby_words.specs.Requests.{AskGen, AskJudge, AskNames, AskTasks, GenRequest, JudgeRequest, Request, TaskRequest}
 
 -- MODE, as a word
@@ -30,13 +30,12 @@ IsLimit None None = Unit {0}
 IsLimit (Some word) None = ⊥
 IsLimit None (Some n) = ⊥
 
--- DIR and the list say `DESIGN MODE DEPTH [STREAM ..]`, with no BTOR2 witness among the streams. It has no `-j M`: it starts no child.
+-- DIR and the list say `DESIGN MODE DEPTH [STREAM ..]`. It has no `-j M`: it starts no child.
 pub record Judges (directory jobs : Option (List ℕ)) (list : List (List ℕ)) (r : JudgeRequest) : Type 0 where
   pub word : List ℕ
   pub parts : list ≡ r.design ∷ mode_word r.mode ∷ word ∷ r.streams
   pub depth : IsNumber 1 100000 word r.depth
   pub folder : IsFolder directory r.design r.folder
-  pub certificates : All (λ stream. EndsIn (codes ".wit") stream → ⊥) r.streams
   pub no_limit : jobs ≡ None
 
 -- DIR, M and the list say `FILE.sby [TASK ..]`

@@ -13,7 +13,7 @@ pub struct JudgeWords {
     pub mode: Mode,
     /// How many cycles, from 1 to `MAX_DEPTH`.
     pub depth: u32,
-    /// The paths of the streams, in the order of the jobs. None ends in `.wit`.
+    /// The paths of the streams, in the order of the jobs.
     pub streams: Vec<String>,
 }
 

@@ -2,19 +2,21 @@
 
 ghost use Rattle.sby_words.specs.Kinds.{IsKindNamed};
 
-use cert_judge::StreamKind;
+use cert_judge::{Kind, StreamKind};
 
-/// The kind of a stored stream by its name: `.lrat`, `.proof` or `.proofb` at its end, and else DRUP.
-pub fn stream_kind(name: &str) -> StreamKind
+/// The kind of a stored stream by its name: `.lrat`, `.proof`, `.proofb` or `.wit` at its end, and else DRUP.
+pub fn stream_kind(name: &str) -> Kind
     ensures { IsKindNamed name.now result }
 {
     if name.ends_with(".lrat") {
-        StreamKind::Lrat
+        Kind::Certificate(StreamKind::Lrat)
     } else if name.ends_with(".proof") {
-        StreamKind::Proof
+        Kind::Certificate(StreamKind::Proof)
     } else if name.ends_with(".proofb") {
-        StreamKind::ProofBinary
+        Kind::Certificate(StreamKind::ProofBinary)
+    } else if name.ends_with(".wit") {
+        Kind::Witness
     } else {
-        StreamKind::Drup
+        Kind::Certificate(StreamKind::Drup)
     }
 }

@@ -1,12 +1,11 @@
 // What the matches of the words ask, form by form.
 
-ghost use Rattle.std.specs.Prelude.{◌≡◌, ◌↔◌, [], ℕ, List, Option, All, IsTrue, IfOk, MatchOption, map, option_map, codes, string_bytes};
+ghost use Rattle.std.specs.Prelude.{◌≡◌, [], ℕ, List, Option, IfOk, MatchOption, map, option_map, string_bytes};
 ghost use Rattle.clap.specs.Matches.{found_of};
 ghost use Rattle.clap.specs.Walk.{rows_of, texts};
 ghost use Rattle.sby_terms.specs.declared.names.Mode.{Mode};
 ghost use Rattle.sby_words.specs.declared.form.Form.TheVariants as form;
 ghost use Rattle.sby_words.specs.Answers.{IsMeant, IsSaid, request_of};
-ghost use Rattle.sby_words.specs.Folders.{EndsIn};
 ghost use Rattle.sby_words.specs.Requests.{GenRequest, JudgeRequest, TaskRequest};
 ghost use Rattle.sby_words.specs.Words.{Generates, IsLimit, IsNumber, Judges, Lists, Runs, mode_word};
 
@@ -93,23 +92,6 @@ fn limit_of(jobs: Option<&str>) -> Option<Option<u32>>
     }
 }
 
-fn is_witness(stream: &str) -> bool
-    ensures { IsTrue result ↔ EndsIn (codes ".wit") stream.now }
-{
-    stream.strip_suffix(".wit").is_some()
-}
-
-fn are_certificates(streams: &[&str]) -> bool
-    ensures { IsTrue result ↔ All (λ stream. EndsIn (codes ".wit") stream → ⊥) (texts streams.now) }
-{
-    for stream in streams {
-        if is_witness(stream) {
-            return false;
-        }
-    }
-    true
-}
-
 fn judge_parts<'m, 'a>(
     directory: Option<&'a str>,
     jobs: Option<&str>,
@@ -129,9 +111,6 @@ fn judge_parts<'m, 'a>(
         return None;
     };
     if jobs.is_some() {
-        return None;
-    }
-    if !are_certificates(streams) {
         return None;
     }
     let Some(mode) = mode_of(mode) else {

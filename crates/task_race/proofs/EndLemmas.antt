@@ -162,8 +162,8 @@ module _ (racing : RacingOf) (pool : Option PoolOf) (may_read : ℕ → Type 0) 
     | inr passed ↦ absurd passed.1
   ]
 
-  -- a lane that isn't served has no engine that serves jobs
-  unserved_cause : end_at r place ≡ end.NotServed → IsServing (slice_get racing.engines lane) → ⊥
+  -- the engine of a lane whose job isn't served doesn't serve it
+  unserved_cause : end_at r place ≡ end.NotServed → IsServing (slice_get racing.engines lane) (name_in racing place) → ⊥
   unserved_cause is serving = elim (replayed end.NotServed is (λ last. last)) [
     | inl own ↦ own.1
     | inr passed ↦ passed.0 (serving, (place, job_named racing.problem.problem.mode racing.problem.problem.span racing.problem.design place lt))

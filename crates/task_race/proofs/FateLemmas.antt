@@ -7,12 +7,14 @@ use Rattle.sby_edge.specs.Script.{GateOf, ScriptOf}
 use Rattle.sby_terms.specs.declared.names.JobName.{JobName}
 use Rattle.cert_judge.specs.Fate.{Fate, Found, Unknown, Bad}
 use Rattle.cert_judge.specs.declared.stream.StreamKind.{StreamKind}
-use Rattle.cert_judge.proofs.KindFates.{one_whole}
-use Rattle.cert_judge.specs.Kinds.{IsFate}
+use Rattle.cert_judge.specs.declared.stream.Kind.{Kind}
+use Rattle.cert_judge.specs.declared.stream.Kind.TheVariants.{Certificate}
 use Rattle.cert_judge.proofs.OutputFates.{output_fate}
 use Rattle.cert_judge.specs.OutputFate.{IsOutputFate}
+use Rattle.judge.proofs.Streams.{one_whole}
+use Rattle.judge.specs.Fates.{IsFate}
 use Rattle.judge.specs.Finding.{FindingOf}
-use Rattle.judge.specs.Problem.{AskedOf, IsJobFile}
+use Rattle.judge.specs.Problem.{AskedOf, IsJobFile, IsProblem}
 use Rattle.race_core.specs.declared.end.JobEnd.{JobEnd}
 use Rattle.race_core.specs.declared.end.JobEnd.TheVariants as end
 use Rattle.race_core.specs.declared.event.Judged.{Judged}
@@ -43,12 +45,12 @@ none_some : (fate : Fate) → (let o : Option Fate = None in o) ≡ Some fate �
 none_some fate is = cc
 
 -- what is said of what a child left is said of its fate
-module _ (p : AskedOf) (job : JobName) (said : Judged FindingOf) (some : said ≢ judged.More) (file stream proof : List ℕ) (is_file : IsJobFile p job file) (fate : Fate) where
+module _ (p : AskedOf) (h : IsProblem p) (job : JobName) (said : Judged FindingOf) (some : said ≢ judged.More) (file stream proof : List ℕ) (is_file : IsJobFile p job file) (fate : Fate) where
   -- of a stream
-  of_stream : (kind : StreamKind) → IsFate kind file stream most_bytes fate
+  of_stream : (kind : Kind) → IsFate p job kind file stream most_bytes fate
       → ComesTo (Ends p job (Output kind)) (Proves p job (Output kind)) (λ (got : List ℕ). got ≡ proof) stream said → Tells p.problem job said (Some fate)
   of_stream kind is (inl (None, tells, whole)) = absurd (whole file is_file)
-  of_stream kind is (inl (Some own, tells, whole)) = subst (λ (x : Fate). Tells p.problem job said (Some x)) (one_whole kind file stream most_bytes own fate (whole file is_file) is) tells
+  of_stream kind is (inl (Some own, tells, whole)) = subst (λ (x : Fate). Tells p.problem job said (Some x)) (one_whole p h job kind file stream most_bytes own fate (whole file is_file) is) tells
   of_stream kind is (inr (more, (got, same, proves))) = absurd proves
 
   -- of an output that doesn't leave it to the proof file
@@ -58,29 +60,29 @@ module _ (p : AskedOf) (job : JobName) (said : Judged FindingOf) (some : said �
   of_output kind is (inr ((own, none, whole), proved)) = absurd (none_some fate (sym none ∙ output_fate file stream most_bytes own (Some fate) (whole file is_file) is))
 
   -- of one that does
-  of_proof : (kind : StreamKind) → IsOutputFate file stream most_bytes None → IsFate kind file proof most_bytes fate
+  of_proof : (kind : StreamKind) → IsOutputFate file stream most_bytes None → IsFate p job (Certificate kind) file proof most_bytes fate
       → ComesTo (Ends p job (ProofFile kind)) (Proves p job (ProofFile kind)) (λ (got : List ℕ). got ≡ proof) stream said → Tells p.problem job said (Some fate)
   of_proof kind none is (inl (own, tells, whole)) =
       none_tells p job said fate some (subst (λ (o : Option Fate). Tells p.problem job said o) (output_fate file stream most_bytes own None (whole file is_file) none) tells)
   of_proof kind none is (inr (more, (got, same, (own, tells, whole)))) =
       subst (λ (x : Fate). Tells p.problem job said (Some x))
-      (one_whole kind file proof most_bytes own fate (subst (λ (bytes : List ℕ). IsFate kind file bytes most_bytes own) same (whole file is_file)) is) tells
+      (one_whole p h job (Certificate kind) file proof most_bytes own fate (subst (λ (bytes : List ℕ). IsFate p job (Certificate kind) file bytes most_bytes own) same (whole file is_file)) is) tells
 
-  pub of_fate : (evidence : Evidence) → IsFateOf evidence file stream proof fate
+  pub of_fate : (evidence : Evidence) → IsFateOf p job evidence file stream proof fate
       → ComesTo (Ends p job evidence) (Proves p job evidence) (λ (got : List ℕ). got ≡ proof) stream said → Tells p.problem job said (Some fate)
   of_fate (Output kind) is comes = of_stream kind is comes
   of_fate (ProofFile kind) (inl is) comes = of_output kind is comes
   of_fate (ProofFile kind) (inr is) comes = of_proof kind is.0 is.1 comes
 
 module _ (racing : RacingOf) (may_read : ℕ → Type 0) (told : Option YardOf) (counts : CountsOf) (start : Option ℕ) (lane : ℕ) (job : JobName)
-    (script : ScriptOf) (file : List ℕ) (fate : Fate) (serving : IsServing (slice_get racing.engines lane)) (script_is : script_of told racing.task lane job ≡ Some script) (none : script.gate ≡ None)
+    (script : ScriptOf) (file : List ℕ) (fate : Fate) (serving : IsServing (slice_get racing.engines lane) job) (script_is : script_of told racing.task lane job ≡ Some script) (none : script.gate ≡ None)
     (is_file : IsJobFile racing.problem job file)
-    (is_fate : IsFateOf (evidence_in racing lane) file (up_to script.stalls script.bytes) (take (most_bytes + 1) script.proof) fate) where
+    (problem : IsProblem racing.problem) (is_fate : IsFateOf racing.problem job (evidence_in racing lane) file (up_to script.stalls script.bytes) (take (most_bytes + 1) script.proof) fate) where
   -- what is said of what the child left is said of its fate
   said_of : (said : Judged FindingOf) → said ≢ judged.More → IsJudgedAs racing told lane job said → Tells racing.problem.problem job said (Some fate)
   said_of said some (served, (stream, of_script, comes)) =
       let same = one_stream script stream none (subst (λ (o : Option ScriptOf). IsStreamOf o stream) script_is of_script) in
-      of_fate racing.problem job said some file (up_to script.stalls script.bytes) (take (most_bytes + 1) script.proof) is_file fate (evidence_in racing lane) is_fate
+      of_fate racing.problem problem job said some file (up_to script.stalls script.bytes) (take (most_bytes + 1) script.proof) is_file fate (evidence_in racing lane) is_fate
       (subst (λ (bytes : List ℕ). ComesTo (Ends racing.problem job (evidence_in racing lane)) (Proves racing.problem job (evidence_in racing lane)) (λ (got : List ℕ). got ≡ take (most_bytes + 1) script.proof) bytes said) same
       (subst (λ (o : Option ScriptOf). ComesTo (Ends racing.problem job (evidence_in racing lane)) (Proves racing.problem job (evidence_in racing lane)) (IsProofOf o) stream said) script_is comes))
 

@@ -6,6 +6,7 @@ use Rattle.jobs_pool.specs.Places.{PoolOf}
 use Rattle.sby_edge.specs.Cause.{CountsOf}
 use Rattle.sby_edge.specs.Child.{BayOf, IsLogged, YardOf, new_bay}
 use Rattle.judge.specs.Finding.{FindingOf, IsTrueFinding}
+use Rattle.judge.specs.Problem.{IsProblem}
 use Rattle.race_core.specs.Carrying.{Carries}
 use Rattle.race_cells.specs.Notes.{NoteOf}
 use Rattle.race_core.specs.Asking.{name_at, terms_of}
@@ -77,7 +78,7 @@ module _ {B : Type 0} (counts : B → CountsOf) (tells : B → Option BayOf) (ra
       let is : end_at r among_ends.0 ≡ e = get_or_default r.ends among_ends.0 end.NotServed e among_ends.1 ∙ among_ends.2 in
       (consistent.carried among.0 among_ends.0 r f at within (subst (λ (x : JobEnd FindingOf). Carries x f) (sym is) carries)).1.0
 
-  pub lanes_ran : IsStart may_read racing.limit start → (notes : List (NoteOf FindingOf)) → AreDone racing may_read start notes reports
+  pub lanes_ran : IsProblem racing.problem → IsStart may_read racing.limit start → (notes : List (NoteOf FindingOf)) → AreDone racing may_read start notes reports
       → ((r : ReportOf FindingOf) (f : FindingOf) → Contains reports r → CarriedIn r.ends f → IsTrueFinding f)
       → ((i : ℕ) (b d : B) (q : ReportOf FindingOf) → slice_get bays i ≡ Some b → slice_get backs i ≡ Some d → slice_get reports i ≡ Some q → LaneFaults (counts b) (counts d) (job_count racing) q)
       → ((i : ℕ) (b d : B) (q : ReportOf FindingOf) → slice_get bays i ≡ Some b → slice_get backs i ≡ Some d → slice_get reports i ≡ Some q → AreStarts racing pool (tells b) (tells d) i q)
@@ -86,11 +87,12 @@ module _ {B : Type 0} (counts : B → CountsOf) (tells : B → Option BayOf) (ra
       → IsLogged (left_all (map (λ b. record { told = tells b; counts = counts b }) backs)) before.started now.started
       → LanesRan racing pool may_read before now start reports
   unfolding view
-  lanes_ran began notes done are_true faults starts stopped back logged = record {
+  lanes_ran problem began notes done are_true faults starts stopped back logged = record {
     backs = map view backs;
     backs_are = length-map backs view ∙ (same ∙ many);
     came_back = subst (λ (parts : List CountsOf). CameBack parts before.counts now.counts) (sym (counts_left view counts backs (λ b. refl))) back;
     logged = logged;
+    is_problem = problem;
     start_is = began;
     consistent = consistent;
     are_true = λ r f among carried. (are_true r f among carried, carried_problem r f among carried);
@@ -105,17 +107,17 @@ pub have_raced : {B : Type 0} (counts : B → CountsOf) (tells : B → Option Ba
     (bays backs : List B) (reports : List (ReportOf FindingOf))
     → AreNew scripts racing.task (map (λ b. record { told = tells b; counts = counts b }) bays)
     → AreConsistent racing start reports → length bays ≡ length racing.engines → length backs ≡ length bays
-    → IsStart may_read racing.limit start → (notes : List (NoteOf FindingOf)) → AreDone racing may_read start notes reports
+    → IsProblem racing.problem → IsStart may_read racing.limit start → (notes : List (NoteOf FindingOf)) → AreDone racing may_read start notes reports
     → ((r : ReportOf FindingOf) (f : FindingOf) → Contains reports r → CarriedIn r.ends f → IsTrueFinding f)
     → ((i : ℕ) (b d : B) (q : ReportOf FindingOf) → slice_get bays i ≡ Some b → slice_get backs i ≡ Some d → slice_get reports i ≡ Some q → LaneFaults (counts b) (counts d) (job_count racing) q)
     → ((i : ℕ) (b d : B) (q : ReportOf FindingOf) → slice_get bays i ≡ Some b → slice_get backs i ≡ Some d → slice_get reports i ≡ Some q → AreStarts racing pool (tells b) (tells d) i q)
     → All (λ q. LaneStops may_read (limit_from racing start) (job_count racing) q) reports
     → HaveRaced racing pool may_read scripts start reports (map (λ b. record { told = tells b; counts = counts b }) backs)
-have_raced {B} counts tells racing pool may_read scripts start bays backs reports new consistent many same began notes done are_true faults starts stopped = λ before now is back logged.
+have_raced {B} counts tells racing pool may_read scripts start bays backs reports new consistent many same problem began notes done are_true faults starts stopped = λ before now is back logged.
     let view : B → BackOf = λ b. record { told = tells b; counts = counts b } in
     lanes_ran counts tells racing pool may_read before now start bays backs reports consistent many same
     (λ lane b at. subst (λ (s : Option YardOf). (tells b ≡ new_bay s racing.task lane) × (counts b ≡ none_failed)) (sym is) (new lane (view b) (at_map view bays lane b at)))
-    began notes done are_true faults starts stopped
+    problem began notes done are_true faults starts stopped
     (subst (λ (parts : List CountsOf). CameBack parts before.counts now.counts) (counts_left view counts backs (λ b. refl)) back) logged
 
 -- ---- what a race of bays leaves

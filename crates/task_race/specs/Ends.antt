@@ -7,9 +7,11 @@ use Rattle.sby_terms.specs.declared.names.JobName.{JobName}
 use Rattle.cert_judge.specs.Fate.{Fate, Found, Unknown, Bad}
 use Rattle.cert_judge.specs.Numbers.{number_of}
 use Rattle.cert_judge.specs.declared.stream.CertKind.{CertKind}
-use Rattle.cert_judge.specs.Kinds.{IsFate}
+use Rattle.cert_judge.specs.declared.stream.Kind.TheVariants.{Certificate}
 use Rattle.cert_judge.specs.OutputFate.{IsOutputFate}
+use Rattle.judge.specs.Fates.{IsFate}
 use Rattle.judge.specs.Finding.{FindingOf}
+use Rattle.judge.specs.Problem.{AskedOf}
 use Rattle.race_core.specs.Asking.{needless_by, skipped_by}
 use Rattle.race_core.specs.declared.end.JobEnd.{JobEnd}
 use Rattle.race_core.specs.declared.end.JobEnd.TheVariants as end
@@ -37,7 +39,7 @@ abbrev pub IsProofOf : Option ScriptOf → List ℕ → Type 0
 IsProofOf None proof = Unit {0}
 IsProofOf (Some script) proof = proof ≡ take (most_bytes + 1) script.proof
 
--- The lane's engine serves the job, and its child's stream comes to this as a certificate for the job's file; or the stream leaves that to
+-- The lane's engine serves the job, and its child's stream comes to this as evidence for the job; or the stream leaves that to
 -- the proof file, which comes to this.
 abbrev pub IsJudgedAs : RacingOf → Option YardOf → ℕ → JobName → Judged FindingOf → Type 0
 IsJudgedAs racing told lane job said =
@@ -70,7 +72,7 @@ module _ (racing : RacingOf) (may_read : ℕ → Type 0) (told : Option YardOf) 
   HasEndCause (end.Found f) = IsJudgedAs racing told lane job (judged.Found f)
   HasEndCause end.Unknown = IsJudgedAs racing told lane job judged.Unknown
   HasEndCause (end.Bad number at) = IsJudgedAs racing told lane job (judged.Bad number at)
-  HasEndCause end.NotServed = IsServing (slice_get racing.engines lane) → ⊥
+  HasEndCause end.NotServed = IsServing (slice_get racing.engines lane) job → ⊥
   HasEndCause end.ReadFailed = 0 < counts.reads
   HasEndCause end.StartFailed = 0 < counts.starts
   HasEndCause end.HoldFailed = 0 < counts.holds
@@ -79,13 +81,13 @@ module _ (racing : RacingOf) (may_read : ℕ → Type 0) (told : Option YardOf) 
   HasEndCause (end.Stopped t) = IsLimitShown may_read racing.limit start t
   HasEndCause end.Memory = Unit {0}
 
--- The fate of what a child leaves, as a certificate for a job's file: of a stream of a kind; or of an output, and, where that leaves it to
+-- The fate of what a child leaves, as evidence for a job whose file this is: of a stream of a kind; or of an output, and, where that leaves it to
 -- the proof file, of what is got of that.
-abbrev pub IsFateOf : Evidence → List ℕ → List ℕ → List ℕ → Fate → Type 0
-IsFateOf (Output kind) file stream proof fate = IsFate kind file stream most_bytes fate
-IsFateOf (ProofFile kind) file stream proof fate =
+abbrev pub IsFateOf : AskedOf → JobName → Evidence → List ℕ → List ℕ → List ℕ → Fate → Type 0
+IsFateOf p job (Output kind) file stream proof fate = IsFate p job kind file stream most_bytes fate
+IsFateOf p job (ProofFile kind) file stream proof fate =
     IsOutputFate file stream most_bytes (Some fate)
-    ⊎ (IsOutputFate file stream most_bytes None × IsFate kind file proof most_bytes fate)
+    ⊎ (IsOutputFate file stream most_bytes None × IsFate p job (Certificate kind) file proof most_bytes fate)
 
 -- the end of a job whose child leaves what has this fate: the fate's own; or a call failed, the job was skipped, called off or stopped, or memory
 -- ran out

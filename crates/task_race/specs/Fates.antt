@@ -1,5 +1,5 @@
--- What a child's output, and the proof file after it, come to, as a certificate for a job.
-use Rattle.std.specs.Prelude.{◌≡◌, ◌≢◌, ◌⊎◌, ◌+◌, ◌^◌, ℕ, Bool, true, List, ◌++◌, Option, None, Some, MatchOption, Result, Ok, Err, refl}
+-- What a child's output, and the proof file after it, come to, as evidence for a job.
+use Rattle.std.specs.Prelude.{◌≡◌, ◌≢◌, ◌⊎◌, ◌+◌, ◌^◌, ℕ, List, ◌++◌, Option, None, Some, MatchOption, Result, Ok, Err, refl}
 use Rattle.std.proofs.Common.{inl, inr, subst}
 use Rattle.sby_terms.specs.Problem.{ProblemOf}
 use Rattle.sby_terms.specs.declared.names.JobName.{JobName}
@@ -9,9 +9,11 @@ use Rattle.cert_judge.specs.Fate.{Fate, Found, Unknown, Bad}
 use Rattle.cert_judge.specs.Numbers.{number_of}
 use Rattle.cert_judge.specs.declared.stream.BadCert.{BadCert}
 use Rattle.cert_judge.specs.declared.stream.CertKind.{CertKind}
+use Rattle.cert_judge.specs.declared.stream.Kind.{Kind}
+use Rattle.cert_judge.specs.declared.stream.Kind.TheVariants.{Certificate}
 use Rattle.cert_judge.specs.declared.stream.StreamKind.{StreamKind}
-use Rattle.cert_judge.proofs.KindFates.{stays}
-use Rattle.cert_judge.specs.Kinds.{IsFate, IsFateSoFar}
+use Rattle.judge.proofs.StreamFates.{stays}
+use Rattle.judge.specs.Fates.{IsFate, IsFateSoFar}
 use Rattle.cert_judge.proofs.OutputFates.{output_at_end, output_stays}
 use Rattle.cert_judge.specs.OutputFate.{IsOutputFate, IsOutputFateSoFar}
 use Rattle.judge.specs.Finding.{FindingOf}
@@ -41,29 +43,29 @@ Tells p job (judged.Bad number at) fate = (kind : CertKind) × (number ≡ numbe
 Tells p job judged.Failed fate = ⊥
 Tells p job judged.Unjudged fate = ⊥
 
--- the fate so far of the bytes of an output as a certificate for a job's file: of a stream of a kind; or of values, where a proof file may
--- decide
-abbrev pub IsSoFar : Evidence → List ℕ → List ℕ → Option Fate → Type 0
-IsSoFar (Output kind) file bytes fate = IsFateSoFar kind file bytes most_bytes fate
-IsSoFar (ProofFile kind) file bytes fate = IsOutputFateSoFar file bytes most_bytes fate
+-- the fate so far of the bytes of an output as evidence for a job whose file this is: of a stream of a kind; or of values, where a proof
+-- file may decide
+abbrev pub IsSoFar : AskedOf → JobName → Evidence → List ℕ → List ℕ → Option Fate → Type 0
+IsSoFar p job (Output kind) file bytes fate = IsFateSoFar p job kind file bytes most_bytes fate
+IsSoFar p job (ProofFile kind) file bytes fate = IsOutputFateSoFar file bytes most_bytes fate
 
 -- the fate of a whole output; None where the proof file decides
-abbrev pub IsWhole : Evidence → List ℕ → List ℕ → Option Fate → Type 0
-IsWhole (Output kind) file bytes fate = MatchOption fate ⊥ (IsFate kind file bytes most_bytes)
-IsWhole (ProofFile kind) file bytes fate = IsOutputFate file bytes most_bytes fate
+abbrev pub IsWhole : AskedOf → JobName → Evidence → List ℕ → List ℕ → Option Fate → Type 0
+IsWhole p job (Output kind) file bytes fate = MatchOption fate ⊥ (IsFate p job kind file bytes most_bytes)
+IsWhole p job (ProofFile kind) file bytes fate = IsOutputFate file bytes most_bytes fate
 
 -- what is said of these bytes of an output, whatever follows
 abbrev pub Stands : AskedOf → JobName → Evidence → List ℕ → Judged FindingOf → Type 0
-Stands p job by bytes said = (fate : Option Fate) × Tells p.problem job said fate × ((file : List ℕ) → IsJobFile p job file → IsSoFar by file bytes fate)
+Stands p job by bytes said = (fate : Option Fate) × Tells p.problem job said fate × ((file : List ℕ) → IsJobFile p job file → IsSoFar p job by file bytes fate)
 
 -- what is said of them as the whole output
 abbrev pub Ends : AskedOf → JobName → Evidence → List ℕ → Judged FindingOf → Type 0
-Ends p job by bytes said = (fate : Option Fate) × Tells p.problem job said fate × ((file : List ℕ) → IsJobFile p job file → IsWhole by file bytes fate)
+Ends p job by bytes said = (fate : Option Fate) × Tells p.problem job said fate × ((file : List ℕ) → IsJobFile p job file → IsWhole p job by file bytes fate)
 
 -- what is said of the bytes of a whole proof file of a kind
 abbrev pub ProvesAs : AskedOf → JobName → StreamKind → List ℕ → Judged FindingOf → Type 0
 ProvesAs p job kind bytes said =
-    (fate : Fate) × Tells p.problem job said (Some fate) × ((file : List ℕ) → IsJobFile p job file → IsFate kind file bytes most_bytes fate)
+    (fate : Fate) × Tells p.problem job said (Some fate) × ((file : List ℕ) → IsJobFile p job file → IsFate p job (Certificate kind) file bytes most_bytes fate)
 
 -- no stream leaves anything to a proof file
 abbrev pub Proves : AskedOf → JobName → Evidence → List ℕ → Judged FindingOf → Type 0
@@ -71,7 +73,7 @@ Proves p job (Output kind) bytes said = ⊥
 Proves p job (ProofFile kind) bytes said = ProvesAs p job kind bytes said
 
 -- a judge of the job's stream of a kind that goes on, and has taken these bytes
-pub record GoesOn (p : AskedOf) (job : JobName) (kind : StreamKind) (j : JudgeOf) (bytes : List ℕ) : Type 0 where
+pub record GoesOn (p : AskedOf) (job : JobName) (kind : Kind) (j : JudgeOf) (bytes : List ℕ) : Type 0 where
   pub is_job : IsJob p job
   pub asked : j.asked ≡ p
   pub job_is : j.job ≡ job
@@ -106,14 +108,14 @@ nothing_said p job (judged.Bad number at) tells = absurd (subst IsNothing tells.
 nothing_said p job judged.Failed tells = absurd tells
 nothing_said p job judged.Unjudged tells = absurd tells
 
-whole_stays : (by : Evidence) (file bytes more : List ℕ) (fate : Fate) → IsSoFar by file bytes (Some fate) → IsWhole by file (bytes ++ more) (Some fate)
-whole_stays (Output kind) file bytes more fate h = stays kind file bytes more most_bytes fate h
-whole_stays (ProofFile kind) file bytes more fate h = output_at_end file (bytes ++ more) most_bytes fate (output_stays file bytes more most_bytes fate h)
+whole_stays : (p : AskedOf) (job : JobName) (by : Evidence) (file bytes more : List ℕ) (fate : Fate) → IsSoFar p job by file bytes (Some fate) → IsWhole p job by file (bytes ++ more) (Some fate)
+whole_stays p job (Output kind) file bytes more fate h = stays p job kind file bytes more most_bytes fate h
+whole_stays p job (ProofFile kind) file bytes more fate h = output_at_end file (bytes ++ more) most_bytes fate (output_stays file bytes more most_bytes fate h)
 
 -- what stands, stays, also where the output ends there
 pub stays_law : (p : AskedOf) (job : JobName) (by : Evidence) (bytes more : List ℕ) (said : Judged FindingOf) → said ≢ judged.More → Stands p job by bytes said → Ends p job by (bytes ++ more) said
 stays_law p job by bytes more said some (None, tells, so_far) = absurd (some (nothing_said p.problem job said tells))
-stays_law p job by bytes more said some (Some fate, tells, so_far) = (Some fate, tells, λ file is. whole_stays by file bytes more fate (so_far file is))
+stays_law p job by bytes more said some (Some fate, tells, so_far) = (Some fate, tells, λ file is. whole_stays p job by file bytes more fate (so_far file is))
 
 proof_for : (p : AskedOf) (job : JobName) (by : Evidence) (bytes : List ℕ) (f : FindingOf) → Proves p job by bytes (judged.Found f) → (f.problem ≡ p.problem) × (f.job ≡ job)
 proof_for p job (Output kind) bytes f h = absurd h

@@ -1,5 +1,5 @@
 -- What the lanes of a task leave.
-use Rattle.std.specs.Prelude.{◌≡◌, ℕ, Bool, List, Option, None, Some, length, map, slice_get, unwrap_or}
+use Rattle.std.specs.Prelude.{◌≡◌, ℕ, Bool, List, Option, None, Some, IsSomeAnd, length, map, slice_get, unwrap_or}
 use Rattle.jobs_pool.specs.Places.{PoolOf}
 use Rattle.sby_edge.specs.Child.{BayOf, IsLogged, YardOf, new_bay}
 use Rattle.sby_edge.specs.Files.{Store}
@@ -7,11 +7,13 @@ use Rattle.sby_terms.specs.Path.{job_path}
 use Rattle.sby_terms.specs.Problem.{ProblemOf}
 use Rattle.sby_terms.specs.Span.{slices_of}
 use Rattle.sby_terms.specs.declared.engine.Engine.{Engine}
+use Rattle.sby_terms.specs.declared.engine.Engine.TheVariants as engine
 use Rattle.sby_terms.specs.declared.names.Answer.{Answer}
 use Rattle.sby_terms.specs.declared.names.JobName.{JobName}
 use Rattle.judge.specs.Finding.{FindingOf, IsTrueFinding}
 use Rattle.judge.specs.Jobs.{jobs_of}
-use Rattle.judge.specs.Problem.{AskedOf, IsJobFile}
+use Rattle.judge.specs.Problem.{AskedOf, IsJobFile, IsProblem}
+use Rattle.judge.specs.Witness.{IsLinesFile}
 use Rattle.race_cells.specs.Notes.{NoteOf}
 use Rattle.race_core.specs.Asking.{name_at, terms_of}
 use Rattle.race_core.specs.Collect.{AreTrue, HasFinding, HasWon}
@@ -25,7 +27,7 @@ use Rattle.lane_run.specs.Started.{LaneStarts}
 use Rattle.lane_run.specs.declared.task.Limit.{Limit}
 use Rattle.task_race.specs.Fates.{Ends, Proves, Stands, most_bytes, most_output}
 use Rattle.task_race.specs.Serving.{IsServed, evidence_at, file_of}
-use Rattle.task_race.specs.Words.{proof_path, words_at}
+use Rattle.task_race.specs.Words.{btor_path, words_at}
 use Rattle.task_race.specs.declared.evidence.Evidence.{Evidence}
 use Rattle.task_race.specs.Bays.{BackOf, CameBack, YardAt, counts_in, left_all, none_failed}
 use Rattle.task_race.specs.declared.racing.Racing.{Racing}
@@ -99,14 +101,13 @@ AreDone racing may_read start notes reports = LanesDone (IsFor problem_in job_in
 abbrev pub WinnersFind : RacingOf → List (ReportOf FindingOf) → Type 0
 WinnersFind racing reports = EachLane reports (λ lane r. (place : ℕ) → HasWon r place → HasFinding job_in (name_in racing place) r)
 
--- where the certificates of a lane's children come from
+-- where the evidence of a lane's children comes from
 abbrev pub evidence_in : RacingOf → ℕ → Evidence
 evidence_in racing lane = evidence_at (slice_get racing.engines lane)
 
 -- the words of a lane's child for a job, for the files of the work folder
 abbrev pub words_in : RacingOf → ℕ → JobName → List (List ℕ)
-words_in racing lane job = words_at (slice_get racing.engines lane) (job_path racing.folder (slices_of racing.problem.problem.span) job)
-    (proof_path racing.folder lane (slices_of racing.problem.problem.span) job)
+words_in racing lane job = words_at (slice_get racing.engines lane) racing.folder lane (slices_of racing.problem.problem.span) job
 
 -- The starts of a lane's jobs, with the words of its engine line, under the allowance of this pool, or none, over the scripts that are told
 -- for it, up to what its bay tells then.
@@ -120,10 +121,11 @@ AreStarts racing pool before now lane r =
 abbrev pub EachBack : List (ReportOf FindingOf) → List BackOf → (ℕ → ReportOf FindingOf → BackOf → Type 0) → Type 0
 EachBack reports backs P = (lane : ℕ) (r : ReportOf FindingOf) (back : BackOf) → slice_get reports lane ≡ Some r → slice_get backs lane ≡ Some back → P lane r back
 
--- What lanes that started at this reading report, under the allowance of this pool, or none, over their yard at two moments. What they carry is true; their bays came back, one for
+-- What lanes of a problem that started at this reading report, under the allowance of this pool, or none, over their yard at two moments. What they carry is true; their bays came back, one for
 -- each engine line, and the yard counts their failed calls and tells what they left; an end that tells of a failed call comes only where
 -- the lane's own bay counted one; what each started is what its bay left; and they stop by readings alone which the clock may give.
 pub record LanesRan (racing : RacingOf) (pool : Option PoolOf) (may_read : ℕ → Type 0) (before now : YardAt) (start : Option ℕ) (reports : List (ReportOf FindingOf)) : Type 0 where
+  pub is_problem : IsProblem racing.problem
   pub start_is : IsStart may_read racing.limit start
   pub consistent : AreConsistent racing start reports
   pub done : (notes : List (NoteOf FindingOf)) × AreDone racing may_read start notes reports
@@ -136,9 +138,18 @@ pub record LanesRan (racing : RacingOf) (pool : Option PoolOf) (may_read : ℕ �
   pub starts : EachBack reports backs (λ lane r back. AreStarts racing pool (new_bay before.scripts racing.task lane) back.told lane r)
   pub stopped : EachLane reports (λ lane r. LaneStops may_read (limit_from racing start) (job_count racing) r)
 
--- the store has the file of each job, at its path in the work folder
+-- the store has the formula of each job, at its path in the work folder
+abbrev pub HasFormulas : RacingOf → Store → Type 0
+HasFormulas racing store = (job : JobName) (file : List ℕ) → IsJobFile racing.problem job file → store (job_path racing.folder (slices_of racing.problem.problem.span) job) ≡ Some file
+
+-- and the model in BTOR2 of each job that a lane serves by witnesses
+abbrev pub HasModels : RacingOf → Store → Type 0
+HasModels racing store =
+    (lane : ℕ) (words : List (List ℕ)) (job : JobName) → slice_get racing.engines lane ≡ Some (engine.Btor words) → IsServed racing.engines racing.problem lane job
+    → IsSomeAnd (store (btor_path racing.folder (slices_of racing.problem.problem.span) job)) (IsLinesFile racing.problem job)
+
 abbrev pub HasJobFiles : RacingOf → Store → Type 0
-HasJobFiles racing store = (job : JobName) (file : List ℕ) → IsJobFile racing.problem job file → store (job_path racing.folder (slices_of racing.problem.problem.span) job) ≡ Some file
+HasJobFiles racing store = HasFormulas racing store × HasModels racing store
 
 -- Lanes were raced under this allowance, or none, in bays of these scripts, and left these reports and these bays: wherever the bays come back to their yard, that is what
 -- lanes leave that ran.

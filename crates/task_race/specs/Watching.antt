@@ -5,6 +5,7 @@ use Rattle.sby_terms.specs.declared.names.JobName.{JobName}
 use Rattle.race_core.specs.declared.event.Judged.{Judged}
 use Rattle.race_core.specs.declared.event.Judged.TheVariants as judged
 use Rattle.cert_judge.specs.declared.stream.BadCert.{BadCert}
+use Rattle.cert_judge.specs.declared.stream.Kind.TheVariants.{Certificate}
 use Rattle.judge.specs.Finding.{FindingOf}
 use Rattle.judge.specs.Judging.{JudgeOf}
 use Rattle.judge.specs.Problem.{AskedOf, IsJob, IsJobFile}
@@ -33,7 +34,7 @@ Awaits p job (ProofFile kind) = IsJob p job
 abbrev pub Proving : AskedOf → JobName → Evidence → Option JudgeOf → List ℕ → Type 0
 Proving p job (Output kind) file bytes = ⊥
 Proving p job (ProofFile kind) None bytes = ⊥
-Proving p job (ProofFile kind) (Some j) bytes = GoesOn p job kind j bytes
+Proving p job (ProofFile kind) (Some j) bytes = GoesOn p job (Certificate kind) j bytes
 
 -- an answer as a lane's list has it; out of memory isn't judged
 abbrev pub told_as : Result (Result Progress BadCert) AllocError → Judged FindingOf

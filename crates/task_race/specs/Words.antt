@@ -4,7 +4,7 @@ use Rattle.std.specs.Fmt.{decimal}
 use Rattle.sby_terms.specs.declared.engine.Engine.{Engine}
 use Rattle.sby_terms.specs.declared.engine.Engine.TheVariants as engine
 use Rattle.sby_terms.specs.declared.names.JobName.{JobName}
-use Rattle.sby_terms.specs.Path.{job_text}
+use Rattle.sby_terms.specs.Path.{job_path, job_text}
 
 unfoldable pub solver_word : List ℕ
 solver_word = codes "cdcl_program"
@@ -44,20 +44,31 @@ both_joined path proof word (Some (front, back)) = replaced proof_mark proof fro
 abbrev pub with_paths : List ℕ → List ℕ → List ℕ → List ℕ
 with_paths path proof word = both_joined path proof word (parted formula_mark word)
 
--- the words of an engine's child, for the job's file and the proof file at these paths; there are none for the kind that serves no job
+-- the words of an engine's child, for the file that it reads and the proof file at these paths
 abbrev pub words_of : Engine → List ℕ → List ℕ → List (List ℕ)
 words_of (engine.Sat None) path proof = solver_word ∷ path ∷ []
 words_of (engine.Sat (Some n)) path proof = solver_word ∷ budget_word ∷ decimal n ∷ path ∷ []
 words_of (engine.Drup words) path proof = words ++ path ∷ []
-words_of (engine.Btor words) path proof = []
+words_of (engine.Btor words) path proof = words ++ path ∷ []
 words_of (engine.Lrat words) path proof = words ++ path ∷ []
 words_of (engine.Proof words) path proof = map (with_paths path proof) words
 words_of (engine.ProofBinary words) path proof = map (with_paths path proof) words
 
--- those of a lane, if it has an engine
-abbrev pub words_at : Option Engine → List ℕ → List ℕ → List (List ℕ)
-words_at None path proof = []
-words_at (Some e) path proof = words_of e path proof
+unfoldable pub btor_file : List ℕ → List ℕ → List ℕ
+btor_file folder job = folder ++ codes "/model/" ++ job ++ codes ".btor"
+
+-- the path of a job's model in BTOR2 in the work folder of a task with this many slices
+abbrev pub btor_path : List ℕ → ℕ → JobName → List ℕ
+btor_path folder slices job = btor_file folder (job_text slices job)
+
+-- the path of the file that an engine's child reads for a job: the model in BTOR2, or the job's formula
+abbrev pub path_of : Engine → List ℕ → ℕ → JobName → List ℕ
+path_of (engine.Sat conflicts) folder slices job = job_path folder slices job
+path_of (engine.Drup words) folder slices job = job_path folder slices job
+path_of (engine.Btor words) folder slices job = btor_path folder slices job
+path_of (engine.Lrat words) folder slices job = job_path folder slices job
+path_of (engine.Proof words) folder slices job = job_path folder slices job
+path_of (engine.ProofBinary words) folder slices job = job_path folder slices job
 
 unfoldable pub file_text : ℕ → List ℕ → List ℕ
 file_text lane job = codes "engine_" ++ decimal lane ++ codes "_" ++ job
@@ -68,3 +79,8 @@ proof_text folder file = folder ++ codes "/model/" ++ file ++ codes ".proof"
 -- the path of the proof file that a lane's child leaves for a job of a task with this many slices
 abbrev pub proof_path : List ℕ → ℕ → ℕ → JobName → List ℕ
 proof_path folder lane slices job = proof_text folder (file_text lane (job_text slices job))
+
+-- the words of a lane's child for a job of such a task, if the lane has an engine
+abbrev pub words_at : Option Engine → List ℕ → ℕ → ℕ → JobName → List (List ℕ)
+words_at None folder lane slices job = []
+words_at (Some e) folder lane slices job = words_of e (path_of e folder slices job) (proof_path folder lane slices job)

@@ -3,24 +3,23 @@
 ghost use Rattle.std.specs.Prelude.{◌≡◌, ℕ, [], IfOk, MatchBool, Some, map, slice_get, string_bytes};
 ghost use Rattle.judge.specs.Problem.{IsJob};
 ghost use Rattle.task_race.specs.Fates.{Ends, Proves, Stands, most_bytes, most_output};
-ghost use Rattle.task_race.specs.Serving.{IsServed, IsServing, ServesJobs, evidence_at, evidence_of, file_of};
+ghost use Rattle.task_race.specs.Serving.{IsJudgeable, IsServed, IsServing, evidence_at, evidence_of, file_of};
 ghost use Rattle.task_race.specs.Watching.{Watches};
-ghost use Rattle.task_race.specs.Words.{proof_path, words_at};
-ghost use Rattle.sby_terms.specs.Path.{job_path};
+ghost use Rattle.task_race.specs.Words.{path_of, proof_path, words_at};
 ghost use Rattle.sby_terms.specs.Span.{slices_of};
 
 use crate::evidence::Evidence;
 use crate::subject::{JobJudge, Watch};
-use crate::words::{proof_path, words_of};
-use cert_judge::StreamKind;
-use judge::{Finding, Judge, Problem, SolverJudge};
+use crate::words::{path_of, proof_path, words_of};
+use cert_judge::{Kind, StreamKind};
+use judge::{Finding, Judge, Problem, SolverJudge, serves};
 use lane_run::{Asks, Child, Makes};
 use sby_edge::{Nothing, Told, ToldBytes};
-use sby_terms::{Engine, JobName, MAX_STREAM, job_path};
+use sby_terms::{Engine, JobName, MAX_STREAM};
 use std::alloc::{AllocError, Global};
 
-/// The lanes of a problem, one for each engine line: every engine but `btor` serves every job. The jobs' files lie in the work folder,
-/// below `model`, and so do the proof files that children leave.
+/// The lanes of a problem, one for each engine line: `btor` serves the jobs that ask for a run from the start, every other engine each job.
+/// The jobs' files lie in the work folder, below `model`, and so do the proof files that children leave.
 #[derive(Clone, Copy)]
 pub struct ProblemLanes<'a> {
     pub problem: &'a Problem,
@@ -28,32 +27,38 @@ pub struct ProblemLanes<'a> {
     pub folder: &'a str,
 }
 
-// Whether the lane's engine serves jobs.
-fn is_serving(engines: &[Engine], lane: u32) -> bool
-    ensures { MatchBool result (IsServing (slice_get engines.now lane)) (IsServing (slice_get engines.now lane) → ⊥) }
-{
-    match engines.get(lane as usize) {
-        Some(
-            Engine::Sat(_)
-            | Engine::Drup(_)
-            | Engine::Lrat(_)
-            | Engine::Proof(_)
-            | Engine::ProofBinary(_),
-        ) => true,
-        Some(Engine::Btor(_)) => false,
-        None => false,
-    }
-}
-
-// Where the certificate of an engine's child comes from.
+// Where the evidence of an engine's child comes from.
 fn evidence_of(engine: &Engine) -> Evidence
     ensures { result ≡ evidence_of engine.now }
 {
     match engine {
-        Engine::Sat(_) | Engine::Drup(_) | Engine::Btor(_) => Evidence::Output(StreamKind::Drup),
-        Engine::Lrat(_) => Evidence::Output(StreamKind::Lrat),
+        Engine::Sat(_) | Engine::Drup(_) => {
+            Evidence::Output(Kind::Certificate(StreamKind::Drup))
+        }
+        Engine::Btor(_) => Evidence::Output(Kind::Witness),
+        Engine::Lrat(_) => Evidence::Output(Kind::Certificate(StreamKind::Lrat)),
         Engine::Proof(_) => Evidence::ProofFile(StreamKind::Proof),
         Engine::ProofBinary(_) => Evidence::ProofFile(StreamKind::ProofBinary),
+    }
+}
+
+// Whether such evidence is judged for the job.
+fn is_judgeable(evidence: Evidence, job: JobName) -> bool
+    ensures { MatchBool result (IsJudgeable evidence job) (IsJudgeable evidence job → ⊥) }
+{
+    match evidence {
+        Evidence::Output(kind) => serves(kind, job),
+        Evidence::ProofFile(_) => true,
+    }
+}
+
+// Whether the lane's engine serves the job.
+fn is_serving(engines: &[Engine], lane: u32, job: JobName) -> bool
+    ensures { MatchBool result (IsServing (slice_get engines.now lane) job) (IsServing (slice_get engines.now lane) job → ⊥) }
+{
+    match engines.get(lane as usize) {
+        Some(engine) => is_judgeable(evidence_of(engine), job),
+        None => false,
     }
 }
 
@@ -64,7 +69,8 @@ fn watch<'a>(
     job: JobName,
     evidence: Evidence,
 ) -> Result<Watch<'a>, AllocError>
-    requires { IsJob problem.now job }
+    requires job { IsJob problem.now job }
+    requires judgeable { IsJudgeable evidence job }
     ensures { IfOk result (λ w. Watches problem.now job evidence w []) }
 {
     match evidence {
@@ -104,12 +110,23 @@ impl<'a> Told for JobFile<'a> {
     ghost bytes = { λ f. file_of f.problem.now f.job };
 }
 
-// The path of a job's file.
-fn path_of(alloc: Global, lanes: &ProblemLanes<'_>, job: JobName) -> Result<String, AllocError>
-    ensures { IfOk result (λ t. string_bytes t ≡ job_path lanes.now.folder.now (slices_of lanes.now.problem.now.problem.span) job) }
+// The path of the file that an engine's child reads for a job.
+fn file_path(
+    alloc: Global,
+    lanes: &ProblemLanes<'_>,
+    engine: &Engine,
+    job: JobName,
+) -> Result<String, AllocError>
+    ensures { IfOk result (λ t. string_bytes t ≡ path_of engine.now lanes.now.folder.now (slices_of lanes.now.problem.now.problem.span) job) }
 {
     let _flat = lanes.problem.flat();
-    job_path(alloc, lanes.folder, lanes.problem.span().slices(), job)
+    path_of(
+        alloc,
+        engine,
+        lanes.folder,
+        lanes.problem.span().slices(),
+        job,
+    )
 }
 
 // The path of the proof file that a lane's child leaves for a job.
@@ -146,8 +163,7 @@ impl<'a> Makes<Finding> for ProblemLanes<'a> {
 
     ghost is_served = { λ l lane job. IsServed l.engines.now l.problem.now lane job };
 
-    ghost words = { λ l lane job. words_at (slice_get l.engines.now lane) (job_path l.folder.now (slices_of l.problem.now.problem.span) job)
-        (proof_path l.folder.now lane (slices_of l.problem.now.problem.span) job) };
+    ghost words = { λ l lane job. words_at (slice_get l.engines.now lane) l.folder.now lane (slices_of l.problem.now.problem.span) job };
 
     ghost proof = { λ l lane job. proof_path l.folder.now lane (slices_of l.problem.now.problem.span) job };
 
@@ -164,7 +180,7 @@ impl<'a> Makes<Finding> for ProblemLanes<'a> {
     ghost most_output = { λ l lane. most_output (evidence_at (slice_get l.engines.now lane)) };
 
     fn serves(&self, lane: u32, job: JobName) -> bool {
-        is_serving(self.engines, lane) && is_job(self.problem, job)
+        is_serving(self.engines, lane, job) && is_job(self.problem, job)
     }
 
     fn make(
@@ -177,7 +193,8 @@ impl<'a> Makes<Finding> for ProblemLanes<'a> {
             unreachable!()
         };
         let proof = proof_of(alloc, self, lane, job)?;
-        let words = words_of(alloc, engine, path_of(alloc, self, job)?, proof.as_str())?;
+        let path = file_path(alloc, self, engine, job)?;
+        let words = words_of(alloc, engine, path, proof.as_str())?;
         let evidence = evidence_of(engine);
         let watch = watch(alloc, self.problem, job, evidence)?;
         let subject = JobJudge {

@@ -27,14 +27,14 @@ pub fn ends_have_causes<C: Clock>(clock: &C)
         → HasEndCause racing (C.may_read clock.now) before.scripts counts start lane (name_in racing place) (end_at r place))) }
 {}
 
-/// A job ends by the fate of what its child leaves as a certificate for the job's file: its stream, or, where its output leaves that to it,
-/// its proof file. So it is where the lane's engine serves jobs and its script is told and has no gate; unless a call failed, the job was
+/// A job ends by the fate of what its child leaves as evidence for the job: its stream, or, where its output leaves that to it,
+/// its proof file. So it is where the lane's engine serves the job and its script is told and has no gate; unless a call failed, the job was
 /// skipped, called off or stopped, or memory ran out.
 pub fn streams_give_their_fates<C: Clock>(clock: &C)
     ensures { (racing : RacingOf) (pool : Option PoolOf) (before now : YardAt) (start : Option ℕ) (reports : List (ReportOf FindingOf)) → LanesRan racing pool (C.may_read clock.now) before now start reports
         → EachLane reports (λ lane r. (place : ℕ) (script : ScriptOf) (file : List ℕ) (fate : Fate) → place < job_count racing
-        → IsServing (slice_get racing.engines lane) → script_of before.scripts racing.task lane (name_in racing place) ≡ Some script → script.gate ≡ None
-        → IsJobFile racing.problem (name_in racing place) file → IsFateOf (evidence_in racing lane) file (up_to script.stalls script.bytes) (take (most_bytes + 1) script.proof) fate
+        → IsServing (slice_get racing.engines lane) (name_in racing place) → script_of before.scripts racing.task lane (name_in racing place) ≡ Some script → script.gate ≡ None
+        → IsJobFile racing.problem (name_in racing place) file → IsFateOf racing.problem (name_in racing place) (evidence_in racing lane) file (up_to script.stalls script.bytes) (take (most_bytes + 1) script.proof) fate
         → IsEndOfFate fate (end_at r place)) }
 {}
 

@@ -23,3 +23,4 @@ pub use prepare::{PreparedRace, cancel_race, prepare_race};
 pub use racing::{Racing, RanLanes, race_task};
 pub use run::{RacedLanes, finish_race, race_prepared, run_race};
 pub use subject::JobJudge;
+pub use words::btor_path;

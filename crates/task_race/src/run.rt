@@ -96,6 +96,8 @@ pub fn race_prepared<R: Threads + Wait + Sync, L: Launch + Send, C: Clock>(
         → AreNew scripts racing.now.task (map (λ b. record { told = L.told b; counts = counts_at (L.start_faults b) (L.read_faults b) (L.hold_faults b) }) (bays_in prepared.entry))
         → HaveRaced (racing_seen racing.now) pool (C.may_read clock.now) scripts result.ran.start result.ran.reports.items (map (λ b. record { told = L.told b; counts = counts_at (L.start_faults b) (L.read_faults b) (L.hold_faults b) }) result.bays.items) }
 {
+    // Its problem is one.
+    let _ = racing.problem.flat();
     let PreparedRace { cells, lanes } = prepared;
     let start = start_of(clock, racing.limit);
     let Raced {

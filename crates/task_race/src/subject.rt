@@ -6,10 +6,11 @@ ghost use Rattle.task_race.specs.Fates.{Ends, GoesOn, Proves, SolverGoesOn, Stan
 ghost use Rattle.task_race.specs.Watching.{Awaits, EndedSo, FedSo, IsReading, Proving, Watches, told_as};
 ghost use Rattle.task_race.specs.declared.evidence.Evidence.TheVariants as evidence;
 ghost use Rattle.sby_terms.specs.declared.names.JobName.{JobName};
+ghost use Rattle.cert_judge.specs.declared.stream.Kind.{Kind};
 ghost use Rattle.cert_judge.specs.declared.stream.StreamKind.{StreamKind};
 
 use crate::evidence::Evidence;
-use cert_judge::{BadCert, StreamKind};
+use cert_judge::{BadCert, Kind};
 use judge::{Finding, Judge, Problem, Progress, SolverJudge};
 use lane_run::Subject;
 use race_core::Judged;
@@ -24,7 +25,7 @@ pub(crate) enum Watch<'a> {
     Solver(SolverJudge<'a>),
 }
 
-/// The judge of a child's output, and of the proof file after it, as a certificate for a job of a problem. It keeps none of the output's
+/// The judge of a child's output, and of the proof file after it, as evidence for a job of a problem. It keeps none of the output's
 /// bytes.
 #[derive(Drop)]
 pub struct JobJudge<'a> {
@@ -85,7 +86,7 @@ fn judged(answer: Result<Result<Progress, BadCert>, AllocError>) -> Judged<Findi
 // What a judge of the job's stream makes of its next piece.
 fn feed_stream(judge: &mut Judge, piece: &[u8]) -> Judged<Finding>
     requires { IsReading judge.old }
-    ensures { (p : AskedOf) (job : JobName) (kind : StreamKind) (bytes : List ℕ) → GoesOn p job kind judge.old bytes
+    ensures { (p : AskedOf) (job : JobName) (kind : Kind) (bytes : List ℕ) → GoesOn p job kind judge.old bytes
         → FedSo p job (evidence.Output kind) (GoesOn p job kind judge.new (bytes ++ piece.now)) (bytes ++ piece.now) result }
 {
     judged(judge.feed(piece))
@@ -93,7 +94,7 @@ fn feed_stream(judge: &mut Judge, piece: &[u8]) -> Judged<Finding>
 
 // And of its end.
 fn end_stream(judge: &mut Judge) -> Judged<Finding>
-    ensures { (p : AskedOf) (job : JobName) (kind : StreamKind) (bytes : List ℕ) → GoesOn p job kind judge.old bytes → EndedSo p job (evidence.Output kind) bytes result }
+    ensures { (p : AskedOf) (job : JobName) (kind : Kind) (bytes : List ℕ) → GoesOn p job kind judge.old bytes → EndedSo p job (evidence.Output kind) bytes result }
 {
     judged(judge.end())
 }
@@ -161,6 +162,7 @@ impl<'a> Subject<Finding> for JobJudge<'a> {
         let Evidence::ProofFile(kind) = self.evidence else {
             unreachable!()
         };
+        let kind = Kind::Certificate(kind);
         let judge = Judge::new(alloc, self.problem, self.job, kind, MAX_STREAM)?;
         self.file = Some(judge);
         self.proof = ToldBytes::of(&Nothing);

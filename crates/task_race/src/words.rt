@@ -2,10 +2,10 @@
 
 ghost use Rattle.std.specs.Prelude.{◌≡◌, ◌<◌, ◌∷◌, ℕ, List, length, ◌++◌, [], IfOk, Some, None, MatchOption, map, string_bytes};
 ghost use Rattle.std.specs.Fmt.{decimal};
-ghost use Rattle.task_race.specs.Words.{budget_word, file_text, formula_mark, parted, proof_mark, proof_path, proof_text, replaced, solver_word, with_paths, words_of};
+ghost use Rattle.task_race.specs.Words.{budget_word, file_text, formula_mark, btor_path, btor_file, parted, path_of, proof_mark, proof_path, proof_text, replaced, solver_word, with_paths, words_of};
 ghost use Rattle.sby_terms.specs.declared.engine.Engine.TheVariants as engine;
 
-use sby_terms::{Engine, JobName, Words, job_text};
+use sby_terms::{Engine, JobName, Words, job_path, job_text};
 use std::alloc::{AllocError, Global};
 
 #[tactic(auto, unfolding(crate::specs::Words::solver_word))]
@@ -143,11 +143,52 @@ pub(crate) fn words_of(
 {
     match engine {
         Engine::Sat(conflicts) => solver_words(alloc, *conflicts, path),
-        Engine::Drup(words) | Engine::Lrat(words) => program_words(words, path),
+        Engine::Drup(words) | Engine::Lrat(words) | Engine::Btor(words) => {
+            program_words(words, path)
+        }
         Engine::Proof(words) | Engine::ProofBinary(words) => {
             marked_words(alloc, words.as_slice(), path.as_str(), proof)
         }
-        Engine::Btor(_) => Ok(Vec::new(alloc)),
+    }
+}
+
+#[tactic(auto, unfolding(crate::specs::Words::btor_file))]
+fn btor_file(alloc: Global, folder: &str, job: &str) -> Result<String, AllocError>
+    ensures { IfOk result (λ t. string_bytes t ≡ btor_file folder.now job.now) }
+{
+    format!(in alloc; "{folder}/model/{job}.btor")
+}
+
+/// The path of a job's model in BTOR2 in the work folder of a task with this many slices: `FOLDER/model/JOB.btor`.
+pub fn btor_path(
+    alloc: Global,
+    folder: &str,
+    slices: u32,
+    job: JobName,
+) -> Result<String, AllocError>
+    ensures { IfOk result (λ t. string_bytes t ≡ btor_path folder.now slices job) }
+{
+    let job = job_text(alloc, slices, job)?;
+    btor_file(alloc, folder, job.as_str())
+}
+
+// The path of the file that an engine's child reads for a job: the model in BTOR2, or the job's formula.
+pub(crate) fn path_of(
+    alloc: Global,
+    engine: &Engine,
+    folder: &str,
+    slices: u32,
+    job: JobName,
+) -> Result<String, AllocError>
+    ensures { IfOk result (λ t. string_bytes t ≡ path_of engine.now folder.now slices job) }
+{
+    match engine {
+        Engine::Btor(_) => btor_path(alloc, folder, slices, job),
+        Engine::Sat(_)
+        | Engine::Drup(_)
+        | Engine::Lrat(_)
+        | Engine::Proof(_)
+        | Engine::ProofBinary(_) => job_path(alloc, folder, slices, job),
     }
 }
 

@@ -1,5 +1,7 @@
 // Streams for a model of two states, of one bit that is open and of two bits that have a start, and of two inputs, of three bits and of one.
 
+mod judging;
+
 use btor_witness::{Chosen, Seen, Shape, Slot, Slots, Witnesses};
 use std::alloc::{AllocError, Global};
 use std::test::Fail;

@@ -6,11 +6,11 @@ use Rattle.sby_top.proofs.judge_stream.judge_stored.Goals as goal
 
 pub returns-in_default-clause-ok : goal.returns-in_default-clause-ok
 returns-in_default-clause-ok g c =
-    wanting_at c.args.problem.now (g.F.Files.told c.args.files.now) c.args.job c.args.path.now c.in_ok-first.first.items 65536 c.stream_kind-kind.result c.stream_kind-kind.ensures c.in_ok-first.ensures.got
+    wanting_at c.args.problem.now (g.F.Files.told c.args.files.now) c.args.job c.args.path.now c.in_ok-first.first.items 65536 c.args.kind c.requires.named c.requires.serves c.in_ok-first.ensures.got
 
 pub returns-clause-ok : goal.returns-clause-ok
 returns-clause-ok g c =
     IfOk-weaker c.feed_all.result _ _
-    (λ end ends. path_judged c.args.problem.now (g.F.Files.told c.args.files.now) c.args.job c.args.path.now c.stream_kind-kind.result c.in-Ok.judge end c.stream_kind-kind.ensures c.in-Ok.ensures.asked c.in-Ok.ensures.job
+    (λ end ends. path_judged c.args.problem.now (g.F.Files.told c.args.files.now) c.args.job c.args.path.now c.args.kind c.in-Ok.judge end c.requires.named c.requires.serves c.in-Ok.ensures.asked c.in-Ok.ensures.job
     c.in-Ok.ensures.kind
     (subst (λ t. PathEnds c.in-Ok.judge t c.args.path.now end) c.in_ok-first.ensures.told ends)) c.feed_all.ensures.ok

@@ -1,11 +1,10 @@
 use Rattle.sby_top.proofs.CompleteLemmas.{lanes_plain, lanes_verdict}
-use Rattle.sby_top.proofs.EvidenceLemmas.{FileLaws}
+use Rattle.sby_top.proofs.EvidenceLemmas.{FindingLaws}
 use Rattle.sby_top.proofs.laws.undisturbed_lanes_give_the_plain_status.Goals as goal
 
 pub returns-clause-verdict : goal.returns-clause-verdict
 returns-clause-verdict g c = λ before after moments words done task end engines now status is judged service calm plain closing.
-    let laws : FileLaws = record {
-      solvable = c.files_tell_what_jobs_ask.ensures.solvable;
+    let laws : FindingLaws = record {
       sat = c.findings_tell_what_can_be_solved.ensures.sat;
       unsat = c.findings_tell_what_can_be_solved.ensures.unsat;
     } in
@@ -13,8 +12,7 @@ returns-clause-verdict g c = λ before after moments words done task end engines
 
 pub returns-clause-other : goal.returns-clause-other
 returns-clause-other g c = λ before after moments words done task end engines now status is judged service calm plain.
-    let laws : FileLaws = record {
-      solvable = c.files_tell_what_jobs_ask.ensures.solvable;
+    let laws : FindingLaws = record {
       sat = c.findings_tell_what_can_be_solved.ensures.sat;
       unsat = c.findings_tell_what_can_be_solved.ensures.unsat;
     } in

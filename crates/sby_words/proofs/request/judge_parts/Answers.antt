@@ -1,14 +1,8 @@
-use Rattle.std.proofs.Common.{◌∙◌, sym, subst, true≢false, codes, option_map, List, ℕ}
-use Rattle.std.specs.Prelude.{All}
+use Rattle.std.proofs.Common.{◌∙◌, sym, subst, option_map, List, ℕ}
 use Rattle.std.specs.List.{slice_index_or}
-use Rattle.sby_words.specs.Folders.{EndsIn, IsFolder}
+use Rattle.sby_words.specs.Folders.{IsFolder}
 use Rattle.sby_words.proofs.ListLemmas.{judge_list, no_text, nowhere, stands}
 use Rattle.sby_words.proofs.request.judge_parts.Goals as goal
-
-pub returns-then-not-are_certificates : goal.returns-then-not-are_certificates
-returns-then-not-are_certificates c r j =
-    let is = stands _ _ r c.args.list.now nowhere c.in-len3-up.len_at_least j in
-    true≢false (sym (c.are_certificates.ensures.1 (subst (All (λ stream. EndsIn (codes ".wit") stream → ⊥)) is.streams_are j.certificates)) ∙ c.if-not-are_certificates.true)
 
 pub returns-in_default-judge_folder : goal.returns-in_default-judge_folder
 returns-in_default-judge_folder c r j =
@@ -22,5 +16,4 @@ returns c = record {
   depth = c.in-Some-depth_of.ensures;
   folder = c.in-Some-judge_folder.ensures;
   no_limit = no_text c.args.jobs (sym c.is_some.ensures ∙ c.if-is_some.false);
-  certificates = c.are_certificates.ensures.0 c.if-not-are_certificates.false;
 }

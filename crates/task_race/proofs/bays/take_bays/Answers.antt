@@ -1,8 +1,8 @@
-use Rattle.std.proofs.Common.{◌≡◌, ◌∷◌, [], ℕ, List, Option, Some, length, map, sym, inl, inr, refl, ap, subst, ◌∙◌, length-append, arith}
+use Rattle.std.proofs.Common.{◌≡◌, ◌∷◌, [], ℕ, List, Option, Some, length, map, inl, inr, refl, ap, subst, ◌∙◌, length-append, arith}
 use Rattle.std.specs.Prelude.{slice_get}
 use Rattle.sby_edge.specs.Child.{IsLogged, LaneOf, YardOf, new_bay}
 use Rattle.task_race.specs.Bays.{BackOf, counts_at, left_all, none_failed}
-use Rattle.task_race.proofs.BackLemmas.{none_logged, unstarted_all}
+use Rattle.task_race.proofs.BackLemmas.{unstarted_all}
 use Rattle.task_race.proofs.CountLemmas.{all_fresh, same_counts}
 use Rattle.task_race.proofs.PlaceLemmas.{contains_at, push_cases}
 use Rattle.task_race.proofs.bays.take_bays.Goals as goal

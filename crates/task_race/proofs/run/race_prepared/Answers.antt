@@ -16,7 +16,7 @@ returns g c = λ pool scripts prepared new.
     let raced = c.race_lanes-bays.result in
     let ran = c.race_lanes-bays.ensures in
     have_raced count g.L.Launch.told (racing_seen c.args.racing.now) pool (g.C.Clock.may_read c.args.clock.now) scripts c.start_of-start.result
-    (bays_in c.args.prepared) raced.bays.items raced.reports.items new ran.consistent prepared.many ran.bays c.start_of-start.ensures raced.notes ran.done
+    (bays_in c.args.prepared) raced.bays.items raced.reports.items new ran.consistent prepared.many ran.bays c.flat.ensures.problem c.start_of-start.ensures raced.notes ran.done
     (subst (λ (reports : List (ReportOf FindingOf)). (r : ReportOf FindingOf) (f : FindingOf) → Contains reports r → CarriedIn r.ends f → IsTrueFinding f) c.deref.ensures.value c.learn_reports.ensures)
     ran.faults
     (λ i b d q was is told. subst (λ (p : Option PoolOf). AreStarts (racing_seen c.args.racing.now) p (g.L.Launch.told b) (g.L.Launch.told d) i q) prepared.places (ran.starts i b d q was is told))

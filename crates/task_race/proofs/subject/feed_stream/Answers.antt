@@ -1,6 +1,4 @@
-use Rattle.std.proofs.Common.{◌++◌, subst, sym}
-use Rattle.race_core.specs.declared.event.Judged.{Judged}
-use Rattle.judge.specs.Finding.{FindingOf}
+use Rattle.std.proofs.Common.{◌++◌}
 use Rattle.task_race.proofs.Answering.{stream_told}
 use Rattle.task_race.proofs.subject.feed_stream.Goals as goal
 

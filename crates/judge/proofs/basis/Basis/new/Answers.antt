@@ -39,5 +39,6 @@ invariant_of-result c =
       only = λ e r. only e (subst (λ (bytes : List ℕ). Reads bytes e) text r) ∙ sym same;
       flat = subst (λ (d : DesignOf). IsFlat d) (sym same) checked.1;
       built = c.in_ok-model.ensures;
+      shape = record { stretches = c.in_ok-shape.ensures.states; read = c.in_ok-shape.ensures.inputs };
       net = rw c.in-Ok-3.is at c.in_ok-net.ensures.net;
     }

@@ -1,36 +1,27 @@
-use Rattle.std.proofs.Common.{List, ℕ, subst}
-use Rattle.std.specs.Prelude.{IfOk}
-use Rattle.judge.proofs.Telling.{ended, ends_outcome, ends_told, heard_so_far, judge_of, judges_ended}
-use Rattle.judge.specs.Judging.{Ends, JudgeOf, Took, TookAll}
+use Rattle.std.proofs.Common.{List, ℕ, refl, subst, sym}
+use Rattle.std.specs.Prelude.{IfOk, Result}
+use Rattle.std.specs.declared.alloc.AllocError.{AllocError}
+use Rattle.cert_judge.specs.declared.stream.BadCert.{BadCert}
+use Rattle.judge.proofs.Joining.{certificate_again, certificate_ended, witness_again, witness_ended}
+use Rattle.judge.proofs.judging.Judge.end.Goals.{in-Certificate, in-Witness}
+use Rattle.judge.specs.Certificate as certificate
+use Rattle.judge.specs.Judging.{Ends, judge_of}
+use Rattle.judge.specs.Reading as witness
+use Rattle.judge.specs.declared.judging.Progress.{Progress}
 use Rattle.judge.proofs.judging.Judge.end.Goals as goal
 
-pub answer-told-requires : goal.answer-told-requires
-answer-told-requires c =
-    let is = heard_so_far _ c.self.invariant c.in-Reading.is in
-    let told = ended _ c.end.new.self is.1.0 c.in-Ok.outcome c.in-Ok.ensures.wanting c.in-Ok.ensures.again (c.in-Ok.ensures.ends is.1.0) is.1.1 in
-    ends_outcome _ is.0 c.end.new.self c.in-Ok.ensures.same is.1.0 c.in-Ok.outcome told c.values-values.result.now c.values-values.ensures
-
-pub invariant_of-self-2 : goal.invariant_of-self-2
-invariant_of-self-2 c =
-    let is = heard_so_far _ c.self.invariant c.in-Reading.is in
-    let told = ended _ c.end.new.self is.1.0 c.in-Ok.outcome c.in-Ok.ensures.wanting c.in-Ok.ensures.again (c.in-Ok.ensures.ends is.1.0) is.1.1 in
-    judges_ended _ is.0 c.end.new.self c.in-Ok.ensures.same is.1.0 c.in-Ok.outcome told c.answer-told.result c.state_told-self-inside.result c.state_told-self-inside.ensures c.answer-told.ensures.fate
-
 pub returns-clause-ends : goal.returns-clause-ends
-returns-clause-ends c =
-    let i = c.self.inside in
-    let is = heard_so_far _ c.self.invariant c.in-Reading.is in
-    subst (λ (j : JudgeOf). (bytes : List ℕ) → Took j bytes → IfOk c.answer-told.result (λ r. Ends j (judge_of i.problem.now i.job i.kind i.most c.end.new.self c.state_told-self-inside.result) bytes r)) c.self.view_is
-    (λ bytes took.
-    ends_told _ is.0 c.end.new.self c.in-Ok.ensures.same bytes c.in-Ok.outcome (c.in-Ok.ensures.ends bytes took.stands) c.answer-told.result c.state_told-self-inside.result c.values-values.result.now
-    c.values-values.ensures c.state_told-self-inside.ensures c.answer-told.ensures.finds c.answer-told.ensures.run c.answer-told.ensures.fate)
+returns-clause-ends c = λ bytes took. elim c.match-self.branch as (λ _. IfOk c.match-self.result (λ r. Ends c.args.self.now (judge_of c.match-self.self-inside.reader) bytes r)) [
+  | in-Certificate w ↦ certificate_ended c.args.self.now c.self.inside.reader c.match-self.self-inside.reader c.match-self.result c.self.view_is bytes w.in-Certificate.judge w.end.new.self w.in-Certificate.is (rw w.self-inside-is refl)
+      (subst (λ (told : Result (Result Progress BadCert) AllocError). (b : List ℕ) → certificate.Took w.in-Certificate.judge b → IfOk told (λ r. certificate.Ends w.in-Certificate.judge w.end.new.self b r)) (sym w.result-is) w.end.ensures.ends) took
+  | in-Witness w ↦ witness_ended c.args.self.now c.self.inside.reader c.match-self.self-inside.reader c.match-self.result c.self.view_is bytes w.in-Witness.judge w.end-in-Witness.new.self w.in-Witness.is (rw w.self-inside-is refl)
+      (subst (λ (told : Result (Result Progress BadCert) AllocError). (b : List ℕ) → witness.Took w.in-Witness.judge b → IfOk told (λ r. witness.Ends w.in-Witness.judge w.end-in-Witness.new.self b r)) (sym w.result-is) w.end-in-Witness.ensures.ends) took
+]
 
 pub returns-clause-again : goal.returns-clause-again
-returns-clause-again c =
-    let i = c.self.inside in
-    let is = heard_so_far _ c.self.invariant c.in-Reading.is in
-    subst (λ (j : JudgeOf). (bytes : List ℕ) → TookAll j bytes → IfOk c.answer-told.result (λ r. Ends j (judge_of i.problem.now i.job i.kind i.most c.end.new.self c.state_told-self-inside.result) bytes r)) c.self.view_is
-    (λ bytes took.
-    let told = ended _ c.end.new.self bytes c.in-Ok.outcome c.in-Ok.ensures.wanting c.in-Ok.ensures.again (c.in-Ok.ensures.ends bytes) took.heard in
-    ends_told _ is.0 c.end.new.self c.in-Ok.ensures.same bytes c.in-Ok.outcome told c.answer-told.result c.state_told-self-inside.result c.values-values.result.now
-    c.values-values.ensures c.state_told-self-inside.ensures c.answer-told.ensures.finds c.answer-told.ensures.run c.answer-told.ensures.fate)
+returns-clause-again c = λ bytes took. elim c.match-self.branch as (λ _. IfOk c.match-self.result (λ r. Ends c.args.self.now (judge_of c.match-self.self-inside.reader) bytes r)) [
+  | in-Certificate w ↦ certificate_again c.args.self.now c.self.inside.reader c.match-self.self-inside.reader c.match-self.result c.self.view_is bytes w.in-Certificate.judge w.end.new.self w.in-Certificate.is (rw w.self-inside-is refl)
+      (subst (λ (told : Result (Result Progress BadCert) AllocError). (b : List ℕ) → certificate.TookAll w.in-Certificate.judge b → IfOk told (λ r. certificate.Ends w.in-Certificate.judge w.end.new.self b r)) (sym w.result-is) w.end.ensures.again) took
+  | in-Witness w ↦ witness_again c.args.self.now c.self.inside.reader c.match-self.self-inside.reader c.match-self.result c.self.view_is bytes w.in-Witness.judge w.end-in-Witness.new.self w.in-Witness.is (rw w.self-inside-is refl)
+      (subst (λ (told : Result (Result Progress BadCert) AllocError). (b : List ℕ) → witness.TookAll w.in-Witness.judge b → IfOk told (λ r. witness.Ends w.in-Witness.judge w.end-in-Witness.new.self b r)) (sym w.result-is) w.end-in-Witness.ensures.again) took
+]

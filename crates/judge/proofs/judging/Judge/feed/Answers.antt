@@ -1,26 +1,19 @@
-use Rattle.std.proofs.Common.{List, ℕ, ◌++◌, subst}
-use Rattle.std.specs.Prelude.{IfOk}
-use Rattle.judge.proofs.Telling.{feeds_outcome, feeds_told, judge_of, judges_on}
-use Rattle.judge.specs.Judging.{Feeds, JudgeOf, Took}
+use Rattle.std.proofs.Common.{List, ℕ, ◌++◌, refl, subst, sym}
+use Rattle.std.specs.Prelude.{IfOk, Result}
+use Rattle.std.specs.declared.alloc.AllocError.{AllocError}
+use Rattle.cert_judge.specs.declared.stream.BadCert.{BadCert}
+use Rattle.judge.proofs.Joining.{certificate_fed, witness_fed}
+use Rattle.judge.proofs.judging.Judge.feed.Goals.{in-Certificate, in-Witness}
+use Rattle.judge.specs.Certificate as certificate
+use Rattle.judge.specs.Judging.{Feeds, judge_of}
+use Rattle.judge.specs.Reading as witness
+use Rattle.judge.specs.declared.judging.Progress.{Progress}
 use Rattle.judge.proofs.judging.Judge.feed.Goals as goal
 
-pub answer-told-requires : goal.answer-told-requires
-answer-told-requires c =
-    let is = c.self.invariant.reading c.in-Reading.is in
-    let taken = is.1 in
-    feeds_outcome _ is.0 c.feed.new.self c.in-Ok.ensures.same _ c.in-Ok.outcome (c.in-Ok.ensures.feeds taken.0 taken.1) c.values-values.result.now c.values-values.ensures
-
-pub invariant_of-self-2 : goal.invariant_of-self-2
-invariant_of-self-2 c =
-    let is = c.self.invariant.reading c.in-Reading.is in
-    let taken = is.1 in
-    judges_on _ is.0 c.feed.new.self c.in-Ok.ensures.same _ c.in-Ok.outcome (c.in-Ok.ensures.feeds taken.0 taken.1) c.state_told-self-inside.result
-
 pub returns-clause-feeds : goal.returns-clause-feeds
-returns-clause-feeds c =
-    let i = c.self.inside in
-    let is = c.self.invariant.reading c.in-Reading.is in
-    subst (λ (j : JudgeOf). (bytes : List ℕ) → Took j bytes → IfOk c.answer-told.result (λ r. Feeds j (judge_of i.problem.now i.job i.kind i.most c.feed.new.self c.state_told-self-inside.result) (bytes ++ c.args.piece.now) r)) c.self.view_is
-    (λ bytes took.
-    feeds_told _ is.0 c.feed.new.self c.in-Ok.ensures.same _ c.in-Ok.outcome (c.in-Ok.ensures.feeds bytes took.stands) c.answer-told.result c.state_told-self-inside.result c.values-values.result.now
-    c.values-values.ensures c.state_told-self-inside.ensures c.answer-told.ensures.finds c.answer-told.ensures.run c.answer-told.ensures.fate)
+returns-clause-feeds c = λ bytes took. elim c.match-self.branch as (λ _. IfOk c.match-self.result (λ r. Feeds c.args.self.now (judge_of c.match-self.self-inside.reader) (bytes ++ c.args.piece.now) r)) [
+  | in-Certificate w ↦ certificate_fed c.args.self.now c.self.inside.reader c.match-self.self-inside.reader c.match-self.result c.self.view_is bytes w.in-Certificate.judge w.feed.new.self w.in-Certificate.is (rw w.self-inside-is refl) c.args.piece.now
+      (subst (λ (told : Result (Result Progress BadCert) AllocError). (b : List ℕ) → certificate.Took w.in-Certificate.judge b → IfOk told (λ r. certificate.Feeds w.in-Certificate.judge w.feed.new.self (b ++ c.args.piece.now) r)) (sym w.result-is) w.feed.ensures.feeds) took
+  | in-Witness w ↦ witness_fed c.args.self.now c.self.inside.reader c.match-self.self-inside.reader c.match-self.result c.self.view_is bytes w.in-Witness.judge w.feed-in-Witness.new.self w.in-Witness.is (rw w.self-inside-is refl) c.args.piece.now
+      (subst (λ (told : Result (Result Progress BadCert) AllocError). (b : List ℕ) → witness.Took w.in-Witness.judge b → IfOk told (λ r. witness.Feeds w.in-Witness.judge w.feed-in-Witness.new.self (b ++ c.args.piece.now) r)) (sym w.result-is) w.feed-in-Witness.ensures.feeds) took
+]

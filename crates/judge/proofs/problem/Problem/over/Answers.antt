@@ -36,9 +36,9 @@ invariant_of-problem c =
     let net = c.net-net.ensures ∙ ap (λ (x : BasisOf). x.net) made in
     let text = c.in_ok-text.ensures ∙ (c.text.ensures ∙ ap (λ (x : BasisOf). x.text) made) in
     let fits = subst (λ (names : List JobName). FitUpTo c.net-net.result.now c.args.span names (length names)) c.as_slice.ensures.value (rw c.in_default.is at c.in_ok-job.ensures.none) in
-    stored c.in_ok-text.text c.args.mode c.args.span b.design b.model b.net c.in_ok-names.names.items (record { is_span = c.requires.span; most = c.requires.most; one = c.requires.mode })
+    stored c.in_ok-text.text c.args.mode c.args.span b.design b.model b.shape b.net c.in_ok-names.names.items (record { is_span = c.requires.span; most = c.requires.most; one = c.requires.mode })
     (subst (λ (bytes : List ℕ). Reads bytes b.design) (sym text) h.reads)
-    (λ e r. h.only e (subst (λ (bytes : List ℕ). Reads bytes e) text r)) h.flat h.built
+    (λ e r. h.only e (subst (λ (bytes : List ℕ). Reads bytes e) text r)) h.flat h.built h.shape
     (c.in_ok-names.ensures ∙ ap (λ (d : DesignOf). jobs_in c.args.mode c.args.span d) flat)
     (subst (λ (a : Asked). IsTaskNet b.model a b.net) c.requires.asked h.net)
     (subst (λ (t : TaskNetOf). FitUpTo t c.args.span c.in_ok-names.names.items (length c.in_ok-names.names.items)) net fits)

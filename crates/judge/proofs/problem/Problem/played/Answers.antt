@@ -1,5 +1,4 @@
-use Rattle.std.proofs.Common.{◌≡◌, ◌∙◌, ◌+◌, ◌-◌, All, List, Bool, ap, arith, length, sym, subst}
-use Rattle.design_meaning.specs.Runs.{kept_bits}
+use Rattle.std.proofs.Common.{◌≡◌, ◌∙◌, All, List, Bool, ap, length, refl, sym, subst}
 use Rattle.job_terms.specs.Decoding.{values_of}
 use Rattle.job_terms.specs.Encoding.{EncodedOf, decoded}
 use Rattle.judge.proofs.Encodes.{job_of_span}
@@ -7,6 +6,7 @@ use Rattle.judge.proofs.Truth.{choices_fit, run_played, some_choices}
 use Rattle.judge.specs.Basis.{BasisOf}
 use Rattle.judge.specs.Played.{IsPlayed}
 use Rattle.judge.specs.Problem.{AskedOf, IsEncodedOf}
+use Rattle.judge.specs.Telling.{design_run}
 use Rattle.model_core.specs.Choices.{AreChoicesFor, ChoicesOf, Plays}
 use Rattle.model_core.specs.Shape.{ModelOf}
 use Rattle.model_play.specs.Playing.{cycles_of}
@@ -45,24 +45,25 @@ play-requires-clause-some c =
     let told = choices_told c.args.job c.self.inside.span (values_of c.args.values.now) c.net-net.result.now c.self.inside.basis.value.net w.0 c.in_ok-choices.choices (c.net-net.ensures ∙ ap (λ (b : BasisOf). b.net) c.deref-basis.ensures) is.1 c.in_ok-choices.ensures in
     some_choices _ c.self.invariant.problem c.args.job c.requires.run w.0 is _ _ told w.2
 
+pub run_of-requires : goal.run_of-requires
+run_of-requires c =
+    let model = c.model-model.ensures ∙ ap (λ (b : BasisOf). b.model) c.deref-basis.ensures in
+    subst (λ (p : AskedOf). All (λ (row : List Bool). length row ≡ p.model.size) c.in_ok-rows.rows) c.self.view_is
+    (subst (λ (m : ModelOf). All (λ (row : List Bool). length row ≡ m.size) c.in_ok-rows.rows) model c.in_ok-rows.ensures.rows)
+
 pub returns : goal.returns
 returns c =
     let w = c.requires.satisfying in
     let is = subst (λ (p : AskedOf). IsEncodedOf p c.args.job w.0) (sym c.self.view_is) w.1 in
     let told = choices_told c.args.job c.self.inside.span (values_of c.args.values.now) c.net-net.result.now c.self.inside.basis.value.net w.0 c.in_ok-choices.choices (c.net-net.ensures ∙ ap (λ (b : BasisOf). b.net) c.deref-basis.ensures) is.1 c.in_ok-choices.ensures in
-    let flat = c.design-design.ensures.design ∙ (c.flat-flat.ensures.flat ∙ ap (λ (b : BasisOf). b.design) c.deref-basis.ensures) in
     let model = c.model-model.ensures ∙ ap (λ (b : BasisOf). b.model) c.deref-basis.ensures in
-    let wires = rw flat at c.bits-wires.ensures.bits in
-    let free = rw flat at c.free-free.ensures.free in
-    let whole = c.self.invariant.problem.model.size in
-    let size = rw model at c.size.ensures.size in
-    let kept : c.size.result - (c.bits-wires.result + c.free-free.result + 2) ≡ kept_bits c.self.inside.basis.value.design = omega (arith, wires, free, whole, size) in
     let rows = subst (λ (m : ModelOf). All (λ (row : List Bool). length row ≡ m.size) c.in_ok-rows.rows) model c.in_ok-rows.ensures.rows in
     let plays = subst (λ (m : ModelOf). Plays m c.in_ok-choices.choices (cycles_of c.in_ok-rows.rows)) model c.in_ok-rows.ensures.plays in
+    let run = subst (λ (p : AskedOf). c.in_ok-run.run' ≡ design_run p.design c.in_ok-rows.rows) (sym c.self.view_is) c.in_ok-run.ensures in
     subst (λ (p : AskedOf). (e : EncodedOf) × IsEncodedOf p c.args.job e × IsPlayed p e (values_of c.args.values.now) c.in_ok-run.run') c.self.view_is (
       w.0,
       is,
-      rw c.in_ok-run.ensures
+      rw run
           (run_played _ c.self.invariant.problem c.args.job c.requires.run w.0 is (values_of c.args.values.now) c.in_ok-choices.choices told w.2
-          c.in_ok-rows.rows _ _ _ wires free kept rows plays c.in_ok-rows.ensures.cycles),
+          c.in_ok-rows.rows _ _ _ refl refl refl rows plays c.in_ok-rows.ensures.cycles),
     )

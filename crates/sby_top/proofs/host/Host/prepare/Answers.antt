@@ -13,7 +13,8 @@ returns-in_err-serving-clause-err g c = let p = err_from_is_err_and c.from_resid
 pub returns-clause-ready : goal.returns-clause-ready
 returns-clause-ready g c = record {
   served = (_, c.in_ok-problem.ensures.ok);
-  files = λ engines store told. has_files c.one_file.ensures.file (racing_of (task_seen c.args.task.now) c.in_ok-problem.problem c.args.number engines) c.in_ok-problem.ensures.ok.0.problem _ _ c.in_ok-serving.ensures.put store told;
+  files = λ engines store lanes told. has_files c.one_file.ensures.file (task_seen c.args.task.now).service (racing_of (task_seen c.args.task.now) c.in_ok-problem.problem c.args.number engines) c.in_ok-problem.ensures.ok.0.problem lanes _ _
+      c.in_ok-serving.ensures.put store told;
   serving = c.in_ok-serving.ensures.serving;
   room = rw (← c.job_count.ensures, ← c.report_count.ensures) c.in-Ok.ensures;
 }

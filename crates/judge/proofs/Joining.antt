@@ -1,0 +1,111 @@
+-- The judge of any kind tells what that of its kind tells.
+use Rattle.std.proofs.Common.{◌≡◌, List, ◌++◌, ℕ, ap, refl, subst, sym}
+use Rattle.std.specs.Prelude.{IfOk, Result, Ok, Err}
+use Rattle.std.specs.declared.alloc.AllocError.{AllocError}
+use Rattle.cert_judge.specs.declared.stream.BadCert.{BadCert}
+use Rattle.cert_judge.specs.declared.stream.Kind.TheVariants as kind
+use Rattle.judge.specs.Certificate as certificate
+use Rattle.judge.specs.Judging.{Ends, Feeds, JudgeOf, Took, TookAll, judge_of}
+use Rattle.judge.specs.Reading as witness
+use Rattle.judge.specs.declared.judging.Progress.{Progress}
+use Rattle.judge.specs.declared.judging.Reader.{Reader}
+use Rattle.judge.specs.declared.judging.Reader.TheVariants.{Certificate, Witness}
+
+certificate_feeds : (old new : certificate.JudgeOf) (bytes : List ℕ) (r : Result Progress BadCert) → certificate.Feeds old new bytes r → Feeds (judge_of (Certificate old)) (judge_of (Certificate new)) bytes r
+certificate_feeds old new bytes r f = record {
+  same = (f.same.0, f.same.1, f.same.2, ap kind.Certificate f.same.3);
+  state = f.state;
+  stands = λ reading. record { state = reading; taken = f.stands reading };
+  over = λ over. record { state = over; taken = f.over over };
+  finds = f.finds;
+  run = f.run;
+  fate = f.fate;
+}
+
+certificate_ends : (old new : certificate.JudgeOf) (bytes : List ℕ) (r : Result Progress BadCert) → certificate.Ends old new bytes r → Ends (judge_of (Certificate old)) (judge_of (Certificate new)) bytes r
+certificate_ends old new bytes r f = record {
+  same = (f.same.0, f.same.1, f.same.2, ap kind.Certificate f.same.3);
+  state = f.state;
+  over = λ over. record { state = over; taken = f.over over };
+  finds = f.finds;
+  run = f.run;
+  fate = f.fate;
+}
+
+witness_feeds : (old new : witness.ReaderOf) (bytes : List ℕ) (r : Result Progress BadCert) → witness.Feeds old new bytes r → Feeds (judge_of (Witness old)) (judge_of (Witness new)) bytes r
+witness_feeds old new bytes r f = record {
+  same = (f.same.0, f.same.1, f.same.2, refl);
+  state = f.state;
+  stands = λ reading. record { state = reading; taken = f.stands reading };
+  over = λ over. record { state = over; taken = f.over over };
+  finds = f.finds;
+  run = f.run;
+  fate = λ file is. f.fate;
+}
+
+witness_ends : (old new : witness.ReaderOf) (bytes : List ℕ) (r : Result Progress BadCert) → witness.Ends old new bytes r → Ends (judge_of (Witness old)) (judge_of (Witness new)) bytes r
+witness_ends old new bytes r f = record {
+  same = (f.same.0, f.same.1, f.same.2, refl);
+  state = f.state;
+  over = λ over. record { state = over; taken = f.over over };
+  finds = f.finds;
+  run = f.run;
+  fate = λ file is. f.fate;
+}
+
+-- what is told of one is told of the other
+if_told : {P Q : Result Progress BadCert → Type 0} → ((r : Result Progress BadCert) → P r → Q r) → (told : Result (Result Progress BadCert) AllocError) → IfOk told P → IfOk told Q
+if_told f (Ok r) h = f r h
+if_told f (Err e) h = h
+
+-- a judge that is one of certificates, or of witnesses, before and after
+module _ (self : JudgeOf) (reader next : Reader) (told : Result (Result Progress BadCert) AllocError) (view : judge_of reader ≡ self) (bytes : List ℕ) where
+  module _ (old new : certificate.JudgeOf) (is : reader ≡ Certificate old) (becomes : next ≡ Certificate new) where
+    as_certificate : self ≡ judge_of (Certificate old)
+    as_certificate = rw (← view, is) refl
+
+    pub certificate_fed : (piece : List ℕ) → ((b : List ℕ) → certificate.Took old b → IfOk told (λ r. certificate.Feeds old new (b ++ piece) r)) → Took self bytes → IfOk told (λ r. Feeds self (judge_of next) (bytes ++ piece) r)
+    certificate_fed piece feeds took =
+        let own : Took (judge_of (Certificate old)) bytes = subst (λ (j : JudgeOf). Took j bytes) as_certificate took in
+        subst (λ (j : JudgeOf). IfOk told (λ r. Feeds j (judge_of next) (bytes ++ piece) r)) (sym as_certificate)
+        (subst (λ (n : Reader). IfOk told (λ r. Feeds (judge_of (Certificate old)) (judge_of n) (bytes ++ piece) r)) (sym becomes)
+        (if_told (λ r f. certificate_feeds old new (bytes ++ piece) r f) told (feeds bytes own.taken)))
+
+    pub certificate_ended : ((b : List ℕ) → certificate.Took old b → IfOk told (λ r. certificate.Ends old new b r)) → Took self bytes → IfOk told (λ r. Ends self (judge_of next) bytes r)
+    certificate_ended ends took =
+        let own : Took (judge_of (Certificate old)) bytes = subst (λ (j : JudgeOf). Took j bytes) as_certificate took in
+        subst (λ (j : JudgeOf). IfOk told (λ r. Ends j (judge_of next) bytes r)) (sym as_certificate)
+        (subst (λ (n : Reader). IfOk told (λ r. Ends (judge_of (Certificate old)) (judge_of n) bytes r)) (sym becomes)
+        (if_told (λ r f. certificate_ends old new bytes r f) told (ends bytes own.taken)))
+
+    pub certificate_again : ((b : List ℕ) → certificate.TookAll old b → IfOk told (λ r. certificate.Ends old new b r)) → TookAll self bytes → IfOk told (λ r. Ends self (judge_of next) bytes r)
+    certificate_again ends took =
+        let own : TookAll (judge_of (Certificate old)) bytes = subst (λ (j : JudgeOf). TookAll j bytes) as_certificate took in
+        subst (λ (j : JudgeOf). IfOk told (λ r. Ends j (judge_of next) bytes r)) (sym as_certificate)
+        (subst (λ (n : Reader). IfOk told (λ r. Ends (judge_of (Certificate old)) (judge_of n) bytes r)) (sym becomes)
+        (if_told (λ r f. certificate_ends old new bytes r f) told (ends bytes own.taken)))
+
+  module _ (old new : witness.ReaderOf) (is : reader ≡ Witness old) (becomes : next ≡ Witness new) where
+    as_witness : self ≡ judge_of (Witness old)
+    as_witness = rw (← view, is) refl
+
+    pub witness_fed : (piece : List ℕ) → ((b : List ℕ) → witness.Took old b → IfOk told (λ r. witness.Feeds old new (b ++ piece) r)) → Took self bytes → IfOk told (λ r. Feeds self (judge_of next) (bytes ++ piece) r)
+    witness_fed piece feeds took =
+        let own : Took (judge_of (Witness old)) bytes = subst (λ (j : JudgeOf). Took j bytes) as_witness took in
+        subst (λ (j : JudgeOf). IfOk told (λ r. Feeds j (judge_of next) (bytes ++ piece) r)) (sym as_witness)
+        (subst (λ (n : Reader). IfOk told (λ r. Feeds (judge_of (Witness old)) (judge_of n) (bytes ++ piece) r)) (sym becomes)
+        (if_told (λ r f. witness_feeds old new (bytes ++ piece) r f) told (feeds bytes own.taken)))
+
+    pub witness_ended : ((b : List ℕ) → witness.Took old b → IfOk told (λ r. witness.Ends old new b r)) → Took self bytes → IfOk told (λ r. Ends self (judge_of next) bytes r)
+    witness_ended ends took =
+        let own : Took (judge_of (Witness old)) bytes = subst (λ (j : JudgeOf). Took j bytes) as_witness took in
+        subst (λ (j : JudgeOf). IfOk told (λ r. Ends j (judge_of next) bytes r)) (sym as_witness)
+        (subst (λ (n : Reader). IfOk told (λ r. Ends (judge_of (Witness old)) (judge_of n) bytes r)) (sym becomes)
+        (if_told (λ r f. witness_ends old new bytes r f) told (ends bytes own.taken)))
+
+    pub witness_again : ((b : List ℕ) → witness.TookAll old b → IfOk told (λ r. witness.Ends old new b r)) → TookAll self bytes → IfOk told (λ r. Ends self (judge_of next) bytes r)
+    witness_again ends took =
+        let own : TookAll (judge_of (Witness old)) bytes = subst (λ (j : JudgeOf). TookAll j bytes) as_witness took in
+        subst (λ (j : JudgeOf). IfOk told (λ r. Ends j (judge_of next) bytes r)) (sym as_witness)
+        (subst (λ (n : Reader). IfOk told (λ r. Ends (judge_of (Witness old)) (judge_of n) bytes r)) (sym becomes)
+        (if_told (λ r f. witness_ends old new bytes r f) told (ends bytes own.taken)))

@@ -1,0 +1,14 @@
+use Rattle.std.proofs.Common.{◌≡◌, ◌∙◌, ap, subst, sym}
+use Rattle.std.specs.Prelude.{Option, Some, slice_get}
+use Rattle.std.proofs.lemmas.Option.{slice_get-get_or}
+use Rattle.sby_terms.specs.declared.engine.Engine.{Engine}
+use Rattle.task_race.specs.Serving.{IsJudgeable, IsServing}
+use Rattle.task_race.specs.declared.evidence.Evidence.{Evidence}
+use Rattle.task_race.proofs.lanes.ProblemLanesMakesFinding.make.Goals as goal
+
+pub watch-requires-clause-judgeable : goal.watch-requires-clause-judgeable
+watch-requires-clause-judgeable c =
+    let engines = c.args.self.now.engines.now in
+    let lookup = c.in-Some.ensures.lookup in
+    let at : slice_get engines c.args.lane ≡ Some c.in-Some.engine.now = slice_get-get_or engines c.args.lane c.in-Some.engine.now lookup.3.0 ∙ ap Some (sym lookup.1) in
+    subst (λ (by : Evidence). IsJudgeable by c.args.job) (sym c.evidence_of-evidence.ensures) (subst (λ (o : Option Engine). IsServing o c.args.job) at c.requires.0)

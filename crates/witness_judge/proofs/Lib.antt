@@ -1,0 +1,12 @@
+pub mod Staying
+pub mod Finding
+pub mod Merging
+pub mod Opening
+pub mod Chosen
+pub mod Feeding
+pub mod Telling
+pub mod Sating
+pub mod One
+pub mod Outlining
+pub mod Existing
+pub mod Alone

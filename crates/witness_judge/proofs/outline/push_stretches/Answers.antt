@@ -1,0 +1,94 @@
+use Rattle.std.proofs.Common.{◌≡◌, ◌++◌, ◌∷◌, [], sym, ◌<◌, ◌≤◌, ◌≢◌, ◌+◌, ◌-◌, ℕ, List, Bool, inl, length, ap, subst, arith}
+use Rattle.std.specs.Prelude.{Option}
+use Rattle.btor_emit.specs.States.{is_known}
+use Rattle.btor_emit.proofs.Edging.{edge_at, edge_inside, next_begins, register_end, stretch_of}
+use Rattle.witness_judge.proofs.outline.push_stretches.Goals as goal
+use Rattle.witness_judge.proofs.Outlining.{one_more}
+use Rattle.witness_judge.specs.Outlining.{AreStretchesTo, outlined}
+use Rattle.model_core.specs.Shape.{IsRegister}
+use Rattle.model_core.proofs.Lists.{all_at, at_place}
+
+pub overflow_add-end : goal.overflow_add-end
+overflow_add-end c =
+    let m = c.args.model.now in
+    let i = c.args.register in
+    let r = at_place m.registers i c.requires.register in
+    let end = register_end m i (length c.q.result.now) r.0 r.1 (ap (λ (ps : List ℕ). length ps) (c.q.ensures r.0 r.1)) in
+    let first = c.requires.first in
+    let inside = edge_inside m (i + 1) in
+    let bits = ap (λ (ps : List ℕ). length ps) c.states-bits.ensures in
+    omega arith
+
+pub loop-next-init : goal.loop-next-init
+loop-next-init c = record { low = omega arith; high = omega arith; begin = inl (c.args.register, c.requires.first); made = c.requires.made }
+
+pub stretch-stop-requires-clause-end : goal.stretch-stop-requires-clause-end
+stretch-stop-requires-clause-end c =
+    let m = c.args.model.now in
+    let i = c.args.register in
+    let r = at_place m.registers i c.requires.register in
+    let end = register_end m i (length c.q.result.now) r.0 r.1 (ap (λ (ps : List ℕ). length ps) (c.q.ensures r.0 r.1)) in
+    let first = c.requires.first in
+    let inside = edge_inside m (i + 1) in
+    let same = c.requires.model.starts in
+    let long = ap (λ (ds : List (Option Bool)). length ds) c.starts-starts.ensures in
+    omega arith
+
+pub push_stretch-requires-clause-inside : goal.push_stretch-requires-clause-inside
+push_stretch-requires-clause-inside c =
+    let same = c.requires.model.starts in
+    let long = ap (λ (ds : List (Option Bool)). length ds) c.starts-starts.ensures in
+    let m = c.args.model.now in
+    let i = c.args.register in
+    let r = at_place m.registers i c.requires.register in
+    let end = register_end m i (length c.q.result.now) r.0 r.1 (ap (λ (ps : List ℕ). length ps) (c.q.ensures r.0 r.1)) in
+    let first = c.requires.first in
+    let inside = edge_inside m (i + 1) in
+    let most = c.stretch-stop.ensures.most in
+    omega arith
+
+pub push_stretch-requires-clause-width : goal.push_stretch-requires-clause-width
+push_stretch-requires-clause-width c =
+    let m = c.args.model.now in
+    let i = c.args.register in
+    let r = at_place m.registers i c.requires.register in
+    let wide = ap (λ (ps : List ℕ). length ps) (c.q.ensures r.0 r.1) in
+    let narrow = (all_at (IsRegister m.size) m.registers i r.0 c.requires.model.registers r.1).narrow in
+    let most = c.stretch-stop.ensures.most in
+    let low = c.loop-next.invariant.low in
+    omega arith
+
+pub loop-next-preserved : goal.loop-next-preserved
+loop-next-preserved c =
+    let m = c.args.model.now in
+    let i = c.args.register in
+    let r = at_place m.registers i c.requires.register in
+    let end = register_end m i (length c.q.result.now) r.0 r.1 (ap (λ (ps : List ℕ). length ps) (c.q.ensures r.0 r.1)) in
+    let first = c.requires.first in
+    let next = c.loop-next.next in
+    let stop = c.stretch-stop.result in
+    let most = c.stretch-stop.ensures.most in
+    let some = c.stretch-stop.ensures.some in
+    let low = c.loop-next.invariant.low in
+    record {
+      low = omega arith;
+      high = most;
+      begin = next_begins m i next stop some (omega arith)
+          (subst (λ (ds : List (Option Bool)). (k : ℕ) → next ≤ k → k < stop → is_known ds k ≡ is_known ds next) c.starts-starts.ensures c.stretch-stop.ensures.alike)
+          (λ l. subst (λ (ds : List (Option Bool)). is_known ds stop ≢ is_known ds next) c.starts-starts.ensures (c.stretch-stop.ensures.longest (omega arith)));
+      made = rw c.in_ok-push_stretch.ensures (subst (λ (ds : List (Option Bool)). AreStretchesTo m (c.loop-next.made.items ++ outlined ds next stop ∷ []) stop) (sym c.starts-starts.ensures) (one_more m c.loop-next.made.items _ stop c.loop-next.invariant.made
+          (stretch_of m i next stop (record { nid = 0; width = stop - next }) (omega arith) some (omega arith)
+          (subst (λ (ds : List (Option Bool)). (k : ℕ) → next ≤ k → k < stop → is_known ds k ≡ is_known ds next) c.starts-starts.ensures c.stretch-stop.ensures.alike) c.loop-next.invariant.begin (omega arith)) (omega arith)));
+    }
+
+pub returns : goal.returns
+returns c =
+    let m = c.args.model.now in
+    let i = c.args.register in
+    let r = at_place m.registers i c.requires.register in
+    let end = register_end m i (length c.q.result.now) r.0 r.1 (ap (λ (ps : List ℕ). length ps) (c.q.ensures r.0 r.1)) in
+    let first = c.requires.first in
+    let high = c.loop-next.invariant.high in
+    let test = c.loop-next-test.false in
+    let e : c.loop-next.next ≡ edge_at m (i + 1) = omega arith in
+    subst (λ (k : ℕ). AreStretchesTo m c.loop-next.made.items k) e c.loop-next.invariant.made

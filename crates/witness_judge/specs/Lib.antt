@@ -1,0 +1,7 @@
+pub mod Choosing
+pub mod Spreading
+pub mod Playing
+pub mod Fate
+pub mod Judging
+pub mod Settling
+pub mod Outlining

@@ -1,0 +1,110 @@
+// Streams as witnesses for a register of one bit, which starts at 0, takes an input in each cycle, and is never to be 1.
+
+ghost use Rattle.std.specs.Prelude.{◌≡◌, IfOk};
+ghost use Rattle.model_core.specs.Served.{IsModel};
+
+use btor_emit::emit::emit;
+use btor_emit::goal::Goal;
+use cert_judge::CertKind;
+use model_core::draft::Draft;
+use model_core::model::{Control, Statement, WordModel};
+use std::alloc::{AllocError, Global};
+use std::test::Fail;
+use witness_judge::{Outcome, Sought, WitnessJudge};
+
+// The constants are at the places 0 and 1, the register's bit is at 2, the input at 3.
+fn one_bit(alloc: Global) -> Result<WordModel, AllocError> {
+    let always = Control {
+        place: 1,
+        level: true,
+    };
+    let never = Control {
+        place: 0,
+        level: true,
+    };
+    let mut draft = Draft::new(alloc, 4, 0);
+    draft.push_register(&[2], &[3], &[0], always, never, false, &[Some(false)])?;
+    draft.push_input(3)?;
+    draft.push_assert(Statement { a: 0, en: 2 })?;
+    Ok(draft.finish())
+}
+
+// What a text comes to that comes in two pieces, the first of at most so many bytes, where at most 24 bytes are taken, and the assertion is
+// to be broken in one of the first two cycles.
+fn come(alloc: Global, text: &[u8], cut: usize) -> Result<Outcome, AllocError> {
+    let model = one_bit(alloc)?;
+    let emitted = emit(alloc, &model, Goal::Asserts)?;
+    let sought = Sought {
+        goal: Goal::Asserts,
+        first: 0,
+        last: 2,
+    };
+    let mut judge = WitnessJudge::new(alloc, &model, emitted.shape, sought, 24)?;
+    let (front, back) = text.split_at(cut.min(text.len()));
+    if let Some(outcome) = judge.feed(front)? {
+        return Ok(outcome);
+    }
+    if let Some(outcome) = judge.feed(back)? {
+        return Ok(outcome);
+    }
+    judge.end()
+}
+
+// Whether it comes to this fault, however it is cut.
+fn is_always(alloc: Global, text: &[u8], kind: CertKind, at: u64) -> Result<bool, AllocError> {
+    for cut in 0..text.len() {
+        match come(alloc, text, cut)? {
+            Outcome::Bad(bad) => {
+                if bad.kind != kind || bad.at != at {
+                    return Ok(false);
+                }
+            }
+            Outcome::Played(_) | Outcome::Unknown => return Ok(false),
+        }
+    }
+    Ok(true)
+}
+
+#[test]
+fn witnesses_play(rt: HostRuntime) -> Result<(), Fail> {
+    for text in [
+        "sat\nb0\n@0\n0 1\n@1\n.\n",
+        "sat\nb0\n#0\n@0\n0 1\n@1\n.",
+        "sat\nb0\n@0\n0 1\n@1\n0 0\n.\n",
+        "sat\nb0\n@0\n0 1\n@1\n.\nsat\nb0\n@0\n.\n",
+    ] {
+        for cut in 0..text.len() {
+            let outcome = come(rt.alloc(), text.as_bytes(), cut)?;
+            assert!(rt; matches!(outcome, Outcome::Played(_)));
+        }
+    }
+    Ok(())
+}
+
+#[test]
+fn engines_may_not_know(rt: HostRuntime) -> Result<(), Fail> {
+    for text in ["unsat\n", "unknown\nno sat\n"] {
+        for cut in 0..text.len() {
+            let outcome = come(rt.alloc(), text.as_bytes(), cut)?;
+            assert!(rt; matches!(outcome, Outcome::Unknown));
+        }
+    }
+    Ok(())
+}
+
+#[test]
+fn other_streams_are_refused(rt: HostRuntime) -> Result<(), Fail> {
+    for (text, kind, at) in [
+        ("sat\nb0\n@0\n.\n", CertKind::NotPlaying, 0),
+        ("sat\nb0\n@0\n@1\n.\n", CertKind::NotPlaying, 1),
+        ("sat\nb0\n@0\n0 0\n@1\n0 1\n.", CertKind::NotPlaying, 1),
+        ("sat\nb1\n@0\n0 1\n@1\n.\n", CertKind::NotPlaying, 1),
+        ("sat\nb0\n@0\n0 1\n@1\n@2\n.\n", CertKind::NotPlaying, 2),
+        ("sat\nb0\n@0\n0 1\n@1", CertKind::EarlyEnd, 16),
+        ("sat\nb0\n@0\n1 1\n@1\n.\n", CertKind::BadWitness, 10),
+        ("sat\nb0\n@0\n0 1 input@0\n@1\n.\n", CertKind::TooLong, 24),
+    ] {
+        assert!(rt; is_always(rt.alloc(), text.as_bytes(), kind, at)?);
+    }
+    Ok(())
+}
