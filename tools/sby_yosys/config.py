@@ -1,6 +1,7 @@
 """A SymbiYosys file, read for one task."""
 import os
 import re
+import shutil
 
 # What a prefix of a line may look like, and what makes a word of [tasks] a pattern.
 PREFIX = re.compile(r"(~?)([^\s:~]+):\s*(.*)")
@@ -235,22 +236,39 @@ def serve_options(task):
         task.changes.append(f"depth is {task.depth()}: with several clocks each cycle is half a clock")
 
 
-def served_engine(words, mode):
-    """The engine line of sby for one of SymbiYosys's, and what is said of it."""
+def word_engine(words, mode, depth):
+    """The engine lines for a program that reads BTOR2, and what is said of them. It shows runs alone, so sat stands beside those of
+    SymbiYosys, which get the bound that they get there."""
+    line, last = " ".join(words), str(depth - 1)
+    bounds = {"btormc": ["-kmax", last], "pono": ["--witness", "-k", last, "-e", "bmc"]}
+    if mode == "prove":
+        return [], f"engine {line} is left out: it can't serve mode prove"
+    if len(words) < 2 or not shutil.which(words[1]):
+        return [], f"engine {line} is left out: its program isn't in the path"
+    if words[1] not in bounds:
+        return [line], None
+    bounded = " ".join(["btor", words[1], *bounds[words[1]], *words[2:]])
+    return [bounded, "sat"], f"engine {line} becomes {bounded}, and sat beside it: it shows runs alone"
+
+
+def served_engine(words, mode, depth):
+    """The engine lines of sby for one of SymbiYosys's, and what is said of them."""
     line = " ".join(words)
     while words and words[0].startswith("--"):
         words = words[1:]
     name = words[0] if words else ""
     if name in ("sat", "drup", "lrat", "proof", "proofb"):
-        return line, None
+        return [line], None
+    if name == "btor":
+        return word_engine(words, mode, depth)
     if name in ("smtbmc", "aiger") or words[:2] in (["abc", "bmc3"], ["abc", "sim3"]):
-        return "sat", f"engine {line} becomes sat, whose proofs sby checks"
+        return ["sat"], f"engine {line} becomes sat, whose proofs sby checks"
     if words[:2] == ["abc", "pdr"]:
         if mode == "prove":
-            return "sat", f"engine {line} becomes sat, by induction at the task's depth: sby has no engine for invariants yet"
-        return "sat", f"engine {line} becomes sat, whose proofs sby checks"
-    if name in ("btor", "itp", "none"):
-        return None, f"engine {line} is left out: sby has nothing like it"
+            return ["sat"], f"engine {line} becomes sat, by induction at the task's depth: sby has no engine for invariants yet"
+        return ["sat"], f"engine {line} becomes sat, whose proofs sby checks"
+    if name in ("itp", "none"):
+        return [], f"engine {line} is left out: sby has nothing like it"
     raise Refused(f"engine {line} isn't known")
 
 
@@ -261,11 +279,10 @@ def serve_engines(task):
         raise Refused("the task has no engine")
     found = []
     for words in lines:
-        line, said = served_engine(words, task.mode())
+        served, said = served_engine(words, task.mode(), task.depth())
         if said:
             task.changes.append(said)
-        if line is not None and line not in found:
-            found.append(line)
+        found += [line for line in served if line not in found]
     if not found:
         raise Refused("no engine of the task is served")
     task.engines = [it.split() for it in found]

@@ -42,9 +42,11 @@ class Bench:
         with open(path, "w", encoding="utf-8") as file:
             file.write(content)
 
-    def run(self, *words):
+    def run(self, *words, programs=None):
+        """programs: a folder that comes first in the path."""
         words = [sys.executable, TOOL, *(["--sby", self.sby] if self.sby else []), *words]
-        run = subprocess.run(words, cwd=self.folder, stdin=subprocess.DEVNULL, capture_output=True, text=True)
+        env = {**os.environ, "PATH": f"{self.folder}/{programs}:{os.environ['PATH']}"} if programs else None
+        run = subprocess.run(words, cwd=self.folder, env=env, stdin=subprocess.DEVNULL, capture_output=True, text=True)
         return run.returncode, run.stdout + run.stderr
 
     def read(self, name):
@@ -210,6 +212,24 @@ def what_is_changed_is_said(bench):
     bench.put("y.sby", sby_file("mode bmc\ndepth 4\nmulticlock on"))
     _, said = bench.run("y.sby")
     want("depth is 8: with several clocks each cycle is half a clock" in said, said)
+
+
+@test
+def programs_that_read_words(bench):
+    """They get the bound that SymbiYosys gives them, and sat decides where they show no run."""
+    bench.put("top.v", d.counter(9))
+    for name, wanted in (("btormc", "-kmax 8 --trace-gen-full"), ("pono", "--witness -k 8 -e bmc --trace-gen-full"), ("own", "--trace-gen-full")):
+        bench.put(f"bin/{name}", f'#!/bin/sh\necho "$@" > {bench.folder}/{name}.words\n')
+        os.chmod(os.path.join(bench.folder, "bin", name), 0o755)
+        engines = f"btor {name} --trace-gen-full" + ("\nsat" if name == "own" else "")
+        bench.put(f"{name}.sby", sby_file("mode bmc\ndepth 9\nwait on", engines=engines))
+        code, said = bench.run(f"{name}.sby", programs="bin")
+        want(code == 0 and bench.status(name) == "PASS", said)
+        want(bench.read(f"{name}.words").strip() == f"{wanted} {name}/model/base.btor", bench.read(f"{name}.words"))
+        want((f"engine btor {name} --trace-gen-full becomes btor {name} {wanted}, and sat" in said) == (name != "own"), said)
+    bench.put("prove.sby", sby_file("mode prove\ndepth 2", engines="btor btormc\nsmtbmc"))
+    _, said = bench.run("prove.sby", programs="bin")
+    want("engine btor btormc is left out: it can't serve mode prove" in said, said)
 
 
 @test
