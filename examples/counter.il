@@ -2,10 +2,10 @@
 autoidx 19
 attribute \keep 1
 attribute \top 1
-attribute \src "counter.v:3.1-15.10"
+attribute \src "counter.v:3.1-17.10"
 module \counter
   parameter \FIXED 0
-  attribute \src "counter.v:11.3-14.6"
+  attribute \src "counter.v:12.3-15.6"
   wire \_0_
   attribute \src "counter.v:8.3-9.68"
   wire width 4 \_1_
@@ -56,7 +56,7 @@ module \counter
     connect \B \twice
     connect \Y \next
   end
-  attribute \src "counter.v:13.20-13.33"
+  attribute \src "counter.v:14.20-14.33"
   cell $eq \_6_
     parameter \A_SIGNED 0
     parameter \A_WIDTH 4
@@ -67,7 +67,7 @@ module \counter
     connect \B 4'1011
     connect \Y \wraps
   end
-  attribute \src "counter.v:12.23-12.35"
+  attribute \src "counter.v:13.23-13.35"
   cell $lt \_7_
     parameter \A_SIGNED 0
     parameter \A_WIDTH 4
@@ -94,12 +94,12 @@ module \counter
     connect \S \step
     connect \Y \_1_
   end
-  attribute \src "counter.v:13.5-13.34"
+  attribute \src "counter.v:14.5-14.34"
   cell $cover \eleven
     connect \A \wraps
     connect \EN 1'1
   end
-  attribute \src "counter.v:12.5-12.36"
+  attribute \src "counter.v:13.5-13.36"
   cell $assert \in_range
     connect \A \_0_
     connect \EN 1'1

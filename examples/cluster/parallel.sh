@@ -1,14 +1,12 @@
 #!/bin/sh
-# Runs a solver on one of the machines of a list: sh parallel.sh HOSTS SOLVER ARGS.. FILE, where HOSTS is a file for GNU
-# parallel's --sshloginfile (a line for each machine, as user@host; : is this one). The machine with the least load takes
-# the job, by ssh.sh.
+# Runs an engine on one machine of a list, and sends the job along: sh parallel.sh HOSTS SOLVER ARGS FILE. HOSTS is a
+# file for GNU parallel's --sshloginfile, with the name of a machine in each line. GNU parallel asks all of them at the
+# same time how many processes run on how many processors. The least busy of those that answer within 30 seconds takes
+# the job, by send_ssh.sh.
 hosts=$1
 shift
-here=$(dirname "$0")
-host=$(parallel --will-cite --ssh "ssh $SSH_ARGS" --sshloginfile "$hosts" --nonall --tag 'cut -d " " -f 1 /proc/loadavg' 2> /dev/null |
-    sort -k 2 -n | head -n 1 | cut -f 1)
-case $host in
-    '') exit 16 ;;
-    :) exec "$@" ;;
-    *) exec sh "$here/ssh.sh" "$host" "$@" ;;
-esac
+host=$(parallel --will-cite --ssh 'ssh -o BatchMode=yes -o ConnectTimeout=10' --timeout 30 --sshloginfile "$hosts" \
+    --nonall --tag 'read -r _ _ _ running _ < /proc/loadavg; echo "${running%/*} $(nproc)"' < /dev/null 2> /dev/null |
+    awk '{ print $2 / $3, $1 }' | sort -n | sed -n '1s/.* //p')
+[ -n "$host" ] || exit 16
+exec sh "$(dirname "$0")/send_ssh.sh" "$host" "$@"

@@ -11,7 +11,7 @@ STATUSES = ("PASS", "FAIL", "UNKNOWN", "ERROR", "TIMEOUT")
 MODES = ("bmc", "prove", "cover")
 
 # Options that sby has too, and those that change nothing here, since sby plays and checks each run itself.
-KEPT = ("mode", "depth", "skip", "timeout", "expect", "wait", "multiclock")
+KEPT = ("mode", "depth", "skip", "stride", "timeout", "expect", "wait", "multiclock")
 DROPPED = {
     "append": "runs end in the cycle that they are about",
     "append_assume": "no cycles are appended",
@@ -19,7 +19,6 @@ DROPPED = {
     "vcd": "a trace is written wherever there is a run",
     "vcd_sim": "traces are checked by sby itself",
     "fst": "traces are VCD",
-    "smtc": "there is no SMT solver",
     "aigsmt": "runs are played by sby itself",
     "aigvmap": "there is no AIGER file",
     "aigfolds": "there is no AIGER file",
@@ -30,6 +29,11 @@ DROPPED = {
     "witrename": "there is no witness file",
     "diagnostics": "sby says what it did",
     "skip_prep": "sby needs the preparation",
+}
+# Options whose loss would change what a verdict says.
+UNSERVED = {
+    "smtc": ": a verdict without its constraints would be about something else",
+    "cover_assert": ": assertions don't end a run of mode cover",
 }
 
 
@@ -48,13 +52,22 @@ def outputs_of(code, task, tags):
     return lines
 
 
+def fits(word, task):
+    """Whether a first word of [tasks], a name or a pattern, speaks of the task."""
+    try:
+        return word == task or bool(PATTERN.search(word) and re.fullmatch(word, task))
+    except re.error as fault:
+        raise Refused(f"{word} is no pattern: {fault}")
+
+
 class Reader:
     """The lines of a file that hold for a task. Prefixes and Python blocks are resolved as SymbiYosys does it."""
 
     def __init__(self, task):
         self.task, self.active, self.all = task, set(), set()
-        self.names, self.defaults, self.lines = [], [], []
-        self.in_tasks = self.in_file = False
+        self.names, self.lines = [], []
+        self.by_default = []  # words of [tasks] with the tag default, names or patterns
+        self.in_tasks = False
         self.is_block = self.is_skipped = False
 
     def add_tasks(self, line):
@@ -68,23 +81,18 @@ class Reader:
             names, tags = [words[0][:-1]], words[1:]
         else:
             names, tags = words[:1], words[1:]
+        self.all |= set(tags) - {"default"}
         for name in names:
-            if PATTERN.search(name):
-                matched = [it for it in self.names if re.fullmatch(name, it)]
-            else:
-                matched = [name]
-                if name not in self.names:
-                    self.names.append(name)
-            for it in matched:
-                self.tag(it, tags)
+            if not PATTERN.search(name) and name not in self.names:
+                self.names.append(name)
+                self.all.add(name)
+            if "default" in tags:
+                self.by_default.append(name)
+            if self.task is not None and fits(name, self.task):
+                self.active |= {self.task, *tags} - {"default"}
 
-    def tag(self, name, tags):
-        if "default" in tags and name not in self.defaults:
-            self.defaults.append(name)
-        found = {name, *tags} - {"default"}
-        self.all |= found
-        if self.task == name:
-            self.active |= found
+    def defaults(self):
+        return [it for it in self.names if any(fits(word, it) for word in self.by_default)]
 
     def holds(self, line):
         """The rest of a line if it holds for the task, else None. A tag alone begins a block, which `--` ends."""
@@ -103,11 +111,11 @@ class Reader:
     def line(self, line):
         if self.in_tasks and line.startswith("["):
             self.in_tasks = False
-        line = self.holds(line)
-        if line is None:
-            return
         if self.in_tasks:
             self.add_tasks(line)
+            return
+        line = self.holds(line)
+        if line is None:
             return
         if line.strip() == "[tasks]":
             self.in_tasks = True
@@ -137,14 +145,15 @@ class Reader:
 def tasks_of(text, path):
     """The names of all tasks, and of the default ones."""
     found = Reader(None).read(text)
-    return found.names, found.defaults
+    return found.names, found.defaults()
 
 
 class Task:
     """What holds for one task: options, engine words, script, files to copy, files with content."""
 
     def __init__(self, name, path):
-        self.name, self.folder = name, os.path.dirname(path) if path != "-" else ""
+        self.name, self.folder = name, os.path.dirname(path)
+        self.base = "stdin" if path == "-" else os.path.basename(path).removesuffix(".sby")
         self.options, self.engines, self.script = {}, [], []
         self.files, self.contents, self.changes = [], {}, []
         self.engine_modes = {}
@@ -157,6 +166,10 @@ class Task:
 
     def depth(self):
         return int(self.options.get("depth", "20"))
+
+    def is_multiclock(self):
+        """Whether clocks are signals of the run itself."""
+        return self.options.get("multiclock", "off") == "on"
 
     def dump(self):
         """The task as a SymbiYosys file of its own."""
@@ -176,6 +189,8 @@ def add_line(task, section, line):
     line = line.strip()
     if not line or line.startswith("#"):
         return
+    if section[0] != "script" and line.split()[0].endswith(":"):
+        raise Refused(f"{line.split()[0]} is no task and no tag")
     if section[0] == "options":
         words = line.split(None, 1)
         if len(words) != 2:
@@ -212,28 +227,37 @@ def serve_options(task):
         value = task.options[name]
         if name in DROPPED:
             del task.options[name]
-            if value not in ("0", "off", "none"):
+            if value not in (("on",) if name == "vcd" else ("0", "off", "none")):
                 task.changes.append(f"option {name} {value} is left out: {DROPPED[name]}")
         elif name == "cover_assert" and value == "off":
             del task.options[name]
         elif name not in KEPT:
-            raise Refused(f"option {name} isn't served")
+            raise Refused(f"option {name} isn't served" + UNSERVED.get(name, ""))
     mode = task.options.get("mode")
     if mode is None:
         raise Refused("the task has no mode")
     if mode not in MODES:
         raise Refused(f"mode {mode} isn't served: bmc, prove and cover are")
-    if mode != "bmc" and task.options.pop("skip", "0") != "0":
-        task.changes.append(f"option skip is left out: it has no meaning in mode {mode}")
-    for name in ("depth", "skip", "timeout"):
-        if name in task.options and not task.options[name].isdigit():
+    for name in ("skip", "stride") if mode != "bmc" else ():
+        if task.options.pop(name, "0") != "0":
+            task.changes.append(f"option {name} is left out: it has no meaning in mode {mode}")
+    for name in ("depth", "skip", "stride", "timeout"):
+        if name in task.options and not task.options[name].isdecimal():
             raise Refused(f"option {name} isn't a number: {task.options[name]}")
     for status in task.expected():
         if status not in STATUSES:
             raise Refused(f"option expect names no status: {status.lower()}")
-    if task.options.get("multiclock", "off") == "on":
-        task.options["depth"] = str(2 * task.depth())
-        task.changes.append(f"depth is {task.depth()}: with several clocks each cycle is half a clock")
+    if task.is_multiclock():
+        double(task)
+
+
+def double(task):
+    """With several clocks a cycle of the design is two steps of the run."""
+    task.options["depth"] = str(2 * task.depth())
+    task.changes.append(f"depth is {task.depth()}: with several clocks each cycle is half a clock")
+    if int(task.options.get("skip", "0")):
+        task.options["skip"] = str(2 * int(task.options["skip"]))
+        task.changes.append(f"skip is {task.options['skip']}: it is doubled as depth is")
 
 
 def word_engine(words, mode, depth):
@@ -244,7 +268,7 @@ def word_engine(words, mode, depth):
     if mode == "prove":
         return [], f"engine {line} is left out: it can't serve mode prove"
     if len(words) < 2 or not shutil.which(words[1]):
-        return [], f"engine {line} is left out: its program isn't in the path"
+        return ["sat"], f"engine {line} becomes sat: its program isn't in the path"
     if words[1] not in bounds:
         return [line], None
     bounded = " ".join(["btor", words[1], *bounds[words[1]], *words[2:]])

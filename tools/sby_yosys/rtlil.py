@@ -2,7 +2,6 @@
 import re
 
 REGISTERS = ("$dff", "$dffe", "$sdff", "$sdffe", "$sdffce", "$adff", "$adffe", "$aldff", "$aldffe", "$dffsr", "$ff")
-STATEMENTS = ("$assert", "$assume", "$cover")
 FREE = ("$anyconst", "$anyseq", "$allconst", "$allseq")
 
 
@@ -11,15 +10,33 @@ def unescaped(name):
     return name[1:] if name.startswith("\\") else name
 
 
+def names_in(signal):
+    return re.findall(r"[\\$][^\s{}]+", signal)
+
+
+def line_at(path, byte):
+    """The number of the line that holds a byte of the text, and the line."""
+    with open(path, "rb") as file:
+        text = file.read()
+    start = text.rfind(b"\n", 0, byte) + 1
+    return text.count(b"\n", 0, byte) + 1, text[start:].split(b"\n", 1)[0].decode("utf-8", "replace").strip()
+
+
+class Cell:
+    def __init__(self, kind, name):
+        self.kind, self.name, self.is_open = kind, name, False  # open: a multiplexer with any value where nothing is selected
+
+
 class Design:
     """The one module of a flat text."""
 
     def __init__(self, path):
         self.top, self.sources, self.types = "top", {}, {}
-        self.widths, self.inputs, self.outputs = {}, [], []
-        self.clocks, self.states, self.frees, self.same = set(), set(), {}, []
+        self.widths, self.inputs = {}, []
+        self.clocks, self.states, self.frees, self.driven, self.same = set(), set(), set(), set(), []
         with open(path, encoding="utf-8", errors="replace") as file:
             self.read(file)
+        self.frees |= set(self.widths) - set(self.inputs) - self.driven
         for _ in self.same:  # names of one wire, in chains of any length
             added = {b for a, b in self.same if a in self.clocks} | {a for a, b in self.same if b in self.clocks}
             if added <= self.clocks:
@@ -32,26 +49,28 @@ class Design:
             words = line.split()
             if not words:
                 continue
-            if words[0] == "attribute" and words[1] == "\\src":
-                source = line.split('"', 1)[1].rsplit('"', 1)[0].split("|")[0]
-            elif words[0] == "module":
-                self.top, source = unescaped(words[1]), None
+            if words[0] == "attribute":
+                if words[1] == "\\src":
+                    source = line.split('"', 1)[1].rsplit('"', 1)[0].split("|")[0]
+                continue
+            if words[0] == "module":
+                self.top = unescaped(words[1])
             elif words[0] == "wire":
                 self.wire(words)
-                source = None
+                self.sources[words[-1]] = source
             elif words[0] == "cell":
-                cell = (words[1], words[2])
+                cell = Cell(words[1], words[2])
                 self.types[words[2]] = words[1]
-                if source:
-                    self.sources[words[2]] = source
-                source = None
-            elif words[0] == "connect" and not cell:
+                self.sources[words[2]] = source
+            elif words[0] == "connect" and cell is None:
+                self.driven.update(names_in(line.split(None, 1)[1].split("}")[0] if words[1] == "{" else words[1]))
                 if len(words) == 3:
                     self.same.append((words[1], words[2]))
             elif words[0] == "connect":
                 self.port(cell, words[1], line.split(None, 2)[2].strip())
             elif words[0] == "end":
                 cell = None
+            source = None
 
     def wire(self, words):
         name, width = words[-1], 1
@@ -60,18 +79,22 @@ class Design:
         self.widths[name] = width
         if "input" in words:
             self.inputs.append(name)
-        if "output" in words:
-            self.outputs.append(name)
 
     def port(self, cell, port, signal):
-        kind, name = cell
-        names = re.findall(r"[\\$][^\s{}]+", signal)
-        if kind in REGISTERS and port == "\\Q":
-            self.states.update(names)
-        elif kind in REGISTERS and port == "\\CLK":
+        """A port of a cell. Its output comes after its inputs."""
+        names = names_in(signal)
+        if port == "\\CLK" and cell.kind in REGISTERS:
             self.clocks.update(names)
-        elif kind in FREE and port == "\\Y":
-            self.frees.update((it, kind) for it in names)
+        elif port == "\\A" and cell.kind in ("$mux", "$pmux"):
+            cell.is_open = re.fullmatch(r"\d+'x+", signal) is not None
+        elif port in ("\\Q", "\\Y"):
+            self.driven.update(names)
+            if cell.kind in REGISTERS:
+                self.states.update(names)
+            if cell.kind in FREE or cell.is_open:
+                self.frees.update(names)
+            if cell.kind in FREE and names:  # Yosys leaves their cells without a line
+                self.sources[cell.name] = self.sources.get(names[0])
 
     def count(self, kind):
         return sum(1 for it in self.types.values() if it == kind)

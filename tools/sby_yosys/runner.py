@@ -2,21 +2,21 @@
 import os
 import re
 import subprocess
-import sys
 import threading
 import time
 
 import config
+import processes
 import rtlil
 
 PRINTING = threading.Lock()
 
 
-def printer(words, name):
-    """What prints a task's lines; with -q the last one alone."""
+def printer(is_quiet):
+    """What prints a task's lines; where it is quiet the last one alone."""
 
     def say(line, is_last=True):
-        if is_last or not words.quiet:
+        if is_last or not is_quiet:
             with PRINTING:
                 print(line, flush=True)
 
@@ -73,21 +73,20 @@ def watch(pipe, log):
         log.say(told(line))
 
 
-def call(sby, folder, path, env, log):
-    """Runs sby on a task file; its lines, and its exit status. Its log comes on its standard error."""
-    words = [sby, "-d", folder, path]
-    child = subprocess.Popen(words, stdin=subprocess.DEVNULL, stdout=subprocess.PIPE, stderr=subprocess.PIPE, text=True,
-                             errors="replace", env=env)
-    watcher = threading.Thread(target=watch, args=(child.stderr, log) if log else (child.stderr, Silent()), daemon=True)
-    watcher.start()
-    try:
-        lines = child.stdout.read().splitlines()
-    except BaseException:
-        child.terminate()
-        raise
-    code = child.wait()
-    watcher.join(5)
-    return lines, code
+class Sby:
+    """The program sby, with at most so many engines of a task at a time (None: all)."""
+
+    def __init__(self, program, jobs):
+        self.front = [program] if jobs is None else [program, "-j", str(min(jobs, 64))]
+
+    def run(self, folder, path, env, log):
+        """Runs a task file; the lines of sby, and its exit status. Its log comes on its standard error."""
+        with processes.Process([*self.front, "-d", folder, path], stderr=subprocess.PIPE, env=env) as child:
+            watcher = threading.Thread(target=watch, args=(child.stderr, log), daemon=True)
+            watcher.start()
+            lines = child.stdout.read().splitlines()
+        watcher.join(5)
+        return lines, child.returncode
 
 
 class Silent:
@@ -101,12 +100,12 @@ def own_lines(lines, folder):
     return [it[len(front) :] for it in lines if it.startswith(front)]
 
 
-def run(task, design, folder, sby, log):
+def run(task, folder, sby, log):
     """Runs the task by sby; the status, and the exit status."""
     path = os.path.join(folder, "config.sby")
     with open(path, "w", encoding="utf-8") as file:
         file.write(task_file(task, folder))
-    lines, code = call(sby, folder, path, {**os.environ, "SBY_LOG": "-"}, log)
+    lines, code = sby.run(folder, path, {**os.environ, "SBY_LOG": "-"}, log)
     with open(os.path.join(folder, "sby.out"), "w", encoding="utf-8") as file:
         file.write("\n".join(lines) + "\n")
     task.said = own_lines(lines, folder)
@@ -130,12 +129,14 @@ def warn_if_vacuous(task, design, folder, sby, log):
         file.write(text)
     asked = config.Task(None, "-")
     asked.options = {"mode": "bmc", "depth": str(task.depth()), "skip": str(task.depth() - 1)}
+    if "timeout" in task.options:
+        asked.options["timeout"] = task.options["timeout"]
     asked.engines = task.engines
     path = os.path.join(inner, "config.sby")
     with open(path, "w", encoding="utf-8") as file:
         file.write(task_file(asked, inner, "design.il"))
     log.say(f"assumptions: asking for a run of {task.depth()} cycles that meets them")
-    lines, _ = call(sby, inner, path, None, None)
+    lines, _ = sby.run(inner, path, None, Silent())
     said = own_lines(lines, inner)
     if said and said[-1].startswith("DONE (PASS"):
         log.sum(f"WARNING: no run of {task.depth()} cycles meets the assumptions: PASS says nothing of such runs")

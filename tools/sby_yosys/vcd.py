@@ -5,7 +5,7 @@ import re
 import rtlil
 
 TICK = 10  # units of time in a cycle
-NAME = re.compile(r"[A-Za-z_]\w*(?:\.[A-Za-z_]\w*)*")
+NAME = re.compile(r"[A-Za-z_]\w*(?:(?:\[\d+\])?\.[A-Za-z_]\w*)*")
 
 
 class Trace:

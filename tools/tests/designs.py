@@ -78,6 +78,17 @@ module top(input clk, input a, input b);
 endmodule
 """
 
+GENERATED = """
+module top(input clk, input [1:0] go);
+  genvar i;
+  for (i = 0; i < 2; i = i + 1) begin : lane
+    reg [1:0] n;
+    always @(posedge clk) if (go[i]) n <= n + 1;
+  end
+  always @(posedge clk) assert (lane[0].n + lane[1].n != 5);
+endmodule
+"""
+
 RESET = """
 module top(input clk, input arst, input d);
   reg q = 0;
@@ -157,5 +168,110 @@ module top(input clk, input en, input d);
   reg q;
   always @* if (en) q = d;
   always @(posedge clk) if (en) assert (q == d);
+endmodule
+"""
+
+# A net with one driver has any value where that doesn't drive it.
+LONE = """
+module top(input clk, input en, input a, output y);
+  assign y = en ? a : 1'bz;
+  always @(posedge clk) assert (y == a);
+endmodule
+"""
+
+INOUT = """
+module top(input clk, input en, input [1:0] a, inout [1:0] bus);
+  assign bus = en ? a : 2'bz;
+  reg [1:0] seen = 0, last = 0;
+  reg drove = 0;
+  always @(posedge clk) begin seen <= bus; last <= a; drove <= en; end
+  always @(posedge clk) assert (CLAIM);
+endmodule
+"""
+
+# Two clocks, and a memory that the first of them writes.
+CLOCK_MEMORY = """
+module top(input clk_a, input clk_b, input we, input [1:0] at, input [3:0] in, output reg [3:0] out);
+  reg [3:0] words [0:3];
+  reg [3:0] last = 0;
+  reg [1:0] place = 0;
+  reg written = 0;
+  always @(posedge clk_a) if (we) begin words[at] <= in; last <= in; place <= at; written <= 1; end
+  always @(posedge clk_b) out <= words[place];
+  always @* assert (!written || words[place] == last BUG);
+endmodule
+"""
+
+LIVE = """
+module top(input clk, input go);
+  reg [1:0] n = 0;
+  always @(posedge clk) if (go) n <= n + 1;
+  assert property (eventually n == 3);
+  always @(posedge clk) assert (n < 4);
+endmodule
+"""
+
+HARD = """
+module top(input clk, input [19:0] a, input [19:0] b);
+  wire [39:0] left = (a + b + 40'd0) * (a + b + 40'd0);
+  always @(posedge clk) assert (left == a * (a + 40'd0) + b * (b + 40'd0) + 2 * a * (b + 40'd0));
+endmodule
+"""
+
+UNDRIVEN = """
+module top(input clk);
+  wire [1:0] loose;
+  reg [1:0] n = 0;
+  always @(posedge clk) n <= loose;
+  always @(posedge clk) assert (n != 2);
+endmodule
+"""
+
+MEETABLE = """
+module top(input clk, input d);
+  reg q = 0;
+  always @(posedge clk) q <= d;
+  always @(posedge clk) begin assume (!d); assert (!q); end
+endmodule
+"""
+
+# Designs that sby refuses.
+ALL_VALUES = """
+module top(input clk, input [3:0] a);
+  (* allconst *) reg [3:0] any;
+  always @(posedge clk) assert (a != any);
+endmodule
+"""
+
+LOOP = """
+module top(input clk, input a, output y);
+  wire b;
+  assign b = y & a;
+  assign y = b | a;
+  always @(posedge clk) assert (y == a);
+endmodule
+"""
+
+DRIVEN_TWICE = """
+module top(input clk, input a, input b, output y);
+  assign y = a & b;
+  assign y = a | b;
+  always @(posedge clk) assert (y == a);
+endmodule
+"""
+
+WIDE = """
+module top(input clk, input [128:0] a, input [128:0] b);
+  always @(posedge clk) assert (a + b != 5);
+endmodule
+"""
+
+EMPTY = "module top();\nendmodule\n"
+
+NO_MODULE_OF = """
+module top(input clk, input a);
+  wire y;
+  secret it(.a(a), .y(y));
+  always @(posedge clk) assert (y);
 endmodule
 """

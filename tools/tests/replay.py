@@ -35,6 +35,8 @@ def differences(folder, name, source):
     out = os.path.join(folder, "sim")
     words = ["iverilog", "-g2012", "-o", out, f"{folder}/engine_0/{name}_tb.v", source]
     made = subprocess.run(words, capture_output=True, text=True)
+    if "Could not find variable" in made.stderr:  # registers of the checks
+        made = subprocess.run([*words, "-DFORMAL"], capture_output=True, text=True)
     if made.returncode:
         return [made.stderr]
     subprocess.run(["vvp", "-n", out, "+vcd"], cwd=folder, capture_output=True)

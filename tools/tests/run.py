@@ -10,17 +10,23 @@ import argparse
 import os
 import re
 import shutil
+import signal
 import subprocess
 import sys
 import tempfile
+import time
+from xml.etree import ElementTree
 
 sys.dont_write_bytecode = True
 HERE = os.path.dirname(os.path.realpath(__file__))
+ROOT = os.path.join(HERE, "..", "..")
 TOOL = os.path.join(HERE, "..", "sby-yosys")
 sys.path[:0] = [HERE, os.path.join(HERE, "..", "sby_yosys")]
 
 import designs as d
+import files
 import replay
+from files import sby_file
 
 TESTS = {}
 
@@ -36,17 +42,32 @@ class Bench:
     def __init__(self, sby, folder):
         self.sby, self.folder = sby, folder
 
+    def inner(self, name, **content):
+        """A folder of its own in this one, with its files."""
+        made = Bench(self.sby, os.path.join(self.folder, name))
+        for key, text in content.items():
+            made.put(key.replace("_", "."), text)
+        return made
+
     def put(self, name, content):
         path = os.path.join(self.folder, name)
         os.makedirs(os.path.dirname(path), exist_ok=True)
         with open(path, "w", encoding="utf-8") as file:
             file.write(content)
 
-    def run(self, *words, programs=None):
-        """programs: a folder that comes first in the path."""
-        words = [sys.executable, TOOL, *(["--sby", self.sby] if self.sby else []), *words]
+    def program(self, name, content):
+        self.put(name, content)
+        os.chmod(os.path.join(self.folder, name), 0o755)
+        return os.path.join(self.folder, name)
+
+    def words(self, words, sby=None):
+        sby = sby or self.sby
+        return [sys.executable, TOOL, *(["--sby", sby] if sby else []), *words]
+
+    def run(self, *words, programs=None, sby=None, text=None):
+        """programs: a folder that comes first in the path; text: the standard input."""
         env = {**os.environ, "PATH": f"{self.folder}/{programs}:{os.environ['PATH']}"} if programs else None
-        run = subprocess.run(words, cwd=self.folder, env=env, stdin=subprocess.DEVNULL, capture_output=True, text=True)
+        run = subprocess.run(self.words(words, sby), cwd=self.folder, env=env, input=text or "", capture_output=True, text=True)
         return run.returncode, run.stdout + run.stderr
 
     def read(self, name):
@@ -59,159 +80,179 @@ class Bench:
     def status(self, folder):
         return self.read(f"{folder}/status").split()[0]
 
+    def replayed(self, folder, source):
+        """Replays each trace of a work folder, and returns their number."""
+        names = [it[:-5] for it in os.listdir(os.path.join(self.folder, folder, "engine_0")) if it.endswith("_tb.v")]
+        for name in names if shutil.which("iverilog") else ():
+            wrong = replay.differences(os.path.join(self.folder, folder), name, os.path.join(self.folder, source))
+            want(not wrong, f"{folder}/{name}: {wrong[:3]}")
+        return len(names)
+
 
 def want(is_so, why):
     if not is_so:
         raise AssertionError(why)
 
 
-def sby_file(options, script="read -formal top.v\nprep -top top", engines="smtbmc", files="top.v", tasks=""):
-    front = f"[tasks]\n{tasks}\n\n" if tasks else ""
-    return f"{front}[options]\n{options}\n\n[engines]\n{engines}\n\n[script]\n{script}\n\n[files]\n{files}\n"
-
-
-# Ordinary files: a name, the design, the file, the wanted status of each work folder, and the exit status.
-TABLE = [
-    ("bmc_pass", d.counter(9), sby_file("mode bmc\ndepth 9"), {"x": "PASS"}, 0),
-    ("bmc_fail", d.counter(9), sby_file("mode bmc\ndepth 12"), {"x": "FAIL"}, 2),
-    ("expected_fail", d.counter(9), sby_file("mode bmc\ndepth 12\nexpect fail"), {"x": "FAIL"}, 0),
-    ("prove_pass", d.counter(16), sby_file("mode prove\ndepth 2"), {"x": "PASS"}, 0),
-    ("prove_unknown", d.DEEP, sby_file("mode prove\ndepth 2\nexpect unknown"), {"x": "UNKNOWN"}, 0),
-    ("prove_fail", d.counter(3), sby_file("mode prove\ndepth 6"), {"x": "FAIL"}, 2),
-    ("cover_pass", d.counter(9), sby_file("mode cover\ndepth 6"), {"x": "PASS"}, 0),
-    ("cover_fail", d.counter(9), sby_file("mode cover\ndepth 2"), {"x": "FAIL"}, 2),
-    ("skip", d.counter(3), sby_file("mode bmc\ndepth 12\nskip 4"), {"x": "FAIL"}, 2),
-    ("memory", d.MEMORY.replace("BUG", ""), sby_file("mode bmc\ndepth 5"), {"x": "PASS"}, 0),
-    ("memory_bug", d.MEMORY.replace("BUG", "+ (last == 9)"), sby_file("mode bmc\ndepth 5"), {"x": "FAIL"}, 2),
-    ("hierarchy", d.HIERARCHY, sby_file("mode bmc\ndepth 6"), {"x": "FAIL"}, 2),
-    ("unflattened", d.HIERARCHY, sby_file("mode bmc\ndepth 3", "read_verilog -formal -sv top.v\nhierarchy -top top"), {"x": "PASS"}, 0),
-    ("async_reset", d.RESET, sby_file("mode prove\ndepth 2"), {"x": "PASS"}, 0),
-    ("two_clocks", d.CLOCKS, sby_file("mode bmc\ndepth 4\nmulticlock on"), {"x": "FAIL"}, 2),
-    ("tristate", d.TRISTATE, sby_file("mode prove\ndepth 2"), {"x": "PASS"}, 0),
-    ("blackbox", d.BLACKBOX, sby_file("mode bmc\ndepth 6"), {"x": "FAIL"}, 2),
-    ("free_values", d.FREE, sby_file("mode bmc\ndepth 8"), {"x": "FAIL"}, 2),
-    ("latch", d.LATCH, sby_file("mode bmc\ndepth 4"), {"x": "PASS"}, 0),
-    ("abc_bmc3", d.counter(9), sby_file("mode bmc\ndepth 9", engines="abc bmc3"), {"x": "PASS"}, 0),
-    ("abc_pdr", d.counter(16), sby_file("mode prove\ndepth 2", engines="abc pdr"), {"x": "PASS"}, 0),
-    ("aiger", d.counter(9), sby_file("mode bmc\ndepth 9", engines="aiger avy"), {"x": "PASS"}, 0),
-    ("several_engines", d.counter(9), sby_file("mode bmc\ndepth 9", engines="smtbmc --syn z3\nbtor btormc\nabc bmc3"), {"x": "PASS"}, 0),
-    ("engines_of_modes", d.counter(9), sby_file("mode cover\ndepth 6", engines="btor btormc\n\n[engines cover]\nsmtbmc"), {"x": "PASS"}, 0),
-    ("own_lines", d.counter(9), sby_file("mode bmc\ndepth 9", engines="sat --conflicts 100000"), {"x": "PASS"}, 0),
-    ("dropped_options", d.counter(9), sby_file("mode bmc\ndepth 9\nappend 3\ntbtop top\nvcd off\nsmtc x.smtc"), {"x": "PASS"}, 0),
-    ("parameters", d.PARAMETER,
-     sby_file("mode bmc\ndepth 8", "read -formal top.v\nwide: chparam -set LIMIT 4 top\nprep -top top", tasks="narrow\nwide"),
-     {"x_narrow": "FAIL", "x_wide": "PASS"}, 2),
-    ("tags_and_blocks", d.counter(9),
-     sby_file("bounded:\nmode bmc\nshort: depth 9\n~short: depth 12\n--\nseen: mode cover\nseen: depth 5", tasks="a bounded short\nb bounded\nseen"),
-     {"x_a": "PASS", "x_b": "FAIL", "x_seen": "PASS"}, 2),
-    ("patterns_and_default", d.counter(9),
-     sby_file("mode bmc\nshort: depth 9\nlong: depth 12", tasks="run_a short\nrun_b\nrun_c\nrun_a : default\nrun_[bc] : long"),
-     {"x_run_a": "PASS"}, 0),
-    ("python_blocks", d.counter(9),
-     "--pycode-begin--\noutput('[tasks]')\nfor n in (9, 12):\n    output(f'd{n}')\n--pycode-end--\n"
-     + sby_file("mode bmc\n--pycode-begin--\nif task: output('depth ' + task[1:])\n--pycode-end--"),
-     {"x_d9": "PASS", "x_d12": "FAIL"}, 2),
-]
-
-
 @test
 def ordinary_files(bench):
-    for name, design, text, statuses, code in TABLE:
-        inner = Bench(bench.sby, os.path.join(bench.folder, name))
-        inner.put("top.v", design)
-        inner.put("x.sby", text)
+    """Their statuses, exit statuses and marks; each FAIL of bmc and prove has a trace, which plays in a simulator."""
+    for name, design, text, statuses, code in files.TABLE:
+        inner = bench.inner(name, top_v=design, x_sby=text)
         got, said = inner.run("x.sby")
         want(got == code, f"{name}: exit status {got}, wanted {code}:\n{said}")
         for folder, status in statuses.items():
             want(inner.status(folder) == status, f"{name}: {folder} is {inner.status(folder)}, wanted {status}")
             want(inner.has(f"{folder}/{status}") and inner.has(f"{folder}/{folder}.xml"), f"{name}: marks are missing")
+            count = inner.replayed(folder, "top.v")
+            want(count == 1 or status != "FAIL" or "mode cover" in text, f"{name}: {count} traces")
 
 
 @test
-def traces_play_in_a_simulator(bench):
-    if not shutil.which("iverilog"):
-        return
-    for name, design, text, statuses, _ in TABLE:
-        if name not in ("bmc_fail", "cover_pass", "memory_bug", "hierarchy", "prove_fail", "skip", "free_values", "two_clocks"):
-            continue
-        inner = Bench(bench.sby, os.path.join(bench.folder, name))
-        inner.put("top.v", design)
-        inner.put("x.sby", text)
-        inner.run("x.sby")
-        number = "0" if name == "cover_pass" else ""
-        wrong = replay.differences(os.path.join(inner.folder, "x"), f"trace{number}", os.path.join(inner.folder, "top.v"))
-        want(not wrong, f"{name}: {wrong[:3]}")
+def each_engine_in_each_mode(bench):
+    options = "bmc: mode bmc\nprove: mode prove\ncover: mode cover\ndepth 5"
+    for number, (engine, said_of_it) in enumerate(files.ENGINES.items()):
+        inner = bench.inner(f"e{number}", top_v=d.counter(16), x_sby=sby_file(options, engines=engine, tasks="bmc\nprove\ncover"))
+        got, said = inner.run("x.sby")
+        want(f"[x_bmc] engine {engine} {said_of_it}" in said, f"{engine}: {said}")
+        refused = engine.startswith("btor")
+        want(got == (16 if refused else 0) and ("no engine of the task is served" in said) == refused, f"{engine}: {got}\n{said}")
+        for mode in ("bmc", "cover") if refused else ("bmc", "prove", "cover"):
+            want(inner.status(f"x_{mode}") == "PASS", f"{engine}, {mode}: {inner.status(f'x_{mode}')}")
 
 
 @test
 def lines_name_the_source(bench):
     bench.put("top.v", d.counter(9))
-    bench.put("x.sby", sby_file("mode bmc\ndepth 12"))
+    bench.put("x.sby", sby_file("mode bmc\ndepth 12\nstride 1"))
     _, said = bench.run("x.sby")
-    want(re.search(r"top\.v:7: assertion broken at cycle \d+ \(small\)", said), said)
+    want("top.v:7: assertion broken at cycle 9 (small)" in said, said)
+    want(bench.read("x/FAIL").startswith("top.v:7: assertion broken at cycle 9 (small)"), bench.read("x/FAIL"))
+    for line in ("engine_0: starting process ", "bytes in all", "base9: SAT", "trace: x/engine_0/trace.vcd", "trace: x/engine_0/trace_tb.v"):
+        want(line in said, f"{line}: {said}")
     bench.put("y.sby", sby_file("mode cover\ndepth 2"))
     _, said = bench.run("y.sby")
     want("top.v:8: cover statement not reached in 2 cycles" in said, said)
+    bench.put("z.sby", sby_file("mode cover\ndepth 4"))
+    _, said = bench.run("z.sby")
+    want("top.v:8: cover statement reached at cycle 3 (three)" in said, said)
 
 
 @test
-def refused_cells_are_named(bench):
-    bench.put("top.v", d.POWER)
-    bench.put("x.sby", sby_file("mode bmc\ndepth 3"))
-    code, said = bench.run("x.sby")
-    want(code == 16 and "$pow at top.v:4 isn't served (UnknownCell): no pass takes powers away" in said, said)
+def traces_have_scopes_and_a_clock(bench):
+    bench.put("top.v", d.HIERARCHY)
+    bench.put("x.sby", sby_file("mode bmc\ndepth 6"))
+    bench.run("x.sby")
+    trace = bench.read("x/engine_0/trace.vcd")
+    scopes = re.findall(r"\$scope module (\w+) \$end", trace)
+    want(scopes == ["top", "left", "right"], scopes)
+    code = re.search(r"\$var wire 1 (\S+) clk \$end", trace).group(1)
+    edges = re.findall(rf"^([01]){re.escape(code)}$", trace, re.M)
+    want(len(edges) >= 4 and edges == ["1", "0"] * (len(edges) // 2), f"clk: {edges}")
+
+
+@test
+def reports_for_ci(bench):
+    bench.put("top.v", d.counter(9))
+    bench.put("x.sby", sby_file("mode bmc\ndepth 12\nshort: depth 9\nhoped: expect fail", tasks="short\nlong\nhoped"))
+    bench.run("x.sby")
+    for task, status, code in (("short", "PASS", 0), ("long", "FAIL", 2), ("hoped", "FAIL", 0)):
+        suite = ElementTree.parse(os.path.join(bench.folder, f"x_{task}/x_{task}.xml")).getroot().find("testsuite")
+        want([suite.get(it) for it in ("package", "name", "tests", "errors")] == ["x", task, "1", "0"], suite.attrib)
+        want(suite.get("failures") == ("1" if code else "0"), suite.attrib)
+        case = suite.find("testcase")
+        want((case.get("classname"), case.get("name")) == ("x", task), case.attrib)
+        failure = case.find("failure")
+        want((failure is not None) == (code != 0), f"{task}: failure")
+        want(code == 0 or "top.v:7: assertion broken" in failure.get("message"), task)
+        values = {it.get("name"): it.get("value") for it in suite.iter("property")}
+        want((values["status"], values["expect"]) == (status, "FAIL" if task == "hoped" else "PASS"), values)
+        want(re.fullmatch(rf"{status} {code} \d+\n", bench.read(f"x_{task}/status")), bench.read(f"x_{task}/status"))
+    bench.put("y.sby", sby_file("mode bmc", files="missing.v"))
+    bench.run("y.sby")
+    suite = ElementTree.parse(os.path.join(bench.folder, "y/y.xml")).getroot().find("testsuite")
+    want(suite.get("errors") == "1" and "there is no file missing.v" in suite.find("testcase/error").get("message"), suite.attrib)
 
 
 @test
 def warnings(bench):
     bench.put("top.v", d.PLAIN)
-    bench.put("x.sby", sby_file("mode bmc\ndepth 3"))
-    code, said = bench.run("x.sby")
-    want(code == 0 and "WARNING: the design has no assertion" in said, said)
-    bench.put("top.v", d.CONTRADICTION)
-    bench.put("y.sby", sby_file("mode bmc\ndepth 10"))
-    code, said = bench.run("y.sby")
-    want(code == 0 and "WARNING: no run of 10 cycles meets the assumptions" in said, said)
+    for mode, wanted in (("bmc", "WARNING: the design has no assertion"), ("cover", "WARNING: the design has no cover statement")):
+        bench.put("x.sby", sby_file(f"mode {mode}\ndepth 3"))
+        code, said = bench.run("-f", "x.sby")
+        want(code == 0 and wanted in said, said)
+    for options in ("mode bmc\ndepth 10", "mode prove\ndepth 5"):
+        bench.put("top.v", d.CONTRADICTION)
+        bench.put("y.sby", sby_file(options))
+        code, said = bench.run("-f", "y.sby")
+        depth = options.split()[-1]
+        want(code == 0 and f"WARNING: no run of {depth} cycles meets the assumptions" in said, said)
+    bench.put("top.v", d.MEETABLE)
+    code, said = bench.run("-f", "y.sby")
+    want(code == 0 and "asking for a run of 5 cycles" in said and "WARNING" not in said, said)
 
 
-# What is refused: lines of options, engines, sections, and a part of what is said.
-REFUSED = [
-    (sby_file("mode live\ndepth 3"), "mode live isn't served"),
-    (sby_file("depth 3"), "the task has no mode"),
-    (sby_file("mode bmc\nfancy 1"), "option fancy isn't served"),
-    (sby_file("mode bmc\ndepth many"), "option depth isn't a number"),
-    (sby_file("mode bmc\nexpect good"), "option expect names no status: good"),
-    (sby_file("mode bmc", engines="magic"), "engine magic isn't known"),
-    (sby_file("mode bmc", engines="btor btormc"), "no engine of the task is served"),
-    (sby_file("mode bmc", files="missing.v"), "there is no file missing.v"),
-    (sby_file("mode bmc", "read -formal top.v\nprep -top nothing"), "yosys: ERROR"),
-    (sby_file("mode bmc") + "[autotune]\n", "[autotune] isn't served"),
-    ("--pycode-begin--\noutput(1 / 0)\n--pycode-end--\n" + sby_file("mode bmc"), "a Python block fails: division by zero"),
-    ("--pycode-begin--\n", "a Python block isn't ended"),
-]
+@test
+def refused_designs_are_explained(bench):
+    for number, (design, options, wanted) in enumerate(files.REFUSED_DESIGNS):
+        inner = bench.inner(f"r{number}", top_v=design, x_sby=sby_file(options))
+        code, said = inner.run("x.sby")
+        want(code == 16 and wanted in said and inner.status("x") == "ERROR", f"{wanted}: {code} {said}")
+    inner = bench.inner("unknown", top_v=d.NO_MODULE_OF, x_sby=sby_file("mode bmc"))
+    code, said = inner.run("x.sby")
+    want(code == 16 and "Module `\\secret' referenced in module `\\top' in cell `\\it' is not part of the design" in said, said)
 
 
 @test
 def what_is_refused(bench):
     bench.put("top.v", d.counter(9))
-    for number, (text, wanted) in enumerate(REFUSED):
+    for number, (text, wanted) in enumerate(files.REFUSED):
         bench.put(f"r{number}.sby", text)
         code, said = bench.run(f"r{number}.sby")
         want(code == 16 and wanted in said, f"{wanted}: {code} {said}")
+    bench.put("x.sby", sby_file("mode bmc\ndepth 3"))
+    bench.put("latin.sby", "")
+    with open(os.path.join(bench.folder, "latin.sby"), "wb") as file:
+        file.write(b"# \xe9\n")
+    bench.put("own/x.sby", sby_file("mode bmc"))
+    for words, wanted in ((["none.sby"], "none.sby: No such file"), (["latin.sby"], "latin.sby: not UTF-8"), (["top.v"], "ends in .sby"),
+                          (["--sby", "none", "x.sby"], "there is no program none: build it by ./build, or name it by --sby"),
+                          (["--yosys", "none", "x.sby"], "none: No such file"), (["-d", "a b", "x.sby"], "has no white space"),
+                          (["-f", "-d", "own", "own/x.sby"], "own has the task file in it"), (["-j", "0", "x.sby"], "0 isn't a number")):
+        code, said = bench.run(*words)
+        want(code == (2 if words[0] == "-j" else 16) and wanted in said, f"{wanted}: {code} {said}")
+    want(bench.has("own/x.sby"), "a task file is removed")
+    sby = bench.program("bin/broken", "#!/bin/sh\nexit 3\n")
+    code, said = bench.run("-f", "x.sby", sby=sby)
+    want(code == 16 and "sby ended with 3 and no status" in said, said)
 
 
 @test
 def what_is_changed_is_said(bench):
     bench.put("top.v", d.counter(9))
-    bench.put("x.sby", sby_file("mode bmc\ndepth 9\nappend 3\nvcd off\ntbtop t", engines="smtbmc z3\nbtor btormc\nabc bmc3"))
+    bench.put("x.sby", sby_file("mode bmc\ndepth 9\nappend 3\nvcd off\ntbtop t", engines="smtbmc z3\nbtor none\nabc bmc3\nitp"))
     _, said = bench.run("x.sby")
-    for line in ("option append 3 is left out", "option tbtop t is left out", "engine smtbmc z3 becomes sat",
-                 "engine btor btormc is left out", "engine abc bmc3 becomes sat"):
+    for line in ("option append 3 is left out: runs end in the cycle that they are about",
+                 "option vcd off is left out: a trace is written wherever there is a run",
+                 "option tbtop t is left out: the testbench names the design's top", "engine smtbmc z3 becomes sat, whose proofs sby checks",
+                 "engine btor none becomes sat: its program isn't in the path", "engine abc bmc3 becomes sat", "engine itp is left out"):
         want(line in said, f"{line}: {said}")
+    want(bench.read("x/config.sby").split("[engines]\n")[1].startswith("sat\n\n"), bench.read("x/config.sby"))
+    bench.put("p.sby", sby_file("mode prove\ndepth 9\nskip 3\nvcd on\nappend 0", engines="abc pdr"))
+    _, said = bench.run("p.sby")
+    for line in ("engine abc pdr becomes sat, by induction at the task's depth", "option skip is left out: it has no meaning in mode prove"):
+        want(line in said, f"{line}: {said}")
+    want("option vcd" not in said and "option append" not in said, said)
     bench.put("top.v", d.CLOCKS)
-    bench.put("y.sby", sby_file("mode bmc\ndepth 4\nmulticlock on"))
+    bench.put("y.sby", sby_file("mode bmc\ndepth 4\nskip 1\nmulticlock on"))
     _, said = bench.run("y.sby")
-    want("depth is 8: with several clocks each cycle is half a clock" in said, said)
+    want("depth is 8: with several clocks each cycle is half a clock" in said and "skip is 2: it is doubled as depth is" in said, said)
+    for design, line in ((d.BLACKBOX, "black box it: what it drives has any value"), (d.LIVE, "is left out: sby proves safety alone"),
+                         (d.INOUT.replace("CLAIM", "1"), "port bus of both directions is an inner wire: free where nothing drives it")):
+        bench.put("top.v", design)
+        bench.put("z.sby", sby_file("mode bmc\ndepth 2"))
+        _, said = bench.run("-f", "z.sby")
+        want(line in said, f"{line}: {said}")
 
 
 @test
@@ -219,8 +260,7 @@ def programs_that_read_words(bench):
     """They get the bound that SymbiYosys gives them, and sat decides where they show no run."""
     bench.put("top.v", d.counter(9))
     for name, wanted in (("btormc", "-kmax 8 --trace-gen-full"), ("pono", "--witness -k 8 -e bmc --trace-gen-full"), ("own", "--trace-gen-full")):
-        bench.put(f"bin/{name}", f'#!/bin/sh\necho "$@" > {bench.folder}/{name}.words\n')
-        os.chmod(os.path.join(bench.folder, "bin", name), 0o755)
+        bench.program(f"bin/{name}", f'#!/bin/sh\necho "$@" > {bench.folder}/{name}.words\n')
         engines = f"btor {name} --trace-gen-full" + ("\nsat" if name == "own" else "")
         bench.put(f"{name}.sby", sby_file("mode bmc\ndepth 9\nwait on", engines=engines))
         code, said = bench.run(f"{name}.sby", programs="bin")
@@ -238,35 +278,141 @@ def folders(bench):
     bench.put("x.sby", sby_file("mode bmc\ndepth 12", tasks="a\nb"))
     bench.run("x.sby", "a")
     code, said = bench.run("x.sby", "a")
-    want(code == 16 and "x_a is there already" in said, said)
+    want(code == 16 and "x_a is there already: -f removes it, --keep writes into it" in said, said)
     bench.put("x_a/old", "")
     code, _ = bench.run("--keep", "x.sby", "a")
     want(code == 2 and bench.has("x_a/old"), "--keep removes")
     code, _ = bench.run("-f", "x.sby", "a")
     want(code == 2 and not bench.has("x_a/old"), "-f leaves")
-    code, _ = bench.run("-d", "elsewhere", "x.sby", "b")
-    want(code == 2 and bench.status("elsewhere") == "FAIL", "-d")
+    code, _ = bench.run("-d", "elsewhere/", "x.sby", "b")
+    want(code == 2 and bench.status("elsewhere") == "FAIL" and bench.has("elsewhere/elsewhere.xml"), "-d")
     code, said = bench.run("-d", "elsewhere", "x.sby")
     want(code == 16 and "-d names one work folder" in said, said)
-    code, said = bench.run("x.sby", "c")
-    want(code == 16 and "there is no task c" in said, said)
-    code, said = bench.run("--dumptasks", "x.sby")
-    want((code, said) == (0, "a\nb\n"), said)
-    code, said = bench.run("-f", "-j", "2", "x.sby")
-    want(code == 2 and said.count("] DONE (FAIL, rc=2)") == 2, said)
-    code, said = bench.run("-f", "-q", "x.sby", "a")
-    want(code == 2 and len(said.splitlines()) == 1, said)
+    code, _ = bench.run("-", text=sby_file("mode bmc\ndepth 9"))
+    want(code == 0 and bench.status("stdin") == "PASS", "standard input")
+
+
+@test
+def kept_folders_tell_of_the_last_run(bench):
+    bench.put("top.v", d.counter(9))
+    bench.put("x.sby", sby_file("mode bmc\ndepth 12"))
+    bench.run("x.sby")
+    want(bench.has("x/FAIL") and bench.has("x/trace.vcd") and bench.has("x/engine_0/trace_tb.v"), "no trace")
+    bench.put("x.sby", sby_file("mode bmc\ndepth 9"))
+    code, said = bench.run("--keep", "x.sby")
+    want(code == 0 and bench.status("x") == "PASS" and bench.has("x/PASS") and "trace:" not in said, said)
+    for name in ("FAIL", "trace.vcd", "engine_0/trace.vcd", "engine_0/trace_tb.v"):
+        want(not bench.has(f"x/{name}"), f"x/{name} of the earlier run is there")
+
+
+@test
+def words(bench):
+    bench.put("top.v", d.counter(9))
+    bench.put("x.sby", sby_file("mode bmc\ndepth 12", tasks="a\nb default\nc"))
+    for words, wanted in ((["--dumptasks"], "a\nb\nc\n"), (["--dumpdefaults"], "b\n")):
+        code, said = bench.run(*words, "x.sby")
+        want((code, said) == (0, wanted), said)
+    code, said = bench.run("--dumpcfg", "x.sby", "a")
+    want(code == 0 and said.startswith("[options]\nmode bmc\ndepth 12\n"), said)
+    code, said = bench.run("x.sby", "none")
+    want(code == 16 and "there is no task none" in said, said)
+    code, said = bench.run("-q", "x.sby")
+    want(code == 2 and len(said.splitlines()) == 1 and said.rstrip().endswith("[x_b] DONE (FAIL, rc=2)"), said)
     code, said = bench.run("--version")
     want(code == 0 and said.startswith("sby-yosys "), said)
+    code, said = bench.run("--help")
+    want(code == 0 and all(f" {it}" in said for it in ("-d", "-f", "--keep", "-j", "--dumptasks", "--version")), said)
+
+
+STAND_IN = """#!/bin/sh
+echo "$@" >> {folder}/sby.words
+folder=$(echo "$@" | sed 's/.*-d \\([^ ]*\\).*/\\1/')
+echo $$ > $folder/pid
+{then}
+echo "SBY [$folder] DONE (PASS, rc=0)"
+"""
+
+
+@test
+def at_the_same_time(bench):
+    """-j N is shared out: at most N tasks, and N engines over all of them."""
+    bench.put("top.v", d.counter(9))
+    bench.put("x.sby", sby_file("mode bmc\ndepth 12", tasks="a\nb\nc"))
+    stand_in = bench.program("bin/sby", STAND_IN.format(folder=bench.folder, then=""))
+    for words, wanted in ((["x.sby"], ""), (["-j", "1", "x.sby"], "-j 1 "), (["-j", "7", "x.sby"], "-j 2 "), (["-j", "5", "x.sby", "a"], "-j 5 ")):
+        code, said = bench.run("-f", *words, sby=stand_in)
+        started = bench.read("sby.words").splitlines()
+        want(code == 0 and len(started) == (1 if "a" in words else 3), said)
+        want(all(it.startswith(f"{wanted}-d x_") for it in started), started)
+        os.remove(os.path.join(bench.folder, "sby.words"))
+    code, said = bench.run("-f", "-j", "2", "x.sby")
+    want(code == 2 and said.count("] DONE (FAIL, rc=2)") == 3, said)
+
+
+def is_there(pid):
+    try:
+        os.kill(int(pid), 0)
+    except ProcessLookupError:
+        return False
+    return True
+
+
+@test
+def a_kill_ends_what_runs(bench):
+    bench.put("top.v", d.counter(9))
+    bench.put("x.sby", sby_file("mode bmc\ndepth 12", tasks="a\nb\nc"))
+    stand_in = bench.program("bin/sby", STAND_IN.format(folder=bench.folder, then="exec sleep 1000"))
+    for words, folders in ((["x.sby"], ["x_a"]), (["-j", "2", "x.sby"], ["x_a", "x_b"])):
+        tool = subprocess.Popen(bench.words(["-f", *words], stand_in), cwd=bench.folder, stdout=subprocess.DEVNULL, stderr=subprocess.DEVNULL)
+        until = time.time() + 100
+        while time.time() < until and not all(bench.has(f"{it}/pid") and bench.read(f"{it}/pid") for it in folders):
+            time.sleep(0.1)
+        pids = [bench.read(f"{it}/pid") for it in folders]
+        tool.send_signal(signal.SIGTERM)
+        want(tool.wait(100) == 143, f"exit status {tool.returncode}")
+        want(not any(is_there(it) for it in pids), f"{words}: a process is left")
+        want(not bench.has("x_c"), f"{words}: a task starts after the kill")
 
 
 @test
 def files_of_the_task_file(bench):
     bench.put("rtl/half.v", d.counter(9))
-    text = sby_file("mode bmc\ndepth 9", "read -formal top.v use.vh\nprep -top top", files="top.v rtl/half.v\n\n[file use.vh]\n// nothing")
+    bench.put("parts/one/words.vh", "// nothing\n")
+    text = sby_file("mode bmc\ndepth 9", "read -formal top.v use.vh more/one/words.vh\nprep -top top",
+                    files="top.v rtl/half.v\nmore parts\n\n[file use.vh]\n// nothing")
     bench.put("x.sby", text)
     code, said = bench.run("x.sby")
-    want(code == 0 and bench.read("x/src/use.vh").startswith("// nothing"), said)
+    want(code == 0 and bench.read("x/src/use.vh").startswith("// nothing") and bench.has("x/src/more/one/words.vh"), said)
+
+
+@test
+def front_page(bench):
+    """The five minutes of README.md: its files, its command, and the lines that it shows."""
+    with open(os.path.join(ROOT, "README.md"), encoding="utf-8") as file:
+        part = file.read().split("## Five minutes")[1].split("\n## ")[0]
+    design, task_file, lines = [re.sub("^    ", "", it, flags=re.M) for it in re.findall(r"(?:^(?:    .*)?\n)*^    .*\n", part, re.M)]
+    bench.put("top.v", design.strip("\n") + "\n")
+    bench.put("top.sby", task_file.strip("\n") + "\n")
+    code, said = bench.run("top.sby")
+    said = [re.sub(r"SBY \S+ ", "SBY ", it) for it in said.splitlines()]
+    for line in lines.strip("\n").splitlines():
+        want(re.sub(r"SBY \S+ ", "SBY ", line) in said, f"{line}: {said}")
+    want(code == 2, code)
+
+
+@test
+def examples(bench):
+    """Each task has the status that its file expects, and the traces play in a simulator."""
+    inner = bench.inner("examples")
+    os.makedirs(inner.folder)
+    for name in os.listdir(os.path.join(ROOT, "examples")):
+        if os.path.isfile(os.path.join(ROOT, "examples", name)):
+            shutil.copy(os.path.join(ROOT, "examples", name), inner.folder)
+    for name in sorted(it for it in os.listdir(inner.folder) if it.endswith(".sby") and it != "counter.sby"):
+        code, said = inner.run("-j", "2", name)
+        want(code == 0, f"{name}: {code}\n{said}")
+        for folder in sorted(it for it in os.listdir(inner.folder) if it.startswith(name[:-4] + "_")):
+            inner.replayed(folder, name[:-4] + ".v")
 
 
 def main():
