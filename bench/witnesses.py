@@ -4,8 +4,8 @@
 
 For each design `sby --judge` puts base.btor (cover0.btor ..) beside base.cnf. z3 searches the first, cycle by cycle
 (examples/engines/btor_smt.py), the engine the second. Both must find a run or none, sby must accept each witness, and refuse one of
-several frames without its last, since its run is a shortest one. Designs: a cell of each type at random widths, several cells, and examples/*.il.
-Exit status 1 where one of these fails, or a design is refused.
+several frames without its last, since its run is a shortest one. Designs: a cell of each type at random widths, several cells, examples/*.il,
+and those of whole.py, made by Yosys, at random depths. Exit status 1 where one of these fails, or a design is refused.
 """
 import argparse
 import glob
@@ -20,12 +20,14 @@ from collections import Counter
 
 from cells import KINDS, design
 from measure import program
+from sources import SOURCES
 
 HERE = os.path.dirname(os.path.abspath(__file__))
 sys.path.insert(0, os.path.join(HERE, "..", "examples", "engines"))
 from btor_smt import Fault, answer_of
 
 NONE = "unknown\n"  # a stream that claims nothing
+FLOW = "read_verilog -formal -sv x.v; prep -flatten -top t; async2sync; memory_map; opt_clean; write_rtlil x.il"
 
 
 class Wrong(Exception):
@@ -94,7 +96,7 @@ def check(sby, engine, folder, mode, depth, goals, seconds, seen):
         return
     out = judged(sby, folder, mode, depth, [cut.get(i, NONE) for i in range(len(jobs))], seconds)
     for i in cut:
-        if f"] {jobs[i]}: certificate NotPlaying frame" not in out:
+        if f" {jobs[i]}: certificate NotPlaying frame" not in out:
             raise Wrong(f"{jobs[i]}: without the witness's last frame: {out.strip()[-300:]}")
     seen["refused"] += len(cut)
 
@@ -121,6 +123,19 @@ def examples():
             yield "examples", f"{os.path.basename(path)} {mode} {depth}", mode, depth, covers, copy
 
 
+def benchmark(seed):
+    for name, (verilog, tasks) in SOURCES.items():
+        def write(to, verilog=verilog):
+            with open(os.path.join(os.path.dirname(to), "x.v"), "w") as file:
+                file.write(verilog)
+            subprocess.run(["yosys", "-q", "-p", FLOW], cwd=os.path.dirname(to), check=True, stdin=subprocess.DEVNULL)
+
+        dice = random.Random(f"{seed} {name}")
+        for mode in sorted({mode for mode, _ in tasks} - {"prove"}):
+            depth = dice.randint(1, 8)
+            yield "benchmark", f"{name} {mode} {depth}", mode, depth, len(re.findall(r"\bcover *\(", verilog)), write
+
+
 def main():
     words = argparse.ArgumentParser(description=__doc__, formatter_class=argparse.RawDescriptionHelpFormatter)
     words.add_argument("--sby", required=True, help="path of the program sby")
@@ -133,16 +148,17 @@ def main():
     words = words.parse_args()
     sby, engine, table, wrong = program(words.sby), program(words.engine), {}, []
     kinds = [kind for kind in (*KINDS, "several") if words.only in kind]
-    for kind, name, mode, depth, goals, write in [*random_designs(kinds, words.count, words.seed), *(examples() if words.only in "examples" else ())]:
+    others = [*examples(), *benchmark(words.seed)]
+    for kind, name, mode, depth, goals, write in [*random_designs(kinds, words.count, words.seed), *(it for it in others if words.only in it[0])]:
         seen = table.setdefault(kind, Counter())
         with tempfile.TemporaryDirectory() as folder:
-            write(os.path.join(folder, "x.il"))
             seen["designs"] += 1
             try:
+                write(os.path.join(folder, "x.il"))
                 check(sby, engine, folder, mode, depth, goals, words.seconds, seen)
             except subprocess.TimeoutExpired:
                 seen["over"] += 1
-            except (Wrong, Fault, OSError) as fault:
+            except (Wrong, Fault, OSError, subprocess.CalledProcessError) as fault:
                 seen["WRONG"] += 1
                 wrong.append(name)
                 print(f"WRONG: {name}, {mode} {depth}: {fault}", flush=True)

@@ -1,13 +1,13 @@
 -- Cycles that are the same at state bits and at the inputs that are read: they say the same.
-use Rattle.std.proofs.Common.{◌≡◌, ◌⊎◌, ℕ, zero, suc, ◌<◌, ◌≤◌, Bool, true, false, cond, List, [], ◌∷◌, ◌++◌, Some, None, length, get_or, refl, sym, ap, subst, ◌∙◌, inl, inr, arith}
+use Rattle.std.proofs.Common.{◌≡◌, ◌⊎◌, ℕ, zero, suc, ◌<◌, ◌≤◌, Bool, false, cond, List, [], ◌∷◌, ◌++◌, Some, None, length, get_or, refl, sym, ap, subst, ◌∙◌, inl, inr, arith}
 use Rattle.std.specs.Prelude.{Contains, slice_get}
-use Rattle.std.specs.List.{filter, flat_map}
+use Rattle.std.specs.List.{flat_map}
 use Rattle.std.proofs.lemmas.List.Elements.{All-contains}
 use Rattle.std.proofs.lemmas.Option.{slice_get_within}
 use Rattle.sby_bits.specs.Rows.{Row}
 use Rattle.cell_table.specs.Cells.{same_bit}
 use Rattle.btor_emit.specs.Goals.{IsGoal}
-use Rattle.btor_emit.specs.Reads.{AreReadInputs, IsRead, IsUsed, register_reads}
+use Rattle.btor_emit.specs.Reads.{IsRead, IsUsed, register_reads}
 use Rattle.btor_emit.specs.declared.goal.Goal.{Goal}
 use Rattle.btor_emit.specs.declared.goal.Goal.TheVariants as goal
 use Rattle.btor_emit.proofs.Gathering.{bit_of_row}
@@ -44,34 +44,6 @@ abbrev next_of : RegisterOf → Row → Row → Row → Bool → Bool → Row
 next_of r q d v a b =
     cond r.reset_first (cond (same_bit b r.reset.level) v (cond (same_bit a r.enable.level) d q)) (cond (same_bit a r.enable.level) (cond (same_bit b r.reset.level) v d) q)
 
--- what is kept of a list
-kept_more : (keep : ℕ → Bool) (x : ℕ) (xs : List ℕ) (p : ℕ) (b : Bool) → keep x ≡ b → Contains (filter keep xs) p → Contains (filter keep (x ∷ xs)) p
-kept_more keep x xs p true e rest = rw e (let at = place_of_contained (filter keep xs) p rest in contained_at (x ∷ filter keep xs) p (suc at.0) at.1)
-kept_more keep x xs p false e rest = rw e rest
-
-kept_there : (keep : ℕ → Bool) (xs : List ℕ) (k p : ℕ) → slice_get xs k ≡ Some p → keep p ≡ true → Contains (filter keep xs) p
-kept_there keep [] k p h t = absurd (let c : None ≡ Some p = h in cc)
-kept_there keep (x ∷ xs) zero p h t =
-    let e : x ≡ p = cc in
-    let u : keep x ≡ true = ap keep e ∙ t in
-    rw u (contained_at (x ∷ filter keep xs) p 0 h)
-kept_there keep (x ∷ xs) (suc k) p h t = kept_more keep x xs p (keep x) refl (kept_there keep xs k p h t)
-
-contains_later : (x : ℕ) (ys : List ℕ) (p : ℕ) → Contains ys p → Contains (x ∷ ys) p
-contains_later x ys p d = let at = place_of_contained ys p d in contained_at (x ∷ ys) p (suc at.0) at.1
-
-kept_split : (keep : ℕ → Bool) (y : ℕ) (ys : List ℕ) (p k : ℕ) (b : Bool) → keep y ≡ b → slice_get (filter keep (y ∷ ys)) k ≡ Some p → ((j : ℕ) → slice_get (filter keep ys) j ≡ Some p → Contains ys p) → Contains (y ∷ ys) p
-kept_split keep y ys p zero true e h rest = contained_at (y ∷ ys) p 0 (let z : slice_get (y ∷ filter keep ys) 0 ≡ Some p = rw e at h in z)
-kept_split keep y ys p (suc k) true e h rest = contains_later y ys p (rest k (let z : slice_get (y ∷ filter keep ys) (suc k) ≡ Some p = rw e at h in z))
-kept_split keep y ys p k false e h rest = contains_later y ys p (rest k (let z : slice_get (filter keep ys) k ≡ Some p = rw e at h in z))
-
-kept_at : (keep : ℕ → Bool) (ys : List ℕ) (p k : ℕ) → slice_get (filter keep ys) k ≡ Some p → Contains ys p
-kept_at keep [] p k h = absurd (let n : None ≡ Some p = h in cc)
-kept_at keep (y ∷ ys) p k h = kept_split keep y ys p k (keep y) refl h (λ j g. kept_at keep ys p j g)
-
-pub kept_from : (keep : ℕ → Bool) (xs : List ℕ) (p : ℕ) → Contains (filter keep xs) p → Contains xs p
-kept_from keep xs p c = let at = place_of_contained (filter keep xs) p c in kept_at keep xs p at.0 at.1
-
 pub of_register : (rs : List RegisterOf) (k : ℕ) (r : RegisterOf) (p : ℕ) → slice_get rs k ≡ Some r → Contains r.q p → Contains (flat_map (λ r. r.q) rs) p
 of_register [] k r p at i = absurd (let c : None ≡ Some r = at in cc)
 of_register (x ∷ rs) zero r p at i =
@@ -79,12 +51,7 @@ of_register (x ∷ rs) zero r p at i =
     contains_left x.q (flat_map (λ (y : RegisterOf). y.q) rs) p (subst (λ (y : RegisterOf). Contains y.q p) e i)
 of_register (x ∷ rs) (suc k) r p at i = contains_right x.q (flat_map (λ (y : RegisterOf). y.q) rs) p (of_register rs k r p at i)
 
-module _ (m : ModelOf) (is : IsModel m) (inputs : List ℕ) (read : AreReadInputs m inputs) where
-  read_input : (p : ℕ) → Contains m.inputs p → IsRead m p → Contains inputs p
-  read_input p c r =
-      let at = place_of_contained m.inputs p c in
-      subst (λ (ps : List ℕ). Contains ps p) (sym read.1) (kept_there read.0 m.inputs at.0 p at.1 ((read.2 p c).1 r))
-
+module _ (m : ModelOf) (is : IsModel m) (inputs : List ℕ) (read_input : (p : ℕ) → Contains m.inputs p → IsRead m p → Contains inputs p) where
   used_read : (p : ℕ) → IsUsed m p → IsRead m p
   used_read p u = (0, p, refl, u)
 

@@ -1,7 +1,7 @@
 -- The parts of an emission, put together.
-use Rattle.std.proofs.Common.{◌≡◌, ℕ, zero, suc, ◌+◌, ◌-◌, ◌<◌, ◌≤◌, Bool, true, false, List, [], ◌∷◌, ◌++◌, Some, None, length, map, take, refl, sym, ap, subst, ◌∙◌, arith, length-append}
+use Rattle.std.proofs.Common.{◌≡◌, ℕ, zero, suc, ◌+◌, ◌-◌, ◌<◌, Bool, true, false, List, [], ◌∷◌, ◌++◌, Some, None, length, map, take, refl, sym, ap, subst, ◌∙◌, arith, length-append}
 use Rattle.std.specs.Prelude.{◌&&◌, not, eqb, All, Contains, slice_get, sum_by}
-use Rattle.std.specs.List.{filter, flat_map}
+use Rattle.std.specs.List.{concat, flat_map}
 use Rattle.std.proofs.Math.Seq.{take-length}
 use Rattle.std.proofs.lemmas.Bool.Decides.{nat_tests}
 use Rattle.std.proofs.lemmas.Grind.{flat_map-append}
@@ -25,20 +25,24 @@ use Rattle.btor_emit.specs.Emitting.{AreInputs, AreStates, IsStart, IsStateWord}
 use Rattle.btor_emit.specs.Goals.{IsGoal, goals}
 use Rattle.btor_emit.specs.Nexts.{AreNexts, AreStateLines}
 use Rattle.btor_emit.specs.Nodes.{AreNodes}
-use Rattle.btor_emit.specs.Reads.{AreReadInputs}
+use Rattle.btor_emit.specs.Reads.{AreReadInputs, IsRead}
 use Rattle.btor_emit.specs.Said.{AreSaid, goal_bit, is_held}
 use Rattle.btor_emit.specs.States.{AreStretches, IsInputLine, IsShape, IsStateLine, IsStretchOf, bits_of, places_of, start_of}
 use Rattle.btor_emit.specs.Table.{Table, bit_in, cycle_of}
 use Rattle.btor_emit.specs.declared.goal.Goal.{Goal}
 use Rattle.btor_emit.specs.declared.goal.Goal.TheVariants as goal
 use Rattle.btor_emit.specs.declared.shape.State.{State}
-use Rattle.btor_emit.proofs.Agreeing.{assumed_goes, follows_go, goal_goes, kept_from, starts_go}
-use Rattle.btor_emit.proofs.Bits.{input_row, known_start, ones_wide, part_comes, part_there, start_bit, start_row, state_of_bit}
+use Rattle.btor_emit.proofs.Agreeing.{assumed_goes, follows_go, goal_goes, starts_go}
+use Rattle.btor_emit.proofs.Bits.{input_row, known_start, part_comes, part_there, same_widths, start_bit, start_row, state_of_bit, whole_width}
 use Rattle.btor_emit.proofs.Covering.{cover_all, same_parts_same}
+use Rattle.btor_emit.proofs.Gathering.{row_by_bits}
+use Rattle.btor_emit.proofs.Kept.{joined_there}
 use Rattle.btor_emit.proofs.Leaves.{state_width_stays}
 use Rattle.btor_emit.proofs.Moving.{slice_row}
 use Rattle.btor_emit.proofs.Opening.{Rising, rising}
+use Rattle.btor_emit.proofs.Rowing.{read_few, read_input, read_rows_of}
 use Rattle.btor_emit.proofs.Running.{runs_from, runs_to}
+use Rattle.place_rows.specs.Rows.{AreRowsOf}
 use Rattle.model_core.specs.Meaning.{Assumed, Cycle, Follows, Frame, Starts, next_states, row_at}
 use Rattle.model_core.specs.Served.{IsModel}
 use Rattle.model_core.specs.Shape.{ModelOf, NodeOf, reads, sources, states}
@@ -96,14 +100,6 @@ pub states_apart : (m : ModelOf) (e : BtorOf) (t : Table) (ss : List State) (n :
 states_apart m e t ss n p i j s u a b same =
     rising_apart (map (λ (v : State). v.word) ss) (subst Rising p.opened (rising e p.btor)) i j s.word u.word (word_at ss i s a) (word_at ss j u b) same
 
-cons_short : (keep : ℕ → Bool) (x : ℕ) (xs : List ℕ) → length (filter keep xs) ≤ length xs → (b : Bool) → keep x ≡ b → length (filter keep (x ∷ xs)) ≤ length (x ∷ xs)
-cons_short keep x xs r true e = rw e (let z : suc (length (filter keep xs)) ≤ suc (length xs) = omega arith in z)
-cons_short keep x xs r false e = rw e (let z : length (filter keep xs) ≤ suc (length xs) = omega arith in z)
-
-filter_short : (keep : ℕ → Bool) (xs : List ℕ) → length (filter keep xs) ≤ length xs
-filter_short keep [] = omega arith
-filter_short keep (x ∷ xs) = cons_short keep x xs (filter_short keep xs) (keep x) refl
-
 -- states' lines, as the next rows need them
 pub state_lines : (m : ModelOf) (e1 e2 : BtorOf) (t : Table) (ss : List State) → AreStates m e1 t ss (length (states m)) → Grows e1 e2 → AreStateLines m e2 ss
 state_lines m e1 e2 t ss p g = record {
@@ -112,8 +108,15 @@ state_lines m e1 e2 t ss p g = record {
   apart = states_apart m e1 t ss (length (states m)) p;
 }
 
-module _ (m : ModelOf) (g : Goal) (is : IsModel m) (ss : List State) (inputs : List ℕ) (read : AreReadInputs m inputs) (e1 e2 e3 e4 e5 e6 : BtorOf) (t1 t2 t3 t4 t5 t6 : Table) (p1 : AreStates m e1 t1 ss (length (states m))) (p2 : AreInputs e1 e2 t1 t2 inputs)
+module _ (m : ModelOf) (g : Goal) (is : IsModel m) (ss : List State) (rows : List (List ℕ)) (ok : AreRowsOf m.inputs rows) (read : List (List ℕ)) (is_read : AreReadInputs m rows read) (e1 e2 e3 e4 e5 e6 : BtorOf) (t1 t2 t3 t4 t5 t6 : Table) (p1 : AreStates m e1 t1 ss (length (states m))) (p2 : AreInputs e1 e2 t1 t2 read)
     (p3 : AreNodes m e2 e3 t2 t3 (length m.nodes)) (p4 : AreNexts m e3 e4 t3 t4 ss (length ss)) (p5 : AreSaid constraints bads e4 e5 t4 t5 m.assumes is_held) (p6 : AreSaid bads constraints e5 e6 t5 t6 (goals m g) (goal_bit g)) where
+  -- the places of all inputs of the lines
+  abbrev inputs : List ℕ
+  inputs = concat read
+
+  read_there : (p : ℕ) → Contains m.inputs p → IsRead m p → Contains inputs p
+  read_there = read_input m is rows ok read is_read
+
   -- values of all lines are values of each part's
   holds5 : (vs : Values) → Holds e6 vs → Holds e5 vs
   holds5 vs h = front_holds e5 e6 p5.only.btor p6.only.grows vs h
@@ -153,7 +156,7 @@ module _ (m : ModelOf) (g : Goal) (is : IsModel m) (ss : List State) (inputs : L
       omega arith
 
   read_inside : (p : ℕ) → Contains inputs p → Contains m.inputs p
-  read_inside p c = kept_from read.0 m.inputs p (subst (λ (ps : List ℕ). Contains ps p) read.1 c)
+  read_inside p c = (read_rows_of m is rows ok read is_read).inside p c
 
   state_apart : (p : ℕ) → Contains (states m) p → Contains inputs p → ⊥
   state_apart p a b =
@@ -203,12 +206,13 @@ module _ (m : ModelOf) (g : Goal) (is : IsModel m) (ss : List State) (inputs : L
   states_row vs h = cover_all ss stretches.joined (λ (s : State). vs s.word.nid) (row_at (cycle vs) (states m)) (λ k s at. state_part vs h k s at) (stretches.whole ∙ sym (length-row_at (cycle vs) (states m)))
 
   inputs_row : (vs : Values) → Holds e6 vs → flat_map (λ a. vs a.nid) p2.ws ≡ row_at (cycle vs) inputs
-  inputs_row vs h = input_row vs (cycle vs) inputs p2.ws p2.long (λ k p a x y.
-      let each = p2.each k p a x y in
-      let inside = read_inside p (contained_at inputs p k x) in
-      let at = place_of_contained m.inputs p inside in
-      let source : Contains (sources m) p = contained_at (sources m) p (suc (suc (length (states m) + at.0))) (app_right (states m) m.inputs at.0 (length (states m) + at.0) refl ∙ at.1) in
-      (word_long vs each.0 (holds2 vs h) ∙ each.1.width, sym (p3.same vs (holds3 vs h) p source ∙ ap (bit_in vs) each.2)))
+  inputs_row vs h = input_row vs (cycle vs) read p2.ws p2.long (λ k row a x y.
+      let each = p2.each k row a x y in
+      row_by_bits (cycle vs) row (vs a.nid) (word_long vs each.word (holds2 vs h) ∙ each.width) (λ j p at.
+      let inside = read_inside p (joined_there read row p (contained_at read row k x) (contained_at row p j at)) in
+      let place = place_of_contained m.inputs p inside in
+      let source : Contains (sources m) p = contained_at (sources m) p (suc (suc (length (states m) + place.0))) (app_right (states m) m.inputs place.0 (length (states m) + place.0) refl ∙ place.1) in
+      sym (p3.same vs (holds3 vs h) p source ∙ ap (bit_in vs) (each.bits j p at))))
 
   opened : open_words e6.lines ≡ map (λ s. s.word) ss ++ p2.ws
   opened = p6.only.opened ∙ p5.only.opened ∙ p4.only.opened ∙ p3.adds.opened ∙ p2.opened ∙ ap (λ (ws : List Word). ws ++ p2.ws) p1.opened
@@ -229,7 +233,7 @@ module _ (m : ModelOf) (g : Goal) (is : IsModel m) (ss : List State) (inputs : L
   total : sum_by (λ a. a.width) (open_words e6.lines) ≡ length (states m ++ inputs)
   total =
       ap (sum_by (λ (a : Word). a.width)) opened ∙ sum_by-append (λ (a : Word). a.width) (map (λ (s : State). s.word) ss) p2.ws
-      ∙ (let a = sum_words ss in let w = stretches.whole in let b = ones_wide p2.ws (λ k a at. let p = at_place inputs k (let l = slice_get_within p2.ws k a at in let e = p2.long in omega arith) in (p2.each k p.0 a p.1 at).1.width) in let c = length-append (states m) inputs in let l = p2.long in omega arith)
+      ∙ (let a = sum_words ss in let w = stretches.whole in let b = whole_width p2.ws read p2.long (λ k row a x y. (p2.each k row a x y).width) in let c = length-append (states m) inputs in omega arith)
 
   here : (vs : Values) → Holds e6 vs → IsCycle m e6 inputs vs (cycle vs)
   here vs h = record { holds = h; frame = frame vs h; bits = bits vs h }
@@ -357,27 +361,27 @@ module _ (m : ModelOf) (g : Goal) (is : IsModel m) (ss : List State) (inputs : L
     total = total;
     cycle = λ vs h. (cycle vs, here vs h);
     starts = λ vs c i. (
-      (λ s. starts_go m is inputs read (cycle vs) c (frame vs i.holds) i.frame (sym (same_row vs c i)) (begins apart vs i.holds s)),
-      (λ s. begins_back vs i.holds (starts_go m is inputs read c (cycle vs) i.frame (frame vs i.holds) (same_row vs c i) s)),
+      (λ s. starts_go m is inputs read_there (cycle vs) c (frame vs i.holds) i.frame (sym (same_row vs c i)) (begins apart vs i.holds s)),
+      (λ s. begins_back vs i.holds (starts_go m is inputs read_there c (cycle vs) i.frame (frame vs i.holds) (same_row vs c i) s)),
     );
     goes_on = λ vs us c d i j. (
-      (λ s. follows_go m is inputs read (cycle vs) c (cycle us) d (frame vs i.holds) i.frame (frame us j.holds) j.frame (sym (same_row vs c i)) (sym (same_row us d j)) (goes vs us i.holds j.holds s)),
-      (λ s. goes_back vs us i.holds j.holds (follows_go m is inputs read c (cycle vs) d (cycle us) i.frame (frame vs i.holds) j.frame (frame us j.holds) (same_row vs c i) (same_row us d j) s)),
+      (λ s. follows_go m is inputs read_there (cycle vs) c (cycle us) d (frame vs i.holds) i.frame (frame us j.holds) j.frame (sym (same_row vs c i)) (sym (same_row us d j)) (goes vs us i.holds j.holds s)),
+      (λ s. goes_back vs us i.holds j.holds (follows_go m is inputs read_there c (cycle vs) d (cycle us) i.frame (frame vs i.holds) j.frame (frame us j.holds) (same_row vs c i) (same_row us d j) s)),
     );
     met = λ vs c i. (
-      (λ s. assumed_goes m is inputs read (cycle vs) c (frame vs i.holds) i.frame (sym (same_row vs c i)) (meets vs i.holds s)),
-      (λ s. meets_back vs i.holds (assumed_goes m is inputs read c (cycle vs) i.frame (frame vs i.holds) (same_row vs c i) s)),
+      (λ s. assumed_goes m is inputs read_there (cycle vs) c (frame vs i.holds) i.frame (sym (same_row vs c i)) (meets vs i.holds s)),
+      (λ s. meets_back vs i.holds (assumed_goes m is inputs read_there c (cycle vs) i.frame (frame vs i.holds) (same_row vs c i) s)),
     );
     bad = λ vs c i k. (
-      (λ s. goal_goes m is inputs read (cycle vs) c (frame vs i.holds) i.frame (sym (same_row vs c i)) g k (said_goals vs i.holds k s)),
-      (λ s. said_goals_back vs i.holds k (goal_goes m is inputs read c (cycle vs) i.frame (frame vs i.holds) (same_row vs c i) g k s)),
+      (λ s. goal_goes m is inputs read_there (cycle vs) c (frame vs i.holds) i.frame (sym (same_row vs c i)) g k (said_goals vs i.holds k s)),
+      (λ s. said_goals_back vs i.holds k (goal_goes m is inputs read_there c (cycle vs) i.frame (frame vs i.holds) (same_row vs c i) g k s)),
     );
   }
 
   grows16 : Grows e1 e6
   grows16 = grows_on e1 e2 e6 p2.grows grows26
 
-  shape : IsShape m e6 ss inputs
+  shape : IsShape m rows e6 ss read
   shape = record {
     stretches = stretches;
     state_lines = all_from (IsStateLine e6) ss (λ k s at.
@@ -386,19 +390,19 @@ module _ (m : ModelOf) (g : Goal) (is : IsModel m) (ss : List State) (inputs : L
           started = λ h. let t = w.line.started h in (t.0, subst (λ (us : List TieOf). Contains us (record { state = s.word.nid; value = t.0 })) (sym inits_are) t.1);
           free = λ h. subst (λ (us : List TieOf). IsUntied us s.word.nid) (sym inits_are) (w.line.free h);
         });
-    read = read;
+    read_rows = is_read;
     words = (
       p2.ws,
       opened,
-      p2.long,
+      same_widths p2.ws read p2.long (λ k row a x y. (p2.each k row a x y).width),
       all_from (IsInputLine e6) p2.ws (λ k a at.
-          let p = at_place inputs k (let l = slice_get_within p2.ws k a at in let e = p2.long in omega arith) in
-          let x = p2.each k p.0 a p.1 at in
-          record { width = x.1.width; input = state_width_stays e2 e6 a grows26 x.0 ∙ x.1.input }),
+          let row = at_place read k (let l = slice_get_within p2.ws k a at in let e = p2.long in omega arith) in
+          let x = p2.each k row.0 a row.1 at in
+          state_width_stays e2 e6 a grows26 x.word ∙ x.line),
     );
   }
 
-  pub emission : IsEmission m g e6 ss inputs
+  pub emission : IsEmission m rows g e6 ss read
   emission = record {
     btor = p6.only.btor;
     shape = shape;
@@ -415,6 +419,6 @@ module _ (m : ModelOf) (g : Goal) (is : IsModel m) (ss : List State) (inputs : L
         let f = p6.only.few in
         let nodes : length (flat_map reads (take (length m.nodes) m.nodes)) ≡ length (flat_map reads m.nodes) = ap (λ (ns : List NodeOf). length (flat_map reads ns)) (take-length m.nodes) in
         let all : bits_of (take (length ss) ss) ≡ length (states m) = ap bits_of (take-length ss) ∙ stretches.whole in
-        let short : length inputs ≤ length m.inputs = subst (λ (ps : List ℕ). length ps ≤ length m.inputs) (sym read.1) (filter_short read.0 m.inputs) in
+        let short = read_few m is rows ok read is_read in
         omega arith;
   }

@@ -1,7 +1,7 @@
 -- Bits of states and inputs: their rows, and what they start with.
-use Rattle.std.proofs.Common.{◌≡◌, inl, inr, ℕ, zero, suc, ◌+◌, ◌-◌, ◌<◌, ◌≤◌, Bool, true, false, List, [], ◌∷◌, ◌++◌, Some, None, length, get_or, map, take, drop, refl, sym, ap, ◌∙◌, arith, length-drop}
+use Rattle.std.proofs.Common.{◌≡◌, inl, inr, ℕ, zero, suc, ◌+◌, ◌-◌, ◌<◌, ◌≤◌, Bool, true, false, List, [], ◌∷◌, ◌++◌, Some, None, length, get_or, map, take, drop, refl, sym, ap, ◌∙◌, arith, length-append, length-drop}
 use Rattle.std.specs.Prelude.{Option, slice_get, sum_by}
-use Rattle.std.specs.List.{flat_map}
+use Rattle.std.specs.List.{concat, flat_map}
 use Rattle.std.specs.Option.{is_some, unwrap_or}
 use Rattle.std.proofs.lemmas.Bool.{cases_lt}
 use Rattle.std.proofs.lemmas.List.{length-map, length-take-le}
@@ -18,6 +18,7 @@ use Rattle.btor_emit.proofs.Gathering.{bit_of_row, row_by_bits}
 use Rattle.model_core.specs.Meaning.{Cycle, Starts, row_at}
 use Rattle.model_core.specs.Shape.{ModelOf, states}
 use Rattle.model_core.proofs.Lists.{all_at, at_place}
+use Rattle.model_core.proofs.Writing.{row_append}
 
 -- a place of a part of a list
 pub part_there : {A : Type 0} (f n j k : ℕ) (xs : List A) (x : A) → f + j ≡ k → j < n → slice_get xs k ≡ Some x → slice_get (take n (drop f xs)) j ≡ Some x
@@ -105,21 +106,28 @@ module _ (m : ModelOf) (ss : List State) (is : AreStretches m ss) (long : length
       let b = some_of d.0 known in
       digit_bit (take s.word.width (drop s.first m.starts)) i d.0 start ∙ ap (λ (y : Option Bool). unwrap_or y false) b.1 ∙ sym (starts (s.first + i) p b.0 there.1 (d.1 ∙ ap Some b.1))))
 
--- rows of inputs, of one bit each
-pub input_row : (vs : Values) (c : Cycle) (ps : List ℕ) (ws : List Word) → length ws ≡ length ps → ((k p : ℕ) (a : Word) → slice_get ps k ≡ Some p → slice_get ws k ≡ Some a → (length (vs a.nid) ≡ 1) × (get_or (vs a.nid) 0 false ≡ c p)) → flat_map (λ a. vs a.nid) ws ≡ row_at c ps
+-- rows of inputs
+pub input_row : (vs : Values) (c : Cycle) (rows : List (List ℕ)) (ws : List Word) → length ws ≡ length rows → ((k : ℕ) (row : List ℕ) (a : Word) → slice_get rows k ≡ Some row → slice_get ws k ≡ Some a → vs a.nid ≡ row_at c row) → flat_map (λ a. vs a.nid) ws ≡ row_at c (concat rows)
 input_row vs c [] [] l h = refl
 input_row vs c [] (a ∷ ws) l h = absurd (omega arith)
-input_row vs c (p ∷ ps) [] l h = absurd (omega arith)
-input_row vs c (p ∷ ps) (a ∷ ws) l h =
-    let one = h 0 p a refl refl in
-    let bit : vs a.nid ≡ c p ∷ [] = single (vs a.nid) (c p) one.0 one.1 in
-    ap (λ (r : Row). r ++ flat_map (λ b. vs b.nid) ws) bit ∙ ap (λ (r : Row). c p ∷ r) (input_row vs c ps ws (omega arith) (λ k. h (suc k)))
-  where
-    single : (r : Row) (b : Bool) → length r ≡ 1 → get_or r 0 false ≡ b → r ≡ b ∷ []
-    single [] b l e = absurd (omega arith)
-    single (x ∷ []) b l e = ap (λ (y : Bool). y ∷ []) e
-    single (x ∷ y ∷ r) b l e = absurd (omega arith)
+input_row vs c (row ∷ rows) [] l h = absurd (omega arith)
+input_row vs c (row ∷ rows) (a ∷ ws) l h =
+    ap (λ (r : Row). r ++ flat_map (λ b. vs b.nid) ws) (h 0 row a refl refl) ∙ ap (λ (r : Row). row_at c row ++ r) (input_row vs c rows ws (omega arith) (λ k. h (suc k))) ∙ sym (row_append c row (concat rows))
 
-pub ones_wide : (ws : List Word) → ((k : ℕ) (a : Word) → slice_get ws k ≡ Some a → a.width ≡ 1) → sum_by (λ a. a.width) ws ≡ length ws
-ones_wide [] h = refl
-ones_wide (a ∷ ws) h = let one = h 0 a refl in sum_by-cons (λ (b : Word). b.width) a ws ∙ (let r = ones_wide ws (λ k. h (suc k)) in omega arith)
+-- and their widths
+pub same_widths : (ws : List Word) (rows : List (List ℕ)) → length ws ≡ length rows → ((k : ℕ) (row : List ℕ) (a : Word) → slice_get rows k ≡ Some row → slice_get ws k ≡ Some a → a.width ≡ length row) → map (λ a. a.width) ws ≡ map (λ row. length row) rows
+same_widths [] [] l h = refl
+same_widths [] (row ∷ rows) l h = absurd (omega arith)
+same_widths (a ∷ ws) [] l h = absurd (omega arith)
+same_widths (a ∷ ws) (row ∷ rows) l h =
+    ap (λ (n : ℕ). n ∷ map (λ b. b.width) ws) (h 0 row a refl refl) ∙ ap (λ (ns : List ℕ). length row ∷ ns) (same_widths ws rows (omega arith) (λ k. h (suc k)))
+
+pub whole_width : (ws : List Word) (rows : List (List ℕ)) → length ws ≡ length rows → ((k : ℕ) (row : List ℕ) (a : Word) → slice_get rows k ≡ Some row → slice_get ws k ≡ Some a → a.width ≡ length row) → sum_by (λ a. a.width) ws ≡ length (concat rows)
+whole_width [] [] l h = refl
+whole_width [] (row ∷ rows) l h = absurd (omega arith)
+whole_width (a ∷ ws) [] l h = absurd (omega arith)
+whole_width (a ∷ ws) (row ∷ rows) l h =
+    let one : a.width ≡ length row = h 0 row a refl refl in
+    let rest = whole_width ws rows (omega arith) (λ k. h (suc k)) in
+    let e = length-append row (concat rows) in
+    sum_by-cons (λ (b : Word). b.width) a ws ∙ (omega arith)

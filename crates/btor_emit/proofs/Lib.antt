@@ -7,6 +7,7 @@ pub mod Aliasing
 pub mod Giving
 pub mod Noding
 pub mod Moving
+pub mod Kept
 pub mod Agreeing
 pub mod Leaves
 pub mod Stating
@@ -21,4 +22,5 @@ pub mod Assembling
 pub mod Marking
 pub mod Beginning
 pub mod Readying
+pub mod Rowing
 pub mod Inputting

@@ -205,7 +205,7 @@ pub record AreUsed (m : ModelOf) (marks : List Bool) (i : ℕ) : Type 0 where
   pub statements : (p : ℕ) → IsStatementRead m p → IsMarked marks p
   pub registers : (p j : ℕ) (r : RegisterOf) → j < i → slice_get m.registers j ≡ Some r → Contains (register_reads r) p → IsMarked marks p
 
-no_mark : (n p : ℕ) → IsMarked (replicate n false) p → ⊥
+pub no_mark : (n p : ℕ) → IsMarked (replicate n false) p → ⊥
 no_mark zero p h = absurd (let e : false ≡ true = h in cc)
 no_mark (suc n) zero h = absurd (let e : false ≡ true = h in cc)
 no_mark (suc n) (suc p) h = no_mark n p h

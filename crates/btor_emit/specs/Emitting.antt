@@ -1,5 +1,6 @@
 -- Parts of an emission: what each of them adds to the lines, and what stands where after it.
 use Rattle.std.specs.Prelude.{◌≡◌, ◌⊎◌, ℕ, suc, ◌+◌, ◌*◌, ◌<◌, ◌≤◌, Option, Bool, true, false, eqb, List, [], ◌∷◌, ◌++◌, Some, All, Contains, length, map, take, slice_get}
+use Rattle.std.specs.List.{concat}
 use Rattle.std.specs.Option.{unwrap_or}
 use Rattle.sby_bits.specs.Rows.{Row}
 use Rattle.btor_core.specs.Fits.{IsBtor}
@@ -85,21 +86,23 @@ pub record AreStates (m : ModelOf) (e : BtorOf) (table : Table) (ss : List State
   pub else : (p : ℕ) → (Contains (take k (states m)) p → ⊥) → seat_at table p ≡ Digit (eqb p (suc m.zero))
   pub few : length e.lines ≤ 5 * k
 
--- inputs were added for these places
-pub record AreInputs (old new : BtorOf) (before now : Table) (inputs : List ℕ) : Type 0 where
+-- the word is an input, whose bits these places have
+pub record IsInputWord (e : BtorOf) (table : Table) (row : List ℕ) (a : Word) : Type 0 where
+  pub word : IsWord e a
+  pub width : a.width ≡ length row
+  pub line : IsInputLine e a
+  pub bits : (j p : ℕ) → slice_get row j ≡ Some p → seat_at table p ≡ Bit a j
+
+-- inputs were added for these rows of places
+pub record AreInputs (old new : BtorOf) (before now : Table) (rows : List (List ℕ)) : Type 0 where
   pub ws : List Word
   pub btor : IsBtor new
   pub grows : Grows old new
   pub lists : KeepsLists old new
   pub opened : open_words new.lines ≡ open_words old.lines ++ ws
-  pub long : length ws ≡ length inputs
-  pub each : (k p : ℕ) (a : Word) → slice_get inputs k ≡ Some p → slice_get ws k ≡ Some a → IsWord new a × IsInputLine new a × (seat_at now p ≡ Bit a 0)
+  pub long : length ws ≡ length rows
+  pub each : (k : ℕ) (row : List ℕ) (a : Word) → slice_get rows k ≡ Some row → slice_get ws k ≡ Some a → IsInputWord new now row a
   pub size : length now ≡ length before
   pub seats : AreSeats new now
-  pub else : (p : ℕ) → (Contains inputs p → ⊥) → seat_at now p ≡ seat_at before p
-  pub few : length new.lines ≤ length old.lines + 2 * length inputs
-
--- an input was added for the place where it is marked, and nothing where it isn't
-abbrev pub IsInputIf : Bool → BtorOf → BtorOf → Table → Table → List ℕ → List ℕ → ℕ → Type 0
-IsInputIf true old new before now inputs all p = (all ≡ inputs ++ p ∷ []) × AreInputs old new before now (p ∷ [])
-IsInputIf false old new before now inputs all p = (all ≡ inputs) × (new ≡ old) × (now ≡ before)
+  pub else : (p : ℕ) → (Contains (concat rows) p → ⊥) → seat_at now p ≡ seat_at before p
+  pub few : length new.lines ≤ length old.lines + 2 * length rows

@@ -1,11 +1,16 @@
 -- Marks of places.
 use Rattle.std.specs.Prelude.{◌≡◌, ◌⊎◌, ◌↔◌, ℕ, Bool, true, false, List, Some, Contains, length, slice_get, slice_index_or}
+use Rattle.std.specs.List.{list_any}
 use Rattle.model_core.specs.Shape.{NodeOf, reads}
 use Rattle.model_core.specs.declared.model.Statement.{Statement}
 use Rattle.model_core.specs.declared.op.Op.TheVariants as op
 
 abbrev pub IsMarked : List Bool → ℕ → Type 0
 IsMarked marks p = slice_index_or marks p false ≡ true
+
+-- whether a place of the row is marked
+abbrev pub has_mark : List Bool → List ℕ → Bool
+has_mark marks row = list_any (λ p. slice_index_or marks p false) row
 
 -- the places of which P holds were marked, and no others
 pub record Marks (old new : List Bool) (P : ℕ → Type 0) : Type 0 where

@@ -1,6 +1,6 @@
 -- Which bits of a model are read.
-use Rattle.std.specs.Prelude.{◌≡◌, ◌⊎◌, ◌↔◌, ℕ, zero, suc, Bool, true, List, [], ◌∷◌, ◌++◌, Some, slice_get, Contains}
-use Rattle.std.specs.List.{filter}
+use Rattle.std.specs.Prelude.{◌≡◌, ◌⊎◌, ◌↔◌, ℕ, zero, suc, Bool, true, not, eqb, List, [], ◌∷◌, ◌++◌, Some, slice_get, map, Contains}
+use Rattle.std.specs.List.{concat, filter, list_any}
 use Rattle.model_core.specs.Shape.{ModelOf, NodeOf, RegisterOf, reads}
 use Rattle.model_core.specs.declared.model.Statement.{Statement}
 use Rattle.model_core.specs.declared.op.Op.TheVariants as op
@@ -35,6 +35,18 @@ IsCopiedBy m (suc k) p q = (r : ℕ) × IsCopied m p r × IsCopiedBy m k r q
 abbrev pub IsRead : ModelOf → ℕ → Type 0
 IsRead m p = (k q : ℕ) × IsCopiedBy m k p q × IsUsed m q
 
--- these are the inputs that are read, in the model's order
-abbrev pub AreReadInputs : ModelOf → List ℕ → Type 0
-AreReadInputs m inputs = (keep : ℕ → Bool) × (inputs ≡ filter keep m.inputs) × ((p : ℕ) → Contains m.inputs p → (keep p ≡ true) ↔ IsRead m p)
+-- the inputs that stand in none of the rows
+abbrev pub single_inputs : ModelOf → List (List ℕ) → List ℕ
+single_inputs m rows = filter (λ p. not (list_any (eqb p) (concat rows))) m.inputs
+
+-- all inputs by rows: these rows, and each other input by itself, in the model's order
+abbrev pub input_rows : ModelOf → List (List ℕ) → List (List ℕ)
+input_rows m rows = rows ++ map (λ p. p ∷ []) (single_inputs m rows)
+
+-- some bit of the row is read
+abbrev pub IsRowRead : ModelOf → List ℕ → Type 0
+IsRowRead m row = (p : ℕ) × Contains row p × IsRead m p
+
+-- these are the rows of inputs of which a bit is read, in this order
+abbrev pub AreReadInputs : ModelOf → List (List ℕ) → List (List ℕ) → Type 0
+AreReadInputs m rows read = (keep : List ℕ → Bool) × (read ≡ filter keep (input_rows m rows)) × ((row : List ℕ) → Contains (input_rows m rows) row → (keep row ≡ true) ↔ IsRowRead m row)

@@ -53,15 +53,14 @@ pub record IsStateLine (e : BtorOf) (s : State) : Type 0 where
   pub started : s.has_start ≡ true → (v : ℕ) × Contains (inits e.lines) (record { state = s.word.nid; value = v })
   pub free : s.has_start ≡ false → IsUntied (inits e.lines) s.word.nid
 
--- the line is an input's, of one bit
-pub record IsInputLine (e : BtorOf) (a : Word) : Type 0 where
-  pub width : a.width ≡ 1
-  pub input : state_at e.lines a.nid ≡ 0
+-- the line is an input's
+abbrev pub IsInputLine : BtorOf → Word → Type 0
+IsInputLine e a = state_at e.lines a.nid ≡ 0
 
--- what the lines leave open: states by the longest stretches, in the order of the model's state bits, and after them an input for each
--- input of the model that is read
-pub record IsShape (m : ModelOf) (e : BtorOf) (ss : List State) (inputs : List ℕ) : Type 0 where
+-- What the lines leave open: states by the longest stretches, in the order of the model's state bits, and after them an input for each
+-- row of the model's inputs of which a bit is read, as wide as the row.
+pub record IsShape (m : ModelOf) (rows : List (List ℕ)) (e : BtorOf) (ss : List State) (read : List (List ℕ)) : Type 0 where
   pub stretches : AreStretches m ss
   pub state_lines : All (IsStateLine e) ss
-  pub read : AreReadInputs m inputs
-  pub words : (ws : List Word) × (open_words e.lines ≡ map (λ s. s.word) ss ++ ws) × (length ws ≡ length inputs) × All (IsInputLine e) ws
+  pub read_rows : AreReadInputs m rows read
+  pub words : (ws : List Word) × (open_words e.lines ≡ map (λ s. s.word) ss ++ ws) × (map (λ a. a.width) ws ≡ map (λ row. length row) read) × All (IsInputLine e) ws

@@ -10,12 +10,13 @@ ghost use Rattle.btor_emit.specs.Said.{AreSaid, goal_bit};
 ghost use Rattle.btor_emit.specs.Table.{AreSeats, seat_at};
 ghost use Rattle.btor_emit.specs.declared.table.Seat.TheVariants.{Digit};
 ghost use Rattle.model_core.specs.Served.{IsModel};
+ghost use Rattle.place_rows.specs.Rows.{AreRowsOf};
 
 use crate::goal::Goal;
 use crate::inputs::push_inputs;
 use crate::nodes::push_nodes;
-use crate::reads::read_places;
 use crate::registers::push_nexts;
+use crate::rows::read_rows;
 use crate::shape::Shape;
 use crate::statements::{push_asserts, push_assumes, push_cover};
 use crate::states::push_states;
@@ -23,6 +24,7 @@ use crate::table::Seat;
 use btor_core::draft::{Draft, DraftFault};
 use btor_core::model::BtorModel;
 use model_core::model::WordModel;
+use place_rows::Rows;
 use std::alloc::{AllocError, Global};
 
 /// The lines of a model, and what they leave open.
@@ -70,15 +72,17 @@ fn draw(
     draft: &mut Draft,
     table: &mut [Seat],
     model: &WordModel,
+    rows: &Rows,
     goal: Goal,
 ) -> Result<Shape, DraftFault>
     requires model { IsModel model.now }
+    requires rows { AreRowsOf model.now.inputs rows.now }
     requires none { AreStates model.now draft.old table.old [] 0 }
-    ensures { IfOk result (λ s. IsEmission model.now goal draft.new s.states.items s.inputs.items) }
+    ensures { IfOk result (λ s. IsEmission model.now rows.now goal draft.new s.states.items s.inputs) }
 {
-    let marks = read_places(alloc, model)?;
+    let inputs = read_rows(alloc, model, rows)?;
     let states = push_states(alloc, draft, table, model)?;
-    let inputs = push_inputs(alloc, draft, table, model, &marks)?;
+    push_inputs(draft, table, &inputs)?;
     push_nodes(draft, table, model)?;
     push_nexts(draft, table, model, &states)?;
     push_assumes(draft, table, model.assumes())?;
@@ -87,22 +91,35 @@ fn draw(
 }
 
 // The lines, and their shape.
-fn make(alloc: Global, model: &WordModel, goal: Goal) -> Result<(Draft, Shape), DraftFault>
-    ensures { IfOk result (λ x. IsEmission model.now goal x.0 x.1.states.items x.1.inputs.items) }
+fn make(
+    alloc: Global,
+    model: &WordModel,
+    rows: &Rows,
+    goal: Goal,
+) -> Result<(Draft, Shape), DraftFault>
+    requires { AreRowsOf model.now.inputs rows.now }
+    ensures { IfOk result (λ x. IsEmission model.now rows.now goal x.0 x.1.states.items x.1.inputs) }
 {
     let _size = model.size();
     let mut draft = Draft::new(alloc)?;
     draft.promise();
     let mut table = first_table(alloc, model)?;
-    let shape = draw(alloc, &mut draft, &mut table, model, goal)?;
+    let shape = draw(alloc, &mut draft, &mut table, model, rows, goal)?;
     Ok((draft, shape))
 }
 
-/// The model as lines of BTOR2. Where there would be 2^32 - 1 lines, memory is out too.
-pub fn emit(alloc: Global, model: &WordModel, goal: Goal) -> Result<Emitted, AllocError>
-    ensures { IfOk result (λ x. IsEmission model.now goal x.model x.shape.states.items x.shape.inputs.items) }
+/// The model as lines of BTOR2, with an input for each of these rows of the model's inputs, and for each other input, of which a bit is
+/// read. Where there would be 2^32 - 1 lines, memory is out too.
+pub fn emit(
+    alloc: Global,
+    model: &WordModel,
+    rows: &Rows,
+    goal: Goal,
+) -> Result<Emitted, AllocError>
+    requires { AreRowsOf model.now.inputs rows.now }
+    ensures { IfOk result (λ x. IsEmission model.now rows.now goal x.model x.shape.states.items x.shape.inputs) }
 {
-    match make(alloc, model, goal) {
+    match make(alloc, model, rows, goal) {
         Ok((draft, shape)) => Ok(Emitted {
             model: draft.finish(),
             shape,

@@ -1,97 +1,54 @@
-// Inputs of one bit each.
+// Inputs as wide as rows of places.
 
-ghost use Rattle.std.specs.Prelude.{◌≡◌, ◌<◌, [], ◌∷◌, ◌++◌, false, slice_index_or, OnOk, IfOk, length};
-ghost use Rattle.std.specs.List.{filter};
-ghost use Rattle.btor_core.specs.Fits.{IsBtor};
+ghost use Rattle.std.specs.Prelude.{◌≡◌, [], ◌∷◌, All, OnOk, IfOk, length};
+ghost use Rattle.std.specs.List.{concat};
+ghost use Rattle.btor_core.specs.Fits.{IsBtor, IsWidth};
 ghost use Rattle.btor_core.specs.declared.line.Node.TheVariants.{Input};
-ghost use Rattle.btor_emit.specs.Emitting.{AreInputs, IsInputIf, IsOpened};
-ghost use Rattle.btor_emit.specs.Table.{AreSeats};
-ghost use Rattle.model_core.specs.Served.{IsModel};
+ghost use Rattle.btor_emit.specs.Emitting.{AreInputs, IsOpened};
+ghost use Rattle.btor_emit.specs.Table.{AreIn, AreSeats};
+ghost use Rattle.model_core.specs.Shape.{IsDistinct};
 
 use crate::table::{Seat, give};
 use btor_core::draft::{Draft, DraftFault};
 use btor_core::line::{Node, Word};
-use model_core::model::WordModel;
-use std::alloc::{AllocError, Global};
+use place_rows::Rows;
 
-// One place more.
-fn keep(inputs: &mut Vec<u32>, place: u32) -> Result<(), AllocError>
-    ensures { OnOk result (inputs.new.items ≡ inputs.old.items ++ place ∷ []) }
-{
-    inputs.push(place)?;
-    Ok(())
-}
-
-// An input of one bit.
-fn input(draft: &mut Draft) -> Result<Word, DraftFault>
-    ensures { IfOk result (λ a. IsOpened draft.old draft.new a 1 Input []) }
+// An input.
+fn input(draft: &mut Draft, width: u32) -> Result<Word, DraftFault>
+    requires { IsWidth width }
+    ensures { IfOk result (λ a. IsOpened draft.old draft.new a width Input []) }
 {
     draft.promise();
-    let word = draft.push(1, Node::Input)?;
+    let word = draft.push(width, Node::Input)?;
     draft.promise();
     Ok(word)
 }
 
-// Adds the input of a place.
-fn push_input(
-    draft: &mut Draft,
-    table: &mut [Seat],
-    inputs: &mut Vec<u32>,
-    place: u32,
-) -> Result<(), DraftFault>
-    requires place { place < length table.old }
+// Adds the input of a row of places.
+fn push_input(draft: &mut Draft, table: &mut [Seat], row: &[u32]) -> Result<(), DraftFault>
+    requires inside { AreIn table.old row.now }
+    requires distinct { IsDistinct row.now }
+    requires width { IsWidth (length row.now) }
     requires btor { IsBtor draft.old }
     requires seats { AreSeats draft.old table.old }
-    ensures inputs { OnOk result (inputs.new.items ≡ inputs.old.items ++ place ∷ []) }
-    ensures input { OnOk result (AreInputs draft.old draft.new table.old table.new (place ∷ [])) }
+    ensures { OnOk result (AreInputs draft.old draft.new table.old table.new (row.now ∷ [])) }
 {
-    let word = input(draft)?;
-    give(table, &[place], word);
-    keep(inputs, place)?;
+    let word = input(draft, row.len() as u32)?;
+    give(table, row, word);
     Ok(())
 }
 
-// An input for a place that is marked.
-fn push_marked(
-    draft: &mut Draft,
-    table: &mut [Seat],
-    inputs: &mut Vec<u32>,
-    place: u32,
-    marked: bool,
-) -> Result<(), DraftFault>
-    requires place { place < length table.old }
+/// An input for each row of places.
+pub fn push_inputs(draft: &mut Draft, table: &mut [Seat], rows: &Rows) -> Result<(), DraftFault>
+    requires inside { AreIn table.old (concat rows.now) }
+    requires distinct { IsDistinct (concat rows.now) }
+    requires widths { All (λ row. IsWidth (length row)) rows.now }
     requires btor { IsBtor draft.old }
     requires seats { AreSeats draft.old table.old }
-    ensures { OnOk result (IsInputIf marked draft.old draft.new table.old table.new inputs.old.items inputs.new.items place) }
+    ensures { OnOk result (AreInputs draft.old draft.new table.old table.new rows.now) }
 {
-    if marked {
-        push_input(draft, table, inputs, place)?;
-        return Ok(());
+    for k in 0..rows.len() {
+        push_input(draft, table, rows.row(k))?;
     }
     Ok(())
-}
-
-/// An input for each input of the model that is marked.
-pub fn push_inputs(
-    alloc: Global,
-    draft: &mut Draft,
-    table: &mut [Seat],
-    model: &WordModel,
-    marks: &[bool],
-) -> Result<Vec<u32>, DraftFault>
-    requires model { IsModel model.now }
-    requires marks { length marks.now ≡ model.now.size }
-    requires size { length table.old ≡ model.now.size }
-    requires btor { IsBtor draft.old }
-    requires seats { AreSeats draft.old table.old }
-    ensures inputs { IfOk result (λ inputs. inputs.items ≡ filter (λ p. slice_index_or marks.now p false) model.now.inputs) }
-    ensures lines { IfOk result (λ inputs. AreInputs draft.old draft.new table.old table.new inputs.items) }
-{
-    let mut inputs = Vec::new(alloc);
-    let places = model.inputs();
-    for k in 0..places.len() {
-        let place = places[k];
-        push_marked(draft, table, &mut inputs, place, marks[place as usize])?;
-    }
-    Ok(inputs)
 }

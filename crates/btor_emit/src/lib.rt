@@ -10,6 +10,7 @@ pub mod nodes;
 pub mod operands;
 pub mod reads;
 pub mod registers;
+pub mod rows;
 pub mod shape;
 pub mod statements;
 pub mod states;

@@ -19,7 +19,7 @@ fn mark(marks: &mut [bool], place: u32)
 }
 
 // Marks places.
-fn mark_all(marks: &mut [bool], places: &[u32])
+pub(crate) fn mark_all(marks: &mut [bool], places: &[u32])
     requires { AreBelow (length marks.old) places.now }
     ensures { Marks marks.old marks.new (Contains places.now) }
 {

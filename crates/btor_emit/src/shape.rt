@@ -1,6 +1,7 @@
 // What the lines leave open.
 
 use btor_core::line::Word;
+use place_rows::Rows;
 
 /// A state of the lines: so many of the model's state bits as its word is wide.
 #[derive(Clone, Copy, Debug, PartialEq, Eq)]
@@ -12,9 +13,10 @@ pub struct State {
     pub has_start: bool,
 }
 
-/// The states, whose bits are the model's state bits one after the other, and the places of the inputs, all in file order.
-#[derive(Debug, Drop)]
+/// The states, whose bits are the model's state bits one after the other, and the places of each input's bits, the lowest first, all in
+/// file order.
+#[derive(Drop)]
 pub struct Shape {
     pub states: Vec<State>,
-    pub inputs: Vec<u32>,
+    pub inputs: Rows,
 }

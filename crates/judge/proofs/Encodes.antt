@@ -177,7 +177,7 @@ fit_more t span names k job at few fit i other lt here = by (nat_case i k (omega
 
 -- the problem of a design that is read and flat, whose jobs all fit
 pub stored : (text : List ℕ) (mode : Mode) (span : Span) (d : DesignOf) (m : ModelOf) (shape : ShapeOf) (t : TaskNetOf) (names : List JobName) → IsSpanFor mode span → Reads text d → ((e : DesignOf) → Reads text e → e ≡ d) → IsFlat d
-    → IsBuiltFor d m → IsShapeOf m shape → names ≡ jobs_in mode span d → IsTaskNet m (asked_in mode) t → FitUpTo t span names (length names) → IsStored (asked_by text mode span d m shape t) names
+    → IsBuiltFor d m → IsShapeOf d m shape → names ≡ jobs_in mode span d → IsTaskNet m (asked_in mode) t → FitUpTo t span names (length names) → IsStored (asked_by text mode span d m shape t) names
 stored text mode span d m shape t names fits reads only flat built shaped named net fit = record {
   problem = record {
     span = fits;

@@ -66,7 +66,7 @@ module _ (p : AskedOf) (h : IsProblem p) where
 
   -- what is asked of a witness
   pub asked_fits : (s : Sought) → IsAsked (witness_asked p s)
-  asked_fits s = record { stretches = h.shape.stretches; read = h.shape.read }
+  asked_fits s = record { stretches = h.shape.stretches; rows = h.shape.rows }
 
   one_shown : (job : JobName) (stream : List ℕ) (most : ℕ) (x y : Fate) → IsShown p job stream most x → IsShown p job stream most y → x ≡ y
   one_shown (Base i) stream most x y a b = one_witness (witness_asked p (base_sought p i)) h.is_model stream most x y a b

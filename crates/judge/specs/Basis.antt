@@ -24,5 +24,5 @@ pub record IsBasis (b : BasisOf) : Type 0 where
   pub only : (d : DesignOf) → Reads b.text d → d ≡ b.design
   pub flat : IsFlat b.design
   pub built : IsBuiltFor b.design b.model
-  pub shape : IsShapeOf b.model b.shape
+  pub shape : IsShapeOf b.design b.model b.shape
   pub net : IsTaskNet b.model b.asked b.net

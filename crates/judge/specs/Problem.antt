@@ -18,6 +18,8 @@ use Rattle.design_graph.specs.declared.driver.Driver.{Driver}
 use Rattle.btor_emit.specs.Reads.{AreReadInputs}
 use Rattle.btor_emit.specs.States.{AreStretches}
 use Rattle.btor_emit.specs.declared.shape.State.{State}
+use Rattle.place_rows.specs.Rows.{AreRowsOf}
+use Rattle.source_rows.specs.Sources.{source_rows}
 use Rattle.word_model.specs.Built.{IsBuilt}
 use Rattle.word_model.specs.Model.{IsModelOf}
 use Rattle.sby_terms.specs.Problem.{ProblemOf}
@@ -29,14 +31,16 @@ use Rattle.sby_terms.specs.declared.span.Span.{Span}
 use Rattle.net_jobs.specs.Jobs.{job_made}
 use Rattle.judge.specs.Jobs.{AsksNothing, IsSpanFor, Solvable, jobs_of, span_of}
 
--- what a witness may say of a model: its state bits by longest stretches, and its inputs that are read
+-- what a witness may say of a model: its state bits by longest stretches, and its inputs that are read, each a row of places
 pub record ShapeOf : Type 0 where
   pub states : List State
-  pub inputs : List ℕ
+  pub inputs : List (List ℕ)
 
-pub record IsShapeOf (m : ModelOf) (s : ShapeOf) : Type 0 where
+-- what each `$anyseq` of the design gives is one input, and so is each other input bit
+pub record IsShapeOf (d : DesignOf) (m : ModelOf) (s : ShapeOf) : Type 0 where
   pub stretches : AreStretches m s.states
-  pub read : AreReadInputs m s.inputs
+  pub read : AreReadInputs m (source_rows d) s.inputs
+  pub rows : AreRowsOf m.inputs s.inputs
 
 -- what is asked, the design, its model, what a witness may say of that, and the net of what the mode asks
 pub record AskedOf : Type 0 where
@@ -96,6 +100,6 @@ pub record IsProblem (p : AskedOf) : Type 0 where
   pub is_model : IsModel p.model
   pub model : IsModelOf p.design p.model
   pub built : (order : List Driver) × IsOrder p.design order × IsBuilt p.design order p.model
-  pub shape : IsShapeOf p.model p.shape
+  pub shape : IsShapeOf p.design p.model p.shape
   pub net : IsTaskNet p.model (asked_in p.problem.mode) p.net
   pub fits : (job : JobName) → IsJob p job → job_made p.net.net job (span_of p.problem) ≤ 2 ^ 27

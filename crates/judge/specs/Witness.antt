@@ -19,6 +19,7 @@ use Rattle.witness_judge.specs.Choosing.{AskedOf as WitnessAskedOf, choices_for,
 use Rattle.witness_judge.specs.Fate.{HasWitness, IsWitnessFate, IsWitnessFateSoFar}
 use Rattle.witness_judge.specs.Playing.{AreAssumed, IsReached}
 use Rattle.witness_judge.specs.declared.sought.Sought.{Sought}
+use Rattle.source_rows.specs.Sources.{source_rows}
 use Rattle.word_model.specs.Layout.{IsAlike, valued}
 use Rattle.judge.specs.Jobs.{span_of}
 use Rattle.judge.specs.Problem.{AskedOf}
@@ -36,11 +37,11 @@ sought_in p job = sought_of (span_of p.problem) job
 abbrev pub witness_asked : AskedOf → Sought → WitnessAskedOf
 witness_asked p s = record { model = p.model; states = p.shape.states; inputs = p.shape.inputs; sought = s }
 
--- What is put as the job's file for engines that print witnesses: lines that have the model's runs, with what is sought as bad, as they are
--- written.
+-- What is put as the job's file for engines that print witnesses: lines that have the model's runs, with an input for each `$anyseq` and each
+-- other input bit that is read, and with what is sought as bad, as they are written.
 abbrev pub IsLinesFile : AskedOf → JobName → List ℕ → Type 0
 IsLinesFile p job bytes =
-    MatchOption (sought_in p job) ⊥ (λ s. (m : BtorOf) × (states : List State) × (inputs : List ℕ) × IsEmission p.model s.goal m states inputs × (bytes ≡ text_of m) × IsText bytes m)
+    MatchOption (sought_in p job) ⊥ (λ s. (m : BtorOf) × (states : List State) × (inputs : List (List ℕ)) × IsEmission p.model (source_rows p.design) s.goal m states inputs × (bytes ≡ text_of m) × IsText bytes m)
 
 -- what these bytes of a stream come to as a witness for the job, `most` of them at most: where more may follow
 abbrev pub IsShownSoFar : AskedOf → JobName → List ℕ → ℕ → Option Fate → Type 0

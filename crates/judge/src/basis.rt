@@ -18,6 +18,7 @@ use design_reader::read;
 use model_cone::asked::Asked;
 use model_core::model::WordModel;
 use sby_terms::{JobName, Mode, Span};
+use source_rows::source_rows;
 use std::alloc::{AllocError, Global};
 use std::marker::Model;
 use task_net::TaskNet;
@@ -39,9 +40,9 @@ impl Model for Basis {
 
     ghost Value = { BasisOf };
 
-    ghost view = { λ a. record { text = a.text; asked = a.asked; design = a.flat; model = a.model; shape = record { states = a.shape.states.items; inputs = a.shape.inputs.items }; net = a.net } };
+    ghost view = { λ a. record { text = a.text; asked = a.asked; design = a.flat; model = a.model; shape = record { states = a.shape.states.items; inputs = a.shape.inputs }; net = a.net } };
 
-    ghost invariant = { λ a. IsBasis (record { text = a.text; asked = a.asked; design = a.flat; model = a.model; shape = record { states = a.shape.states.items; inputs = a.shape.inputs.items }; net = a.net }) };
+    ghost invariant = { λ a. IsBasis (record { text = a.text; asked = a.asked; design = a.flat; model = a.model; shape = record { states = a.shape.states.items; inputs = a.shape.inputs }; net = a.net }) };
 }
 
 // The first job of a mode that has jobs.
@@ -81,7 +82,8 @@ impl Basis {
             Ok(net) => net,
             Err(_) => return Ok(Err(ProblemFault::TooMany(first_job(mode)))),
         };
-        let shape = open_shape(alloc, &model)?;
+        let rows = source_rows(alloc, &flat)?;
+        let shape = open_shape(alloc, &model, &rows)?;
         let text = Text::new(alloc, text)?;
         Ok(Ok(Basis {
             text,
@@ -125,7 +127,7 @@ impl Basis {
     // What a witness may say of the model.
     pub(crate) fn shape(&self) -> &Shape
         ensures states { result.now.states.items ≡ self.now.shape.states }
-        ensures inputs { result.now.inputs.items ≡ self.now.shape.inputs }
+        ensures inputs { result.now.inputs ≡ self.now.shape.inputs }
     {
         &self.shape
     }

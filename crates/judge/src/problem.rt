@@ -33,6 +33,7 @@ use net_jobs::encode_again;
 use net_text::EncodedClauses;
 use net_unroll::Encoded;
 use sby_terms::{JobName, Mode, Span};
+use source_rows::source_rows;
 use std::alloc::{AllocError, Global};
 use std::marker::Model;
 use std::sync::Arc;
@@ -219,11 +220,12 @@ impl Problem {
         requires run { job ≢ JobName.Step }
         ensures { IfOk result (λ bytes. IsLinesFile self.now job bytes.items) }
     {
-        let _flat = self.flat();
+        let flat = self.flat();
         let Some(sought) = sought_of(self.span, job) else {
             unreachable!()
         };
-        let emitted = emit(alloc, self.model(), sought.goal)?;
+        let rows = source_rows(alloc, flat)?;
+        let emitted = emit(alloc, self.model(), &rows, sought.goal)?;
         let text = write(alloc, &emitted.model)?;
         Ok(text)
     }
@@ -291,7 +293,7 @@ impl Problem {
     // What a witness may say of the model.
     pub(crate) fn shape(&self, alloc: Global) -> Result<Shape, AllocError>
         ensures states { IfOk result (λ s. s.states.items ≡ self.now.shape.states) }
-        ensures inputs { IfOk result (λ s. s.inputs.items ≡ self.now.shape.inputs) }
+        ensures inputs { IfOk result (λ s. s.inputs ≡ self.now.shape.inputs) }
     {
         copied(alloc, self.basis.shape())
     }
@@ -300,11 +302,10 @@ impl Problem {
 // A copy of a shape.
 fn copied(alloc: Global, shape: &Shape) -> Result<Shape, AllocError>
     ensures states { IfOk result (λ s. s.states.items ≡ shape.now.states.items) }
-    ensures inputs { IfOk result (λ s. s.inputs.items ≡ shape.now.inputs.items) }
+    ensures inputs { IfOk result (λ s. s.inputs ≡ shape.now.inputs) }
 {
     let mut states = Vec::new(alloc);
     states.extend_from_slice(&shape.states)?;
-    let mut inputs = Vec::new(alloc);
-    inputs.extend_from_slice(&shape.inputs)?;
+    let inputs = shape.inputs.copy(alloc)?;
     Ok(Shape { states, inputs })
 }

@@ -1,14 +1,11 @@
--- Stretches and inputs, as they are found one after the other.
-use Rattle.std.proofs.Common.{◌≡◌, ◌∙◌, ◌+◌, ◌-◌, ◌<◌, ◌≤◌, ℕ, suc, inl, inr, Bool, List, [], ◌∷◌, ◌++◌, Some, None, arith, length, sym, ap, subst, refl, take}
-use Rattle.std.specs.Prelude.{All, slice_get}
-use Rattle.std.specs.List.{filter}
+-- Stretches, as they are found one after the other.
+use Rattle.std.proofs.Common.{◌≡◌, ◌∙◌, ◌+◌, ◌≤◌, ℕ, inl, inr, List, [], ◌∷◌, ◌++◌, Some, None, arith, length, sym, ap, refl, take}
+use Rattle.std.specs.Prelude.{slice_get}
 use Rattle.std.proofs.lemmas.List.{take-append-le}
 use Rattle.std.proofs.Math.Seq.{take-length}
 use Rattle.std.proofs.lemmas.List.Elements.{All-append, All-cons, All-nil}
 use Rattle.std.proofs.lemmas.List.Sums.{sum_by-append}
 use Rattle.std.proofs.lemmas.Option.{slice_get_within}
-use Rattle.btor_emit.proofs.Covering.{take_at}
-use Rattle.btor_emit.proofs.Inputting.{filter_append}
 use Rattle.btor_emit.specs.States.{IsStretchOf, bits_of}
 use Rattle.btor_emit.specs.declared.shape.State.{State}
 use Rattle.model_core.proofs.Lists.{push-either}
@@ -34,9 +31,3 @@ one_more m ss s end old stretch end_is = record {
               let l : length ss ≤ length ss = omega arith in
               ap (λ (z : State). z.first) h.1 ∙ sym old.whole ∙ ap bits_of (sym (take-length ss) ∙ sym (take-append-le (length ss) ss (s ∷ []) l) ∙ ap (λ (k : ℕ). take k (ss ++ s ∷ [])) (sym h.0))
         ]
-
--- the inputs up to one more place
-pub one_place : (keep : ℕ → Bool) (xs inputs now : List ℕ) (i p : ℕ) → slice_get xs i ≡ Some p → inputs ≡ filter keep (take i xs) → now ≡ inputs ++ filter keep (p ∷ []) → now ≡ filter keep (take (i + 1) xs)
-one_place keep xs inputs now i p at old is =
-    let z : suc i ≡ i + 1 = omega arith in
-    is ∙ ap (λ (ps : List ℕ). ps ++ filter keep (p ∷ [])) old ∙ sym (ap (λ (n : ℕ). filter keep (take n xs)) (sym z) ∙ ap (filter keep) (take_at xs i p at) ∙ filter_append keep (take i xs) (p ∷ []))

@@ -1,6 +1,7 @@
 -- What a witness comes to.
 use Rattle.std.proofs.Common.{◌≡◌, ℕ, ◌-◌, ◌≤◌, List, length, map, sym, ap, ◌∙◌, subst, inr}
 use Rattle.std.specs.Prelude.{All}
+use Rattle.std.specs.List.{concat}
 use Rattle.sby_bits.specs.Rows.{Row}
 use Rattle.sby_terms.specs.declared.names.Answer.TheVariants.{Sat}
 use Rattle.model_core.specs.Choices.{ChoicesOf, Plays}
@@ -22,7 +23,7 @@ module _ (a : AskedOf) (w : WitnessesOf) (x : WitnessOf) (chose : HasChosen a w 
   -- choices that are made of what is kept
   pub made_choices : (few : length x.frames ≤ a.sought.last) (c : ChoicesOf) (starts inputs : Row) (read : List ℕ) (cycles : ℕ)
       → c ≡ record { starts = starts; inputs = map (λ row. map (bit_for read row) a.model.inputs) (rows_of (length read) cycles inputs) }
-      → starts ≡ w.reading.frames.starts → inputs ≡ w.reading.frames.inputs → read ≡ a.inputs → cycles ≡ w.reading.frames.count → c ≡ choices_for a x.frames
+      → starts ≡ w.reading.frames.starts → inputs ≡ w.reading.frames.inputs → read ≡ concat a.inputs → cycles ≡ w.reading.frames.count → c ≡ choices_for a x.frames
   made_choices few c starts inputs read cycles e s i r n =
       let make : Row → Row → List ℕ → ChoicesOf = λ bits rows places. record { starts = bits; inputs = map (λ row. map (bit_for places row) a.model.inputs) (rows_of (length places) cycles rows) } in
       e ∙ ap (λ (bits : Row). make bits inputs read) s ∙ ap (λ (rows : Row). make w.reading.frames.starts rows read) i ∙ ap (λ (places : List ℕ). make w.reading.frames.starts w.reading.frames.inputs places) r

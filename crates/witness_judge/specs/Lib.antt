@@ -1,5 +1,4 @@
 pub mod Choosing
-pub mod Spreading
 pub mod Playing
 pub mod Fate
 pub mod Judging

@@ -1,11 +1,11 @@
 // What a stream is judged for.
 
 ghost use Rattle.std.specs.Prelude.{◌≡◌, IfOk};
-ghost use Rattle.btor_emit.specs.Reads.{AreReadInputs};
 ghost use Rattle.btor_emit.specs.States.{AreStretches};
 ghost use Rattle.btor_witness.specs.Grammar.{WitnessOf};
 ghost use Rattle.btor_witness.specs.Machine.{fresh};
 ghost use Rattle.btor_witness.specs.declared.spot.Seen.TheVariants.{Whole};
+ghost use Rattle.place_rows.specs.Rows.{AreRowsOf};
 ghost use Rattle.witness_judge.specs.Choosing.{shape_of};
 ghost use Rattle.witness_judge.specs.Settling.{HasChosen, Settles};
 
@@ -36,9 +36,9 @@ impl<'m> Model for Asked<'m> {
 
     ghost Value = { AskedOf };
 
-    ghost view = { λ a. record { model = a.model.now; states = a.shape.states.items; inputs = a.shape.inputs.items; sought = a.sought } };
+    ghost view = { λ a. record { model = a.model.now; states = a.shape.states.items; inputs = a.shape.inputs; sought = a.sought } };
 
-    ghost invariant = { λ a. IsAsked (record { model = a.model.now; states = a.shape.states.items; inputs = a.shape.inputs.items; sought = a.sought }) };
+    ghost invariant = { λ a. IsAsked (record { model = a.model.now; states = a.shape.states.items; inputs = a.shape.inputs; sought = a.sought }) };
 }
 
 impl<'m> Asked<'m> {
@@ -49,8 +49,8 @@ impl<'m> Asked<'m> {
         sought: Sought,
     ) -> Asked<'m>
         requires states { AreStretches model.now shape.states.items }
-        requires inputs { AreReadInputs model.now shape.inputs.items }
-        ensures { result ≡ record { model = model.now; states = shape.states.items; inputs = shape.inputs.items; sought = sought } }
+        requires inputs { AreRowsOf model.now.inputs shape.inputs }
+        ensures { result ≡ record { model = model.now; states = shape.states.items; inputs = shape.inputs; sought = sought } }
     {
         Asked {
             alloc,
@@ -84,7 +84,7 @@ impl<'m> Asked<'m> {
         let choices = choices(
             self.alloc,
             self.model,
-            &self.shape.inputs,
+            self.shape.inputs.places(),
             chosen,
             frames as usize,
         )?;

@@ -1,9 +1,9 @@
 // The judge of one stream as a witness.
 
 ghost use Rattle.std.specs.Prelude.{◌≡◌, ◌↔◌, ◌++◌, [], List, ℕ, IfOk, IsTrue, true};
-ghost use Rattle.btor_emit.specs.Reads.{AreReadInputs};
 ghost use Rattle.btor_emit.specs.States.{AreStretches};
 ghost use Rattle.btor_witness.specs.declared.spot.Seen.TheVariants.{More};
+ghost use Rattle.place_rows.specs.Rows.{AreRowsOf};
 ghost use Rattle.witness_judge.specs.Judging.{Ends, Feeds, IsSameJudge, Took, is_reading};
 
 use crate::asked::Asked;
@@ -54,8 +54,8 @@ impl<'m> WitnessJudge<'m> {
         most: u64,
     ) -> Result<Self, AllocError>
         requires states { AreStretches model.now shape.states.items }
-        requires inputs { AreReadInputs model.now shape.inputs.items }
-        ensures asked { IfOk result (λ j. j.asked ≡ record { model = model.now; states = shape.states.items; inputs = shape.inputs.items; sought = sought }) }
+        requires inputs { AreRowsOf model.now.inputs shape.inputs }
+        ensures asked { IfOk result (λ j. j.asked ≡ record { model = model.now; states = shape.states.items; inputs = shape.inputs; sought = sought }) }
         ensures most { IfOk result (λ j. j.most ≡ most) }
         ensures took { IfOk result (λ j. Took j []) }
     {

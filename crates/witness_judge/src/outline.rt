@@ -1,17 +1,19 @@
 // What a model leaves open, without its lines.
 
-ghost use Rattle.std.specs.Prelude.{◌≡◌, ◌+◌, ◌<◌, ◌≤◌, [], ◌∷◌, ◌++◌, IfOk, OnOk, false, length, slice_index_or, take};
-ghost use Rattle.std.specs.List.{filter, flat_map};
+ghost use Rattle.std.specs.Prelude.{◌≡◌, ◌+◌, ◌<◌, ◌≤◌, [], ◌∷◌, ◌++◌, IfOk, OnOk, length, take};
+ghost use Rattle.std.specs.List.{flat_map};
 ghost use Rattle.btor_emit.specs.Reads.{AreReadInputs};
 ghost use Rattle.btor_emit.specs.States.{AreStretches};
 ghost use Rattle.model_core.specs.Served.{IsModel};
+ghost use Rattle.place_rows.specs.Rows.{AreRowsOf};
 ghost use Rattle.witness_judge.specs.Outlining.{AreStretchesTo, outlined};
 
 use btor_core::line::Word;
-use btor_emit::reads::read_places;
+use btor_emit::rows::read_rows;
 use btor_emit::shape::{Shape, State};
 use btor_emit::states::stretch;
 use model_core::model::WordModel;
+use place_rows::Rows;
 use std::alloc::{AllocError, Global};
 
 // Adds the state of the state bits from `first` to `end`.
@@ -75,40 +77,16 @@ fn stretches(alloc: Global, model: &WordModel) -> Result<Vec<State>, AllocError>
     Ok(made)
 }
 
-// One place more, if it is marked.
-fn push_if(inputs: &mut Vec<u32>, place: u32, marked: bool) -> Result<(), AllocError>
-    ensures { OnOk result (inputs.new.items ≡ inputs.old.items ++ filter (λ p. marked) (place ∷ [])) }
-{
-    if marked {
-        inputs.push(place)?;
-    }
-    Ok(())
-}
-
-// The inputs that are marked.
-fn marked_inputs(alloc: Global, model: &WordModel, marks: &[bool]) -> Result<Vec<u32>, AllocError>
-    requires model { IsModel model.now }
-    requires marks { length marks.now ≡ model.now.size }
-    ensures { IfOk result (λ inputs. inputs.items ≡ filter (λ p. slice_index_or marks.now p false) model.now.inputs) }
-{
-    let mut inputs = Vec::new(alloc);
-    let places = model.inputs();
-    for k in 0..places.len() {
-        let place = places[k];
-        push_if(&mut inputs, place, marks[place as usize])?;
-    }
-    Ok(inputs)
-}
-
-/// What a witness may say of a model: the state bits by their longest stretches, and the inputs that are read. No line of the model is made,
-/// so the states' lines have number 0.
-pub fn open_shape(alloc: Global, model: &WordModel) -> Result<Shape, AllocError>
+/// What a witness may say of a model: the state bits by their longest stretches, and the rows of inputs of which a bit is read. No line of
+/// the model is made, so the states' lines have number 0.
+pub fn open_shape(alloc: Global, model: &WordModel, rows: &Rows) -> Result<Shape, AllocError>
+    requires { AreRowsOf model.now.inputs rows.now }
     ensures states { IfOk result (λ s. AreStretches model.now s.states.items) }
-    ensures inputs { IfOk result (λ s. AreReadInputs model.now s.inputs.items) }
+    ensures inputs { IfOk result (λ s. AreReadInputs model.now rows.now s.inputs) }
+    ensures rows { IfOk result (λ s. AreRowsOf model.now.inputs s.inputs) }
 {
     let _size = model.size();
     let states = stretches(alloc, model)?;
-    let marks = read_places(alloc, model)?;
-    let inputs = marked_inputs(alloc, model, &marks)?;
+    let inputs = read_rows(alloc, model, rows)?;
     Ok(Shape { states, inputs })
 }

@@ -1,11 +1,6 @@
-use Rattle.std.proofs.Common.{◌≡◌, false, take}
-use Rattle.std.specs.Prelude.{slice_index_or}
-use Rattle.std.specs.List.{filter}
+use Rattle.std.proofs.Common.{take}
 use Rattle.btor_emit.specs.Emitting.{AreInputs}
 use Rattle.btor_emit.proofs.inputs.push_inputs.Given as goal
 
 abbrev pub invariant-loop-k : goal.invariant-loop-k
-invariant-loop-k l = record {
-  kept : l.inputs.items ≡ filter (λ p. slice_index_or l.marks p false) (take l.k l.model.inputs);
-  lines : AreInputs l.fn.draft l.draft l.fn.table l.table l.inputs.items;
-}
+invariant-loop-k l = AreInputs l.fn.draft l.draft l.fn.table l.table (take l.k l.rows)

@@ -1,11 +1,16 @@
 use Rattle.std.proofs.Common.{◌∙◌, List, ℕ, subst, sym}
+use Rattle.btor_emit.specs.Reads.{AreReadInputs}
 use Rattle.design_check.specs.Faults.{IsFlat}
 use Rattle.design_core.specs.Shape.{DesignOf}
 use Rattle.design_reader.specs.Grammar.{Reads}
 use Rattle.model_cone.specs.declared.asked.Asked.{Asked}
+use Rattle.place_rows.specs.Rows.{AreRowsOf}
 use Rattle.task_net.specs.Net.{IsTooLarge}
 use Rattle.judge.proofs.Encodes.{refused_first, some_jobs, too_many}
 use Rattle.judge.proofs.basis.Basis.new.Goals as goal
+
+pub open_shape-requires : goal.open_shape-requires
+open_shape-requires c = subst (λ (inputs : List ℕ). AreRowsOf inputs c.in_ok-rows.rows) (sym c.in_ok-model.ensures.model.inputs) c.in_ok-rows.ensures.inputs
 
 pub returns-in-Err : goal.returns-in-Err
 returns-in-Err c = record { basis = rw c.as_slice.ensures.value at (rw c.in-Err.is at c.in_ok-design.ensures.fault) }
@@ -39,6 +44,10 @@ invariant_of-result c =
       only = λ e r. only e (subst (λ (bytes : List ℕ). Reads bytes e) text r) ∙ sym same;
       flat = subst (λ (d : DesignOf). IsFlat d) (sym same) checked.1;
       built = c.in_ok-model.ensures;
-      shape = record { stretches = c.in_ok-shape.ensures.states; read = c.in_ok-shape.ensures.inputs };
+      shape = record {
+        stretches = c.in_ok-shape.ensures.states;
+        read = subst (λ (rows : List (List ℕ)). AreReadInputs c.in_ok-model.model rows c.in_ok-shape.shape.inputs) (c.in_ok-rows.ensures.rows) c.in_ok-shape.ensures.inputs;
+        rows = c.in_ok-shape.ensures.rows;
+      };
       net = rw c.in-Ok-3.is at c.in_ok-net.ensures.net;
     }

@@ -1,11 +1,7 @@
-use Rattle.std.proofs.Common.{[]}
-use Rattle.witness_tests.proofs.OneBit.{reads_on, takes}
+use Rattle.std.proofs.Common.{List, ℕ, subst, sym}
+use Rattle.place_rows.specs.Rows.{AreRowsOf}
+use Rattle.witness_tests.proofs.FourInputs.{no_rows}
 use Rattle.witness_tests.proofs.tests.judging.come.Goals as goal
 
-pub feed-requires-2 : goal.feed-requires-2
-feed-requires-2 c = reads_on _ _ (takes _ _ _ _ (c.in_ok-outcome.ensures.feeds [] c.in_ok-judge.ensures.took) c.in_default.not-Some)
-
-pub end-requires : goal.end-requires
-end-requires c =
-    let first = takes _ _ _ _ (c.in_ok-outcome.ensures.feeds [] c.in_ok-judge.ensures.took) c.in_default.not-Some in
-    reads_on _ _ (takes _ _ _ _ (c.in_ok-outcome-2.ensures.feeds _ first) c.in_default-2.not-Some)
+pub judged-requires : goal.judged-requires
+judged-requires c = subst (λ (rows : List (List ℕ)). AreRowsOf c.in_ok-model.model.inputs rows) (sym c.new-rows.ensures) (no_rows c.in_ok-model.model.inputs)
