@@ -1,6 +1,7 @@
 """Seconds and memory of a job's BTOR2 text: sby --judge with a stored witness, which puts base.btor, beside a run without a stream."""
 import argparse
 import os
+import statistics
 import subprocess
 import sys
 import tempfile
@@ -41,10 +42,15 @@ def count_lines(path):
         return sum(chunk.count(b"\n") for chunk in iter(lambda: file.read(1 << 20), b""))
 
 
-def best(words, seconds, said, folder, tries):
-    """The least seconds and memory of some runs."""
-    runs = [run(words, seconds, said, folder) for _ in range(tries)]
-    return min(runs, key=lambda it: it.user), min(it.mb for it in runs)
+def turns(judge, stream, seconds, said, folder, tries):
+    """Runs without and with the stream by turns, since a processor's speed changes: the last, and medians of seconds, of what is more and of memory."""
+    without, whole = [], []
+    for _ in range(tries):
+        without.append(run(judge, seconds, said, folder))
+        whole.append(run([*judge, stream], seconds, said, folder))
+    more = statistics.median(b.user - a.user for a, b in zip(without, whole))
+    user = (statistics.median(it.user for it in runs) for runs in (without, whole))
+    return whole[-1], *user, more, *(min(it.mb for it in runs) for runs in (without, whole))
 
 
 def main():
@@ -52,7 +58,7 @@ def main():
     words.add_argument("--sby", help="path of the program sby")
     words.add_argument("--only", default="", help="designs whose name has this in it")
     words.add_argument("--seconds", type=int, default=120, help="limit of CPU seconds of each run")
-    words.add_argument("--tries", type=int, default=3, help="runs of each kind, of which the best counts (3)")
+    words.add_argument("--tries", type=int, default=3, help="runs of each kind, of which the median counts (3)")
     words.add_argument("--make", nargs=2, metavar=("NAME", "FILE"), help="write one design's text and end")
     words = words.parse_args()
     if words.make:
@@ -73,16 +79,15 @@ def main():
             with open(os.path.join(folder, "none.wit"), "w") as file:
                 file.write("unknown\n")
             judge = [sby, "--judge", "x.il", "bmc", "1"]
-            without, low = best(judge, words.seconds, said, folder, words.tries)
-            whole, high = best([*judge, "none.wit"], words.seconds, said, folder, words.tries)
-            if whole.over or "DONE (UNKNOWN" not in last_line(said) or not os.path.exists(job):
+            last, without, whole, more, low, high = turns(judge, "none.wit", words.seconds, said, folder, words.tries)
+            if last.over or "DONE (UNKNOWN" not in last_line(said) or not os.path.exists(job):
                 wrong.append(name)
                 print(f"{name:15}  {last_line(said)}", flush=True)
                 continue
-            lines, took = count_lines(job), max(whole.user - without.user, 0.01)
+            lines, took = count_lines(job), max(more, 0.01)
             each = max(high - low, 0) * 1048576 / lines
             figures = f"{lines / took / 1e6:10.2f}{each:11.0f}{'' if lines / took >= LINES else '  slow'}{'' if each <= BYTES else '  large'}"
-            print(f"{name:15}{os.path.getsize(text) / 1e6:8.2f}{without.user:10.2f}{low:7.0f}{whole.user:8.2f}{high:7.0f}{lines:10}"
+            print(f"{name:15}{os.path.getsize(text) / 1e6:8.2f}{without:10.2f}{low:7.0f}{whole:8.2f}{high:7.0f}{lines:10}"
                   f"{os.path.getsize(job) / 1e6:8.2f}{figures if lines >= LEAST else ''}", flush=True)
     print(f"{len(wrong)} designs that don't end UNKNOWN with their lines", *wrong)
     sys.exit(1 if wrong else 0)
