@@ -48,6 +48,18 @@ cell $bmux $c
     connect \S \v [63:0] connect \Y \x
 end
 
+BadParameter $c
+cell $ff $c parameter \WIDTH 4294967295'x connect \D \p connect \Q \x end
+
+BadParameter $c
+cell $sdff $c
+    parameter \CLK_POLARITY 1 parameter \SRST_POLARITY 1 parameter \SRST_VALUE 4294967295'1 parameter \WIDTH 1
+    connect \CLK \clk connect \D \p connect \Q \x connect \SRST \y
+end
+
+PortWidth $c
+cell $ff $c parameter \WIDTH 4294967295'1 connect \D \in connect \Q \x end
+
 PortWidth \p
 connect \x \p
 connect \p \in

@@ -7,7 +7,7 @@ use std::test::*;
 
 /// Texts, and what is read from them: how many wires, wire bits, cells and connects, and from which bits the last connect
 /// drives, lowest first; or the byte and the kind of the refusal. The counts of the long ones are those that Yosys prints.
-const TEXTS: [(&str, &str); 21] = [
+const TEXTS: [(&str, &str); 22] = [
     (
         r"module \t wire width 2 \a wire width 3 \b connect { \a \b } { \a [0] 1'x \b } end",
         "2 wires, 5 bits, 0 cells, 1 connects",
@@ -29,6 +29,7 @@ const TEXTS: [(&str, &str); 21] = [
     (r"module \t cell $not \n module", "byte 23: several modules"),
     (r"module \t wire width 0 \w", "byte 21: left out"),
     (r"module \t process", "byte 10: left out"),
+    (r"module \t parameter signed \P 1 end", "byte 20: syntax"),
     (
         r"module \t wire \a wire \a",
         "byte 23: name is there already",
