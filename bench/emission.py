@@ -42,12 +42,12 @@ def count_lines(path):
         return sum(chunk.count(b"\n") for chunk in iter(lambda: file.read(1 << 20), b""))
 
 
-def turns(judge, stream, seconds, said, folder, tries):
-    """Runs without and with the stream by turns, since a processor's speed changes: the last, and medians of seconds, of what is more and of memory."""
+def turns(judge, streams, seconds, said, folder, tries):
+    """Runs without and with the streams by turns, since a processor's speed changes: the last, and medians of seconds, of what is more and of memory."""
     without, whole = [], []
     for _ in range(tries):
         without.append(run(judge, seconds, said, folder))
-        whole.append(run([*judge, stream], seconds, said, folder))
+        whole.append(run([*judge, *streams], seconds, said, folder))
     more = statistics.median(b.user - a.user for a, b in zip(without, whole))
     user = (statistics.median(it.user for it in runs) for runs in (without, whole))
     return whole[-1], *user, more, *(min(it.mb for it in runs) for runs in (without, whole))
@@ -79,7 +79,7 @@ def main():
             with open(os.path.join(folder, "none.wit"), "w") as file:
                 file.write("unknown\n")
             judge = [sby, "--judge", "x.il", "bmc", "1"]
-            last, without, whole, more, low, high = turns(judge, "none.wit", words.seconds, said, folder, words.tries)
+            last, without, whole, more, low, high = turns(judge, ["none.wit"], words.seconds, said, folder, words.tries)
             if last.over or "DONE (UNKNOWN" not in last_line(said) or not os.path.exists(job):
                 wrong.append(name)
                 print(f"{name:15}  {last_line(said)}", flush=True)

@@ -76,7 +76,7 @@ def main():
             # another process makes the text: a child's peak memory is at least that of the process that starts it
             subprocess.run([sys.executable, "-B", os.path.join(HERE, "jobs.py"), "--make", name, text], check=True)
             with open(os.path.join(folder, "t.sby"), "w") as file:
-                file.write(f"[options]\n{options}[engines]\nbtor true\n[script]\nread_rtlil x.il\n[files]\nx.il\n")
+                file.write(f"[options]\n{options}[engines]\ninv true\n[script]\nread_rtlil x.il\n[files]\nx.il\n")
             alone = run([sby, "--judge", "x.il", "bmc", "1"], words.seconds, said, folder)
             whole = run([sby, "t.sby"], words.seconds, said, folder, file_limit=32 << 30)
             count, put, variables, clauses = files_in(os.path.join(folder, "t"))

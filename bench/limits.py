@@ -29,7 +29,7 @@ def put(folder, design, options):
     make, *sizes = design
     make(*sizes).write(os.path.join(folder, "x.il"))
     with open(os.path.join(folder, "t.sby"), "w") as file:
-        file.write(f"[options]\n{options}[engines]\nbtor true\n[script]\nread_rtlil x.il\n[files]\nx.il\n")
+        file.write(f"[options]\n{options}[engines]\ninv true\n[script]\nread_rtlil x.il\n[files]\nx.il\n")
 
 
 def ended(sby, shim, design, options, limit):

@@ -52,7 +52,7 @@ def memory(sby):
         made = []
         for tasks, words in ((HUNDREDS[:1], []), (HUNDREDS, ["-j", "4"])):
             with tempfile.TemporaryDirectory() as folder:
-                put(folder, bank(registers, 50, "assert", 1), tasks, "mode bmc\ndepth 30\nexpect unknown\n", "btor true")
+                put(folder, bank(registers, 50, "assert", 1), tasks, "mode bmc\ndepth 30\nexpect unknown\n", "inv true")
                 made.append(measured(sby, folder, words, 3600)[0].mb)
         print(f"{registers * 50} bits of state: one task {made[0]:.0f} MB, 200 tasks under -j 4 {made[1]:.0f} MB")
 

@@ -11,7 +11,7 @@ STATUSES = ("PASS", "FAIL", "UNKNOWN", "ERROR", "TIMEOUT")
 MODES = ("bmc", "prove", "cover")
 
 # Options that sby has too, and those that change nothing here, since sby plays and checks each run itself.
-KEPT = ("mode", "depth", "skip", "stride", "timeout", "expect", "wait", "multiclock")
+KEPT = ("mode", "depth", "skip", "stride", "timeout", "expect", "wait", "multiclock", "by")
 DROPPED = {
     "append": "runs end in the cycle that they are about",
     "append_assume": "no cycles are appended",
@@ -275,21 +275,21 @@ def word_engine(words, mode, depth):
     return [bounded, "sat"], f"engine {line} becomes {bounded}, and sat beside it: it shows runs alone"
 
 
-def served_engine(words, mode, depth):
+def served_engine(words, mode, depth, by):
     """The engine lines of sby for one of SymbiYosys's, and what is said of them."""
     line = " ".join(words)
     while words and words[0].startswith("--"):
         words = words[1:]
     name = words[0] if words else ""
-    if name in ("sat", "drup", "lrat", "proof", "proofb"):
+    if name in ("sat", "drup", "lrat", "proof", "proofb", "inv"):
         return [line], None
     if name == "btor":
         return word_engine(words, mode, depth)
     if name in ("smtbmc", "aiger") or words[:2] in (["abc", "bmc3"], ["abc", "sim3"]):
         return ["sat"], f"engine {line} becomes sat, whose proofs sby checks"
     if words[:2] == ["abc", "pdr"]:
-        if mode == "prove":
-            return ["sat"], f"engine {line} becomes sat, by induction at the task's depth: sby has no engine for invariants yet"
+        if mode == "prove" and by == "induction":
+            return ["sat"], f"engine {line} becomes sat, by induction at the task's depth: option by invariant and a line inv are sby's own"
         return ["sat"], f"engine {line} becomes sat, whose proofs sby checks"
     if name in ("itp", "none"):
         return [], f"engine {line} is left out: sby has nothing like it"
@@ -303,7 +303,7 @@ def serve_engines(task):
         raise Refused("the task has no engine")
     found = []
     for words in lines:
-        served, said = served_engine(words, task.mode(), task.depth())
+        served, said = served_engine(words, task.mode(), task.depth(), task.options.get("by", "induction"))
         if said:
             task.changes.append(said)
         found += [line for line in served if line not in found]

@@ -12,7 +12,7 @@ use Rattle.cert_judge.specs.Kinds.{FateSoFar, IsFate}
 use Rattle.cert_judge.specs.declared.stream.StreamKind.TheVariants.{Drup}
 use Rattle.sby_terms.specs.declared.names.Answer.{Answer}
 use Rattle.sby_terms.specs.declared.names.Answer.TheVariants.{Sat, Unsat}
-use Rattle.cert_judge.specs.declared.stream.CertKind.TheVariants.{BadLine, BadLiteral, LineTooLong, NotRup, NotSatisfying, NotPlaying, TooLong, EarlyEnd, BadWitness, BadId, BadHint, NotHinted}
+use Rattle.cert_judge.specs.declared.stream.CertKind.TheVariants.{BadLine, BadLiteral, LineTooLong, NotRup, NotSatisfying, NotPlaying, TooLong, EarlyEnd, BadWitness, BadId, BadHint, NotHinted, BadPart, NotInvariant}
 use Rattle.cert_judge.specs.Values.{named, unnamed}
 use Rattle.cert_judge.proofs.Bounding.{some_same}
 use Rattle.cert_judge.proofs.Bounding.{sides}
@@ -121,6 +121,8 @@ own_same false (Bad BadWitness n) y e = some_same (Bad BadWitness n) y (sym e)
 own_same false (Bad BadId n) y e = some_same (Bad BadId n) y (sym e)
 own_same false (Bad BadHint n) y e = some_same (Bad BadHint n) y (sym e)
 own_same false (Bad NotHinted n) y e = some_same (Bad NotHinted n) y (sym e)
+own_same false (Bad BadPart n) y e = some_same (Bad BadPart n) y (sym e)
+own_same false (Bad NotInvariant n) y e = some_same (Bad NotInvariant n) y (sym e)
 
 pub output_satisfied : (job bytes : List ℕ) (most : ℕ) (f : FormulaOf) → IsDimacs job f → IsOutputFate job bytes most (Some (Found Sat)) → (x : Assignment) × Satisfies x f.clauses
 output_satisfied job bytes most f d (x, h, e) =

@@ -1,7 +1,7 @@
 -- The numbers of the faults of a stream.
 use Rattle.std.specs.Prelude.{ℕ, cond, eqb, List, [], ◌∷◌, Option, None, Some}
 use Rattle.cert_judge.specs.declared.stream.CertKind.{CertKind}
-use Rattle.cert_judge.specs.declared.stream.CertKind.TheVariants.{BadLine, BadLiteral, LineTooLong, NotRup, NotSatisfying, NotPlaying, TooLong, EarlyEnd, BadWitness, BadId, BadHint, NotHinted}
+use Rattle.cert_judge.specs.declared.stream.CertKind.TheVariants.{BadLine, BadLiteral, LineTooLong, NotRup, NotSatisfying, NotPlaying, TooLong, EarlyEnd, BadWitness, BadId, BadHint, NotHinted, BadPart, NotInvariant}
 
 abbrev pub number_of : CertKind → ℕ
 number_of BadLine = 41
@@ -16,10 +16,12 @@ number_of BadWitness = 49
 number_of BadId = 58
 number_of BadHint = 59
 number_of NotHinted = 60
+number_of BadPart = 61
+number_of NotInvariant = 62
 
 -- all kinds
 abbrev pub all_kinds : List CertKind
-all_kinds = BadLine ∷ BadLiteral ∷ LineTooLong ∷ NotRup ∷ NotSatisfying ∷ NotPlaying ∷ TooLong ∷ EarlyEnd ∷ BadWitness ∷ BadId ∷ BadHint ∷ NotHinted ∷ []
+all_kinds = BadLine ∷ BadLiteral ∷ LineTooLong ∷ NotRup ∷ NotSatisfying ∷ NotPlaying ∷ TooLong ∷ EarlyEnd ∷ BadWitness ∷ BadId ∷ BadHint ∷ NotHinted ∷ BadPart ∷ NotInvariant ∷ []
 
 -- the kind with this number among these, or among all, if there is one
 abbrev pub kind_among : List CertKind → ℕ → Option CertKind

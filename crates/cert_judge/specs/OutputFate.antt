@@ -4,7 +4,7 @@ use Rattle.cert_judge.specs.Fate.{Fate, Found, Unknown, Bad}
 use Rattle.cert_judge.specs.Kinds.{IsFate, IsFateSoFar}
 use Rattle.cert_judge.specs.declared.stream.StreamKind.TheVariants.{Drup}
 use Rattle.cert_judge.specs.declared.stream.CertKind.{CertKind}
-use Rattle.cert_judge.specs.declared.stream.CertKind.TheVariants.{BadLine, BadLiteral, LineTooLong, NotRup, NotSatisfying, NotPlaying, TooLong, EarlyEnd, BadWitness, BadId, BadHint, NotHinted}
+use Rattle.cert_judge.specs.declared.stream.CertKind.TheVariants.{BadLine, BadLiteral, LineTooLong, NotRup, NotSatisfying, NotPlaying, TooLong, EarlyEnd, BadWitness, BadId, BadHint, NotHinted, BadPart, NotInvariant}
 use Rattle.cert_judge.specs.Output.{stream_of, has_values}
 
 -- an early end is no fate
@@ -21,6 +21,8 @@ unless_early BadWitness byte = Some (Bad BadWitness byte)
 unless_early BadId byte = Some (Bad BadId byte)
 unless_early BadHint byte = Some (Bad BadHint byte)
 unless_early NotHinted byte = Some (Bad NotHinted byte)
+unless_early BadPart byte = Some (Bad BadPart byte)
+unless_early NotInvariant byte = Some (Bad NotInvariant byte)
 
 -- Without a line of values an output that ends early has no fate of its own: the proof file decides.
 abbrev pub own_fate : Bool → Fate → Option Fate

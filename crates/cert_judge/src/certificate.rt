@@ -1,6 +1,6 @@
 // A certificate as far as it was said.
 
-ghost use Rattle.std.specs.Prelude.{◌≡◌, ◌↔◌, ◌≤◌, ◌<◌, ◌+◌, ◌++◌, List, [], length, ℕ, Option, Some, None, IfNone, IfOk, IfSome, is_some, true, false};
+ghost use Rattle.std.specs.Prelude.{◌≡◌, ◌↔◌, ◌≤◌, ◌<◌, ◌+◌, ◌++◌, List, [], length, ℕ, Option, Some, None, IfNone, IfOk, IfSome, OnOk, is_some, true, false};
 ghost use Rattle.cnf_form.specs.Cnf.{ClauseWithin, FormulaOf, Satisfies};
 ghost use Rattle.drup_check.specs.Checking.{start};
 ghost use Rattle.lrat_check.specs.Checking.{Starts, live_of};
@@ -59,10 +59,11 @@ impl ProofChecker for Hinted {
 #[derive(Drop)]
 pub(crate) struct Certificate<C: ProofChecker, S: ClauseSource> {
     source: S,
-    alloc: Global,
     checker: C,
     values: Values,
     outcome: Option<Outcome>,
+    // The ids of the last line's hints, kept so that a line takes no memory of its own.
+    ids: Vec<u64>,
 }
 
 impl<C: ProofChecker, S: ClauseSource> Model for Certificate<C, S> {
@@ -89,10 +90,10 @@ impl<C: ProofChecker, S: ClauseSource> Certificate<C, S> {
         let values = Values::new(alloc, source.vars())?;
         Ok(Certificate {
             source,
-            alloc,
             checker,
             values,
             outcome: None,
+            ids: Vec::new(alloc),
         })
     }
 
@@ -235,8 +236,8 @@ impl<S: ClauseSource> LratReceiver for Certificate<Hinted, S> {
             self.refuse(CertKind::BadHint, hint.place);
             return Ok(true);
         }
-        let ids = ids_of(self.alloc, hints)?;
-        match self.checker.add(id, lits, &ids)? {
+        fill_ids(&mut self.ids, hints)?;
+        match self.checker.add(id, lits, &self.ids)? {
             lrat_check::Added::NotHinted => self.refuse(CertKind::NotHinted, place),
             lrat_check::Added::Admitted if lits.is_empty() => self.settle(Outcome::Refuted),
             lrat_check::Added::Admitted => {}
@@ -280,14 +281,15 @@ fn first_bad(checker: &Hinted, hints: &[Hint]) -> Option<Hint>
     None
 }
 
-fn ids_of(alloc: Global, hints: &[Hint]) -> Result<Vec<u64>, AllocError>
-    ensures { IfOk result (λ ids. ids.items ≡ ids_of hints.now) }
+// Makes the list that of the hints' ids.
+fn fill_ids(ids: &mut Vec<u64>, hints: &[Hint]) -> Result<(), AllocError>
+    ensures { OnOk result (ids.new.items ≡ ids_of hints.now) }
 {
-    let mut ids = Vec::new(alloc);
+    ids.clear();
     for hint in hints {
         ids.push(hint.id)?;
     }
-    Ok(ids)
+    Ok(())
 }
 
 fn delete_all(checker: &mut Hinted, ids: &[Hint])

@@ -20,11 +20,13 @@ pub enum StreamKind {
     ProofBinary,
 }
 
-/// What a stream is judged as: a certificate, written in one of these ways, or a witness: a run of the design, by what it leaves open.
+/// What a stream is judged as: a certificate, written in one of these ways; a witness: a run of the design, by what it leaves open; or an
+/// inductive invariant of the design, with its proofs.
 #[derive(Clone, Copy, Debug, PartialEq, Eq)]
 pub enum Kind {
     Certificate(StreamKind),
     Witness,
+    Invariant,
 }
 
 /// Why a stream, of whatever kind, is no certificate.
@@ -54,10 +56,14 @@ pub enum CertKind {
     BadHint,
     /// The hints don't admit the clause.
     NotHinted,
+    /// A part's word is out of order, or a clause comes before the first.
+    BadPart,
+    /// Some clause of the invariant isn't admitted where a part ends.
+    NotInvariant,
 }
 
 impl CertKind {
-    /// Its number, from 41 to 60.
+    /// Its number, from 41 to 62.
     pub fn number(self) -> u8
         ensures { result ≡ number_of self }
     {
@@ -74,6 +80,8 @@ impl CertKind {
             CertKind::BadId => 58,
             CertKind::BadHint => 59,
             CertKind::NotHinted => 60,
+            CertKind::BadPart => 61,
+            CertKind::NotInvariant => 62,
         }
     }
 
@@ -97,6 +105,8 @@ impl CertKind {
             58 => Some(CertKind::BadId),
             59 => Some(CertKind::BadHint),
             60 => Some(CertKind::NotHinted),
+            61 => Some(CertKind::BadPart),
+            62 => Some(CertKind::NotInvariant),
             _ => None,
         }
     }

@@ -3,7 +3,8 @@ use Rattle.std.specs.Prelude.{◌≡◌, ◌≢◌, ◌⊎◌, ℕ, ◌<◌, ◌
 use Rattle.cnf_form.specs.Cnf.{LitOf, IsAdmitted, Deletes}
 use Rattle.cert_stream.specs.Telling.{IsClause, IsDelete, IsValue, IsValuesEnd, IsUnknown, IsFault as IsParseFault}
 use Rattle.cert_judge.specs.Fate.{cert_kind}
-use Rattle.cert_judge.specs.declared.stream.CertKind.TheVariants.{BadLiteral, NotRup, TooLong, EarlyEnd}
+use Rattle.cert_judge.specs.declared.stream.CertKind.{CertKind}
+use Rattle.cert_judge.specs.declared.stream.CertKind.TheVariants.{BadLiteral, NotRup, TooLong, EarlyEnd, BadPart, NotInvariant}
 use Rattle.pair_form.specs.Pair.{PairOf, bit_lits, clauses_over}
 use Rattle.pair_form.specs.declared.pair.Frame.TheVariants.{First, Second}
 use Rattle.inv_stream.specs.Machine.{InvSaying, IsNext, Says, IsFault}
@@ -12,19 +13,17 @@ use Rattle.inv_stream.specs.declared.mode.InvFaultKind.{InvFaultKind}
 use Rattle.inv_stream.specs.declared.mode.InvFaultKind.TheVariants.{BadPart as IsBadPart, Parse}
 use Rattle.inv_stream.specs.declared.mode.Part.{Part}
 use Rattle.inv_stream.specs.declared.mode.Part.TheVariants.{Head, Inv, Start, Step, Safe}
-use Rattle.inv_fate.specs.declared.kind.InvKind.{InvKind}
-use Rattle.inv_fate.specs.declared.kind.InvKind.TheVariants.{BadPart, NotInvariant, Cert}
 
 -- a certificate; the engine doesn't know; or a fault, by its kind and its byte
 pub data InvFate : Type 0 where
   Found : InvFate
   Unknown : InvFate
-  Bad : InvKind → ℕ → InvFate
+  Bad : CertKind → ℕ → InvFate
 
 -- the kind of a reader's fault
-abbrev pub fault_kind : InvFaultKind → InvKind
+abbrev pub fault_kind : InvFaultKind → CertKind
 fault_kind IsBadPart = BadPart
-fault_kind (Parse kind) = Cert (cert_kind kind)
+fault_kind (Parse kind) = cert_kind kind
 
 -- the part that comes then
 abbrev pub after : Part → Part
@@ -70,17 +69,17 @@ NextComesTo p Safe I F place rest fate = fate ≡ Some (Bad BadPart place)
 
 -- a clause of a proof has to be admitted; after it what comes then counts
 abbrev pub ProofComesTo : List (List LitOf) → List LitOf → ℕ → Type 0 → Option InvFate → Type 0
-ProofComesTo F lits place rest fate = (IsAdmitted F lits × rest) ⊎ ((IsAdmitted F lits → ⊥) × (fate ≡ Some (Bad (Cert NotRup) place)))
+ProofComesTo F lits place rest fate = (IsAdmitted F lits × rest) ⊎ ((IsAdmitted F lits → ⊥) × (fate ≡ Some (Bad NotRup place)))
 
 -- A clause of the invariant is over state bits that have literals, and is put after the others; one of a proof has to be admitted, and the empty
 -- one completes the last part.
 abbrev pub ClauseComesTo : PairOf → Part → List (List LitOf) → List LitOf → ℕ → Type 0 → Type 0 → Option InvFate → Type 0
 ClauseComesTo p Head F lits place listed joined fate = fate ≡ Some (Bad BadPart place)
-ClauseComesTo p Inv F lits place listed joined fate = (IsOverBits p lits × listed) ⊎ ((IsOverBits p lits → ⊥) × (fate ≡ Some (Bad (Cert BadLiteral) place)))
+ClauseComesTo p Inv F lits place listed joined fate = (IsOverBits p lits × listed) ⊎ ((IsOverBits p lits → ⊥) × (fate ≡ Some (Bad BadLiteral place)))
 ClauseComesTo p Start F lits place listed joined fate = ProofComesTo F lits place joined fate
 ClauseComesTo p Step F lits place listed joined fate = ProofComesTo F lits place joined fate
 ClauseComesTo p Safe F lits place listed joined fate =
-    (IsAdmitted F lits × (lits ≡ []) × (fate ≡ Some Found)) ⊎ (IsAdmitted F lits × (lits ≢ []) × joined) ⊎ ((IsAdmitted F lits → ⊥) × (fate ≡ Some (Bad (Cert NotRup) place)))
+    (IsAdmitted F lits × (lits ≡ []) × (fate ≡ Some Found)) ⊎ (IsAdmitted F lits × (lits ≢ []) × joined) ⊎ ((IsAdmitted F lits → ⊥) × (fate ≡ Some (Bad NotRup place)))
 
 -- What sayings come to, after the word of a part, where I are the clauses of the invariant so far and F those that are present. None
 -- where they come to nothing yet. No line of such a stream tells values.
@@ -93,7 +92,7 @@ ComesTo p part I F (Says (IsDelete lits) ∷ ss) fate = (G : List (List LitOf)) 
 ComesTo p part I F (Says (IsValue l) ∷ ss) fate = ComesTo p part I F ss fate
 ComesTo p part I F (Says IsValuesEnd ∷ ss) fate = ComesTo p part I F ss fate
 ComesTo p part I F (Says IsUnknown ∷ ss) fate = fate ≡ Some Unknown
-ComesTo p part I F (Says (IsParseFault f) ∷ ss) fate = fate ≡ Some (Bad (Cert (cert_kind f.kind)) f.byte)
+ComesTo p part I F (Says (IsParseFault f) ∷ ss) fate = fate ≡ Some (Bad (cert_kind f.kind) f.byte)
 ComesTo p part I F (IsFault f ∷ ss) fate = fate ≡ Some (Bad (fault_kind f.kind) f.byte)
 
 -- what the sayings of a stream come to
@@ -108,9 +107,9 @@ BytesCome p ended bytes fate = Comes p (sayings p.formula.vars ended bytes) fate
 pub record InvFateSoFar (p : PairOf) (bytes : List ℕ) (most : ℕ) (fate : Option InvFate) : Type 0 where
   pub within : length bytes ≤ most → BytesCome p false bytes fate
   pub beyond : most < length bytes →
-      ((x : InvFate) × BytesCome p false (take most bytes) (Some x) × (fate ≡ Some x)) ⊎ (BytesCome p false (take most bytes) None × (fate ≡ Some (Bad (Cert TooLong) most)))
+      ((x : InvFate) × BytesCome p false (take most bytes) (Some x) × (fate ≡ Some x)) ⊎ (BytesCome p false (take most bytes) None × (fate ≡ Some (Bad TooLong most)))
 
 -- and where they are all
 pub record InvFateOf (p : PairOf) (bytes : List ℕ) (most : ℕ) (fate : InvFate) : Type 0 where
-  pub within : length bytes ≤ most → BytesCome p true bytes (Some fate) ⊎ (BytesCome p true bytes None × (fate ≡ Bad (Cert EarlyEnd) (length bytes)))
+  pub within : length bytes ≤ most → BytesCome p true bytes (Some fate) ⊎ (BytesCome p true bytes None × (fate ≡ Bad EarlyEnd (length bytes)))
   pub beyond : most < length bytes → InvFateSoFar p bytes most (Some fate)

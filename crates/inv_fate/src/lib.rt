@@ -1,10 +1,8 @@
 //! What a stream of an invariant comes to.
 #![tactic(auto)]
 
-mod kind;
 mod laws;
 
-pub use kind::InvKind;
 pub use laws::{
     certificates_are_found, certificates_are_sound, fates_stay, found_is_a_certificate, one_fate,
     some_fate,

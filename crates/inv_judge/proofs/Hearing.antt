@@ -2,14 +2,13 @@
 use Rattle.std.proofs.Common.{◌≡◌, ◌≢◌, ℕ, true, false, List, [], ◌∷◌, ◌++◌, Option, Some, None, refl, sym, ◌∙◌, subst, inl, inr}
 use Rattle.cnf_form.specs.Cnf.{LitOf, Deletes, IsAdmitted}
 use Rattle.cnf_form.proofs.Members.{Contains-empty}
-use Rattle.cert_judge.specs.declared.stream.CertKind.TheVariants.{BadLiteral, NotRup as IsNotRup}
+use Rattle.cert_judge.specs.declared.stream.CertKind.TheVariants.{BadLiteral, BadPart, NotRup as IsNotRup}
 use Rattle.cert_stream.specs.Telling.{IsClause}
 use Rattle.pair_form.specs.Pair.{PairOf}
 use Rattle.inv_stream.specs.Machine.{InvSaying, Says}
 use Rattle.inv_stream.specs.declared.mode.Part.{Part}
 use Rattle.inv_stream.specs.declared.mode.Part.TheVariants.{Head, Inv, Start, Step, Safe}
 use Rattle.inv_fate.specs.Fate.{Bad, ComesTo, Found, InvFate, IsOverBits}
-use Rattle.inv_fate.specs.declared.kind.InvKind.TheVariants.{BadPart, Cert}
 use Rattle.inv_judge.specs.Claim.{ClaimOf, ComesBy, Leads, fate_of, is_proof, with_outcome}
 use Rattle.inv_judge.specs.declared.outcome.InvOutcome.{InvOutcome}
 
@@ -38,14 +37,14 @@ module _ (p : PairOf) (I F : List (List LitOf)) (lits : List LitOf) (place : ℕ
   listed Step e n o h = cc
   listed Safe e n o h = cc
 
-  pub unlisted : (part : Part) → is_proof part ≡ false → (part ≡ Head → ⊥) → (IsOverBits p lits → ⊥) → fate ≡ Some (Bad (Cert BadLiteral) place) → ComesTo p part I F (Says (IsClause lits place) ∷ rest) fate
+  pub unlisted : (part : Part) → is_proof part ≡ false → (part ≡ Head → ⊥) → (IsOverBits p lits → ⊥) → fate ≡ Some (Bad BadLiteral place) → ComesTo p part I F (Says (IsClause lits place) ∷ rest) fate
   unlisted Head e n o h = absurd (n refl)
   unlisted Inv e n o h = inr (o, h)
   unlisted Start e n o h = cc
   unlisted Step e n o h = cc
   unlisted Safe e n o h = cc
 
-  pub refuted : (part : Part) → is_proof part ≡ true → (IsAdmitted F lits → ⊥) → fate ≡ Some (Bad (Cert IsNotRup) place) → ComesTo p part I F (Says (IsClause lits place) ∷ rest) fate
+  pub refuted : (part : Part) → is_proof part ≡ true → (IsAdmitted F lits → ⊥) → fate ≡ Some (Bad IsNotRup place) → ComesTo p part I F (Says (IsClause lits place) ∷ rest) fate
   refuted Head e a h = cc
   refuted Inv e a h = cc
   refuted Start e a h = inr (a, h)

@@ -18,7 +18,6 @@ use Rattle.inv_stream.proofs.Cutting.{after_append, said_append}
 use Rattle.inv_stream.proofs.Pieces.{after_few}
 use Rattle.inv_stream.specs.declared.mode.InvFault.{InvFault}
 use Rattle.inv_fate.specs.Fate.{Bad, BytesCome, Comes, ComesTo, Found, InvFate, InvFateOf, InvFateSoFar}
-use Rattle.inv_fate.specs.declared.kind.InvKind.TheVariants.{Cert}
 use Rattle.inv_fate.proofs.Fates.{comes_more}
 use Rattle.inv_fate.proofs.Finding.{head_found}
 use Rattle.inv_fate.proofs.Sounding.{is_invariant}
@@ -40,7 +39,7 @@ so_far_found p bytes most o h e = elim (cases_le (length bytes) most) [
   ]
 ]
 
-over_found : (p : PairOf) (bytes : List ℕ) (most : ℕ) (o : InvOutcome) → InvFateOf p bytes most (fate_of o) → o ≡ outcome.Found → (I : List (List LitOf)) × IsInvariant p I
+pub over_found : (p : PairOf) (bytes : List ℕ) (most : ℕ) (o : InvOutcome) → InvFateOf p bytes most (fate_of o) → o ≡ outcome.Found → (I : List (List LitOf)) × IsInvariant p I
 over_found p bytes most o h e = elim (cases_le (length bytes) most) [
   | inl l ↦ elim (h.within l) [
     | inl c ↦ comes_found p (sayings p.formula.vars true bytes) (subst (λ (z : InvOutcome). BytesCome p true bytes (Some (fate_of z))) e c)
@@ -131,7 +130,7 @@ never claim d o is e = elim (or_outcome claim claim.outcome o refl) as (λ _. �
 open_whole : (w v : InvOf) (c d : ClaimOf) (most room : ℕ) (piece : List ℕ) → TakesPiece most room w c piece v d → d.outcome ≡ None → (length piece ≤ room) × Heard w c piece v d
 open_whole w v c d most room piece t e = elim t as (λ _. (length piece ≤ room) × Heard w c piece v d) [
   | inl f ↦ f
-  | inr (claim, over, g, is) ↦ absurd (never claim d (outcome.Bad (record { kind = Cert TooLong; at = most })) is e)
+  | inr (claim, over, g, is) ↦ absurd (never claim d (outcome.Bad (record { kind = TooLong; at = most })) is e)
 ]
 
 -- and as many bytes are counted
@@ -160,12 +159,12 @@ module _ (w v : InvOf) (c d : ClaimOf) (count most room : ℕ) (b : Bool) (bytes
     }
   ]
     where
-      cut : (claim : ClaimOf) → Heard w c (take room piece) v claim → d ≡ outcome_or claim claim.outcome (outcome.Bad (record { kind = Cert TooLong; at = most }))
-          → ((x : InvFate) × BytesCome c.pair false (take most (bytes ++ piece)) (Some x) × (fate_told d.outcome ≡ Some x)) ⊎ (BytesCome c.pair false (take most (bytes ++ piece)) None × (fate_told d.outcome ≡ Some (Bad (Cert TooLong) most)))
+      cut : (claim : ClaimOf) → Heard w c (take room piece) v claim → d ≡ outcome_or claim claim.outcome (outcome.Bad (record { kind = TooLong; at = most }))
+          → ((x : InvFate) × BytesCome c.pair false (take most (bytes ++ piece)) (Some x) × (fate_told d.outcome ≡ Some x)) ⊎ (BytesCome c.pair false (take most (bytes ++ piece)) None × (fate_told d.outcome ≡ Some (Bad TooLong most)))
       cut claim g is =
           let e : bytes ++ take room piece ≡ take most (bytes ++ piece) = ap (λ (k : ℕ). bytes ++ take k piece) (space ∙ ap (λ (k : ℕ). most - k) stood.1) ∙ sym (take_short most bytes piece stood.2) in
           let come : BytesCome c.pair false (take most (bytes ++ piece)) (fate_told claim.outcome) = subst (λ (z : List ℕ). BytesCome c.pair false z (fate_told claim.outcome)) e (took_comes w v c claim bytes (take room piece) stood.0 g) in
-          elim (or_outcome claim claim.outcome (outcome.Bad (record { kind = Cert TooLong; at = most })) refl) [
+          elim (or_outcome claim claim.outcome (outcome.Bad (record { kind = TooLong; at = most })) refl) [
             | inl (q, f, k) ↦ inl (fate_of q, subst (λ (z : Option InvOutcome). BytesCome c.pair false (take most (bytes ++ piece)) (fate_told z)) f come, ap (λ (z : ClaimOf). fate_told z.outcome) is ∙ ap fate_told k)
             | inr (f, k) ↦ inr (subst (λ (z : Option InvOutcome). BytesCome c.pair false (take most (bytes ++ piece)) (fate_told z)) f come, ap (λ (z : ClaimOf). fate_told z.outcome) is ∙ ap fate_told k)
           ]
@@ -173,7 +172,7 @@ module _ (w v : InvOf) (c d : ClaimOf) (count most room : ℕ) (b : Bool) (bytes
   pub same_pair : d.pair ≡ c.pair
   same_pair = elim t as (λ _. d.pair ≡ c.pair) [
     | inl (fits, g) ↦ g.leads.pair
-    | inr (claim, over, g, is) ↦ ap (λ (z : ClaimOf). z.pair) is ∙ or_pair claim claim.outcome (outcome.Bad (record { kind = Cert TooLong; at = most })) ∙ g.leads.pair
+    | inr (claim, over, g, is) ↦ ap (λ (z : ClaimOf). z.pair) is ∙ or_pair claim claim.outcome (outcome.Bad (record { kind = TooLong; at = most })) ∙ g.leads.pair
   ]
 
   stands_now : (o : Option InvOutcome) → d.outcome ≡ o → StandsBy (judge v d (count + min (length piece) room) most b) (bytes ++ piece) o
@@ -201,17 +200,17 @@ module _ (w v : InvOf) (c d : ClaimOf) (count most : ℕ) (b : Bool) (bytes : Li
       (at.0.fate (at_end_says w ++ fault_said (fault w)) (fate_told t.0.outcome) (comes_told c t.0 (at_end_says w ++ fault_said (fault w)) t.1))
 
   pub end_pair : d.pair ≡ c.pair
-  end_pair = ap (λ (z : ClaimOf). z.pair) t.2 ∙ or_pair t.0 t.0.outcome (outcome.Bad (record { kind = Cert EarlyEnd; at = count })) ∙ t.1.pair
+  end_pair = ap (λ (z : ClaimOf). z.pair) t.2 ∙ or_pair t.0 t.0.outcome (outcome.Bad (record { kind = EarlyEnd; at = count })) ∙ t.1.pair
 
   end_fate : (o : InvOutcome) → d.outcome ≡ Some o → InvFateOf c.pair bytes most (fate_of o)
   end_fate o e = record {
-    within = λ l. elim (or_outcome t.0 t.0.outcome (outcome.Bad (record { kind = Cert EarlyEnd; at = count })) refl) [
+    within = λ l. elim (or_outcome t.0 t.0.outcome (outcome.Bad (record { kind = EarlyEnd; at = count })) refl) [
       | inl (q, f, k) ↦
           let z : q ≡ o = let r = sym k ∙ sym (ap (λ (z : ClaimOf). z.outcome) t.2) ∙ e in cc in
           inl (subst (λ (z : Option InvFate). BytesCome c.pair true bytes z) (ap fate_told f ∙ ap (λ (z : InvOutcome). Some (fate_of z)) z) end_comes)
       | inr (f, k) ↦
-          let z : o ≡ outcome.Bad (record { kind = Cert EarlyEnd; at = count }) = let r = sym e ∙ ap (λ (z : ClaimOf). z.outcome) t.2 ∙ k in cc in
-          inr (subst (λ (z : Option InvFate). BytesCome c.pair true bytes z) (ap fate_told f) end_comes, ap fate_of z ∙ ap (λ (k : ℕ). Bad (Cert EarlyEnd) k) at.1)
+          let z : o ≡ outcome.Bad (record { kind = EarlyEnd; at = count }) = let r = sym e ∙ ap (λ (z : ClaimOf). z.outcome) t.2 ∙ k in cc in
+          inr (subst (λ (z : Option InvFate). BytesCome c.pair true bytes z) (ap fate_told f) end_comes, ap fate_of z ∙ ap (λ (k : ℕ). Bad EarlyEnd k) at.1)
     ];
     beyond = λ l. absurd (let m = at.2 in omega arith);
   }
@@ -246,7 +245,7 @@ no_end_by w Inside f e = ap (λ (o : Option Event). map Says (told_by w.parser o
 no_end_by w (Refused g) f e = refl
 no_end_by w Lost f e = refl
 
-ends_come : (p : PairOf) (bytes : List ℕ) (x : InvFate) → BytesCome p false bytes (Some x) → BytesCome p true bytes (Some x)
+pub ends_come : (p : PairOf) (bytes : List ℕ) (x : InvFate) → BytesCome p false bytes (Some x) → BytesCome p true bytes (Some x)
 ends_come p bytes x h = by (fault (after (fresh p.formula.vars) bytes)) refl
   where
     by : (o : Option InvFault) → fault (after (fresh p.formula.vars) bytes) ≡ o → BytesCome p true bytes (Some x)

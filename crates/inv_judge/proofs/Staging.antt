@@ -4,7 +4,7 @@ use Rattle.std.specs.Prelude.{◌↔◌}
 use Rattle.std.proofs.lemmas.List.Elements.{Contains-append_cases}
 use Rattle.cnf_form.specs.Cnf.{Deletes, IsAdmitted, LitOf}
 use Rattle.cnf_form.proofs.Members.{Contains-empty, Contains-head, Contains-one, Contains-tail}
-use Rattle.cert_judge.specs.declared.stream.CertKind.TheVariants.{BadLiteral, NotRup as IsNotRup}
+use Rattle.cert_judge.specs.declared.stream.CertKind.TheVariants.{BadLiteral, BadPart, NotInvariant, NotRup as IsNotRup}
 use Rattle.cert_stream.specs.Telling.{IsClause, IsDelete}
 use Rattle.drup_check.specs.declared.Added.{Added}
 use Rattle.drup_check.specs.declared.Added.TheVariants.{Admitted, NotRup}
@@ -16,7 +16,6 @@ use Rattle.inv_stream.specs.Machine.{InvSaying, IsNext, Says}
 use Rattle.inv_stream.specs.declared.mode.Part.{Part}
 use Rattle.inv_stream.specs.declared.mode.Part.TheVariants.{Head, Inv, Safe, Start, Step}
 use Rattle.inv_fate.specs.Fate.{ComesTo, InvFate, IsOverBits, opened}
-use Rattle.inv_fate.specs.declared.kind.InvKind.TheVariants.{BadPart, Cert, NotInvariant}
 use Rattle.inv_judge.specs.Claim.{Adds, ClaimOf, Leads, Passes, begun, is_proof, part_of, part_of_proof, present_of, with_outcome}
 use Rattle.inv_judge.specs.declared.outcome.InvOutcome.{InvOutcome}
 use Rattle.inv_judge.specs.declared.outcome.InvOutcome.TheVariants as outcome
@@ -80,12 +79,12 @@ module _ (p : PairOf) (I : List (List LitOf)) (o : Option InvOutcome) (s t : Sta
         (λ rest fate h. listed p I (present_of s) lits place rest fate (part_of s) (a.none none).0 (λ k. head (same ∙ k)) over
         (subst (λ (F : List (List LitOf)). ComesTo p (part_of s) (I ++ lits ∷ []) F rest fate) (a.none none).1 (subst (λ (part : Part). ComesTo p part (I ++ lits ∷ []) (present_of t) rest fate) same h))))
 
-    pub heard_unlisted : added ≡ None → (part_of t ≡ Head → ⊥) → (IsOverBits p lits → ⊥) → y ≡ with_outcome (claim p I o t) (outcome.Bad (record { kind = Cert BadLiteral; at = place })) → Leads (claim p I o s) (Says (IsClause lits place) ∷ []) y
-    heard_unlisted none head over e = leads_end (claim p I o s) (claim p I o t) y (Says (IsClause lits place)) (outcome.Bad (record { kind = Cert BadLiteral; at = place })) e refl
+    pub heard_unlisted : added ≡ None → (part_of t ≡ Head → ⊥) → (IsOverBits p lits → ⊥) → y ≡ with_outcome (claim p I o t) (outcome.Bad (record { kind = BadLiteral; at = place })) → Leads (claim p I o s) (Says (IsClause lits place) ∷ []) y
+    heard_unlisted none head over e = leads_end (claim p I o s) (claim p I o t) y (Says (IsClause lits place)) (outcome.Bad (record { kind = BadLiteral; at = place })) e refl
         (λ rest fate h. unlisted p I (present_of s) lits place rest fate (part_of s) (a.none none).0 (λ k. head (same ∙ k)) over h)
 
-    pub heard_refused : added ≡ Some NotRup → y ≡ with_outcome (claim p I o t) (outcome.Bad (record { kind = Cert IsNotRup; at = place })) → Leads (claim p I o s) (Says (IsClause lits place) ∷ []) y
-    heard_refused r e = leads_end (claim p I o s) (claim p I o t) y (Says (IsClause lits place)) (outcome.Bad (record { kind = Cert IsNotRup; at = place })) e refl
+    pub heard_refused : added ≡ Some NotRup → y ≡ with_outcome (claim p I o t) (outcome.Bad (record { kind = IsNotRup; at = place })) → Leads (claim p I o s) (Says (IsClause lits place) ∷ []) y
+    heard_refused r e = leads_end (claim p I o s) (claim p I o t) y (Says (IsClause lits place)) (outcome.Bad (record { kind = IsNotRup; at = place })) e refl
         (λ rest fate h. refuted p I (present_of s) lits place rest fate (part_of s) (a.refused r).0 (a.refused r).1 h)
 
     pub heard_completed : added ≡ Some Admitted → part_of t ≡ Safe → lits ≡ [] → y ≡ with_outcome (claim p I o t) outcome.Found → Leads (claim p I o s) (Says (IsClause lits place) ∷ []) y

@@ -11,7 +11,6 @@ use Rattle.inv_stream.specs.declared.mode.Part.TheVariants.{Head}
 use Rattle.inv_stream.proofs.Cutting.{said_append}
 use Rattle.inv_stream.proofs.Faults.{fault_stays}
 use Rattle.inv_fate.specs.Fate.{Bad, BytesCome, Comes, InvFate, InvFateSoFar}
-use Rattle.inv_fate.specs.declared.kind.InvKind.TheVariants.{Cert}
 use Rattle.cert_judge.specs.declared.stream.CertKind.TheVariants.{TooLong}
 use Rattle.inv_fate.proofs.Fates.{comes_more}
 use Rattle.inv_judge.proofs.Quiet.{quiet_after_fault}
@@ -24,7 +23,7 @@ take_short most bytes piece l = ap (λ (n : ℕ). take n (bytes ++ piece)) (let 
 
 -- where there are more bytes than are taken
 abbrev IsCut : PairOf → ℕ → List ℕ → Option InvFate → Type 0
-IsCut p most front fate = ((y : InvFate) × BytesCome p false front (Some y) × (fate ≡ Some y)) ⊎ (BytesCome p false front None × (fate ≡ Some (Bad (Cert TooLong) most)))
+IsCut p most front fate = ((y : InvFate) × BytesCome p false front (Some y) × (fate ≡ Some y)) ⊎ (BytesCome p false front None × (fate ≡ Some (Bad TooLong most)))
 
 module _ (p : PairOf) (bytes : List ℕ) (x : InvFate) where
   comes_on : (more : List ℕ) → BytesCome p false bytes (Some x) → BytesCome p false (bytes ++ more) (Some x)

@@ -12,7 +12,7 @@ use Rattle.inv_stream.specs.declared.mode.InvFault.{InvFault}
 use Rattle.inv_stream.specs.declared.mode.Part.{Part}
 use Rattle.inv_stream.specs.declared.mode.Part.TheVariants.{Head, Inv, Start, Step, Safe}
 use Rattle.inv_fate.specs.Fate.{AreAdmitted, ComesTo, InvFate, Found, Unknown, Bad, fault_kind, opened}
-use Rattle.inv_fate.specs.declared.kind.InvKind.TheVariants.{NotInvariant}
+use Rattle.cert_judge.specs.declared.stream.CertKind.TheVariants.{NotInvariant}
 use Rattle.inv_judge.specs.declared.stage.Proof.{Proof}
 use Rattle.inv_judge.specs.declared.stage.Proof.TheVariants as proof
 use Rattle.inv_judge.specs.declared.stage.Stage.{Stage}

@@ -5,7 +5,6 @@ use Rattle.pair_form.specs.Pair.{IsInvariant, PairOf}
 use Rattle.inv_stream.specs.Machine.{InvOf, InvSaying, fault}
 use Rattle.inv_stream.specs.Telling.{after, at_end_says, fault_said, fresh, said}
 use Rattle.cert_judge.specs.declared.stream.CertKind.TheVariants.{EarlyEnd, TooLong}
-use Rattle.inv_fate.specs.declared.kind.InvKind.TheVariants.{Cert}
 use Rattle.inv_fate.specs.Fate.{Comes, ComesTo, InvFate, InvFateOf, InvFateSoFar}
 use Rattle.inv_judge.specs.Claim.{ClaimOf, Leads, fate_of, fate_told, with_outcome}
 use Rattle.inv_judge.specs.declared.outcome.InvOutcome.{InvOutcome}
@@ -76,9 +75,9 @@ outcome_or c (Some p) o = c
 abbrev pub TakesPiece : ℕ → ℕ → InvOf → ClaimOf → List ℕ → InvOf → ClaimOf → Type 0
 TakesPiece most room w old piece v new =
     ((length piece ≤ room) × Heard w old piece v new)
-    ⊎ ((claim : ClaimOf) × (room < length piece) × Heard w old (take room piece) v claim × (new ≡ outcome_or claim claim.outcome (Bad (record { kind = Cert TooLong; at = most }))))
+    ⊎ ((claim : ClaimOf) × (room < length piece) × Heard w old (take room piece) v claim × (new ≡ outcome_or claim claim.outcome (Bad (record { kind = TooLong; at = most }))))
 
 -- the stream's end is heard, and without an outcome it is too early
 abbrev pub TakesEnd : ℕ → InvOf → ClaimOf → ClaimOf → Type 0
 TakesEnd count w old new =
-    (claim : ClaimOf) × Leads old (at_end_says w ++ fault_said (fault w)) claim × (new ≡ outcome_or claim claim.outcome (Bad (record { kind = Cert EarlyEnd; at = count })))
+    (claim : ClaimOf) × Leads old (at_end_says w ++ fault_said (fault w)) claim × (new ≡ outcome_or claim claim.outcome (Bad (record { kind = EarlyEnd; at = count })))

@@ -11,13 +11,12 @@ ghost use Rattle.inv_judge.specs.declared.outcome.InvOutcome.{InvOutcome as Outc
 
 use crate::asking::all_admitted;
 use crate::opening::open;
-use crate::outcome::{BadInv, InvOutcome};
+use crate::outcome::InvOutcome;
 use crate::stage::{Proof, Stage};
-use cert_judge::{CertKind, cert_kind};
+use cert_judge::{BadCert, CertKind, cert_kind};
 use cert_stream::{Fed, Receiver};
 use cnf_form::{Formula, Lit};
 use drup_check::{Added, Checker};
-use inv_fate::InvKind;
 use inv_stream::{InvFault, InvFaultKind, InvReceiver};
 use pair_form::{Frame, Pair};
 use std::alloc::{AllocError, Global};
@@ -60,12 +59,12 @@ fn is_over_bits(pair: &Pair, lits: &[Lit]) -> bool
 }
 
 // The kind of a reader's fault.
-fn fault_kind(kind: InvFaultKind) -> InvKind
+fn fault_kind(kind: InvFaultKind) -> CertKind
     ensures { result ≡ fault_kind kind }
 {
     match kind {
-        InvFaultKind::BadPart => InvKind::BadPart,
-        InvFaultKind::Parse(kind) => InvKind::Cert(cert_kind(kind)),
+        InvFaultKind::BadPart => CertKind::BadPart,
+        InvFaultKind::Parse(kind) => cert_kind(kind),
     }
 }
 
@@ -104,21 +103,21 @@ impl Claim {
         self.outcome = Some(outcome);
     }
 
-    pub(crate) fn refuse(&mut self, kind: InvKind, at: u64)
+    pub(crate) fn refuse(&mut self, kind: CertKind, at: u64)
         ensures { self.new ≡ with_outcome self.old (OutcomeOf.Bad (record { kind = kind; at = at })) }
     {
-        self.settle(InvOutcome::Bad(BadInv { kind, at }));
+        self.settle(InvOutcome::Bad(BadCert { kind, at }));
     }
 
     /// Where there is no outcome yet, it is this fault; answers the outcome.
-    pub(crate) fn outcome_or(&mut self, kind: InvKind, at: u64) -> InvOutcome
+    pub(crate) fn outcome_or(&mut self, kind: CertKind, at: u64) -> InvOutcome
         ensures outcome { self.new.outcome ≡ Some result }
         ensures new { self.new ≡ outcome_or self.old self.old.outcome (OutcomeOf.Bad (record { kind = kind; at = at })) }
     {
         if let Some(outcome) = self.outcome {
             return outcome;
         }
-        let outcome = InvOutcome::Bad(BadInv { kind, at });
+        let outcome = InvOutcome::Bad(BadCert { kind, at });
         self.settle(outcome);
         outcome
     }
@@ -136,10 +135,10 @@ impl Claim {
     fn list(&mut self, lits: &[Lit], place: u64) -> Result<(), AllocError>
         requires within { ClauseWithin self.old.pair.formula.vars lits.now }
         ensures bits { IsOverBits self.old.pair lits.now → IfOk result (λ _. self.new ≡ record self.old { invariant = self.old.invariant ++ lits.now ∷ [] }) }
-        ensures none { (IsOverBits self.old.pair lits.now → ⊥) → IfOk result (λ _. self.new ≡ with_outcome self.old (OutcomeOf.Bad (record { kind = InvKind.Cert CertKind.BadLiteral; at = place }))) }
+        ensures none { (IsOverBits self.old.pair lits.now → ⊥) → IfOk result (λ _. self.new ≡ with_outcome self.old (OutcomeOf.Bad (record { kind = CertKind.BadLiteral; at = place }))) }
     {
         if !is_over_bits(&self.pair, lits) {
-            self.refuse(InvKind::Cert(CertKind::BadLiteral), place);
+            self.refuse(CertKind::BadLiteral, place);
             return Ok(());
         }
         self.invariant.push(lits)
@@ -200,7 +199,7 @@ impl Claim {
         ensures { IfOk result (λ _. Passes self.old checker.clauses frame proof place self.new) }
     {
         if !self.is_shown(checker, frame)? {
-            self.refuse(InvKind::NotInvariant, place);
+            self.refuse(CertKind::NotInvariant, place);
             return Ok(());
         }
         self.begin(proof)
@@ -216,9 +215,9 @@ impl Receiver for Claim {
 
     fn clause(&mut self, lits: &[Lit], place: u64) -> Result<bool, AllocError> {
         match self.stage.add(lits)? {
-            None if self.is_head() => self.refuse(InvKind::BadPart, place),
+            None if self.is_head() => self.refuse(CertKind::BadPart, place),
             None => self.list(lits, place)?,
-            Some(Added::NotRup) => self.refuse(InvKind::Cert(CertKind::NotRup), place),
+            Some(Added::NotRup) => self.refuse(CertKind::NotRup, place),
             Some(Added::Admitted) if self.is_safe() && lits.is_empty() => {
                 self.settle(InvOutcome::Found);
             }
@@ -259,7 +258,7 @@ impl InvReceiver for Claim {
             Stage::Proves(Proof::Step, checker) => {
                 self.pass(checker, Frame::Second, Proof::Safe, place)?;
             }
-            Stage::Proves(Proof::Safe, _) => self.refuse(InvKind::BadPart, place),
+            Stage::Proves(Proof::Safe, _) => self.refuse(CertKind::BadPart, place),
         }
         Ok(self.outcome.is_some())
     }

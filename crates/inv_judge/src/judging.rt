@@ -8,7 +8,6 @@ ghost use Rattle.inv_judge.specs.declared.outcome.InvOutcome.{InvOutcome as Outc
 use crate::claim::Claim;
 use crate::outcome::InvOutcome;
 use cert_judge::CertKind;
-use inv_fate::InvKind;
 use inv_stream::InvParser;
 use pair_form::Pair;
 use std::alloc::{AllocError, Global};
@@ -138,7 +137,7 @@ fn take_piece(
         return read(parser, claim, piece);
     }
     read(parser, claim, &piece[..room as usize])?;
-    claim.outcome_or(InvKind::Cert(CertKind::TooLong), most);
+    claim.outcome_or(CertKind::TooLong, most);
     Ok(())
 }
 
@@ -152,5 +151,5 @@ fn take_end(parser: &mut InvParser, claim: &mut Claim, count: u64) -> Result<Inv
 {
     let fed = parser.end(claim)?;
     claim.conclude(fed);
-    Ok(claim.outcome_or(InvKind::Cert(CertKind::EarlyEnd), count))
+    Ok(claim.outcome_or(CertKind::EarlyEnd, count))
 }

@@ -9,4 +9,4 @@ mod outcome;
 mod stage;
 
 pub use judging::InvJudge;
-pub use outcome::{BadInv, InvOutcome};
+pub use outcome::InvOutcome;

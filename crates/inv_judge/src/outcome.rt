@@ -1,13 +1,6 @@
 // What a stream comes to.
 
-use inv_fate::InvKind;
-
-/// A stream is no certificate: why, and at which byte of it, counted from 0.
-#[derive(Clone, Copy, Debug, PartialEq, Eq)]
-pub struct BadInv {
-    pub kind: InvKind,
-    pub at: u64,
-}
+use cert_judge::BadCert;
 
 /// What a stream comes to.
 #[derive(Clone, Copy, Debug, PartialEq, Eq)]
@@ -16,5 +9,5 @@ pub enum InvOutcome {
     Found,
     /// The engine doesn't know.
     Unknown,
-    Bad(BadInv),
+    Bad(BadCert),
 }

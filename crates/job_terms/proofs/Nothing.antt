@@ -7,7 +7,7 @@ use Rattle.model_core.specs.Meaning.{Cycle, Broken, Reached}
 use Rattle.model_core.specs.declared.model.Statement.{Statement}
 use Rattle.sby_terms.specs.Span.{IsSpan, IsStride, last_from}
 use Rattle.sby_terms.specs.declared.names.JobName.{JobName}
-use Rattle.sby_terms.specs.declared.names.JobName.TheVariants.{Base, Step, Cover}
+use Rattle.sby_terms.specs.declared.names.JobName.TheVariants.{Base, Step, Inv, Cover}
 use Rattle.sby_terms.specs.declared.span.Span.{Span}
 use Rattle.job_terms.specs.Encoding.{CanBeSatisfied, empty_job}
 use Rattle.job_terms.specs.Jobs.{AsksNothing, Solvable, frames}
@@ -33,6 +33,11 @@ unsolvable m (Base i) span none (n, cs, a, low, high, shows) = by n shows.last (
     by zero last p = absurd (omega arith)
     by (suc t) last p = none_broken m (cs t) a none (last t refl)
 unsolvable m Step span none (cs, a, shows) = none_broken m (cs span.depth) a none shows.last
+unsolvable m Inv span none (n, cs, a, shows) = by n shows.last shows.run.window.some
+  where
+    by : (k : ℕ) → ((t : ℕ) → suc t ≡ k → Broken m (cs t) a) → 0 < k → ⊥
+    by zero last p = absurd (omega arith)
+    by (suc t) last p = none_broken m (cs t) a none (last t refl)
 unsolvable m (Cover k) span none (n, cs, high, shows) = by n shows.last shows.run.window.some
   where
     by : (j : ℕ) → ((t : ℕ) → suc t ≡ j → Reached m (cs t) k) → 0 < j → ⊥
@@ -50,4 +55,5 @@ last_some skip depth i (Some stride) h s = omega arith
 pub frames_some : (job : JobName) (span : Span) → IsSpan span → 0 < frames job span
 frames_some (Base i) span is = last_some span.skip span.depth i span.stride is.some is.stride
 frames_some Step span is = omega arith
+frames_some Inv span is = omega arith
 frames_some (Cover k) span is = let s = is.some in omega arith

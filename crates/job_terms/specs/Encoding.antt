@@ -1,12 +1,12 @@
 -- What is promised of a job's clauses.
 use Rattle.std.specs.Prelude.{◌≡◌, ◌⊎◌, ℕ, suc, ◌<◌, ◌≤◌, Bool, false, List, [], ◌∷◌, ◌++◌, length, Contains, All, Some, slice_get}
 use Rattle.cnf_form.specs.Cnf.{LitOf, FormulaOf, Assignment, Satisfies, Closure, Conflict}
-use Rattle.model_core.specs.Shape.{ModelOf, states}
+use Rattle.model_core.specs.Shape.{ModelOf}
 use Rattle.model_core.specs.Meaning.{Cycle}
 use Rattle.model_core.specs.Claims.{Shows, ReachRun}
 use Rattle.model_core.specs.Choices.{ChoicesOf, Plays, open_states}
 use Rattle.sby_terms.specs.declared.names.JobName.{JobName}
-use Rattle.sby_terms.specs.declared.names.JobName.TheVariants.{Base, Step, Cover}
+use Rattle.sby_terms.specs.declared.names.JobName.TheVariants.{Base, Step, Inv, Cover}
 use Rattle.sby_terms.specs.declared.span.Span.{Span}
 use Rattle.job_terms.specs.First.{open_at}
 use Rattle.job_terms.specs.Decoding.{DecodingOf, decoded_by}
@@ -83,6 +83,7 @@ pub record HasOrigins (m : ModelOf) (job : JobName) (span : Span) (e : EncodedOf
 abbrev pub ShowsGoal : ModelOf → JobName → ℕ → (ℕ → Cycle) → Type 0
 ShowsGoal m (Base i) n cs = (a : ℕ) × Shows m n cs a
 ShowsGoal m Step n cs = ⊥
+ShowsGoal m Inv n cs = (a : ℕ) × Shows m n cs a
 ShowsGoal m (Cover k) n cs = ReachRun m n cs k
 
 -- What an assignment that satisfies the formula of Base or Cover is decoded to: choices for a run that shows the job's goal, its last cycle

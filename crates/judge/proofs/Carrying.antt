@@ -1,5 +1,5 @@
 -- A job can be solved of a design where it can be solved of the design's model.
-use Rattle.std.proofs.Common.{◌≡◌, ℕ, suc, ◌<◌, List, [], ◌∷◌, length, refl, sym, ap, arith}
+use Rattle.std.proofs.Common.{◌≡◌, ℕ, suc, ◌<◌, List, [], ◌∷◌, length, refl, ap, arith}
 use Rattle.design_core.specs.Shape.{DesignOf, IsDesign}
 use Rattle.design_meaning.specs.Meaning.{Valuation, asserts, covers}
 use Rattle.job_terms.specs.Jobs.{AsksNothing as AsksNothingOf, Solvable as SolvableOf}
@@ -7,7 +7,7 @@ use Rattle.model_core.specs.Claims.{StepShows as StepShowsOf}
 use Rattle.model_core.specs.Meaning.{Cycle, Frame}
 use Rattle.model_core.specs.Shape.{ModelOf}
 use Rattle.sby_terms.specs.declared.names.JobName.{JobName}
-use Rattle.sby_terms.specs.declared.names.JobName.TheVariants.{Base, Step, Cover}
+use Rattle.sby_terms.specs.declared.names.JobName.TheVariants.{Base, Step, Inv, Cover}
 use Rattle.sby_terms.specs.declared.span.Span.{Span}
 use Rattle.word_model.proofs.Alike.{alike-turned, assumed-alike, broken-alike}
 use Rattle.word_model.proofs.Runs.{reach-from, reach-to, shows-from, shows-to, window-from, window-to}
@@ -33,6 +33,7 @@ module _ (d : DesignOf) (m : ModelOf) (is : IsModelOf d m) where
 
   pub solvable-to : (job : JobName) (span : Span) → SolvableOf m job span → Solvable d job span
   solvable-to (Base i) span s = (s.0, λ t. valued d (s.1 t), s.2, s.3, s.4, shows-to d m is s.0 s.1 s.2 s.5)
+  solvable-to Inv span s = (s.0, λ t. valued d (s.1 t), s.2, shows-to d m is s.0 s.1 s.2 s.3)
   solvable-to Step span s = (λ t. valued d (s.0 t), s.1, step-to span.depth s.0 s.1 s.2)
   solvable-to (Cover k) span s = (s.0, λ t. valued d (s.1 t), s.2, reach-to d m is s.0 s.1 k s.3)
 
@@ -57,15 +58,12 @@ module _ (d : DesignOf) (m : ModelOf) (is : IsModelOf d m) where
 
     pub solvable-from : (job : JobName) (span : Span) → Solvable d job span → SolvableOf m job span
     solvable-from (Base i) span s = let r = shows-from d m is shape s.0 s.1 s.2 s.5 in (s.0, r.0, s.2, s.3, s.4, r.1)
+    solvable-from Inv span s = let r = shows-from d m is shape s.0 s.1 s.2 s.3 in (s.0, r.0, s.2, r.1)
     solvable-from Step span s = let r = step-from span.depth s.0 s.1 s.2 in (r.0, s.1, r.1)
     solvable-from (Cover k) span s = let r = reach-from d m is shape s.0 s.1 k s.3 in (s.0, r.0, s.2, r.1)
 
-  pub asks-to : (job : JobName) → AsksNothingOf m job → AsksNothing d job
-  asks-to (Base i) none = none-by-length (asserts d) m.asserts (sym is.asserts) none
-  asks-to Step none = none-by-length (asserts d) m.asserts (sym is.asserts) none
-  asks-to (Cover k) none = none-by-length (covers d) m.covers (sym is.covers) none
-
   pub asks-from : (job : JobName) → AsksNothing d job → AsksNothingOf m job
   asks-from (Base i) none = none-by-length m.asserts (asserts d) is.asserts none
+  asks-from Inv none = absurd none
   asks-from Step none = none-by-length m.asserts (asserts d) is.asserts none
   asks-from (Cover k) none = none-by-length m.covers (covers d) is.covers none

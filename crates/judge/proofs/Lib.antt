@@ -1,6 +1,7 @@
 pub mod Induction
 pub mod Cycles
 pub mod Problems
+pub mod Sizes
 pub mod Slices
 pub mod Carrying
 pub mod Refusing
@@ -12,8 +13,12 @@ pub mod Files
 pub mod Claims
 pub mod Solving
 pub mod WireRows
+pub mod Proved
 pub mod StreamFates
 pub mod Witnesses
 pub mod Reading
+pub mod Held
+pub mod Inductive
 pub mod Streams
+pub mod Deciding
 pub mod Joining

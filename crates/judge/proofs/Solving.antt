@@ -23,7 +23,7 @@ use Rattle.cert_judge.specs.declared.stream.BadCert.{BadCert}
 use Rattle.cert_judge.specs.declared.stream.Outcome.{Outcome}
 use Rattle.cert_judge.specs.declared.stream.Outcome.TheVariants.{Refuted, Satisfied, Unknown as UnknownOutcome, Bad as BadOutcome}
 use Rattle.cert_judge.specs.declared.stream.StreamKind.TheVariants.{Drup}
-use Rattle.judge.proofs.Problems.{one_formula}
+use Rattle.judge.proofs.Problems.{formula_file, one_formula}
 use Rattle.judge.proofs.Telling.{finds_run}
 use Rattle.judge.specs.Answers.{Finds, FindsPlayed, IsTrueOutcome, fate_told}
 use Rattle.judge.specs.Problem.{AskedOf, IsEncodedOf, IsFormulaOf, IsJob, IsJobFile}
@@ -32,7 +32,7 @@ use Rattle.judge.specs.declared.judging.Progress.{Progress}
 use Rattle.judge.specs.declared.judging.Progress.TheVariants.{More, Done, Unknown}
 
 pub job_asked : (p : AskedOf) (job : JobName) (f : FormulaOf) → IsFormulaOf p job f → IsJob p job
-job_asked p job f (e, (asked, coded), is) = asked
+job_asked p job f (e, (asked, coded), is) = asked.0
 
 -- what an output's judge answers is true of its formula
 true_so_far : (old new : OutputOf) (bytes : List ℕ) (o : Option Outcome) → (formula_of new.judge) ≡ (formula_of old.judge) → OutputFeeds old new bytes o → IsTrueOutcome (formula_of old.judge) (bits_of new.judge) o
@@ -89,7 +89,8 @@ module _ (j : SolverOf) (is : IsForJob j) (new : OutputOf) where
           let g = (formula_of j.output.judge) in
           finds_run j.asked j.job Drup j.most g false (stream_of false bytes) (bits_of new.judge) o r is.formula played told
           (subst (λ (most : ℕ). AreValuesTold g (stream_values Drup g.vars false (stream_of false bytes) most) (bits_of new.judge) o) is.most f.values);
-      fate = λ file w.
+      fate = λ file own.
+          let w = formula_file j.asked j.job file is.formula.1.0.1 own in
           let one = one_formula j.asked j.job w.0 (formula_of j.output.judge) w.1 is.formula in
           subst (λ (most : ℕ). IsOutputFateSoFar file bytes most (fate_told r)) is.most
           (subst (λ (fate : Option Fate). IsOutputFateSoFar file bytes j.output.judge.most fate) (sym told) (f.fate file (subst (λ (g : FormulaOf). IsDimacs file g) one w.3)));
@@ -104,7 +105,8 @@ module _ (j : SolverOf) (is : IsForJob j) (new : OutputOf) where
 
   module _ (bytes : List ℕ) (o : Option Outcome) (f : OutputEnds j.output new bytes o) where
     pub ends_outcome : (file : List ℕ) → IsJobFile j.asked j.job file → (bits : List Bool) → bits ≡ (bits_of new.judge) → (e : EncodedOf) × IsEncodedOf j.asked j.job e × IsTrueOutcome e.formula bits o
-    ends_outcome file w bits at =
+    ends_outcome file own bits at =
+        let w = formula_file j.asked j.job file is.formula.1.0.1 own in
         let one = one_formula j.asked j.job w.0 (formula_of j.output.judge) w.1 is.formula in
         outcome_of_job bits o at (true_at_end j.output new bytes file o (subst (λ (g : FormulaOf). IsDimacs file g) one w.3) f)
 
@@ -115,7 +117,8 @@ module _ (j : SolverOf) (is : IsForJob j) (new : OutputOf) where
           let g = (formula_of j.output.judge) in
           finds_run j.asked j.job Drup j.most g true (stream_of true bytes) (bits_of new.judge) o r is.formula played told
           (subst (λ (most : ℕ). AreValuesTold g (stream_values Drup g.vars true (stream_of true bytes) most) (bits_of new.judge) o) is.most f.values);
-      fate = λ file w.
+      fate = λ file own.
+          let w = formula_file j.asked j.job file is.formula.1.0.1 own in
           let one = one_formula j.asked j.job w.0 (formula_of j.output.judge) w.1 is.formula in
           subst (λ (most : ℕ). IsOutputFate file bytes most (fate_told r)) is.most
           (subst (λ (fate : Option Fate). IsOutputFate file bytes j.output.judge.most fate) (sym told) (f.fate file (subst (λ (g : FormulaOf). IsDimacs file g) one w.3)));

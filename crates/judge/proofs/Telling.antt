@@ -74,6 +74,7 @@ behind j stream r = record j { stream = stream; state = state_behind r }
 module _ (j : JudgeOf) (stream : StreamOf) (bytes : List ℕ) (r : Result Progress BadCert) (finds : Finds j.asked j.job r) (played : FindsPlayed j.asked j.job (values_of (bits_of stream)) r) where
   pub feeds : IsForJob j → (o : Option Outcome) → StreamFeeds j.stream stream bytes o → fate_told r ≡ outcome_told o → Feeds j (behind j stream r) bytes r
   feeds is o f told = record {
+    told = is.formula.1.0;
     same = (refl, refl, refl, refl);
     state = refl;
     stands = λ reading. record { state = reading; stands = f.stands };
@@ -93,6 +94,7 @@ module _ (j : JudgeOf) (stream : StreamOf) (bytes : List ℕ) (r : Result Progre
 
   pub ends : IsFormulaOf j.asked j.job (formula_of stream) → kind_of stream ≡ j.kind → stream.most ≡ j.most → (o : Outcome) → IsOver stream bytes o → fate_told r ≡ Some (fate_of o) → Ends j (behind j stream r) bytes r
   ends formula same_kind same_most o f told = record {
+    told = formula.1.0;
     same = (refl, refl, refl, refl);
     state = refl;
     over = λ over. record { state = over; heard = inr (o, f) };
@@ -118,7 +120,7 @@ never_more (Ok (Ok Unknown)) o reading fate = cc
 never_more (Ok (Err b)) o reading fate = cc
 never_more (Err e) o reading fate = cc
 
-not_wanting : (w : Bool) → (w ≡ true → false ≡ true) → w ≡ false
+pub not_wanting : (w : Bool) → (w ≡ true → false ≡ true) → w ≡ false
 not_wanting true h = sym (h refl)
 not_wanting false h = refl
 

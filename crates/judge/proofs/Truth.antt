@@ -4,7 +4,7 @@ use Rattle.std.specs.Prelude.{Option}
 use Rattle.std.proofs.lemmas.List.{length-map}
 use Rattle.cnf_form.specs.Cnf.{Assignment, FormulaOf, IsUnsatisfiable, Satisfies}
 use Rattle.design_core.specs.Shape.{DesignOf, IsDesign, wire_bits}
-use Rattle.design_meaning.specs.Claims.{ReachRun, Shows}
+use Rattle.design_meaning.specs.Claims.{NeverBreak, ReachRun, Shows}
 use Rattle.design_meaning.specs.Meaning.{Broken, Reached, Run, Valuation}
 use Rattle.design_meaning.specs.Runs.{CycleOf, kept_bits, valuations}
 use Rattle.design_reader.specs.Grammar.{Reads}
@@ -19,7 +19,7 @@ use Rattle.sby_terms.specs.Problem.{ProblemOf}
 use Rattle.sby_terms.specs.Span.{first_of, last_of}
 use Rattle.sby_terms.specs.declared.names.Answer.TheVariants.{Sat, Unsat}
 use Rattle.sby_terms.specs.declared.names.JobName.{JobName}
-use Rattle.sby_terms.specs.declared.names.JobName.TheVariants.{Base, Step, Cover}
+use Rattle.sby_terms.specs.declared.names.JobName.TheVariants.{Base, Step, Inv, Cover}
 use Rattle.sby_terms.specs.declared.names.Mode.{Mode}
 use Rattle.sby_terms.specs.declared.span.Span.{Span}
 use Rattle.word_model.proofs.Alike.{alike-turned, assumed-alike, broken-alike, follows-alike, frame-alike, reached-alike, starts-alike}
@@ -40,6 +40,7 @@ use Rattle.judge.specs.Rows.{AreRowsOf, cycle_in, cycles_in}
 never : (d : DesignOf) (job : JobName) (span : Span) → (Solvable d job span → ⊥) → Claim d span job Unsat None
 never d (Base i) span unsolved = (λ m vs a lt le s. unsolved (m, vs, a, lt, le, s), refl)
 never d Step span unsolved = (unsolved, refl)
+never d Inv span unsolved = (λ n m vs a lt le s. unsolved (m, vs, a, s), refl)
 never d (Cover k) span unsolved = (λ m vs le r. unsolved (m, vs, le, r), refl)
 
 abbrev problem : List ℕ → Mode → Span → ProblemOf
@@ -76,6 +77,11 @@ unsat_found p job text mode span h w e f g = claimed p (unsat (problem text mode
         let b = w.1 in
         let x = (encodes p h job b.0 b.1).speaks.1 s in
         w.2 x.0 (subst (λ (z : FormulaOf). Satisfies x.0 z.clauses) (sym b.2) x.1)
+
+-- the finding that no run breaks an assertion
+pub never_found : (p : AskedOf) (text : List ℕ) (mode : Mode) (span : Span) → IsProblem p → NeverBreak p.design → text ≡ p.problem.text → mode ≡ p.problem.mode → span ≡ p.problem.span
+    → IsTrueFinding (unsat (problem text mode span) Inv)
+never_found p text mode span h none e f g = claimed p (unsat (problem text mode span) Inv) h (same_problem p.problem text mode span e f g) (none, refl)
 
 -- and of one for which what is shown bears the claim out
 pub sat_found : (p : AskedOf) (job : JobName) (run : Option (List CycleOf)) (text : List ℕ) (mode : Mode) (span : Span) → IsProblem p → Claim p.design (span_of p.problem) job Sat run
@@ -227,6 +233,7 @@ module _ (p : AskedOf) (h : IsProblem p) (e : EncodedOf) (x : Assignment) (run :
   pub shown_claim : (job : JobName) → (job ≡ Step → ⊥) → IsEncodedOf p job e → Claim p.design (span_of p.problem) job Sat (Some run)
   shown_claim (Base i) apart is = let s = base-slice i is in (played.rows, s.0, s.1, base-shown i is)
   shown_claim Step apart is = absurd (apart refl)
+  shown_claim Inv apart is = absurd (is.0.1 refl)
   shown_claim (Cover k) apart is = (played.rows, cover-within k is, cover-shown k is)
 
 -- values stand for one run

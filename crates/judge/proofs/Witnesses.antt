@@ -19,7 +19,7 @@ use Rattle.sby_terms.specs.Span.{first_of, last_of}
 use Rattle.sby_terms.specs.declared.names.Answer.{Answer}
 use Rattle.sby_terms.specs.declared.names.Answer.TheVariants.{Sat}
 use Rattle.sby_terms.specs.declared.names.JobName.{JobName}
-use Rattle.sby_terms.specs.declared.names.JobName.TheVariants.{Base, Step, Cover}
+use Rattle.sby_terms.specs.declared.names.JobName.TheVariants.{Base, Step, Inv, Cover}
 use Rattle.witness_judge.proofs.Alone.{same_choices}
 use Rattle.witness_judge.proofs.Finding.{found_whole, length_choices}
 use Rattle.witness_judge.specs.Choosing.{choices_for, shape_of}
@@ -112,6 +112,7 @@ module _ (p : AskedOf) (h : IsProblem p) (x : WitnessOf) (run : List CycleOf) wh
       let own : IsChosen p (base_sought p i) x run = subst (λ (z : Sought). IsChosen p z x run) same c in
       (own.rows, own.reached.late, own.within, base_chosen i own)
   chosen_claim Step s e c = absurd (let n : None ≡ Some s = e in cc)
+  chosen_claim Inv s e c = absurd (let n : None ≡ Some s = e in cc)
   chosen_claim (Cover k) s e c =
       let same : s ≡ cover_sought p k = cc in
       let own : IsChosen p (cover_sought p k) x run = subst (λ (z : Sought). IsChosen p z x run) same c in
@@ -148,6 +149,7 @@ module _ (p : AskedOf) (h : IsProblem p) (s : Sought) (ended : Bool) (bytes : Li
 pub one_witness_run : (p : AskedOf) → IsProblem p → (job : JobName) (ended : Bool) (bytes : List ℕ) (most : ℕ) (run other : List CycleOf) → IsWitnessRun p job ended bytes most run → IsWitnessRun p job ended bytes most other → run ≡ other
 one_witness_run p h (Base i) ended bytes most run other (x, hx, a) (y, hy, b) = one_chosen p h (base_sought p i) (ended && leb (length bytes) most) (take most bytes) run other x y hx hy a b
 one_witness_run p h Step ended bytes most run other a b = absurd a
+one_witness_run p h Inv ended bytes most run other a b = absurd a
 one_witness_run p h (Cover k) ended bytes most run other (x, hx, a) (y, hy, b) = one_chosen p h (cover_sought p k) (ended && leb (length bytes) most) (take most bytes) run other x y hx hy a b
 
 -- a witness that is found shows that the job can be solved
@@ -158,6 +160,7 @@ shown_solvable p h (Base i) stream most answer is =
     let shows = f.shows in
     (found.0, (f.cycles, (λ t. valued p.design (f.run t)), shows.0, f.late, f.within, shows-to p.design p.model h.model f.cycles f.run shows.0 shows.1))
 shown_solvable p h Step stream most answer is = absurd is
+shown_solvable p h Inv stream most answer is = absurd is
 shown_solvable p h (Cover k) stream most answer is =
     let found = found_whole (witness_asked p (cover_sought p k)) stream most answer is in
     let f = found.1 in

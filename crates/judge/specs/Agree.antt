@@ -8,7 +8,7 @@ use Rattle.sby_terms.specs.Problem.{ProblemOf}
 use Rattle.sby_terms.specs.declared.names.Answer.{Answer}
 use Rattle.sby_terms.specs.declared.names.Answer.TheVariants.{Sat, Unsat}
 use Rattle.sby_terms.specs.declared.names.JobName.{JobName}
-use Rattle.sby_terms.specs.declared.names.JobName.TheVariants.{Base, Step, Cover}
+use Rattle.sby_terms.specs.declared.names.JobName.TheVariants.{Base, Step, Inv, Cover}
 use Rattle.sby_terms.specs.declared.span.Span.{Span}
 use Rattle.judge.specs.Finding.{FindingOf, Claim, IsTrueFinding}
 use Rattle.judge.specs.Jobs.{span_of}
@@ -17,6 +17,7 @@ apart : (d : DesignOf) (s : Span) (job : JobName) (r t : Option (List CycleOf)) 
 apart d s (Base j) r None p q = q
 apart d s (Base j) r (Some run) p q = p.0 _ _ q.3.0 q.1 q.2 q.3.1
 apart d s Step r t p q = p.0 q.0
+apart d s Inv r t p q = q
 apart d s (Cover k) r None p q = q
 apart d s (Cover k) r (Some run) p q = p.0 _ _ q.1 q.2
 

@@ -9,7 +9,7 @@ use Rattle.cert_judge.specs.declared.stream.Outcome.{Outcome}
 use Rattle.cert_judge.specs.declared.stream.StreamKind.{StreamKind}
 use Rattle.net_unroll.specs.Encoding.{EncodedOf}
 use Rattle.judge.specs.Answers.{Finds, FindsRunOf, fate_told, state_behind}
-use Rattle.judge.specs.Problem.{AskedOf, IsFormulaOf, IsJobFile}
+use Rattle.judge.specs.Problem.{AskedOf, IsFormulaFile, IsFormulaOf, IsTold}
 use Rattle.judge.specs.declared.judging.Progress.{Progress}
 use Rattle.judge.specs.declared.judging.State.{State}
 use Rattle.judge.specs.declared.judging.State.TheVariants.{Reading, Over}
@@ -59,21 +59,23 @@ IsSameJudge old new = (new.asked ≡ old.asked) × (new.job ≡ old.job) × (new
 abbrev pub FindsRun : JudgeOf → Bool → List ℕ → Result Progress BadCert → Type 0
 FindsRun j ended bytes r = FindsRunOf j.asked j.job (Certificate j.kind) ended bytes j.most r
 
--- The judge took the bytes, and answers their fate so far for its job's file, whatever pieces they came in.
+-- The judge took the bytes, and answers their fate so far for its job's formula, whatever pieces they came in.
 pub record Feeds (old new : JudgeOf) (bytes : List ℕ) (r : Result Progress BadCert) : Type 0 where
+  pub told : IsTold old.asked old.job
   pub same : IsSameJudge old new
   pub state : new.state ≡ state_behind r
   pub stands : new.state ≡ Reading → Took new bytes
   pub over : new.state ≡ Over → TookAll new bytes
   pub finds : Finds old.asked old.job r
   pub run : FindsRun old false bytes r
-  pub fate : (file : List ℕ) → IsJobFile old.asked old.job file → IsFateSoFar old.kind file bytes old.most (fate_told r)
+  pub fate : (file : List ℕ) → IsFormulaFile old.asked old.job file → IsFateSoFar old.kind file bytes old.most (fate_told r)
 
--- The judge answers the fate of the bytes taken, as the whole stream, for its job's file.
+-- The judge answers the fate of the bytes taken, as the whole stream, for its job's formula.
 pub record Ends (old new : JudgeOf) (bytes : List ℕ) (r : Result Progress BadCert) : Type 0 where
+  pub told : IsTold old.asked old.job
   pub same : IsSameJudge old new
   pub state : new.state ≡ state_behind r
   pub over : new.state ≡ Over → TookAll new bytes
   pub finds : Finds old.asked old.job r
   pub run : FindsRun old true bytes r
-  pub fate : (file : List ℕ) → IsJobFile old.asked old.job file → MatchOption (fate_told r) ⊥ (IsFate old.kind file bytes old.most)
+  pub fate : (file : List ℕ) → IsFormulaFile old.asked old.job file → MatchOption (fate_told r) ⊥ (IsFate old.kind file bytes old.most)

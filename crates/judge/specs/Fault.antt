@@ -1,6 +1,6 @@
 -- Where a problem is refused.
 use Rattle.std.specs.Prelude.{◌≡◌, ℕ, ◌*◌, ◌<◌, ◌^◌, List, Some, slice_get}
-use Rattle.task_net.specs.Net.{IsTooMany as IsTooManyOf}
+use Rattle.judge.specs.Refused.{IsRefusedJob}
 use Rattle.design_check.specs.Faults.{IsFault, IsFlat}
 use Rattle.design_core.specs.Shape.{DesignOf}
 use Rattle.design_graph.specs.Order.{IsOrder}
@@ -28,7 +28,7 @@ pub record IsTooMany (d : DesignOf) (job : JobName) (span : Span) : Type 0 where
   pub model : ModelOf
   pub ordered : IsOrder d order
   pub built : IsBuilt d order model
-  pub refused : IsTooManyOf model job span
+  pub refused : IsRefusedJob d model job span
   pub before : (earlier : JobName) → IsEarlier earlier job → (e : EncodedOf) × IsEncodedJob d model earlier span e
 
 -- The text reads no design, and is refused so; or the design that it reads has the fault; or that design is flat, and one of its jobs has

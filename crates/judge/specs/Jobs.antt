@@ -7,9 +7,9 @@ use Rattle.design_meaning.specs.Meaning.{Valuation, Window, Assumed, Broken, ass
 use Rattle.sby_terms.specs.Problem.{ProblemOf}
 use Rattle.sby_terms.specs.Span.{IsSpan, first_of, last_of, slices_of, whole}
 use Rattle.sby_terms.specs.declared.names.JobName.{JobName}
-use Rattle.sby_terms.specs.declared.names.JobName.TheVariants.{Base, Step, Cover}
+use Rattle.sby_terms.specs.declared.names.JobName.TheVariants.{Base, Step, Inv, Cover}
 use Rattle.sby_terms.specs.declared.names.Mode.{Mode}
-use Rattle.sby_terms.specs.declared.names.Mode.TheVariants.{Bmc, Prove, Cover as CoverMode}
+use Rattle.sby_terms.specs.declared.names.Mode.TheVariants.{Bmc, Prove, ProveInv, Cover as CoverMode}
 use Rattle.sby_terms.specs.declared.span.Span.{Span}
 
 -- the cycles at which a problem looks
@@ -26,18 +26,26 @@ pub record IsSpanFor (mode : Mode) (span : Span) : Type 0 where
 abbrev pub jobs_in : Mode → Span → DesignOf → List JobName
 jobs_in Bmc span d = map Base (range_with_len 0 (slices_of span))
 jobs_in Prove span d = Base 0 ∷ Step ∷ []
+jobs_in ProveInv span d = Base 0 ∷ Inv ∷ []
 jobs_in CoverMode span d = map Cover (range_with_len 0 (length (covers d)))
 
--- a job of a mode that comes before another: an earlier slice, Base before Step, an earlier statement
+-- a job of a mode that comes before another: an earlier slice, Base before Step or Inv, an earlier statement
 abbrev pub IsEarlier : JobName → JobName → Type 0
 IsEarlier (Base i) (Base j) = i < j
 IsEarlier (Base i) Step = i ≡ 0
+IsEarlier (Base i) Inv = i ≡ 0
 IsEarlier (Base i) (Cover j) = ⊥
 IsEarlier Step (Base j) = ⊥
 IsEarlier Step Step = ⊥
+IsEarlier Step Inv = ⊥
 IsEarlier Step (Cover j) = ⊥
+IsEarlier Inv (Base j) = ⊥
+IsEarlier Inv Step = ⊥
+IsEarlier Inv Inv = ⊥
+IsEarlier Inv (Cover j) = ⊥
 IsEarlier (Cover i) (Base j) = ⊥
 IsEarlier (Cover i) Step = ⊥
+IsEarlier (Cover i) Inv = ⊥
 IsEarlier (Cover i) (Cover j) = i < j
 
 -- the jobs of a problem of which the design is d
@@ -52,14 +60,16 @@ pub record StepShows (d : DesignOf) (n : ℕ) (vs : ℕ → Valuation) (a : ℕ)
   pub last : Broken d (vs n) a
 
 -- Base(i): a run whose last cycle is of slice i breaks an assertion there. Step: depth + 1 cycles from any state do, in the last alone.
--- Cover(k): a run of at most depth cycles reaches cover statement k.
+-- Cover(k): a run of at most depth cycles reaches cover statement k. Inv: a run of whatever length breaks an assertion in its last cycle.
 abbrev pub Solvable : DesignOf → JobName → Span → Type 0
 Solvable d (Base i) span = (n : ℕ) × (vs : ℕ → Valuation) × (a : ℕ) × (first_of span i < n) × (n ≤ last_of span i) × Shows d n vs a
 Solvable d Step span = (vs : ℕ → Valuation) × (a : ℕ) × StepShows d span.depth vs a
+Solvable d Inv span = (n : ℕ) × (vs : ℕ → Valuation) × (a : ℕ) × Shows d n vs a
 Solvable d (Cover k) span = (n : ℕ) × (vs : ℕ → Valuation) × (n ≤ span.depth) × ReachRun d n vs k
 
--- no statement could be broken or reached
+-- no statement could be broken or reached; an invariant is asked for all the same
 abbrev pub AsksNothing : DesignOf → JobName → Type 0
 AsksNothing d (Base i) = asserts d ≡ []
 AsksNothing d Step = asserts d ≡ []
+AsksNothing d Inv = ⊥
 AsksNothing d (Cover k) = covers d ≡ []

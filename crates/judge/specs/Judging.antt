@@ -1,17 +1,19 @@
 -- A judge of a stream of any kind, and what its answers tell.
 use Rattle.std.specs.Prelude.{◌≡◌, ℕ, Bool, true, false, List, MatchOption, Result}
 use Rattle.sby_terms.specs.declared.names.JobName.{JobName}
+use Rattle.sby_terms.specs.declared.names.JobName.TheVariants.{Inv}
 use Rattle.cert_judge.specs.declared.stream.BadCert.{BadCert}
 use Rattle.cert_judge.specs.declared.stream.Kind.{Kind}
 use Rattle.cert_judge.specs.declared.stream.Kind.TheVariants as kind
 use Rattle.judge.specs.Answers.{Finds, FindsRunOf, fate_told, state_behind}
 use Rattle.judge.specs.Certificate as certificate
 use Rattle.judge.specs.Fates.{IsFate, IsFateSoFar}
+use Rattle.judge.specs.Inductive as invariant
 use Rattle.judge.specs.Problem.{AskedOf, IsJobFile}
 use Rattle.judge.specs.Reading as witness
 use Rattle.judge.specs.declared.judging.Progress.{Progress}
 use Rattle.judge.specs.declared.judging.Reader.{Reader}
-use Rattle.judge.specs.declared.judging.Reader.TheVariants.{Certificate, Witness}
+use Rattle.judge.specs.declared.judging.Reader.TheVariants.{Certificate, Witness, Invariant}
 use Rattle.judge.specs.declared.judging.State.{State}
 use Rattle.judge.specs.declared.judging.State.TheVariants.{Reading, Over}
 
@@ -27,16 +29,19 @@ pub record JudgeOf : Type 0 where
 abbrev pub judge_of : Reader → JudgeOf
 judge_of (Certificate c) = record { asked = c.asked; job = c.job; kind = kind.Certificate c.kind; most = c.most; state = c.state; reader = Certificate c }
 judge_of (Witness w) = record { asked = w.asked; job = w.job; kind = kind.Witness; most = w.most; state = w.state; reader = Witness w }
+judge_of (Invariant i) = record { asked = i.asked; job = Inv; kind = kind.Invariant; most = i.most; state = i.state; reader = Invariant i }
 
 -- these bytes of a stream were taken, and more may be
 abbrev pub HasTaken : Reader → List ℕ → Type 0
 HasTaken (Certificate c) bytes = certificate.Took c bytes
 HasTaken (Witness w) bytes = witness.Took w bytes
+HasTaken (Invariant i) bytes = invariant.Took i bytes
 
 -- these were taken, and came to an answer
 abbrev pub HasTakenAll : Reader → List ℕ → Type 0
 HasTakenAll (Certificate c) bytes = certificate.TookAll c bytes
 HasTakenAll (Witness w) bytes = witness.TookAll w bytes
+HasTakenAll (Invariant i) bytes = invariant.TookAll i bytes
 
 -- the judge reads, and has taken these bytes of a stream
 pub record Took (j : JudgeOf) (bytes : List ℕ) : Type 0 where

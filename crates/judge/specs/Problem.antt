@@ -1,5 +1,5 @@
 -- A problem: a text, the design that it reads, its model, and the net from which each of its jobs is made as a formula.
-use Rattle.std.specs.Prelude.{◌≡◌, ◌↔◌, ◌≤◌, ◌^◌, ℕ, List, Some, slice_get}
+use Rattle.std.specs.Prelude.{◌≡◌, ◌↔◌, ◌⊎◌, ◌≤◌, ◌^◌, ℕ, List, Option, Some, slice_get}
 use Rattle.cnf_form.specs.Cnf.{Assignment, FormulaOf, Satisfies}
 use Rattle.cnf_form.specs.Dimacs.{IsDimacs, dimacs_text}
 use Rattle.task_net.specs.Asking.{HasOriginsInCone}
@@ -24,11 +24,17 @@ use Rattle.word_model.specs.Built.{IsBuilt}
 use Rattle.word_model.specs.Model.{IsModelOf}
 use Rattle.sby_terms.specs.Problem.{ProblemOf}
 use Rattle.sby_terms.specs.declared.names.JobName.{JobName}
-use Rattle.sby_terms.specs.declared.names.JobName.TheVariants.{Step}
+use Rattle.sby_terms.specs.declared.names.JobName.TheVariants.{Base, Step, Inv, Cover}
 use Rattle.sby_terms.specs.declared.names.Mode.{Mode}
-use Rattle.sby_terms.specs.declared.names.Mode.TheVariants.{Bmc, Prove, Cover}
+use Rattle.sby_terms.specs.declared.names.Mode.TheVariants.{Bmc, Prove, ProveInv, Cover as CoverMode}
 use Rattle.sby_terms.specs.declared.span.Span.{Span}
 use Rattle.net_jobs.specs.Jobs.{job_made}
+use Rattle.bit_net.specs.Net.{NetOf}
+use Rattle.net_pair.specs.Numbers.{HaveStates}
+use Rattle.net_pair.specs.Pairing.{made, pair_of}
+use Rattle.pair_form.specs.Pair.{PairOf}
+use Rattle.pair_form.specs.Text.{pair_text}
+use Rattle.word_model.specs.Numbers.{numbered_places}
 use Rattle.judge.specs.Jobs.{AsksNothing, IsSpanFor, Solvable, jobs_of, span_of}
 
 -- what a witness may say of a model: its state bits by longest stretches, and its inputs that are read, each a row of places
@@ -42,13 +48,15 @@ pub record IsShapeOf (d : DesignOf) (m : ModelOf) (s : ShapeOf) : Type 0 where
   pub read : AreReadInputs m (source_rows d) s.inputs
   pub rows : AreRowsOf m.inputs s.inputs
 
--- what is asked, the design, its model, what a witness may say of that, and the net of what the mode asks
+-- what is asked, the design, its model, what a witness may say of that, the net of what the mode asks, and by their numbers the design's state
+-- bits among those of the net
 pub record AskedOf : Type 0 where
   pub problem : ProblemOf
   pub design : DesignOf
   pub model : ModelOf
   pub shape : ShapeOf
   pub net : TaskNetOf
+  pub bits : List (Option ℕ)
 
 -- the job at place i
 abbrev pub IsJobAt : AskedOf → ℕ → JobName → Type 0
@@ -62,19 +70,43 @@ IsJob p job = (i : ℕ) × IsJobAt p i job
 abbrev pub asked_in : Mode → Asked
 asked_in Bmc = ask.Asserts
 asked_in Prove = ask.Asserts
-asked_in Cover = ask.Covers
+asked_in ProveInv = ask.Asserts
+asked_in CoverMode = ask.Covers
 
--- the job as it is encoded, made from the net
+-- one of the jobs that are made of cycles told one after the other, as all are but Inv
+abbrev pub IsTold : AskedOf → JobName → Type 0
+IsTold p job = IsJob p job × (job ≡ Inv → ⊥)
+
+-- such a job as it is encoded, made from the net
 abbrev pub IsEncodedOf : AskedOf → JobName → EncodedOf → Type 0
-IsEncodedOf p job e = IsJob p job × (e ≡ task_encoded p.net job (span_of p.problem))
+IsEncodedOf p job e = IsTold p job × (e ≡ task_encoded p.net job (span_of p.problem))
 
 -- and its formula
 abbrev pub IsFormulaOf : AskedOf → JobName → FormulaOf → Type 0
 IsFormulaOf p job f = (e : EncodedOf) × IsEncodedOf p job e × (f ≡ e.formula)
 
--- what is put as the job's file: its formula in DIMACS, as it is written
+-- its formula in DIMACS, as it is written
+abbrev pub IsFormulaFile : AskedOf → JobName → List ℕ → Type 0
+IsFormulaFile p job bytes = (f : FormulaOf) × IsFormulaOf p job f × (bytes ≡ dimacs_text f) × IsDimacs bytes f
+
+-- the pair of two neighbouring cycles of the net
+abbrev pub pair_in : AskedOf → PairOf
+pair_in p = pair_of p.net.net p.bits
+
+-- of Inv the pair, as it is written: its formula in DIMACS, with comment lines before it
+abbrev pub IsPairFile : AskedOf → JobName → List ℕ → Type 0
+IsPairFile p job bytes = IsJob p job × (job ≡ Inv) × (bytes ≡ pair_text (pair_in p)) × IsDimacs bytes (pair_in p).formula
+
+-- what is put as the job's file
 abbrev pub IsJobFile : AskedOf → JobName → List ℕ → Type 0
-IsJobFile p job bytes = (f : FormulaOf) × IsFormulaOf p job f × (bytes ≡ dimacs_text f) × IsDimacs bytes f
+IsJobFile p job bytes = IsFormulaFile p job bytes ⊎ IsPairFile p job bytes
+
+-- how many variables are made for a job
+abbrev pub job_size : NetOf → List (Option ℕ) → JobName → Span → ℕ
+job_size n bits (Base i) span = job_made n (Base i) span
+job_size n bits Step span = job_made n Step span
+job_size n bits Inv span = made n bits
+job_size n bits (Cover k) span = job_made n (Cover k) span
 
 -- What is promised of an encoded job: its formula can be satisfied exactly where the job can be solved, and has from 1 to 2 ^ 27
 -- variables; where some variables are fixed, each of which stands for a bit that the job leaves free, unit propagation comes to a
@@ -90,7 +122,7 @@ pub record IsEncodedJob (d : DesignOf) (m : ModelOf) (job : JobName) (span : Spa
   pub decodes : (job ≡ Step → ⊥) → (x : Assignment) → Satisfies x e.formula.clauses → IsDecoded m job span (decoded e x)
 
 -- the span is one that the mode may have; the text reads the design and no other, which is flat; the model is the design's, made of its
--- parts; a witness may say what is open in it; the net is that of what the mode asks, and each job fits
+-- parts; a witness may say what is open in it; the net is that of what the mode asks, the state bits have their numbers, and each job fits
 pub record IsProblem (p : AskedOf) : Type 0 where
   pub span : IsSpanFor p.problem.mode (span_of p.problem)
   pub reads : Reads p.problem.text p.design
@@ -102,4 +134,5 @@ pub record IsProblem (p : AskedOf) : Type 0 where
   pub built : (order : List Driver) × IsOrder p.design order × IsBuilt p.design order p.model
   pub shape : IsShapeOf p.design p.model p.shape
   pub net : IsTaskNet p.model (asked_in p.problem.mode) p.net
-  pub fits : (job : JobName) → IsJob p job → job_made p.net.net job (span_of p.problem) ≤ 2 ^ 27
+  pub bits : HaveStates p.net.states (numbered_places p.design) p.bits
+  pub fits : (job : JobName) → IsJob p job → job_size p.net.net p.bits job (span_of p.problem) ≤ 2 ^ 27

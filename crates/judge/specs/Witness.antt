@@ -13,7 +13,7 @@ use Rattle.model_core.specs.Choices.{Plays}
 use Rattle.model_core.specs.Meaning.{Cycle}
 use Rattle.sby_terms.specs.Span.{first_of, last_of}
 use Rattle.sby_terms.specs.declared.names.JobName.{JobName}
-use Rattle.sby_terms.specs.declared.names.JobName.TheVariants.{Base, Step, Cover}
+use Rattle.sby_terms.specs.declared.names.JobName.TheVariants.{Base, Step, Inv, Cover}
 use Rattle.sby_terms.specs.declared.span.Span.{Span}
 use Rattle.witness_judge.specs.Choosing.{AskedOf as WitnessAskedOf, choices_for, shape_of}
 use Rattle.witness_judge.specs.Fate.{HasWitness, IsWitnessFate, IsWitnessFateSoFar}
@@ -24,10 +24,11 @@ use Rattle.word_model.specs.Layout.{IsAlike, valued}
 use Rattle.judge.specs.Jobs.{span_of}
 use Rattle.judge.specs.Problem.{AskedOf}
 
--- What a witness shows for a job, and in which cycle its run ends. Of Step it shows nothing, as it tells a run from the start.
+-- What a witness shows for a job, and in which cycle its run ends. Of Step and Inv it shows nothing, as it tells one run from the start.
 abbrev pub sought_of : Span → JobName → Option Sought
 sought_of span (Base i) = Some (record { goal = goal.Asserts; first = first_of span i; last = last_of span i })
 sought_of span Step = None
+sought_of span Inv = None
 sought_of span (Cover k) = Some (record { goal = goal.Cover k; first = 0; last = span.depth })
 
 abbrev pub sought_in : AskedOf → JobName → Option Sought

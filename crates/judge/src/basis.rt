@@ -6,6 +6,9 @@ ghost use Rattle.judge.specs.Basis.{IsBasis};
 ghost use Rattle.judge.specs.Fault.{IsProblemFault};
 ghost use Rattle.judge.specs.Jobs.{jobs_in};
 ghost use Rattle.judge.specs.Problem.{asked_in};
+ghost use Rattle.net_pair.specs.Numbers.{HaveStates};
+ghost use Rattle.task_net.specs.Net.{IsTaskNet};
+ghost use Rattle.word_model.specs.Numbers.{numbered_places};
 ghost use Rattle.sby_terms.specs.Span.{IsSpan};
 
 use crate::encoding::{asked_in, model_of};
@@ -17,14 +20,17 @@ use design_check::flat::Flat;
 use design_reader::read;
 use model_cone::asked::Asked;
 use model_core::model::WordModel;
+use net_pair::states_at;
 use sby_terms::{JobName, Mode, Span};
 use source_rows::source_rows;
 use std::alloc::{AllocError, Global};
 use std::marker::Model;
 use task_net::TaskNet;
 use witness_judge::open_shape;
+use word_model::numbers::numbered_places;
 
-// A text, what is asked of it, the design that it reads, its model, what a witness may say of that, and the net of what is asked.
+// A text, what is asked of it, the design that it reads, its model, what a witness may say of that, the net of what is asked, and by their
+// numbers the design's state bits among those of the net.
 #[derive(Drop)]
 pub(crate) struct Basis {
     text: Text,
@@ -33,6 +39,7 @@ pub(crate) struct Basis {
     model: WordModel,
     shape: Shape,
     net: TaskNet,
+    bits: Vec<Option<u32>>,
 }
 
 impl Model for Basis {
@@ -40,9 +47,9 @@ impl Model for Basis {
 
     ghost Value = { BasisOf };
 
-    ghost view = { λ a. record { text = a.text; asked = a.asked; design = a.flat; model = a.model; shape = record { states = a.shape.states.items; inputs = a.shape.inputs }; net = a.net } };
+    ghost view = { λ a. record { text = a.text; asked = a.asked; design = a.flat; model = a.model; shape = record { states = a.shape.states.items; inputs = a.shape.inputs }; net = a.net; bits = a.bits.items } };
 
-    ghost invariant = { λ a. IsBasis (record { text = a.text; asked = a.asked; design = a.flat; model = a.model; shape = record { states = a.shape.states.items; inputs = a.shape.inputs }; net = a.net }) };
+    ghost invariant = { λ a. IsBasis (record { text = a.text; asked = a.asked; design = a.flat; model = a.model; shape = record { states = a.shape.states.items; inputs = a.shape.inputs }; net = a.net; bits = a.bits.items }) };
 }
 
 // The first job of a mode that has jobs.
@@ -50,9 +57,23 @@ fn first_job(mode: Mode) -> JobName
     ensures { (span : Span) (d : DesignOf) → 0 < length (jobs_in mode span d) → slice_get (jobs_in mode span d) 0 ≡ Some result }
 {
     match mode {
-        Mode::Bmc | Mode::Prove => JobName::Base(0),
+        Mode::Bmc | Mode::Prove | Mode::ProveInv => JobName::Base(0),
         Mode::Cover => JobName::Cover(0),
     }
+}
+
+// By their numbers the design's state bits among those of the net.
+fn bits_of(
+    alloc: Global,
+    flat: &Flat,
+    model: &WordModel,
+    net: &TaskNet,
+) -> Result<Vec<Option<u32>>, AllocError>
+    requires net { (asked : Asked) × IsTaskNet model.now asked net.now }
+    ensures { IfOk result (λ bits. HaveStates net.now.states (numbered_places flat.now) bits.items) }
+{
+    let places = numbered_places(alloc, flat)?;
+    states_at(alloc, model.size(), net.states(), &places)
 }
 
 impl Basis {
@@ -84,6 +105,7 @@ impl Basis {
         };
         let rows = source_rows(alloc, &flat)?;
         let shape = open_shape(alloc, &model, &rows)?;
+        let bits = bits_of(alloc, &flat, &model, &net)?;
         let text = Text::new(alloc, text)?;
         Ok(Ok(Basis {
             text,
@@ -92,6 +114,7 @@ impl Basis {
             model,
             shape,
             net,
+            bits,
         }))
     }
 
@@ -137,5 +160,12 @@ impl Basis {
         ensures { result.now ≡ self.now.net }
     {
         &self.net
+    }
+
+    // By their numbers the design's state bits among those of the net.
+    pub(crate) fn bits(&self) -> &[Option<u32>]
+        ensures { result.now ≡ self.now.bits }
+    {
+        self.bits.as_slice()
     }
 }

@@ -5,7 +5,7 @@ ghost use Rattle.job_terms.specs.Decoding.{values_of};
 ghost use Rattle.job_terms.specs.Encoding.{EncodedOf};
 ghost use Rattle.judge.specs.Answers.{Finds, FindsPlayed, IsTrueOutcome, fate_told};
 ghost use Rattle.judge.specs.Certificate.{Ends, Feeds, Took, TookAll};
-ghost use Rattle.judge.specs.Problem.{IsEncodedOf, IsJob};
+ghost use Rattle.judge.specs.Problem.{IsEncodedOf, IsTold};
 ghost use Rattle.cert_judge.specs.Outcomes.{fate_told as outcome_told};
 ghost use Rattle.cert_judge.specs.declared.stream.BadCert.{BadCert};
 
@@ -51,7 +51,7 @@ impl<'a> CertificateJudge<'a> {
         kind: StreamKind,
         most: u64,
     ) -> Result<Self, AllocError>
-        requires job { IsJob problem.now job }
+        requires job { IsTold problem.now job }
         requires least { 1 ≤ most }
         requires limit { most ≤ 2 ^ 32 }
         ensures asked { IfOk result (λ j. j.asked ≡ problem.now) }

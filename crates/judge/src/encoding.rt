@@ -1,12 +1,14 @@
 // The model of a problem, and the net from which its jobs are made.
 
-ghost use Rattle.std.specs.Prelude.{◌≡◌, ◌<◌, ◌≤◌, ◌^◌, IfErr, IfNone, IfOk, IfSome, IsFalse, IsTrue, length};
+ghost use Rattle.std.specs.Prelude.{◌≡◌, ◌⊎◌, ◌<◌, ◌≤◌, ◌^◌, IfErr, IfNone, IfOk, IfSome, IsFalse, IsTrue, length};
 ghost use Rattle.design_core.specs.Shape.{DesignOf};
 ghost use Rattle.design_meaning.specs.Meaning.{covers as covers_in};
 ghost use Rattle.judge.specs.Jobs.{jobs_in};
-ghost use Rattle.judge.specs.Problem.{asked_in as asked_by_mode};
+ghost use Rattle.judge.specs.Problem.{asked_in as asked_by_mode, job_size};
 ghost use Rattle.judge.specs.Stored.{FitUpTo, IsBuiltFor, IsRefusedAmong};
 ghost use Rattle.net_jobs.specs.Jobs.{IsOfSpan, job_made};
+ghost use Rattle.net_pair.specs.Numbers.{HaveStates};
+ghost use Rattle.word_model.specs.Numbers.{numbered_places};
 ghost use Rattle.sby_terms.specs.Span.{IsSpan};
 ghost use Rattle.task_net.specs.Net.{IsTaskNet};
 
@@ -46,6 +48,10 @@ fn names_of(alloc: Global, mode: Mode, span: Span, covers: u32) -> Result<Vec<Jo
             let names = vec![in alloc; JobName::Base(0), JobName::Step]?;
             Ok(names)
         }
+        Mode::ProveInv => {
+            let names = vec![in alloc; JobName::Base(0), JobName::Inv]?;
+            Ok(names)
+        }
         Mode::Cover => {
             let mut names = Vec::new(alloc);
             for k in 0..covers {
@@ -78,13 +84,13 @@ pub(crate) fn asked_in(mode: Mode) -> Asked
     ensures { result ≡ asked_by_mode mode }
 {
     match mode {
-        Mode::Bmc | Mode::Prove => Asked::Asserts,
+        Mode::Bmc | Mode::Prove | Mode::ProveInv => Asked::Asserts,
         Mode::Cover => Asked::Covers,
     }
 }
 
-// Whether a job fits: by counting, or else by making it.
-fn fits(alloc: Global, net: &TaskNet, job: JobName, span: Span) -> Result<bool, AllocError>
+// Whether a job of cycles told one after the other fits: by counting, or else by making it.
+fn fits_told(alloc: Global, net: &TaskNet, job: JobName, span: Span) -> Result<bool, AllocError>
     requires span { IsSpan span }
     requires most { span.depth ≤ 100000 }
     requires job { IsOfSpan job span }
@@ -98,12 +104,33 @@ fn fits(alloc: Global, net: &TaskNet, job: JobName, span: Span) -> Result<bool, 
     Ok(encoded.is_ok())
 }
 
+// Whether a job fits. The state bits stand by their numbers among those of the net.
+fn fits(
+    alloc: Global,
+    net: &TaskNet,
+    bits: &[Option<u32>],
+    job: JobName,
+    span: Span,
+) -> Result<bool, AllocError>
+    requires span { IsSpan span }
+    requires most { span.depth ≤ 100000 }
+    requires job { IsOfSpan job span ⊎ (job ≡ JobName.Inv) }
+    ensures yes { IfOk result (λ b. IsTrue b → job_size net.now.net bits.now job span ≤ 2 ^ 27) }
+    ensures no { IfOk result (λ b. IsFalse b → 2 ^ 27 < job_size net.now.net bits.now job span) }
+{
+    match job {
+        JobName::Base(_) | JobName::Step | JobName::Cover(_) => fits_told(alloc, net, job, span),
+        JobName::Inv => Ok(net_pair::fits(net.net(), bits)),
+    }
+}
+
 // The first of the jobs that has too many variables, if one has.
 pub(crate) fn first_unfit(
     alloc: Global,
     flat: &Flat,
     model: &WordModel,
     net: &TaskNet,
+    bits: &[Option<u32>],
     mode: Mode,
     span: Span,
     names: &[JobName],
@@ -112,12 +139,13 @@ pub(crate) fn first_unfit(
     requires span { IsSpan span }
     requires most { span.depth ≤ 100000 }
     requires net { IsTaskNet model.now (asked_by_mode mode) net.now }
+    requires bits { HaveStates net.now.states (numbered_places flat.now) bits.now }
     requires names { names.now ≡ jobs_in mode span flat.now }
-    ensures none { IfOk result (λ r. IfNone r (FitUpTo net.now span names.now (length names.now))) }
+    ensures none { IfOk result (λ r. IfNone r (FitUpTo net.now bits.now span names.now (length names.now))) }
     ensures some { IfOk result (λ r. IfSome r (λ job. IsRefusedAmong flat.now model.now span names.now job)) }
 {
     for name in names {
-        if !fits(alloc, net, *name, span)? {
+        if !fits(alloc, net, bits, *name, span)? {
             return Ok(Some(*name));
         }
     }

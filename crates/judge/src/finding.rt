@@ -3,6 +3,7 @@
 ghost use Rattle.std.specs.Prelude.{◌≡◌, ◌↔◌, ◌+◌, length, List, Option, IfOk, IsTrue, None, Some, option_map};
 ghost use Rattle.cnf_form.specs.Cnf.{FormulaOf, IsUnsatisfiable, Satisfies};
 ghost use Rattle.design_core.specs.Shape.{DesignOf};
+ghost use Rattle.design_meaning.specs.Claims.{NeverBreak};
 ghost use Rattle.design_meaning.specs.Runs.{CycleOf};
 ghost use Rattle.design_reader.specs.Grammar.{Reads};
 ghost use Rattle.job_terms.specs.Decoding.{values_of};
@@ -97,6 +98,23 @@ pub(crate) fn unsat(problem: &Problem, job: JobName) -> Result<Finding, AllocErr
     })
 }
 
+// The finding that the job that asks for an invariant can't be solved, where no run breaks an assertion.
+pub(crate) fn never(problem: &Problem) -> Result<Finding, AllocError>
+    requires { NeverBreak problem.now.design }
+    ensures { IfOk result (λ f. f ≡ record { problem = problem.now.problem; job = JobName.Inv; answer = Answer.Unsat; run = None }) }
+{
+    let _flat = problem.flat();
+    let text = problem.share_text()?;
+    Ok(Finding {
+        text,
+        mode: problem.mode(),
+        span: problem.span(),
+        job: JobName::Inv,
+        answer: Answer::Unsat,
+        run: None,
+    })
+}
+
 // The run that shows that a job can be solved, for values that satisfy its formula.
 fn shown(
     alloc: Global,
@@ -110,6 +128,7 @@ fn shown(
 {
     let _flat = problem.flat();
     match job {
+        JobName::Inv => unreachable!(),
         JobName::Step => Ok(None),
         JobName::Base(_) | JobName::Cover(_) => {
             let run = problem.played(alloc, job, values)?;

@@ -9,6 +9,7 @@ ghost use Rattle.cert_judge.specs.declared.stream.BadCert.{BadCert};
 
 use crate::certificate::CertificateJudge;
 use crate::finding::Finding;
+use crate::invariant::InvariantReader;
 use crate::problem::Problem;
 use crate::witness::WitnessReader;
 use cert_judge::{BadCert, Kind};
@@ -40,14 +41,15 @@ pub enum State {
     Wanting,
 }
 
-/// Whether streams of a kind are judged for a job: certificates for each, witnesses for those that ask for a run from the start, which Step
-/// doesn't.
+/// Whether streams of a kind are judged for a job: invariants for Inv alone, certificates for each other, witnesses for those that ask for a
+/// run from the start, which Step doesn't.
 pub fn serves(kind: Kind, job: JobName) -> bool
     ensures { MatchBool result (Serves kind job) (Serves kind job → ⊥) }
 {
     match kind {
-        Kind::Certificate(_) => true,
-        Kind::Witness => job != JobName::Step,
+        Kind::Certificate(_) => job != JobName::Inv,
+        Kind::Witness => job != JobName::Step && job != JobName::Inv,
+        Kind::Invariant => job == JobName::Inv,
     }
 }
 
@@ -56,10 +58,11 @@ pub fn serves(kind: Kind, job: JobName) -> bool
 pub(crate) enum Reader<'a> {
     Certificate(CertificateJudge<'a>),
     Witness(WitnessReader<'a>),
+    Invariant(InvariantReader<'a>),
 }
 
 /// A judge of one stream, of any kind, as evidence for a job of a problem. It keeps no bytes of the stream: each is looked at once. Of a
-/// witness it keeps what its frames choose, for no more frames than the job has.
+/// witness it keeps what its frames choose, for no more frames than the job has; of an invariant its clauses.
 #[derive(Drop)]
 pub struct Judge<'a> {
     reader: Reader<'a>,
@@ -97,12 +100,13 @@ impl<'a> Judge<'a> {
                 Reader::Certificate(CertificateJudge::new(alloc, problem, job, kind, most)?)
             }
             Kind::Witness => Reader::Witness(WitnessReader::new(alloc, problem, job, most)?),
+            Kind::Invariant => Reader::Invariant(InvariantReader::new(alloc, problem, most)?),
         };
         Ok(Judge { reader })
     }
 
     /// Takes the next piece of the stream, and answers the fate of all bytes so far, or More where there is none yet. What follows a
-    /// complete certificate or witness isn't read.
+    /// complete certificate, witness or invariant isn't read.
     ///
     /// After a BadCert every call answers it again, and after an answer out of memory every call answers that. After Done or Unknown no
     /// more bytes may come.
@@ -116,6 +120,7 @@ impl<'a> Judge<'a> {
         match &mut self.reader {
             Reader::Certificate(judge) => judge.feed(piece),
             Reader::Witness(judge) => judge.feed(piece),
+            Reader::Invariant(judge) => judge.feed(piece),
         }
     }
 
@@ -130,6 +135,7 @@ impl<'a> Judge<'a> {
         match &mut self.reader {
             Reader::Certificate(judge) => judge.end(),
             Reader::Witness(judge) => judge.end(),
+            Reader::Invariant(judge) => judge.end(),
         }
     }
 }

@@ -1,7 +1,8 @@
 // Laws of problems, and of what their findings say.
 
 ghost use Rattle.std.specs.Prelude.{◌≡◌, ◌↔◌, ◌<◌, ◌≤◌, ◌*◌, ◌^◌, ◌++◌, ◌∷◌, [], ℕ, suc, Bool, false, Contains, List, None, codes, length, Some, slice_get};
-ghost use Rattle.cnf_form.specs.Cnf.{FormulaOf};
+ghost use Rattle.cnf_form.specs.Cnf.{FormulaOf, LitOf};
+ghost use Rattle.pair_form.specs.Pair.{IsInvariant};
 ghost use Rattle.cnf_form.specs.Dimacs.{IsDimacs};
 ghost use Rattle.task_net.specs.Asking.{HasOriginsInCone};
 ghost use Rattle.design_check.specs.Faults.{IsFlat};
@@ -25,7 +26,7 @@ ghost use Rattle.model_laws.specs.Reads.{IsReadOtherwise, IsStateRead};
 ghost use Rattle.sby_terms.specs.Span.{IsSpan, first_of, last_of, slices_of, whole};
 ghost use Rattle.sby_terms.specs.declared.names.Answer.TheVariants.{Sat, Unsat};
 ghost use Rattle.sby_terms.specs.declared.names.JobName.{JobName};
-ghost use Rattle.sby_terms.specs.declared.names.JobName.TheVariants.{Base, Cover, Step};
+ghost use Rattle.sby_terms.specs.declared.names.JobName.TheVariants.{Base, Cover, Inv, Step};
 ghost use Rattle.sby_terms.specs.declared.names.Mode.{Mode};
 ghost use Rattle.sby_terms.specs.declared.names.Mode.TheVariants.{Bmc};
 ghost use Rattle.sby_terms.specs.declared.span.Span.{Span};
@@ -39,7 +40,7 @@ ghost use Rattle.judge.specs.Fault.{IsTooMany};
 ghost use Rattle.judge.specs.Finding.{FindingOf, IsTrueFinding};
 ghost use Rattle.judge.specs.Jobs.{AsksNothing, IsEarlier, Solvable, jobs_in, span_of};
 ghost use Rattle.judge.specs.Fates.{IsFate, IsFateSoFar, IsStreamsRun, Serves};
-ghost use Rattle.judge.specs.Problem.{AskedOf, IsEncodedJob, IsEncodedOf, IsFormulaOf, IsJobFile, IsProblem};
+ghost use Rattle.judge.specs.Problem.{AskedOf, IsEncodedJob, IsEncodedOf, IsFormulaOf, IsJob, IsJobFile, IsProblem, pair_in};
 
 use witness_judge::some_fate as some_witness_fate;
 
@@ -49,10 +50,10 @@ pub fn one_file()
     ensures file { (p : AskedOf) (job : JobName) (a b : List ℕ) → IsJobFile p job a → IsJobFile p job b → a ≡ b }
 {}
 
-/// A job's file is a formula that can be satisfied exactly where the job can be solved. Where the job asks nothing, its lines are
-/// `p cnf 1 1` and `0`.
+/// A job's file, but for that of Inv, is a formula that can be satisfied exactly where the job can be solved. Where the job asks nothing, its
+/// lines are `p cnf 1 1` and `0`.
 pub fn files_tell_what_jobs_ask()
-    ensures solvable { (p : AskedOf) (job : JobName) (bytes : List ℕ) (f : FormulaOf) → IsProblem p → IsJobFile p job bytes → IsDimacs bytes f
+    ensures solvable { (p : AskedOf) (job : JobName) (bytes : List ℕ) (f : FormulaOf) → IsProblem p → IsJobFile p job bytes → IsDimacs bytes f → (job ≡ Inv → ⊥)
         → CanBeSatisfied f ↔ Solvable p.design job (span_of p.problem) }
     ensures empty { (p : AskedOf) (job : JobName) (bytes : List ℕ) → IsProblem p → IsJobFile p job bytes → AsksNothing p.design job
         → bytes ≡ codes "p cnf 1 1" ++ 10 ∷ 48 ∷ 10 ∷ [] }
@@ -143,6 +144,12 @@ pub fn slices_show_that_nothing_breaks()
 /// length.
 pub fn base_and_step_show_that_nothing_breaks()
     ensures { (d : DesignOf) (n : ℕ) → 0 < n → (Solvable d (Base 0) (whole n) → ⊥) → (Solvable d Step (whole n) → ⊥) → NeverBreak d }
+{}
+
+/// The file of Inv tells whether an invariant shows that nothing breaks: one that the pair of two cycles has shows that no run breaks an
+/// assertion, whatever its length.
+pub fn invariants_show_that_nothing_breaks()
+    ensures { (p : AskedOf) (I : List (List LitOf)) → IsProblem p → IsJob p Inv → IsInvariant (pair_in p) I → NeverBreak p.design }
 {}
 
 /// A stream has one fate at most as evidence for a job.

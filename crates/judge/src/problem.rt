@@ -10,7 +10,9 @@ ghost use Rattle.net_jobs.specs.Jobs.{job_encoding};
 ghost use Rattle.net_unroll.specs.Encoding.{formula_of};
 ghost use Rattle.judge.specs.Played.{IsPlayed};
 ghost use Rattle.judge.specs.Telling.{design_run};
-ghost use Rattle.judge.specs.Problem.{AskedOf, IsEncodedOf, IsFormulaOf, IsJob, IsJobFile, IsProblem, asked_in};
+ghost use Rattle.judge.specs.Problem.{AskedOf, IsEncodedOf, IsFormulaOf, IsJob, IsJobFile, IsProblem, IsTold, asked_in, pair_in};
+ghost use Rattle.judge.specs.Fates.{Serves};
+ghost use Rattle.cert_judge.specs.declared.stream.Kind.TheVariants as Kind;
 ghost use Rattle.judge.specs.Witness.{IsLinesFile};
 ghost use Rattle.sby_terms.specs.Span.{IsSpan, whole};
 
@@ -30,8 +32,10 @@ use model_core::model::WordModel;
 use model_play::kept::Kept;
 use model_play::whole::play;
 use net_jobs::encode_again;
+use net_pair::pair_again;
 use net_text::EncodedClauses;
 use net_unroll::Encoded;
+use pair_form::Pair;
 use sby_terms::{JobName, Mode, Span};
 use source_rows::source_rows;
 use std::alloc::{AllocError, Global};
@@ -57,9 +61,9 @@ impl Model for Problem {
 
     ghost use Rattle.judge.specs.Stored.{IsStored, asked_by};
 
-    ghost view = { λ a. asked_by a.text a.mode a.span (arc_value a.basis).design (arc_value a.basis).model (arc_value a.basis).shape (arc_value a.basis).net };
+    ghost view = { λ a. asked_by a.text a.mode a.span (arc_value a.basis).design (arc_value a.basis).model (arc_value a.basis).shape (arc_value a.basis).net (arc_value a.basis).bits };
 
-    ghost invariant = { λ a. IsStored (asked_by a.text a.mode a.span (arc_value a.basis).design (arc_value a.basis).model (arc_value a.basis).shape (arc_value a.basis).net) a.names.items };
+    ghost invariant = { λ a. IsStored (asked_by a.text a.mode a.span (arc_value a.basis).design (arc_value a.basis).model (arc_value a.basis).shape (arc_value a.basis).net (arc_value a.basis).bits) a.names.items };
 }
 
 /// Why a problem is refused: the text reads no design, the design has a fault, or a job has too many variables.
@@ -113,9 +117,10 @@ impl Problem {
             (IsProblemFault (record { text = basis.value.text; mode = mode; span = span }))) }
     {
         let made = &*basis;
-        let (flat, model, net) = (made.flat(), made.model(), made.net());
+        let (flat, model, net, bits) = (made.flat(), made.model(), made.net(), made.bits());
         let names = names_for(alloc, flat, model, mode, span)?;
-        if let Some(job) = first_unfit(alloc, flat, model, net, mode, span, names.as_slice())? {
+        let unfit = first_unfit(alloc, flat, model, net, bits, mode, span, names.as_slice())?;
+        if let Some(job) = unfit {
             return Ok(Err(ProblemFault::TooMany(job)));
         }
         let text = made.text().share()?;
@@ -195,14 +200,22 @@ impl Problem {
         self.names[place]
     }
 
-    /// What is put as the job's file: its formula in DIMACS, made for it.
+    /// What is put as the job's file, made for it: its formula in DIMACS; of Inv the pair of two neighbouring cycles.
     pub fn job_file(&self, alloc: Global, job: JobName) -> Result<JobFile, AllocError>
         requires { IsJob self.now job }
         ensures { IfOk result (λ file. IsJobFile self.now job file) }
     {
         let _flat = self.flat();
-        let encoded = self.encoded(alloc, job)?;
-        Ok(JobFile::new(encoded))
+        match job {
+            JobName::Base(_) | JobName::Step | JobName::Cover(_) => {
+                let encoded = self.encoded(alloc, job)?;
+                Ok(JobFile::of_formula(encoded))
+            }
+            JobName::Inv => {
+                let pair = self.pair(alloc)?;
+                Ok(JobFile::of_pair(pair))
+            }
+        }
     }
 
     /// Each job has a file.
@@ -217,7 +230,7 @@ impl Problem {
     /// assertion in file order, is what the job asks for.
     pub fn lines_file(&self, alloc: Global, job: JobName) -> Result<Vec<u8>, AllocError>
         requires job { IsJob self.now job }
-        requires run { job ≢ JobName.Step }
+        requires run { Serves Kind.Witness job }
         ensures { IfOk result (λ bytes. IsLinesFile self.now job bytes.items) }
     {
         let flat = self.flat();
@@ -230,18 +243,27 @@ impl Problem {
         Ok(text)
     }
 
-    // The job as it is encoded, made from the net.
+    // The pair of two neighbouring cycles, made from the net.
+    pub(crate) fn pair(&self, alloc: Global) -> Result<Pair, AllocError>
+        requires { IsJob self.now JobName.Inv }
+        ensures { IfOk result (λ pair. pair ≡ pair_in self.now) }
+    {
+        let _flat = self.flat();
+        pair_again(alloc, self.basis.net().net(), self.basis.bits())
+    }
+
+    // A job of cycles told one after the other as it is encoded, made from the net.
     fn encoded(&self, alloc: Global, job: JobName) -> Result<Encoded, AllocError>
-        requires { IsJob self.now job }
+        requires { IsTold self.now job }
         ensures { IfOk result (λ e. e ≡ job_encoding self.now.net.net job (span_of self.now.problem)) }
     {
         let _flat = self.flat();
         encode_again(alloc, self.basis.net().net(), job, self.span)
     }
 
-    // The job's formula, which gives its clauses as they are asked for.
+    // Such a job's formula, which gives its clauses as they are asked for.
     pub(crate) fn clauses(&self, alloc: Global, job: JobName) -> Result<EncodedClauses, AllocError>
-        requires { IsJob self.now job }
+        requires { IsTold self.now job }
         ensures { IfOk result (λ e. IsFormulaOf self.now job (formula_of e)) }
     {
         let encoded = self.encoded(alloc, job)?;

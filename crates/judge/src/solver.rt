@@ -1,7 +1,7 @@
 // The judge of the output of a solver that leaves a proof file.
 
 ghost use Rattle.std.specs.Prelude.{◌≡◌, ◌≤◌, ◌^◌, ◌++◌, true, false, List, ℕ, [], IfOk};
-ghost use Rattle.judge.specs.Problem.{IsJob};
+ghost use Rattle.judge.specs.Problem.{IsTold};
 ghost use Rattle.judge.specs.Solver.{Ends, Feeds, Took, is_open};
 
 use crate::certificate::answer;
@@ -51,7 +51,7 @@ impl<'a> SolverJudge<'a> {
         job: JobName,
         most: u64,
     ) -> Result<Self, AllocError>
-        requires job { IsJob problem.now job }
+        requires job { IsTold problem.now job }
         requires least { 1 ≤ most }
         requires limit { most ≤ 2 ^ 32 }
         ensures asked { IfOk result (λ j. j.asked ≡ problem.now) }

@@ -5,7 +5,9 @@ ghost use Rattle.net_jobs.specs.Jobs.{IsOfSpan};
 ghost use Rattle.sby_terms.specs.Span.{IsSpan};
 ghost use Rattle.cert_judge.specs.declared.stream.BadCert.{BadCert};
 ghost use Rattle.sby_bits.specs.Rows.{Row};
+ghost use Rattle.cert_judge.specs.declared.stream.Kind.TheVariants as Kind;
 ghost use Rattle.judge.specs.Answers.{Finds, fate_told};
+ghost use Rattle.judge.specs.Fates.{Serves};
 ghost use Rattle.judge.specs.Problem.{IsJob};
 ghost use Rattle.judge.specs.Reading.{Ends, Feeds, Took, TookAll};
 ghost use Rattle.judge.specs.Telling.{IsToldRun, KeepsFound, ShowsSought, told_again};
@@ -35,7 +37,7 @@ pub(crate) fn sought_of(span: Span, job: JobName) -> Option<Sought>
             first: span.first(slice),
             last: span.last(slice),
         }),
-        JobName::Step => None,
+        JobName::Step | JobName::Inv => None,
         JobName::Cover(cover) => Some(Sought {
             goal: Goal::Cover(cover),
             first: 0,
@@ -119,7 +121,7 @@ impl<'a> WitnessReader<'a> {
         most: u64,
     ) -> Result<Self, AllocError>
         requires job { IsJob problem.now job }
-        requires run { job ≢ JobName.Step }
+        requires run { Serves Kind.Witness job }
         ensures asked { IfOk result (λ j. j.asked ≡ problem.now) }
         ensures job { IfOk result (λ j. j.job ≡ job) }
         ensures most { IfOk result (λ j. j.most ≡ most) }

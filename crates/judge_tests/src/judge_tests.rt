@@ -7,7 +7,7 @@ ghost use Rattle.judge.specs.Problem.{IsJob};
 
 use cert_judge::{BadCert, Kind, StreamKind};
 use judge::{Finding, Judge, Problem, Progress};
-use run_scenes::T;
+use run_scenes::{ASSERT, END, HEAD, NOT, T};
 use sby_terms::{Answer, JobName, Mode, Settled, Span};
 use std::alloc::{AllocError, Global};
 use std::test::Fail;
@@ -74,17 +74,18 @@ fn fed_pieces(judge: &mut Judge, one: &[u8], two: &[u8], three: &[u8]) -> Option
 fn judged(
     alloc: Global,
     problem: &Problem,
+    job: JobName,
     kind: Kind,
     most: u32,
     one: &[u8],
     two: &[u8],
     three: &[u8],
 ) -> Result<Option<Told>, AllocError>
-    requires job { IsJob problem.now (JobName.Base 0) }
-    requires serves { Serves kind (JobName.Base 0) }
+    requires job { IsJob problem.now job }
+    requires serves { Serves kind job }
 {
     let most = u64::from(most.max(1));
-    let mut judge = Judge::new(alloc, problem, JobName::Base(0), kind, most)?;
+    let mut judge = Judge::new(alloc, problem, job, kind, most)?;
     Ok(fed_whole(&mut judge, one, two, three))
 }
 
@@ -92,18 +93,19 @@ fn judged(
 fn comes_to(
     alloc: Global,
     problem: &Problem,
+    job: JobName,
     kind: Kind,
     most: u32,
     stream: &[u8],
     wanted: Told,
 ) -> Result<bool, AllocError>
-    requires job { IsJob problem.now (JobName.Base 0) }
-    requires serves { Serves kind (JobName.Base 0) }
+    requires job { IsJob problem.now job }
+    requires serves { Serves kind job }
 {
     for cut in 0..=stream.len() {
         let (one, rest) = stream.split_at(cut.min(stream.len()));
         let (two, three) = rest.split_at(rest.len().min(1));
-        if judged(alloc, problem, kind, most, one, two, three)? != Some(wanted) {
+        if judged(alloc, problem, job, kind, most, one, two, three)? != Some(wanted) {
             return Ok(false);
         }
     }
@@ -122,18 +124,30 @@ fn problem_of(alloc: Global, depth: u32) -> Result<Problem, Fail>
     }
 }
 
+// The problem that asks for an invariant of a design.
+fn invariant_of(alloc: Global, design: &str) -> Result<Problem, Fail>
+    ensures { IfOk result (λ p. IsJob p JobName.Inv) }
+{
+    let text = Vec::from_slice(alloc, design.as_bytes())?;
+    match Problem::new(alloc, text, Mode::ProveInv, Span::whole(1))? {
+        Ok(problem) => Ok(problem),
+        Err(_) => Err(Fail::from("refused")),
+    }
+}
+
 // The first of these streams that comes to something else, after how many bytes are taken.
 fn wrong_row<'a>(
     alloc: Global,
     problem: &Problem,
+    job: JobName,
     kind: Kind,
     rows: &[(u32, &'a str, Told)],
 ) -> Result<Option<&'a str>, AllocError>
-    requires job { IsJob problem.now (JobName.Base 0) }
-    requires serves { Serves kind (JobName.Base 0) }
+    requires job { IsJob problem.now job }
+    requires serves { Serves kind job }
 {
     for (most, stream, wanted) in rows {
-        if !comes_to(alloc, problem, kind, *most, stream.as_bytes(), *wanted)? {
+        if !comes_to(alloc, problem, job, kind, *most, stream.as_bytes(), *wanted)? {
             return Ok(Some(*stream));
         }
     }
@@ -174,16 +188,60 @@ const WITNESSES: [(u32, &str, Told); 9] = [
 
 #[test]
 fn pieces_change_nothing(rt: HostRuntime) -> Result<(), Fail> {
-    let drup = Kind::Certificate(StreamKind::Drup);
+    let (base, drup) = (JobName::Base(0), Kind::Certificate(StreamKind::Drup));
     let problem = problem_of(rt.alloc(), 1)?;
-    assert_eq!(rt; wrong_row(rt.alloc(), &problem, drup, &OF_ONE_CYCLE)?, None);
+    assert_eq!(rt;
+        wrong_row(rt.alloc(), &problem, base, drup, &OF_ONE_CYCLE)?,
+        None
+    );
     let problem = problem_of(rt.alloc(), 2)?;
     assert_eq!(rt;
-        wrong_row(rt.alloc(), &problem, drup, &OF_TWO_CYCLES)?,
+        wrong_row(rt.alloc(), &problem, base, drup, &OF_TWO_CYCLES)?,
         None
     );
     assert_eq!(rt;
-        wrong_row(rt.alloc(), &problem, Kind::Witness, &WITNESSES)?,
+        wrong_row(rt.alloc(), &problem, base, Kind::Witness, &WITNESSES)?,
+        None
+    );
+    Ok(())
+}
+
+// A register that keeps its value.
+const KEPT: &str =
+    " cell $dff $r\n parameter \\CLK_POLARITY 1'1\n parameter \\WIDTH 1\n connect \\CLK \\clk\n connect \\D \\q\n connect \\Q \\q\n end\n";
+
+// Streams for the pair of a register that keeps its 0: one that is a certificate, and streams that are none.
+const INVARIANTS: [(u32, &str, Told); 9] = [
+    (100, "inv\n-1 0\nstart\nstep\nsafe\n0\n", (b'U', 0)),
+    (100, "c x\ninv\n-1 0\nstart\nstep\nsafe\n0\nrest", (b'U', 0)),
+    (100, "inv\nstart\nstep\nsafe\n0\n", (44, 20)),
+    (100, "inv\n1 0\nstart\nstep\nsafe\n0\n", (62, 14)),
+    (100, "-1 0\n", (61, 0)),
+    (100, "inv\n2 0\n", (42, 4)),
+    (100, "s UNKNOWN\n", (b'N', 0)),
+    (100, "inv\n-1 0\nstart\n", (48, 15)),
+    (8, "inv\n-1 0\nstart\n", (47, 8)),
+];
+
+// And for that of one that turns: it is set in cycle 1.
+const NO_INVARIANTS: [(u32, &str, Told); 1] = [(
+    100,
+    "inv\n-1 0\nstart\nstep\nsafe\n0\n",
+    (62, 20),
+)];
+
+#[test]
+fn invariants_of_registers_in_pieces(rt: HostRuntime) -> Result<(), Fail> {
+    let (inv, kind) = (JobName::Inv, Kind::Invariant);
+    let kept = format!(in rt.alloc(); "{HEAD}{NOT}{KEPT}{ASSERT}{END}")?;
+    let problem = invariant_of(rt.alloc(), kept.as_str())?;
+    assert_eq!(rt;
+        wrong_row(rt.alloc(), &problem, inv, kind, &INVARIANTS)?,
+        None
+    );
+    let problem = invariant_of(rt.alloc(), T)?;
+    assert_eq!(rt;
+        wrong_row(rt.alloc(), &problem, inv, kind, &NO_INVARIANTS)?,
         None
     );
     Ok(())

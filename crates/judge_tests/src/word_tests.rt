@@ -66,6 +66,7 @@ const ASKED: &str = "--judge t.il bmc 1 : t t.il bmc 1
 a/b.rtlil -f bmc --judge 100000 x -d o : o a/b.rtlil bmc 100000 x
 --judge a/b.rtlil bmc 20 t.drup : a/b a/b.rtlil bmc 20 t.drup
 --judge t.il prove 2 t.wit s0 : t t.il prove 2 t.wit s0
+--judge t.il prove-inv 1 s0 t.inv : t t.il prove-inv 1 s0 t.inv
 --judge -fdo t bmc 1 : o t bmc 1
 --judge -- t.il.il bmc 7 : t.il t.il.il bmc 7";
 
@@ -73,6 +74,7 @@ fn word_of(mode: Mode) -> &'static str {
     match mode {
         Mode::Bmc => "bmc",
         Mode::Prove => "prove",
+        Mode::ProveInv => "prove-inv",
         Mode::Cover => "cover",
     }
 }
@@ -162,5 +164,6 @@ fn streams_are_of_the_kinds_of_their_names(rt: HostRuntime) -> Result<(), Fail> 
         assert_eq!(rt; stream_kind(name), Kind::Certificate(kind), "{name}");
     }
     assert_eq!(rt; stream_kind("a/t.wit"), Kind::Witness);
+    assert_eq!(rt; stream_kind("a/t.inv"), Kind::Invariant);
     Ok(())
 }

@@ -29,12 +29,15 @@ use Rattle.lane_run.specs.declared.task.Limit.{Limit}
 use Rattle.lane_run.specs.Done.{JobDone}
 use Rattle.lane_run.proofs.Reasons.{called_by_look, skipped_by_look}
 
--- only Step has another cell, that of Base
+-- only Step and Inv have another cell, that of Base
 other_is : (m : Mode) (k : ℕ) (P : ℕ × JobName → Type 0) → IsSomeAnd (other_of (name_at m k)) P → P (0, name.Base 0) × (name_at m 0 ≡ name.Base 0)
 other_is mode.Bmc k P h = absurd h
 other_is mode.Prove zero P h = absurd h
 other_is mode.Prove (suc zero) P h = (h, refl)
 other_is mode.Prove (suc (suc k)) P h = absurd h
+other_is mode.ProveInv zero P h = absurd h
+other_is mode.ProveInv (suc zero) P h = (h, refl)
+other_is mode.ProveInv (suc (suc k)) P h = absurd h
 other_is mode.Cover k P h = absurd h
 
 -- the places before a slice's own are those of slices
@@ -43,6 +46,9 @@ slice_is mode.Bmc k c slice lt = refl
 slice_is mode.Prove zero c slice lt = absurd (omega (lt, arith))
 slice_is mode.Prove (suc zero) c slice lt = absurd slice
 slice_is mode.Prove (suc (suc k)) c slice lt = absurd slice
+slice_is mode.ProveInv zero c slice lt = absurd (omega (lt, arith))
+slice_is mode.ProveInv (suc zero) c slice lt = absurd slice
+slice_is mode.ProveInv (suc (suc k)) c slice lt = absurd slice
 slice_is mode.Cover k c slice lt = absurd slice
 
 -- a finding that a look may show is for the job of its cell

@@ -12,9 +12,10 @@ use Rattle.lane_run.specs.declared.task.Limit.{Limit}
 abbrev pub terms_at : Mode → Limit → ℕ → JobTerms
 terms_at mode limit k = record { cell = k; job = name_at mode k; wait = limit.wait; start = limit.start; limit = limit.millis }
 
--- the cell of another job that can make a job needless, and that job: Base's, for Step
+-- the cell of another job that can make a job needless, and that job: Base's, for Step and Inv
 abbrev pub other_of : JobName → Option (ℕ × JobName)
 other_of name.Step = Some (0, name.Base 0)
+other_of name.Inv = Some (0, name.Base 0)
 other_of (name.Base k) = None
 other_of (name.Cover k) = None
 

@@ -112,6 +112,7 @@ pub record Remember {T : Type 0} (before now : List (NoteOf T)) : Type 0 where
 abbrev pub IsSlice : JobName → Type 0
 IsSlice (name.Base k) = Unit {0}
 IsSlice name.Step = ⊥
+IsSlice name.Inv = ⊥
 IsSlice (name.Cover k) = ⊥
 
 -- A finding that a look at the cell at this place may show: one for the job of the problem whose cell it is. The cells are the job's

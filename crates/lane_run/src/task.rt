@@ -46,7 +46,7 @@ pub(crate) fn other_cell(job: JobName) -> Option<(u32, JobName)>
     ensures { result ≡ other_of job }
 {
     match job {
-        JobName::Step => Some((0, JobName::Base(0))),
+        JobName::Step | JobName::Inv => Some((0, JobName::Base(0))),
         JobName::Base(_) | JobName::Cover(_) => None,
     }
 }

@@ -1,6 +1,9 @@
 // Lanes whose judges take fewer bytes than a stream may have.
 
 ghost use Rattle.std.specs.Prelude.{◌≡◌, ◌≢◌, ◌≤◌, ◌^◌, ◌++◌, [], IfOk, ℕ, List};
+ghost use Rattle.cert_judge.specs.declared.stream.Kind.TheVariants.{Certificate};
+ghost use Rattle.cert_judge.specs.declared.stream.StreamKind.TheVariants.{Drup};
+ghost use Rattle.judge.specs.Fates.{Serves};
 ghost use Rattle.judge.specs.Problem.{AskedOf, IsJob, IsJobFile};
 ghost use Rattle.lane_run.specs.Judging.{Says};
 ghost use Rattle.task_race.specs.Serving.{IsServed, file_of};
@@ -12,7 +15,7 @@ use super::tests::{
     Course, Ended, FREE, Kind, Seen, TURNS, engines_of, problem_of, race_over, script_of,
 };
 use cert_judge::{BadCert, StreamKind};
-use judge::{Finding, Judge, Problem, Progress, State};
+use judge::{Finding, Judge, Problem, Progress, State, serves};
 use lane_run::{Asks, Child, Makes, Subject};
 use race_cells::Cells;
 use race_core::Judged;
@@ -76,6 +79,9 @@ fn told_of_end(judge: &mut Judge) -> Judged<Finding>
     told(judge.end())
 }
 
+// The kind of the streams.
+const DRUP: cert_judge::Kind = cert_judge::Kind::Certificate(StreamKind::Drup);
+
 // A judge of a stream of at most this many bytes.
 #[derive(Drop)]
 struct ShortJudge<'a> {
@@ -94,6 +100,7 @@ fn short_judge<'a>(
     most: u64,
 ) -> Result<ShortJudge<'a>, AllocError>
     requires job { IsJob problem.now job }
+    requires serves { Serves (Certificate Drup) job }
     requires least { 1 ≤ most }
     requires limit { most ≤ 2 ^ 32 }
     ensures problem { IfOk result (λ s. s.problem.now ≡ problem.now) }
@@ -102,8 +109,7 @@ fn short_judge<'a>(
     ensures none { IfOk result (λ s. s.output.bytes ≡ []) }
     ensures took { IfOk result (λ s. HasTaken s.problem.now s.job s.most s.judge s.output.bytes) }
 {
-    let kind = cert_judge::Kind::Certificate(StreamKind::Drup);
-    let judge = Judge::new(alloc, problem, job, kind, most)?;
+    let judge = Judge::new(alloc, problem, job, DRUP, most)?;
     Ok(ShortJudge {
         problem,
         job,
@@ -187,7 +193,7 @@ impl<'a> Makes<Finding> for ShortLanes<'a> {
 
     type Subject = ShortJudge<'a>;
 
-    ghost is_served = { λ l lane job. IsServed l.lanes.engines.now l.lanes.problem.now lane job × (1 ≤ l.most) × (l.most ≤ 2 ^ 32) };
+    ghost is_served = { λ l lane job. IsServed l.lanes.engines.now l.lanes.problem.now lane job × Serves (Certificate Drup) job × (1 ≤ l.most) × (l.most ≤ 2 ^ 32) };
 
     ghost words = { λ l lane job. [] };
 
@@ -206,7 +212,10 @@ impl<'a> Makes<Finding> for ShortLanes<'a> {
     ghost most_output = { λ l lane. l.most };
 
     fn serves(&self, lane: u32, job: JobName) -> bool {
-        self.lanes.serves(lane, job) && 1 <= self.most && self.most <= MAX_STREAM
+        self.lanes.serves(lane, job)
+            && serves(DRUP, job)
+            && 1 <= self.most
+            && self.most <= MAX_STREAM
     }
 
     fn make(

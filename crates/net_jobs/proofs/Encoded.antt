@@ -1,8 +1,8 @@
 -- What is promised of a job's encoding.
-use Rattle.std.proofs.Common.{Contains, ◌≡◌, ℕ, ◌+◌, ◌<◌, ◌≤◌, List, ◌++◌, Some, refl, sym, ap, subst, arith, map}
-use Rattle.cnf_form.specs.Cnf.{Assignment, LitOf, Satisfies}
+use Rattle.std.proofs.Common.{◌≡◌, ◌+◌, ◌<◌, ◌≤◌, ◌++◌, sym, subst, arith}
 use Rattle.cnf_form.specs.declared.literal.TheConstants.{MAX_VARS}
 use Rattle.sby_terms.specs.declared.names.JobName.{JobName}
+use Rattle.sby_terms.specs.declared.names.JobName.TheVariants.{Inv}
 use Rattle.sby_terms.specs.declared.span.Span.{Span}
 use Rattle.model_core.specs.Choices.{ChoicesOf}
 use Rattle.model_core.specs.Served.{IsModel}
@@ -19,11 +19,11 @@ use Rattle.net_jobs.proofs.Origins.{has_origins}
 use Rattle.net_jobs.proofs.Reading.{fit_choices, same_choices}
 use Rattle.net_jobs.proofs.Telling.{decoded_law, nothing_law, solvable_law}
 
-pub encoded : (m : ModelOf) (n : NetOf) (name : JobName) (span : Span) → IsModel m → IsNet n → IsNetOf m n → job_made n name span ≤ MAX_VARS → IsEncoded m name span (encoded_of n name span)
-encoded m n name span is served of few =
+pub encoded : (m : ModelOf) (n : NetOf) (name : JobName) (span : Span) → IsModel m → IsNet n → IsNetOf m n → job_made n name span ≤ MAX_VARS → (name ≡ Inv → ⊥) → IsEncoded m name span (encoded_of n name span)
+encoded m n name span is served of few made =
     let vars = vars_law n (asked_of name) (cycles_of name span) served few in
     record {
-      speaks = solvable_law m n is served of name span few;
+      speaks = solvable_law m n is served of name span few made;
       vars = (vars.0, omega arith);
       propagates = record {
         rule = λ more fixed. (propagates_law n (asked_of name) (cycles_of name span) served few).rule more (λ f d.

@@ -6,8 +6,8 @@ use Rattle.std.proofs.lemmas.Option.{slice_get_within}
 use Rattle.cnf_form.specs.Cnf.{Assignment, LitOf, lit_in, negate}
 use Rattle.gate_graph.proofs.OneTable.{lit_negated}
 use Rattle.sby_terms.specs.declared.names.JobName.{JobName}
-use Rattle.sby_terms.specs.declared.names.JobName.TheVariants.{Base, Step, Cover}
-use Rattle.model_core.specs.Meaning.{Broken, Cycle, Reached}
+use Rattle.sby_terms.specs.declared.names.JobName.TheVariants.{Base, Step, Inv, Cover}
+use Rattle.model_core.specs.Meaning.{Broken, Cycle}
 use Rattle.model_core.specs.Meaning as model
 use Rattle.model_core.specs.Served.{IsModel}
 use Rattle.model_core.specs.Shape.{ModelOf}
@@ -72,11 +72,13 @@ module _ (m : ModelOf) (n : NetOf) (is : IsModel m) (served : IsNet n) (of : IsN
     pub met_goal : (job : JobName) → Meets n (asked_of job) x → IsGoal m job c
     met_goal (Base i) h = met_broken h
     met_goal Step h = met_broken h
+    met_goal Inv h = met_broken h
     met_goal (Cover k) (l, e, h) = ((of.says c x f g same).covers k l e).0 h
 
     pub goal_met : (job : JobName) → IsGoal m job c → Meets n (asked_of job) x
     goal_met (Base i) (k, b) = broken_met k b
     goal_met Step (k, b) = broken_met k b
+    goal_met Inv (k, b) = broken_met k b
     goal_met (Cover k) (s, at, en, a) =
         let l = slice_get_within m.covers k s at in
         let z = of.covers in

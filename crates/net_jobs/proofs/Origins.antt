@@ -1,14 +1,14 @@
 -- Where the free variables of a job stand.
-use Rattle.std.proofs.Common.{Contains, ◌≡◌, ℕ, zero, suc, ◌+◌, ◌-◌, ◌<◌, ◌≤◌, Bool, true, false, cond, List, [], ◌∷◌, ◌++◌, Option, Some, None, refl, sym, ap, ◌∙◌, subst, arith, length, map, All, inl, inr}
+use Rattle.std.proofs.Common.{Contains, ◌≡◌, ℕ, zero, suc, ◌+◌, ◌-◌, ◌<◌, ◌≤◌, Bool, true, false, cond, List, [], ◌∷◌, ◌++◌, Option, Some, None, refl, sym, ap, ◌∙◌, subst, arith, length, map, inl, inr}
 use Rattle.std.specs.Prelude.{slice_get, slice_index_or, ltb}
 use Rattle.std.proofs.lemmas.Bool.{lt-ltb}
 use Rattle.std.proofs.lemmas.Option.{slice_get_within}
 use Rattle.cnf_form.specs.Cnf.{Assignment, Satisfies}
 use Rattle.cnf_form.specs.declared.literal.TheConstants.{MAX_VARS}
 use Rattle.sby_terms.specs.declared.names.JobName.{JobName}
-use Rattle.sby_terms.specs.declared.names.JobName.TheVariants.{Base, Step, Cover}
+use Rattle.sby_terms.specs.declared.names.JobName.TheVariants.{Base, Step, Inv, Cover}
 use Rattle.sby_terms.specs.declared.span.Span.{Span}
-use Rattle.model_core.specs.Choices.{ChoicesOf, Plays, open_states, without_digit}
+use Rattle.model_core.specs.Choices.{ChoicesOf, Plays, without_digit}
 use Rattle.model_core.specs.Meaning.{Cycle}
 use Rattle.model_core.specs.Served.{IsModel}
 use Rattle.model_core.specs.Shape.{IsDistinct, ModelOf, given, sources, states}
@@ -146,11 +146,13 @@ module _ (m : ModelOf) (n : NetOf) (is : IsModel m) (served : IsNet n) (of : IsN
   in_frames : (name : JobName) (t : ℕ) → t < (cycles_of name span).count → t < frames name span
   in_frames (Base i) t l = l
   in_frames Step t l = l
+  in_frames Inv t l = l
   in_frames (Cover k) t l = l
 
   may_stand : (name : JobName) (k p : ℕ) → slice_get (states m) k ≡ Some p → ((cycles_of name span).start ≡ true → slice_get m.starts k ≡ Some None) → Contains (open_at (first name) m) p
   may_stand (Base i) k p at o = open-contained (states m) m.starts k p at (o refl)
   may_stand Step k p at o = contained_at (states m) p k at
+  may_stand Inv k p at o = contained_at (states m) p k at
   may_stand (Cover j) k p at o = open-contained (states m) m.starts k p at (o refl)
 
   pub is_origin : (f : Free) → Contains free f → IsOrigin m name span (origin f)

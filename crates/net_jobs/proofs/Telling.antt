@@ -5,10 +5,10 @@ use Rattle.std.proofs.lemmas.Option.{slice_get_within}
 use Rattle.cnf_form.specs.Cnf.{Assignment, LitOf, Satisfies, lit_in, negate}
 use Rattle.cnf_form.specs.declared.literal.TheConstants.{MAX_VARS}
 use Rattle.sby_terms.specs.declared.names.JobName.{JobName}
-use Rattle.sby_terms.specs.declared.names.JobName.TheVariants.{Base, Step, Cover}
+use Rattle.sby_terms.specs.declared.names.JobName.TheVariants.{Base, Step, Inv, Cover}
 use Rattle.sby_terms.specs.declared.span.Span.{Span}
 use Rattle.model_core.specs.Choices.{Plays}
-use Rattle.model_core.specs.Meaning.{Cycle, row_at}
+use Rattle.model_core.specs.Meaning.{Cycle}
 use Rattle.model_core.specs.Meaning as model
 use Rattle.model_core.specs.Served.{IsModel}
 use Rattle.model_core.specs.Shape.{ModelOf, states}
@@ -21,7 +21,7 @@ use Rattle.frame_gates.proofs.Lists.{at_place, length_map, map_at, one_at}
 use Rattle.frame_net.specs.NetOf.{AreAlike, IsNetOf}
 use Rattle.frame_net.proofs.Running.{near, near_back, run, run_back, window, window_back}
 use Rattle.job_terms.specs.Encoding.{IsDecoded, ShowsGoal, empty_job}
-use Rattle.job_terms.specs.Jobs.{AsksNothing, IsGoal, MayEnd, Solvable}
+use Rattle.job_terms.specs.Jobs.{AsksNothing, IsGoal, IsJob, MayEnd, Solvable}
 use Rattle.net_unroll.specs.Asking.{AreCycles, Solvable as CanSolve, Solves, goal_of}
 use Rattle.net_unroll.specs.Encoding.{EncodedOf, encoding_for, formula_of}
 use Rattle.net_unroll.specs.Promises.{CanBeSatisfied, IsOpenAt, IsTold, cycles_told, told_by}
@@ -68,6 +68,20 @@ module _ (m : ModelOf) (n : NetOf) (is : IsModel m) (served : IsNet n) (of : IsN
           last = λ u q. subst (λ (v : ℕ). model.Broken m (near_back m n is served of (xs v)).0 a) (let z : t ≡ u = omega arith in z) b;
         },
       )
+  shown span Inv (k, xs, s) =
+      let (t, e) = some ask.Asserts (cycles_of Inv span) k xs s in
+      let (r, same) = run_back m n is served of k xs s.some s.cycles in
+      let cs : ℕ → Cycle = λ u. (near_back m n is served of (xs u)).0 in
+      let (a, b) = met_goal m n is served of (near_back m n is served of (xs t)).0 (xs t) (r.window.frames t (omega arith)) (s.cycles.window.frames t (omega arith)) (same t (omega arith)) Inv (s.last t (sym e)) in (
+        k,
+        cs,
+        a,
+        record {
+          run = r;
+          assumed = assumed_model k (λ u. (near_back m n is served of (xs u)).0) xs r.window s.cycles.window same s.assumed;
+          last = λ u q. subst (λ (v : ℕ). model.Broken m (near_back m n is served of (xs v)).0 a) (let z : t ≡ u = omega arith in z) b;
+        },
+      )
   shown span (Cover j) (k, xs, s) =
       let (t, e) = some (ask.Cover j) (cycles_of (Cover j) span) k xs s in
       let (r, same) = run_back m n is served of k xs s.some s.cycles in
@@ -103,20 +117,21 @@ module _ (m : ModelOf) (n : NetOf) (is : IsModel m) (served : IsNet n) (of : IsN
       )
 
   -- and back
-  found : (span : Span) (job : JobName) → Solvable m job span → CanSolve n (asked_of job) (cycles_of job span)
-  found span (Base i) (zero, cs, a, lo, hi, s) = absurd (omega arith)
-  found span (Base i) (suc t, cs, a, lo, hi, s) =
+  found : (span : Span) (job : JobName) → (job ≡ Inv → ⊥) → Solvable m job span → CanSolve n (asked_of job) (cycles_of job span)
+  found span (Base i) made (zero, cs, a, lo, hi, s) = absurd (omega arith)
+  found span (Base i) made (suc t, cs, a, lo, hi, s) =
       let (r, same) = run m n is served of (suc t) cs s.run in
       run_solves m n is served of ask.Asserts (cycles_of (Base i) span) refl (omega arith) t (λ u. (near m n is served of (cs u)).0) r
       (assumed_net (suc t) cs (λ u. (near m n is served of (cs u)).0) s.run.window r.window same s.assumed)
       (goal_met m n is served of (cs t) (near m n is served of (cs t)).0 (s.run.window.frames t (omega arith)) (r.window.frames t (omega arith)) (same t (omega arith)) (Base i) (a, s.last t refl)) (omega arith) hi
-  found span (Cover j) (zero, cs, hi, s) = absurd (let z = s.run.window.some in omega arith)
-  found span (Cover j) (suc t, cs, hi, s) =
+  found span (Cover j) made (zero, cs, hi, s) = absurd (let z = s.run.window.some in omega arith)
+  found span (Cover j) made (suc t, cs, hi, s) =
       let (r, same) = run m n is served of (suc t) cs s.run in
       run_solves m n is served of (ask.Cover j) (cycles_of (Cover j) span) refl (omega arith) t (λ u. (near m n is served of (cs u)).0) r
       (assumed_net (suc t) cs (λ u. (near m n is served of (cs u)).0) s.run.window r.window same s.assumed)
       (goal_met m n is served of (cs t) (near m n is served of (cs t)).0 (s.run.window.frames t (omega arith)) (r.window.frames t (omega arith)) (same t (omega arith)) (Cover j) (s.last t refl)) (omega arith) hi
-  found span Step (cs, a, s) =
+  found span Inv made shows = absurd (made refl)
+  found span Step made (cs, a, s) =
       let (w, same) = window m n is served of (suc span.depth) cs s.window in (
         suc span.depth,
         (λ u. (near m n is served of (cs u)).0),
@@ -132,10 +147,10 @@ module _ (m : ModelOf) (n : NetOf) (is : IsModel m) (served : IsNet n) (of : IsN
         },
       )
 
-  pub solvable_law : (job : JobName) (span : Span) → job_made n job span ≤ MAX_VARS → (CanBeSatisfied (formula_of (job_encoding n job span)) → Solvable m job span) × (Solvable m job span → CanBeSatisfied (formula_of (job_encoding n job span)))
-  solvable_law job span few =
+  pub solvable_law : (job : JobName) (span : Span) → job_made n job span ≤ MAX_VARS → (job ≡ Inv → ⊥) → (CanBeSatisfied (formula_of (job_encoding n job span)) → Solvable m job span) × (Solvable m job span → CanBeSatisfied (formula_of (job_encoding n job span)))
+  solvable_law job span few made =
       let (f, g) = net_solvable n (asked_of job) (cycles_of job span) served few in
-      ((λ h. shown span job (f h)), (λ h. g (found span job h)))
+      ((λ h. shown span job (f h)), (λ h. g (found span job made h)))
 
   -- a run with the choices that an assignment tells
   module _ (job : JobName) (span : Span) (few : job_made n job span ≤ MAX_VARS) (start : (cycles_of job span).start ≡ true) (x : Assignment) (cs : ℕ → Cycle)
@@ -249,21 +264,28 @@ module _ (m : ModelOf) (n : NetOf) (is : IsModel m) (served : IsNet n) (of : IsN
       let (b, h) = g t refl in
       (b, record { run = r; assumed = a; last = λ u e. subst (λ (v : ℕ). model.Broken m (cs v) b) (let z : t ≡ u = omega arith in z) h })
   goal_shown Step k cs other some r a g = absurd (other refl)
+  goal_shown Inv zero cs other some r a g = absurd (omega arith)
+  goal_shown Inv (suc t) cs other some r a g =
+      let (b, h) = g t refl in
+      (b, record { run = r; assumed = a; last = λ u e. subst (λ (v : ℕ). model.Broken m (cs v) b) (let z : t ≡ u = omega arith in z) h })
   goal_shown (Cover j) k cs other some r a g = record { run = r; assumed = a; last = g }
 
   pub starts_at : (job : JobName) (span : Span) → (job ≡ Step → ⊥) → (cycles_of job span).start ≡ true
   starts_at (Base i) span other = refl
   starts_at Step span other = absurd (other refl)
+  starts_at Inv span other = refl
   starts_at (Cover k) span other = refl
 
   may_end : (job : JobName) (span : Span) (t : ℕ) → (job ≡ Step → ⊥) → (cycles_of job span).first ≤ t → t < (cycles_of job span).count → MayEnd job span t
   may_end (Base i) span t other a b = (a, b)
   may_end Step span t other a b = absurd (other refl)
+  may_end Inv span t other a b = tt
   may_end (Cover k) span t other a b = b
 
   ends_late : (job : JobName) (span : Span) (t : ℕ) → (job ≡ Step → ⊥) → MayEnd job span t → (cycles_of job span).first ≤ t
   ends_late (Base i) span t other h = h.0
   ends_late Step span t other h = absurd (other refl)
+  ends_late Inv span t other h = omega arith
   ends_late (Cover k) span t other h = omega arith
 
   pub decoded_law : (job : JobName) (span : Span) → job_made n job span ≤ MAX_VARS → (job ≡ Step → ⊥) → (x : Assignment) → Satisfies x (formula_of (job_encoding n job span)).clauses →
@@ -283,6 +305,13 @@ module _ (m : ModelOf) (n : NetOf) (is : IsModel m) (served : IsNet n) (of : IsN
         before = λ cs p t l end goal. not_before job span few start x cs p s t (omega arith) (ends_late job span t other end) goal;
       }
 
+-- Inv is none of the jobs that are made of cycles told one after the other
+pub made_so : (m : ModelOf) (job : JobName) (span : Span) → IsJob m job span → job ≡ Inv → ⊥
+made_so m (Base i) span known e = absurd (let z : Base i ≡ Inv = e in cc)
+made_so m Step span known e = absurd (let z : Step ≡ Inv = e in cc)
+made_so m Inv span known e = known
+made_so m (Cover k) span known e = absurd (let z : Cover k ≡ Inv = e in cc)
+
 pub nothing_law : (m : ModelOf) (n : NetOf) (job : JobName) (span : Span) → IsNetOf m n → AsksNothing m job → formula_of (job_encoding n job span) ≡ empty_job
 nothing_law m n job span of none = by (goal_of n (asked_of job)) (asks job none)
   where
@@ -292,6 +321,7 @@ nothing_law m n job span of none = by (goal_of n (asked_of job)) (asks job none)
     asks : (job : JobName) → AsksNothing m job → goal_of n (asked_of job) ≡ None
     asks (Base i) h = no_assert h
     asks Step h = no_assert h
+    asks Inv h = no_assert h
     asks (Cover k) h = past n.covers k (of.covers ∙ ap length h)
       where
         past : (xs : List LitOf) (j : ℕ) → length xs ≡ 0 → slice_get xs j ≡ None

@@ -4,7 +4,7 @@ use Rattle.cnf_form.specs.Cnf.{Assignment}
 use Rattle.sby_bits.specs.Rows.{Row}
 use Rattle.sby_terms.specs.Span.{first_of, last_of, slices_of}
 use Rattle.sby_terms.specs.declared.names.JobName.{JobName}
-use Rattle.sby_terms.specs.declared.names.JobName.TheVariants.{Base, Step, Cover}
+use Rattle.sby_terms.specs.declared.names.JobName.TheVariants.{Base, Step, Inv, Cover}
 use Rattle.sby_terms.specs.declared.span.Span.{Span}
 use Rattle.model_core.specs.Choices.{ChoicesOf}
 use Rattle.model_core.specs.Shape.{ModelOf, states}
@@ -16,22 +16,26 @@ use Rattle.net_unroll.specs.declared.asking.Asked.{Asked}
 use Rattle.net_unroll.specs.declared.asking.Asked.TheVariants as ask
 use Rattle.net_unroll.specs.declared.asking.Cycles.{Cycles}
 
--- Base and Step ask that an assertion is broken, a cover job that its statement is reached
+-- Base, Step and Inv ask that an assertion is broken, a cover job that its statement is reached
 abbrev pub asked_of : JobName → Asked
 asked_of (Base i) = ask.Asserts
 asked_of Step = ask.Asserts
+asked_of Inv = ask.Asserts
 asked_of (Cover k) = ask.Cover k
 
--- a slice is one of the span's
+-- a slice is one of the span's; Inv isn't made of cycles that are told one after the other
 abbrev pub IsOfSpan : JobName → Span → Type 0
 IsOfSpan (Base i) span = i < slices_of span
 IsOfSpan Step span = Unit {0}
+IsOfSpan Inv span = ⊥
 IsOfSpan (Cover k) span = Unit {0}
 
 -- Base(i): from a start, in a cycle of slice i. Step: from any state, in the last of depth + 1 cycles. Cover(k): from a start, in any cycle.
+-- Of Inv, which isn't asked so, the first two cycles stand here.
 abbrev pub cycles_of : JobName → Span → Cycles
 cycles_of (Base i) span = record { start = true; first = first_of span i; end = first_of span i; count = last_of span i }
 cycles_of Step span = record { start = false; first = 0; end = span.depth; count = span.depth + 1 }
+cycles_of Inv span = record { start = true; first = 0; end = 0; count = 2 }
 cycles_of (Cover k) span = record { start = true; first = 0; end = 0; count = span.depth }
 
 abbrev pub job_encoding : NetOf → JobName → Span → EncodedOf

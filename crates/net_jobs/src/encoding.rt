@@ -15,7 +15,7 @@ fn asked_of(job: JobName) -> Asked
     ensures { result ≡ job_asked job }
 {
     match job {
-        JobName::Base(_) | JobName::Step => Asked::Asserts,
+        JobName::Base(_) | JobName::Step | JobName::Inv => Asked::Asserts,
         JobName::Cover(number) => Asked::Cover(number),
     }
 }
@@ -40,6 +40,7 @@ pub fn cycles_of(job: JobName, span: Span) -> Cycles
             end: span.depth,
             count: span.depth + 1,
         },
+        JobName::Inv => unreachable!(),
         JobName::Cover(_) => Cycles {
             start: true,
             first: 0,

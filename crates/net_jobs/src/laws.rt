@@ -4,7 +4,7 @@ ghost use Rattle.std.specs.Prelude.{◌≡◌, ◌↔◌, ◌^◌, ◌<◌, ◌�
 ghost use Rattle.cnf_form.specs.Cnf.{Assignment, Satisfies};
 ghost use Rattle.sby_terms.specs.Span.{IsSpan};
 ghost use Rattle.sby_terms.specs.declared.names.JobName.{JobName};
-ghost use Rattle.sby_terms.specs.declared.names.JobName.TheVariants.{Step};
+ghost use Rattle.sby_terms.specs.declared.names.JobName.TheVariants.{Inv, Step};
 ghost use Rattle.sby_terms.specs.declared.span.Span.{Span};
 ghost use Rattle.model_core.specs.Choices.{AreChoicesFor, Plays};
 ghost use Rattle.model_core.specs.Meaning.{Cycle};
@@ -54,7 +54,7 @@ pub fn free_variables_stand_for_bits()
         → ((f : Free) → Contains (job_encoding n job span).free f → f.cycle ≡ t → f.place ≡ v → ⊥) → cs t p ≡ false }
 {}
 
-/// A job of a net in the terms of all jobs has what is promised of an encoded job.
+/// A job of a net in the terms of all jobs has what is promised of an encoded job; Inv is none of these.
 pub fn jobs_are_encoded()
-    ensures { (m : ModelOf) (n : NetOf) (job : JobName) (span : Span) → IsModel m → IsNet n → IsNetOf m n → job_made n job span ≤ 2 ^ 27 → IsEncoded m job span (encoded_of n job span) }
+    ensures { (m : ModelOf) (n : NetOf) (job : JobName) (span : Span) → IsModel m → IsNet n → IsNetOf m n → job_made n job span ≤ 2 ^ 27 → (job ≡ Inv → ⊥) → IsEncoded m job span (encoded_of n job span) }
 {}

@@ -16,7 +16,7 @@ use Rattle.net_pair.specs.Numbers.{HaveStates}
 use Rattle.net_pair.specs.Pairing.{pair_of}
 use Rattle.net_pair.proofs.Seeing.{literals}
 
-pub in_cone : (m s : ModelOf) (asked : Asked) (n : NetOf) (places : List ℕ) (bits : List (Option ℕ)) → IsModel s → IsSliceOf m asked s → IsNetOf s n → HaveStates s places bits →
+pub in_cone : (m s : ModelOf) (asked : Asked) (n : NetOf) (places : List ℕ) (bits : List (Option ℕ)) → IsModel s → IsSliceOf m asked s → IsNetOf s n → HaveStates (states s) places bits →
     (i place : ℕ) → slice_get places i ≡ Some place → Contains (states m) place → (bit_at (pair_of n bits) i ≡ None) ↔ (IsInCone m asked place → ⊥)
 in_cone m s asked n places bits is slice of have i place at state =
     let kept : states s ≡ filter slice.keep (states m) = ap states slice.is ∙ slice-states slice.keep m in

@@ -87,3 +87,11 @@ pub digits_step : (ss : List State) (i : ℕ) (s : State) → i < length ss → 
 digits_step ss i s inside at =
     ap (digits 0) (take_more ss i s inside ∙ ap (λ (h : State). take i ss ++ h ∷ []) (sym at)) ∙ digits_push 0 (take i ss) s
     ∙ ap (λ (n : ℕ). digits 0 (take i ss) ++ digit_of n s.start) (let e = length-take i ss in let z : 0 + length (take i ss) ≡ i = omega arith in z)
+
+digit_length : (k : ℕ) (d : Option Bool) → length (digit_of k d) ≡ length (digit_of 0 d)
+digit_length k None = refl
+digit_length k (Some b) = refl
+
+pub count_step : (ss : List State) (i : ℕ) (s : State) → i < length ss → s ≡ get_or ss i s → length (digits 0 (take (i + 1) ss)) ≡ length (digits 0 (take i ss)) + length (digit_of 0 s.start)
+count_step ss i s inside at =
+    ap length (digits_step ss i s inside at) ∙ length-append (digits 0 (take i ss)) (digit_of i s.start) ∙ ap (λ (n : ℕ). length (digits 0 (take i ss)) + n) (digit_length i s.start)

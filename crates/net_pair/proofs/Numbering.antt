@@ -67,8 +67,8 @@ table_whole places count table whole t = record {
 }
 
 -- bits that a table has at places
-pub from_table : (m : ModelOf) (places : List ℕ) (table : List (Option ℕ)) → IsTableOf (states m) table → HaveStates m places (map (state_by table) places)
-from_table m places table t = record {
+pub from_table : (held places : List ℕ) (table : List (Option ℕ)) → IsTableOf held table → HaveStates held places (map (state_by table) places)
+from_table held places table t = record {
   size = length_map (state_by table) places;
   some = λ n k h. (let (place, at, e) = map_back (state_by table) places n (Some k) h in (place, at, t.some place k e));
   none = λ n place h at c.

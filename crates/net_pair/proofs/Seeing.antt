@@ -73,7 +73,7 @@ module _ (m : ModelOf) (n : NetOf) (is : IsModel m) (served : IsNet n) (of : IsN
       let (r, alike) = run_back m n is served of 1 (λ t. x) (omega arith) (record { window = record { frames = λ t l. frame; follows = λ t l. absurd (omega arith) }; starts = λ l. h }) in
       sym (same.states k p here) ∙ (alike 0 (omega arith)).states k p here ∙ r.starts k p b here e
 
-  module _ (places : List ℕ) (bits : List (Option ℕ)) (have : HaveStates m places bits) (few : made n bits ≤ 2 ^ 27) where
+  module _ (places : List ℕ) (bits : List (Option ℕ)) (have : HaveStates (states m) places bits) (few : made n bits ≤ 2 ^ 27) where
     abbrev p : PairOf
     p = pair_of n bits
 
@@ -250,7 +250,7 @@ bit_of n [] i o h = absurd (let z : None ≡ Some o = h in cc)
 bit_of n (b ∷ bits) zero o h = let z : Some b ≡ Some o = h in let here : b ≡ o = cc in ap (bit_by n) here
 bit_of n (b ∷ bits) (suc i) o h = bit_of n bits i o h
 
-pub literals : (m : ModelOf) (n : NetOf) → IsModel m → IsNetOf m n → (places : List ℕ) (bits : List (Option ℕ)) → HaveStates m places bits →
+pub literals : (m : ModelOf) (n : NetOf) → IsModel m → IsNetOf m n → (places : List ℕ) (bits : List (Option ℕ)) → HaveStates (states m) places bits →
     (i place : ℕ) → slice_get places i ≡ Some place → (bit_at (pair_of n bits) i ≡ None) ↔ (Contains (states m) place → ⊥)
 literals m n is of places bits have i place there =
     let l = get_less places i place there in

@@ -130,6 +130,26 @@ fn push_digit(lits: &mut Vec<Lit>, place: u32, start: Option<bool>) -> Result<()
     Ok(())
 }
 
+// The count, and one more where a state has a start digit.
+fn counted(count: usize, start: Option<bool>) -> usize
+    requires { count < MAX_VARS }
+    ensures { result ≡ count + length (digit_of 0 start) }
+{
+    if start.is_some() { count + 1 } else { count }
+}
+
+// How many states have a start digit.
+pub fn digit_count(states: &[State]) -> usize
+    requires { length states.now < MAX_VARS }
+    ensures { result ≡ length (digits 0 states.now) }
+{
+    let mut count = 0;
+    for state in states {
+        count = counted(count, state.start);
+    }
+    count
+}
+
 // The literals that the states have the start digits that they have.
 pub fn digits_of(alloc: Global, states: &[State]) -> Result<Vec<Lit>, AllocError>
     requires { length states.now < MAX_VARS }

@@ -17,20 +17,20 @@ ghost use Rattle.net_pair.specs.Pairing.{both, made, pair_of};
 
 /// The assignments of the pair of a model's net are exactly the pairs of neighbouring cycles of the model of which the first is assumed.
 pub fn pairs_are_of_models()
-    ensures { (m : ModelOf) (n : NetOf) (places : List ℕ) (bits : List (Option ℕ)) → IsModel m → IsNet n → IsNetOf m n → HaveStates m places bits → made n bits ≤ 2 ^ 27
+    ensures { (m : ModelOf) (n : NetOf) (places : List ℕ) (bits : List (Option ℕ)) → IsModel m → IsNet n → IsNetOf m n → HaveStates (states m) places bits → made n bits ≤ 2 ^ 27
         → IsPairOf m places (pair_of n bits) }
 {}
 
 /// A number has no literals exactly where its place is that of no state bit.
 pub fn states_have_literals()
-    ensures { (m : ModelOf) (n : NetOf) (places : List ℕ) (bits : List (Option ℕ)) → IsModel m → IsNetOf m n → HaveStates m places bits
+    ensures { (m : ModelOf) (n : NetOf) (places : List ℕ) (bits : List (Option ℕ)) → IsModel m → IsNetOf m n → HaveStates (states m) places bits
         → (i place : ℕ) → slice_get places i ≡ Some place → (bit_at (pair_of n bits) i ≡ None) ↔ (Contains (states m) place → ⊥) }
 {}
 
 /// Of the pair of a model's slice, to what is asked of the model, the number of a state bit has no literals exactly where the bit is outside
 /// the cone of that.
 pub fn state_bits_in_the_cone_have_literals()
-    ensures { (m s : ModelOf) (asked : Asked) (n : NetOf) (places : List ℕ) (bits : List (Option ℕ)) → IsModel s → IsSliceOf m asked s → IsNetOf s n → HaveStates s places bits
+    ensures { (m s : ModelOf) (asked : Asked) (n : NetOf) (places : List ℕ) (bits : List (Option ℕ)) → IsModel s → IsSliceOf m asked s → IsNetOf s n → HaveStates (states s) places bits
         → (i place : ℕ) → slice_get places i ≡ Some place → Contains (states m) place → (bit_at (pair_of n bits) i ≡ None) ↔ (IsInCone m asked place → ⊥) }
 {}
 

@@ -12,4 +12,4 @@ pub use laws::{
     states_have_literals, what_is_made_is_counted,
 };
 pub use numbers::states_at;
-pub use pairing::{TooMany, pair_of_net};
+pub use pairing::{TooMany, fits, pair_again, pair_of_net};

@@ -1,19 +1,19 @@
-// The state bits of a model by numbers.
+// State bits by numbers.
 
-ghost use Rattle.std.specs.Prelude.{◌≡◌, ◌<◌, IfOk, length};
-ghost use Rattle.model_core.specs.Shape.{states};
+ghost use Rattle.std.specs.Prelude.{◌≡◌, ◌<◌, ◌≤◌, All, IfOk, length};
 ghost use Rattle.net_pair.specs.Numbers.{HaveStates, IsTableOf, state_by};
 
-use model_core::model::WordModel;
 use std::alloc::{AllocError, Global};
 
-// For each place of the model the state whose place it is, or none.
-fn table_of(alloc: Global, model: &WordModel) -> Result<Vec<Option<u32>>, AllocError>
-    ensures { IfOk result (λ table. IsTableOf (states model.now) table.items) }
+// For each place below `size` the state whose place it is, or none.
+fn table_of(alloc: Global, size: u32, held: &[u32]) -> Result<Vec<Option<u32>>, AllocError>
+    requires below { All (λ place. place < size) held.now }
+    requires few { length held.now ≤ size }
+    ensures { IfOk result (λ table. IsTableOf held.now table.items) }
 {
     let mut table = Vec::new(alloc);
-    table.resize(model.size() as usize, None)?;
-    for (state, place) in model.states().iter().enumerate() {
+    table.resize(size as usize, None)?;
+    for (state, place) in held.iter().enumerate() {
         table[*place as usize] = Some(state as u32);
     }
     Ok(table)
@@ -29,16 +29,19 @@ fn state_by(table: &[Option<u32>], place: u32) -> Option<u32>
     }
 }
 
-/// For each number, which has a place, the state of the model that has this place, counted from 0; none where that is the place of no state
-/// bit.
+/// For each number, which has a place, the state bit that has this place, counted from 0; none where that is the place of no state bit. The
+/// state bits have these places, each below `size`.
 pub fn states_at(
     alloc: Global,
-    model: &WordModel,
+    size: u32,
+    held: &[u32],
     places: &[u32],
 ) -> Result<Vec<Option<u32>>, AllocError>
-    ensures { IfOk result (λ bits. HaveStates model.now places.now bits.items) }
+    requires below { All (λ place. place < size) held.now }
+    requires few { length held.now ≤ size }
+    ensures { IfOk result (λ bits. HaveStates held.now places.now bits.items) }
 {
-    let table = table_of(alloc, model)?;
+    let table = table_of(alloc, size, held)?;
     let mut bits = Vec::new(alloc);
     for place in places {
         bits.push(state_by(&table, *place))?;

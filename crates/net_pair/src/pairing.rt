@@ -1,13 +1,15 @@
 // The pair of a net.
 
-ghost use Rattle.std.specs.Prelude.{◌≡◌, ◌+◌, ◌*◌, ◌^◌, ◌<◌, ◌≤◌, ◌++◌, ◌∷◌, [], IfErr, IfOk, length};
+ghost use Rattle.std.specs.Prelude.{◌≡◌, ◌↔◌, true, ◌+◌, ◌*◌, ◌^◌, ◌<◌, ◌≤◌, ◌++◌, ◌∷◌, [], IfErr, IfOk, length};
 ghost use Rattle.cnf_form.specs.Cnf.{FormulaOf};
 ghost use Rattle.gate_graph.specs.Kept.{clauses_from};
 ghost use Rattle.bit_net.specs.Net.{vars};
 ghost use Rattle.bit_net.specs.Reaching.{entries};
 ghost use Rattle.net_pair.specs.Pairing.{bad_by, before_start, both, digits, made, pair_of, pair_vars, start_lit};
 
-use crate::cycles::{bits_of, digits_of, later, now, push_all, push_cycle, push_inputs};
+use crate::cycles::{
+    bits_of, digit_count, digits_of, later, now, push_all, push_cycle, push_inputs,
+};
 use bit_net::Net;
 use cnf_form::{Formula, Lit, MAX_VARS};
 use gate_graph::Circuit;
@@ -18,16 +20,24 @@ use std::alloc::{AllocError, Global};
 #[derive(Clone, Copy, Debug, PartialEq, Eq)]
 pub struct TooMany;
 
-// How many variables the formula has for a net of which as many states have start digits.
-fn vars_of(net: &Net, count: usize, bits: &[Option<u32>]) -> u64
-    requires { count ≡ length (digits 0 net.now.states) }
+// How many variables the formula has.
+fn vars_of(net: &Net, bits: &[Option<u32>]) -> u64
     ensures { result ≡ pair_vars net.now bits.now }
 {
     net.promise();
-    let states = net.states().len() as u64 + count as u64;
+    let all = net.states();
+    let count = digit_count(all);
+    let states = all.len() as u64 + count as u64;
     let cycle = u64::from(net.inputs()) + net.gates().len() as u64;
     let vars = 1 + states + 2 * cycle;
     vars.max(bits.len() as u64)
+}
+
+/// Whether the pair of a net takes no more than 2^27 variables, by counting alone.
+pub fn fits(net: &Net, bits: &[Option<u32>]) -> bool
+    ensures { (result ≡ true) ↔ (made net.now bits.now ≤ 2 ^ 27) }
+{
+    vars_of(net, bits) < u64::from(MAX_VARS)
 }
 
 // The gates of both cycles and of the start, and the literal of the start.
@@ -78,6 +88,19 @@ fn bad_of(net: &Net) -> Lit
     }
 }
 
+/// The pair of a net that is known to fit, as `pair_of_net` gives it. It fails only where memory runs out.
+pub fn pair_again(alloc: Global, net: &Net, bits: &[Option<u32>]) -> Result<Pair, AllocError>
+    requires fits { made net.now bits.now ≤ 2 ^ 27 }
+    ensures { IfOk result (λ p. p ≡ pair_of net.now bits.now) }
+{
+    net.promise();
+    let starts = digits_of(alloc, net.states())?;
+    let (formula, start) = formula_of(alloc, net, &starts, bits)?;
+    let next = later(net, net.assumed());
+    let lits = bits_of(alloc, net, bits)?;
+    Ok(Pair::new(formula, start, next, bad_of(net), lits))
+}
+
 /// The pair of a net, of which `bits` has, for each number of a state bit from 1 on, the place of its state among those of the net, or none:
 /// the value of a function of the two. Refused exactly where the gates of both cycles, or the numbers, take 2^27 variables or more, so that
 /// one is always left over.
@@ -90,13 +113,8 @@ pub fn pair_of_net(
     ensures fits { IfOk result (λ r. IfOk r (λ _. made net.now bits.now ≤ 2 ^ 27)) }
     ensures too_many { IfOk result (λ r. IfErr r (λ _. 2 ^ 27 < made net.now bits.now)) }
 {
-    net.promise();
-    let starts = digits_of(alloc, net.states())?;
-    if vars_of(net, starts.len(), bits) >= u64::from(MAX_VARS) {
+    if !fits(net, bits) {
         return Ok(Err(TooMany));
     }
-    let (formula, start) = formula_of(alloc, net, &starts, bits)?;
-    let next = later(net, net.assumed());
-    let lits = bits_of(alloc, net, bits)?;
-    Ok(Ok(Pair::new(formula, start, next, bad_of(net), lits)))
+    Ok(Ok(pair_again(alloc, net, bits)?))
 }

@@ -62,9 +62,10 @@ pub fn job_at(mode: Mode, place: u32) -> JobName
 {
     match mode {
         Mode::Bmc => JobName::Base(place),
-        Mode::Prove if place == 0 => JobName::Base(0),
+        Mode::Prove | Mode::ProveInv if place == 0 => JobName::Base(0),
         Mode::Prove if place == 1 => JobName::Step,
-        Mode::Prove => JobName::Cover(place - 2),
+        Mode::ProveInv if place == 1 => JobName::Inv,
+        Mode::Prove | Mode::ProveInv => JobName::Cover(place - 2),
         Mode::Cover => JobName::Cover(place),
     }
 }

@@ -100,7 +100,7 @@ pub fn place_step<T>(place: Place, event: &LaneEvent<T>) -> Place
 }
 
 impl JobTerms {
-    /// Whether a finding makes the job needless: `wait` is off, and it is one for the job itself, or for Step one that Base is Sat.
+    /// Whether a finding makes the job needless: `wait` is off, and it is one for the job itself, or for Step or Inv one that Base is Sat.
     pub fn is_needless<T: Settled>(&self, value: &T) -> bool
         ensures { result ≡ is_needless T.job T.answer self.now value.now }
     {
@@ -131,8 +131,8 @@ fn is_needless_by(job: JobName, answer: Answer, other: JobName) -> bool
 {
     match (job, answer, other) {
         (JobName::Base(m), _, JobName::Base(n)) => m == n,
-        (JobName::Base(m), Answer::Sat, JobName::Step) => m == 0,
-        (JobName::Step, _, JobName::Step) => true,
+        (JobName::Base(m), Answer::Sat, JobName::Step | JobName::Inv) => m == 0,
+        (JobName::Step, _, JobName::Step) | (JobName::Inv, _, JobName::Inv) => true,
         (JobName::Cover(m), _, JobName::Cover(n)) => m == n,
         _ => false,
     }

@@ -35,13 +35,21 @@ needless-cases : (j : JobName) (a : Answer) (k : JobName) → needless_by j a k 
 needless-cases (name.Base m) a (name.Base n) h = inl (let e : m ≡ n = grind arith in ap (λ (x : ℕ). name.Base x) e)
 needless-cases (name.Base m) answer.Sat name.Step h = inr (let e : m ≡ 0 = grind arith in (refl, e))
 needless-cases (name.Base m) answer.Unsat name.Step h = absurd (let e : false ≡ true = h in cc)
+needless-cases (name.Base m) answer.Sat name.Inv h = inr (let e : m ≡ 0 = grind arith in (refl, e))
+needless-cases (name.Base m) answer.Unsat name.Inv h = absurd (let e : false ≡ true = h in cc)
 needless-cases (name.Base m) a (name.Cover n) h = absurd (let e : false ≡ true = h in cc)
 needless-cases name.Step a name.Step h = inl refl
 needless-cases name.Step a (name.Base n) h = absurd (let e : false ≡ true = h in cc)
 needless-cases name.Step a (name.Cover n) h = absurd (let e : false ≡ true = h in cc)
+needless-cases name.Step a name.Inv h = absurd (let e : false ≡ true = h in cc)
+needless-cases name.Inv a name.Inv h = inl refl
+needless-cases name.Inv a (name.Base n) h = absurd (let e : false ≡ true = h in cc)
+needless-cases name.Inv a name.Step h = absurd (let e : false ≡ true = h in cc)
+needless-cases name.Inv a (name.Cover n) h = absurd (let e : false ≡ true = h in cc)
 needless-cases (name.Cover m) a (name.Cover n) h = inl (let e : m ≡ n = grind arith in ap (λ (x : ℕ). name.Cover x) e)
 needless-cases (name.Cover m) a (name.Base n) h = absurd (let e : false ≡ true = h in cc)
 needless-cases (name.Cover m) a name.Step h = absurd (let e : false ≡ true = h in cc)
+needless-cases (name.Cover m) a name.Inv h = absurd (let e : false ≡ true = h in cc)
 
 up-to : (m n : ℕ) → leb m n ≡ true → (m ≡ n) ⊎ (m < n)
 up-to m n h = grind (arith, h)
@@ -52,13 +60,21 @@ skipped-cases (name.Base m) answer.Sat (name.Base n) h = elim (up-to m n h) [ in
 skipped-cases (name.Base m) answer.Unsat (name.Base n) h = inl (let e : m ≡ n = grind arith in ap (λ (x : ℕ). name.Base x) e)
 skipped-cases (name.Base m) answer.Sat name.Step h = inr (let e : m ≡ 0 = grind arith in (refl, e))
 skipped-cases (name.Base m) answer.Unsat name.Step h = absurd (let e : false ≡ true = h in cc)
+skipped-cases (name.Base m) answer.Sat name.Inv h = inr (let e : m ≡ 0 = grind arith in (refl, e))
+skipped-cases (name.Base m) answer.Unsat name.Inv h = absurd (let e : false ≡ true = h in cc)
 skipped-cases (name.Base m) a (name.Cover n) h = absurd (let e : false ≡ true = h in cc)
 skipped-cases name.Step a name.Step h = inl refl
 skipped-cases name.Step a (name.Base n) h = absurd (let e : false ≡ true = h in cc)
 skipped-cases name.Step a (name.Cover n) h = absurd (let e : false ≡ true = h in cc)
+skipped-cases name.Step a name.Inv h = absurd (let e : false ≡ true = h in cc)
+skipped-cases name.Inv a name.Inv h = inl refl
+skipped-cases name.Inv a (name.Base n) h = absurd (let e : false ≡ true = h in cc)
+skipped-cases name.Inv a name.Step h = absurd (let e : false ≡ true = h in cc)
+skipped-cases name.Inv a (name.Cover n) h = absurd (let e : false ≡ true = h in cc)
 skipped-cases (name.Cover m) a (name.Cover n) h = inl (let e : m ≡ n = grind arith in ap (λ (x : ℕ). name.Cover x) e)
 skipped-cases (name.Cover m) a (name.Base n) h = absurd (let e : false ≡ true = h in cc)
 skipped-cases (name.Cover m) a name.Step h = absurd (let e : false ≡ true = h in cc)
+skipped-cases (name.Cover m) a name.Inv h = absurd (let e : false ≡ true = h in cc)
 
 either : (a b : Bool) → a || b ≡ true → (a ≡ true) ⊎ (b ≡ true)
 either true b h = inl refl
@@ -71,11 +87,17 @@ both false b h = absurd (let e : false ≡ true = h in cc)
 base-step : (j : JobName) (i : ℕ) → j ≡ name.Base i → j ≡ name.Step → ⊥
 base-step j i d e = cc
 
+base-inv : (j : JobName) (i : ℕ) → j ≡ name.Base i → j ≡ name.Inv → ⊥
+base-inv j i d e = cc
+
 base-cover : (j : JobName) (i k : ℕ) → j ≡ name.Base i → j ≡ name.Cover k → ⊥
 base-cover j i k d e = cc
 
 step-cover : (j : JobName) (k : ℕ) → j ≡ name.Step → j ≡ name.Cover k → ⊥
 step-cover j k d e = cc
+
+inv-cover : (j : JobName) (k : ℕ) → j ≡ name.Inv → j ≡ name.Cover k → ⊥
+inv-cover j k d e = cc
 
 cover-same : (m n : ℕ) → name.Cover m ≡ name.Cover n → m ≡ n
 cover-same m n e = cc
@@ -94,16 +116,28 @@ one-name mode.Prove (suc zero) (suc (suc k)) e = absurd (step-cover name.Step k 
 one-name mode.Prove (suc (suc j)) zero e = absurd (base-cover (name.Base 0) 0 j refl (sym e))
 one-name mode.Prove (suc (suc j)) (suc zero) e = absurd (step-cover name.Step j refl (sym e))
 one-name mode.Prove (suc (suc j)) (suc (suc k)) e = ap (λ (x : ℕ). suc (suc x)) (cover-same j k e)
+one-name mode.ProveInv zero zero e = refl
+one-name mode.ProveInv zero (suc zero) e = absurd (base-inv (name.Base 0) 0 refl e)
+one-name mode.ProveInv zero (suc (suc k)) e = absurd (base-cover (name.Base 0) 0 k refl e)
+one-name mode.ProveInv (suc zero) zero e = absurd (base-inv (name.Base 0) 0 refl (sym e))
+one-name mode.ProveInv (suc zero) (suc zero) e = refl
+one-name mode.ProveInv (suc zero) (suc (suc k)) e = absurd (inv-cover name.Inv k refl e)
+one-name mode.ProveInv (suc (suc j)) zero e = absurd (base-cover (name.Base 0) 0 j refl (sym e))
+one-name mode.ProveInv (suc (suc j)) (suc zero) e = absurd (inv-cover name.Inv j refl (sym e))
+one-name mode.ProveInv (suc (suc j)) (suc (suc k)) e = ap (λ (x : ℕ). suc (suc x)) (cover-same j k e)
 one-name mode.Cover j k e = cover-same j k e
 
 -- what is before one that is before a third is before that one
 before-through : (a b c : JobName) → IsBefore a b → IsBefore b c → IsBefore a c
 before-through (name.Base m) (name.Base n) (name.Base k) h i = omega (h, i, arith)
 before-through (name.Base m) (name.Base n) name.Step h i = absurd (omega (h, i, arith))
+before-through (name.Base m) (name.Base n) name.Inv h i = absurd (omega (h, i, arith))
 before-through (name.Base m) (name.Base n) (name.Cover k) h i = absurd i
 before-through (name.Base m) name.Step c h i = absurd i
+before-through (name.Base m) name.Inv c h i = absurd i
 before-through (name.Base m) (name.Cover n) c h i = absurd h
 before-through name.Step b c h i = absurd h
+before-through name.Inv b c h i = absurd h
 before-through (name.Cover m) b c h i = absurd h
 
 -- one that is Sat, of a job that is before another, decides the task
@@ -112,6 +146,9 @@ before-fails mode.Bmc k l h answers at = at-found answers l (Some answer.Sat) at
 before-fails mode.Prove k zero h answers at = at
 before-fails mode.Prove k (suc zero) h answers at = absurd h
 before-fails mode.Prove k (suc (suc l)) h answers at = absurd h
+before-fails mode.ProveInv k zero h answers at = at
+before-fails mode.ProveInv k (suc zero) h answers at = absurd h
+before-fails mode.ProveInv k (suc (suc l)) h answers at = absurd h
 before-fails mode.Cover k l h answers at = absurd h
 
 module _ {T : Type 0} (problem : T → ProblemOf) (job : T → JobName) (answer_of : T → Answer) (is_true : T → Type 0)

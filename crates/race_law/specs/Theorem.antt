@@ -36,12 +36,14 @@ pub record IsFor {T : Type 0} (problem : T → ProblemOf) (job : T → JobName) 
   pub of_problem : problem f ≡ task.problem
   pub holds : is_true f
 
--- a finding that is Sat for the first job decides the task whatever the second comes to: Base's, of Step; a slice's, of a later slice
+-- a finding that is Sat for the first job decides the task whatever the second comes to: Base's, of Step or Inv; a slice's, of a later slice
 abbrev pub IsBefore : JobName → JobName → Type 0
 IsBefore (name.Base m) (name.Base n) = m < n
 IsBefore (name.Base m) name.Step = m ≡ 0
+IsBefore (name.Base m) name.Inv = m ≡ 0
 IsBefore (name.Base m) (name.Cover n) = ⊥
 IsBefore name.Step k = ⊥
+IsBefore name.Inv k = ⊥
 IsBefore (name.Cover m) k = ⊥
 
 -- a finding that decides the task whatever this job comes to

@@ -62,6 +62,7 @@ impl<'a> Child<'a> {
             "text" => child.text = value,
             "proof" => child.proof = value,
             "step" => child.job = JobName::Step,
+            "inv" => child.job = JobName::Inv,
             _ => return None,
         }
         Some(child)

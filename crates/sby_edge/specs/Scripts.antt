@@ -3,7 +3,7 @@ use Rattle.std.specs.Prelude.{ℕ, ◌==◌, Bool, true, false, cond, List, [], 
 use Rattle.std.proofs.Common.{◌&&◌}
 use Rattle.sby_edge.specs.Script.{ScriptOf}
 use Rattle.sby_terms.specs.declared.names.JobName.{JobName}
-use Rattle.sby_terms.specs.declared.names.JobName.TheVariants.{Base, Step, Cover}
+use Rattle.sby_terms.specs.declared.names.JobName.TheVariants.{Base, Step, Inv, Cover}
 
 -- the script of one child
 pub record ScriptedOf : Type 0 where
@@ -16,12 +16,19 @@ pub record ScriptedOf : Type 0 where
 abbrev pub is_job : JobName → JobName → Bool
 is_job (Base m) (Base n) = m == n
 is_job (Base m) Step = false
+is_job (Base m) Inv = false
 is_job (Base m) (Cover n) = false
 is_job Step (Base n) = false
 is_job Step Step = true
+is_job Step Inv = false
 is_job Step (Cover n) = false
+is_job Inv (Base n) = false
+is_job Inv Step = false
+is_job Inv Inv = true
+is_job Inv (Cover n) = false
 is_job (Cover m) (Base n) = false
 is_job (Cover m) Step = false
+is_job (Cover m) Inv = false
 is_job (Cover m) (Cover n) = m == n
 
 abbrev pub is_for : ScriptedOf → ℕ → ℕ → JobName → Bool

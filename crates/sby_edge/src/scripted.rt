@@ -31,7 +31,7 @@ fn is_same(one: JobName, other: JobName) -> bool
 {
     match (one, other) {
         (JobName::Base(m), JobName::Base(n)) => m == n,
-        (JobName::Step, JobName::Step) => true,
+        (JobName::Step, JobName::Step) | (JobName::Inv, JobName::Inv) => true,
         (JobName::Cover(m), JobName::Cover(n)) => m == n,
         _ => false,
     }

@@ -16,7 +16,7 @@ use Rattle.race_core.specs.declared.event.LaneEvent.TheVariants as event
 use Rattle.sby_terms.specs.declared.names.Answer.{Answer}
 use Rattle.sby_terms.specs.declared.names.Answer.TheVariants.{Sat, Unsat}
 use Rattle.sby_terms.specs.declared.names.JobName.{JobName}
-use Rattle.sby_terms.specs.declared.names.JobName.TheVariants.{Base, Step, Cover}
+use Rattle.sby_terms.specs.declared.names.JobName.TheVariants.{Base, Step, Inv, Cover}
 use Rattle.sby_terms.specs.declared.names.Mode.{Mode}
 use Rattle.sby_lines.specs.Printed.{HasNoFinding, HasNoStop, IsFirstStop}
 use Rattle.sby_lines.specs.Told.{AreInPlace, IsFirstFinding, IsPrintedFinding, IsStopReading, IsStoppedIn, WinnersHaveFindings, job_of}
@@ -108,12 +108,19 @@ same_job : (a b : JobName) → (a ≡ b) ⊎ (a ≡ b → ⊥)
 same_job (Base m) (Base n) = elim (cases_eq m n) [ inl e ↦ inl (ap Base e) | inr apart ↦ inr (λ e. let s : m ≡ n = cc in apart s) ]
 same_job (Cover m) (Cover n) = elim (cases_eq m n) [ inl e ↦ inl (ap Cover e) | inr apart ↦ inr (λ e. let s : m ≡ n = cc in apart s) ]
 same_job Step Step = inl refl
+same_job Inv Inv = inl refl
 same_job (Base m) Step = inr (λ e. cc)
+same_job (Base m) Inv = inr (λ e. cc)
 same_job (Base m) (Cover n) = inr (λ e. cc)
 same_job Step (Base n) = inr (λ e. cc)
+same_job Step Inv = inr (λ e. cc)
 same_job Step (Cover n) = inr (λ e. cc)
+same_job Inv (Base n) = inr (λ e. cc)
+same_job Inv Step = inr (λ e. cc)
+same_job Inv (Cover n) = inr (λ e. cc)
 same_job (Cover m) (Base n) = inr (λ e. cc)
 same_job (Cover m) Step = inr (λ e. cc)
+same_job (Cover m) Inv = inr (λ e. cc)
 
 -- an end carries a finding for the job
 abbrev For : JobName → JobEnd FindingOf → Type 0

@@ -25,7 +25,7 @@ use Rattle.sby_terms.specs.declared.names.Event.{Event}
 use Rattle.sby_terms.specs.declared.names.Event.TheVariants as told
 use Rattle.sby_terms.specs.declared.names.JobName.TheVariants.{Base}
 use Rattle.sby_terms.specs.declared.names.Mode.{Mode}
-use Rattle.sby_terms.specs.declared.names.Mode.TheVariants.{Bmc, Prove, Cover as CoverMode}
+use Rattle.sby_terms.specs.declared.names.Mode.TheVariants.{Bmc, Prove, ProveInv, Cover as CoverMode}
 use Rattle.sby_terms.specs.declared.names.Status.{Status}
 use Rattle.sby_terms.specs.declared.names.Status.TheVariants as status
 use Rattle.sby_terms.specs.declared.names.Verdict.{Verdict}
@@ -130,6 +130,7 @@ module _ (request : Request) (c : CameTo) (are : AreReported request.mode reques
   failing : (mode : Mode) → request.mode ≡ mode → mode ≢ CoverMode → Decides mode answers Fail → (place : ℕ) × (i : ℕ) × IsFirstSat answers place × (name_at request.mode place ≡ Base i)
   failing Bmc is apart fails = let some = bmc_fails fails in let first = first_sat some.0 some.1 in (first.0, first.0, first.1, ap (λ m. name_at m first.0) is)
   failing Prove is apart fails = (0, 0, (fails, λ k lt at. omega (arith, lt)), ap (λ m. name_at m 0) is)
+  failing ProveInv is apart fails = (0, 0, (fails, λ k lt at. omega (arith, lt)), ap (λ m. name_at m 0) is)
   failing CoverMode is apart fails = absurd (apart refl)
 
   run_lines : (mode : Mode) → request.mode ≡ mode → mode ≢ CoverMode → (decided : Option Verdict) → Decided mode answers decided → (lines : List (List ℕ)) × HasRunLines request c answers decided lines
@@ -161,6 +162,7 @@ module _ (request : Request) (c : CameTo) (are : AreReported request.mode reques
   shown_lines : (mode : Mode) → request.mode ≡ mode → (decided : Option Verdict) → Decided mode answers decided → (lines : List (List ℕ)) × HasVerdictLines mode request c answers decided lines
   shown_lines Bmc is decided decides = run_lines Bmc is (λ e. cc) decided decides
   shown_lines Prove is decided decides = run_lines Prove is (λ e. cc) decided decides
+  shown_lines ProveInv is decided decides = run_lines ProveInv is (λ e. cc) decided decides
   shown_lines CoverMode is decided decides = cover_from 0 answers is (λ j o at. let same : j ≡ 0 + j = omega arith in subst (λ n. slice_get answers n ≡ Some o) same at)
 
   pub job_lines : AreLimited c.start request.limit c.reports → (s : Status) → IsStatus job_of request.mode c.reports answers s → (lines : List (List ℕ)) × HasJobLines request c s lines

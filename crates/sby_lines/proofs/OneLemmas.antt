@@ -9,7 +9,7 @@ use Rattle.design_meaning.specs.Runs.{CycleOf, shown_of}
 use Rattle.design_trace.specs.Trace.{trace}
 use Rattle.sby_terms.specs.declared.names.Answer.{Answer}
 use Rattle.sby_terms.specs.declared.names.Mode.{Mode}
-use Rattle.sby_terms.specs.declared.names.Mode.TheVariants.{Bmc, Prove, Cover}
+use Rattle.sby_terms.specs.declared.names.Mode.TheVariants.{Bmc, Prove, ProveInv, Cover}
 use Rattle.sby_terms.specs.declared.names.Status.{Status}
 use Rattle.sby_terms.specs.declared.names.Status.TheVariants as status
 use Rattle.sby_terms.specs.declared.names.Verdict.{Verdict}
@@ -116,6 +116,7 @@ module _ (request : Request) (c : CameTo) (places : AreInPlace c.reports) (answe
   one_shown : (mode : Mode) (v : Option Verdict) (a b : List (List ℕ)) → HasVerdictLines mode request c answers v a → HasVerdictLines mode request c answers v b → a ≡ b
   one_shown Bmc v a b x y = one_run v a b x y
   one_shown Prove v a b x y = one_run v a b x y
+  one_shown ProveInv v a b x y = one_run v a b x y
   one_shown Cover v a b x y = one_cover 0 answers a b x y
 
 -- a task's design and jobs have one list of lines

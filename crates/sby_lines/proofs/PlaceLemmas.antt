@@ -14,7 +14,7 @@ use Rattle.sby_terms.specs.Span.{slices_of}
 use Rattle.sby_terms.specs.declared.names.JobName.{JobName}
 use Rattle.sby_terms.specs.declared.names.JobName.TheVariants.{Base, Cover}
 use Rattle.sby_terms.specs.declared.names.Mode.{Mode}
-use Rattle.sby_terms.specs.declared.names.Mode.TheVariants.{Bmc, Prove, Cover as CoverMode}
+use Rattle.sby_terms.specs.declared.names.Mode.TheVariants.{Bmc, Prove, ProveInv, Cover as CoverMode}
 use Rattle.sby_terms.specs.declared.span.Span.{Span}
 use Rattle.sby_lines.specs.Jobs.{HasJobs}
 
@@ -51,6 +51,9 @@ job_named Bmc span d k lt = let same : 0 + k ≡ k = omega arith in named_from B
 job_named Prove span d zero lt = refl
 job_named Prove span d (suc zero) lt = refl
 job_named Prove span d (suc (suc k)) lt = absurd (omega (arith, lt))
+job_named ProveInv span d zero lt = refl
+job_named ProveInv span d (suc zero) lt = refl
+job_named ProveInv span d (suc (suc k)) lt = absurd (omega (arith, lt))
 job_named CoverMode span d k lt = let same : 0 + k ≡ k = omega arith in named_from Cover (length (covers d)) 0 k (omega (arith, lt, named_count Cover (length (covers d)))) ∙ ap (λ i. Some (Cover i)) same
 
 pub has_jobs : (mode : Mode) (span : Span) (d : DesignOf) (count : ℕ) → count ≤ length (jobs_in mode span d) → HasJobs mode count (jobs_in mode span d)

@@ -9,7 +9,7 @@ use Rattle.race_core.specs.Report.{ReportOf}
 use Rattle.sby_terms.specs.declared.names.Answer.{Answer}
 use Rattle.sby_terms.specs.declared.names.JobName.{JobName}
 use Rattle.sby_terms.specs.declared.names.Mode.{Mode}
-use Rattle.sby_terms.specs.declared.names.Mode.TheVariants.{Bmc, Prove}
+use Rattle.sby_terms.specs.declared.names.Mode.TheVariants.{Bmc, Prove, ProveInv}
 use Rattle.sby_lines.specs.Lines.{told_answers, upto_sat}
 use Rattle.sby_lines.specs.Printed.{HasNoFinding, HasNoStop, IsFirstStop}
 use Rattle.sby_lines.proofs.PlaceLemmas.{at_contains, contains_at}
@@ -24,9 +24,10 @@ if_none_weaker None P Q weaker is = weaker is
 if_none_weaker (Some x) P Q weaker is = tt
 
 -- in bmc and prove the answers up to the first that is Sat are told
-pub told_upto : (mode : Mode) (answers told : List (Option Answer)) → ((mode ≡ Bmc) ⊎ (mode ≡ Prove)) → told ≡ upto_sat answers → told ≡ told_answers mode answers
+pub told_upto : (mode : Mode) (answers told : List (Option Answer)) → ((mode ≡ Bmc) ⊎ ((mode ≡ Prove) ⊎ (mode ≡ ProveInv))) → told ≡ upto_sat answers → told ≡ told_answers mode answers
 told_upto mode answers told (inl is) same = rw is same
-told_upto mode answers told (inr is) same = rw is same
+told_upto mode answers told (inr (inl is)) same = rw is same
+told_upto mode answers told (inr (inr is)) same = rw is same
 
 module _ (mode : Mode) (reports : List (ReportOf FindingOf)) (place : ℕ) (job : JobName) (lane : ℕ) (report : ReportOf FindingOf) (named : job ≡ name_at mode place) (places : AreInPlace reports)
     (at : slice_get reports lane ≡ Some report) where

@@ -10,7 +10,7 @@ use Rattle.sby_terms.specs.Status.{HasStatus}
 use Rattle.sby_terms.specs.declared.names.Answer.{Answer}
 use Rattle.sby_terms.specs.declared.names.Event.{Event}
 use Rattle.sby_terms.specs.declared.names.Mode.{Mode}
-use Rattle.sby_terms.specs.declared.names.Mode.TheVariants.{Bmc, Prove, Cover as CoverMode}
+use Rattle.sby_terms.specs.declared.names.Mode.TheVariants.{Bmc, Prove, ProveInv, Cover as CoverMode}
 use Rattle.sby_terms.specs.declared.names.Status.{Status}
 use Rattle.sby_terms.specs.declared.names.Status.TheVariants.{Fail as FailStatus}
 use Rattle.sby_terms.specs.declared.names.Verdict.{Verdict}
@@ -33,6 +33,7 @@ run_lines_apart : (mode : Mode) (request : Request) (c : CameTo) (answers : List
     → HasRunLines request c answers verdict lines
 run_lines_apart Bmc request c answers verdict lines apart has = has
 run_lines_apart Prove request c answers verdict lines apart has = has
+run_lines_apart ProveInv request c answers verdict lines apart has = has
 run_lines_apart CoverMode request c answers verdict lines apart has = absurd (apart refl)
 
 -- FAIL of bmc and prove shows its run

@@ -22,9 +22,9 @@ use Rattle.sby_terms.specs.Span.{first_of, last_of}
 use Rattle.sby_terms.specs.declared.names.Answer.{Answer}
 use Rattle.sby_terms.specs.declared.names.Answer.TheVariants.{Sat, Unsat}
 use Rattle.sby_terms.specs.declared.names.JobName.{JobName}
-use Rattle.sby_terms.specs.declared.names.JobName.TheVariants.{Base, Step, Cover}
+use Rattle.sby_terms.specs.declared.names.JobName.TheVariants.{Base, Step, Inv, Cover}
 use Rattle.sby_terms.specs.declared.names.Mode.{Mode}
-use Rattle.sby_terms.specs.declared.names.Mode.TheVariants.{Bmc, Prove, Cover as CoverMode}
+use Rattle.sby_terms.specs.declared.names.Mode.TheVariants.{Bmc, Prove, ProveInv, Cover as CoverMode}
 use Rattle.sby_terms.specs.declared.names.Verdict.{Verdict}
 use Rattle.sby_terms.specs.declared.names.Verdict.TheVariants.{Pass, Fail}
 use Rattle.sby_terms.specs.declared.span.Span.{Span}
@@ -125,6 +125,8 @@ claim_breaks d span (Base i) Sat run apart c = shows_breaks d (first_of span i) 
 claim_breaks d span (Base i) Unsat run apart c = let no : Some run ≡ None = c.1 in cc
 claim_breaks d span Step Sat run apart c = let no : Some run ≡ None = c.1 in cc
 claim_breaks d span Step Unsat run apart c = let no : Some run ≡ None = c.1 in cc
+claim_breaks d span Inv Sat run apart c = absurd c
+claim_breaks d span Inv Unsat run apart c = let no : Some run ≡ None = c.1 in cc
 claim_breaks d span (Cover k) answer run apart c = absurd (apart k refl)
 
 claim_reaches : (d : DesignOf) (span : Span) (k : ℕ) (answer : Answer) (run : List CycleOf) → Claim d span (Cover k) answer (Some run) → Reaches d run
@@ -136,6 +138,9 @@ no_cover Bmc span d place k apart lt is = cc
 no_cover Prove span d zero k apart lt is = cc
 no_cover Prove span d (suc zero) k apart lt is = cc
 no_cover Prove span d (suc (suc place)) k apart lt is = omega (arith, lt)
+no_cover ProveInv span d zero k apart lt is = cc
+no_cover ProveInv span d (suc zero) k apart lt is = cc
+no_cover ProveInv span d (suc (suc place)) k apart lt is = omega (arith, lt)
 no_cover CoverMode span d place k apart lt is = apart refl
 
 -- in bmc and prove its run breaks an assertion
@@ -208,6 +213,7 @@ one_stop reports answers a b places x y =
 not_both : (mode : Mode) (answers : List (Option Answer)) → Decides mode answers Pass → Decides mode answers Fail → ⊥
 not_both Bmc answers x y = let e : Some Sat ≡ Some Unsat = sym y.2 ∙ x.1 y.0 (Some Sat) y.1 in cc
 not_both Prove answers x y = let e : Some (Some Unsat) ≡ Some (Some Sat) = sym x.0 ∙ y in cc
+not_both ProveInv answers x y = x.0 y
 not_both CoverMode answers x y = let e : Some Unsat ≡ Some Sat = sym y.2 ∙ x y.0 (Some Unsat) y.1 in cc
 
 -- the verdict is one

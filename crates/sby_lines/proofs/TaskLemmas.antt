@@ -7,7 +7,7 @@ use Rattle.race_core.specs.Told.{Decided}
 use Rattle.sby_terms.specs.Span.{slices_of}
 use Rattle.sby_terms.specs.declared.names.Answer.{Answer}
 use Rattle.sby_terms.specs.declared.names.Mode.{Mode}
-use Rattle.sby_terms.specs.declared.names.Mode.TheVariants.{Bmc, Prove, Cover as CoverMode}
+use Rattle.sby_terms.specs.declared.names.Mode.TheVariants.{Bmc, Prove, ProveInv, Cover as CoverMode}
 use Rattle.sby_terms.specs.declared.names.Status.{Status}
 use Rattle.sby_terms.specs.declared.names.Verdict.{Verdict}
 use Rattle.sby_lines.specs.Counts.{counts_of}
@@ -35,6 +35,7 @@ tells_none {d} b f lines none = subst (λ ls. Tells {T = Unit {0}} b b f f d ls 
 told_least : (mode : Mode) (answers : List (Option Answer)) → length (told_answers mode answers) ≤ length answers
 told_least Bmc answers = upto_fewer answers
 told_least Prove answers = upto_fewer answers
+told_least ProveInv answers = upto_fewer answers
 told_least CoverMode answers = omega arith
 
 -- no more answers have a line than there are
@@ -42,10 +43,11 @@ pub told_fewer : (mode : Mode) (answers told : List (Option Answer)) → told �
 told_fewer mode answers told is = omega (arith, ap length is, told_least mode answers)
 
 -- in bmc and prove the lines of runs are those of the run that fails
-pub run_lines : (mode : Mode) (request : Request) (c : CameTo) (answers : List (Option Answer)) (verdict : Option Verdict) (lines : List (List ℕ)) → ((mode ≡ Bmc) ⊎ (mode ≡ Prove))
+pub run_lines : (mode : Mode) (request : Request) (c : CameTo) (answers : List (Option Answer)) (verdict : Option Verdict) (lines : List (List ℕ)) → ((mode ≡ Bmc) ⊎ ((mode ≡ Prove) ⊎ (mode ≡ ProveInv)))
     → HasVerdictLines mode request c answers verdict lines → HasRunLines request c answers verdict lines
 run_lines mode request c answers verdict lines (inl is) has = subst (λ m. HasVerdictLines m request c answers verdict lines) is has
-run_lines mode request c answers verdict lines (inr is) has = subst (λ m. HasVerdictLines m request c answers verdict lines) is has
+run_lines mode request c answers verdict lines (inr (inl is)) has = subst (λ m. HasVerdictLines m request c answers verdict lines) is has
+run_lines mode request c answers verdict lines (inr (inr is)) has = subst (λ m. HasVerdictLines m request c answers verdict lines) is has
 
 pub cover_lines : (mode : Mode) (request : Request) (c : CameTo) (answers : List (Option Answer)) (verdict : Option Verdict) (lines : List (List ℕ)) → mode ≡ CoverMode
     → HasVerdictLines mode request c answers verdict lines → HasCoverLines request c 0 answers lines

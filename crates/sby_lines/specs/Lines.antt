@@ -17,7 +17,7 @@ use Rattle.sby_terms.specs.declared.names.Answer.{Answer}
 use Rattle.sby_terms.specs.declared.names.Answer.TheVariants.{Sat, Unsat}
 use Rattle.sby_terms.specs.declared.names.JobName.{JobName}
 use Rattle.sby_terms.specs.declared.names.Mode.{Mode}
-use Rattle.sby_terms.specs.declared.names.Mode.TheVariants.{Bmc, Prove, Cover}
+use Rattle.sby_terms.specs.declared.names.Mode.TheVariants.{Bmc, Prove, ProveInv, Cover}
 use Rattle.sby_terms.specs.declared.names.Status.{Status}
 use Rattle.sby_terms.specs.declared.names.Status.TheVariants as status
 use Rattle.sby_terms.specs.declared.names.Verdict.{Verdict}
@@ -95,6 +95,7 @@ upto_sat (Some Sat ∷ answers) = Some Sat ∷ []
 abbrev pub told_answers : Mode → List (Option Answer) → List (Option Answer)
 told_answers Bmc answers = upto_sat answers
 told_answers Prove answers = upto_sat answers
+told_answers ProveInv answers = upto_sat answers
 told_answers Cover answers = answers
 
 -- the line of a settled job
@@ -170,6 +171,7 @@ HasCoverLines request c place (answer ∷ answers) lines =
 abbrev pub HasVerdictLines : Mode → Request → CameTo → List (Option Answer) → Option Verdict → List (List ℕ) → Type 0
 HasVerdictLines Bmc request c answers verdict lines = HasRunLines request c answers verdict lines
 HasVerdictLines Prove request c answers verdict lines = HasRunLines request c answers verdict lines
+HasVerdictLines ProveInv request c answers verdict lines = HasRunLines request c answers verdict lines
 HasVerdictLines Cover request c answers verdict lines = HasCoverLines request c 0 answers lines
 
 -- the line of a design

@@ -6,7 +6,7 @@ use Rattle.design_check.specs.declared.fault.FaultKind.TheVariants.{UnknownCell,
 use Rattle.design_reader.specs.declared.fault.ReadFaultKind.{ReadFaultKind}
 use Rattle.design_reader.specs.declared.fault.ReadFaultKind.TheVariants.{Limit, Syntax, NotUtf8Name, DoubleName, UnknownWire, Index, LeftOut, NoModule, SeveralModules}
 use Rattle.cert_judge.specs.declared.stream.CertKind.{CertKind}
-use Rattle.cert_judge.specs.declared.stream.CertKind.TheVariants.{BadLine, BadLiteral, LineTooLong, NotRup, NotSatisfying, NotPlaying, TooLong, EarlyEnd, BadWitness, BadId, BadHint, NotHinted}
+use Rattle.cert_judge.specs.declared.stream.CertKind.TheVariants.{BadLine, BadLiteral, LineTooLong, NotRup, NotSatisfying, NotPlaying, TooLong, EarlyEnd, BadWitness, BadId, BadHint, NotHinted, BadPart, NotInvariant}
 use Rattle.sby_terms.specs.declared.names.Answer.{Answer}
 use Rattle.sby_terms.specs.declared.names.Answer.TheVariants.{Sat, Unsat}
 use Rattle.sby_terms.specs.declared.names.Status.{Status}
@@ -16,7 +16,7 @@ use Rattle.sby_file.specs.declared.fault.SbyKind.TheVariants as sby
 use Rattle.sby_task.specs.declared.task_fault.TaskKind.{TaskKind}
 use Rattle.sby_task.specs.declared.task_fault.TaskKind.TheVariants as task
 use Rattle.sby_terms.specs.declared.names.Mode.{Mode}
-use Rattle.sby_terms.specs.declared.names.Mode.TheVariants.{Bmc, Prove, Cover as CoverMode}
+use Rattle.sby_terms.specs.declared.names.Mode.TheVariants.{Bmc, Prove, ProveInv, Cover as CoverMode}
 use Rattle.sby_lines.specs.declared.counts.Counts.{Counts}
 
 -- the usage line
@@ -76,6 +76,8 @@ cert_kind_text BadWitness = codes "BadWitness at byte"
 cert_kind_text BadId = codes "BadId at byte"
 cert_kind_text BadHint = codes "BadHint at byte"
 cert_kind_text NotHinted = codes "NotHinted at byte"
+cert_kind_text BadPart = codes "BadPart at byte"
+cert_kind_text NotInvariant = codes "NotInvariant at byte"
 
 unfoldable pub sby_kind_text : SbyKind → List ℕ
 sby_kind_text sby.NotText = codes "NotText"
@@ -179,4 +181,5 @@ not_written_text path = codes "not written: " ++ path
 unfoldable pub trace_path : List ℕ → Mode → ℕ → List ℕ
 trace_path folder Bmc k = folder ++ codes "/trace.vcd"
 trace_path folder Prove k = folder ++ codes "/trace.vcd"
+trace_path folder ProveInv k = folder ++ codes "/trace.vcd"
 trace_path folder CoverMode k = folder ++ codes "/trace" ++ decimal k ++ codes ".vcd"

@@ -31,7 +31,7 @@ fn job_count(mode: Mode, span: &Span, flat: &Flat) -> u32
 {
     match mode {
         Mode::Bmc => span.slices(),
-        Mode::Prove => 2,
+        Mode::Prove | Mode::ProveInv => 2,
         Mode::Cover => counts_of(flat.design()).covers as u32,
     }
 }
@@ -90,7 +90,7 @@ pub fn told_answers(mode: Mode, answers: &[Option<Answer>]) -> &[Option<Answer>]
     ensures { result.now ≡ told_answers mode answers.now }
 {
     match mode {
-        Mode::Bmc | Mode::Prove => match first_sat(answers) {
+        Mode::Bmc | Mode::Prove | Mode::ProveInv => match first_sat(answers) {
             Some(place) => answers.split_at(place + 1).0,
             None => answers,
         },

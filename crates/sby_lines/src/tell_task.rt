@@ -239,7 +239,9 @@ fn tell_verdict<S: Sink>(
         → Tells (S.taken out.old) (S.taken out.new) (S.faults out.old) (S.faults out.new) (S.ended out.new) lines result }
 {
     match heading.mode {
-        Mode::Bmc | Mode::Prove => tell_failure(alloc, out, heading, flat, reports, collected),
+        Mode::Bmc | Mode::Prove | Mode::ProveInv => {
+            tell_failure(alloc, out, heading, flat, reports, collected)
+        }
         Mode::Cover => tell_covers(alloc, out, heading, flat, reports, collected),
     }
 }

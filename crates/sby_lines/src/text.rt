@@ -110,6 +110,8 @@ pub fn cert_kind_text(kind: CertKind) -> &'static str
         CertKind::BadId => "BadId at byte",
         CertKind::BadHint => "BadHint at byte",
         CertKind::NotHinted => "NotHinted at byte",
+        CertKind::BadPart => "BadPart at byte",
+        CertKind::NotInvariant => "NotInvariant at byte",
     }
 }
 
@@ -340,7 +342,7 @@ pub fn trace_path(
     ensures { IfOk result (λ t. string_bytes t ≡ trace_path folder.now mode number) }
 {
     match mode {
-        Mode::Bmc | Mode::Prove => format!(in alloc; "{folder}/trace.vcd"),
+        Mode::Bmc | Mode::Prove | Mode::ProveInv => format!(in alloc; "{folder}/trace.vcd"),
         Mode::Cover => format!(in alloc; "{folder}/trace{number}.vcd"),
     }
 }

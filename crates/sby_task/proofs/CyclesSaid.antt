@@ -5,17 +5,20 @@ use Rattle.std.proofs.lemmas.List.Elements.{Contains-append_right}
 use Rattle.std.specs.Prelude.{Contains, is_some, unwrap_or}
 use Rattle.sby_terms.specs.Span.{IsStride}
 use Rattle.sby_terms.specs.declared.names.Mode.{Mode}
-use Rattle.sby_terms.specs.declared.names.Mode.TheVariants.{Bmc, Prove, Cover}
+use Rattle.sby_terms.specs.declared.names.Mode.TheVariants.{Bmc, Prove, ProveInv, Cover}
 use Rattle.sby_terms.specs.declared.span.Span.{Span}
 use Rattle.sby_terms.proofs.Numbers.{both_true}
 use Rattle.sby_file.specs.Config.{ConfigOf}
-use Rattle.sby_task.specs.Values.{mode_of, count_of, number_of}
+use Rattle.sby_task.specs.Proved.{is_proved}
+use Rattle.sby_task.specs.Values.{mode_by, mode_of, count_of, number_of}
 use Rattle.sby_task.specs.Draft.{blank}
 use Rattle.sby_task.specs.Expand.{drafted, Expand}
 use Rattle.sby_task.specs.Cycles.{said_span, may_slice, fits, span_of, IsTaskSpan}
 use Rattle.sby_task.specs.Said.{AreKept, IsUnset, IsSet, HasOption, SaysSpan, AreRefused}
 use Rattle.sby_file.specs.declared.config.Row.{Row}
 use Rattle.sby_file.specs.declared.config.StoredFile.{StoredFile}
+use Rattle.sby_task.specs.declared.draft.By.{By}
+use Rattle.sby_task.specs.declared.draft.By.TheVariants.{Induction, Invariant}
 use Rattle.sby_task.specs.declared.draft.Draft.{Draft}
 use Rattle.sby_task.specs.declared.draft.OptionName.TheVariants as option
 use Rattle.sby_task.specs.declared.expansion.Task.{Task}
@@ -44,22 +47,22 @@ module _ (files : List StoredFile) (rows : List Row) (d : Draft) (said : drafted
   NumberSaid name read o = (IsUnset name rows × (o ≡ None)) ⊎ ((v : ℕ) × (o ≡ Some v) × IsSet name (λ value. read value ≡ Some v) rows)
 
   skip_said : NumberSaid (codes "skip") (λ value. count_of 99999 value) d.skip
-  skip_said = answer files rows option.Skip (λ i. cc) refl (λ x. x.skip) (λ value. count_of 99999 value) skip_says (λ x e. refl) (λ x s. refl) rows blank d said refl
+  skip_said = answer files rows option.Skip (λ i. cc) refl (λ x. x.skip) (λ value. count_of 99999 value) (skip_says (is_proved rows)) (λ x e. refl) (λ x s. refl) rows blank d said refl
 
   depth_said : NumberSaid (codes "depth") (λ value. number_of 100000 value) d.depth
-  depth_said = answer files rows option.Depth (λ i. cc) refl (λ x. x.depth) (λ value. number_of 100000 value) depth_says (λ x e. refl) (λ x s. refl) rows blank d said refl
+  depth_said = answer files rows option.Depth (λ i. cc) refl (λ x. x.depth) (λ value. number_of 100000 value) (depth_says (is_proved rows)) (λ x e. refl) (λ x s. refl) rows blank d said refl
 
   stride_said : NumberSaid (codes "stride") (λ value. number_of 100000 value) d.stride
-  stride_said = answer files rows option.Stride (λ i. cc) refl (λ x. x.stride) (λ value. number_of 100000 value) stride_says (λ x e. refl) (λ x s. refl) rows blank d said refl
+  stride_said = answer files rows option.Stride (λ i. cc) refl (λ x. x.stride) (λ value. number_of 100000 value) (stride_says (is_proved rows)) (λ x e. refl) (λ x s. refl) rows blank d said refl
 
   pub mode_given : (mode : Mode) → d.mode ≡ Some mode → IsSet (codes "mode") (λ value. mode_of value ≡ Some mode) rows
-  mode_given mode m = elim (answer files rows option.Mode (λ i. cc) refl (λ x. x.mode) mode_of mode_says (λ x e. refl) (λ x s. refl) rows blank d said refl) as (λ _. IsSet (codes "mode") (λ value. mode_of value ≡ Some mode) rows) [
+  mode_given mode m = elim (answer files rows option.Mode (λ i. cc) refl (λ x. x.mode) mode_of (mode_says (is_proved rows)) (λ x e. refl) (λ x s. refl) rows blank d said refl) as (λ _. IsSet (codes "mode") (λ value. mode_of value ≡ Some mode) rows) [
     | inl none ↦ absurd (none_some mode (sym none.1 ∙ m))
     | inr some ↦ subst (λ (x : Mode). IsSet (codes "mode") (λ value. mode_of value ≡ Some x) rows) (some_same some.0 mode (sym some.1 ∙ m)) some.2
   ]
 
   pub mode_unset : d.mode ≡ None → IsUnset (codes "mode") rows
-  mode_unset m = elim (answer files rows option.Mode (λ i. cc) refl (λ x. x.mode) mode_of mode_says (λ x e. refl) (λ x s. refl) rows blank d said refl) as (λ _. IsUnset (codes "mode") rows) [
+  mode_unset m = elim (answer files rows option.Mode (λ i. cc) refl (λ x. x.mode) mode_of (mode_says (is_proved rows)) (λ x e. refl) (λ x s. refl) rows blank d said refl) as (λ _. IsUnset (codes "mode") rows) [
     | inl none ↦ none.0
     | inr some ↦ absurd (none_some some.0 (sym m ∙ some.1))
   ]
@@ -101,6 +104,7 @@ module _ (files : List StoredFile) (rows : List Row) (d : Draft) (said : drafted
   one_slice : (mode : Mode) → may_slice mode d.skip d.stride ≡ true → (mode ≡ Bmc → ⊥) → (d.skip ≡ None) × (d.stride ≡ None)
   one_slice Bmc h n = absurd (n refl)
   one_slice Prove h n = none_are d.skip d.stride h
+  one_slice ProveInv h n = none_are d.skip d.stride h
   one_slice Cover h n = none_are d.skip d.stride h
 
   pub task_span : (mode : Mode) (span : Span) → span_of mode d.skip d.depth d.stride ≡ Some span → IsTaskSpan mode span
@@ -127,11 +131,13 @@ module _ (files : List StoredFile) (rows : List Row) (d : Draft) (said : drafted
       not_bmc : (mode : Mode) → may_slice mode d.skip d.stride ≡ false → mode ≢ Bmc
       not_bmc Bmc h = absurd (false≢true (sym h))
       not_bmc Prove h = λ e. cc
+      not_bmc ProveInv h = λ e. cc
       not_bmc Cover h = λ e. cc
 
       some_of : (mode : Mode) → may_slice mode d.skip d.stride ≡ false → (is_some d.skip ≡ true) ⊎ (is_some d.stride ≡ true)
       some_of Bmc h = absurd (false≢true (sym h))
       some_of Prove h = some_is d.skip d.stride h
+      some_of ProveInv h = some_is d.skip d.stride h
       some_of Cover h = some_is d.skip d.stride h
 
       by : (is_some d.skip ≡ true) ⊎ (is_some d.stride ≡ true) → HasOption (codes "skip") rows ⊎ HasOption (codes "stride") rows
@@ -159,15 +165,32 @@ module _ (files : List StoredFile) (rows : List Row) (d : Draft) (said : drafted
   span_served mode span h (inr (inl none)) = let some = (task_span mode span h).is.some in omega (arith, some, none)
   span_served mode span h (inr (inr many)) = let few = (task_span mode span h).is.few in omega (arith, few, many)
 
+-- by what it is shown makes no difference to the cycles
+span_by : (mode : Mode) (by : Option By) (skip depth stride : Option ℕ) → span_of (mode_by mode by) skip depth stride ≡ span_of mode skip depth stride
+span_by Bmc by skip depth stride = refl
+span_by ProveInv by skip depth stride = refl
+span_by Cover by skip depth stride = refl
+span_by Prove None skip depth stride = refl
+span_by Prove (Some Induction) skip depth stride = refl
+span_by Prove (Some Invariant) skip depth stride = refl
+
 module _ (c : ConfigOf) (asked : Option (List ℕ)) (t : Task) (rows : List Row) (h : Expand c asked t) (k : AreKept c asked rows) where
+  abbrev d : Draft
+  d = (drafted_from c asked t rows h k).0
+
+  spanned : span_of t.mode d.skip d.depth d.stride ≡ Some t.span
+  spanned =
+      let f = (drafted_from c asked t rows h k).2 in
+      ap (λ (mode : Mode). span_of mode d.skip d.depth d.stride) f.by ∙ span_by f.said d.by d.skip d.depth d.stride ∙ f.span
+
   pub span_said : SaysSpan rows t.span
   span_said =
       let f = drafted_from c asked t rows h k in
-      let p = cond_some (may_slice t.mode f.0.skip f.0.stride && fits (said_span f.0.skip f.0.depth f.0.stride)) (said_span f.0.skip f.0.depth f.0.stride) t.span f.2.span in
+      let p = cond_some (may_slice t.mode d.skip d.stride && fits (said_span d.skip d.depth d.stride)) (said_span d.skip d.depth d.stride) t.span spanned in
       subst (SaysSpan rows) p.1 (says_span c.files rows f.0 f.1)
 
   pub span_fits : IsTaskSpan t.mode t.span
-  span_fits = let f = drafted_from c asked t rows h k in task_span c.files rows f.0 f.1 t.mode t.span f.2.span
+  span_fits = let f = drafted_from c asked t rows h k in task_span c.files rows f.0 f.1 t.mode t.span spanned
 
   pub not_refused : AreRefused rows t.mode t.span → ⊥
-  not_refused = let f = drafted_from c asked t rows h k in span_served c.files rows f.0 f.1 t.mode t.span f.2.span
+  not_refused = let f = drafted_from c asked t rows h k in span_served c.files rows f.0 f.1 t.mode t.span spanned

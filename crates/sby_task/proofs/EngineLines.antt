@@ -8,7 +8,7 @@ use Rattle.sby_task.specs.Values.{number_of}
 use Rattle.sby_task.specs.Engines.{engine_name, with_conflicts, sat_of, program_of, marked_of, engine_from, engine_of}
 use Rattle.sby_task.specs.Marks.{HasMarks, IsMarked, are_marked}
 use Rattle.sby_task.specs.declared.engines.EngineName.{EngineName}
-use Rattle.sby_task.specs.declared.engines.EngineName.TheVariants.{Sat, Drup, Btor, Lrat, Proof, ProofBinary, LeftOut, Unknown}
+use Rattle.sby_task.specs.declared.engines.EngineName.TheVariants.{Sat, Drup, Btor, Inv, Lrat, Proof, ProofBinary, LeftOut, Unknown}
 use Rattle.sby_task.proofs.MarkCounts.{marked}
 use Rattle.sby_task.proofs.RowsSaid.{ok_same, err_ok}
 
@@ -48,6 +48,7 @@ engine_marked (name ∷ arguments) x h = by (engine_name name) h
     by Sat h = sat_marked arguments x h
     by Drup h = subst IsMarked (program_is engine.Drup arguments x h) tt
     by Btor h = subst IsMarked (program_is engine.Btor arguments x h) tt
+    by Inv h = subst IsMarked (program_is engine.Inv arguments x h) tt
     by Lrat h = subst IsMarked (program_is engine.Lrat arguments x h) tt
     by Proof h = let p = marked_when engine.Proof arguments x h in subst IsMarked p.1 p.0
     by ProofBinary h = let p = marked_when engine.ProofBinary arguments x h in subst IsMarked p.1 p.0

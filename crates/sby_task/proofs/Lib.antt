@@ -13,6 +13,7 @@ pub mod CyclesSaid
 pub mod EngineLines
 pub mod Refusals
 pub mod Served
+pub mod Proving
 pub mod LineFaults
 pub mod FirstFaults
 pub mod TasksThere

@@ -7,11 +7,12 @@ use Rattle.std.proofs.lemmas.Slice.Eq.{bytes_eq-Decides}
 use Rattle.std.specs.Prelude.{◌||◌, Contains, bytes_eq, is_some}
 use Rattle.sby_terms.specs.declared.engine.Engine.{Engine}
 use Rattle.sby_terms.specs.declared.engine.Engine.TheVariants as engine
-use Rattle.sby_task.specs.Values.{mode_of, count_of, number_of, statuses_of, switch_of}
+use Rattle.sby_task.specs.Values.{by_of, mode_of, count_of, number_of, statuses_of, switch_of}
 use Rattle.sby_task.specs.Marks.{are_marked}
 use Rattle.sby_task.specs.Engines.{engine_name, with_conflicts, sat_of, program_of, marked_of, engine_from, engine_of}
-use Rattle.sby_task.specs.Draft.{blank, option_name, option_after, once, off_only, with_engine, read_command}
+use Rattle.sby_task.specs.Draft.{blank, option_name, option_after, once, off_only, if_proved, with_engine, read_command}
 use Rattle.sby_task.specs.Files.{bytes_in, path_in}
+use Rattle.sby_task.specs.Proved.{is_proved}
 use Rattle.sby_task.specs.Task.{is_found, seek, found, script_after, section_after, row_after}
 use Rattle.sby_task.specs.Expand.{drafted}
 use Rattle.sby_task.specs.Said.{IsUnset, IsSet, HasOption, LacksMarks, engine_lines, script_lines, NoneStands}
@@ -27,11 +28,12 @@ use Rattle.sby_file.specs.declared.section.Section.{Section}
 use Rattle.sby_file.specs.declared.section.Section.TheVariants.{Nowhere, Tasks, Options, Engines, Script, Files, File, Unknown}
 use Rattle.sby_task.specs.declared.task_fault.TaskKind.{TaskKind}
 use Rattle.sby_task.specs.declared.task_fault.TaskKind.TheVariants as kind
-use Rattle.sby_task.proofs.RowsSaid.{is_spelled, none_some, none_is, mode_says, skip_says, depth_says, stride_says, timeout_says, expect_says, wait_says, multiclock_says}
+use Rattle.sby_task.proofs.RowsSaid.{is_spelled, none_some, none_is, by_says, mode_says, skip_says, depth_says, stride_says, timeout_says, expect_says, wait_says, multiclock_says}
 use Rattle.sby_task.proofs.Said.{answer, engines_read, script_read, script_unread}
 use Rattle.sby_task.proofs.CyclesSaid.{set_stands, stands_set}
 use Rattle.sby_task.proofs.Designs.{first_or_later, stands, none_stands, is_path, none_gives}
 use Rattle.sby_task.proofs.MarkCounts.{marked, unmarked}
+use Rattle.sby_task.proofs.Proving.{none_proved, proved_none}
 use Rattle.sby_task.proofs.EngineLines.{ok_err, err_same}
 
 not_some : {A : Type 0} (o : Option A) → ((a : A) → o ≡ Some a → ⊥) → o ≡ None
@@ -66,6 +68,7 @@ contained (one ∷ more) word (inr later) = let r = contained more word later in
 -- ---- options
 own_name : (o : OptionName) → o ≢ option.Unknown → option_name (spelled o) ≡ o
 own_name option.Mode n = refl
+own_name option.By n = refl
 own_name option.Skip n = refl
 own_name option.Depth n = refl
 own_name option.Stride n = refl
@@ -77,6 +80,7 @@ own_name option.Unknown n = absurd (n refl)
 
 known_or : (o : OptionName) → (o ≡ option.Unknown) ⊎ (o ≢ option.Unknown)
 known_or option.Mode = inr (λ i. cc)
+known_or option.By = inr (λ i. cc)
 known_or option.Skip = inr (λ i. cc)
 known_or option.Depth = inr (λ i. cc)
 known_or option.Stride = inr (λ i. cc)
@@ -88,6 +92,7 @@ known_or option.Unknown = inl refl
 
 abbrev is_set : OptionName → Draft → Bool
 is_set option.Mode d = is_some d.mode
+is_set option.By d = is_some d.by
 is_set option.Skip d = is_some d.skip
 is_set option.Depth d = is_some d.depth
 is_set option.Stride d = is_some d.stride
@@ -120,9 +125,19 @@ off_none None h = refl
 off_none (Some true) h = refl
 off_none (Some false) h = absurd (h refl)
 
-module _ (d : Draft) (value : List (List ℕ)) where
-  doubled : (o : OptionName) → o ≢ option.Unknown → is_set o d ≡ true → option_after d o value ≡ Err kind.DoubleOption
+unproved : {A : Type 0} (proved : Bool) (o : Option A) → (o ≡ None) ⊎ (proved ≡ false) → if_proved proved o ≡ None
+unproved true o (inl h) = h
+unproved true o (inr h) = absurd (false≢true (sym h))
+unproved false o h = refl
+
+why_none : {A : Type 0} (proved : Bool) (o : Option A) → if_proved proved o ≡ None → (o ≡ None) ⊎ (proved ≡ false)
+why_none true o h = inl h
+why_none false o h = inr refl
+
+module _ (proved : Bool) (d : Draft) (value : List (List ℕ)) where
+  doubled : (o : OptionName) → o ≢ option.Unknown → is_set o d ≡ true → option_after proved d o value ≡ Err kind.DoubleOption
   doubled option.Mode n h = once_double (is_some d.mode) (mode_of value) (λ v. record d { mode = Some v }) h
+  doubled option.By n h = once_double (is_some d.by) (if_proved proved (by_of value)) (λ v. record d { by = Some v }) h
   doubled option.Skip n h = once_double (is_some d.skip) (count_of 99999 value) (λ v. record d { skip = Some v }) h
   doubled option.Depth n h = once_double (is_some d.depth) (number_of 100000 value) (λ v. record d { depth = Some v }) h
   doubled option.Stride n h = once_double (is_some d.stride) (number_of 100000 value) (λ v. record d { stride = Some v }) h
@@ -133,10 +148,11 @@ module _ (d : Draft) (value : List (List ℕ)) where
   doubled option.Unknown n h = absurd (n refl)
 
   abbrev Worse : OptionName → Type 0
-  Worse o = (k : TaskKind) × (option_after d o value ≡ Err k) × (rank k ≤ 4)
+  Worse o = (k : TaskKind) × (option_after proved d o value ≡ Err k) × (rank k ≤ 4)
 
   bad : (o : OptionName) → o ≢ option.Unknown → (IsValue o value → ⊥) → Worse o
   bad option.Mode n h = once_bad (is_some d.mode) (mode_of value) (λ v. record d { mode = Some v }) (not_some (mode_of value) (λ a e. h (a, e)))
+  bad option.By n h = once_bad (is_some d.by) (if_proved proved (by_of value)) (λ v. record d { by = Some v }) (unproved proved (by_of value) (inl (not_some (by_of value) (λ a e. h (a, e)))))
   bad option.Skip n h = once_bad (is_some d.skip) (count_of 99999 value) (λ v. record d { skip = Some v }) (not_some (count_of 99999 value) (λ a e. h (a, e)))
   bad option.Depth n h = once_bad (is_some d.depth) (number_of 100000 value) (λ v. record d { depth = Some v }) (not_some (number_of 100000 value) (λ a e. h (a, e)))
   bad option.Stride n h = once_bad (is_some d.stride) (number_of 100000 value) (λ v. record d { stride = Some v }) (not_some (number_of 100000 value) (λ a e. h (a, e)))
@@ -146,25 +162,38 @@ module _ (d : Draft) (value : List (List ℕ)) where
   bad option.Multiclock n h = once_bad (is_some d.multiclock) (off_only (switch_of value)) (λ v. record d { multiclock = Some v }) (off_none (switch_of value) h)
   bad option.Unknown n h = absurd (n refl)
 
+  alone : proved ≡ false → Worse option.By
+  alone h = once_bad (is_some d.by) (if_proved proved (by_of value)) (λ v. record d { by = Some v }) (unproved proved (by_of value) (inr h))
+
+  abbrev Reason : Bool → Type 0 → Type 0 → TaskKind → Type 0
+  Reason had Good Alone k = ((k ≡ kind.DoubleOption) × (had ≡ true)) ⊎ ((k ≡ kind.BadValue) × ((Good → ⊥) ⊎ Alone))
+
   abbrev Why : OptionName → TaskKind → Type 0
-  Why o k = ((k ≡ kind.DoubleOption) × (is_set o d ≡ true)) ⊎ ((k ≡ kind.BadValue) × (IsValue o value → ⊥))
+  Why o k = Reason (is_set o d) (IsValue o value) ((o ≡ option.By) × (proved ≡ false)) k
 
-  none_read : {A : Type 0} (k : TaskKind) (had : Bool) (read : Option A) → ((k ≡ kind.DoubleOption) × (had ≡ true)) ⊎ ((k ≡ kind.BadValue) × (read ≡ None))
-      → ((k ≡ kind.DoubleOption) × (had ≡ true)) ⊎ ((k ≡ kind.BadValue) × ((a : A) × (read ≡ Some a) → ⊥))
-  none_read k had read (inl p) = inl p
-  none_read k had read (inr p) = inr (p.0, λ s. none_some s.0 (sym p.1 ∙ s.1))
+  none_read : {A : Type 0} (Alone : Type 0) (k : TaskKind) (had : Bool) (read : Option A) → ((k ≡ kind.DoubleOption) × (had ≡ true)) ⊎ ((k ≡ kind.BadValue) × (read ≡ None))
+      → Reason had ((a : A) × (read ≡ Some a)) Alone k
+  none_read Alone k had read (inl p) = inl p
+  none_read Alone k had read (inr p) = inr (p.0, inl (λ s. none_some s.0 (sym p.1 ∙ s.1)))
 
-  why : (o : OptionName) → o ≢ option.Unknown → (k : TaskKind) → option_after d o value ≡ Err k → Why o k
-  why option.Mode n k h = none_read k (is_some d.mode) (mode_of value) (once_why (is_some d.mode) (mode_of value) (λ v. record d { mode = Some v }) k h)
-  why option.Skip n k h = none_read k (is_some d.skip) (count_of 99999 value) (once_why (is_some d.skip) (count_of 99999 value) (λ v. record d { skip = Some v }) k h)
-  why option.Depth n k h = none_read k (is_some d.depth) (number_of 100000 value) (once_why (is_some d.depth) (number_of 100000 value) (λ v. record d { depth = Some v }) k h)
-  why option.Stride n k h = none_read k (is_some d.stride) (number_of 100000 value) (once_why (is_some d.stride) (number_of 100000 value) (λ v. record d { stride = Some v }) k h)
-  why option.Timeout n k h = none_read k (is_some d.timeout) (number_of 1000000 value) (once_why (is_some d.timeout) (number_of 1000000 value) (λ v. record d { timeout = Some v }) k h)
-  why option.Expect n k h = none_read k (is_some d.expect) (statuses_of value) (once_why (is_some d.expect) (statuses_of value) (λ v. record d { expect = Some v }) k h)
-  why option.Wait n k h = none_read k (is_some d.wait) (switch_of value) (once_why (is_some d.wait) (switch_of value) (λ v. record d { wait = Some v }) k h)
+  why : (o : OptionName) → o ≢ option.Unknown → (k : TaskKind) → option_after proved d o value ≡ Err k → Why o k
+  why option.Mode n k h = none_read ((option.Mode ≡ option.By) × (proved ≡ false)) k (is_some d.mode) (mode_of value) (once_why (is_some d.mode) (mode_of value) (λ v. record d { mode = Some v }) k h)
+  why option.By n k h = elim (once_why (is_some d.by) (if_proved proved (by_of value)) (λ v. record d { by = Some v }) k h) as (λ _. Why option.By k) [
+    | inl p ↦ inl p
+    | inr p ↦ elim (why_none proved (by_of value) p.1) as (λ _. Why option.By k) [
+      | inl none ↦ inr (p.0, inl (λ s. none_some s.0 (sym none ∙ s.1)))
+      | inr never ↦ inr (p.0, inr (refl, never))
+    ]
+  ]
+  why option.Skip n k h = none_read ((option.Skip ≡ option.By) × (proved ≡ false)) k (is_some d.skip) (count_of 99999 value) (once_why (is_some d.skip) (count_of 99999 value) (λ v. record d { skip = Some v }) k h)
+  why option.Depth n k h = none_read ((option.Depth ≡ option.By) × (proved ≡ false)) k (is_some d.depth) (number_of 100000 value) (once_why (is_some d.depth) (number_of 100000 value) (λ v. record d { depth = Some v }) k h)
+  why option.Stride n k h = none_read ((option.Stride ≡ option.By) × (proved ≡ false)) k (is_some d.stride) (number_of 100000 value) (once_why (is_some d.stride) (number_of 100000 value) (λ v. record d { stride = Some v }) k h)
+  why option.Timeout n k h = none_read ((option.Timeout ≡ option.By) × (proved ≡ false)) k (is_some d.timeout) (number_of 1000000 value) (once_why (is_some d.timeout) (number_of 1000000 value) (λ v. record d { timeout = Some v }) k h)
+  why option.Expect n k h = none_read ((option.Expect ≡ option.By) × (proved ≡ false)) k (is_some d.expect) (statuses_of value) (once_why (is_some d.expect) (statuses_of value) (λ v. record d { expect = Some v }) k h)
+  why option.Wait n k h = none_read ((option.Wait ≡ option.By) × (proved ≡ false)) k (is_some d.wait) (switch_of value) (once_why (is_some d.wait) (switch_of value) (λ v. record d { wait = Some v }) k h)
   why option.Multiclock n k h = elim (once_why (is_some d.multiclock) (off_only (switch_of value)) (λ v. record d { multiclock = Some v }) k h) as (λ _. Why option.Multiclock k) [
     | inl p ↦ inl p
-    | inr p ↦ inr (p.0, λ s. none_some false (sym p.1 ∙ ap off_only s))
+    | inr p ↦ inr (p.0, inl (λ s. none_some false (sym p.1 ∙ ap off_only s)))
   ]
   why option.Unknown n k h = absurd (n refl)
 
@@ -173,6 +202,7 @@ abbrev Spelt : List ℕ → EngineName → Type 0
 Spelt word name.Sat = word ≡ codes "sat"
 Spelt word name.Drup = word ≡ codes "drup"
 Spelt word name.Btor = word ≡ codes "btor"
+Spelt word name.Inv = word ≡ codes "inv"
 Spelt word name.Lrat = word ≡ codes "lrat"
 Spelt word name.Proof = word ≡ codes "proof"
 Spelt word name.ProofBinary = word ≡ codes "proofb"
@@ -183,7 +213,7 @@ abbrev Either : Bool → Type 0
 Either b = (b ≡ true) ⊎ (b ≡ false)
 
 spelt : (word : List ℕ) → Spelt word (engine_name word)
-spelt word = by (cases_Bool (bytes_eq word (codes "sat"))) (cases_Bool (bytes_eq word (codes "drup"))) (cases_Bool (bytes_eq word (codes "btor"))) (cases_Bool (bytes_eq word (codes "lrat"))) (cases_Bool (bytes_eq word (codes "proof"))) (cases_Bool (bytes_eq word (codes "proofb"))) (cases_Bool (bytes_eq word (codes "smtbmc"))) (cases_Bool (bytes_eq word (codes "abc"))) (cases_Bool (bytes_eq word (codes "aiger"))) (cases_Bool (bytes_eq word (codes "itp"))) (cases_Bool (bytes_eq word (codes "none")))
+spelt word = by (cases_Bool (bytes_eq word (codes "sat"))) (cases_Bool (bytes_eq word (codes "drup"))) (cases_Bool (bytes_eq word (codes "btor"))) (cases_Bool (bytes_eq word (codes "inv"))) (cases_Bool (bytes_eq word (codes "lrat"))) (cases_Bool (bytes_eq word (codes "proof"))) (cases_Bool (bytes_eq word (codes "proofb"))) (cases_Bool (bytes_eq word (codes "smtbmc"))) (cases_Bool (bytes_eq word (codes "abc"))) (cases_Bool (bytes_eq word (codes "aiger"))) (cases_Bool (bytes_eq word (codes "itp"))) (cases_Bool (bytes_eq word (codes "none")))
   where
     give : (n : EngineName) → engine_name word ≡ n → Spelt word n → Spelt word (engine_name word)
     give n e s = subst (Spelt word) (sym e) s
@@ -194,33 +224,35 @@ spelt word = by (cases_Bool (bytes_eq word (codes "sat"))) (cases_Bool (bytes_eq
     never : (other : List ℕ) → bytes_eq word other ≡ false → word ≡ other → ⊥
     never other n e = false≢true (sym n ∙ (bytes_eq-Decides word other).1 e)
 
-    by : Either (bytes_eq word (codes "sat")) → Either (bytes_eq word (codes "drup")) → Either (bytes_eq word (codes "btor")) → Either (bytes_eq word (codes "lrat")) → Either (bytes_eq word (codes "proof")) → Either (bytes_eq word (codes "proofb")) → Either (bytes_eq word (codes "smtbmc")) → Either (bytes_eq word (codes "abc")) → Either (bytes_eq word (codes "aiger")) → Either (bytes_eq word (codes "itp")) → Either (bytes_eq word (codes "none")) → Spelt word (engine_name word)
-    by (inl a) b c d e f g h i j k = give name.Sat (rw a refl) (is (codes "sat") a)
-    by (inr a) (inl b) c d e f g h i j k = give name.Drup (rw (a, b) refl) (is (codes "drup") b)
-    by (inr a) (inr b) (inl c) d e f g h i j k = give name.Btor (rw (a, b, c) refl) (is (codes "btor") c)
-    by (inr a) (inr b) (inr c) (inl d) e f g h i j k = give name.Lrat (rw (a, b, c, d) refl) (is (codes "lrat") d)
-    by (inr a) (inr b) (inr c) (inr d) (inl e) f g h i j k = give name.Proof (rw (a, b, c, d, e) refl) (is (codes "proof") e)
-    by (inr a) (inr b) (inr c) (inr d) (inr e) (inl f) g h i j k = give name.ProofBinary (rw (a, b, c, d, e, f) refl) (is (codes "proofb") f)
-    by (inr a) (inr b) (inr c) (inr d) (inr e) (inr f) (inl g) h i j k = give name.LeftOut (rw (a, b, c, d, e, f, g) refl) (inl (is (codes "smtbmc") g))
-    by (inr a) (inr b) (inr c) (inr d) (inr e) (inr f) (inr g) (inl h) i j k = give name.LeftOut (rw (a, b, c, d, e, f, g, h) refl) (inr (inl (is (codes "abc") h)))
-    by (inr a) (inr b) (inr c) (inr d) (inr e) (inr f) (inr g) (inr h) (inl i) j k = give name.LeftOut (rw (a, b, c, d, e, f, g, h, i) refl) (inr (inr (inl (is (codes "aiger") i))))
-    by (inr a) (inr b) (inr c) (inr d) (inr e) (inr f) (inr g) (inr h) (inr i) (inl j) k = give name.LeftOut (rw (a, b, c, d, e, f, g, h, i, j) refl) (inr (inr (inr (inl (is (codes "itp") j)))))
-    by (inr a) (inr b) (inr c) (inr d) (inr e) (inr f) (inr g) (inr h) (inr i) (inr j) (inl k) = give name.LeftOut (rw (a, b, c, d, e, f, g, h, i, j, k) refl) (inr (inr (inr (inr (inl (is (codes "none") k))))))
-    by (inr a) (inr b) (inr c) (inr d) (inr e) (inr f) (inr g) (inr h) (inr i) (inr j) (inr k) = give name.Unknown (rw (a, b, c, d, e, f, g, h, i, j, k) refl) other
+    by : Either (bytes_eq word (codes "sat")) → Either (bytes_eq word (codes "drup")) → Either (bytes_eq word (codes "btor")) → Either (bytes_eq word (codes "inv")) → Either (bytes_eq word (codes "lrat")) → Either (bytes_eq word (codes "proof")) → Either (bytes_eq word (codes "proofb")) → Either (bytes_eq word (codes "smtbmc")) → Either (bytes_eq word (codes "abc")) → Either (bytes_eq word (codes "aiger")) → Either (bytes_eq word (codes "itp")) → Either (bytes_eq word (codes "none")) → Spelt word (engine_name word)
+    by (inl a) b c d e f g h i j k m = give name.Sat (rw a refl) (is (codes "sat") a)
+    by (inr a) (inl b) c d e f g h i j k m = give name.Drup (rw (a, b) refl) (is (codes "drup") b)
+    by (inr a) (inr b) (inl c) d e f g h i j k m = give name.Btor (rw (a, b, c) refl) (is (codes "btor") c)
+    by (inr a) (inr b) (inr c) (inl d) e f g h i j k m = give name.Inv (rw (a, b, c, d) refl) (is (codes "inv") d)
+    by (inr a) (inr b) (inr c) (inr d) (inl e) f g h i j k m = give name.Lrat (rw (a, b, c, d, e) refl) (is (codes "lrat") e)
+    by (inr a) (inr b) (inr c) (inr d) (inr e) (inl f) g h i j k m = give name.Proof (rw (a, b, c, d, e, f) refl) (is (codes "proof") f)
+    by (inr a) (inr b) (inr c) (inr d) (inr e) (inr f) (inl g) h i j k m = give name.ProofBinary (rw (a, b, c, d, e, f, g) refl) (is (codes "proofb") g)
+    by (inr a) (inr b) (inr c) (inr d) (inr e) (inr f) (inr g) (inl h) i j k m = give name.LeftOut (rw (a, b, c, d, e, f, g, h) refl) (inl (is (codes "smtbmc") h))
+    by (inr a) (inr b) (inr c) (inr d) (inr e) (inr f) (inr g) (inr h) (inl i) j k m = give name.LeftOut (rw (a, b, c, d, e, f, g, h, i) refl) (inr (inl (is (codes "abc") i)))
+    by (inr a) (inr b) (inr c) (inr d) (inr e) (inr f) (inr g) (inr h) (inr i) (inl j) k m = give name.LeftOut (rw (a, b, c, d, e, f, g, h, i, j) refl) (inr (inr (inl (is (codes "aiger") j))))
+    by (inr a) (inr b) (inr c) (inr d) (inr e) (inr f) (inr g) (inr h) (inr i) (inr j) (inl k) m = give name.LeftOut (rw (a, b, c, d, e, f, g, h, i, j, k) refl) (inr (inr (inr (inl (is (codes "itp") k)))))
+    by (inr a) (inr b) (inr c) (inr d) (inr e) (inr f) (inr g) (inr h) (inr i) (inr j) (inr k) (inl m) = give name.LeftOut (rw (a, b, c, d, e, f, g, h, i, j, k, m) refl) (inr (inr (inr (inr (inl (is (codes "none") m))))))
+    by (inr a) (inr b) (inr c) (inr d) (inr e) (inr f) (inr g) (inr h) (inr i) (inr j) (inr k) (inr m) = give name.Unknown (rw (a, b, c, d, e, f, g, h, i, j, k, m) refl) other
       where
         other : Among (codes "sat" ∷ program_engines ++ left_out_engines) word → ⊥
         other (inl s) = never (codes "sat") a s
         other (inr (inl s)) = never (codes "drup") b s
         other (inr (inr (inl s))) = never (codes "btor") c s
-        other (inr (inr (inr (inl s)))) = never (codes "lrat") d s
-        other (inr (inr (inr (inr (inl s))))) = never (codes "proof") e s
-        other (inr (inr (inr (inr (inr (inl s)))))) = never (codes "proofb") f s
-        other (inr (inr (inr (inr (inr (inr (inl s))))))) = never (codes "smtbmc") g s
-        other (inr (inr (inr (inr (inr (inr (inr (inl s)))))))) = never (codes "abc") h s
-        other (inr (inr (inr (inr (inr (inr (inr (inr (inl s))))))))) = never (codes "aiger") i s
-        other (inr (inr (inr (inr (inr (inr (inr (inr (inr (inl s)))))))))) = never (codes "itp") j s
-        other (inr (inr (inr (inr (inr (inr (inr (inr (inr (inr (inl s))))))))))) = never (codes "none") k s
-        other (inr (inr (inr (inr (inr (inr (inr (inr (inr (inr (inr s))))))))))) = absurd s
+        other (inr (inr (inr (inl s)))) = never (codes "inv") d s
+        other (inr (inr (inr (inr (inl s))))) = never (codes "lrat") e s
+        other (inr (inr (inr (inr (inr (inl s)))))) = never (codes "proof") f s
+        other (inr (inr (inr (inr (inr (inr (inl s))))))) = never (codes "proofb") g s
+        other (inr (inr (inr (inr (inr (inr (inr (inl s)))))))) = never (codes "smtbmc") h s
+        other (inr (inr (inr (inr (inr (inr (inr (inr (inl s))))))))) = never (codes "abc") i s
+        other (inr (inr (inr (inr (inr (inr (inr (inr (inr (inl s)))))))))) = never (codes "aiger") j s
+        other (inr (inr (inr (inr (inr (inr (inr (inr (inr (inr (inl s))))))))))) = never (codes "itp") k s
+        other (inr (inr (inr (inr (inr (inr (inr (inr (inr (inr (inr (inl s)))))))))))) = never (codes "none") m s
+        other (inr (inr (inr (inr (inr (inr (inr (inr (inr (inr (inr (inr s)))))))))))) = absurd s
 
 -- what an engine line that is refused says
 abbrev EngineFault : List (List ℕ) → TaskKind → Type 0
@@ -305,9 +337,10 @@ module _ (words : List (List ℕ)) where
       subst (EngineFault words) (sym p.0) (inl (arguments, w ∙ ap (λ (x : List ℕ). x ∷ arguments) s, p.1))
   named_why word arguments k w name.Drup s h = program_why engine.Drup word arguments k w (contained program_engines word (inl s)) h
   named_why word arguments k w name.Btor s h = program_why engine.Btor word arguments k w (contained program_engines word (inr (inl s))) h
-  named_why word arguments k w name.Lrat s h = program_why engine.Lrat word arguments k w (contained program_engines word (inr (inr (inl s)))) h
-  named_why word arguments k w name.Proof s h = marks_why engine.Proof word arguments k w (inl s) (contained program_engines word (inr (inr (inr (inl s))))) h
-  named_why word arguments k w name.ProofBinary s h = marks_why engine.ProofBinary word arguments k w (inr s) (contained program_engines word (inr (inr (inr (inr (inl s)))))) h
+  named_why word arguments k w name.Inv s h = program_why engine.Inv word arguments k w (contained program_engines word (inr (inr (inl s)))) h
+  named_why word arguments k w name.Lrat s h = program_why engine.Lrat word arguments k w (contained program_engines word (inr (inr (inr (inl s))))) h
+  named_why word arguments k w name.Proof s h = marks_why engine.Proof word arguments k w (inl s) (contained program_engines word (inr (inr (inr (inr (inl s)))))) h
+  named_why word arguments k w name.ProofBinary s h = marks_why engine.ProofBinary word arguments k w (inr s) (contained program_engines word (inr (inr (inr (inr (inr (inl s))))))) h
   named_why word arguments k w name.LeftOut s h = to_fault kind.LeftOutEngine k h (word, arguments, w, contained left_out_engines word s)
   named_why word arguments k w name.Unknown s h = to_fault kind.UnknownEngine k h (λ other rest e c. s (among (codes "sat" ∷ program_engines ++ left_out_engines) word (subst (Contains (codes "sat" ∷ program_engines ++ left_out_engines)) (sym (same_head word other arguments rest (sym w ∙ e))) c)))
 
@@ -322,7 +355,8 @@ program_refused word (inr (inl e)) = ap (λ (w : List ℕ). engine_of (w ∷ [])
 program_refused word (inr (inr (inl e))) = ap (λ (w : List ℕ). engine_of (w ∷ [])) e
 program_refused word (inr (inr (inr (inl e)))) = ap (λ (w : List ℕ). engine_of (w ∷ [])) e
 program_refused word (inr (inr (inr (inr (inl e))))) = ap (λ (w : List ℕ). engine_of (w ∷ [])) e
-program_refused word (inr (inr (inr (inr (inr e))))) = absurd e
+program_refused word (inr (inr (inr (inr (inr (inl e)))))) = ap (λ (w : List ℕ). engine_of (w ∷ [])) e
+program_refused word (inr (inr (inr (inr (inr (inr e)))))) = absurd e
 
 left_out_refused : (word : List ℕ) (arguments : List (List ℕ)) → Among left_out_engines word → engine_of (word ∷ arguments) ≡ Err kind.LeftOutEngine
 left_out_refused word arguments (inl e) = ap (λ (w : List ℕ). engine_of (w ∷ arguments)) e
@@ -343,10 +377,11 @@ unknown_refused (word ∷ arguments) f = by (engine_name word) (spelt word) refl
     by name.Sat s e = absurd (known (inl s))
     by name.Drup s e = absurd (known (inr (inl s)))
     by name.Btor s e = absurd (known (inr (inr (inl s))))
-    by name.Lrat s e = absurd (known (inr (inr (inr (inl s)))))
-    by name.Proof s e = absurd (known (inr (inr (inr (inr (inl s))))))
-    by name.ProofBinary s e = absurd (known (inr (inr (inr (inr (inr (inl s)))))))
-    by name.LeftOut s e = absurd (known (inr (inr (inr (inr (inr (inr s)))))))
+    by name.Inv s e = absurd (known (inr (inr (inr (inl s)))))
+    by name.Lrat s e = absurd (known (inr (inr (inr (inr (inl s))))))
+    by name.Proof s e = absurd (known (inr (inr (inr (inr (inr (inl s)))))))
+    by name.ProofBinary s e = absurd (known (inr (inr (inr (inr (inr (inr (inl s))))))))
+    by name.LeftOut s e = absurd (known (inr (inr (inr (inr (inr (inr (inr s))))))))
     by name.Unknown s e = rw e refl
 
 marks_refused : (words : List (List ℕ)) → LacksMarks words → engine_of words ≡ Err kind.Marks
@@ -392,14 +427,15 @@ module _ (files : List StoredFile) (all before : List Row) (d : Draft) (said : d
   told_by word read o (inr some) = inr (set_stands word (λ value. read value ≡ Some some.0) before some.2, ap is_some some.1)
 
   pub told : (o : OptionName) → o ≢ option.Unknown → Told (spelled o) (is_set o d)
-  told option.Mode n = told_by (codes "mode") mode_of d.mode (answer files all option.Mode (λ i. cc) refl (λ x. x.mode) mode_of mode_says (λ x e. refl) (λ x s. refl) before blank d said refl)
-  told option.Skip n = told_by (codes "skip") (λ value. count_of 99999 value) d.skip (answer files all option.Skip (λ i. cc) refl (λ x. x.skip) (λ value. count_of 99999 value) skip_says (λ x e. refl) (λ x s. refl) before blank d said refl)
-  told option.Depth n = told_by (codes "depth") (λ value. number_of 100000 value) d.depth (answer files all option.Depth (λ i. cc) refl (λ x. x.depth) (λ value. number_of 100000 value) depth_says (λ x e. refl) (λ x s. refl) before blank d said refl)
-  told option.Stride n = told_by (codes "stride") (λ value. number_of 100000 value) d.stride (answer files all option.Stride (λ i. cc) refl (λ x. x.stride) (λ value. number_of 100000 value) stride_says (λ x e. refl) (λ x s. refl) before blank d said refl)
-  told option.Timeout n = told_by (codes "timeout") (λ value. number_of 1000000 value) d.timeout (answer files all option.Timeout (λ i. cc) refl (λ x. x.timeout) (λ value. number_of 1000000 value) timeout_says (λ x e. refl) (λ x s. refl) before blank d said refl)
-  told option.Expect n = told_by (codes "expect") statuses_of d.expect (answer files all option.Expect (λ i. cc) refl (λ x. x.expect) statuses_of expect_says (λ x e. refl) (λ x s. refl) before blank d said refl)
-  told option.Wait n = told_by (codes "wait") switch_of d.wait (answer files all option.Wait (λ i. cc) refl (λ x. x.wait) switch_of wait_says (λ x e. refl) (λ x s. refl) before blank d said refl)
-  told option.Multiclock n = told_by (codes "multiclock") (λ value. off_only (switch_of value)) d.multiclock (answer files all option.Multiclock (λ i. cc) refl (λ x. x.multiclock) (λ value. off_only (switch_of value)) multiclock_says (λ x e. refl) (λ x s. refl) before blank d said refl)
+  told option.Mode n = told_by (codes "mode") mode_of d.mode (answer files all option.Mode (λ i. cc) refl (λ x. x.mode) mode_of (mode_says (is_proved all)) (λ x e. refl) (λ x s. refl) before blank d said refl)
+  told option.By n = told_by (codes "by") by_of d.by (answer files all option.By (λ i. cc) refl (λ x. x.by) by_of (by_says (is_proved all)) (λ x e. refl) (λ x s. refl) before blank d said refl)
+  told option.Skip n = told_by (codes "skip") (λ value. count_of 99999 value) d.skip (answer files all option.Skip (λ i. cc) refl (λ x. x.skip) (λ value. count_of 99999 value) (skip_says (is_proved all)) (λ x e. refl) (λ x s. refl) before blank d said refl)
+  told option.Depth n = told_by (codes "depth") (λ value. number_of 100000 value) d.depth (answer files all option.Depth (λ i. cc) refl (λ x. x.depth) (λ value. number_of 100000 value) (depth_says (is_proved all)) (λ x e. refl) (λ x s. refl) before blank d said refl)
+  told option.Stride n = told_by (codes "stride") (λ value. number_of 100000 value) d.stride (answer files all option.Stride (λ i. cc) refl (λ x. x.stride) (λ value. number_of 100000 value) (stride_says (is_proved all)) (λ x e. refl) (λ x s. refl) before blank d said refl)
+  told option.Timeout n = told_by (codes "timeout") (λ value. number_of 1000000 value) d.timeout (answer files all option.Timeout (λ i. cc) refl (λ x. x.timeout) (λ value. number_of 1000000 value) (timeout_says (is_proved all)) (λ x e. refl) (λ x s. refl) before blank d said refl)
+  told option.Expect n = told_by (codes "expect") statuses_of d.expect (answer files all option.Expect (λ i. cc) refl (λ x. x.expect) statuses_of (expect_says (is_proved all)) (λ x e. refl) (λ x s. refl) before blank d said refl)
+  told option.Wait n = told_by (codes "wait") switch_of d.wait (answer files all option.Wait (λ i. cc) refl (λ x. x.wait) switch_of (wait_says (is_proved all)) (λ x e. refl) (λ x s. refl) before blank d said refl)
+  told option.Multiclock n = told_by (codes "multiclock") (λ value. off_only (switch_of value)) d.multiclock (answer files all option.Multiclock (λ i. cc) refl (λ x. x.multiclock) (λ value. off_only (switch_of value)) (multiclock_says (is_proved all)) (λ x e. refl) (λ x s. refl) before blank d said refl)
   told option.Unknown n = absurd (n refl)
 
   set_before : (o : OptionName) → o ≢ option.Unknown → HasOption (spelled o) before → is_set o d ≡ true
@@ -436,10 +472,10 @@ module _ (files : List StoredFile) (all before : List Row) (d : Draft) (said : d
     as_kind : (j k : TaskKind) → ◌≡◌ {A = Result Draft TaskKind} (Err j) (Err k) → Is j → Is k
     as_kind j k h f = subst Is (err_same j k h) f
 
-    option_fault : (word : List ℕ) (value : List (List ℕ)) (k : TaskKind) → row.section ≡ Options → row.words ≡ word ∷ value → option_after d (option_name word) value ≡ Err k → Is k
+    option_fault : (word : List ℕ) (value : List (List ℕ)) (k : TaskKind) → row.section ≡ Options → row.words ≡ word ∷ value → option_after (is_proved all) d (option_name word) value ≡ Err k → Is k
     option_fault word value k s w h = elim (known_or (option_name word)) as (λ _. Is k) [
       | inl u ↦ as_kind kind.UnknownOption k (rw u at h) (s, never u)
-      | inr known ↦ by known (why d value (option_name word) known k h)
+      | inr known ↦ by known (why (is_proved all) d value (option_name word) known k h)
     ]
       where
         never : option_name word ≡ option.Unknown → (o : OptionName) (other : List (List ℕ)) → SetsOption o other row → ⊥
@@ -447,12 +483,15 @@ module _ (files : List StoredFile) (all before : List Row) (d : Draft) (said : d
             let same : word ≡ spelled o = same_head word (spelled o) value other (sym w ∙ v) in
             known (sym (own_name o known) ∙ ap option_name (sym same) ∙ u)
 
-        by : option_name word ≢ option.Unknown → Why d value (option_name word) k → Is k
+        by : option_name word ≢ option.Unknown → Why (is_proved all) d value (option_name word) k → Is k
         by known reason =
             let sets : SetsOption (option_name word) value row = (known, (s, w ∙ ap (λ (x : List ℕ). x ∷ value) (is_spelled word (option_name word) known refl))) in
             elim reason as (λ _. Is k) [
               | inl p ↦ subst Is (sym p.0) (option_name word, value, sets, before_set (option_name word) known p.1)
-              | inr p ↦ subst Is (sym p.0) (inl (option_name word, value, sets, p.1))
+              | inr p ↦ elim p.1 as (λ _. Is k) [
+                | inl never ↦ subst Is (sym p.0) (inl (inl (option_name word, value, sets, never)))
+                | inr alone ↦ subst Is (sym p.0) (inl (inr (value, subst (λ (o : OptionName). SetsOption o value row) alone.0 sets, proved_none all alone.1)))
+              ]
             ]
 
     of_engine : (k : TaskKind) → row.section ≡ Engines → EngineFault row.words k → Is k
@@ -532,7 +571,7 @@ module _ (files : List StoredFile) (all before : List Row) (d : Draft) (said : d
     abbrev Refused : TaskKind → Type 0
     Refused j = (k : TaskKind) × (after ≡ Err k) × (rank k ≤ rank j)
 
-    option_at : (o : OptionName) (value : List (List ℕ)) → SetsOption o value row → after ≡ option_after d o value
+    option_at : (o : OptionName) (value : List (List ℕ)) → SetsOption o value row → after ≡ option_after (is_proved all) d o value
     option_at o value (known, (s, w)) = rw (s, w, own_name o known) refl
 
     at_engine : (j : TaskKind) → row.section ≡ Engines → EngineFault row.words j → 1 ≤ rank j → Refused j
@@ -583,8 +622,9 @@ module _ (files : List StoredFile) (all before : List Row) (d : Draft) (said : d
           | inr known ↦ absurd (never (option_name word) value (known, (s, w ∙ ap (λ (x : List ℕ). x ∷ value) (is_spelled word (option_name word) known refl))))
         ]
     is_refused kind.DoubleOption (o, value, sets, had) =
-        (kind.DoubleOption, option_at o value sets ∙ doubled d value o sets.0 (set_before o sets.0 had), omega arith)
-    is_refused kind.BadValue (inl (o, value, sets, never)) = let r = bad d value o sets.0 never in (r.0, option_at o value sets ∙ r.1, r.2)
+        (kind.DoubleOption, option_at o value sets ∙ doubled (is_proved all) d value o sets.0 (set_before o sets.0 had), omega arith)
+    is_refused kind.BadValue (inl (inl (o, value, sets, never))) = let r = bad (is_proved all) d value o sets.0 never in (r.0, option_at o value sets ∙ r.1, r.2)
+    is_refused kind.BadValue (inl (inr (value, sets, never))) = let r = alone (is_proved all) d value (none_proved all never) in (r.0, option_at option.By value sets ∙ r.1, r.2)
     is_refused kind.BadValue (inr (inl (value, is, never))) = at_engine kind.BadValue is.0 (inl (value, is.1, never)) (omega arith)
     is_refused kind.BadValue (inr (inr (inl (word, is, c)))) = at_engine kind.BadValue is.0 (inr (word, is.1, c)) (omega arith)
     is_refused kind.BadValue (inr (inr (inr (s, many)))) =

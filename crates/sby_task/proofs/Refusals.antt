@@ -8,6 +8,7 @@ use Rattle.sby_file.specs.Config.{ConfigOf}
 use Rattle.sby_task.specs.Values.{mode_of}
 use Rattle.sby_task.specs.Marks.{IsMarked}
 use Rattle.sby_task.specs.Draft.{blank, option_name}
+use Rattle.sby_task.specs.Proved.{is_proved}
 use Rattle.sby_task.specs.Expand.{drafted, expansion, Expand}
 use Rattle.sby_task.specs.Said.{AreKept, IsSet, SaysSpan, AreRefused, LacksMarks}
 use Rattle.sby_file.specs.declared.config.Row.{Row}
@@ -33,7 +34,7 @@ between (first ∷ rows) row (suc k, lt, at) = let p = between rows row (k, omeg
 
 module _ (files : List StoredFile) (all : List Row) where
   line_marked : (m n : Draft) (row : Row) → RowSays files all m row n → All IsMarked m.engines → All IsMarked n.engines
-  line_marked m n row (option_line name value s w h) a = subst (All IsMarked) (sym (beside_options m (option_name name) value n h).0) a
+  line_marked m n row (option_line name value s w h) a = subst (All IsMarked) (sym (beside_options (is_proved all) m (option_name name) value n h).0) a
   line_marked m n row (engine_line x s w h) a = subst (All IsMarked) (sym (ap (λ (y : Draft). y.engines) h)) (All-push IsMarked m.engines x a (engine_marked row.words x w))
   line_marked m n row (script_line name s w none there h) a = subst (All IsMarked) (sym (ap (λ (y : Draft). y.engines) h)) a
   line_marked m n row (other_line p q r h) a = subst (All IsMarked) (sym (ap (λ (y : Draft). y.engines) h)) a

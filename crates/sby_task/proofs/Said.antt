@@ -11,17 +11,19 @@ use Rattle.sby_terms.specs.declared.names.Status.TheVariants.{Pass}
 use Rattle.sby_file.specs.Names.{has}
 use Rattle.sby_file.specs.Config.{ConfigOf}
 use Rattle.sby_task.specs.Scope.{kept}
-use Rattle.sby_task.specs.Values.{mode_of, number_of, statuses_of, switch_of}
+use Rattle.sby_task.specs.Values.{by_of, mode_by, mode_of, number_of, statuses_of, switch_of}
 use Rattle.sby_task.specs.Engines.{engine_of}
 use Rattle.sby_task.specs.Draft.{blank, option_name, option_after}
 use Rattle.sby_task.specs.Files.{bytes_in}
+use Rattle.sby_task.specs.Proved.{is_proved}
 use Rattle.sby_task.specs.Task.{row_after, is_found}
 use Rattle.sby_task.specs.Expand.{design_path, at_number, drafted, expected, with_span, with_design, with_mode, finish, task_of, expanded, asked_text, Expand}
 use Rattle.sby_task.specs.Cycles.{span_of}
 use Rattle.sby_task.specs.Faulty.{spelled}
-use Rattle.sby_task.specs.Said.{AreKept, IsOption, IsUnset, IsSet, HasDesign, is_engines, engine_lines, is_script, script_lines}
+use Rattle.sby_task.specs.Said.{AreKept, IsOption, IsUnset, IsSet, HasDesign, SaysMode, is_engines, engine_lines, is_script, script_lines}
 use Rattle.sby_file.specs.declared.config.Row.{Row}
 use Rattle.sby_file.specs.declared.config.StoredFile.{StoredFile}
+use Rattle.sby_task.specs.declared.draft.By.{By}
 use Rattle.sby_task.specs.declared.draft.Draft.{Draft}
 use Rattle.sby_task.specs.declared.draft.OptionName.{OptionName}
 use Rattle.sby_task.specs.declared.draft.OptionName.TheVariants as option
@@ -31,7 +33,7 @@ use Rattle.sby_file.specs.declared.section.Section.TheVariants.{Nowhere, Tasks, 
 use Rattle.sby_task.specs.declared.task_fault.TaskFault.{TaskFault}
 use Rattle.sby_task.specs.declared.task_fault.TaskKind.{TaskKind}
 use Rattle.sby_task.proofs.Designs.{first_or_later, design_is}
-use Rattle.sby_task.proofs.RowsSaid.{RowSays, option_line, engine_line, script_line, other_line, row_says, OptionSays, is_spelled, ok_same, err_ok, none_some, some_same, mode_says, timeout_says, expect_says, wait_says, beside_options}
+use Rattle.sby_task.proofs.RowsSaid.{RowSays, option_line, engine_line, script_line, other_line, row_says, OptionSays, is_spelled, ok_same, err_ok, none_some, some_same, by_says, mode_says, timeout_says, expect_says, wait_says, beside_options}
 
 pub drafted_err : (files : List StoredFile) (all rows : List Row) (f : TaskFault) → drafted files all (Err f) rows ≡ Err f
 drafted_err files all [] f = refl
@@ -47,7 +49,7 @@ module _ (files : List StoredFile) (all : List Row) where
       by (Ok m) is g = (m, row_says files all d row m is, g)
 
   module _ {A : Type 0} (this : OptionName) (known : this ≡ option.Unknown → ⊥) (own : option_name (spelled this) ≡ this) (f : Draft → Option A) (read : List (List ℕ) → Option A)
-      (says : (o : OptionName) (d : Draft) (value : List (List ℕ)) (e : Draft) → option_after d o value ≡ Ok e → OptionSays this f read o d value e)
+      (says : (o : OptionName) (d : Draft) (value : List (List ℕ)) (e : Draft) → option_after (is_proved all) d o value ≡ Ok e → OptionSays this f read o d value e)
       (engines_kept : (d : Draft) (engines : List Engine) → f (record d { engines = engines }) ≡ f d) (script_kept : (d : Draft) (script : Option (List ℕ)) → f (record d { script = script }) ≡ f d) where
     abbrev Sets : Draft → Row → Draft → Type 0
     Sets d row e = (value : List (List ℕ)) × IsOption (spelled this) value row × (f d ≡ None) × (v : A) × (read value ≡ Some v) × (f e ≡ Some v)
@@ -146,8 +148,8 @@ module _ (files : List StoredFile) (all : List Row) where
           options_are : Options ≡ Engines → ⊥
           options_are i = cc
 
-          kept_by : (o : OptionName) (value : List (List ℕ)) → option_after d o value ≡ Ok m → m.engines ≡ d.engines
-          kept_by o value k = (beside_options d o value m k).0
+          kept_by : (o : OptionName) (value : List (List ℕ)) → option_after (is_proved all) d o value ≡ Ok m → m.engines ≡ d.engines
+          kept_by o value k = (beside_options (is_proved all) d o value m k).0
       by m (engine_line x s w k) =
           ap (λ (l : List Engine). map Ok l ++ read_all rows) (ap (λ (y : Draft). y.engines) k)
           ∙ ap (λ l. l ++ read_all rows) (map-append Ok d.engines (x ∷ [])) ∙ append_assoc (kept_all d) (Ok x ∷ []) (read_all rows)
@@ -173,7 +175,7 @@ module _ (files : List StoredFile) (all : List Row) where
   Names d row e = (name : List ℕ) × (row.section ≡ Script) × (row.words ≡ codes "read_rtlil" ∷ name ∷ []) × (d.script ≡ None) × (is_found files all name ≡ true) × (e.script ≡ Some name)
 
   row_names : (d : Draft) (row : Row) (e : Draft) → RowSays files all d row e → Names d row e ⊎ ((row.section ≡ Script → ⊥) × (e.script ≡ d.script))
-  row_names d row e (option_line word value s w h) = inr (no, (beside_options d (option_name word) value e h).1)
+  row_names d row e (option_line word value s w h) = inr (no, (beside_options (is_proved all) d (option_name word) value e h).1)
     where
       no : row.section ≡ Script → ⊥
       no i = options_are (sym s ∙ i)
@@ -233,8 +235,10 @@ module _ (files : List StoredFile) (all : List Row) where
       ]
 
 pub record Finishes (files : List StoredFile) (rows : List Row) (name : List ℕ) (d : Draft) (t : Task) : Type 0 where
-  pub mode : d.mode ≡ Some t.mode
-  pub span : span_of t.mode d.skip d.depth d.stride ≡ Some t.span
+  pub said : modes.Mode
+  pub mode : d.mode ≡ Some said
+  pub by : t.mode ≡ mode_by said d.by
+  pub span : span_of said d.skip d.depth d.stride ≡ Some t.span
   pub timeout : t.timeout ≡ d.timeout
   pub expect : t.expect ≡ expected d.expect
   pub wait : t.wait ≡ unwrap_or d.wait false
@@ -249,10 +253,10 @@ module _ (files : List StoredFile) (rows : List Row) (name : List ℕ) (d : Draf
   by_span mode design m k (Some span) e h =
       let is = ok_same _ t h in
       record {
-        mode = m ∙ ap (λ (x : Task). Some x.mode) is;
-        span =
-            ap (λ (x : modes.Mode). span_of x d.skip d.depth d.stride) (ap (λ (x : Task). x.mode) (sym is))
-            ∙ e ∙ ap (λ (x : Task). Some x.span) is;
+        said = mode;
+        mode = m;
+        by = ap (λ (x : Task). x.mode) (sym is);
+        span = e ∙ ap (λ (x : Task). Some x.span) is;
         timeout = ap (λ (x : Task). x.timeout) (sym is);
         expect = ap (λ (x : Task). x.expect) (sym is);
         wait = ap (λ (x : Task). x.wait) (sym is);
@@ -293,18 +297,30 @@ module _ (c : ConfigOf) (asked : Option (List ℕ)) (t : Task) (rows : List Row)
   ends : Finishes c.files rows (asked_text asked) d t
   ends = (drafted_from c asked t rows h k).2
 
-  pub mode_said : IsSet (codes "mode") (λ value. mode_of value ≡ Some t.mode) rows
-  mode_said = elim (answer c.files rows option.Mode (λ i. cc) refl (λ x. x.mode) mode_of mode_says (λ x e. refl) (λ x s. refl) rows blank d said refl) as (λ _. IsSet (codes "mode") (λ value. mode_of value ≡ Some t.mode) rows) [
-    | inl none ↦ absurd (none_some t.mode (sym none.1 ∙ ends.mode))
-    | inr some ↦ subst (λ (m : modes.Mode). IsSet (codes "mode") (λ value. mode_of value ≡ Some m) rows) (some_same some.0 t.mode (sym some.1 ∙ ends.mode)) some.2
+  is_said : IsSet (codes "mode") (λ value. mode_of value ≡ Some ends.said) rows
+  is_said = elim (answer c.files rows option.Mode (λ i. cc) refl (λ x. x.mode) mode_of (mode_says (is_proved rows)) (λ x e. refl) (λ x s. refl) rows blank d said refl) as (λ _. IsSet (codes "mode") (λ value. mode_of value ≡ Some ends.said) rows) [
+    | inl none ↦ absurd (none_some ends.said (sym none.1 ∙ ends.mode))
+    | inr some ↦ subst (λ (m : modes.Mode). IsSet (codes "mode") (λ value. mode_of value ≡ Some m) rows) (some_same some.0 ends.said (sym some.1 ∙ ends.mode)) some.2
   ]
+
+  abbrev Bys : Type 0
+  Bys = ((b : By) × (d.by ≡ Some b) × IsSet (codes "by") (λ value. by_of value ≡ Some b) rows) ⊎ (IsUnset (codes "by") rows × (d.by ≡ None))
+
+  is_by : Bys
+  is_by = elim (answer c.files rows option.By (λ i. cc) refl (λ x. x.by) by_of (by_says (is_proved rows)) (λ x e. refl) (λ x s. refl) rows blank d said refl) as (λ _. Bys) [
+    | inl none ↦ inr none
+    | inr some ↦ inl some
+  ]
+
+  pub mode_said : SaysMode rows t.mode
+  mode_said = record { said = ends.said; by = d.by; is_said = is_said; is_by = is_by; is = ends.by }
 
   abbrev Timeout : Type 0
   Timeout =
       ((n : ℕ) × (t.timeout ≡ Some n) × IsSet (codes "timeout") (λ value. number_of 1000000 value ≡ Some n) rows) ⊎ (IsUnset (codes "timeout") rows × (t.timeout ≡ None))
 
   pub timeout_said : Timeout
-  timeout_said = elim (answer c.files rows option.Timeout (λ i. cc) refl (λ x. x.timeout) (λ value. number_of 1000000 value) timeout_says (λ x e. refl) (λ x s. refl) rows blank d said refl) as (λ _. Timeout) [
+  timeout_said = elim (answer c.files rows option.Timeout (λ i. cc) refl (λ x. x.timeout) (λ value. number_of 1000000 value) (timeout_says (is_proved rows)) (λ x e. refl) (λ x s. refl) rows blank d said refl) as (λ _. Timeout) [
     | inl none ↦ inr (none.0, ends.timeout ∙ none.1)
     | inr some ↦ inl (some.0, ends.timeout ∙ some.1, some.2)
   ]
@@ -313,7 +329,7 @@ module _ (c : ConfigOf) (asked : Option (List ℕ)) (t : Task) (rows : List Row)
   Expected = IsSet (codes "expect") (λ value. statuses_of value ≡ Some t.expect) rows ⊎ (IsUnset (codes "expect") rows × (t.expect ≡ Pass ∷ []))
 
   pub expect_said : Expected
-  expect_said = elim (answer c.files rows option.Expect (λ i. cc) refl (λ x. x.expect) statuses_of expect_says (λ x e. refl) (λ x s. refl) rows blank d said refl) as (λ _. Expected) [
+  expect_said = elim (answer c.files rows option.Expect (λ i. cc) refl (λ x. x.expect) statuses_of (expect_says (is_proved rows)) (λ x e. refl) (λ x s. refl) rows blank d said refl) as (λ _. Expected) [
     | inl none ↦ inr (none.0, ends.expect ∙ ap expected none.1)
     | inr some ↦ inl (subst (λ (s : List Status). IsSet (codes "expect") (λ value. statuses_of value ≡ Some s) rows) (sym (ends.expect ∙ ap expected some.1)) some.2)
   ]
@@ -322,7 +338,7 @@ module _ (c : ConfigOf) (asked : Option (List ℕ)) (t : Task) (rows : List Row)
   Waits = IsSet (codes "wait") (λ value. switch_of value ≡ Some t.wait) rows ⊎ (IsUnset (codes "wait") rows × (t.wait ≡ false))
 
   pub wait_said : Waits
-  wait_said = elim (answer c.files rows option.Wait (λ i. cc) refl (λ x. x.wait) switch_of wait_says (λ x e. refl) (λ x s. refl) rows blank d said refl) as (λ _. Waits) [
+  wait_said = elim (answer c.files rows option.Wait (λ i. cc) refl (λ x. x.wait) switch_of (wait_says (is_proved rows)) (λ x e. refl) (λ x s. refl) rows blank d said refl) as (λ _. Waits) [
     | inl none ↦ inr (none.0, ends.wait ∙ ap (λ (o : Option Bool). unwrap_or o false) none.1)
     | inr some ↦ inl (subst (λ (b : Bool). IsSet (codes "wait") (λ value. switch_of value ≡ Some b) rows) (sym (ends.wait ∙ ap (λ (o : Option Bool). unwrap_or o false) some.1)) some.2)
   ]

@@ -2,7 +2,7 @@
 use Rattle.std.specs.Prelude.{◌≡◌, ℕ, ◌-◌, ◌*◌, ◌≤◌, Bool, true, cond, not, ◌&&◌, ◌||◌, leb, ltb, Option, Some, None, is_some, unwrap_or}
 use Rattle.sby_terms.specs.Span.{IsSpan, whole}
 use Rattle.sby_terms.specs.declared.names.Mode.{Mode}
-use Rattle.sby_terms.specs.declared.names.Mode.TheVariants.{Bmc, Prove, Cover}
+use Rattle.sby_terms.specs.declared.names.Mode.TheVariants.{Bmc, Prove, ProveInv, Cover}
 use Rattle.sby_terms.specs.declared.span.Span.{Span}
 
 -- what the options say: no cycle is skipped, 20 is the depth, and there is one slice where nothing is said
@@ -13,6 +13,7 @@ said_span skip depth stride = record { skip = unwrap_or skip 0; depth = unwrap_o
 abbrev pub may_slice : Mode → Option ℕ → Option ℕ → Bool
 may_slice Bmc skip stride = true
 may_slice Prove skip stride = not (is_some skip || is_some stride)
+may_slice ProveInv skip stride = not (is_some skip || is_some stride)
 may_slice Cover skip stride = not (is_some skip || is_some stride)
 
 -- 1,000 slices have at least these cycles

@@ -5,7 +5,7 @@ use Rattle.sby_terms.specs.declared.engine.Engine.TheVariants as engine
 use Rattle.sby_task.specs.Values.{number_of}
 use Rattle.sby_task.specs.Marks.{are_marked}
 use Rattle.sby_task.specs.declared.engines.EngineName.{EngineName}
-use Rattle.sby_task.specs.declared.engines.EngineName.TheVariants.{Sat, Drup, Btor, Lrat, Proof, ProofBinary, LeftOut, Unknown}
+use Rattle.sby_task.specs.declared.engines.EngineName.TheVariants.{Sat, Drup, Btor, Inv, Lrat, Proof, ProofBinary, LeftOut, Unknown}
 use Rattle.sby_task.specs.declared.task_fault.TaskKind.{TaskKind}
 use Rattle.sby_task.specs.declared.task_fault.TaskKind.TheVariants.{BadValue, LeftOutEngine, UnknownEngine, Marks}
 
@@ -15,13 +15,14 @@ engine_name word =
     cond (bytes_eq word (codes "sat")) Sat
     (cond (bytes_eq word (codes "drup")) Drup
     (cond (bytes_eq word (codes "btor")) Btor
+    (cond (bytes_eq word (codes "inv")) Inv
     (cond (bytes_eq word (codes "lrat")) Lrat
     (cond (bytes_eq word (codes "proof")) Proof
     (cond (bytes_eq word (codes "proofb")) ProofBinary
     (cond (bytes_eq word (codes "smtbmc")) LeftOut
     (cond (bytes_eq word (codes "abc")) LeftOut
     (cond (bytes_eq word (codes "aiger")) LeftOut
-    (cond (bytes_eq word (codes "itp")) LeftOut (cond (bytes_eq word (codes "none")) LeftOut Unknown))))))))))
+    (cond (bytes_eq word (codes "itp")) LeftOut (cond (bytes_eq word (codes "none")) LeftOut Unknown)))))))))))
 
 abbrev pub with_conflicts : Option ℕ → Result Engine TaskKind
 with_conflicts None = Err BadValue
@@ -46,6 +47,7 @@ abbrev pub engine_from : EngineName → List (List ℕ) → Result Engine TaskKi
 engine_from Sat arguments = sat_of arguments
 engine_from Drup arguments = program_of engine.Drup arguments
 engine_from Btor arguments = program_of engine.Btor arguments
+engine_from Inv arguments = program_of engine.Inv arguments
 engine_from Lrat arguments = program_of engine.Lrat arguments
 engine_from Proof arguments = marked_of engine.Proof arguments
 engine_from ProofBinary arguments = marked_of engine.ProofBinary arguments

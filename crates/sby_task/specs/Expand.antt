@@ -11,6 +11,7 @@ use Rattle.sby_task.specs.Draft.{blank}
 use Rattle.sby_task.specs.Files.{path_in, bytes_in}
 use Rattle.sby_task.specs.Task.{row_after}
 use Rattle.sby_task.specs.Cycles.{span_of}
+use Rattle.sby_task.specs.Values.{mode_by}
 use Rattle.sby_file.specs.declared.config.Row.{Row}
 use Rattle.sby_file.specs.declared.config.StoredFile.{StoredFile}
 use Rattle.sby_task.specs.declared.draft.Draft.{Draft}
@@ -52,7 +53,7 @@ abbrev pub with_span : List StoredFile → List Row → List ℕ → Draft → M
 with_span files rows name d mode design None = no_line kind.Slices
 with_span files rows name d mode design (Some span) = Ok (record {
   name = name;
-  mode = mode;
+  mode = mode_by mode d.by;
   span = span;
   timeout = d.timeout;
   expect = expected d.expect;

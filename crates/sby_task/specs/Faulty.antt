@@ -4,11 +4,12 @@ use Rattle.std.specs.Prelude.{◌≡◌, ◌≢◌, ◌⊎◌, ℕ, ◌<◌, ◌
 use Rattle.sby_terms.specs.declared.names.Mode.{Mode}
 use Rattle.sby_terms.specs.declared.names.Status.{Status}
 use Rattle.sby_terms.specs.declared.span.Span.{Span}
-use Rattle.sby_task.specs.Values.{mode_of, number_of, count_of, statuses_of, switch_of}
+use Rattle.sby_task.specs.Values.{by_of, mode_of, number_of, count_of, statuses_of, switch_of}
 use Rattle.sby_task.specs.Said.{IsOption, IsUnset, IsSet, HasOption, SaysSpan, AreRefused, LacksMarks, engine_lines, script_lines, NoneStands, GivesPath}
 use Rattle.sby_file.specs.declared.config.Row.{Row}
 use Rattle.sby_file.specs.declared.config.StoredFile.{StoredFile}
 use Rattle.sby_file.specs.declared.section.Section.TheVariants as section
+use Rattle.sby_task.specs.declared.draft.By.{By}
 use Rattle.sby_task.specs.declared.draft.OptionName.{OptionName}
 use Rattle.sby_task.specs.declared.draft.OptionName.TheVariants as option
 use Rattle.sby_task.specs.declared.task_fault.TaskFault.{TaskFault}
@@ -18,6 +19,7 @@ use Rattle.sby_task.specs.declared.task_fault.TaskKind.TheVariants as kind
 -- the names of options
 abbrev pub spelled : OptionName → List ℕ
 spelled option.Mode = codes "mode"
+spelled option.By = codes "by"
 spelled option.Skip = codes "skip"
 spelled option.Depth = codes "depth"
 spelled option.Stride = codes "stride"
@@ -34,6 +36,7 @@ SetsOption o value row = (o ≢ option.Unknown) × IsOption (spelled o) value ro
 -- the values that an option may have
 abbrev pub IsValue : OptionName → List (List ℕ) → Type 0
 IsValue option.Mode value = (mode : Mode) × (mode_of value ≡ Some mode)
+IsValue option.By value = (by : By) × (by_of value ≡ Some by)
 IsValue option.Skip value = (n : ℕ) × (count_of 99999 value ≡ Some n)
 IsValue option.Depth value = (n : ℕ) × (number_of 100000 value ≡ Some n)
 IsValue option.Stride value = (n : ℕ) × (number_of 100000 value ≡ Some n)
@@ -45,7 +48,7 @@ IsValue option.Unknown value = ⊥
 
 -- the engines that are a program, and those that are left out
 abbrev pub program_engines : List (List ℕ)
-program_engines = codes "drup" ∷ codes "btor" ∷ codes "lrat" ∷ codes "proof" ∷ codes "proofb" ∷ []
+program_engines = codes "drup" ∷ codes "btor" ∷ codes "inv" ∷ codes "lrat" ∷ codes "proof" ∷ codes "proofb" ∷ []
 
 abbrev pub left_out_engines : List (List ℕ)
 left_out_engines = codes "smtbmc" ∷ codes "abc" ∷ codes "aiger" ∷ codes "itp" ∷ codes "none" ∷ []
@@ -66,11 +69,16 @@ ReadsDesign name row = (row.section ≡ section.Script) × (row.words ≡ codes 
 abbrev pub NoneGives : List Row → List ℕ → Type 0
 NoneGives rows name = (row : Row) (path : List ℕ) → Contains rows row → GivesPath name path row → ⊥
 
--- an option has another value; `sat` has other words after it; an engine that is a program has none; a line of `[files]` has more
--- than two words
-abbrev pub HasBadValue : Row → Type 0
-HasBadValue row =
-    ((o : OptionName) × (value : List (List ℕ)) × SetsOption o value row × (IsValue o value → ⊥))
+-- `by` is set, and no line of all gives the mode prove
+abbrev pub StandsAlone : List Row → Row → Type 0
+StandsAlone all row =
+    (value : List (List ℕ)) × SetsOption option.By value row × ((line : Row) → Contains all line → IsOption (codes "mode") (codes "prove" ∷ []) line → ⊥)
+
+-- an option has another value; `by` stands in another mode than prove; `sat` has other words after it; an engine that is a program has none;
+-- a line of `[files]` has more than two words
+abbrev pub HasBadValue : List Row → Row → Type 0
+HasBadValue all row =
+    (((o : OptionName) × (value : List (List ℕ)) × SetsOption o value row × (IsValue o value → ⊥)) ⊎ StandsAlone all row)
     ⊎ (((value : List (List ℕ)) × IsEngine (codes "sat") value row × (IsSatValue value → ⊥))
     ⊎ (((name : List ℕ) × IsEngine name [] row × Contains program_engines name) ⊎ ((row.section ≡ section.Files) × (2 < length row.words))))
 
@@ -80,7 +88,7 @@ IsFaulty files all before row kind.UnknownTask = ⊥
 IsFaulty files all before row kind.Limit = (row.section ≡ section.Engines) × (64 ≤ length (engine_lines before))
 IsFaulty files all before row kind.UnknownOption = (row.section ≡ section.Options) × ((o : OptionName) (value : List (List ℕ)) → SetsOption o value row → ⊥)
 IsFaulty files all before row kind.DoubleOption = (o : OptionName) × (value : List (List ℕ)) × SetsOption o value row × HasOption (spelled o) before
-IsFaulty files all before row kind.BadValue = HasBadValue row
+IsFaulty files all before row kind.BadValue = HasBadValue all row
 IsFaulty files all before row kind.NoMode = ⊥
 IsFaulty files all before row kind.NoEngine = ⊥
 IsFaulty files all before row kind.LeftOutEngine = (name : List ℕ) × (arguments : List (List ℕ)) × IsEngine name arguments row × Contains left_out_engines name

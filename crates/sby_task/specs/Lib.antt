@@ -1,6 +1,7 @@
 pub mod Values
 pub mod Marks
 pub mod Engines
+pub mod Proved
 pub mod Draft
 pub mod Scope
 pub mod Files

@@ -7,13 +7,14 @@ use Rattle.sby_terms.specs.declared.names.Mode.TheVariants.{Bmc}
 use Rattle.sby_terms.specs.declared.span.Span.{Span}
 use Rattle.sby_file.specs.Names.{has}
 use Rattle.sby_task.specs.Marks.{HasMarks}
-use Rattle.sby_task.specs.Values.{count_of, number_of}
+use Rattle.sby_task.specs.Values.{by_of, count_of, mode_by, mode_of, number_of}
 use Rattle.sby_task.specs.Paths.{IsLastPart}
 use Rattle.sby_file.specs.Config.{ConfigOf}
 use Rattle.sby_task.specs.Scope.{kept}
 use Rattle.sby_task.specs.Expand.{names_asked}
 use Rattle.sby_file.specs.declared.config.Row.{Row}
 use Rattle.sby_file.specs.declared.config.StoredFile.{StoredFile}
+use Rattle.sby_task.specs.declared.draft.By.{By}
 use Rattle.sby_task.specs.declared.expansion.Task.{Task}
 use Rattle.sby_file.specs.declared.section.Section.{Section}
 use Rattle.sby_file.specs.declared.section.Section.TheVariants.{Nowhere, Tasks, Options, Engines, Script, Files, File, Unknown}
@@ -39,6 +40,14 @@ IsSet name Is rows =
 -- some line sets the option of this name
 abbrev pub HasOption : List ℕ → List Row → Type 0
 HasOption name rows = (row : Row) × (value : List (List ℕ)) × Contains rows row × IsOption name value row
+
+-- The mode that the options give. What is to be shown in prove is shown by induction, unless `by` says that it is by an invariant.
+pub record SaysMode (rows : List Row) (mode : Mode) : Type 0 where
+  pub said : Mode
+  pub by : Option By
+  pub is_said : IsSet (codes "mode") (λ value. mode_of value ≡ Some said) rows
+  pub is_by : ((b : By) × (by ≡ Some b) × IsSet (codes "by") (λ value. by_of value ≡ Some b) rows) ⊎ (IsUnset (codes "by") rows × (by ≡ None))
+  pub is : mode ≡ mode_by said by
 
 -- the cycles that the options give: none is skipped, the depth is 20, and there is no stride where nothing is said
 pub record SaysSpan (rows : List Row) (span : Span) : Type 0 where

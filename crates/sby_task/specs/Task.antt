@@ -2,6 +2,7 @@
 use Rattle.std.specs.Prelude.{ℕ, Bool, cond, ◌||◌, leb, List, length, Option, Some, None, Result, Ok, Err, is_some}
 use Rattle.sby_task.specs.Draft.{option_row, engine_row, script_row}
 use Rattle.sby_task.specs.Files.{path_in, bytes_in}
+use Rattle.sby_task.specs.Proved.{is_proved}
 use Rattle.sby_file.specs.declared.section.Section.{Section}
 use Rattle.sby_file.specs.declared.section.Section.TheVariants.{Nowhere, Tasks, Options, Engines, Script, Files, File, Unknown}
 use Rattle.sby_file.specs.declared.config.Row.{Row}
@@ -27,7 +28,7 @@ abbrev pub script_after : List StoredFile → List Row → Draft → List (List 
 script_after files rows d words = found files rows (script_row d words)
 
 abbrev pub section_after : List StoredFile → List Row → Draft → Section → List (List ℕ) → Result Draft TaskKind
-section_after files rows d Options words = option_row d words
+section_after files rows d Options words = option_row (is_proved rows) d words
 section_after files rows d Engines words = engine_row d words
 section_after files rows d Script words = script_after files rows d words
 section_after files rows d Files words = cond (leb (length words) 2) (Ok d) (Err kind.BadValue)

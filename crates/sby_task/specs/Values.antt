@@ -5,8 +5,10 @@ use Rattle.std.specs.Str.{str_to_ascii_lowercase}
 use Rattle.sby_terms.specs.Number.{number_upto}
 use denote.Ref.{Bor}
 use Rattle.sby_file.specs.Text.{put_first, words_of}
+use Rattle.sby_task.specs.declared.draft.By.{By}
+use Rattle.sby_task.specs.declared.draft.By.TheVariants.{Induction, Invariant}
 use Rattle.sby_terms.specs.declared.names.Mode.{Mode}
-use Rattle.sby_terms.specs.declared.names.Mode.TheVariants.{Bmc, Prove, Cover}
+use Rattle.sby_terms.specs.declared.names.Mode.TheVariants.{Bmc, Prove, ProveInv, Cover}
 use Rattle.sby_terms.specs.declared.names.Status.{Status}
 use Rattle.sby_terms.specs.declared.names.Status.TheVariants.{Pass, Fail, Unknown, Error, Timeout}
 
@@ -33,6 +35,23 @@ abbrev pub mode_of : List (List ℕ) → Option Mode
 mode_of [] = None
 mode_of (word ∷ []) = word_mode word
 mode_of (word ∷ next ∷ words) = None
+
+abbrev pub word_by : List ℕ → Option By
+word_by word = cond (bytes_eq word (codes "induction")) (Some Induction) (cond (bytes_eq word (codes "invariant")) (Some Invariant) None)
+
+abbrev pub by_of : List (List ℕ) → Option By
+by_of [] = None
+by_of (word ∷ []) = word_by word
+by_of (word ∷ next ∷ words) = None
+
+-- the mode, by how it is proved that nothing breaks
+abbrev pub mode_by : Mode → Option By → Mode
+mode_by Bmc by = Bmc
+mode_by Prove None = Prove
+mode_by Prove (Some Induction) = Prove
+mode_by Prove (Some Invariant) = ProveInv
+mode_by ProveInv by = ProveInv
+mode_by Cover by = Cover
 
 abbrev pub word_switch : List ℕ → Option Bool
 word_switch word = cond (bytes_eq word (codes "on")) (Some true) (cond (bytes_eq word (codes "off")) (Some false) None)

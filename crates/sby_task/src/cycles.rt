@@ -12,7 +12,7 @@ fn may_slice(mode: Mode, skip: Option<u32>, stride: Option<u32>) -> bool
 {
     match mode {
         Mode::Bmc => true,
-        Mode::Prove | Mode::Cover => !(skip.is_some() || stride.is_some()),
+        Mode::Prove | Mode::ProveInv | Mode::Cover => !(skip.is_some() || stride.is_some()),
     }
 }
 

@@ -1,12 +1,14 @@
 // A task whose lines are being read.
 
-ghost use Rattle.std.specs.Prelude.{◌≡◌, List, map, string_bytes, IfOk};
+ghost use Rattle.std.specs.Prelude.{◌≡◌, Bool, List, map, string_bytes, IfOk};
+ghost use Rattle.sby_task.specs.Proved.{is_proved};
 ghost use Rattle.sby_task.specs.Draft.{Becomes, blank, option_name, option_after, option_row, engine_row, script_row, once};
 
 use crate::engines::{Engines, engine_of};
+use crate::proved::is_proved;
 use crate::task_fault::TaskKind;
-use crate::values::{count_of, mode_of, number_of, statuses_of, switch_of};
-use sby_file::Name;
+use crate::values::{by_of, count_of, mode_of, number_of, statuses_of, switch_of};
+use sby_file::{Name, Row};
 use sby_terms::{Expect, MAX_DEPTH, Mode};
 use std::alloc::{AllocError, Global};
 
@@ -14,10 +16,18 @@ const MAX_TIMEOUT: u32 = 1_000_000;
 
 const MAX_ENGINES: usize = 64;
 
+/// How prove shows that nothing breaks.
+#[derive(Clone, Copy, Debug, PartialEq, Eq)]
+pub enum By {
+    Induction,
+    Invariant,
+}
+
 /// The first word of an option line.
 #[derive(Clone, Copy, Debug, PartialEq, Eq)]
 pub enum OptionName {
     Mode,
+    By,
     Skip,
     Depth,
     Stride,
@@ -33,6 +43,7 @@ fn option_name(word: &str) -> OptionName
 {
     match word {
         "mode" => OptionName::Mode,
+        "by" => OptionName::By,
         "skip" => OptionName::Skip,
         "depth" => OptionName::Depth,
         "stride" => OptionName::Stride,
@@ -48,6 +59,7 @@ fn option_name(word: &str) -> OptionName
 #[derive(Drop)]
 pub struct Draft {
     pub mode: Option<Mode>,
+    pub by: Option<By>,
     pub skip: Option<u32>,
     pub depth: Option<u32>,
     pub stride: Option<u32>,
@@ -65,6 +77,7 @@ impl Draft {
     {
         Draft {
             mode: None,
+            by: None,
             skip: None,
             depth: None,
             stride: None,
@@ -78,7 +91,7 @@ impl Draft {
     }
 
     fn set_mode(&mut self, value: &[String]) -> Result<(), TaskKind>
-        ensures { Becomes result self.new (option_after self.old OptionName.Mode (map string_bytes value.now)) }
+        ensures { (proved : Bool) → Becomes result self.new (option_after proved self.old OptionName.Mode (map string_bytes value.now)) }
     {
         if self.mode.is_some() {
             return Err(TaskKind::DoubleOption);
@@ -92,8 +105,27 @@ impl Draft {
         }
     }
 
+    // `by` stands in prove alone, which some line has to give.
+    fn set_by(&mut self, rows: &[Row], value: &[String]) -> Result<(), TaskKind>
+        ensures { Becomes result self.new (option_after (is_proved rows.now) self.old OptionName.By (map string_bytes value.now)) }
+    {
+        if self.by.is_some() {
+            return Err(TaskKind::DoubleOption);
+        }
+        if !is_proved(rows) {
+            return Err(TaskKind::BadValue);
+        }
+        match by_of(value) {
+            None => Err(TaskKind::BadValue),
+            Some(by) => {
+                self.by = Some(by);
+                Ok(())
+            }
+        }
+    }
+
     fn set_depth(&mut self, value: &[String]) -> Result<(), TaskKind>
-        ensures { Becomes result self.new (option_after self.old OptionName.Depth (map string_bytes value.now)) }
+        ensures { (proved : Bool) → Becomes result self.new (option_after proved self.old OptionName.Depth (map string_bytes value.now)) }
     {
         if self.depth.is_some() {
             return Err(TaskKind::DoubleOption);
@@ -108,7 +140,7 @@ impl Draft {
     }
 
     fn set_skip(&mut self, value: &[String]) -> Result<(), TaskKind>
-        ensures { Becomes result self.new (option_after self.old OptionName.Skip (map string_bytes value.now)) }
+        ensures { (proved : Bool) → Becomes result self.new (option_after proved self.old OptionName.Skip (map string_bytes value.now)) }
     {
         if self.skip.is_some() {
             return Err(TaskKind::DoubleOption);
@@ -123,7 +155,7 @@ impl Draft {
     }
 
     fn set_stride(&mut self, value: &[String]) -> Result<(), TaskKind>
-        ensures { Becomes result self.new (option_after self.old OptionName.Stride (map string_bytes value.now)) }
+        ensures { (proved : Bool) → Becomes result self.new (option_after proved self.old OptionName.Stride (map string_bytes value.now)) }
     {
         if self.stride.is_some() {
             return Err(TaskKind::DoubleOption);
@@ -138,7 +170,7 @@ impl Draft {
     }
 
     fn set_timeout(&mut self, value: &[String]) -> Result<(), TaskKind>
-        ensures { Becomes result self.new (option_after self.old OptionName.Timeout (map string_bytes value.now)) }
+        ensures { (proved : Bool) → Becomes result self.new (option_after proved self.old OptionName.Timeout (map string_bytes value.now)) }
     {
         if self.timeout.is_some() {
             return Err(TaskKind::DoubleOption);
@@ -157,7 +189,7 @@ impl Draft {
         alloc: Global,
         value: &[String],
     ) -> Result<Result<(), TaskKind>, AllocError>
-        ensures { IfOk result (λ set. Becomes set self.new (option_after self.old OptionName.Expect (map string_bytes value.now))) }
+        ensures { (proved : Bool) → IfOk result (λ set. Becomes set self.new (option_after proved self.old OptionName.Expect (map string_bytes value.now))) }
     {
         if self.expect.is_some() {
             return Ok(Err(TaskKind::DoubleOption));
@@ -172,7 +204,7 @@ impl Draft {
     }
 
     fn set_wait(&mut self, value: &[String]) -> Result<(), TaskKind>
-        ensures { Becomes result self.new (option_after self.old OptionName.Wait (map string_bytes value.now)) }
+        ensures { (proved : Bool) → Becomes result self.new (option_after proved self.old OptionName.Wait (map string_bytes value.now)) }
     {
         if self.wait.is_some() {
             return Err(TaskKind::DoubleOption);
@@ -187,7 +219,7 @@ impl Draft {
     }
 
     fn set_multiclock(&mut self, value: &[String]) -> Result<(), TaskKind>
-        ensures { Becomes result self.new (option_after self.old OptionName.Multiclock (map string_bytes value.now)) }
+        ensures { (proved : Bool) → Becomes result self.new (option_after proved self.old OptionName.Multiclock (map string_bytes value.now)) }
     {
         if self.multiclock.is_some() {
             return Err(TaskKind::DoubleOption);
@@ -201,18 +233,20 @@ impl Draft {
         }
     }
 
-    /// Reads an option line.
+    /// Reads an option line, one of these lines that hold for the task.
     pub fn set_option(
         &mut self,
         alloc: Global,
+        rows: &[Row],
         words: &[String],
     ) -> Result<Result<(), TaskKind>, AllocError>
-        ensures { IfOk result (λ set. Becomes set self.new (option_row self.old (map string_bytes words.now))) }
+        ensures { IfOk result (λ set. Becomes set self.new (option_row (is_proved rows.now) self.old (map string_bytes words.now))) }
     {
         match words {
             [] => Ok(Err(TaskKind::UnknownOption)),
             [name, value @ ..] => match option_name(name.as_str()) {
                 OptionName::Mode => Ok(self.set_mode(value)),
+                OptionName::By => Ok(self.set_by(rows, value)),
                 OptionName::Skip => Ok(self.set_skip(value)),
                 OptionName::Depth => Ok(self.set_depth(value)),
                 OptionName::Stride => Ok(self.set_stride(value)),

@@ -20,6 +20,7 @@ pub enum EngineName {
     Sat,
     Drup,
     Btor,
+    Inv,
     Lrat,
     Proof,
     ProofBinary,
@@ -35,6 +36,7 @@ fn engine_name(word: &str) -> EngineName
         "sat" => EngineName::Sat,
         "drup" => EngineName::Drup,
         "btor" => EngineName::Btor,
+        "inv" => EngineName::Inv,
         "lrat" => EngineName::Lrat,
         "proof" => EngineName::Proof,
         "proofb" => EngineName::ProofBinary,
@@ -72,6 +74,7 @@ pub fn engine_of(alloc: Global, words: &[String]) -> Result<Result<Engine, TaskK
             EngineName::Unknown => Ok(Err(TaskKind::UnknownEngine)),
             EngineName::Drup
             | EngineName::Btor
+            | EngineName::Inv
             | EngineName::Lrat
             | EngineName::Proof
             | EngineName::ProofBinary
@@ -81,6 +84,7 @@ pub fn engine_of(alloc: Global, words: &[String]) -> Result<Result<Engine, TaskK
             }
             EngineName::Drup => Ok(Ok(Engine::Drup(copied_words(alloc, arguments)?))),
             EngineName::Btor => Ok(Ok(Engine::Btor(copied_words(alloc, arguments)?))),
+            EngineName::Inv => Ok(Ok(Engine::Inv(copied_words(alloc, arguments)?))),
             EngineName::Lrat => Ok(Ok(Engine::Lrat(copied_words(alloc, arguments)?))),
             EngineName::Proof => Ok(Ok(Engine::Proof(copied_words(alloc, arguments)?))),
             EngineName::ProofBinary => Ok(Ok(Engine::ProofBinary(copied_words(alloc, arguments)?))),

@@ -17,6 +17,7 @@ use crate::files::{bytes_in, path_in};
 use crate::scope::kept;
 use crate::task::read_row;
 use crate::task_fault::{TaskFault, TaskKind};
+use crate::values::mode_by;
 use sby_file::{Bytes, Config, Name, Names, Row, StoredFile};
 use sby_terms::{Expect, Mode, Span, Status, Words};
 use std::alloc::{AllocError, Global};
@@ -118,6 +119,7 @@ fn finished(
 {
     let Draft {
         mode,
+        by,
         skip,
         depth,
         stride,
@@ -145,7 +147,7 @@ fn finished(
     let expect = expected(alloc, expect)?;
     Ok(Ok(Task {
         name,
-        mode,
+        mode: mode_by(mode, by),
         span,
         timeout,
         expect,

@@ -12,7 +12,7 @@ ghost use Rattle.sby_task.specs.Expand.{Expand, expansion};
 ghost use Rattle.sby_task.specs.Faulty.{AreSound, IsFirstFault, IsThere};
 ghost use Rattle.sby_task.specs.Files.{part_of};
 ghost use Rattle.sby_task.specs.Paths.{IsLastPart};
-ghost use Rattle.sby_task.specs.Said.{AreKept, AreRefused, HasDesign, IsSet, IsUnset, LacksMarks, SaysSpan, engine_lines, script_lines};
+ghost use Rattle.sby_task.specs.Said.{AreKept, AreRefused, HasDesign, IsSet, IsUnset, LacksMarks, SaysMode, SaysSpan, engine_lines, script_lines};
 ghost use Rattle.sby_task.specs.Scope.{kept, rest_of};
 ghost use Rattle.sby_task.specs.Values.{mode_of, number_of, statuses_of, switch_of};
 ghost use Rattle.sby_file.specs.declared.config.Row.{Row};
@@ -42,7 +42,7 @@ pub fn kept_lines_say_the_task()
     ensures name { (c : ConfigOf) (asked : Option (List ℕ)) (t : Task) (rows : List Row) → Expand c asked t → AreKept c asked rows
         → t.name ≡ unwrap_or asked [] }
     ensures mode { (c : ConfigOf) (asked : Option (List ℕ)) (t : Task) (rows : List Row) → Expand c asked t → AreKept c asked rows
-        → IsSet (codes "mode") (λ value. mode_of value ≡ Some t.mode) rows }
+        → SaysMode rows t.mode }
     ensures span { (c : ConfigOf) (asked : Option (List ℕ)) (t : Task) (rows : List Row) → Expand c asked t → AreKept c asked rows
         → SaysSpan rows t.span }
     ensures timeout { (c : ConfigOf) (asked : Option (List ℕ)) (t : Task) (rows : List Row) → Expand c asked t → AreKept c asked rows

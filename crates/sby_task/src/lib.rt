@@ -8,6 +8,7 @@ mod expansion;
 mod files;
 pub mod laws;
 mod marks;
+mod proved;
 mod scope;
 mod task;
 mod task_fault;

@@ -62,7 +62,7 @@ pub fn read_row(
 {
     let words = row.words.as_slice();
     match row.section {
-        Section::Options => draft.set_option(alloc, words),
+        Section::Options => draft.set_option(alloc, rows, words),
         Section::Engines => draft.add_engine(alloc, words),
         Section::Script => read_script(alloc, draft, files, rows, words),
         Section::Files => {

@@ -1,8 +1,9 @@
 // The values of options.
 
 ghost use Rattle.std.specs.Prelude.{◌≡◌, ◌<◌, ◌≤◌, ◌+◌, ◌∷◌, Some, IfOk, IfSome, List, length, map, string_bytes};
-ghost use Rattle.sby_task.specs.Values.{number_of, count_of, word_count, word_mode, mode_of, word_switch, switch_of, status_of, piece_status, pieces_of, statuses_from, statuses_of, words_text, later_pieces, pieces_left};
+ghost use Rattle.sby_task.specs.Values.{number_of, count_of, word_count, word_by, by_of, mode_by, word_mode, mode_of, word_switch, switch_of, status_of, piece_status, pieces_of, statuses_from, statuses_of, words_text, later_pieces, pieces_left};
 
+use crate::draft::By;
 use memchr::memchr;
 use sby_file::words;
 use sby_terms::{Expect, Mode, Status, Words, number_upto};
@@ -55,6 +56,35 @@ pub fn mode_of(value: &[String]) -> Option<Mode>
     match value {
         [word] => word_mode(word.as_str()),
         _ => None,
+    }
+}
+
+fn word_by(word: &str) -> Option<By>
+    ensures { result ≡ word_by word.now }
+{
+    match word {
+        "induction" => Some(By::Induction),
+        "invariant" => Some(By::Invariant),
+        _ => None,
+    }
+}
+
+pub fn by_of(value: &[String]) -> Option<By>
+    ensures { result ≡ by_of (map string_bytes value.now) }
+{
+    match value {
+        [word] => word_by(word.as_str()),
+        _ => None,
+    }
+}
+
+/// The mode, by how it is proved that nothing breaks.
+pub fn mode_by(mode: Mode, by: Option<By>) -> Mode
+    ensures { result ≡ mode_by mode by }
+{
+    match (mode, by) {
+        (Mode::Prove, Some(By::Invariant)) => Mode::ProveInv,
+        (mode, _) => mode,
     }
 }
 

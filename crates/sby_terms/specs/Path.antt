@@ -2,12 +2,13 @@
 use Rattle.std.specs.Prelude.{ℕ, ◌==◌, if◌then◌else◌, List, ◌++◌, codes}
 use Rattle.std.specs.Fmt.{decimal}
 use Rattle.sby_terms.specs.declared.names.JobName.{JobName}
-use Rattle.sby_terms.specs.declared.names.JobName.TheVariants.{Base, Step, Cover}
+use Rattle.sby_terms.specs.declared.names.JobName.TheVariants.{Base, Step, Inv, Cover}
 
 -- a job's name among the jobs of a task with this many slices: slices are numbered where there are several
 unfoldable pub job_text : ℕ → JobName → List ℕ
 job_text slices (Base j) = if slices == 1 then codes "base" else (codes "base" ++ decimal j)
 job_text slices Step = codes "step"
+job_text slices Inv = codes "inv"
 job_text slices (Cover k) = codes "cover" ++ decimal k
 
 unfoldable pub path_text : List ℕ → List ℕ → List ℕ

@@ -57,6 +57,8 @@ pub enum Engine {
     Drup(Words),
     /// A program that writes BTOR2 witnesses.
     Btor(Words),
+    /// A program that writes inductive invariants.
+    Inv(Words),
     /// A program that writes a hinted proof.
     Lrat(Words),
     /// A program that writes its answer, and a proof file in text.
@@ -79,6 +81,10 @@ impl Engine {
             Engine::Btor(words) => {
                 let words = words.copy()?;
                 Ok(Engine::Btor(words))
+            }
+            Engine::Inv(words) => {
+                let words = words.copy()?;
+                Ok(Engine::Inv(words))
             }
             Engine::Lrat(words) => {
                 let words = words.copy()?;

@@ -7,16 +7,19 @@ pub enum Mode {
     Bmc,
     /// No assertion ever breaks, by k-induction.
     Prove,
+    /// No assertion ever breaks, by an inductive invariant.
+    ProveInv,
     /// Each cover statement is reached within the depth.
     Cover,
 }
 
-/// A job of a task. Bmc has `Base(0)`, `Base(1)`, .., one for each slice of its cycles; prove has `Base(0)` and `Step`; cover has
-/// `Cover(0)`, `Cover(1)`, .. in the order of the `$cover` cells in the file.
+/// A job of a task. Bmc has `Base(0)`, `Base(1)`, .., one for each slice of its cycles; prove has `Base(0)` and `Step`, or
+/// `Base(0)` and `Inv` where it is by an invariant; cover has `Cover(0)`, `Cover(1)`, .. in the order of the `$cover` cells in the file.
 #[derive(Clone, Copy, Debug, PartialEq, Eq)]
 pub enum JobName {
     Base(u32),
     Step,
+    Inv,
     Cover(u32),
 }
 

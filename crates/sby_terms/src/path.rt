@@ -7,7 +7,7 @@ use crate::JobName;
 use std::alloc::{AllocError, Global};
 
 /// A job's name among the jobs of a task with this many slices: `base`, or `base0`, `base1`, .. where there are several; `step`;
-/// `cover0`, `cover1`, ..
+/// `inv`; `cover0`, `cover1`, ..
 #[tactic(auto, unfolding(crate::specs::Path::job_text))]
 pub fn job_text(alloc: Global, slices: u32, job: JobName) -> Result<String, AllocError>
     ensures { IfOk result (λ t. string_bytes t ≡ job_text slices job) }
@@ -16,6 +16,7 @@ pub fn job_text(alloc: Global, slices: u32, job: JobName) -> Result<String, Allo
         JobName::Base(_) if slices == 1 => String::from_str(alloc, "base"),
         JobName::Base(slice) => format!(in alloc; "base{slice}"),
         JobName::Step => String::from_str(alloc, "step"),
+        JobName::Inv => String::from_str(alloc, "inv"),
         JobName::Cover(k) => format!(in alloc; "cover{k}"),
     }
 }

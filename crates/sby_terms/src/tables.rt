@@ -7,7 +7,7 @@ ghost use Rattle.sby_terms.specs.declared.names.Mode.{Mode};
 ghost use Rattle.sby_terms.specs.declared.names.Status.{Status};
 ghost use Rattle.sby_terms.specs.declared.names.Verdict.{Verdict};
 ghost use Rattle.sby_terms.specs.Code.{HasCode};
-ghost use Rattle.sby_terms.specs.Decide.{AreAll, BaseIs, Decides, StepIs};
+ghost use Rattle.sby_terms.specs.Decide.{AreAll, BaseIs, Decides, InvIs, StepIs};
 ghost use Rattle.sby_terms.specs.Status.{HasStatus};
 
 use crate::{Answer, Event, Expect, Mode, Status, Verdict};
@@ -20,6 +20,7 @@ pub fn decide(mode: Mode, answers: &[Option<Answer>]) -> Option<Verdict>
     match mode {
         Mode::Bmc => decide_bmc(answers),
         Mode::Prove => decide_prove(answers),
+        Mode::ProveInv => decide_prove_inv(answers),
         Mode::Cover => decide_cover(answers),
     }
 }
@@ -44,6 +45,17 @@ fn decide_prove(answers: &[Option<Answer>]) -> Option<Verdict>
     match (answer_at(answers, 0), answer_at(answers, 1)) {
         (Some(Answer::Sat), _) => Some(Verdict::Fail),
         (Some(Answer::Unsat), Some(Answer::Unsat)) => Some(Verdict::Pass),
+        _ => None,
+    }
+}
+
+fn decide_prove_inv(answers: &[Option<Answer>]) -> Option<Verdict>
+    ensures pass { (result ≡ Some Verdict.Pass) ↔ ((BaseIs answers.now Answer.Sat → ⊥) × InvIs answers.now Answer.Unsat) }
+    ensures fail { (result ≡ Some Verdict.Fail) ↔ BaseIs answers.now Answer.Sat }
+{
+    match (answer_at(answers, 0), answer_at(answers, 1)) {
+        (Some(Answer::Sat), _) => Some(Verdict::Fail),
+        (_, Some(Answer::Unsat)) => Some(Verdict::Pass),
         _ => None,
     }
 }

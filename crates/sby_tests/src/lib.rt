@@ -10,6 +10,8 @@ mod designs;
 #[cfg(test)]
 mod faults;
 #[cfg(test)]
+mod invariants;
+#[cfg(test)]
 mod lanes;
 #[cfg(test)]
 mod modes;

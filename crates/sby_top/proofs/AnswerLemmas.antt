@@ -5,15 +5,15 @@ use Rattle.std.proofs.lemmas.Bool.{cases_lt, leb-true}
 use Rattle.std.proofs.lemmas.List.{nil_from_length}
 use Rattle.std.proofs.lemmas.Option.{get_or_from_slice_get, slice_get-get_or, slice_get_within}
 use Rattle.race_core.specs.Asking.{name_at, needless_by, skipped_by}
-use Rattle.sby_terms.specs.Decide.{AreAll, Decides}
+use Rattle.sby_terms.specs.Decide.{AreAll, BaseIs, Decides, InvIs}
 use Rattle.sby_terms.specs.Status.{HasStatus}
 use Rattle.sby_terms.specs.declared.names.Answer.{Answer}
 use Rattle.sby_terms.specs.declared.names.Answer.TheVariants.{Sat, Unsat}
 use Rattle.sby_terms.specs.declared.names.Event.{Event}
 use Rattle.sby_terms.specs.declared.names.JobName.{JobName}
-use Rattle.sby_terms.specs.declared.names.JobName.TheVariants.{Base, Step, Cover}
+use Rattle.sby_terms.specs.declared.names.JobName.TheVariants.{Base, Step, Inv, Cover}
 use Rattle.sby_terms.specs.declared.names.Mode.{Mode}
-use Rattle.sby_terms.specs.declared.names.Mode.TheVariants.{Bmc, Prove, Cover as CoverMode}
+use Rattle.sby_terms.specs.declared.names.Mode.TheVariants.{Bmc, Prove, ProveInv, Cover as CoverMode}
 use Rattle.sby_terms.specs.declared.names.Status.{Status}
 use Rattle.sby_terms.specs.declared.names.Status.TheVariants.{Pass, Fail, Unknown, Error, Timeout, Memory}
 use Rattle.sby_terms.specs.declared.names.Verdict.{Verdict}
@@ -26,46 +26,73 @@ use Rattle.sby_lines.proofs.PlaceLemmas.{at_contains, contains_at}
 abbrev pub IsFailing : Mode → ℕ → Type 0
 IsFailing Bmc m = Unit {0}
 IsFailing Prove m = m ≡ 0
+IsFailing ProveInv m = m ≡ 0
 IsFailing CoverMode m = ⊥
 
 pub fails_by : (mode : Mode) (m : ℕ) (answers : List (Option Answer)) → IsFailing mode m → slice_get answers m ≡ Some (Some Sat) → Decides mode answers FailVerdict
 fails_by Bmc m answers failing at = at_contains answers m (Some Sat) at
 fails_by Prove m answers failing at = subst (λ k. slice_get answers k ≡ Some (Some Sat)) failing at
+fails_by ProveInv m answers failing at = subst (λ k. slice_get answers k ≡ Some (Some Sat)) failing at
 fails_by CoverMode m answers failing at = absurd failing
 
 -- an answer for this job spares the one at a place: it is for that job; or it is Sat for one by which FAIL is decided
 abbrev pub Spares : Mode → ℕ → JobName → Answer → Type 0
 Spares mode k job a = (job ≡ name_at mode k) ⊎ ((m : ℕ) × (m ≤ k) × (job ≡ name_at mode m) × (a ≡ Sat) × IsFailing mode m)
 
--- prove has two jobs
+-- prove has two jobs, by an invariant too
 abbrev pub IsPlace : Mode → ℕ → Type 0
 IsPlace Bmc k = Unit {0}
 IsPlace Prove k = k < 2
+IsPlace ProveInv k = k < 2
 IsPlace CoverMode k = Unit {0}
 
 pub skipping_spares : (mode : Mode) (k : ℕ) (job : JobName) (a : Answer) → IsPlace mode k → skipped_by job a (name_at mode k) ≡ true → Spares mode k job a
 skipping_spares Bmc k (Base m) Sat within is = inr (m, leb-true m k is, refl, refl, tt)
 skipping_spares Bmc k (Base m) Unsat within is = inl (ap Base (eqb-true m k is))
 skipping_spares Bmc k Step Sat within is = cc
+skipping_spares Bmc k Inv Sat within is = cc
 skipping_spares Bmc k Step Unsat within is = cc
+skipping_spares Bmc k Inv Unsat within is = cc
 skipping_spares Bmc k (Cover m) Sat within is = cc
 skipping_spares Bmc k (Cover m) Unsat within is = cc
 skipping_spares Prove zero (Base m) Sat within is = let none : m ≡ 0 = omega (arith, leb-true m 0 is) in inl (ap Base none)
 skipping_spares Prove zero (Base m) Unsat within is = inl (ap Base (eqb-true m 0 is))
 skipping_spares Prove zero Step Sat within is = cc
+skipping_spares Prove zero Inv Sat within is = cc
 skipping_spares Prove zero Step Unsat within is = cc
+skipping_spares Prove zero Inv Unsat within is = cc
 skipping_spares Prove zero (Cover m) Sat within is = cc
 skipping_spares Prove zero (Cover m) Unsat within is = cc
 skipping_spares Prove (suc zero) (Base m) Sat within is = inr (0, omega arith, ap Base (eqb-true m 0 is), refl, refl)
 skipping_spares Prove (suc zero) (Base m) Unsat within is = cc
 skipping_spares Prove (suc zero) Step a within is = inl refl
+skipping_spares Prove (suc zero) Inv Sat within is = cc
+skipping_spares Prove (suc zero) Inv Unsat within is = cc
 skipping_spares Prove (suc zero) (Cover m) Sat within is = cc
 skipping_spares Prove (suc zero) (Cover m) Unsat within is = cc
 skipping_spares Prove (suc (suc k)) job a within is = absurd (omega (arith, within))
+skipping_spares ProveInv zero (Base m) Sat within is = let none : m ≡ 0 = omega (arith, leb-true m 0 is) in inl (ap Base none)
+skipping_spares ProveInv zero (Base m) Unsat within is = inl (ap Base (eqb-true m 0 is))
+skipping_spares ProveInv zero Step Sat within is = cc
+skipping_spares ProveInv zero Inv Sat within is = cc
+skipping_spares ProveInv zero Step Unsat within is = cc
+skipping_spares ProveInv zero Inv Unsat within is = cc
+skipping_spares ProveInv zero (Cover m) Sat within is = cc
+skipping_spares ProveInv zero (Cover m) Unsat within is = cc
+skipping_spares ProveInv (suc zero) (Base m) Sat within is = inr (0, omega arith, ap Base (eqb-true m 0 is), refl, refl)
+skipping_spares ProveInv (suc zero) (Base m) Unsat within is = cc
+skipping_spares ProveInv (suc zero) Step Sat within is = cc
+skipping_spares ProveInv (suc zero) Step Unsat within is = cc
+skipping_spares ProveInv (suc zero) Inv a within is = inl refl
+skipping_spares ProveInv (suc zero) (Cover m) Sat within is = cc
+skipping_spares ProveInv (suc zero) (Cover m) Unsat within is = cc
+skipping_spares ProveInv (suc (suc k)) job a within is = absurd (omega (arith, within))
 skipping_spares CoverMode k (Base m) Sat within is = cc
 skipping_spares CoverMode k (Base m) Unsat within is = cc
 skipping_spares CoverMode k Step Sat within is = cc
+skipping_spares CoverMode k Inv Sat within is = cc
 skipping_spares CoverMode k Step Unsat within is = cc
+skipping_spares CoverMode k Inv Unsat within is = cc
 skipping_spares CoverMode k (Cover m) Sat within is = inl (ap Cover (eqb-true m k is))
 skipping_spares CoverMode k (Cover m) Unsat within is = inl (ap Cover (eqb-true m k is))
 
@@ -73,25 +100,49 @@ pub calling_spares : (mode : Mode) (k : ℕ) (job : JobName) (a : Answer) → Is
 calling_spares Bmc k (Base m) Sat within is = inl (ap Base (eqb-true m k is))
 calling_spares Bmc k (Base m) Unsat within is = inl (ap Base (eqb-true m k is))
 calling_spares Bmc k Step Sat within is = cc
+calling_spares Bmc k Inv Sat within is = cc
 calling_spares Bmc k Step Unsat within is = cc
+calling_spares Bmc k Inv Unsat within is = cc
 calling_spares Bmc k (Cover m) Sat within is = cc
 calling_spares Bmc k (Cover m) Unsat within is = cc
 calling_spares Prove zero (Base m) Sat within is = inl (ap Base (eqb-true m 0 is))
 calling_spares Prove zero (Base m) Unsat within is = inl (ap Base (eqb-true m 0 is))
 calling_spares Prove zero Step Sat within is = cc
+calling_spares Prove zero Inv Sat within is = cc
 calling_spares Prove zero Step Unsat within is = cc
+calling_spares Prove zero Inv Unsat within is = cc
 calling_spares Prove zero (Cover m) Sat within is = cc
 calling_spares Prove zero (Cover m) Unsat within is = cc
 calling_spares Prove (suc zero) (Base m) Sat within is = inr (0, omega arith, ap Base (eqb-true m 0 is), refl, refl)
 calling_spares Prove (suc zero) (Base m) Unsat within is = cc
 calling_spares Prove (suc zero) Step a within is = inl refl
+calling_spares Prove (suc zero) Inv Sat within is = cc
+calling_spares Prove (suc zero) Inv Unsat within is = cc
 calling_spares Prove (suc zero) (Cover m) Sat within is = cc
 calling_spares Prove (suc zero) (Cover m) Unsat within is = cc
 calling_spares Prove (suc (suc k)) job a within is = absurd (omega (arith, within))
+calling_spares ProveInv zero (Base m) Sat within is = inl (ap Base (eqb-true m 0 is))
+calling_spares ProveInv zero (Base m) Unsat within is = inl (ap Base (eqb-true m 0 is))
+calling_spares ProveInv zero Step Sat within is = cc
+calling_spares ProveInv zero Inv Sat within is = cc
+calling_spares ProveInv zero Step Unsat within is = cc
+calling_spares ProveInv zero Inv Unsat within is = cc
+calling_spares ProveInv zero (Cover m) Sat within is = cc
+calling_spares ProveInv zero (Cover m) Unsat within is = cc
+calling_spares ProveInv (suc zero) (Base m) Sat within is = inr (0, omega arith, ap Base (eqb-true m 0 is), refl, refl)
+calling_spares ProveInv (suc zero) (Base m) Unsat within is = cc
+calling_spares ProveInv (suc zero) Step Sat within is = cc
+calling_spares ProveInv (suc zero) Step Unsat within is = cc
+calling_spares ProveInv (suc zero) Inv a within is = inl refl
+calling_spares ProveInv (suc zero) (Cover m) Sat within is = cc
+calling_spares ProveInv (suc zero) (Cover m) Unsat within is = cc
+calling_spares ProveInv (suc (suc k)) job a within is = absurd (omega (arith, within))
 calling_spares CoverMode k (Base m) Sat within is = cc
 calling_spares CoverMode k (Base m) Unsat within is = cc
 calling_spares CoverMode k Step Sat within is = cc
+calling_spares CoverMode k Inv Sat within is = cc
 calling_spares CoverMode k Step Unsat within is = cc
+calling_spares CoverMode k Inv Unsat within is = cc
 calling_spares CoverMode k (Cover m) Sat within is = inl (ap Cover (eqb-true m k is))
 calling_spares CoverMode k (Cover m) Unsat within is = inl (ap Cover (eqb-true m k is))
 
@@ -107,23 +158,33 @@ all_at xs a all k lt = slice_get-get_or xs k None lt ∙ ap Some (all k None lt)
 all_by : (xs : List (Option Answer)) (a : Answer) → ((k : ℕ) → k < length xs → slice_get xs k ≡ Some (Some a)) → AreAll xs a
 all_by xs a each = λ k d lt. get_or_from_slice_get xs k (Some a) d (each k lt)
 
+-- of prove by an invariant, an answer of one list that nothing ever breaks and one of the other that something does aren't both there
+abbrev pub Apart : Mode → List (Option Answer) → List (Option Answer) → Type 0
+Apart Bmc xs ys = Unit {0}
+Apart Prove xs ys = Unit {0}
+Apart ProveInv xs ys = InvIs xs Unsat → BaseIs ys Sat → ⊥
+Apart CoverMode xs ys = Unit {0}
+
 -- then these decide what those do
-pub kept_verdict : (mode : Mode) (xs ys : List (Option Answer)) (v : Verdict) → length xs ≡ length ys → Keeps xs ys → Decides mode xs v → Decides mode ys v
-kept_verdict Bmc xs ys PassVerdict same keeps h =
+pub kept_verdict : (mode : Mode) (xs ys : List (Option Answer)) (v : Verdict) → length xs ≡ length ys → Keeps xs ys → Apart mode ys ys → Decides mode xs v → Decides mode ys v
+kept_verdict Bmc xs ys PassVerdict same keeps apart h =
     ((λ none. h.0 (nil_from_length xs (same ∙ ap length none))), all_by ys Unsat (λ k lt. keeps k Unsat (all_at xs Unsat h.1 k (omega (arith, same, lt)))))
-kept_verdict Bmc xs ys FailVerdict same keeps h = at_contains ys h.0 (Some Sat) (keeps h.0 Sat (contains_at xs (Some Sat) h))
-kept_verdict Prove xs ys PassVerdict same keeps h = (keeps 0 Unsat h.0, keeps 1 Unsat h.1)
-kept_verdict Prove xs ys FailVerdict same keeps h = keeps 0 Sat h
-kept_verdict CoverMode xs ys PassVerdict same keeps h = all_by ys Sat (λ k lt. keeps k Sat (all_at xs Sat h k (omega (arith, same, lt))))
-kept_verdict CoverMode xs ys FailVerdict same keeps h = at_contains ys h.0 (Some Unsat) (keeps h.0 Unsat (contains_at xs (Some Unsat) h))
+kept_verdict Bmc xs ys FailVerdict same keeps apart h = at_contains ys h.0 (Some Sat) (keeps h.0 Sat (contains_at xs (Some Sat) h))
+kept_verdict Prove xs ys PassVerdict same keeps apart h = (keeps 0 Unsat h.0, keeps 1 Unsat h.1)
+kept_verdict Prove xs ys FailVerdict same keeps apart h = keeps 0 Sat h
+kept_verdict ProveInv xs ys PassVerdict same keeps apart h = let inv = keeps 1 Unsat h.1 in ((λ base. apart inv base), inv)
+kept_verdict ProveInv xs ys FailVerdict same keeps apart h = keeps 0 Sat h
+kept_verdict CoverMode xs ys PassVerdict same keeps apart h = all_by ys Sat (λ k lt. keeps k Sat (all_at xs Sat h k (omega (arith, same, lt))))
+kept_verdict CoverMode xs ys FailVerdict same keeps apart h = at_contains ys h.0 (Some Unsat) (keeps h.0 Unsat (contains_at xs (Some Unsat) h))
 
 -- PASS and FAIL don't come of answers that agree
 pub pass_apart : (mode : Mode) (xs ys : List (Option Answer)) → length xs ≡ length ys → ((k : ℕ) (a b : Answer) → slice_get xs k ≡ Some (Some a) → slice_get ys k ≡ Some (Some b) → a ≡ b)
-    → Decides mode xs PassVerdict → Decides mode ys FailVerdict → ⊥
-pass_apart Bmc xs ys same agree pass fail =
+    → Apart mode xs ys → Decides mode xs PassVerdict → Decides mode ys FailVerdict → ⊥
+pass_apart Bmc xs ys same agree apart pass fail =
     let no : Unsat ≡ Sat = agree fail.0 Unsat Sat (all_at xs Unsat pass.1 fail.0 (omega (arith, same, fail.1))) (contains_at ys (Some Sat) fail) in cc
-pass_apart Prove xs ys same agree pass fail = let no : Unsat ≡ Sat = agree 0 Unsat Sat pass.0 fail in cc
-pass_apart CoverMode xs ys same agree pass fail =
+pass_apart Prove xs ys same agree apart pass fail = let no : Unsat ≡ Sat = agree 0 Unsat Sat pass.0 fail in cc
+pass_apart ProveInv xs ys same agree apart pass fail = apart pass.1 fail
+pass_apart CoverMode xs ys same agree apart pass fail =
     let no : Sat ≡ Unsat = agree fail.0 Sat Unsat (all_at xs Sat pass fail.0 (omega (arith, same, fail.1))) (contains_at ys (Some Unsat) fail) in cc
 
 one_answer : (o : Option (Option Answer)) (a b : Answer) → o ≡ Some (Some a) → o ≡ Some (Some b) → a ≡ b
@@ -164,16 +225,16 @@ module _ (mode : Mode) (xs ys : List (Option Answer)) (each : (k : ℕ) (a : Ans
   kept_or_failed = kept_or_else (Decides mode ys FailVerdict) xs ys each
 
   verdict_or_failed : (v : Verdict) → length xs ≡ length ys → ((k : ℕ) (a b : Answer) → slice_get xs k ≡ Some (Some a) → slice_get ys k ≡ Some (Some b) → a ≡ b)
-      → Decides mode xs v → Decides mode ys FailVerdict → Decides mode ys v
-  verdict_or_failed PassVerdict same agree h fails = absurd (pass_apart mode xs ys same agree h fails)
-  verdict_or_failed FailVerdict same agree h fails = fails
+      → Apart mode xs ys → Decides mode xs v → Decides mode ys FailVerdict → Decides mode ys v
+  verdict_or_failed PassVerdict same agree apart h fails = absurd (pass_apart mode xs ys same agree apart h fails)
+  verdict_or_failed FailVerdict same agree apart h fails = fails
 
   -- the verdict of those is that of these
   pub verdict_kept : (v : Verdict) → length xs ≡ length ys → ((k : ℕ) (a b : Answer) → slice_get xs k ≡ Some (Some a) → slice_get ys k ≡ Some (Some b) → a ≡ b)
-      → Decides mode xs v → Decides mode ys v
-  verdict_kept v same agree h = elim kept_or_failed [
-    | inl keeps ↦ kept_verdict mode xs ys v same keeps h
-    | inr fails ↦ verdict_or_failed v same agree h fails
+      → Apart mode xs ys → Apart mode ys ys → Decides mode xs v → Decides mode ys v
+  verdict_kept v same agree apart own h = elim kept_or_failed [
+    | inl keeps ↦ kept_verdict mode xs ys v same keeps own h
+    | inr fails ↦ verdict_or_failed v same agree apart h fails
   ]
 
 -- ---- the same answers

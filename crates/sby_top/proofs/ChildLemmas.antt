@@ -46,9 +46,10 @@ use Rattle.sby_top.specs.Served.{ArePut, jobs_in, files_from}
 use Rattle.sby_top.specs.Task.{Lanes, TaskOf}
 use Rattle.sby_top.specs.World.{Moments, race_of}
 use Rattle.sby_top.specs.declared.outcome.TaskEnd.{TaskEnd}
-use Rattle.sby_top.proofs.AnswerLemmas.{kept_or_else, kept_verdict, pass_apart}
+use Rattle.sby_top.proofs.AnswerLemmas.{Apart, kept_or_else, kept_verdict, pass_apart}
+use Rattle.sby_top.proofs.ApartLemmas.{AllSay, says_apart}
 use Rattle.sby_top.proofs.EventLemmas.{none_carried}
-use Rattle.sby_top.proofs.EvidenceLemmas.{FindingLaws, answers_agree, fate_says}
+use Rattle.sby_top.proofs.EvidenceLemmas.{FindingLaws, Says, answers_agree, fate_says, finding_says, lane_judgeable}
 use Rattle.sby_top.proofs.FailLemmas.{fail_status}
 use Rattle.sby_top.proofs.LawLemmas.{all_one, one_put_stands, pass_status}
 use Rattle.sby_top.proofs.ReportLemmas.{job_count}
@@ -101,14 +102,30 @@ module _ (laws : FindingLaws) (may_read : ℕ → Type 0) (number : ℕ) (moment
         let found = race.1.entry k (Some b) found_at in
         let true_of = lanes_ran.are_true found.1.0 found.0 found.1.1 found.1.2 in
         let says = fate_says judged.done.problem judged.done.served.0.problem (name_at task.request.mode k) child.file child.is_file (evidence_at (slice_get engines (lane_of k))) (up_to child.script.stalls child.script.bytes)
-        (take (most_bytes + 1) child.script.proof) a child.valid in
+        (take (most_bytes + 1) child.script.proof) a (lane_judgeable (slice_get engines (lane_of k)) (name_at task.request.mode k) child.serving) child.valid in
         sym (answers_agree laws judged.done.problem (name_at task.request.mode k) found.0 judged.done.served.0.problem true_of.0 true_of.1 found.1.3 a says) ∙ found.2
+
+    own_say : AllSay judged.done.problem.design judged.done.problem.problem.span task.request.mode answers
+    own_say k a at =
+        let child = valid k a at in
+        fate_says judged.done.problem judged.done.served.0.problem (name_at task.request.mode k) child.file child.is_file (evidence_at (slice_get engines (lane_of k))) (up_to child.script.stalls child.script.bytes)
+        (take (most_bytes + 1) child.script.proof) a (lane_judgeable (slice_get engines (lane_of k)) (name_at task.request.mode k) child.serving) child.valid
+
+    race_say : AllSay judged.done.problem.design judged.done.problem.problem.span task.request.mode race.0
+    race_say k b at =
+        let found = race.1.entry k (Some b) at in
+        let true_of = lanes_ran.are_true found.1.0 found.0 found.1.1 found.1.2 in
+        subst (Says judged.done.problem (name_at task.request.mode k)) found.2
+        (finding_says laws judged.done.problem (name_at task.request.mode k) found.0 judged.done.served.0.problem true_of.0 true_of.1 found.1.3)
+
+    abbrev apart : (xs ys : List (Option Answer)) → AllSay judged.done.problem.design judged.done.problem.problem.span task.request.mode xs → AllSay judged.done.problem.design judged.done.problem.problem.span task.request.mode ys → Apart task.request.mode xs ys
+    apart xs ys = says_apart judged.done.problem.design judged.done.problem.problem.span task.request.mode xs ys
 
     one_verdict : (v w : Verdict) → Decides task.request.mode answers v → Decides task.request.mode race.0 w → v ≡ w
     one_verdict PassVerdict PassVerdict own other = refl
     one_verdict FailVerdict FailVerdict own other = refl
-    one_verdict PassVerdict FailVerdict own other = absurd (pass_apart task.request.mode answers race.0 same_size agree own other)
-    one_verdict FailVerdict PassVerdict own other = absurd (pass_apart task.request.mode race.0 answers (sym same_size) (λ k a b x y. sym (agree k b a y x)) other own)
+    one_verdict PassVerdict FailVerdict own other = absurd (pass_apart task.request.mode answers race.0 same_size agree (apart answers race.0 own_say race_say) own other)
+    one_verdict FailVerdict PassVerdict own other = absurd (pass_apart task.request.mode race.0 answers (sym same_size) (λ k a b x y. sym (agree k b a y x)) (apart race.0 answers race_say own_say) other own)
 
     -- a job with a valid certificate is answered, where nothing is decided, or was hindered
     answered : (o : Option Answer) (k : ℕ) (a : Answer) → slice_get answers k ≡ Some (Some a) → slice_get race.0 k ≡ Some o → ((v : Verdict) → Decides task.request.mode race.0 v → ⊥) → HasStatus None race.2.events end.status
@@ -135,7 +152,7 @@ module _ (laws : FindingLaws) (may_read : ℕ → Type 0) (number : ℕ) (moment
         let same = one_verdict verdict w decides decided in
         inl (verdict_status verdict race.2.events [] end.status (subst (λ x. HasStatus (Some x) race.2.events end.status) (sym same) has))
     by_verdict None left has = elim (kept_or_else Given answers race.0 (λ k a at. let there = some_at k a at (slice_get race.0 k) refl in answered there.0 k a at there.1 left has)) [
-      | inl keeps ↦ absurd (left verdict (kept_verdict task.request.mode answers race.0 verdict same_size keeps decides))
+      | inl keeps ↦ absurd (left verdict (kept_verdict task.request.mode answers race.0 verdict same_size keeps (apart race.0 race.0 race_say race_say) decides))
       | inr given ↦ given
     ]
 

@@ -3,10 +3,11 @@ use Rattle.std.proofs.Common.{◌≡◌, ◌≢◌, ◌⊎◌, ◌∙◌, ℕ, L
 use Rattle.std.specs.Prelude.{Some, None}
 use Rattle.design_core.specs.Shape.{DesignOf}
 use Rattle.design_meaning.specs.Claims.{NeverBreak, NoBreak}
-use Rattle.sby_terms.specs.declared.names.Mode.TheVariants.{Bmc, Prove, Cover}
+use Rattle.sby_terms.specs.declared.names.Mode.TheVariants.{Bmc, Prove, ProveInv, Cover}
 use Rattle.sby_terms.specs.declared.names.Status.TheVariants.{Pass, Fail, Memory}
 use Rattle.sby_top.specs.Claims.{AreShownReaches, HasPrinted, IsDesignOf, IsNamedUnreached, IsShownBreak}
 use Rattle.sby_top.specs.Headline.{AreLines, Code, Cut, Exit, FailClaim, HasOwnStatus, IsPrinted, IsShown, IsTrueOf, PassClaim, TaskRan}
+use Rattle.sby_top.specs.Promise.{IsProve}
 use Rattle.sby_words.specs.Requests.{Request}
 use Rattle.sby_words.specs.Words.{Asks}
 use Rattle.sby_top.specs.Run.{Did, IsNothing, UsageAlone}
@@ -21,10 +22,13 @@ pass_claimed may_read number moments task end exit ran status bmc =
     let is : IsTrueOf moments.got.told task end.text (PassClaim Bmc task end) = subst (λ m. IsTrueOf moments.got.told task end.text (PassClaim m task end)) bmc (ran.pass status) in
     (is.1.0, record { got = is.0; reads = is.1.1; flat = is.1.2 }, is.1.3)
 
-pub prove_pass_claimed : (may_read : ℕ → Type 0) (number : ℕ) (moments : Moments) (task : TaskOf) (end : TaskEnd) (exit : Exit) → TaskRan may_read number moments task end exit → end.status ≡ Pass → task.request.mode ≡ Prove
+pub prove_pass_claimed : (may_read : ℕ → Type 0) (number : ℕ) (moments : Moments) (task : TaskOf) (end : TaskEnd) (exit : Exit) → TaskRan may_read number moments task end exit → end.status ≡ Pass → IsProve task.request.mode
     → (d : DesignOf) × IsDesignOf moments task end d × NeverBreak d
-prove_pass_claimed may_read number moments task end exit ran status prove =
+prove_pass_claimed may_read number moments task end exit ran status (inl prove) =
     let is : IsTrueOf moments.got.told task end.text (PassClaim Prove task end) = subst (λ m. IsTrueOf moments.got.told task end.text (PassClaim m task end)) prove (ran.pass status) in
+    (is.1.0, record { got = is.0; reads = is.1.1; flat = is.1.2 }, is.1.3)
+prove_pass_claimed may_read number moments task end exit ran status (inr prove) =
+    let is : IsTrueOf moments.got.told task end.text (PassClaim ProveInv task end) = subst (λ m. IsTrueOf moments.got.told task end.text (PassClaim m task end)) prove (ran.pass status) in
     (is.1.0, record { got = is.0; reads = is.1.1; flat = is.1.2 }, is.1.3)
 
 whole_or_cut : (moments : Moments) (task : TaskOf) (end : TaskEnd) (exit : Exit)
@@ -58,8 +62,9 @@ shown_break may_read number moments task end exit ran status is =
 pub fail_claimed : (may_read : ℕ → Type 0) (number : ℕ) (moments : Moments) (task : TaskOf) (end : TaskEnd) (exit : Exit) → TaskRan may_read number moments task end exit → end.status ≡ Fail → task.request.mode ≡ Bmc → IsShownBreak moments task end
 fail_claimed may_read number moments task end exit ran status bmc = shown_break may_read number moments task end exit ran status (subst (λ m. IsTrueOf moments.got.told task end.text (FailClaim m task end)) bmc (ran.fail status))
 
-pub prove_fail_claimed : (may_read : ℕ → Type 0) (number : ℕ) (moments : Moments) (task : TaskOf) (end : TaskEnd) (exit : Exit) → TaskRan may_read number moments task end exit → end.status ≡ Fail → task.request.mode ≡ Prove → IsShownBreak moments task end
-prove_fail_claimed may_read number moments task end exit ran status prove = shown_break may_read number moments task end exit ran status (subst (λ m. IsTrueOf moments.got.told task end.text (FailClaim m task end)) prove (ran.fail status))
+pub prove_fail_claimed : (may_read : ℕ → Type 0) (number : ℕ) (moments : Moments) (task : TaskOf) (end : TaskEnd) (exit : Exit) → TaskRan may_read number moments task end exit → end.status ≡ Fail → IsProve task.request.mode → IsShownBreak moments task end
+prove_fail_claimed may_read number moments task end exit ran status (inl prove) = shown_break may_read number moments task end exit ran status (subst (λ m. IsTrueOf moments.got.told task end.text (FailClaim m task end)) prove (ran.fail status))
+prove_fail_claimed may_read number moments task end exit ran status (inr prove) = shown_break may_read number moments task end exit ran status (subst (λ m. IsTrueOf moments.got.told task end.text (FailClaim m task end)) prove (ran.fail status))
 
 pub cover_pass_claimed : (may_read : ℕ → Type 0) (number : ℕ) (moments : Moments) (task : TaskOf) (end : TaskEnd) (exit : Exit) → TaskRan may_read number moments task end exit → end.status ≡ Pass → task.request.mode ≡ Cover → AreShownReaches moments task end
 cover_pass_claimed may_read number moments task end exit ran status cover =

@@ -20,6 +20,7 @@ use Rattle.race_core.specs.declared.end.JobEnd.TheVariants.{Found, Unknown, NotS
 use Rattle.task_race.specs.Serving.{IsServing}
 use Rattle.sby_terms.specs.Problem.{ProblemOf}
 use Rattle.sby_terms.specs.declared.engine.Engine.{Engine}
+use Rattle.sby_terms.specs.declared.names.Answer.{Answer}
 use Rattle.sby_terms.specs.declared.names.Status.{Status}
 use Rattle.sby_lines.specs.Lines.{IsStatus}
 use Rattle.sby_lines.specs.Told.{AreReported, IsRaceStatus, job_of}
@@ -38,8 +39,9 @@ use Rattle.sby_top.specs.Task.{Lanes, TaskOf}
 use Rattle.sby_top.specs.World.{Moments, race_of}
 use Rattle.sby_top.specs.declared.outcome.TaskEnd.{TaskEnd}
 use Rattle.sby_top.proofs.AnswerLemmas.{IsPlace, Spares, calling_spares, skipping_spares}
+use Rattle.sby_top.proofs.ApartLemmas.{SaysOf}
 use Rattle.sby_top.proofs.LookLemmas.{found_or_shown}
-use Rattle.sby_top.proofs.EvidenceLemmas.{FindingLaws, answers_agree, judged_job, judged_says, plain_fate}
+use Rattle.sby_top.proofs.EvidenceLemmas.{FindingLaws, Says, answers_agree, finding_says, judged_job, judged_says, plain_fate}
 use Rattle.sby_top.proofs.MatchLemmas.{AreMatched, Matches, plain_or_look, plain_verdict}
 use Rattle.sby_top.proofs.OpenLemmas.{is_place}
 use Rattle.sby_top.proofs.PlainLemmas.{end_answer}
@@ -177,14 +179,28 @@ module _ (laws : FindingLaws) (may_read : ℕ → Type 0) (number : ℕ) (moment
     plain_own (Stopped t) own f carries = absurd carries
     plain_own MemoryEnd own f carries = absurd carries
 
+    -- what they found is true
+    plain_says : (q : ReportOf FindingOf) (f : FindingOf) → slice_get plain lane ≡ Some q → end_at q k ≡ Found f → Says judged.done.problem (name_at judged.done.problem.problem.mode k) f.answer
+    plain_says q f at_q is =
+        let own = subst (λ (e : JobEnd FindingOf). IsPlainEnd (racing_of task judged.done.problem number engines) moments.before.yard.scripts lane (name_at judged.done.problem.problem.mode k) e) is ((are_plain.each lane q at_q).1 k lt) in
+        let file = own_file in
+        judged_says (racing_of task judged.done.problem number engines) judged.done.served.0.problem moments.before.yard.scripts lane (name_at judged.done.problem.problem.mode k) f file.0 file.1 own
+
     -- a finding that the reports carry for the job answers as Plain's does
     agrees : (q : ReportOf FindingOf) (f g : FindingOf) → slice_get plain lane ≡ Some q → end_at q k ≡ Found f → SettledIn job_of end.reports.items (name_at judged.done.problem.problem.mode k) g → f.answer ≡ g.answer
     agrees q f g at_q is settled =
-        let own = subst (λ (e : JobEnd FindingOf). IsPlainEnd (racing_of task judged.done.problem number engines) moments.before.yard.scripts lane (name_at judged.done.problem.problem.mode k) e) is ((are_plain.each lane q at_q).1 k lt) in
-        let file = own_file in
-        let says = judged_says (racing_of task judged.done.problem number engines) judged.done.served.0.problem moments.before.yard.scripts lane (name_at judged.done.problem.problem.mode k) f file.0 file.1 own in
         let true_of = lanes_ran.are_true settled.0 g settled.1 settled.2 in
-        sym (answers_agree laws judged.done.problem (name_at judged.done.problem.problem.mode k) g judged.done.served.0.problem true_of.0 true_of.1 settled.3 f.answer says)
+        sym (answers_agree laws judged.done.problem (name_at judged.done.problem.problem.mode k) g judged.done.served.0.problem true_of.0 true_of.1 settled.3 f.answer (plain_says q f at_q is))
+
+  -- and is true
+  settled_says : (k : ℕ) (g : FindingOf) → SettledIn job_of end.reports.items (name_at judged.done.problem.problem.mode k) g → Says judged.done.problem (name_at judged.done.problem.problem.mode k) g.answer
+  settled_says k g settled =
+      let true_of = lanes_ran.are_true settled.0 g settled.1 settled.2 in
+      finding_says laws judged.done.problem (name_at judged.done.problem.problem.mode k) g judged.done.served.0.problem true_of.0 true_of.1 settled.3
+
+  -- in the task's own words
+  of_task : (k : ℕ) (a : Answer) → Says judged.done.problem (name_at judged.done.problem.problem.mode k) a → SaysOf judged.done.problem.design task.request.span (name_at task.request.mode k) a
+  of_task k a says = subst (λ (q : ProblemOf). SaysOf judged.done.problem.design q.span (name_at q.mode k) a) judged.done.served.0.asked says
 
   -- ---- all of them
 
@@ -205,6 +221,8 @@ module _ (laws : FindingLaws) (may_read : ℕ → Type 0) (number : ℕ) (moment
         subst (λ m. f.job ≡ name_at m k) mode_is (judged_job (racing_of task judged.done.problem number engines) moments.before.yard.scripts lane (name_at judged.done.problem.problem.mode k) f own);
     matches = λ lane k q r at_q at_r lt. subst (λ m. Matches m k (end_at q k) (end_at r k)) mode_is (matches lane k (back_in k lt) q r at_q at_r);
     agree = λ lane k q f g at lt is settled. agrees lane k (back_in k lt) q f g at is (subst (λ m. SettledIn job_of end.reports.items (name_at m k) g) (sym mode_is) settled);
+    plain_says = λ lane k q f at lt is. of_task k f.answer (plain_says lane k (back_in k lt) q f at is);
+    says = λ k g lt settled. of_task k g.answer (settled_says k g (subst (λ m. SettledIn job_of end.reports.items (name_at m k) g) (sym mode_is) settled));
     sources = λ lane k r f at lt carries.
         elim (found_or_shown (Serves (racing_of task judged.done.problem number engines) lane) (terms_in (racing_of task judged.done.problem number engines) end.start) (job_count (racing_of task judged.done.problem number engines)) r
         (lanes_ran.consistent.replays lane r at) k f (back_in k lt) carries) [

@@ -7,13 +7,15 @@ use Rattle.sby_edge.specs.Child.{YardOf, up_to}
 use Rattle.sby_edge.specs.Script.{GateOf, ScriptOf}
 use Rattle.cert_judge.specs.Fate.{Fate, Found as FoundFate, Unknown as UnknownFate, Bad as BadFate}
 use Rattle.cert_judge.specs.Output.{has_values, stream_of}
+use Rattle.cert_judge.specs.Kinds.{IsFate as IsCertFate}
 use Rattle.cert_judge.specs.OutputFate.{IsOutputFate}
 use Rattle.cert_judge.specs.declared.stream.Kind.{Kind}
 use Rattle.cert_judge.specs.declared.stream.Kind.TheVariants.{Certificate}
+use Rattle.cert_judge.specs.declared.stream.StreamKind.{StreamKind}
 use Rattle.cert_judge.specs.declared.stream.StreamKind.TheVariants.{Drup}
 use Rattle.cert_judge.proofs.OutputFates.{own_same}
 use Rattle.judge.proofs.Streams.{found_sat, found_unsat}
-use Rattle.judge.specs.Fates.{IsFate}
+use Rattle.judge.specs.Fates.{IsFate, Serves}
 use Rattle.judge.specs.Finding.{FindingOf, IsTrueFinding}
 use Rattle.judge.specs.Jobs.{Solvable, span_of}
 use Rattle.judge.specs.Problem.{AskedOf, IsJobFile, IsProblem}
@@ -22,38 +24,40 @@ use Rattle.race_core.specs.declared.end.JobEnd.TheVariants.{Found, Unknown, NotS
 use Rattle.race_core.specs.declared.event.Judged.{Judged}
 use Rattle.race_core.specs.declared.event.Judged.TheVariants as judged
 use Rattle.task_race.specs.Fates.{Ends, IsWhole, Proves, Tells, for_law, most_bytes}
-use Rattle.task_race.specs.Serving.{IsServing}
+use Rattle.task_race.specs.Serving.{IsJudgeable, IsServing, evidence_at}
 use Rattle.task_race.specs.declared.evidence.Evidence.{Evidence}
 use Rattle.task_race.specs.declared.evidence.Evidence.TheVariants.{Output, ProofFile}
 use Rattle.sby_terms.specs.Problem.{ProblemOf}
+use Rattle.sby_terms.specs.declared.engine.Engine.{Engine}
 use Rattle.sby_terms.specs.declared.names.Answer.{Answer}
 use Rattle.sby_terms.specs.declared.names.Answer.TheVariants.{Sat, Unsat}
 use Rattle.sby_terms.specs.declared.names.JobName.{JobName}
 use Rattle.task_race.specs.Ends.{IsEndOfFate, IsFateOf, IsJudgedAs, IsProofOf, IsStreamOf, script_of}
 use Rattle.task_race.specs.Ran.{RacingOf, evidence_in}
 use Rattle.sby_top.specs.Complete.{IsPlainEnd}
+use Rattle.sby_top.proofs.ApartLemmas.{SaysOf}
+use Rattle.sby_top.proofs.StreamLemmas.{certificate_serves}
 
 -- what an answer says of a job
 abbrev pub Says : AskedOf → JobName → Answer → Type 0
-Says p job Sat = Solvable p.design job (span_of p.problem)
-Says p job Unsat = Solvable p.design job (span_of p.problem) → ⊥
+Says p job a = SaysOf p.design (span_of p.problem) job a
 
 module _ (p : AskedOf) (problem : IsProblem p) (job : JobName) (file : List ℕ) (is_file : IsJobFile p job file) where
-  stream_says : (kind : Kind) (stream : List ℕ) (most : ℕ) (a : Answer) → IsFate p job kind file stream most (FoundFate a) → Says p job a
+  pub stream_says : (kind : Kind) (stream : List ℕ) (most : ℕ) (a : Answer) → IsFate p job kind file stream most (FoundFate a) → Says p job a
   stream_says kind stream most Sat fate = found_sat p problem job kind file stream most is_file fate
   stream_says kind stream most Unsat fate = found_unsat p problem job kind file stream most is_file fate
 
-  output_says : (output : List ℕ) (most : ℕ) (a : Answer) → IsOutputFate file output most (Some (FoundFate a)) → Says p job a
-  output_says output most a (x, fate, own) =
+  output_says : (kind : StreamKind) (output : List ℕ) (most : ℕ) (a : Answer) → Serves (Certificate kind) job → IsOutputFate file output most (Some (FoundFate a)) → Says p job a
+  output_says kind output most a serves (x, fate, own) =
       stream_says (Certificate Drup) (stream_of true output) most a
-      (subst (λ (y : Fate). IsFate p job (Certificate Drup) file (stream_of true output) most y) (own_same (has_values output) x (FoundFate a) own) fate)
+      (certificate_serves kind Drup job serves, subst (λ (y : Fate). IsCertFate Drup file (stream_of true output) most y) (own_same (has_values output) x (FoundFate a) own) fate)
 
-  whole_says : (by : Evidence) (output : List ℕ) (a : Answer) → IsWhole p job by file output (Some (FoundFate a)) → Says p job a
-  whole_says (Output kind) output a fate = stream_says kind output most_bytes a fate
-  whole_says (ProofFile kind) output a fate = output_says output most_bytes a fate
+  whole_says : (by : Evidence) (output : List ℕ) (a : Answer) → IsJudgeable by job → IsWhole p job by file output (Some (FoundFate a)) → Says p job a
+  whole_says (Output kind) output a judgeable fate = stream_says kind output most_bytes a fate
+  whole_says (ProofFile kind) output a judgeable fate = output_says kind output most_bytes a judgeable fate
 
-  ends_say : (by : Evidence) (g : FindingOf) (output : List ℕ) → Ends p job by output (judged.Found g) → Says p job g.answer
-  ends_say by g output (fate, tells, is) = whole_says by output g.answer (subst (λ (x : Option Fate). IsWhole p job by file output x) tells.0 (is file is_file))
+  ends_say : (by : Evidence) (g : FindingOf) (output : List ℕ) → IsJudgeable by job → Ends p job by output (judged.Found g) → Says p job g.answer
+  ends_say by g output judgeable (fate, tells, is) = whole_says by output g.answer judgeable (subst (λ (x : Option Fate). IsWhole p job by file output x) tells.0 (is file is_file))
 
   proves_say : (by : Evidence) (g : FindingOf) (proof : List ℕ) → Proves p job by proof (judged.Found g) → Says p job g.answer
   proves_say (Output kind) g proof h = absurd h
@@ -62,10 +66,15 @@ module _ (p : AskedOf) (problem : IsProblem p) (job : JobName) (file : List ℕ)
       stream_says (Certificate kind) proof most_bytes g.answer (subst (λ (x : Fate). IsFate p job (Certificate kind) file proof most_bytes x) same (is file is_file))
 
   -- the fate of what a child leaves says what it finds
-  pub fate_says : (by : Evidence) (stream proof : List ℕ) (a : Answer) → IsFateOf p job by file stream proof (FoundFate a) → Says p job a
-  fate_says (Output kind) stream proof a fate = stream_says kind stream most_bytes a fate
-  fate_says (ProofFile kind) stream proof a (inl output) = output_says stream most_bytes a output
-  fate_says (ProofFile kind) stream proof a (inr (none, fate)) = stream_says (Certificate kind) proof most_bytes a fate
+  pub fate_says : (by : Evidence) (stream proof : List ℕ) (a : Answer) → IsJudgeable by job → IsFateOf p job by file stream proof (FoundFate a) → Says p job a
+  fate_says (Output kind) stream proof a judgeable fate = stream_says kind stream most_bytes a fate
+  fate_says (ProofFile kind) stream proof a judgeable (inl output) = output_says kind stream most_bytes a judgeable output
+  fate_says (ProofFile kind) stream proof a judgeable (inr (none, fate)) = stream_says (Certificate kind) proof most_bytes a fate
+
+-- evidence of a lane that serves a job is judged for it
+pub lane_judgeable : (o : Option Engine) (job : JobName) → IsServing o job → IsJudgeable (evidence_at o) job
+lane_judgeable None job serving = absurd serving
+lane_judgeable (Some e) job serving = serving
 
 -- what is found of what a child leaves is for the job, and is so
 pub judged_job : (racing : RacingOf) (told : Option YardOf) (lane : ℕ) (job : JobName) (g : FindingOf) → IsJudgedAs racing told lane job (judged.Found g) → g.job ≡ job
@@ -74,7 +83,8 @@ judged_job racing told lane job g (served, (stream, of_script, inr (none, (proof
 
 pub judged_says : (racing : RacingOf) → IsProblem racing.problem → (told : Option YardOf) (lane : ℕ) (job : JobName) (g : FindingOf) (file : List ℕ) → IsJobFile racing.problem job file
     → IsJudgedAs racing told lane job (judged.Found g) → Says racing.problem job g.answer
-judged_says racing problem told lane job g file is_file (served, (stream, of_script, inl ends)) = ends_say racing.problem problem job file is_file (evidence_in racing lane) g stream ends
+judged_says racing problem told lane job g file is_file (served, (stream, of_script, inl ends)) =
+    ends_say racing.problem problem job file is_file (evidence_in racing lane) g stream (lane_judgeable (slice_get racing.engines lane) job served.0) ends
 judged_says racing problem told lane job g file is_file (served, (stream, of_script, inr (none, (proof, of_proof, proves)))) =
     proves_say racing.problem problem job file is_file (evidence_in racing lane) g proof proves
 
@@ -179,3 +189,11 @@ module _ (laws : FindingLaws) (p : AskedOf) (job : JobName) (f : FindingOf) (pro
 
   pub answers_agree : (a : Answer) → Says p job a → f.answer ≡ a
   answers_agree a says = agree_by a f.answer says refl
+
+  says_by : (b : Answer) → f.answer ≡ b → Says p job b
+  says_by Sat is = as_job (laws.sat f p.design is_true own_reads is)
+  says_by Unsat is = λ s. laws.unsat f p.design is_true own_reads is (as_finding s)
+
+  -- and says so
+  pub finding_says : Says p job f.answer
+  finding_says = says_by f.answer refl

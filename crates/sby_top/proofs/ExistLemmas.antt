@@ -18,9 +18,9 @@ use Rattle.sby_terms.specs.declared.names.Answer.TheVariants.{Sat, Unsat}
 use Rattle.sby_terms.specs.declared.names.Event.{Event}
 use Rattle.sby_terms.specs.declared.names.Event.TheVariants.{Quiet, Fault, Stopped, Memory as MemoryEvent}
 use Rattle.sby_terms.specs.declared.names.JobName.{JobName}
-use Rattle.sby_terms.specs.declared.names.JobName.TheVariants.{Base, Step, Cover}
+use Rattle.sby_terms.specs.declared.names.JobName.TheVariants.{Base, Step, Inv, Cover}
 use Rattle.sby_terms.specs.declared.names.Mode.{Mode}
-use Rattle.sby_terms.specs.declared.names.Mode.TheVariants.{Bmc, Prove, Cover as CoverMode}
+use Rattle.sby_terms.specs.declared.names.Mode.TheVariants.{Bmc, Prove, ProveInv, Cover as CoverMode}
 use Rattle.sby_terms.specs.declared.names.Status.{Status}
 use Rattle.sby_terms.specs.declared.names.Status.TheVariants.{Pass, Fail, Unknown, Error, Timeout, Memory}
 use Rattle.sby_terms.specs.declared.names.Verdict.{Verdict}
@@ -77,6 +77,13 @@ same_name : (a b : JobName) → Known (a ≡ b)
 same_name (Base n) (Base m) = elim (same_number n m) [ inl same ↦ inl (ap Base same) | inr apart ↦ inr (λ e. apart (let z = e in cc)) ]
 same_name (Cover n) (Cover m) = elim (same_number n m) [ inl same ↦ inl (ap Cover same) | inr apart ↦ inr (λ e. apart (let z = e in cc)) ]
 same_name Step Step = inl refl
+same_name Inv Inv = inl refl
+same_name (Base n) Inv = inr (λ e. cc)
+same_name Step Inv = inr (λ e. cc)
+same_name (Cover n) Inv = inr (λ e. cc)
+same_name Inv (Base m) = inr (λ e. cc)
+same_name Inv Step = inr (λ e. cc)
+same_name Inv (Cover m) = inr (λ e. cc)
 same_name (Base n) Step = inr (λ e. cc)
 same_name (Base n) (Cover m) = inr (λ e. cc)
 same_name Step (Base m) = inr (λ e. cc)
@@ -168,6 +175,17 @@ some_verdict Prove xs = elim (entered Sat (slice_get xs 0)) [
     no_base : (slice_get xs 0 ≡ Some (Some Unsat) → ⊥) → (slice_get xs 0 ≡ Some (Some Sat) → ⊥) → (v : Verdict) → Decides Prove xs v → ⊥
     no_base unsettled apart PassVerdict h = unsettled h.0
     no_base unsettled apart FailVerdict h = apart h
+some_verdict ProveInv xs = elim (entered Sat (slice_get xs 0)) [
+  | inl fails ↦ (Some FailVerdict, fails)
+  | inr apart ↦ elim (entered Unsat (slice_get xs 1)) [
+    | inl inv ↦ (Some PassVerdict, (apart, inv))
+    | inr unsettled ↦ (None, λ v h. neither unsettled apart v h)
+  ]
+]
+  where
+    neither : (slice_get xs 1 ≡ Some (Some Unsat) → ⊥) → (slice_get xs 0 ≡ Some (Some Sat) → ⊥) → (v : Verdict) → Decides ProveInv xs v → ⊥
+    neither unsettled apart PassVerdict h = unsettled h.1
+    neither unsettled apart FailVerdict h = apart h
 some_verdict CoverMode xs = elim (member (Some Unsat) (answered Unsat) xs) [
   | inl fails ↦ (Some FailVerdict, fails)
   | inr none ↦ elim (all_or_other Sat xs) [

@@ -16,7 +16,7 @@ use Rattle.sby_terms.specs.declared.names.Answer.TheVariants.{Sat, Unsat}
 use Rattle.sby_terms.specs.declared.names.Event.{Event}
 use Rattle.sby_terms.specs.declared.names.JobName.TheVariants.{Base}
 use Rattle.sby_terms.specs.declared.names.Mode.{Mode}
-use Rattle.sby_terms.specs.declared.names.Mode.TheVariants.{Bmc, Prove, Cover as CoverMode}
+use Rattle.sby_terms.specs.declared.names.Mode.TheVariants.{Bmc, Prove, ProveInv, Cover as CoverMode}
 use Rattle.sby_terms.specs.declared.names.Status.{Status}
 use Rattle.sby_terms.specs.declared.names.Status.TheVariants.{Pass, Fail, Unknown, Error, Timeout, Memory}
 use Rattle.sby_terms.specs.declared.names.Verdict.{Verdict}
@@ -36,6 +36,7 @@ use Rattle.sby_top.proofs.StatusLemmas.{fail_decides}
 both_verdicts : (mode : Mode) (answers : List (Option Answer)) → mode ≢ CoverMode → Decides mode answers PassVerdict → Decides mode answers FailVerdict → ⊥
 both_verdicts Bmc answers apart pass fail = let no : ◌≡◌ {A = Option Answer} (Some Unsat) (Some Sat) = sym (pass.1 fail.0 (Some Sat) fail.1) ∙ fail.2 in cc
 both_verdicts Prove answers apart pass fail = let no : ◌≡◌ {A = Option (Option Answer)} (Some (Some Unsat)) (Some (Some Sat)) = sym pass.0 ∙ fail in cc
+both_verdicts ProveInv answers apart pass fail = pass.0 fail
 both_verdicts CoverMode answers apart pass fail = apart refl
 
 pub fail_status : (events : List Event) (s : Status) → HasStatus (Some FailVerdict) events s → s ≡ Fail
@@ -72,6 +73,10 @@ break_claim Prove span d zero a run apart lt c = (0, refl, break_by d span 0 a r
 break_claim Prove span d (suc zero) Sat run apart lt c = let no : Some run ≡ None = c.1 in cc
 break_claim Prove span d (suc zero) Unsat run apart lt c = let no : Some run ≡ None = c.1 in cc
 break_claim Prove span d (suc (suc place)) a run apart lt c = absurd (omega (arith, lt))
+break_claim ProveInv span d zero a run apart lt c = (0, refl, break_by d span 0 a run c)
+break_claim ProveInv span d (suc zero) Sat run apart lt c = absurd c
+break_claim ProveInv span d (suc zero) Unsat run apart lt c = let no : Some run ≡ None = c.1 in cc
+break_claim ProveInv span d (suc (suc place)) a run apart lt c = absurd (omega (arith, lt))
 break_claim CoverMode span d place a run apart lt c = absurd (apart refl)
 
 -- a finding that is printed is carried

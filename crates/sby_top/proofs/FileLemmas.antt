@@ -16,7 +16,7 @@ use Rattle.sby_terms.specs.Span.{IsSpan, slices_of}
 use Rattle.sby_terms.specs.declared.engine.Engine.{Engine}
 use Rattle.sby_terms.specs.declared.names.JobName.{JobName}
 use Rattle.sby_terms.specs.declared.names.Mode.{Mode}
-use Rattle.sby_terms.specs.declared.names.Mode.TheVariants.{Bmc, Prove, Cover as CoverMode}
+use Rattle.sby_terms.specs.declared.names.Mode.TheVariants.{Bmc, Prove, ProveInv, Cover as CoverMode}
 use Rattle.sby_terms.specs.declared.span.Span.{Span}
 use Rattle.sby_top.specs.Served.{ArePut, Formula, IsFileOf, Btor, JobFile, TakesWitness, file_path, files_in, jobs_in, slices_in}
 use Rattle.sby_top.specs.Task.{Lanes, Service}
@@ -40,6 +40,9 @@ numbered_in Bmc span d is design k lt = ((λ one. omega (arith, lt, one, slice_c
 numbered_in Prove span d is design zero lt = ((λ one. refl), omega arith)
 numbered_in Prove span d is design (suc zero) lt = tt
 numbered_in Prove span d is design (suc (suc k)) lt = absurd (omega (arith, lt))
+numbered_in ProveInv span d is design zero lt = ((λ one. refl), omega arith)
+numbered_in ProveInv span d is design (suc zero) lt = tt
+numbered_in ProveInv span d is design (suc (suc k)) lt = absurd (omega (arith, lt))
 numbered_in CoverMode span d is design k lt = omega (arith, lt, cover_count span d, few_covers d design)
 
 some_same : {X : Type 0} (x y : X) → ◌≡◌ {A = Option X} (Some x) (Some y) → x ≡ y
@@ -47,7 +50,8 @@ some_same x y h = cc
 
 -- a job that has a file is one of the problem's
 job_at : (p : AskedOf) (job : JobName) (file : List ℕ) → IsJobFile p job file → (i : ℕ) × (slice_get (jobs_in p) i ≡ Some job)
-job_at p job file is = is.1.1.0
+job_at p job file (inl is) = is.1.1.0.0
+job_at p job file (inr is) = is.0
 
 -- the jobs of a problem are as its task has them
 pub jobs_numbered : (p : AskedOf) → IsProblem p → (k : ℕ) (job : JobName) → slice_get (jobs_in p) k ≡ Some job → IsNumbered (slices_in p) job

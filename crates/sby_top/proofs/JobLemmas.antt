@@ -12,7 +12,7 @@ use Rattle.race_core.specs.declared.end.JobEnd.{JobEnd}
 use Rattle.sby_terms.specs.Span.{IsSpan}
 use Rattle.sby_terms.specs.declared.names.JobName.{JobName}
 use Rattle.sby_terms.specs.declared.names.Mode.{Mode}
-use Rattle.sby_terms.specs.declared.names.Mode.TheVariants.{Bmc, Prove, Cover as CoverMode}
+use Rattle.sby_terms.specs.declared.names.Mode.TheVariants.{Bmc, Prove, ProveInv, Cover as CoverMode}
 use Rattle.sby_terms.specs.declared.span.Span.{Span}
 use Rattle.sby_lines.proofs.PlaceLemmas.{cover_count, few_covers, slice_count}
 use Rattle.sby_top.specs.Judged.{AreJudged}
@@ -22,6 +22,7 @@ use Rattle.sby_top.specs.Steps.{IsPathJudged}
 few_in : (mode : Mode) (span : Span) (d : DesignOf) → IsSpan span → IsDesign d → length (jobs_of_mode mode span d) ≤ 2 ^ 27
 few_in Bmc span d is design = omega (arith, slice_count span d, is.few)
 few_in Prove span d is design = omega arith
+few_in ProveInv span d is design = omega arith
 few_in CoverMode span d is design = omega (arith, cover_count span d, few_covers d design)
 
 pub few_jobs : (p : AskedOf) → IsProblem p → length (jobs_in p) ≤ 2 ^ 27

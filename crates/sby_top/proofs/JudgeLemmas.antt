@@ -37,6 +37,11 @@ Stay = (p : AskedOf) (job : JobName) (kind : Kind) (file bytes rest : List ℕ) 
 abbrev pub HasFile : JudgeOf → Type 0
 HasFile j = (file : List ℕ) × IsJobFile j.asked j.job file
 
+-- so it has for the same problem and job
+pub same_file : (p q : AskedOf) (job other : JobName) → q ≡ p → other ≡ job → (file : List ℕ) × IsJobFile p job file → (file : List ℕ) × IsJobFile q other file
+same_file p q job other same too has =
+    (has.0, subst (λ (a : AskedOf). IsJobFile a other has.0) (sym same) (subst (λ (k : JobName). IsJobFile p k has.0) (sym too) has.1))
+
 more_only : (r : Result Progress BadCert) → fate_told r ≡ None → r ≡ Ok More
 more_only (Ok More) is = refl
 more_only (Ok (Done f)) is = cc

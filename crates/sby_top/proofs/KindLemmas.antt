@@ -7,7 +7,7 @@ use Rattle.std.proofs.lemmas.Slice.Eq.{bytes_eq-Decides}
 use Rattle.sby_words.specs.Folders.{EndsIn}
 use Rattle.sby_words.specs.Kinds.{IsKindNamed}
 use Rattle.cert_judge.specs.declared.stream.Kind.{Kind}
-use Rattle.cert_judge.specs.declared.stream.Kind.TheVariants.{Certificate, Witness}
+use Rattle.cert_judge.specs.declared.stream.Kind.TheVariants.{Certificate, Witness, Invariant}
 use Rattle.cert_judge.specs.declared.stream.StreamKind.{StreamKind}
 use Rattle.cert_judge.specs.declared.stream.StreamKind.TheVariants.{Drup, Lrat, Proof, ProofBinary}
 use Rattle.sby_top.specs.Served.{ends_in}
@@ -38,6 +38,9 @@ of_proofb name ends = ap last_but_one ends.1 ∙ last_but_one_of ends.0 46 112 (
 of_wit : (name : List ℕ) → EndsIn (codes ".wit") name → last_but_one name ≡ 105
 of_wit name ends = ap last_but_one ends.1 ∙ last_but_one_of ends.0 46 119 (codes "it")
 
+of_inv : (name : List ℕ) → EndsIn (codes ".inv") name → last_but_one name ≡ 110
+of_inv name ends = ap last_but_one ends.1 ∙ last_but_one_of ends.0 46 105 (codes "nv")
+
 one_certificate : (name : List ℕ) (x y : StreamKind) → IsKindNamed name (Certificate x) → IsKindNamed name (Certificate y) → x ≡ y
 one_certificate name Drup Drup p q = refl
 one_certificate name Drup Lrat p q = absurd (p.0 q)
@@ -62,11 +65,25 @@ no_witness name Lrat p q = let no : ◌≡◌ {A = ℕ} 97 105 = sym (of_lrat na
 no_witness name Proof p q = let no : ◌≡◌ {A = ℕ} 111 105 = sym (of_proof name p) ∙ of_wit name q in absurd (omega (arith, no))
 no_witness name ProofBinary p q = let no : ◌≡◌ {A = ℕ} 102 105 = sym (of_proofb name p) ∙ of_wit name q in absurd (omega (arith, no))
 
+no_invariant : (name : List ℕ) (x : StreamKind) → IsKindNamed name (Certificate x) → IsKindNamed name Invariant → ⊥
+no_invariant name Drup p q = p.4 q
+no_invariant name Lrat p q = let no : ◌≡◌ {A = ℕ} 97 110 = sym (of_lrat name p) ∙ of_inv name q in absurd (omega (arith, no))
+no_invariant name Proof p q = let no : ◌≡◌ {A = ℕ} 111 110 = sym (of_proof name p) ∙ of_inv name q in absurd (omega (arith, no))
+no_invariant name ProofBinary p q = let no : ◌≡◌ {A = ℕ} 102 110 = sym (of_proofb name p) ∙ of_inv name q in absurd (omega (arith, no))
+
+not_both : (name : List ℕ) → IsKindNamed name Witness → IsKindNamed name Invariant → ⊥
+not_both name p q = let no : ◌≡◌ {A = ℕ} 105 110 = sym (of_wit name p) ∙ of_inv name q in absurd (omega (arith, no))
+
 pub one_kind : (name : List ℕ) (x y : Kind) → IsKindNamed name x → IsKindNamed name y → x ≡ y
 one_kind name (Certificate x) (Certificate y) p q = ap Certificate (one_certificate name x y p q)
 one_kind name (Certificate x) Witness p q = absurd (no_witness name x p q)
 one_kind name Witness (Certificate y) p q = absurd (no_witness name y q p)
+one_kind name (Certificate x) Invariant p q = absurd (no_invariant name x p q)
 one_kind name Witness Witness p q = refl
+one_kind name Witness Invariant p q = absurd (not_both name p q)
+one_kind name Invariant (Certificate y) p q = absurd (no_invariant name y q p)
+one_kind name Invariant Witness p q = absurd (not_both name q p)
+one_kind name Invariant Invariant p q = refl
 
 -- ---- how a text ends, as it is decided
 
@@ -90,9 +107,9 @@ is_or_not true = inl refl
 is_or_not false = inr refl
 
 -- a path that names another kind ends otherwise
-pub named_otherwise : (path : List ℕ) (kind : StreamKind) → IsKindNamed path (Certificate kind) → ends_in (codes ".wit") path ≡ false
-named_otherwise path kind named = elim (is_or_not (ends_in (codes ".wit") path)) [
-  | inl is ↦ absurd (no_witness path kind named (so_ends (codes ".wit") path is))
+pub named_otherwise : (path : List ℕ) (kind : Kind) → IsKindNamed path kind → (kind ≡ Witness → ⊥) → ends_in (codes ".wit") path ≡ false
+named_otherwise path kind named other = elim (is_or_not (ends_in (codes ".wit") path)) [
+  | inl is ↦ absurd (other (one_kind path kind Witness named (so_ends (codes ".wit") path is)))
   | inr not ↦ not
 ]
 

@@ -45,10 +45,10 @@ use Rattle.sby_top.specs.World.{Moments, race_of}
 use Rattle.sby_top.specs.declared.outcome.TaskEnd.{TaskEnd}
 use Rattle.sby_top.proofs.FailLemmas.{fail_status}
 use Rattle.sby_top.proofs.KindLemmas.{one_kind}
+use Rattle.sby_top.proofs.StreamLemmas.{fate_serves}
 use Rattle.sby_top.proofs.PlainLemmas.{done_gives}
 use Rattle.sby_top.proofs.ReportLemmas.{job_count}
 use Rattle.sby_top.proofs.PutLemmas.{put_told}
-use Rattle.cert_judge.specs.declared.stream.Kind.TheVariants.{Certificate, Witness}
 use Rattle.task_race.specs.Words.{btor_path}
 use Rattle.sby_top.proofs.PathLemmas.{btor_apart}
 
@@ -125,17 +125,12 @@ one_put_stands service p folder told now file one put stands =
 
 -- ---- the fate of the one stream
 
--- streams of each kind are judged for a job that asks for a run from the start
-start_serves : (kind : Kind) → Serves kind (Base 0)
-start_serves (Certificate kind) = tt
-start_serves Witness = tt
-
 fate_is_found : OneFate → OneFile → (p : AskedOf) → IsProblem p → (now : Store) (path : List ℕ) (kind : Kind) (stream file : List ℕ) (answer : Answer) (fates : List (Option Fate)) → IsJobFile p (Base 0) file
     → IsKindNamed path kind → now path ≡ Some stream → IsFate p (Base 0) kind file stream most_stream (Found answer) → AreFates p now (Base 0 ∷ []) (path ∷ []) fates
     → AreWhole (Base 0 ∷ []) (path ∷ []) fates ⊎ IsDecided Bmc (map fate_answer fates) → fates ≡ Some (Found answer) ∷ []
 fate_is_found one_fate one_file p problem now path kind stream file answer [] own named has valid fates_are whole = absurd fates_are
 fate_is_found one_fate one_file p problem now path kind stream file answer (None ∷ fates) own named has valid fates_are whole = elim whole [
-  | inl all ↦ absurd (all.0.2 (subst (λ (k : Kind). Serves k (Base 0)) (one_kind path kind all.0.0 named all.0.1) (start_serves kind)))
+  | inl all ↦ absurd (all.0.2 (subst (λ (k : Kind). Serves k (Base 0)) (one_kind path kind all.0.0 named all.0.1) (fate_serves p (Base 0) kind file stream most_stream (Found answer) valid)))
   | inr decided ↦
       let none : fates ≡ [] = fates_are in
       absurd (nothing_decides decided.0 (subst (λ fs. Decides Bmc (None ∷ map fate_answer fs) decided.0) none decided.1))

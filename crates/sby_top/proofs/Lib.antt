@@ -1,4 +1,5 @@
 pub mod AnswerLemmas
+pub mod ApartLemmas
 pub mod CertificateLemmas
 pub mod ChildLemmas
 pub mod ClaimLemmas
@@ -34,6 +35,7 @@ pub mod SlottedLemmas
 pub mod SpareLemmas
 pub mod StatusLemmas
 pub mod StoredLemmas
+pub mod StreamLemmas
 pub mod TogetherLemmas
 pub mod TopLemmas
 pub mod TraceLemmas

@@ -31,6 +31,7 @@ use Rattle.sby_lines.proofs.PlaceLemmas.{at_contains, contains_at}
 use Rattle.sby_lines.proofs.ShownLemmas.{one_verdict}
 use Rattle.sby_top.specs.Complete.{HasLooked, IsByLook, IsVerdictStatus, PassesOn}
 use Rattle.sby_top.proofs.AnswerLemmas.{Keeps, Spares, kept_or_failed, kept_verdict, one_closed, one_open, same_answers, verdict_kept}
+use Rattle.sby_top.proofs.ApartLemmas.{AllSay, SaysOf, says_apart}
 use Rattle.sby_top.proofs.OpenLemmas.{answered, carried_here, none_spared, spared}
 use Rattle.sby_top.proofs.PlainLemmas.{answer_found, end_answer, one_place, status_by}
 use Rattle.sby_top.proofs.ReportLemmas.{first_or_later, nothing_in}
@@ -39,8 +40,8 @@ use Rattle.sby_top.proofs.ReportLemmas.{first_or_later, nothing_in}
 abbrev pub Matches : Mode → ℕ → JobEnd FindingOf → JobEnd FindingOf → Type 0
 Matches mode k own e = ((end_answer own ≡ end_answer e) × (told_by own ≡ told_by e)) ⊎ ((f : FindingOf) × PassesOn e f × Spares mode k f.job f.answer)
 
--- Plain's ends carry what is found for their jobs; so do the reports' own ends, which match them; findings for one job agree; and what
--- a report carries it found, or a look showed it.
+-- Plain's ends carry what is found for their jobs; so do the reports' own ends, which match them; findings for one job agree, and are true; and what
+-- a report carries it found, or a look showed it. What is found, or carried for its job, is true.
 pub record AreMatched (mode : Mode) (span : Span) (d : DesignOf) (reports plain : List (ReportOf FindingOf)) : Type 0 where
   pub lanes : length plain ≡ length reports
   pub ends : (lane : ℕ) (q : ReportOf FindingOf) → slice_get plain lane ≡ Some q → length q.ends ≡ length (jobs_in mode span d)
@@ -49,6 +50,8 @@ pub record AreMatched (mode : Mode) (span : Span) (d : DesignOf) (reports plain 
   pub matches : (lane k : ℕ) (q r : ReportOf FindingOf) → slice_get plain lane ≡ Some q → slice_get reports lane ≡ Some r → k < length (jobs_in mode span d) → Matches mode k (end_at q k) (end_at r k)
   pub agree : (lane k : ℕ) (q : ReportOf FindingOf) (f g : FindingOf) → slice_get plain lane ≡ Some q → k < length (jobs_in mode span d) → end_at q k ≡ Found f → SettledIn job_of reports (name_at mode k) g
       → f.answer ≡ g.answer
+  pub plain_says : (lane k : ℕ) (q : ReportOf FindingOf) (f : FindingOf) → slice_get plain lane ≡ Some q → k < length (jobs_in mode span d) → end_at q k ≡ Found f → SaysOf d span (name_at mode k) f.answer
+  pub says : (k : ℕ) (g : FindingOf) → k < length (jobs_in mode span d) → SettledIn job_of reports (name_at mode k) g → SaysOf d span (name_at mode k) g.answer
   pub sources : (lane k : ℕ) (r : ReportOf FindingOf) (f : FindingOf) → slice_get reports lane ≡ Some r → k < length (jobs_in mode span d) → Carries (end_at r k) f
       → ((l : ℕ) × (l < length (jobs_in mode span d)) × (end_at r l ≡ Found f)) ⊎ HasLooked r f
 
@@ -144,6 +147,14 @@ module _ (mode : Mode) (span : Span) (d : DesignOf) (reports plain : List (Repor
         ]
       ]
 
+  own_say : AllSay d span mode answers
+  own_say k a at =
+      let g = collected.entry k (Some a) at in
+      subst (SaysOf d span (name_at mode k)) g.2 (matched.says k g.0 (omega (arith, collected.size, slice_get_within answers k (Some a) at)) g.1)
+
+  plain_say : AllSay d span mode others
+  plain_say k a at = let x = plain_found k a at in subst (SaysOf d span (name_at mode k)) x.answer_is (matched.plain_says x.lane k x.report x.finding x.at x.within x.is)
+
   same_size : length others ≡ length answers
   same_size = plainly.size ∙ sym collected.size
 
@@ -151,7 +162,7 @@ module _ (mode : Mode) (span : Span) (d : DesignOf) (reports plain : List (Repor
   closed : (v : Verdict) (s t : Status) (plain_is : IsStatus job_of mode plain others s) (is : IsStatus job_of mode reports answers t) → plain_is.decided ≡ Some v → t ≡ s
   closed v s t plain_is is decided =
       let own : Decides mode others v = subst (Decided mode others) decided plain_is.decides in
-      let here : Decides mode answers v = verdict_kept mode others answers each_kept v same_size agree_at own in
+      let here : Decides mode answers v = verdict_kept mode others answers each_kept v same_size agree_at (says_apart d span mode others answers plain_say own_say) (says_apart d span mode answers answers own_say own_say) own in
       let one : is.decided ≡ Some v = one_verdict mode answers is.decided (Some v) is.decides here in
       one_closed v is.events plain_is.events t s (subst (λ o. HasStatus o is.events t) one is.has_status) (subst (λ o. HasStatus o plain_is.events s) decided plain_is.has_status)
 
@@ -245,7 +256,7 @@ module _ (mode : Mode) (span : Span) (d : DesignOf) (reports plain : List (Repor
     plain_left = subst (Decided mode others) undecided plain_is.decides
 
     left : (v : Verdict) → Decides mode answers v → ⊥
-    left v decides = plain_left v (kept_verdict mode answers others v (sym same_size) back decides)
+    left v decides = plain_left v (kept_verdict mode answers others v (sym same_size) back (says_apart d span mode others others plain_say plain_say) decides)
 
     same : others ≡ answers
     same = elim (kept_or_failed mode others answers each_kept) [

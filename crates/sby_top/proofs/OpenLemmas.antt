@@ -15,7 +15,7 @@ use Rattle.race_core.specs.declared.end.JobEnd.TheVariants.{NotServed}
 use Rattle.sby_terms.specs.Decide.{Decides}
 use Rattle.sby_terms.specs.declared.names.Answer.{Answer}
 use Rattle.sby_terms.specs.declared.names.Mode.{Mode}
-use Rattle.sby_terms.specs.declared.names.Mode.TheVariants.{Bmc, Prove, Cover as CoverMode}
+use Rattle.sby_terms.specs.declared.names.Mode.TheVariants.{Bmc, Prove, ProveInv, Cover as CoverMode}
 use Rattle.sby_terms.specs.declared.names.Verdict.{Verdict}
 use Rattle.sby_terms.specs.declared.names.Verdict.TheVariants.{Fail as FailVerdict}
 use Rattle.sby_terms.specs.declared.span.Span.{Span}
@@ -27,6 +27,7 @@ use Rattle.sby_top.proofs.AnswerLemmas.{IsPlace, Spares, fails_by}
 pub is_place : (mode : Mode) (span : Span) (d : DesignOf) (k : ℕ) → k < length (jobs_in mode span d) → IsPlace mode k
 is_place Bmc span d k lt = tt
 is_place Prove span d k lt = omega (arith, lt)
+is_place ProveInv span d k lt = omega (arith, lt)
 is_place CoverMode span d k lt = tt
 
 module _ (mode : Mode) (span : Span) (d : DesignOf) (reports : List (ReportOf FindingOf)) (are : AreReported mode span d reports) where

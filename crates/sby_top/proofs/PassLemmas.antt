@@ -15,7 +15,7 @@ use Rattle.sby_terms.specs.declared.names.Answer.{Answer}
 use Rattle.sby_terms.specs.declared.names.Answer.TheVariants.{Unsat}
 use Rattle.sby_terms.specs.declared.names.JobName.TheVariants.{Base, Step}
 use Rattle.sby_terms.specs.declared.names.Mode.{Mode}
-use Rattle.sby_terms.specs.declared.names.Mode.TheVariants.{Bmc, Prove}
+use Rattle.sby_terms.specs.declared.names.Mode.TheVariants.{Bmc, Prove, ProveInv}
 use Rattle.sby_terms.specs.declared.names.Verdict.TheVariants.{Pass as PassVerdict}
 use Rattle.sby_terms.specs.declared.span.Span.{Span}
 use Rattle.sby_lines.specs.Told.{AreReported, answer_of, job_of}
@@ -48,6 +48,11 @@ prove_passes induction span d reports n answers askable reported are decides =
     let none : NoBreak d (first_of (whole span.depth) 0) (last_of (whole span.depth) 0) = subst (λ s. NoBreak d (first_of s 0) (last_of s 0)) one base.claim.0 in
     let stepless : Solvable d Step (whole span.depth) → ⊥ = subst (λ s. Solvable d Step s → ⊥) one step.claim.0 in
     induction d span.depth (omega (arith, askable.is_span.some)) (λ s. none s.0 s.1 s.2 s.3 s.4 s.5) stepless
+
+-- by an invariant, too
+pub invariant_passes : (span : Span) (d : DesignOf) (reports : List (ReportOf FindingOf)) (n : ℕ) (answers : List (Option Answer)) → AreReported ProveInv span d reports → AreCollected job_of answer_of ProveInv n reports answers
+    → Decides ProveInv answers PassVerdict → NeverBreak d
+invariant_passes span d reports n answers reported are decides = (claimed_at ProveInv span d reports n answers 1 Unsat reported are decides.1).claim.0
 
 -- PASS of bmc is that each slice is Unsat
 all_unsat : (span : Span) (answers : List (Option Answer)) → length answers ≡ slices_of span → Decides Bmc answers PassVerdict → (i : ℕ) → i < slices_of span → slice_get answers i ≡ Some (Some Unsat)

@@ -6,7 +6,7 @@ use Rattle.std.proofs.lemmas.Fmt.{decimal_injective}
 use Rattle.std.proofs.lemmas.List.{append_cancel_left, append_cancel_right}
 use Rattle.sby_terms.specs.Path.{job_path, job_text, path_text}
 use Rattle.sby_terms.specs.declared.names.JobName.{JobName}
-use Rattle.sby_terms.specs.declared.names.JobName.TheVariants.{Base, Step, Cover}
+use Rattle.sby_terms.specs.declared.names.JobName.TheVariants.{Base, Step, Inv, Cover}
 use Rattle.task_race.specs.Words.{btor_path, btor_file}
 use Rattle.sby_top.specs.Served.{Btor, Formula, JobFile}
 use Rattle.sby_top.proofs.KindLemmas.{last_but_one, last_but_one_of}
@@ -15,6 +15,7 @@ use Rattle.sby_top.proofs.KindLemmas.{last_but_one, last_but_one_of}
 unfoldable pub IsNumbered : ℕ → JobName → Type 0
 IsNumbered slices (Base i) = (slices ≡ 1 → i ≡ 0) × (i < 2 ^ 64)
 IsNumbered slices Step = Unit {0}
+IsNumbered slices Inv = Unit {0}
 IsNumbered slices (Cover k) = k < 2 ^ 64
 
 first : List ℕ → ℕ
@@ -43,12 +44,19 @@ text_same : (slices : ℕ) (a b : JobName) → IsNumbered slices a → IsNumbere
 unfolding IsNumbered first job_text
 text_same slices (Base i) (Base j) ha hb same = ap Base (base_same slices i j (slices == 1) refl ha hb same)
 text_same slices (Base i) Step ha hb same = absurd (apart 98 115 (job_text slices (Base i)) (job_text slices Step) (base_first slices i (slices == 1) refl) refl (omega arith) same)
+text_same slices (Base i) Inv ha hb same = absurd (apart 98 105 (job_text slices (Base i)) (job_text slices Inv) (base_first slices i (slices == 1) refl) refl (omega arith) same)
 text_same slices (Base i) (Cover k) ha hb same = absurd (apart 98 99 (job_text slices (Base i)) (job_text slices (Cover k)) (base_first slices i (slices == 1) refl) refl (omega arith) same)
 text_same slices Step (Base j) ha hb same = absurd (apart 98 115 (job_text slices (Base j)) (job_text slices Step) (base_first slices j (slices == 1) refl) refl (omega arith) (sym same))
 text_same slices Step Step ha hb same = refl
+text_same slices Step Inv ha hb same = absurd (apart 105 115 (job_text slices Inv) (job_text slices Step) refl refl (omega arith) (sym same))
+text_same slices Inv (Base j) ha hb same = absurd (apart 98 105 (job_text slices (Base j)) (job_text slices Inv) (base_first slices j (slices == 1) refl) refl (omega arith) (sym same))
+text_same slices Inv Step ha hb same = absurd (apart 105 115 (job_text slices Inv) (job_text slices Step) refl refl (omega arith) same)
+text_same slices Inv Inv ha hb same = refl
+text_same slices Inv (Cover k) ha hb same = absurd (apart 99 105 (job_text slices (Cover k)) (job_text slices Inv) refl refl (omega arith) (sym same))
 text_same slices Step (Cover k) ha hb same = absurd (apart 99 115 (job_text slices (Cover k)) (job_text slices Step) refl refl (omega arith) (sym same))
 text_same slices (Cover k) (Base j) ha hb same = absurd (apart 98 99 (job_text slices (Base j)) (job_text slices (Cover k)) (base_first slices j (slices == 1) refl) refl (omega arith) (sym same))
 text_same slices (Cover k) Step ha hb same = absurd (apart 99 115 (job_text slices (Cover k)) (job_text slices Step) refl refl (omega arith) same)
+text_same slices (Cover k) Inv ha hb same = absurd (apart 99 105 (job_text slices (Cover k)) (job_text slices Inv) refl refl (omega arith) same)
 text_same slices (Cover k) (Cover j) ha hb same = ap Cover (decimal_injective k j ha hb (append_cancel_left (codes "cover") (decimal k) (decimal j) same))
 
 -- one path, one job

@@ -30,9 +30,9 @@ use Rattle.sby_terms.specs.declared.names.Answer.{Answer}
 use Rattle.sby_terms.specs.declared.names.Event.{Event}
 use Rattle.sby_terms.specs.declared.names.Event.TheVariants.{Fault as FaultEvent, Memory as MemoryEvent, Quiet, Stopped as StoppedEvent}
 use Rattle.sby_terms.specs.declared.names.JobName.{JobName}
-use Rattle.sby_terms.specs.declared.names.JobName.TheVariants.{Base, Step, Cover}
+use Rattle.sby_terms.specs.declared.names.JobName.TheVariants.{Base, Step, Inv, Cover}
 use Rattle.sby_terms.specs.declared.names.Mode.{Mode}
-use Rattle.sby_terms.specs.declared.names.Mode.TheVariants.{Bmc, Prove, Cover as CoverMode}
+use Rattle.sby_terms.specs.declared.names.Mode.TheVariants.{Bmc, Prove, ProveInv, Cover as CoverMode}
 use Rattle.sby_terms.specs.declared.names.Status.{Status}
 use Rattle.sby_terms.specs.declared.names.Status.TheVariants.{Pass, Fail, Unknown as UnknownStatus, Error, Timeout, Memory}
 use Rattle.sby_terms.specs.declared.names.Verdict.{Verdict}
@@ -207,6 +207,13 @@ one_place Prove span d (suc zero) (suc zero) in_j in_k same = refl
 one_place Prove span d (suc (suc j)) k in_j in_k same = absurd (omega (arith, in_j))
 one_place Prove span d zero (suc (suc k)) in_j in_k same = absurd (omega (arith, in_k))
 one_place Prove span d (suc zero) (suc (suc k)) in_j in_k same = absurd (omega (arith, in_k))
+one_place ProveInv span d zero zero in_j in_k same = refl
+one_place ProveInv span d zero (suc zero) in_j in_k same = let own : Base 0 ≡ Inv = same in cc
+one_place ProveInv span d (suc zero) zero in_j in_k same = let own : Inv ≡ Base 0 = same in cc
+one_place ProveInv span d (suc zero) (suc zero) in_j in_k same = refl
+one_place ProveInv span d (suc (suc j)) k in_j in_k same = absurd (omega (arith, in_j))
+one_place ProveInv span d zero (suc (suc k)) in_j in_k same = absurd (omega (arith, in_k))
+one_place ProveInv span d (suc zero) (suc (suc k)) in_j in_k same = absurd (omega (arith, in_k))
 one_place CoverMode span d j k in_j in_k same = let own : Cover j ≡ Cover k = same in cc
 
 -- a member of a mapped list

@@ -9,14 +9,14 @@ use Rattle.cert_judge.specs.Numbers.{number_of}
 use Rattle.cert_judge.specs.Output.{has_values, stream_of}
 use Rattle.cert_judge.specs.OutputFate.{IsOutputFate, own_fate}
 use Rattle.cert_judge.specs.declared.stream.Kind.{Kind}
-use Rattle.cert_judge.specs.declared.stream.Kind.TheVariants.{Certificate, Witness}
+use Rattle.cert_judge.specs.declared.stream.Kind.TheVariants.{Certificate, Witness, Invariant}
 use Rattle.cert_judge.specs.declared.stream.StreamKind.{StreamKind}
 use Rattle.cert_judge.specs.declared.stream.StreamKind.TheVariants.{Drup}
 use Rattle.cnf_form.specs.Cnf.{FormulaOf}
 use Rattle.cnf_form.specs.Dimacs.{IsDimacs}
 use Rattle.judge.specs.Fates.{IsFate, Serves}
 use Rattle.judge.specs.Finding.{FindingOf}
-use Rattle.judge.specs.Problem.{AskedOf, IsJob, IsJobFile, IsProblem}
+use Rattle.judge.specs.Problem.{AskedOf, IsJob, IsJobFile, IsProblem, pair_in}
 use Rattle.race_core.specs.Report.{ReportOf}
 use Rattle.race_core.specs.declared.end.JobEnd.{JobEnd}
 use Rattle.race_core.specs.declared.end.JobEnd.TheVariants.{Found, Unknown, NotServed, Bad}
@@ -28,15 +28,17 @@ use Rattle.sby_terms.specs.declared.names.JobName.{JobName}
 use Rattle.sby_lines.proofs.PlaceLemmas.{job_named}
 use Rattle.lane_run.specs.Complete.{ComesTo}
 use Rattle.task_race.specs.Fates.{Ends, Proves, Tells, most_bytes}
-use Rattle.task_race.specs.Serving.{IsJudgeable, IsServing, evidence_at, evidence_of}
+use Rattle.task_race.specs.Serving.{IsJudgeable, IsServing, evidence_of}
 use Rattle.task_race.specs.declared.evidence.Evidence.{Evidence}
 use Rattle.task_race.specs.declared.evidence.Evidence.TheVariants.{Output, ProofFile}
 use Rattle.task_race.specs.Ends.{IsJudgedAs, IsProofOf}
 use Rattle.task_race.specs.Ran.{RacingOf, evidence_in, job_count, name_in}
 use Rattle.sby_top.specs.Complete.{ArePlain, IsPlainEnd, IsPlainReport}
+use Rattle.sby_top.proofs.EvidenceLemmas.{lane_judgeable}
 use Rattle.sby_top.proofs.ExistLemmas.{Known}
+use Rattle.sby_top.proofs.StreamLemmas.{certificate_serves}
 use Rattle.sby_top.proofs.LawLemmas.{OneFile}
-use Rattle.sby_terms.specs.declared.names.JobName.TheVariants.{Base, Step, Cover}
+use Rattle.sby_terms.specs.declared.names.JobName.TheVariants.{Base, Step, Inv, Cover}
 
 -- no stream of a kind that is judged for a job is without a fate
 abbrev pub SomeFate : Type 0
@@ -55,12 +57,23 @@ listed {X} P (suc n) each none =
     by x first xs others zero y at = let same : x ≡ y = cc in subst (P 0) same first
     by x first xs others (suc k) y at = others k y at
 
+served_or_not : (kind : Kind) (job : JobName) → Known (Serves kind job)
+served_or_not (Certificate kind) (Base i) = inl tt
+served_or_not (Certificate kind) Step = inl tt
+served_or_not (Certificate kind) Inv = inr (λ no. no)
+served_or_not (Certificate kind) (Cover k) = inl tt
+served_or_not Witness (Base i) = inl tt
+served_or_not Witness Step = inr (λ no. no)
+served_or_not Witness Inv = inr (λ no. no)
+served_or_not Witness (Cover k) = inl tt
+served_or_not Invariant (Base i) = inr (λ no. no)
+served_or_not Invariant Step = inr (λ no. no)
+served_or_not Invariant Inv = inl tt
+served_or_not Invariant (Cover k) = inr (λ no. no)
+
 judgeable_or_not : (by : Evidence) (job : JobName) → Known (IsJudgeable by job)
-judgeable_or_not (Output (Certificate kind)) job = inl tt
-judgeable_or_not (Output Witness) (Base i) = inl tt
-judgeable_or_not (Output Witness) Step = inr (λ no. no)
-judgeable_or_not (Output Witness) (Cover k) = inl tt
-judgeable_or_not (ProofFile kind) job = inl tt
+judgeable_or_not (Output kind) job = served_or_not kind job
+judgeable_or_not (ProofFile kind) job = served_or_not (Certificate kind) job
 
 serves_or_not : (o : Option Engine) (job : JobName) → Known (IsServing o job)
 serves_or_not None job = inr (λ no. no)
@@ -87,33 +100,36 @@ module _ (p : AskedOf) where
   tells job UnknownFate = refl
   tells job (BadFate kind at) = (kind, refl, refl)
 
--- evidence of a lane that serves a job is judged for it
-lane_judgeable : (o : Option Engine) (job : JobName) → IsServing o job → IsJudgeable (evidence_at o) job
-lane_judgeable None job serving = absurd serving
-lane_judgeable (Some e) job serving = serving
+-- a job's file has a formula
+file_formula : (p : AskedOf) (job : JobName) (file : List ℕ) → IsJobFile p job file → (f : FormulaOf) × IsDimacs file f
+file_formula p job file (inl is) = (is.0, is.3)
+file_formula p job file (inr is) = ((pair_in p).formula, is.3)
 
 module _ (some_fate : SomeFate) (one_file : OneFile) (p : AskedOf) (problem : IsProblem p) (job : JobName) (script : ScriptOf) (file : List ℕ) (is_file : IsJobFile p job file) where
+  formula : (f : FormulaOf) × IsDimacs file f
+  formula = file_formula p job file is_file
+
   abbrev Comes : Evidence → Fate → Type 0
   Comes by fate = ComesTo (Ends p job by) (Proves p job by) (IsProofOf (Some script)) (up_to script.stalls script.bytes) (said_of p job fate)
 
-  of_output : (kind : StreamKind) (x : Fate) → IsFate p job (Certificate Drup) file (stream_of true (up_to script.stalls script.bytes)) most_bytes x → (o : Option Fate) → own_fate (has_values (up_to script.stalls script.bytes)) x ≡ o
+  of_output : (kind : StreamKind) (x : Fate) → Serves (Certificate kind) job → IsFate p job (Certificate Drup) file (stream_of true (up_to script.stalls script.bytes)) most_bytes x → (o : Option Fate) → own_fate (has_values (up_to script.stalls script.bytes)) x ≡ o
       → ((fate : Fate) → Comes (ProofFile kind) fate → ⊥) → ⊥
-  of_output kind x is (Some y) own none =
-      none y (inl (Some y, tells p job y, (λ other is_other. subst (λ z. IsOutputFate z (up_to script.stalls script.bytes) most_bytes (Some y)) (one_file p job file other is_file is_other) (x, is, sym own))))
-  of_output kind x is None own none =
-      some_fate p job (Certificate kind) file (take (most_bytes + 1) script.proof) most_bytes is_file.0 problem is_file.3 tt (λ y left.
+  of_output kind x serves is (Some y) own none =
+      none y (inl (Some y, tells p job y, (λ other is_other. subst (λ z. IsOutputFate z (up_to script.stalls script.bytes) most_bytes (Some y)) (one_file p job file other is_file is_other) (x, is.1, sym own))))
+  of_output kind x serves is None own none =
+      some_fate p job (Certificate kind) file (take (most_bytes + 1) script.proof) most_bytes formula.0 problem formula.1 serves (λ y left.
       none y (inr (
-        (None, refl, (λ other is_other. subst (λ z. IsOutputFate z (up_to script.stalls script.bytes) most_bytes None) (one_file p job file other is_file is_other) (x, is, sym own))),
+        (None, refl, (λ other is_other. subst (λ z. IsOutputFate z (up_to script.stalls script.bytes) most_bytes None) (one_file p job file other is_file is_other) (x, is.1, sym own))),
         (take (most_bytes + 1) script.proof, refl, (y, tells p job y, (λ other is_other. subst (λ z. IsFate p job (Certificate kind) z (take (most_bytes + 1) script.proof) most_bytes y) (one_file p job file other is_file is_other) left))),
       )))
 
   comes : (by : Evidence) → IsJudgeable by job → ((fate : Fate) → Comes by fate → ⊥) → ⊥
   comes (Output kind) serves none =
-      some_fate p job kind file (up_to script.stalls script.bytes) most_bytes is_file.0 problem is_file.3 serves (λ x is.
+      some_fate p job kind file (up_to script.stalls script.bytes) most_bytes formula.0 problem formula.1 serves (λ x is.
       none x (inl (Some x, tells p job x, (λ other is_other. subst (λ z. IsFate p job kind z (up_to script.stalls script.bytes) most_bytes x) (one_file p job file other is_file is_other) is))))
   comes (ProofFile kind) serves none =
-      some_fate p job (Certificate Drup) file (stream_of true (up_to script.stalls script.bytes)) most_bytes is_file.0 problem is_file.3 tt (λ x is.
-      of_output kind x is (own_fate (has_values (up_to script.stalls script.bytes)) x) refl none)
+      some_fate p job (Certificate Drup) file (stream_of true (up_to script.stalls script.bytes)) most_bytes formula.0 problem formula.1 (certificate_serves kind Drup job serves) (λ x is.
+      of_output kind x serves is (own_fate (has_values (up_to script.stalls script.bytes)) x) refl none)
 
 -- ---- Plain's reports
 

@@ -14,7 +14,7 @@ use Rattle.sby_terms.specs.Path.{job_path}
 use Rattle.sby_terms.specs.declared.engine.Engine.{Engine}
 use Rattle.sby_terms.specs.declared.engine.Engine.TheVariants as engine
 use Rattle.sby_terms.specs.declared.names.JobName.{JobName}
-use Rattle.sby_terms.specs.declared.names.JobName.TheVariants.{Base, Step, Cover}
+use Rattle.sby_terms.specs.declared.names.JobName.TheVariants.{Base, Step, Inv, Cover}
 use Rattle.sby_lines.specs.declared.early.Early.{Early}
 use Rattle.task_race.specs.Words.{btor_path}
 use Rattle.sby_top.specs.Served.{ArePut, Formula, IsFileOf, Btor, JobFile, asks_run, file_path, files_from, files_in, is_btor, is_witness_path, job_files, jobs_in, slices_in, some_btor, takes_witness, TakesWitness, with_file}
@@ -116,6 +116,7 @@ btor_some (e ∷ engines) (suc lane) words at = rw (btor_some engines lane words
 pub asks_witness : (job : JobName) → Serves Witness job → asks_run job ≡ true
 asks_witness (Base i) serves = refl
 asks_witness Step serves = absurd serves
+asks_witness Inv serves = absurd serves
 asks_witness (Cover k) serves = refl
 
 are_both : (a b : Bool) → a ≡ true → b ≡ true → (a && b) ≡ true
@@ -140,7 +141,7 @@ btor_among service n (j ∷ jobs) (suc k) job asks takes at =
     (btor_among service (suc n) jobs k job asks (subst (λ (m : ℕ). takes_witness service m ≡ true) place takes) at)
 
 -- and only for these
-both_true : (a b : Bool) → (a && b) ≡ true → (a ≡ true) × (b ≡ true)
+pub both_true : (a b : Bool) → (a && b) ≡ true → (a ≡ true) × (b ≡ true)
 both_true true b is = (refl, is)
 both_true false b is = cc
 
@@ -178,13 +179,15 @@ btor_at [] some = cc
 btor_at (engine.Btor words ∷ engines) some = (0, words, refl)
 btor_at (engine.Sat conflicts ∷ engines) some = let rest = btor_at engines some in (suc rest.0, rest.1, rest.2)
 btor_at (engine.Drup words ∷ engines) some = let rest = btor_at engines some in (suc rest.0, rest.1, rest.2)
+btor_at (engine.Inv words ∷ engines) some = let rest = btor_at engines some in (suc rest.0, rest.1, rest.2)
 btor_at (engine.Lrat words ∷ engines) some = let rest = btor_at engines some in (suc rest.0, rest.1, rest.2)
 btor_at (engine.Proof words ∷ engines) some = let rest = btor_at engines some in (suc rest.0, rest.1, rest.2)
 btor_at (engine.ProofBinary words ∷ engines) some = let rest = btor_at engines some in (suc rest.0, rest.1, rest.2)
 
-witness_asks : (job : JobName) → asks_run job ≡ true → Serves Witness job
+pub witness_asks : (job : JobName) → asks_run job ≡ true → Serves Witness job
 witness_asks (Base i) asks = tt
 witness_asks Step asks = cc
+witness_asks Inv asks = cc
 witness_asks (Cover k) asks = tt
 
 path_at : (path : Option (List ℕ)) → is_witness_path path ≡ true → (text : List ℕ) × (path ≡ Some text) × IsKindNamed text Witness

@@ -14,7 +14,7 @@ use Rattle.sby_terms.specs.Decide.{Decides}
 use Rattle.sby_terms.specs.declared.names.Answer.{Answer}
 use Rattle.sby_terms.specs.declared.names.Answer.TheVariants.{Sat}
 use Rattle.sby_terms.specs.declared.names.Mode.{Mode}
-use Rattle.sby_terms.specs.declared.names.Mode.TheVariants.{Bmc, Prove, Cover}
+use Rattle.sby_terms.specs.declared.names.Mode.TheVariants.{Bmc, Prove, ProveInv, Cover}
 use Rattle.sby_terms.specs.declared.names.Verdict.{Verdict}
 use Rattle.sby_terms.specs.declared.names.Verdict.TheVariants.{Pass, Fail}
 use Rattle.judge.specs.Jobs.{jobs_in}
@@ -36,6 +36,7 @@ settled_at mode jobs reports answers k a are at = let e = are.entry k (Some a) a
 pub fail_has_sat : (mode : Mode) (answers : List (Option Answer)) → mode ≢ Cover → Decides mode answers Fail → (k : ℕ) × (slice_get answers k ≡ Some (Some Sat))
 fail_has_sat Bmc answers apart decides = (decides.0, contains_at answers (Some Sat) decides)
 fail_has_sat Prove answers apart decides = (0, decides)
+fail_has_sat ProveInv answers apart decides = (0, decides)
 fail_has_sat Cover answers apart decides = absurd (apart refl)
 
 statement_next : (request : Request) (c : CameTo) (place : ℕ) (answer : Option Answer) (answers : List (Option Answer)) (own rest : List TraceOf)
@@ -120,6 +121,7 @@ mode_fits : (mode : Mode) (request : Request) (d : DesignOf) (reports : List (Re
     → length answers ≡ length (jobs_in request.mode request.span d) → HasModeTraces mode request (record { design = d; reports = reports; start = None }) answers verdict traces → AreFitting d traces
 mode_fits Bmc request d reports answers verdict traces is are size has = fail_fits request d reports answers verdict traces (λ e. let no : Bmc ≡ Cover = sym is ∙ e in cc) are size has
 mode_fits Prove request d reports answers verdict traces is are size has = fail_fits request d reports answers verdict traces (λ e. let no : Prove ≡ Cover = sym is ∙ e in cc) are size has
+mode_fits ProveInv request d reports answers verdict traces is are size has = fail_fits request d reports answers verdict traces (λ e. let no : ProveInv ≡ Cover = sym is ∙ e in cc) are size has
 mode_fits Cover request d reports answers verdict traces is are size has = covers_fit request d reports 0 answers traces is are has
 
 pub fitting_traces : (request : Request) (d : DesignOf) (reports : List (ReportOf FindingOf)) (traces : List TraceOf) → AreReported request.mode request.span d reports

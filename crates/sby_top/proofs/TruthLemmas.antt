@@ -24,7 +24,7 @@ use Rattle.sby_terms.specs.Span.{IsSpan, first_of, last_of, slices_of, whole}
 use Rattle.sby_terms.specs.declared.names.Answer.{Answer}
 use Rattle.sby_terms.specs.declared.names.JobName.TheVariants.{Base, Step, Cover}
 use Rattle.sby_terms.specs.declared.names.Mode.{Mode}
-use Rattle.sby_terms.specs.declared.names.Mode.TheVariants.{Bmc, Prove, Cover as CoverMode}
+use Rattle.sby_terms.specs.declared.names.Mode.TheVariants.{Bmc, Prove, ProveInv, Cover as CoverMode}
 use Rattle.sby_terms.specs.declared.names.Status.{Status}
 use Rattle.sby_terms.specs.declared.names.Status.TheVariants.{Pass, Fail, Memory as Memory_}
 use Rattle.sby_terms.specs.declared.span.Span.{Span}
@@ -40,7 +40,7 @@ use Rattle.sby_top.specs.Task.{IsAskable, TaskOf}
 use Rattle.sby_top.specs.World.{FilesOf, Moments, World, race_of}
 use Rattle.sby_top.specs.declared.outcome.TaskEnd.{TaskEnd}
 use Rattle.sby_top.proofs.FailLemmas.{break_claim, one_fail, printed_carries, same_break, traced_more}
-use Rattle.sby_top.proofs.PassLemmas.{bmc_passes, prove_passes}
+use Rattle.sby_top.proofs.PassLemmas.{bmc_passes, invariant_passes, prove_passes}
 use Rattle.sby_top.proofs.ReportLemmas.{limited as limited_by, reported}
 use Rattle.sby_top.proofs.StatusLemmas.{fail_decides, pass_decides}
 
@@ -168,6 +168,9 @@ passes_by laws task end p reports n answers Bmc cover is askable count reported 
 passes_by laws task end p reports n answers Prove cover is askable count reported are decides =
     prove_passes laws.induction task.request.span p.design reports n answers (subst (λ m. IsSpanFor m task.request.span) is askable)
     (subst (λ m. AreReported m task.request.span p.design reports) is reported) (subst (λ m. AreCollected job_of answer_of m n reports answers) is are) decides
+passes_by laws task end p reports n answers ProveInv cover is askable count reported are decides =
+    invariant_passes task.request.span p.design reports n answers
+    (subst (λ m. AreReported m task.request.span p.design reports) is reported) (subst (λ m. AreCollected job_of answer_of m n reports answers) is are) decides
 passes_by laws task end p reports n answers CoverMode cover is askable count reported are decides = cover is decides
 
 done_passes : Laws → (may_read : ℕ → Type 0) (number : ℕ) (pool : Option PoolOf) (begun finish : World) (before middle : FilesOf) (task : TaskOf) (end : TaskEnd)
@@ -282,6 +285,7 @@ fails_by : Laws → (task : TaskOf) (end : TaskEnd) (p : AskedOf) (mode : Mode) 
     → AreLimited end.start task.request.limit end.reports.items → IsRaceStatus task.request (record { design = p.design; reports = end.reports.items; start = end.start }) Fail → FailClaim mode task end p.design
 fails_by laws task end p Bmc is early text problem reported limited race = shown_break laws task end p (λ e. let no : Bmc ≡ CoverMode = sym is ∙ e in cc) early text problem reported limited race
 fails_by laws task end p Prove is early text problem reported limited race = shown_break laws task end p (λ e. let no : Prove ≡ CoverMode = sym is ∙ e in cc) early text problem reported limited race
+fails_by laws task end p ProveInv is early text problem reported limited race = shown_break laws task end p (λ e. let no : ProveInv ≡ CoverMode = sym is ∙ e in cc) early text problem reported limited race
 fails_by laws task end p CoverMode is early text problem reported limited race = cover_fails laws task end p is early text problem reported limited race
 
 done_fails : Laws → (may_read : ℕ → Type 0) (number : ℕ) (pool : Option PoolOf) (begun finish : World) (before middle : FilesOf) (task : TaskOf) (end : TaskEnd)

@@ -12,10 +12,11 @@ use Rattle.cert_judge.proofs.KindFates.{values_stay as stay}
 use Rattle.cert_judge.specs.Fate.{Found}
 use Rattle.cert_judge.specs.Kinds.{FateSoFar, IsFateSoFar as IsCertFateSoFar, stream_values}
 use Rattle.cert_judge.specs.declared.stream.Kind.{Kind}
-use Rattle.cert_judge.specs.declared.stream.Kind.TheVariants.{Certificate, Witness}
+use Rattle.cert_judge.specs.declared.stream.Kind.TheVariants.{Certificate, Witness, Invariant}
 use Rattle.cert_judge.specs.declared.stream.StreamKind.{StreamKind}
 use Rattle.design_meaning.specs.Runs.{CycleOf}
-use Rattle.judge.proofs.Problems.{one_formula}
+use Rattle.judge.proofs.Joining.{told_served}
+use Rattle.judge.proofs.Problems.{formula_file, one_formula}
 use Rattle.judge.proofs.StreamFates.{map_sought}
 use Rattle.judge.specs.Fates.{IsFateSoFar, IsStreamsRun}
 use Rattle.judge.specs.Played.{IsPlayed}
@@ -48,10 +49,12 @@ IsRunFor p bytes run s = (x : WitnessOf) × Holds (shape_of (witness_asked p s))
 
 pub run_stays : (p : AskedOf) (job : JobName) (kind : Kind) (bytes rest file : List ℕ) (most : ℕ) (run : List CycleOf) → IsJobFile p job file → IsFateSoFar p job kind file bytes most (Some (Found Sat))
     → IsStreamsRun p job kind false bytes most run → IsStreamsRun p job kind false (bytes ++ rest) most run
-run_stays p job (Certificate kind) bytes rest file most run is fate h =
+run_stays p job (Certificate kind) bytes rest file most run has (serves, fate) h =
+    let is = formula_file p job file (told_served kind job serves) has in
     let same : is.0 ≡ h.0.formula = one_formula p job is.0 h.0.formula is.1 (h.0, h.1, refl) in
     let own : IsDimacs file h.0.formula = subst (IsDimacs file) same is.3 in
     (h.0, h.1, subst (λ (x : Assignment). IsPlayed p h.0 x run) (values_stay kind file bytes rest most h.0.formula own fate) h.2)
 run_stays p job Witness bytes rest file most run is fate h =
     map_sought (sought_in p job) (IsRunFor p (take most bytes) run) (IsRunFor p (take most (bytes ++ rest)) run)
     (λ s found. (found.0, witness_stays (shape_of (witness_asked p s)) bytes rest most found.0 found.1, found.2)) h
+run_stays p job Invariant bytes rest file most run has fate h = absurd h

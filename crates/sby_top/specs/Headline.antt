@@ -29,7 +29,7 @@ use Rattle.sby_terms.specs.declared.names.Event.TheVariants.{Quiet, Fault}
 use Rattle.sby_terms.specs.declared.names.JobName.{JobName}
 use Rattle.sby_terms.specs.declared.names.JobName.TheVariants.{Base, Cover as CoverJob}
 use Rattle.sby_terms.specs.declared.names.Mode.{Mode}
-use Rattle.sby_terms.specs.declared.names.Mode.TheVariants.{Bmc, Prove, Cover}
+use Rattle.sby_terms.specs.declared.names.Mode.TheVariants.{Bmc, Prove, ProveInv, Cover}
 use Rattle.sby_terms.specs.declared.names.Status.{Status}
 use Rattle.sby_terms.specs.declared.names.Status.TheVariants.{Pass, Fail, Error, Memory}
 use Rattle.sby_terms.specs.declared.names.Verdict.{Verdict}
@@ -111,12 +111,14 @@ pub record IsUnreachedShown (task : TaskOf) (end : TaskEnd) (d : DesignOf) (k : 
 abbrev pub PassClaim : Mode → TaskOf → TaskEnd → DesignOf → Type 0
 PassClaim Bmc task end d = NoBreak d task.request.span.skip task.request.span.depth
 PassClaim Prove task end d = NeverBreak d
+PassClaim ProveInv task end d = NeverBreak d
 PassClaim Cover task end d = (k : ℕ) → k < length (covers d) → IsReachShown task end d k
 
 -- what FAIL says: in bmc and prove it shows a run that breaks an assertion, in cover it names a statement that isn't reached
 abbrev pub FailClaim : Mode → TaskOf → TaskEnd → DesignOf → Type 0
 FailClaim Bmc task end d = IsShown task end d
 FailClaim Prove task end d = IsShown task end d
+FailClaim ProveInv task end d = IsShown task end d
 FailClaim Cover task end d = (k : ℕ) × (k < length (covers d)) × IsUnreachedShown task end d k
 
 -- the design's text, as it was got, reads a flat design of which the claim is true

@@ -1,8 +1,9 @@
 -- What a call promises whoever reads its output, claim by claim.
-use Rattle.std.specs.Prelude.{◌≡◌, ◌≢◌, ℕ, List, Some, slice_get}
+use Rattle.std.specs.Prelude.{◌≡◌, ◌≢◌, ◌⊎◌, ℕ, List, Some, slice_get}
 use Rattle.design_core.specs.Shape.{DesignOf}
 use Rattle.design_meaning.specs.Claims.{NeverBreak, NoBreak}
-use Rattle.sby_terms.specs.declared.names.Mode.TheVariants.{Bmc, Cover, Prove}
+use Rattle.sby_terms.specs.declared.names.Mode.{Mode}
+use Rattle.sby_terms.specs.declared.names.Mode.TheVariants.{Bmc, Cover, Prove, ProveInv}
 use Rattle.sby_terms.specs.declared.names.Status.{Status}
 use Rattle.sby_terms.specs.declared.names.Status.TheVariants.{Fail, Memory, Pass}
 use Rattle.sby_top.specs.Claims.{AllExpected, AreExpected, AreShownReaches, HasTold, IsDesignOf, IsEvent, IsHad, IsNamedUnreached, IsShownBreak, IsTaskOf}
@@ -23,9 +24,13 @@ OfTasks may_read before after words done claim = (m : Moments) (task : TaskOf) (
 abbrev pub PassOfBmc : Moments → TaskOf → TaskEnd → Type 0
 PassOfBmc m task end = end.status ≡ Pass → task.request.mode ≡ Bmc → (d : DesignOf) × IsDesignOf m task end d × NoBreak d task.request.span.skip task.request.span.depth
 
+-- prove, by induction or by an invariant
+abbrev pub IsProve : Mode → Type 0
+IsProve mode = (mode ≡ Prove) ⊎ (mode ≡ ProveInv)
+
 -- PASS of prove: the text reads a flat design of which no run breaks an assertion, whatever its length.
 abbrev pub PassOfProve : Moments → TaskOf → TaskEnd → Type 0
-PassOfProve m task end = end.status ≡ Pass → task.request.mode ≡ Prove → (d : DesignOf) × IsDesignOf m task end d × NeverBreak d
+PassOfProve m task end = end.status ≡ Pass → IsProve task.request.mode → (d : DesignOf) × IsDesignOf m task end d × NeverBreak d
 
 -- PASS of cover: for each cover statement a run that reaches it was printed, or a part of the lines where a call of the sink failed.
 abbrev pub PassOfCover : Moments → TaskOf → TaskEnd → Type 0
@@ -38,7 +43,7 @@ FailOfBmc m task end = end.status ≡ Fail → task.request.mode ≡ Bmc → IsS
 
 -- FAIL of prove: as of bmc.
 abbrev pub FailOfProve : Moments → TaskOf → TaskEnd → Type 0
-FailOfProve m task end = end.status ≡ Fail → task.request.mode ≡ Prove → IsShownBreak m task end
+FailOfProve m task end = end.status ≡ Fail → IsProve task.request.mode → IsShownBreak m task end
 
 -- FAIL of cover: a statement was named that no run of at most the depth's cycles reaches.
 abbrev pub FailOfCover : Moments → TaskOf → TaskEnd → Type 0

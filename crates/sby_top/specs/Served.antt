@@ -12,7 +12,7 @@ use Rattle.sby_terms.specs.Span.{slices_of}
 use Rattle.sby_terms.specs.declared.engine.Engine.{Engine}
 use Rattle.sby_terms.specs.declared.engine.Engine.TheVariants as engine
 use Rattle.sby_terms.specs.declared.names.JobName.{JobName}
-use Rattle.sby_terms.specs.declared.names.JobName.TheVariants.{Base, Step, Cover}
+use Rattle.sby_terms.specs.declared.names.JobName.TheVariants.{Base, Step, Inv, Cover}
 use Rattle.sby_terms.specs.Path.{job_path}
 use Rattle.sby_top.specs.Task.{DesignAt, Given, Lanes, Service, Stored, Streams, TaskOf, problem_of, streams_in}
 use Rattle.sby_words.specs.Kinds.{IsKindNamed}
@@ -57,7 +57,7 @@ IsServed told task p = IsAccepted told task p × (length (streams_in task.servic
 abbrev pub slices_in : AskedOf → ℕ
 slices_in p = slices_of p.problem.span
 
--- a file that is put for a job: its formula, or the model in BTOR2
+-- a file that is put for a job: its own, which is its formula or, of Inv, the pair of two cycles; or the model in BTOR2
 pub data JobFile : Type 0 where
   Formula : JobName → JobFile
   Btor : JobName → JobFile
@@ -71,6 +71,7 @@ abbrev pub is_btor : Engine → Bool
 is_btor (engine.Sat conflicts) = false
 is_btor (engine.Drup words) = false
 is_btor (engine.Btor words) = true
+is_btor (engine.Inv words) = false
 is_btor (engine.Lrat words) = false
 is_btor (engine.Proof words) = false
 is_btor (engine.ProofBinary words) = false
@@ -94,9 +95,10 @@ takes_witness (Lanes engines) place = some_btor engines
 abbrev pub asks_run : JobName → Bool
 asks_run (Base i) = true
 asks_run Step = false
+asks_run Inv = false
 asks_run (Cover k) = true
 
--- the files that are put for the job at a place: its formula, and the model in BTOR2 where a witness may show what the job asks for
+-- the files that are put for the job at a place: its own, and the model in BTOR2 where a witness may show what the job asks for
 abbrev pub job_files : Service → ℕ → JobName → List JobFile
 job_files service place job = Formula job ∷ cond (asks_run job && takes_witness service place) (Btor job ∷ []) []
 

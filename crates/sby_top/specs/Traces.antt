@@ -8,7 +8,7 @@ use Rattle.design_meaning.specs.Runs.{CycleOf, shown_of}
 use Rattle.design_trace.specs.Changes.{vcd}
 use Rattle.sby_terms.specs.declared.names.Answer.{Answer}
 use Rattle.sby_terms.specs.declared.names.Mode.{Mode}
-use Rattle.sby_terms.specs.declared.names.Mode.TheVariants.{Bmc, Prove, Cover}
+use Rattle.sby_terms.specs.declared.names.Mode.TheVariants.{Bmc, Prove, ProveInv, Cover}
 use Rattle.sby_terms.specs.declared.names.Verdict.{Verdict}
 use Rattle.sby_terms.specs.declared.names.Verdict.TheVariants.{Pass, Fail}
 use Rattle.sby_lines.specs.Texts.{trace_path}
@@ -43,6 +43,7 @@ HasFailTrace request c answers None traces = traces ≡ []
 abbrev pub HasModeTraces : Mode → Request → CameTo → List (Option Answer) → Option Verdict → List TraceOf → Type 0
 HasModeTraces Bmc request c answers verdict traces = HasFailTrace request c answers verdict traces
 HasModeTraces Prove request c answers verdict traces = HasFailTrace request c answers verdict traces
+HasModeTraces ProveInv request c answers verdict traces = HasFailTrace request c answers verdict traces
 HasModeTraces Cover request c answers verdict traces = HasCoverTraces request c 0 answers traces
 
 -- the runs that are shown, in the order in which they are printed

@@ -3,7 +3,7 @@
 ghost use Rattle.std.specs.Prelude.{◌≡◌, ◌≢◌, ◌⊎◌, ℕ, Contains, List, None, Some};
 ghost use Rattle.design_core.specs.Shape.{DesignOf};
 ghost use Rattle.design_meaning.specs.Claims.{NeverBreak, NoBreak};
-ghost use Rattle.sby_terms.specs.declared.names.Mode.TheVariants.{Bmc, Cover, Prove};
+ghost use Rattle.sby_terms.specs.declared.names.Mode.TheVariants.{Bmc, Cover};
 ghost use Rattle.judge.specs.Finding.{FindingOf, IsTrueFinding};
 ghost use Rattle.race_core.specs.Collect.{CarriedIn};
 ghost use Rattle.race_core.specs.Report.{ReportOf};
@@ -11,7 +11,7 @@ ghost use Rattle.sby_terms.specs.declared.names.Status.{Status};
 ghost use Rattle.sby_terms.specs.declared.names.Status.TheVariants.{Fail, Memory, Pass};
 ghost use Rattle.sby_top.specs.Claims.{AreShownReaches, HasTold, IsDesignOf, IsNamedUnreached, IsShownBreak, IsStored, IsTaskOf};
 ghost use Rattle.sby_top.specs.Headline.{AreLines, Exit, HasOwnStatus, IsPrinted};
-ghost use Rattle.sby_top.specs.Promise.{EachEndIsHad, FailOfBmc, FailOfCover, FailOfProve, LastLine, NamesItsEvent, OfTasks, PassOfBmc, PassOfCover, PassOfProve, Promises, ZeroIsExpected};
+ghost use Rattle.sby_top.specs.Promise.{EachEndIsHad, FailOfBmc, FailOfCover, FailOfProve, IsProve, LastLine, NamesItsEvent, OfTasks, PassOfBmc, PassOfCover, PassOfProve, Promises, ZeroIsExpected};
 ghost use Rattle.sby_words.specs.Requests.{Request};
 ghost use Rattle.sby_words.specs.Words.{Asks};
 ghost use Rattle.sby_top.specs.Run.{Did, IsNothing, UsageAlone};
@@ -33,7 +33,7 @@ pub fn pass_of_bmc_is_true<C: Clock>(clock: &C)
     ensures { (before after : World) (words : List (List ℕ)) (done : Done) → OfTasks (C.may_read clock.now) before after words done PassOfBmc }
 {}
 
-/// PASS of prove: the design's text reads a flat design of which no run breaks an assertion, whatever its length.
+/// PASS of prove, by induction or by an invariant: the design's text reads a flat design of which no run breaks an assertion, whatever its length.
 pub fn pass_of_prove_is_true<C: Clock>(clock: &C)
     ensures { (before after : World) (words : List (List ℕ)) (done : Done) → OfTasks (C.may_read clock.now) before after words done PassOfProve }
 {}
@@ -75,13 +75,13 @@ pub fn printed_verdicts_are_true<C: Clock>(clock: &C)
     ensures pass_of_bmc { (before after : World) (m : Moments) (words : List (List ℕ)) (done : Done) (task : TaskOf) (end : TaskEnd) (rc : ℕ) → IsTaskOf (C.may_read clock.now) before after words done m task end → end.status ≢ Memory
         → HasTold m task.request.name Pass rc → task.request.mode ≡ Bmc → (d : DesignOf) × IsDesignOf m task end d × NoBreak d task.request.span.skip task.request.span.depth }
     ensures pass_of_prove { (before after : World) (m : Moments) (words : List (List ℕ)) (done : Done) (task : TaskOf) (end : TaskEnd) (rc : ℕ) → IsTaskOf (C.may_read clock.now) before after words done m task end → end.status ≢ Memory
-        → HasTold m task.request.name Pass rc → task.request.mode ≡ Prove → (d : DesignOf) × IsDesignOf m task end d × NeverBreak d }
+        → HasTold m task.request.name Pass rc → IsProve task.request.mode → (d : DesignOf) × IsDesignOf m task end d × NeverBreak d }
     ensures pass_of_cover { (before after : World) (m : Moments) (words : List (List ℕ)) (done : Done) (task : TaskOf) (end : TaskEnd) (rc : ℕ) → IsTaskOf (C.may_read clock.now) before after words done m task end → end.status ≢ Memory
         → HasTold m task.request.name Pass rc → task.request.mode ≡ Cover → AreShownReaches m task end }
     ensures fail_of_bmc { (before after : World) (m : Moments) (words : List (List ℕ)) (done : Done) (task : TaskOf) (end : TaskEnd) (rc : ℕ) → IsTaskOf (C.may_read clock.now) before after words done m task end → end.status ≢ Memory
         → HasTold m task.request.name Fail rc → task.request.mode ≡ Bmc → IsShownBreak m task end }
     ensures fail_of_prove { (before after : World) (m : Moments) (words : List (List ℕ)) (done : Done) (task : TaskOf) (end : TaskEnd) (rc : ℕ) → IsTaskOf (C.may_read clock.now) before after words done m task end → end.status ≢ Memory
-        → HasTold m task.request.name Fail rc → task.request.mode ≡ Prove → IsShownBreak m task end }
+        → HasTold m task.request.name Fail rc → IsProve task.request.mode → IsShownBreak m task end }
     ensures fail_of_cover { (before after : World) (m : Moments) (words : List (List ℕ)) (done : Done) (task : TaskOf) (end : TaskEnd) (rc : ℕ) → IsTaskOf (C.may_read clock.now) before after words done m task end → end.status ≢ Memory
         → HasTold m task.request.name Fail rc → task.request.mode ≡ Cover → IsNamedUnreached m task end }
 {}

@@ -2,6 +2,8 @@
 
 ghost use Rattle.std.specs.Prelude.{◌≡◌, ◌≢◌, ◌&&◌, ◌<◌, ◌≤◌, ℕ, List, Some, IfErr, OnErr, OnOk, codes, length, option_map, slice_get};
 ghost use Rattle.judge.specs.Problem.{IsJob, IsJobFile};
+ghost use Rattle.cert_judge.specs.declared.stream.Kind.TheVariants.{Witness};
+ghost use Rattle.judge.specs.Fates.{Serves};
 ghost use Rattle.judge.specs.Witness.{IsLinesFile};
 ghost use Rattle.sby_edge.specs.Files.{put_at};
 ghost use Rattle.sby_terms.specs.Path.{job_path};
@@ -14,8 +16,7 @@ ghost use Rattle.task_race.specs.Words.{btor_path};
 use crate::serve::file_fault;
 use crate::task::{Service, Task};
 use cert_judge::Kind;
-use judge::Problem;
-use net_text::Text;
+use judge::{JobText, Problem};
 use sby_edge::{Bytes, Fail, Files, Source};
 use sby_lines::Early;
 use sby_terms::{Engine, JobName, job_path};
@@ -44,10 +45,10 @@ fn put_from<F: Files, S: Source>(
     }
 }
 
-// The text of a job's formula, which is put by pieces.
+// The text of a job's file, which is put by pieces.
 #[derive(Drop)]
 struct FileText<'a> {
-    text: Text<'a>,
+    text: JobText<'a>,
 }
 
 impl<'a> Source for FileText<'a> {
@@ -58,7 +59,7 @@ impl<'a> Source for FileText<'a> {
     }
 }
 
-// Puts a job's formula.
+// Puts a job's own file: its formula, or the pair of two cycles.
 fn put_formula<F: Files>(
     alloc: Global,
     files: &mut F,
@@ -105,7 +106,7 @@ fn put_btor<F: Files>(
     job: JobName,
 ) -> Result<(), Early>
     requires job { IsJob problem.now job }
-    requires run { job ≢ JobName.Step }
+    requires run { Serves Witness job }
     ensures ok { OnOk result ((text : List ℕ) × IsLinesFile problem.now job text × (F.told files.new ≡ option_map (put_at (btor_path folder.now slices job) text) (F.told files.old))) }
     ensures failed { IfErr result (IsFailedCall (files_at (F.told files.old) (F.faults files.old) (F.blamed files.old)) (files_at (F.told files.new) (F.faults files.new) (F.blamed files.new)) (btor_path folder.now slices job)) }
     ensures told { OnErr result (F.told files.new ≡ F.told files.old) }
@@ -129,7 +130,7 @@ fn asks_run(job: JobName) -> bool
 {
     match job {
         JobName::Base(_) | JobName::Cover(_) => true,
-        JobName::Step => false,
+        JobName::Step | JobName::Inv => false,
     }
 }
 
@@ -156,7 +157,7 @@ fn is_witness_name(path: &str) -> bool
 {
     match stream_kind(path) {
         Kind::Witness => true,
-        Kind::Certificate(_) => false,
+        Kind::Certificate(_) | Kind::Invariant => false,
     }
 }
 

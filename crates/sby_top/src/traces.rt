@@ -173,7 +173,9 @@ pub fn shown_runs<'a>(
     ensures traces { IfOk result (λ shown. (expect : List Status) → AreTraces (asked_by heading.now expect) (came flat.now reports.entry.now None) (map trace_seen shown.items)) }
 {
     match heading.mode {
-        Mode::Bmc | Mode::Prove => fail_run(alloc, reports, heading, flat, collected),
+        Mode::Bmc | Mode::Prove | Mode::ProveInv => {
+            fail_run(alloc, reports, heading, flat, collected)
+        }
         Mode::Cover => cover_runs(alloc, reports, heading, flat, collected),
     }
 }

@@ -8,7 +8,7 @@ use Rattle.std.specs.Borrow.{Bor}
 use Rattle.std.proofs.lemmas.Slice.Eq.{bytes_eq-Decides}
 use Rattle.clap.specs.Walk.{texts}
 use Rattle.sby_terms.specs.declared.names.Mode.{Mode}
-use Rattle.sby_terms.specs.declared.names.Mode.TheVariants.{Bmc, Prove, Cover}
+use Rattle.sby_terms.specs.declared.names.Mode.TheVariants.{Bmc, Prove, ProveInv, Cover}
 use Rattle.sby_words.specs.Requests.{JudgeRequest}
 use Rattle.sby_words.specs.Words.{IsNumber, Judges, mode_word}
 
@@ -26,6 +26,13 @@ mode_is_one Bmc Prove e = let first : 98 ≡ 112 = ap (λ (w : List ℕ). get_or
 mode_is_one Bmc Cover e = let first : 98 ≡ 99 = ap (λ (w : List ℕ). get_or w 0 0) e in absurd (omega (arith, first))
 mode_is_one Prove Bmc e = let first : 112 ≡ 98 = ap (λ (w : List ℕ). get_or w 0 0) e in absurd (omega (arith, first))
 mode_is_one Prove Prove e = refl
+mode_is_one Bmc ProveInv e = let other : 98 ≡ 112 = ap (λ (w : List ℕ). get_or w 0 0) e in absurd (omega (arith, other))
+mode_is_one Prove ProveInv e = let other : 0 ≡ 45 = ap (λ (w : List ℕ). get_or w 5 0) e in absurd (omega (arith, other))
+mode_is_one ProveInv Bmc e = let other : 112 ≡ 98 = ap (λ (w : List ℕ). get_or w 0 0) e in absurd (omega (arith, other))
+mode_is_one ProveInv Prove e = let other : 45 ≡ 0 = ap (λ (w : List ℕ). get_or w 5 0) e in absurd (omega (arith, other))
+mode_is_one ProveInv ProveInv e = refl
+mode_is_one ProveInv Cover e = let other : 112 ≡ 99 = ap (λ (w : List ℕ). get_or w 0 0) e in absurd (omega (arith, other))
+mode_is_one Cover ProveInv e = let other : 99 ≡ 112 = ap (λ (w : List ℕ). get_or w 0 0) e in absurd (omega (arith, other))
 mode_is_one Prove Cover e = let first : 112 ≡ 99 = ap (λ (w : List ℕ). get_or w 0 0) e in absurd (omega (arith, first))
 mode_is_one Cover Bmc e = let first : 99 ≡ 98 = ap (λ (w : List ℕ). get_or w 0 0) e in absurd (omega (arith, first))
 mode_is_one Cover Prove e = let first : 99 ≡ 112 = ap (λ (w : List ℕ). get_or w 0 0) e in absurd (omega (arith, first))

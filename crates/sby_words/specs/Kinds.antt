@@ -1,7 +1,7 @@
 -- The kinds of stored streams.
 use Rattle.std.specs.Prelude.{ℕ, List, codes}
 use Rattle.cert_judge.specs.declared.stream.Kind.{Kind}
-use Rattle.cert_judge.specs.declared.stream.Kind.TheVariants.{Certificate, Witness}
+use Rattle.cert_judge.specs.declared.stream.Kind.TheVariants.{Certificate, Witness, Invariant}
 use Rattle.cert_judge.specs.declared.stream.StreamKind.TheVariants.{Drup, Lrat, Proof, ProofBinary}
 use Rattle.sby_words.specs.Folders.{EndsIn}
 
@@ -12,4 +12,6 @@ IsKindNamed name (Certificate Proof) = EndsIn (codes ".proof") name
 IsKindNamed name (Certificate ProofBinary) = EndsIn (codes ".proofb") name
 IsKindNamed name (Certificate Drup) =
     (EndsIn (codes ".lrat") name → ⊥) × (EndsIn (codes ".proof") name → ⊥) × (EndsIn (codes ".proofb") name → ⊥) × (EndsIn (codes ".wit") name → ⊥)
+    × (EndsIn (codes ".inv") name → ⊥)
 IsKindNamed name Witness = EndsIn (codes ".wit") name
+IsKindNamed name Invariant = EndsIn (codes ".inv") name

@@ -4,7 +4,7 @@ use Rattle.std.specs.Fmt.{decimal}
 use Rattle.clap.specs.Walk.{Row, all_of, first_of}
 use Rattle.clap.specs.Simple.{matches_of}
 use Rattle.sby_terms.specs.declared.names.Mode.{Mode}
-use Rattle.sby_terms.specs.declared.names.Mode.TheVariants.{Bmc, Prove, Cover}
+use Rattle.sby_terms.specs.declared.names.Mode.TheVariants.{Bmc, Prove, ProveInv, Cover}
 use Rattle.sby_words.specs.declared.form.Form.{Form}
 use Rattle.sby_words.specs.declared.form.Form.TheVariants.{Judge, Tasks, Names, Gen}
 use Rattle.sby_words.specs.Command.{IsGiven, Taken, command}
@@ -15,6 +15,7 @@ use Rattle.sby_words.specs.Requests.{AskGen, AskJudge, AskNames, AskTasks, GenRe
 abbrev pub mode_word : Mode → List ℕ
 mode_word Bmc = codes "bmc"
 mode_word Prove = codes "prove"
+mode_word ProveInv = codes "prove-inv"
 mode_word Cover = codes "cover"
 
 -- the word is a number within these bounds: decimal digits without a leading 0

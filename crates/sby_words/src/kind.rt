@@ -4,7 +4,7 @@ ghost use Rattle.sby_words.specs.Kinds.{IsKindNamed};
 
 use cert_judge::{Kind, StreamKind};
 
-/// The kind of a stored stream by its name: `.lrat`, `.proof`, `.proofb` or `.wit` at its end, and else DRUP.
+/// The kind of a stored stream by its name: `.lrat`, `.proof`, `.proofb`, `.wit` or `.inv` at its end, and else DRUP.
 pub fn stream_kind(name: &str) -> Kind
     ensures { IsKindNamed name.now result }
 {
@@ -16,6 +16,8 @@ pub fn stream_kind(name: &str) -> Kind
         Kind::Certificate(StreamKind::ProofBinary)
     } else if name.ends_with(".wit") {
         Kind::Witness
+    } else if name.ends_with(".inv") {
+        Kind::Invariant
     } else {
         Kind::Certificate(StreamKind::Drup)
     }

@@ -48,6 +48,7 @@ fn mode_of(word: &str) -> Option<Mode>
     match word {
         "bmc" => Some(Mode::Bmc),
         "prove" => Some(Mode::Prove),
+        "prove-inv" => Some(Mode::ProveInv),
         "cover" => Some(Mode::Cover),
         _ => None,
     }

@@ -1,15 +1,14 @@
 -- What is promised of a job of a task's net.
-use Rattle.std.proofs.Common.{◌≡◌, ◌∙◌, ℕ, ◌<◌, ◌≤◌, zero, suc, Bool, true, false, List, [], ◌∷◌, All, Contains, refl, sym, ap, subst, map, length, arith}
+use Rattle.std.proofs.Common.{◌≡◌, ◌∙◌, ℕ, ◌<◌, ◌≤◌, zero, suc, Bool, false, List, [], ◌∷◌, Contains, refl, sym, ap, subst, map, length, arith}
 use Rattle.std.specs.Prelude.{◌↔◌}
 use Rattle.std.proofs.lemmas.List.{length-map}
 use Rattle.std.proofs.lemmas.List.Elements.{All-cons, All-nil, All-weaker}
 use Rattle.cnf_form.specs.Cnf.{Assignment, FormulaOf, LitOf, Satisfies}
 use Rattle.cnf_form.specs.declared.literal.TheConstants.{MAX_VARS}
 use Rattle.sby_terms.specs.declared.names.JobName.{JobName}
-use Rattle.sby_terms.specs.declared.names.JobName.TheVariants.{Base, Step, Cover}
+use Rattle.sby_terms.specs.declared.names.JobName.TheVariants.{Base, Step, Inv, Cover}
 use Rattle.sby_terms.specs.declared.span.Span.{Span}
-use Rattle.job_terms.specs.First.{open_at}
-use Rattle.model_core.specs.Choices.{AreChoicesFor, ChoicesOf, open_states}
+use Rattle.model_core.specs.Choices.{AreChoicesFor, open_states}
 use Rattle.model_core.specs.Served.{IsModel, IsNode}
 use Rattle.model_core.specs.Shape.{AreBelow, IsDistinct, IsRegister, IsStatement, ModelOf}
 use Rattle.model_core.proofs.Lists.{contained_at}
@@ -18,13 +17,14 @@ use Rattle.model_cone.specs.Cone.{IsCone, IsInCone}
 use Rattle.model_cone.specs.Slice.{sliced}
 use Rattle.model_cone.proofs.Closing.{constants-kept, node-closed}
 use Rattle.model_cone.proofs.Slicing.{slice-is}
-use Rattle.job_terms.specs.Encoding.{CanBeSatisfied, EncodedOf, HasOrigins, IsDecoded, IsOrigin, Origin, decoded, empty_job}
+use Rattle.job_terms.specs.Encoding.{CanBeSatisfied, EncodedOf, IsOrigin, Origin, decoded, empty_job}
 use Rattle.job_terms.specs.Encoding.Origin.{First, Input}
-use Rattle.job_terms.specs.Jobs.{AsksNothing, IsJob, Solvable, first}
+use Rattle.job_terms.specs.Jobs.{AsksNothing, IsJob, Solvable}
 use Rattle.job_terms.proofs.Nothing.{empty_solvable}
 use Rattle.net_jobs.specs.Jobs.{job_made}
 use Rattle.net_jobs.specs.Reading.{IsEncoded, encoded_of}
 use Rattle.net_jobs.proofs.Encoded.{encoded}
+use Rattle.net_jobs.proofs.Telling.{made_so}
 use Rattle.task_net.specs.Asking.{asked_of, place_of}
 use Rattle.task_net.specs.Net.{HasNone, IsEncodedJob, IsNetBy, IsTaskNet, TaskNetOf, no_model, task_encoded}
 use Rattle.task_net.specs.Net.IsTaskNet.{AsksNone, AsksSome}
@@ -32,7 +32,7 @@ use Rattle.task_net.specs.Spreading.{spread_choices}
 use Rattle.task_net.proofs.Fitting.{spread-fits}
 use Rattle.task_net.proofs.Origins.{decoded-of, origins-too}
 use Rattle.task_net.proofs.Playing.{choices-fit, decoded-too, spread-decoded}
-use Rattle.task_net.proofs.Solving.{asks-of-slice, job-of-slice, solvable-from, solvable-to}
+use Rattle.task_net.proofs.Solving.{asks-of-slice, solvable-from, solvable-to}
 
 -- a model of the two constants
 pub no-model-is : IsModel no_model
@@ -70,6 +70,7 @@ no-model-is = record {
 pub no-asks : (job : JobName) → AsksNothing no_model job
 no-asks (Base i) = refl
 no-asks Step = refl
+no-asks Inv = refl
 no-asks (Cover k) = refl
 
 no-satisfied : (e : EncodedOf) → e.formula ≡ empty_job → (x : Assignment) → Satisfies x e.formula.clauses → ⊥
@@ -78,11 +79,13 @@ no-satisfied e is x s = let (l, c, t) = subst (λ (f : FormulaOf). Satisfies x f
 asks-none : (m : ModelOf) (job : JobName) → HasNone m (asked_of job) → AsksNothing m job
 asks-none m (Base i) h = h
 asks-none m Step h = h
+asks-none m Inv h = h
 asks-none m (Cover k) h = h
 
 no-origin : (job : JobName) (span : Span) (o : Origin) → IsOrigin no_model job span o → ⊥
 no-origin (Base i) span (First p) h = none_in p h
 no-origin Step span (First p) h = none_in p h
+no-origin Inv span (First p) h = none_in p h
 no-origin (Cover k) span (First p) h = none_in p h
 no-origin job span (Input t p) h = none_in p h.1
 
@@ -99,7 +102,7 @@ module _ (m : ModelOf) (is : IsModel m) (t : TaskNetOf) (job : JobName) (span : 
     asks = asks-none m job none
 
     e : IsEncoded no_model job span inner
-    e = encoded no_model t.net job span no-model-is by.net by.is few
+    e = encoded no_model t.net job span no-model-is by.net by.is few (made_so m job span isjob)
 
     formula-is : inner.formula ≡ empty_job
     formula-is = e.empty (no-asks job)
@@ -142,7 +145,7 @@ module _ (m : ModelOf) (is : IsModel m) (t : TaskNetOf) (job : JobName) (span : 
     iss = slice-is m is keep (constants-kept m (asked_of job) keep cone) (node-closed m (asked_of job) keep cone)
 
     f : IsEncoded (sliced keep m) job span inner
-    f = encoded (sliced keep m) t.net job span iss by.net by.is few
+    f = encoded (sliced keep m) t.net job span iss by.net by.is few (made_so m job span isjob)
 
     spread-is : (x : Assignment) → decoded whole x ≡ spread_choices (map keep (open_states m)) (map keep m.inputs) (decoded inner x)
     spread-is = decoded-of m is keep iss job span cone t.starts t.inputs by.starts by.inputs inner

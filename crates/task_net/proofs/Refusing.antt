@@ -1,11 +1,11 @@
 -- Where a job of a task is refused it asks something, and its frames can pass the bound by the model's cost.
-use Rattle.std.proofs.Common.{◌≡◌, ◌∙◌, ℕ, zero, suc, ◌+◌, ◌*◌, ◌^◌, ◌<◌, ◌≤◌, Bool, List, [], ◌∷◌, Option, Some, None, length, refl, sym, ap, subst, arith}
+use Rattle.std.proofs.Common.{◌≡◌, ◌∙◌, ℕ, zero, suc, ◌+◌, ◌*◌, ◌^◌, ◌<◌, ◌≤◌, Bool, List, [], ◌∷◌, None, length, refl, ap, subst, arith}
 use Rattle.std.specs.Prelude.{option_map, slice_get}
 use Rattle.std.proofs.Math.Nat.{mul-le-mul_left}
 use Rattle.cnf_form.specs.Cnf.{LitOf, negate}
 use Rattle.sby_terms.specs.Span.{IsSpan}
 use Rattle.sby_terms.specs.declared.names.JobName.{JobName}
-use Rattle.sby_terms.specs.declared.names.JobName.TheVariants.{Base, Step, Cover}
+use Rattle.sby_terms.specs.declared.names.JobName.TheVariants.{Base, Step, Inv, Cover}
 use Rattle.sby_terms.specs.declared.span.Span.{Span}
 use Rattle.model_core.specs.Served.{IsModel}
 use Rattle.model_core.specs.Shape.{ModelOf}
@@ -30,6 +30,7 @@ use Rattle.task_net.proofs.Encoded.{no-asks}
 none-asked : (m : ModelOf) (job : JobName) → AsksNothing m job → HasNone m (asked_of job)
 none-asked m (Base i) h = h
 none-asked m Step h = h
+none-asked m Inv h = h
 none-asked m (Cover k) h = h
 
 -- over no statement one variable is made
@@ -39,6 +40,7 @@ none-made m n job span of none = ap (vars_for n (cycles_of job span)) (asks job 
     asks : (job : JobName) → AsksNothing m job → goal_of n (net_asked job) ≡ None
     asks (Base i) h = ap (option_map negate) (of.asserted.1 h)
     asks Step h = ap (option_map negate) (of.asserted.1 h)
+    asks Inv h = ap (option_map negate) (of.asserted.1 h)
     asks (Cover k) h = past n.covers k (of.covers ∙ ap length h)
       where
         past : (xs : List LitOf) (j : ℕ) → length xs ≡ 0 → slice_get xs j ≡ None
@@ -48,6 +50,7 @@ none-made m n job span of none = ap (vars_for n (cycles_of job span)) (asks job 
 slice-asks : (m : ModelOf) (keep : ℕ → Bool) (job : JobName) → AsksNothing m job → AsksNothing (sliced keep m) job
 slice-asks m keep (Base i) h = h
 slice-asks m keep Step h = h
+slice-asks m keep Inv h = h
 slice-asks m keep (Cover k) h = h
 
 -- a job that is refused asks something
@@ -57,13 +60,14 @@ refused-asks m job span (Long t (AsksNone has by) past) none = let e = none-made
 refused-asks m job span (Long t (AsksSome keep cone by) past) none = let e = none-made (sliced keep m) t.net job span by.is (slice-asks m keep job none) in omega (arith, e, past)
 
 -- the net of a task takes no more than that of its model
-task-few : (m : ModelOf) → IsModel m → (asked : Asked) (t : TaskNetOf) → IsTaskNet m asked t → vars t.net ≤ net_cost m
+pub task-few : (m : ModelOf) → IsModel m → (asked : Asked) (t : TaskNetOf) → IsTaskNet m asked t → vars t.net ≤ net_cost m
 task-few m is asked t (AsksNone none by) = let f = by.few in let c : net_cost no_model ≡ 1 = refl in omega (arith, f, c)
 task-few m is asked t (AsksSome keep cone by) = let f = by.few in let l = slice-less m keep in omega (arith, f, l)
 
 counted : (job : JobName) (span : Span) → (cycles_of job span).count ≡ frames job span
 counted (Base i) span = refl
 counted Step span = refl
+counted Inv span = refl
 counted (Cover k) span = refl
 
 more-frames : (f s r most : ℕ) → 0 < f → 1 + s + r + 5 ≤ most → 1 + s + f * (r + 4) ≤ f * most

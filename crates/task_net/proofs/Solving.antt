@@ -5,7 +5,7 @@ use Rattle.model_core.specs.Meaning.{Cycle, Run, Window}
 use Rattle.model_core.specs.Served.{IsModel}
 use Rattle.model_core.specs.Shape.{ModelOf}
 use Rattle.sby_terms.specs.declared.names.JobName.{JobName}
-use Rattle.sby_terms.specs.declared.names.JobName.TheVariants.{Base, Step, Cover}
+use Rattle.sby_terms.specs.declared.names.JobName.TheVariants.{Base, Step, Inv, Cover}
 use Rattle.sby_terms.specs.declared.span.Span.{Span}
 use Rattle.job_terms.specs.Encoding.{ShowsGoal}
 use Rattle.job_terms.specs.Jobs.{AsksNothing, IsGoal, IsJob, Solvable}
@@ -19,11 +19,13 @@ use Rattle.task_net.specs.Asking.{asked_of}
 pub job-of-slice : (keep : ℕ → Bool) (m : ModelOf) (job : JobName) (span : Span) → IsJob m job span → IsJob (sliced keep m) job span
 job-of-slice keep m (Base i) span h = h
 job-of-slice keep m Step span h = h
+job-of-slice keep m Inv span h = h
 job-of-slice keep m (Cover k) span h = h
 
 pub asks-of-slice : (keep : ℕ → Bool) (m : ModelOf) (job : JobName) → AsksNothing m job → AsksNothing (sliced keep m) job
 asks-of-slice keep m (Base i) h = h
 asks-of-slice keep m Step h = h
+asks-of-slice keep m Inv h = h
 asks-of-slice keep m (Cover k) h = h
 
 -- windows and runs that are the same in the cone show the same
@@ -77,11 +79,13 @@ pub goal-shown : (m : ModelOf) (keep : ℕ → Bool) (job : JobName) (n : ℕ) (
     → ShowsGoal m job n cs
 goal-shown m keep (Base i) n cs es h r s = (s.0, shows-from m keep n cs es s.0 h r s.1)
 goal-shown m keep Step n cs es h r s = s
+goal-shown m keep Inv n cs es h r s = (s.0, shows-from m keep n cs es s.0 h r s.1)
 goal-shown m keep (Cover k) n cs es h r s = reach-from m keep n cs es k h r s
 
 pub goal-same : (m : ModelOf) (keep : ℕ → Bool) (job : JobName) (c e : Cycle) → AgreeInCone m (asked_of job) c e → IsGoal m job c → IsGoal (sliced keep m) job e
 goal-same m keep (Base i) c e h g = (g.0, broken-to m c e h g.0 g.1)
 goal-same m keep Step c e h g = (g.0, broken-to m c e h g.0 g.1)
+goal-same m keep Inv c e h g = (g.0, broken-to m c e h g.0 g.1)
 goal-same m keep (Cover k) c e h g = reached-to m k c e h g
 
 module _ (m : ModelOf) (is : IsModel m) (keep : ℕ → Bool) (iss : IsModel (sliced keep m)) where
@@ -101,6 +105,12 @@ module _ (m : ModelOf) (is : IsModel m) (keep : ℕ → Bool) (iss : IsModel (sl
         step-to m keep span.depth cs (down m is ask.Asserts keep cone iss cs) a (λ t l. down-agrees m is ask.Asserts keep cone iss cs (suc span.depth) wide t l)
             (down-window m is ask.Asserts keep cone iss cs (suc span.depth) wide) s,
       )
+  solvable-to Inv span cone (n, cs, a, s) = (
+    n,
+    down m is ask.Asserts keep cone iss cs,
+    a,
+    shows-to m keep n cs (down m is ask.Asserts keep cone iss cs) a (λ t l. down-agrees m is ask.Asserts keep cone iss cs n s.run.window t l) (down-run m is ask.Asserts keep cone iss cs n s.run) s,
+  )
   solvable-to (Cover k) span cone (n, cs, l, s) = (
     n,
     down m is ask.Covers keep cone iss cs,
@@ -124,6 +134,13 @@ module _ (m : ModelOf) (is : IsModel m) (keep : ℕ → Bool) (iss : IsModel (sl
         a,
         step-from m keep span.depth (up m is ask.Asserts keep cone es first) es a (λ t l. up-agrees m is ask.Asserts keep cone es first (suc span.depth) s.window t l)
             (up-window m is ask.Asserts keep cone es first (suc span.depth) s.window) s,
+      )
+  solvable-from Inv span cone (n, es, a, s) =
+      let first : Cycle = digits-first m is ask.Asserts keep cone in (
+        n,
+        up m is ask.Asserts keep cone es first,
+        a,
+        shows-from m keep n (up m is ask.Asserts keep cone es first) es a (λ t l. up-agrees m is ask.Asserts keep cone es first n s.run.window t l) (up-run m is ask.Asserts keep cone es n s.run) s,
       )
   solvable-from (Cover k) span cone (n, es, l, s) =
       let first : Cycle = digits-first m is ask.Covers keep cone in (

@@ -5,7 +5,7 @@ use Rattle.model_cone.specs.Cone.{IsInCone}
 use Rattle.model_cone.specs.declared.asked.Asked.{Asked}
 use Rattle.model_cone.specs.declared.asked.Asked.TheVariants as ask
 use Rattle.sby_terms.specs.declared.names.JobName.{JobName}
-use Rattle.sby_terms.specs.declared.names.JobName.TheVariants.{Base, Step, Cover}
+use Rattle.sby_terms.specs.declared.names.JobName.TheVariants.{Base, Step, Inv, Cover}
 use Rattle.sby_terms.specs.declared.span.Span.{Span}
 use Rattle.job_terms.specs.Encoding.{EncodedOf, HasOrigins, Origin}
 use Rattle.job_terms.specs.Encoding.Origin.{First, Input}
@@ -14,6 +14,7 @@ use Rattle.job_terms.specs.Encoding.Origin.{First, Input}
 abbrev pub asked_of : JobName → Asked
 asked_of (Base i) = ask.Asserts
 asked_of Step = ask.Asserts
+asked_of Inv = ask.Asserts
 asked_of (Cover k) = ask.Covers
 
 -- the place for which a free variable stands

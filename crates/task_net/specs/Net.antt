@@ -1,11 +1,11 @@
 -- The net of a task, and its jobs.
-use Rattle.std.specs.Prelude.{◌≡◌, ◌↔◌, ◌^◌, ◌<◌, ◌≤◌, ℕ, Bool, true, false, List, [], map}
+use Rattle.std.specs.Prelude.{◌≡◌, ◌↔◌, ◌^◌, ◌<◌, ◌≤◌, ℕ, Bool, false, List, [], map}
 use Rattle.cnf_form.specs.Cnf.{Assignment, Satisfies}
 use Rattle.sby_terms.specs.declared.names.JobName.{JobName}
 use Rattle.sby_terms.specs.declared.names.JobName.TheVariants.{Step}
 use Rattle.sby_terms.specs.declared.span.Span.{Span}
 use Rattle.model_core.specs.Choices.{AreChoicesFor, open_states}
-use Rattle.model_core.specs.Shape.{ModelOf}
+use Rattle.model_core.specs.Shape.{ModelOf, states}
 use Rattle.model_cone.specs.Cone.{IsCone}
 use Rattle.model_cone.specs.Slice.{sliced}
 use Rattle.model_cone.specs.declared.asked.Asked.{Asked}
@@ -19,9 +19,11 @@ use Rattle.net_jobs.specs.Reading.{encoded_of}
 use Rattle.task_net.specs.Asking.{HasOriginsInCone, asked_of}
 use Rattle.task_net.specs.Spreading.{spread_decoding}
 
--- the net of the slice, and of each open state bit of the model and of each input whether it is in the slice
+-- The net of the slice, the places of the slice's state bits, and of each open state bit of the model and of each input whether it is in the
+-- slice.
 pub record TaskNetOf : Type 0 where
   pub net : NetOf
+  pub states : List ℕ
   pub starts : List Bool
   pub inputs : List Bool
 
@@ -39,6 +41,7 @@ pub record IsNetBy (m : ModelOf) (keep : ℕ → Bool) (slice : ModelOf) (t : Ta
   pub net : IsNet t.net
   pub is : IsNetOf slice t.net
   pub few : vars t.net ≤ net_cost slice
+  pub states : t.states ≡ states slice
   pub starts : t.starts ≡ map keep (open_states m)
   pub inputs : t.inputs ≡ map keep m.inputs
 

@@ -31,6 +31,8 @@ pub struct TooMany;
 #[derive(Drop)]
 pub struct TaskNet {
     net: Net,
+    // the places of the slice's state bits
+    states: Vec<u32>,
     // of each open state bit of the model, and of each input, whether it is in the slice
     starts: Vec<bool>,
     inputs: Vec<bool>,
@@ -41,7 +43,7 @@ impl Model for TaskNet {
 
     ghost Value = { TaskNetOf };
 
-    ghost view = { λ t. record { net = t.net; starts = t.starts.items; inputs = t.inputs.items } };
+    ghost view = { λ t. record { net = t.net; states = t.states.items; starts = t.starts.items; inputs = t.inputs.items } };
 }
 
 // Whether the model has no statement of the kind.
@@ -69,8 +71,10 @@ fn of_none(alloc: Global, model: &WordModel, asked: Asked) -> Result<TaskNet, Al
     marks.resize(model.size() as usize, false)?;
     let starts = kept_starts(alloc, model, &marks)?;
     let inputs = kept_inputs(alloc, model, &marks)?;
+    let states = Vec::new(alloc);
     Ok(TaskNet {
         net,
+        states,
         starts,
         inputs,
     })
@@ -96,8 +100,11 @@ fn of_slice(
         Err(_) => return Ok(Err(TooMany)),
     };
     net.promise();
+    let mut states = Vec::new(alloc);
+    states.extend_from_slice(slice.states())?;
     Ok(Ok(TaskNet {
         net,
+        states,
         starts,
         inputs,
     }))
@@ -147,5 +154,12 @@ impl TaskNet {
         ensures { result.now ≡ self.now.net }
     {
         &self.net
+    }
+
+    /// The places of the state bits of the slice, in the order of the net's states.
+    pub fn states(&self) -> &[u32]
+        ensures { result.now ≡ self.now.states }
+    {
+        self.states.as_slice()
     }
 }

@@ -110,16 +110,17 @@ module _ (p : AskedOf) (job : JobName) (kind : Kind) (old new : JudgeOf) (bytes 
   stream_ended (Err e) over = λ file is. tt
 
 -- and what a judge of a solver's output says
-module _ (p : AskedOf) (job : JobName) (kind : StreamKind) (old new : SolverOf) (bytes more : List ℕ) (goes : SolverGoesOn p job old bytes) where
+module _ (p : AskedOf) (job : JobName) (kind : StreamKind) (old new : SolverOf) (bytes more : List ℕ) (goes : SolverGoesOn p job kind old bytes) where
   solver_so_far : (r : Result Progress BadCert) → SolverFeeds old new more r → (file : List ℕ) → IsJobFile p job file → IsOutputFateSoFar file more most_bytes (fate_told r)
   solver_so_far r fed file is = subst (λ (n : ℕ). IsOutputFateSoFar file more n (fate_told r)) goes.most (fed.fate file (file_for old.asked p old.job job goes.asked goes.job_is file is))
 
-  solver_fed : (r : Result Progress BadCert) → SolverFeeds old new more r → FedSo p job (ProofFile kind) (SolverGoesOn p job new more) more (judged_as r)
+  solver_fed : (r : Result Progress BadCert) → SolverFeeds old new more r → FedSo p job (ProofFile kind) (SolverGoesOn p job kind new more) more (judged_as r)
   solver_fed r fed = record {
     says = λ file is. says_so_far p job (ProofFile kind) more r (found_for old.asked p old.job job goes.asked goes.job_is r fed.finds) (solver_so_far r fed);
     more = λ file is said. (
       record {
         is_job = goes.is_job;
+        serves = goes.serves;
         asked = fed.same.0 ∙ goes.asked;
         job_is = fed.same.1 ∙ goes.job_is;
         most = fed.same.2 ∙ goes.most;
@@ -129,7 +130,7 @@ module _ (p : AskedOf) (job : JobName) (kind : StreamKind) (old new : SolverOf) 
     );
   }
 
-  pub solver_told : (told : Result (Result Progress BadCert) AllocError) → IfOk told (λ r. SolverFeeds old new more r) → FedSo p job (ProofFile kind) (SolverGoesOn p job new more) more (told_as told)
+  pub solver_told : (told : Result (Result Progress BadCert) AllocError) → IfOk told (λ r. SolverFeeds old new more r) → FedSo p job (ProofFile kind) (SolverGoesOn p job kind new more) more (told_as told)
   solver_told (Ok r) fed = solver_fed r fed
   solver_told (Err e) fed = record { says = λ file is. tt; more = λ file is said. absurd (let k = said in cc) }
 

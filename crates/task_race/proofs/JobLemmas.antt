@@ -14,7 +14,7 @@ use Rattle.sby_terms.specs.Span.{IsSpan, slices_of}
 use Rattle.sby_terms.specs.declared.names.JobName.{JobName}
 use Rattle.sby_terms.specs.declared.names.JobName.TheVariants.{Base, Cover}
 use Rattle.sby_terms.specs.declared.names.Mode.{Mode}
-use Rattle.sby_terms.specs.declared.names.Mode.TheVariants.{Bmc, Prove, Cover as CoverMode}
+use Rattle.sby_terms.specs.declared.names.Mode.TheVariants.{Bmc, Prove, ProveInv, Cover as CoverMode}
 use Rattle.sby_terms.specs.declared.span.Span.{Span}
 
 named_from : (f : ℕ → JobName) (n a k : ℕ) → k < n → slice_get (map f (range_with_len a n)) k ≡ Some (f (a + k))
@@ -31,6 +31,9 @@ job_named Bmc span d k lt = let same : 0 + k ≡ k = omega arith in named_from B
 job_named Prove span d zero lt = refl
 job_named Prove span d (suc zero) lt = refl
 job_named Prove span d (suc (suc k)) lt = absurd (omega (arith, lt))
+job_named ProveInv span d zero lt = refl
+job_named ProveInv span d (suc zero) lt = refl
+job_named ProveInv span d (suc (suc k)) lt = absurd (omega (arith, lt))
 job_named CoverMode span d k lt = let same : 0 + k ≡ k = omega arith in named_from Cover (length (covers d)) 0 k (omega (arith, lt, named_count Cover (length (covers d)))) ∙ ap (λ i. Some (Cover i)) same
 
 few_covers : (d : DesignOf) → IsDesign d → length (covers d) ≤ 2 ^ 27
@@ -41,6 +44,7 @@ few_covers d is =
 few_in : (mode : Mode) (span : Span) (d : DesignOf) → IsSpan span → IsDesign d → length (jobs_in mode span d) ≤ 2 ^ 27
 few_in Bmc span d is design = omega (arith, named_count Base (slices_of span), is.few)
 few_in Prove span d is design = omega arith
+few_in ProveInv span d is design = omega arith
 few_in CoverMode span d is design = omega (arith, named_count Cover (length (covers d)), few_covers d design)
 
 pub few_jobs : (p : AskedOf) → IsProblem p → length (jobs_of p.problem p.design) ≤ 2 ^ 27

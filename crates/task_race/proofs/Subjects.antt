@@ -20,13 +20,6 @@ use Rattle.task_race.specs.declared.evidence.Evidence.TheVariants.{Output, Proof
 use Rattle.task_race.specs.declared.subject.Watch.{Watch}
 use Rattle.task_race.specs.declared.subject.Watch.TheVariants.{Stream, Solver}
 
--- it is a job of the problem
-pub watches_job : (p : AskedOf) (job : JobName) (by : Evidence) (w : Watch) (bytes : List ℕ) → Watches p job by w bytes → IsJob p job
-watches_job p job (Output kind) (Stream j) bytes h = h.is_job
-watches_job p job (Output kind) (Solver j) bytes h = absurd h
-watches_job p job (ProofFile kind) (Stream j) bytes h = absurd h
-watches_job p job (ProofFile kind) (Solver j) bytes h = h.is_job
-
 apart : Reading ≡ Over → ⊥
 apart e = cc
 
@@ -47,7 +40,7 @@ stream_says p job (Output kind) old new bytes more said h fed = fed p job kind b
 stream_says p job (ProofFile kind) old new bytes more said h fed = absurd h
 
 pub solver_says : (p : AskedOf) (job : JobName) (by : Evidence) (old new : SolverOf) (bytes more : List ℕ) (said : Judged FindingOf) → Watches p job by (Solver old) bytes
-    → ((q : AskedOf) (k : JobName) (kind : StreamKind) (b : List ℕ) → SolverGoesOn q k old b → FedSo q k (ProofFile kind) (SolverGoesOn q k new (b ++ more)) (b ++ more) said)
+    → ((q : AskedOf) (k : JobName) (kind : StreamKind) (b : List ℕ) → SolverGoesOn q k kind old b → FedSo q k (ProofFile kind) (SolverGoesOn q k kind new (b ++ more)) (b ++ more) said)
     → FedSo p job by (Watches p job by (Solver new) (bytes ++ more)) (bytes ++ more) said
 solver_says p job (Output kind) old new bytes more said h fed = absurd h
 solver_says p job (ProofFile kind) old new bytes more said h fed = fed p job kind bytes h
@@ -59,20 +52,21 @@ stream_says_ended p job (Output kind) old bytes said h over = over p job kind by
 stream_says_ended p job (ProofFile kind) old bytes said h over = absurd h
 
 pub solver_says_ended : (p : AskedOf) (job : JobName) (by : Evidence) (old : SolverOf) (bytes : List ℕ) (said : Judged FindingOf) → Watches p job by (Solver old) bytes
-    → ((q : AskedOf) (k : JobName) (kind : StreamKind) (b : List ℕ) → SolverGoesOn q k old b → EndedSo q k (ProofFile kind) b said) → EndedSo p job by bytes said
+    → ((q : AskedOf) (k : JobName) (kind : StreamKind) (b : List ℕ) → SolverGoesOn q k kind old b → EndedSo q k (ProofFile kind) b said) → EndedSo p job by bytes said
 solver_says_ended p job (Output kind) old bytes said h over = absurd h
 solver_says_ended p job (ProofFile kind) old bytes said h over = over p job kind bytes h
 
 -- where an output's end says More, the proof file is due
-pub ended_awaits : (p : AskedOf) (job : JobName) (by : Evidence) (bytes file : List ℕ) (said : Judged FindingOf) → IsJob p job → IsJobFile p job file → Says (Ends p job by) bytes said → said ≡ judged.More → Awaits p job by
-ended_awaits p job (Output kind) bytes file judged.More is at (None, tells, whole) same = absurd (whole file at)
-ended_awaits p job (Output kind) bytes file judged.More is at (Some fate, tells, whole) same = absurd (let e = tells in cc)
-ended_awaits p job (Output kind) bytes file (judged.Found f) is at says same = absurd (let e = same in cc)
-ended_awaits p job (Output kind) bytes file judged.Unknown is at says same = absurd (let e = same in cc)
-ended_awaits p job (Output kind) bytes file (judged.Bad number place) is at says same = absurd (let e = same in cc)
-ended_awaits p job (Output kind) bytes file judged.Failed is at says same = absurd (let e = same in cc)
-ended_awaits p job (Output kind) bytes file judged.Unjudged is at says same = absurd (let e = same in cc)
-ended_awaits p job (ProofFile kind) bytes file said is at says same = is
+pub ended_awaits : (p : AskedOf) (job : JobName) (by : Evidence) (w : Watch) (bytes file : List ℕ) (said : Judged FindingOf) → Watches p job by w bytes → IsJobFile p job file → Says (Ends p job by) bytes said → said ≡ judged.More → Awaits p job by
+ended_awaits p job (Output kind) w bytes file judged.More watches at (None, tells, whole) same = absurd (whole file at)
+ended_awaits p job (Output kind) w bytes file judged.More watches at (Some fate, tells, whole) same = absurd (let e = tells in cc)
+ended_awaits p job (Output kind) w bytes file (judged.Found f) watches at says same = absurd (let e = same in cc)
+ended_awaits p job (Output kind) w bytes file judged.Unknown watches at says same = absurd (let e = same in cc)
+ended_awaits p job (Output kind) w bytes file (judged.Bad number place) watches at says same = absurd (let e = same in cc)
+ended_awaits p job (Output kind) w bytes file judged.Failed watches at says same = absurd (let e = same in cc)
+ended_awaits p job (Output kind) w bytes file judged.Unjudged watches at says same = absurd (let e = same in cc)
+ended_awaits p job (ProofFile kind) (Stream j) bytes file said watches at says same = absurd watches
+ended_awaits p job (ProofFile kind) (Solver j) bytes file said watches at says same = (watches.is_job, watches.serves)
 
 -- what is said of a stream of a kind is what is said of a proof file of that kind
 told_whole : (p : AskedOf) (job : JobName) (kind : StreamKind) (bytes file : List ℕ) (said : Judged FindingOf) → IsJobFile p job file → Ends p job (Output (Certificate kind)) bytes said → ProvesAs p job kind bytes said
@@ -105,20 +99,20 @@ stood_on p job kind bytes more judged.Failed some says = says
 stood_on p job kind bytes more judged.Unjudged some says = tt
 
 -- a proof file that is judged has a kind, and its judge may take more
-pub proving_reading : (p : AskedOf) (job : JobName) (by : Evidence) (j : JudgeOf) (bytes : List ℕ) → Proving p job by (Some j) bytes → IsReading j
+pub proving_reading : (p : AskedOf) (job : JobName) (by : Evidence) (j : JudgeOf) (bytes : List ℕ) → Proving p job by (Stream j) bytes → IsReading j
 proving_reading p job (Output kind) j bytes h = absurd h
 proving_reading p job (ProofFile kind) j bytes h = λ e. apart (sym h.took.state ∙ e)
 
 -- what is said of its next piece, and of its end
-pub file_fed : (p : AskedOf) (job : JobName) (by : Evidence) (old new : JudgeOf) (bytes piece file : List ℕ) (said : Judged FindingOf) → IsJobFile p job file → Proving p job by (Some old) bytes
+pub file_fed : (p : AskedOf) (job : JobName) (by : Evidence) (old new : JudgeOf) (bytes piece file : List ℕ) (said : Judged FindingOf) → IsJobFile p job file → Proving p job by (Stream old) bytes
     → ((q : AskedOf) (k : JobName) (kind : Kind) (b : List ℕ) → GoesOn q k kind old b → FedSo q k (Output kind) (GoesOn q k kind new (b ++ piece)) (b ++ piece) said)
-    → (said ≢ judged.More → (more : List ℕ) → Says (Proves p job by) ((bytes ++ piece) ++ more) said) × (said ≡ judged.More → Proving p job by (Some new) (bytes ++ piece))
+    → (said ≢ judged.More → (more : List ℕ) → Says (Proves p job by) ((bytes ++ piece) ++ more) said) × (said ≡ judged.More → Proving p job by (Stream new) (bytes ++ piece))
 file_fed p job (Output kind) old new bytes piece file said at h fed = absurd h
 file_fed p job (ProofFile kind) old new bytes piece file said at h fed =
     let f = fed p job (Certificate kind) bytes h in
     ((λ some more. file_says p job kind ((bytes ++ piece) ++ more) file said at (stood_on p job kind (bytes ++ piece) more said some (f.says file at))), (λ is. (f.more file at is).0))
 
-pub file_ended : (p : AskedOf) (job : JobName) (by : Evidence) (old : JudgeOf) (bytes file : List ℕ) (said : Judged FindingOf) → IsJobFile p job file → Proving p job by (Some old) bytes
+pub file_ended : (p : AskedOf) (job : JobName) (by : Evidence) (old : JudgeOf) (bytes file : List ℕ) (said : Judged FindingOf) → IsJobFile p job file → Proving p job by (Stream old) bytes
     → ((q : AskedOf) (k : JobName) (kind : Kind) (b : List ℕ) → GoesOn q k kind old b → EndedSo q k (Output kind) b said)
     → Says (Proves p job by) bytes said × (said ≢ judged.More)
 file_ended p job (Output kind) old bytes file said at h over = absurd h

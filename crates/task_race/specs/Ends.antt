@@ -47,7 +47,7 @@ IsJudgedAs racing told lane job said =
     × ((stream : List ℕ) × IsStreamOf (script_of told racing.task lane job) stream
     × ComesTo (Ends racing.problem job (evidence_in racing lane)) (Proves racing.problem job (evidence_in racing lane)) (IsProofOf (script_of told racing.task lane job)) stream said)
 
--- lanes don't wait, and a finding of the problem calls the job off: one for the job itself, and for Step one that Base is Sat
+-- lanes don't wait, and a finding of the problem calls the job off: one for the job itself, and for Step or Inv one that Base is Sat
 abbrev pub IsCalledOffBy : RacingOf → JobName → FindingOf → Type 0
 IsCalledOffBy racing job f = (racing.wait ≡ false) × (f.problem ≡ racing.problem.problem) × (needless_by f.job f.answer job ≡ true)
 

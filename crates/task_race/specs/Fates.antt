@@ -13,7 +13,7 @@ use Rattle.cert_judge.specs.declared.stream.Kind.{Kind}
 use Rattle.cert_judge.specs.declared.stream.Kind.TheVariants.{Certificate}
 use Rattle.cert_judge.specs.declared.stream.StreamKind.{StreamKind}
 use Rattle.judge.proofs.StreamFates.{stays}
-use Rattle.judge.specs.Fates.{IsFate, IsFateSoFar}
+use Rattle.judge.specs.Fates.{IsFate, IsFateSoFar, Serves}
 use Rattle.cert_judge.proofs.OutputFates.{output_at_end, output_stays}
 use Rattle.cert_judge.specs.OutputFate.{IsOutputFate, IsOutputFateSoFar}
 use Rattle.judge.specs.Finding.{FindingOf}
@@ -81,9 +81,10 @@ pub record GoesOn (p : AskedOf) (job : JobName) (kind : Kind) (j : JudgeOf) (byt
   pub most : j.most ≡ most_bytes
   pub took : Took j bytes
 
--- a judge of the job's output that goes on
-pub record SolverGoesOn (p : AskedOf) (job : JobName) (j : SolverOf) (bytes : List ℕ) : Type 0 where
+-- a judge of the job's output that goes on, where proof files of a kind are judged for the job
+pub record SolverGoesOn (p : AskedOf) (job : JobName) (kind : StreamKind) (j : SolverOf) (bytes : List ℕ) : Type 0 where
   pub is_job : IsJob p job
+  pub serves : Serves (Certificate kind) job
   pub asked : j.asked ≡ p
   pub job_is : j.job ≡ job
   pub most : j.most ≡ most_bytes

@@ -138,7 +138,7 @@ pub record LanesRan (racing : RacingOf) (pool : Option PoolOf) (may_read : ℕ �
   pub starts : EachBack reports backs (λ lane r back. AreStarts racing pool (new_bay before.scripts racing.task lane) back.told lane r)
   pub stopped : EachLane reports (λ lane r. LaneStops may_read (limit_from racing start) (job_count racing) r)
 
--- the store has the formula of each job, at its path in the work folder
+-- the store has the file of each job, its formula or of Inv the pair of two cycles, at its path in the work folder
 abbrev pub HasFormulas : RacingOf → Store → Type 0
 HasFormulas racing store = (job : JobName) (file : List ℕ) → IsJobFile racing.problem job file → store (job_path racing.folder (slices_of racing.problem.problem.span) job) ≡ Some file
 

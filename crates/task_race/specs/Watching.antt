@@ -1,11 +1,12 @@
 -- Who judges the output of a child, and how it stands.
-use Rattle.std.specs.Prelude.{◌≡◌, ◌≢◌, ◌≤◌, ℕ, List, length, Option, None, Some, Result, Ok, Err}
+use Rattle.std.specs.Prelude.{◌≡◌, ◌≢◌, ◌≤◌, ℕ, List, length, Result, Ok, Err}
 use Rattle.std.specs.declared.alloc.AllocError.{AllocError}
 use Rattle.sby_terms.specs.declared.names.JobName.{JobName}
 use Rattle.race_core.specs.declared.event.Judged.{Judged}
 use Rattle.race_core.specs.declared.event.Judged.TheVariants as judged
 use Rattle.cert_judge.specs.declared.stream.BadCert.{BadCert}
 use Rattle.cert_judge.specs.declared.stream.Kind.TheVariants.{Certificate}
+use Rattle.judge.specs.Fates.{Serves}
 use Rattle.judge.specs.Finding.{FindingOf}
 use Rattle.judge.specs.Judging.{JudgeOf}
 use Rattle.judge.specs.Problem.{AskedOf, IsJob, IsJobFile}
@@ -23,18 +24,18 @@ abbrev pub Watches : AskedOf → JobName → Evidence → Watch → List ℕ →
 Watches p job (Output kind) (Stream j) bytes = GoesOn p job kind j bytes
 Watches p job (Output kind) (Solver j) bytes = ⊥
 Watches p job (ProofFile kind) (Stream j) bytes = ⊥
-Watches p job (ProofFile kind) (Solver j) bytes = SolverGoesOn p job j bytes
+Watches p job (ProofFile kind) (Solver j) bytes = SolverGoesOn p job kind j bytes
 
--- the output decided nothing, and its engine leaves a proof file
+-- the output decided nothing, and its engine leaves a proof file, of a kind that is judged for the job
 abbrev pub Awaits : AskedOf → JobName → Evidence → Type 0
 Awaits p job (Output kind) = ⊥
-Awaits p job (ProofFile kind) = IsJob p job
+Awaits p job (ProofFile kind) = IsJob p job × Serves (Certificate kind) job
 
 -- the proof file of a kind is judged by a judge of such a stream that goes on and has taken these bytes
-abbrev pub Proving : AskedOf → JobName → Evidence → Option JudgeOf → List ℕ → Type 0
-Proving p job (Output kind) file bytes = ⊥
-Proving p job (ProofFile kind) None bytes = ⊥
-Proving p job (ProofFile kind) (Some j) bytes = GoesOn p job (Certificate kind) j bytes
+abbrev pub Proving : AskedOf → JobName → Evidence → Watch → List ℕ → Type 0
+Proving p job (Output kind) w bytes = ⊥
+Proving p job (ProofFile kind) (Stream j) bytes = GoesOn p job (Certificate kind) j bytes
+Proving p job (ProofFile kind) (Solver j) bytes = ⊥
 
 -- an answer as a lane's list has it; out of memory isn't judged
 abbrev pub told_as : Result (Result Progress BadCert) AllocError → Judged FindingOf

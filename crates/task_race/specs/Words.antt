@@ -50,6 +50,7 @@ words_of (engine.Sat None) path proof = solver_word ∷ path ∷ []
 words_of (engine.Sat (Some n)) path proof = solver_word ∷ budget_word ∷ decimal n ∷ path ∷ []
 words_of (engine.Drup words) path proof = words ++ path ∷ []
 words_of (engine.Btor words) path proof = words ++ path ∷ []
+words_of (engine.Inv words) path proof = words ++ path ∷ []
 words_of (engine.Lrat words) path proof = words ++ path ∷ []
 words_of (engine.Proof words) path proof = map (with_paths path proof) words
 words_of (engine.ProofBinary words) path proof = map (with_paths path proof) words
@@ -61,11 +62,12 @@ btor_file folder job = folder ++ codes "/model/" ++ job ++ codes ".btor"
 abbrev pub btor_path : List ℕ → ℕ → JobName → List ℕ
 btor_path folder slices job = btor_file folder (job_text slices job)
 
--- the path of the file that an engine's child reads for a job: the model in BTOR2, or the job's formula
+-- the path of the file that an engine's child reads for a job: the model in BTOR2, or the job's own file
 abbrev pub path_of : Engine → List ℕ → ℕ → JobName → List ℕ
 path_of (engine.Sat conflicts) folder slices job = job_path folder slices job
 path_of (engine.Drup words) folder slices job = job_path folder slices job
 path_of (engine.Btor words) folder slices job = btor_path folder slices job
+path_of (engine.Inv words) folder slices job = job_path folder slices job
 path_of (engine.Lrat words) folder slices job = job_path folder slices job
 path_of (engine.Proof words) folder slices job = job_path folder slices job
 path_of (engine.ProofBinary words) folder slices job = job_path folder slices job

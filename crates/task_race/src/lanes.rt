@@ -18,7 +18,8 @@ use sby_edge::{Nothing, Told, ToldBytes};
 use sby_terms::{Engine, JobName, MAX_STREAM};
 use std::alloc::{AllocError, Global};
 
-/// The lanes of a problem, one for each engine line: `btor` serves the jobs that ask for a run from the start, every other engine each job.
+/// The lanes of a problem, one for each engine line: `btor` serves the jobs that ask for a run from the start, `inv`
+/// the one that asks for an invariant, every other engine each other job.
 /// The jobs' files lie in the work folder, below `model`, and so do the proof files that children leave.
 #[derive(Clone, Copy)]
 pub struct ProblemLanes<'a> {
@@ -36,6 +37,7 @@ fn evidence_of(engine: &Engine) -> Evidence
             Evidence::Output(Kind::Certificate(StreamKind::Drup))
         }
         Engine::Btor(_) => Evidence::Output(Kind::Witness),
+        Engine::Inv(_) => Evidence::Output(Kind::Invariant),
         Engine::Lrat(_) => Evidence::Output(Kind::Certificate(StreamKind::Lrat)),
         Engine::Proof(_) => Evidence::ProofFile(StreamKind::Proof),
         Engine::ProofBinary(_) => Evidence::ProofFile(StreamKind::ProofBinary),
@@ -48,7 +50,7 @@ fn is_judgeable(evidence: Evidence, job: JobName) -> bool
 {
     match evidence {
         Evidence::Output(kind) => serves(kind, job),
-        Evidence::ProofFile(_) => true,
+        Evidence::ProofFile(kind) => serves(Kind::Certificate(kind), job),
     }
 }
 
@@ -196,14 +198,13 @@ impl<'a> Makes<Finding> for ProblemLanes<'a> {
         let path = file_path(alloc, self, engine, job)?;
         let words = words_of(alloc, engine, path, proof.as_str())?;
         let evidence = evidence_of(engine);
-        let watch = watch(alloc, self.problem, job, evidence)?;
+        let watch = Box::new(alloc, watch(alloc, self.problem, job, evidence)?)?;
         let subject = JobJudge {
             problem: self.problem,
             job,
             evidence,
             watch,
             output: ToldBytes::of(&Nothing),
-            file: None,
             proof: ToldBytes::of(&Nothing),
         };
         Ok(Child {

@@ -18,7 +18,7 @@ use sby_edge::{Nothing, Told, ToldBytes};
 use sby_terms::{JobName, MAX_STREAM};
 use std::alloc::{AllocError, Global};
 
-// Who judges the output itself.
+// Who judges the output itself, or the proof file after it, which is a stream.
 #[derive(Drop)]
 pub(crate) enum Watch<'a> {
     Stream(Judge<'a>),
@@ -32,10 +32,9 @@ pub struct JobJudge<'a> {
     pub(crate) problem: &'a Problem,
     pub(crate) job: JobName,
     pub(crate) evidence: Evidence,
-    pub(crate) watch: Watch<'a>,
+    // Who judges the output, and, once that is due, the proof file. A judge is large, so it stays where it is when this moves.
+    pub(crate) watch: Box<Watch<'a>>,
     pub(crate) output: ToldBytes,
-    // Who judges the proof file, once that is due.
-    pub(crate) file: Option<Judge<'a>>,
     pub(crate) proof: ToldBytes,
 }
 
@@ -102,8 +101,8 @@ fn end_stream(judge: &mut Judge) -> Judged<Finding>
 // What a judge of a solver's output makes of its next piece.
 fn feed_solver(judge: &mut SolverJudge, piece: &[u8]) -> Judged<Finding>
     requires { judge.old.reading ≡ true }
-    ensures { (p : AskedOf) (job : JobName) (kind : StreamKind) (bytes : List ℕ) → SolverGoesOn p job judge.old bytes
-        → FedSo p job (evidence.ProofFile kind) (SolverGoesOn p job judge.new (bytes ++ piece.now)) (bytes ++ piece.now) result }
+    ensures { (p : AskedOf) (job : JobName) (kind : StreamKind) (bytes : List ℕ) → SolverGoesOn p job kind judge.old bytes
+        → FedSo p job (evidence.ProofFile kind) (SolverGoesOn p job kind judge.new (bytes ++ piece.now)) (bytes ++ piece.now) result }
 {
     judged(judge.feed(piece))
 }
@@ -111,7 +110,7 @@ fn feed_solver(judge: &mut SolverJudge, piece: &[u8]) -> Judged<Finding>
 // And of its end.
 fn end_solver(judge: &mut SolverJudge) -> Judged<Finding>
     requires { judge.old.reading ≡ true }
-    ensures { (p : AskedOf) (job : JobName) (kind : StreamKind) (bytes : List ℕ) → SolverGoesOn p job judge.old bytes → EndedSo p job (evidence.ProofFile kind) bytes result }
+    ensures { (p : AskedOf) (job : JobName) (kind : StreamKind) (bytes : List ℕ) → SolverGoesOn p job kind judge.old bytes → EndedSo p job (evidence.ProofFile kind) bytes result }
 {
     judged(judge.end())
 }
@@ -127,13 +126,13 @@ impl<'a> Subject<Finding> for JobJudge<'a> {
 
     ghost most = { λ s. most_output s.evidence };
 
-    ghost goes_on = { λ s. Watches s.problem.now s.job s.evidence s.watch s.output.bytes };
+    ghost goes_on = { λ s. Watches s.problem.now s.job s.evidence s.watch.value s.output.bytes };
 
     ghost awaits = { λ s. Awaits s.problem.now s.job s.evidence };
 
     ghost proved = { λ s. s.proof.bytes };
 
-    ghost proving = { λ s. Proving s.problem.now s.job s.evidence s.file s.proof.bytes };
+    ghost proving = { λ s. Proving s.problem.now s.job s.evidence s.watch.value s.proof.bytes };
 
     ghost stands = { λ s. Stands s.problem.now s.job s.evidence };
 
@@ -144,7 +143,7 @@ impl<'a> Subject<Finding> for JobJudge<'a> {
     fn feed(&mut self, _alloc: Global, piece: &[u8]) -> Judged<Finding> {
         self.problem.has_file(self.job);
         self.output = with_piece(&self.output, piece);
-        match &mut self.watch {
+        match &mut *self.watch {
             Watch::Stream(judge) => feed_stream(judge, piece),
             Watch::Solver(judge) => feed_solver(judge, piece),
         }
@@ -152,7 +151,7 @@ impl<'a> Subject<Finding> for JobJudge<'a> {
 
     fn end(&mut self, _alloc: Global) -> Judged<Finding> {
         self.problem.has_file(self.job);
-        match &mut self.watch {
+        match &mut *self.watch {
             Watch::Stream(judge) => end_stream(judge),
             Watch::Solver(judge) => end_solver(judge),
         }
@@ -164,7 +163,7 @@ impl<'a> Subject<Finding> for JobJudge<'a> {
         };
         let kind = Kind::Certificate(kind);
         let judge = Judge::new(alloc, self.problem, self.job, kind, MAX_STREAM)?;
-        self.file = Some(judge);
+        *self.watch = Watch::Stream(judge);
         self.proof = ToldBytes::of(&Nothing);
         Ok(())
     }
@@ -172,17 +171,17 @@ impl<'a> Subject<Finding> for JobJudge<'a> {
     fn feed_proof(&mut self, _alloc: Global, piece: &[u8]) -> Judged<Finding> {
         self.problem.has_file(self.job);
         self.proof = with_piece(&self.proof, piece);
-        match &mut self.file {
-            Some(judge) => feed_stream(judge, piece),
-            None => unreachable!(),
+        match &mut *self.watch {
+            Watch::Stream(judge) => feed_stream(judge, piece),
+            Watch::Solver(_) => unreachable!(),
         }
     }
 
     fn end_proof(&mut self, _alloc: Global) -> Judged<Finding> {
         self.problem.has_file(self.job);
-        match &mut self.file {
-            Some(judge) => end_stream(judge),
-            None => unreachable!(),
+        match &mut *self.watch {
+            Watch::Stream(judge) => end_stream(judge),
+            Watch::Solver(_) => unreachable!(),
         }
     }
 

@@ -143,7 +143,7 @@ pub(crate) fn words_of(
 {
     match engine {
         Engine::Sat(conflicts) => solver_words(alloc, *conflicts, path),
-        Engine::Drup(words) | Engine::Lrat(words) | Engine::Btor(words) => {
+        Engine::Drup(words) | Engine::Lrat(words) | Engine::Btor(words) | Engine::Inv(words) => {
             program_words(words, path)
         }
         Engine::Proof(words) | Engine::ProofBinary(words) => {
@@ -186,6 +186,7 @@ pub(crate) fn path_of(
         Engine::Btor(_) => btor_path(alloc, folder, slices, job),
         Engine::Sat(_)
         | Engine::Drup(_)
+        | Engine::Inv(_)
         | Engine::Lrat(_)
         | Engine::Proof(_)
         | Engine::ProofBinary(_) => job_path(alloc, folder, slices, job),

@@ -46,7 +46,7 @@ taken-long [] k x h = absurd cc
 taken-long (y ∷ xs) zero x h = refl
 taken-long (y ∷ xs) (suc k) x h = ap suc (taken-long xs k x h)
 
-cells-next : (cells : List CellOf) (k : ℕ) (x : CellOf) → slice_get cells k ≡ Some x → enumerate_from 0 (take (k + 1) cells) ≡ enumerate_from 0 (take k cells) ++ (k, x) ∷ []
+pub cells-next : (cells : List CellOf) (k : ℕ) (x : CellOf) → slice_get cells k ≡ Some x → enumerate_from 0 (take (k + 1) cells) ≡ enumerate_from 0 (take k cells) ++ (k, x) ∷ []
 cells-next cells k x at =
     ap (λ (l : List CellOf). enumerate_from 0 l) (take-next cells k x at) ∙ listed-last 0 (take k cells) x k (let e = taken-long cells k x at in omega (arith, e))
 

@@ -27,3 +27,4 @@ pub mod Growing
 pub mod Pairing
 pub mod Placed
 pub mod Registering
+pub mod Numbering

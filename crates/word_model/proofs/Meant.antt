@@ -47,11 +47,11 @@ flat-same : {X W : Type 0} (f g : X → List W) (es : List X) → ((e : X) → f
 flat-same f g [] h = refl
 flat-same {W = W} f g (e ∷ es) h = ap (λ (l : List W). l ++ flat_map f es) (h e) ∙ ap (λ (l : List W). g e ++ l) (flat-same f g es h)
 
-signals : (d : DesignOf) (bits : List SigBit) → signal_places d bits ≡ map (state_place d) (map (λ b. Signal b) bits)
+pub signals : (d : DesignOf) (bits : List SigBit) → signal_places d bits ≡ map (state_place d) (map (λ b. Signal b) bits)
 signals d [] = refl
 signals d (b ∷ bits) = ap (λ (l : List ℕ). place_of d b ∷ l) (signals d bits)
 
-kepts : (d : DesignOf) (i : ℕ) (ks : List ℕ) → map (kept_place d i) ks ≡ map (state_place d) (map (λ k. Kept i k) ks)
+pub kepts : (d : DesignOf) (i : ℕ) (ks : List ℕ) → map (kept_place d i) ks ≡ map (state_place d) (map (λ k. Kept i k) ks)
 kepts d i [] = refl
 kepts d i (k ∷ ks) = ap (λ (l : List ℕ). kept_place d i k ∷ l) (kepts d i ks)
 

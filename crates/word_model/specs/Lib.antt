@@ -5,3 +5,4 @@ pub mod Nodes
 pub mod Registers
 pub mod Built
 pub mod Model
+pub mod Numbers

@@ -54,7 +54,7 @@ fn kept_width(cell: &Cell) -> Result<u32, AllocError>
 }
 
 // Where the kept row of each cell begins, and after the last where the model ends, if 32 bits hold it.
-fn kept_offsets(alloc: Global, design: &Design) -> Result<Vec<u32>, AllocError>
+pub(crate) fn kept_offsets(alloc: Global, design: &Design) -> Result<Vec<u32>, AllocError>
     ensures { IfOk result (λ offsets. AreOffsets design.now offsets.items) }
 {
     let mut offsets = Vec::new(alloc);

@@ -4,6 +4,7 @@
 pub mod build;
 pub mod laws;
 mod nodes;
+pub mod numbers;
 mod registers;
 mod rows;
 mod statements;

@@ -25,6 +25,24 @@ fn tables_answer(rt: HostRuntime) -> Result<(), Fail> {
     Ok(())
 }
 
+// An invariant decides by itself, unless a run breaks an assertion.
+#[test]
+fn invariants_decide(rt: HostRuntime) {
+    for (base, inv, verdict) in [
+        (None, Some(Answer::Unsat), Some(Verdict::Pass)),
+        (
+            Some(Answer::Unsat),
+            Some(Answer::Unsat),
+            Some(Verdict::Pass),
+        ),
+        (Some(Answer::Sat), Some(Answer::Unsat), Some(Verdict::Fail)),
+        (Some(Answer::Sat), None, Some(Verdict::Fail)),
+        (Some(Answer::Unsat), None, None),
+    ] {
+        assert!(rt; decide(Mode::ProveInv, &[base, inv]) == verdict);
+    }
+}
+
 // Whether a copy of an engine has one word.
 fn has_word(engine: &Engine, wanted: &str) -> Result<bool, AllocError> {
     match engine.copy()? {
@@ -79,6 +97,7 @@ fn jobs_have_paths(rt: HostRuntime) -> Result<(), Fail> {
         (1, JobName::Base(0), "t/model/base.cnf"),
         (3, JobName::Base(2), "t/model/base2.cnf"),
         (1, JobName::Step, "t/model/step.cnf"),
+        (1, JobName::Inv, "t/model/inv.cnf"),
         (1, JobName::Cover(7), "t/model/cover7.cnf"),
     ] {
         assert!(rt;

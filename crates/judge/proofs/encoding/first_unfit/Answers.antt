@@ -3,7 +3,7 @@ use Rattle.std.specs.Prelude.{slice_get}
 use Rattle.std.proofs.lemmas.Option.{slice_get-get_or}
 use Rattle.sby_terms.specs.declared.names.JobName.{JobName}
 use Rattle.sby_terms.specs.declared.names.JobName.TheVariants.{Base}
-use Rattle.judge.proofs.Encodes.{fit_more, job_of_span, refused_next}
+use Rattle.judge.proofs.Encodes.{fit_more, told_or_not, refused_next}
 use Rattle.judge.specs.Jobs.{jobs_in}
 use Rattle.judge.specs.Stored.{FitUpTo, IsRefusedAmong}
 use Rattle.judge.proofs.encoding.first_unfit.Goals as goal
@@ -17,7 +17,7 @@ fits-requires-clause-job c =
     let names = c.args.names.now in
     let i = c.loop-name.name-index in
     let at = slice_get-get_or names i (Base 0) c.loop-name-test.true in
-    job_of_span c.args.flat.now c.args.model.now c.requires.built.design c.requires.built.model c.args.mode c.args.span i (get_or names i (Base 0))
+    told_or_not c.args.flat.now c.args.model.now c.requires.built.design c.requires.built.model c.args.mode c.args.span i (get_or names i (Base 0))
     (at-same names (jobs_in c.args.mode c.args.span c.args.flat.now) i (get_or names i (Base 0)) c.requires.names at)
 
 pub returns-then-not-branch-clause-some : goal.returns-then-not-branch-clause-some
@@ -27,13 +27,13 @@ returns-then-not-branch-clause-some c =
     let job = get_or names i (Base 0) in
     let at = slice_get-get_or names i (Base 0) c.loop-name-test.true in
     subst (λ (js : List JobName). IsRefusedAmong c.args.flat.now c.args.model.now c.args.span js job) (sym c.requires.names)
-    (refused_next c.args.flat.now c.args.model.now c.requires.built c.args.mode c.args.span c.args.net.now c.requires.net i job
+    (refused_next c.args.flat.now c.args.model.now c.requires.built c.args.mode c.args.span c.args.net.now c.args.bits.now c.requires.net c.requires.bits i job
     (at-same names (jobs_in c.args.mode c.args.span c.args.flat.now) i job c.requires.names at) (c.in_ok-fits.ensures.no c.if-not-branch.true)
-    (subst (λ (js : List JobName). FitUpTo c.args.net.now c.args.span js i) c.requires.names c.loop-name.invariant))
+    (subst (λ (js : List JobName). FitUpTo c.args.net.now c.args.bits.now c.args.span js i) c.requires.names c.loop-name.invariant))
 
 pub loop-name-preserved : goal.loop-name-preserved
 loop-name-preserved c =
     let names = c.args.names.now in
     let i = c.loop-name.name-index in
     let at = slice_get-get_or names i (Base 0) c.loop-name-test.true in
-    fit_more c.args.net.now c.args.span names i (get_or names i (Base 0)) at (c.in_ok-fits.ensures.yes c.if-not-branch.false) c.loop-name.invariant
+    fit_more c.args.net.now c.args.bits.now c.args.span names i (get_or names i (Base 0)) at (c.in_ok-fits.ensures.yes c.if-not-branch.false) c.loop-name.invariant

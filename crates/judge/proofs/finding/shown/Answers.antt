@@ -12,3 +12,6 @@ returns-in_ok-run-in-Base c =
       claim = shown_claim c.args.problem.now c.flat-flat.ensures.problem w.0 _ c.in_ok-run-in-Base.run' w.2 c.args.job (runs-apart c.args.job c.in-Base.is) w.1;
       played = λ _. (w.0, c.in_ok-run-in-Base.run', refl, w.1, w.2);
     }
+
+pub unreachable-requires : goal.unreachable-requires
+unreachable-requires c = c.requires.1.0.1 c.in-Inv.is

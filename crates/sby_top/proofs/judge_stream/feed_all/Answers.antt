@@ -5,7 +5,7 @@ use Rattle.judge.specs.Judging.{Took}
 use Rattle.sby_edge.specs.Files.{PieceFrom}
 use Rattle.sby_top.specs.Served.{most_stream}
 use Rattle.sby_top.specs.Steps.{PieceEnds}
-use Rattle.sby_top.proofs.JudgeLemmas.{ended_behind, ended_within, first_next, next_behind, same_judge, same_still}
+use Rattle.sby_top.proofs.JudgeLemmas.{ended_behind, ended_within, first_next, next_behind, same_file, same_judge, same_still}
 use Rattle.sby_top.proofs.judge_stream.feed_all.Goals as goal
 
 pub pieces-init : goal.pieces-init
@@ -17,6 +17,10 @@ pieces-init g c = record {
   still = refl;
   blamed = refl;
 }
+
+pub feed_piece-requires-clause-file : goal.feed_piece-requires-clause-file
+feed_piece-requires-clause-file g c =
+    let same = c.pieces.invariant.same in same_file c.args.judge.now.asked c.pieces.judge.asked c.args.judge.now.job c.pieces.judge.job same.0 same.1 c.requires.file
 
 pub returns-in-Some-clause-ok : goal.returns-in-Some-clause-ok
 returns-in-Some-clause-ok g c =

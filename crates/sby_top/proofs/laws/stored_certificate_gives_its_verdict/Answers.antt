@@ -6,4 +6,4 @@ use Rattle.sby_top.proofs.laws.stored_certificate_gives_its_verdict.Goals as goa
 pub returns : goal.returns
 returns g c = λ before after moments words done j end now path stream file kind answer is judged bmc apart streams named has stands holds.
     certificate_gives c.one_fate.ensures c.one_file.ensures.file (g.C.Clock.may_read c.args.clock.now) is.place moments j end is.exit now path (Certificate kind) stream file answer is.ran judged bmc apart streams named has stands
-    (c.certificates_are_found.ensures.found kind file stream most_stream answer holds)
+    (tt, c.certificates_are_found.ensures.found kind file stream most_stream answer holds)

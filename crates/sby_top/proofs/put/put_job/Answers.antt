@@ -2,8 +2,9 @@ use Rattle.std.proofs.Common.{◌∙◌, ap₂, sym, List, ℕ}
 use Rattle.std.proofs.lemmas.Result.{err_from_is_err_and}
 use Rattle.sby_terms.specs.Path.{job_path}
 use Rattle.task_race.specs.Words.{btor_path}
+use Rattle.sby_top.specs.Served.{asks_run, takes_witness}
 use Rattle.sby_top.specs.Task.{task_seen}
-use Rattle.sby_top.proofs.PutLemmas.{both_put, btor_failed, formula_failed, formula_put}
+use Rattle.sby_top.proofs.PutLemmas.{both_put, both_true, btor_failed, formula_failed, formula_put, witness_asks}
 use Rattle.sby_top.proofs.put.put_job.Goals as goal
 
 pub returns-in_err-put_formula-clause-err : goal.returns-in_err-put_formula-clause-err
@@ -20,6 +21,11 @@ returns-then-not-wants_btor-clause-ok g c =
       formula_put (task_seen c.args.task.now).service c.args.problem.now (task_seen c.args.task.now).request.name c.args.place _ _ c.job-job.result _ path
           (sym c.wants_btor.ensures ∙ c.if-not-wants_btor.true) c.in_ok-put_formula.ensures.ok,
     )
+
+pub put_btor-requires-clause-run : goal.put_btor-requires-clause-run
+put_btor-requires-clause-run g c =
+    let asks = both_true (asks_run c.job-job.result) (takes_witness (task_seen c.args.task.now).service c.args.place) (sym c.wants_btor.ensures ∙ c.if-not-wants_btor.false) in
+    witness_asks c.job-job.result asks.0
 
 pub returns-in_err-put_btor-clause-err : goal.returns-in_err-put_btor-clause-err
 returns-in_err-put_btor-clause-err g c = let p = err_from_is_err_and c.from_residual-in_err-put_btor.result c.from_residual-in_err-put_btor.ensures.1 in

@@ -38,6 +38,7 @@ returns c =
       net = c.promise.ensures;
       is = subst (λ (s : ModelOf). IsNetOf s c.in-Ok.net) same (rw c.in-Ok.is at c.in_ok-net.ensures.net);
       few = subst (λ (s : ModelOf). vars c.in-Ok.net ≤ net_cost s) same (rw c.in-Ok.is at c.in_ok-net.ensures.size);
+      states = c.new-states.ensures.items;
       starts = c.in_ok-starts.ensures ∙ all-out c.deref.result.now n (c.deref.ensures.value ∙ marks) (open_states c.args.model.now);
       inputs = c.in_ok-inputs.ensures ∙ all-out c.deref-2.result.now n (c.deref-2.ensures.value ∙ marks) c.args.model.now.inputs;
     })

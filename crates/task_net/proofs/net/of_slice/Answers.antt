@@ -1,12 +1,10 @@
-use Rattle.std.proofs.Common.{◌≡◌, ◌∙◌, ℕ, ◌<◌, ◌≤◌, ◌^◌, Bool, List, ap, map, subst, sym}
+use Rattle.std.proofs.Common.{◌≡◌, ◌∙◌, ◌<◌, ◌≤◌, ◌^◌, Bool, List, ap, map, subst, sym}
 use Rattle.model_core.specs.Choices.{open_states}
-use Rattle.model_core.specs.Served.{IsModel}
-use Rattle.model_core.specs.Shape.{ModelOf}
+use Rattle.model_core.specs.Shape.{ModelOf, states}
 use Rattle.model_cone.specs.Cone.{IsCone}
 use Rattle.model_cone.specs.Slice.{kept_by, sliced}
 use Rattle.frame_net.specs.NetOf.{IsNetOf, net_cost}
 use Rattle.bit_net.specs.Net.{vars}
-use Rattle.task_net.specs.Net.{IsNetBy}
 use Rattle.task_net.specs.Net.IsTaskNet.{AsksSome}
 use Rattle.task_net.proofs.net.of_slice.Goals as goal
 use Rattle.task_net.proofs.net.of_slice.Goals.{In_ok-net}
@@ -35,6 +33,7 @@ returns-clause-net c =
       net = c.promise.ensures;
       is = subst (λ (s : ModelOf). IsNetOf s c.in-Ok.net) (made i) (rw c.in-Ok.is at c.in_ok-net.ensures.net);
       few = subst (λ (s : ModelOf). vars c.in-Ok.net ≤ net_cost s) (made i) (rw c.in-Ok.is at c.in_ok-net.ensures.size);
+      states = c.in_ok-extend_from_slice.ensures.items ∙ rw (c.new-states.ensures.items, c.states.ensures) (ap states (made i));
       starts = c.in_ok-starts.ensures ∙ ap (λ (marks : List Bool). map (kept_by marks) (open_states c.args.model.now)) c.deref-2.ensures.value;
       inputs = c.in_ok-inputs.ensures ∙ ap (λ (marks : List Bool). map (kept_by marks) c.args.model.now.inputs) c.deref-3.ensures.value;
     })

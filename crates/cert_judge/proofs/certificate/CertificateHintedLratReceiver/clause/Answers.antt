@@ -6,5 +6,5 @@ use Rattle.cert_judge.proofs.certificate.CertificateHintedLratReceiver.clause.Go
 
 pub add-requires-clause-hints : goal.add-requires-clause-hints
 add-requires-clause-hints g c =
-    subst (λ (ids : List ℕ). (k d : ℕ) → k < length ids → IsSome (live_of c.self.inside.checker (slice_index_or ids k d))) (sym (c.deref.ensures.value ∙ c.in_ok-ids.ensures))
+    subst (λ (ids : List ℕ). (k d : ℕ) → k < length ids → IsSome (live_of c.self.inside.checker (slice_index_or ids k d))) (sym (c.deref.ensures.value ∙ c.in_ok-fill_ids.ensures))
     (good_ids (live_of c.self.inside.checker) c.args.hints.now (sym c.first_bad.ensures ∙ c.in_default.is))

@@ -2,7 +2,7 @@ use Rattle.std.proofs.Common.{ap, inl, inr, ◌≡◌, ◌∙◌}
 use Rattle.cert_judge.proofs.Pieces.{if_ok}
 use Rattle.inv_judge.specs.Claim.{ClaimOf, Passes, begun, with_outcome}
 use Rattle.inv_judge.specs.declared.outcome.InvOutcome.TheVariants as outcome
-use Rattle.inv_fate.specs.declared.kind.InvKind.TheVariants.{NotInvariant}
+use Rattle.cert_judge.specs.declared.stream.CertKind.TheVariants.{NotInvariant}
 use Rattle.inv_judge.proofs.Saying.{no_both}
 use Rattle.inv_judge.proofs.claim.Claim.pass.Goals as goal
 

@@ -50,4 +50,8 @@ invariant_of-result c =
         rows = c.in_ok-shape.ensures.rows;
       };
       net = rw c.in-Ok-3.is at c.in_ok-net.ensures.net;
+      bits = c.in_ok-bits.ensures;
     }
+
+pub bits_of-requires : goal.bits_of-requires
+bits_of-requires c = record { net = (c.asked_in-asked.result, rw c.in-Ok-3.is at c.in_ok-net.ensures.net) }

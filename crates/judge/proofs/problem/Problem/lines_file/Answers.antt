@@ -9,6 +9,7 @@ use Rattle.place_rows.specs.Rows.{AreRowsOf}
 use Rattle.source_rows.specs.Sources.{source_rows}
 use Rattle.judge.proofs.Encodes.{job_of_span}
 use Rattle.judge.proofs.Reading.{at_sought}
+use Rattle.judge.proofs.Sizes.{witness_told}
 use Rattle.judge.specs.Jobs.{span_of}
 use Rattle.judge.specs.Problem.{AskedOf}
 use Rattle.judge.specs.Witness.{sought_in}
@@ -20,7 +21,7 @@ sought_of-requires-clause-job c =
     let h = c.flat-flat.ensures.problem in
     let w = c.requires.job in
     subst (λ (q : AskedOf). IsOfSpan c.args.job (span_of q.problem)) (sym c.self.view_is)
-    (job_of_span p.design p.model h.design h.model p.problem.mode (span_of p.problem) w.0 c.args.job w.1)
+    (job_of_span p.design p.model h.design h.model p.problem.mode (span_of p.problem) w.0 c.args.job w.1 (witness_told c.args.job c.requires.run))
 
 pub emit-requires : goal.emit-requires
 emit-requires c =

@@ -23,7 +23,7 @@ decode-requires-clause-job c =
     let w = c.requires.satisfying in
     let is = subst (λ (p : AskedOf). IsEncodedOf p c.args.job w.0) (sym c.self.view_is) w.1 in
     let basis = c.self.inside.basis.value in
-    job_of_span basis.design basis.model h.design h.model c.self.inside.mode c.self.inside.span is.0.0 c.args.job is.0.1
+    job_of_span basis.design basis.model h.design h.model c.self.inside.mode c.self.inside.span is.0.0.0 c.args.job is.0.0.1 is.0.1
 
 -- the choices that the values tell of the job as it is encoded
 choices_told : (job : JobName) (span : Span) (x : Assignment) (made net : TaskNetOf) (e : EncodedOf) (c : ChoicesOf) → made ≡ net → e ≡ task_encoded net job span → c ≡ decoded (task_encoded made job span) x → c ≡ decoded e x

@@ -1,0 +1,7 @@
+//! Streams of invariants of small pairs, judged: tests alone.
+#![tactic(auto)]
+
+#[cfg(test)]
+mod pairs;
+#[cfg(test)]
+mod tests;
