@@ -408,6 +408,7 @@ def examples(bench):
     for name in os.listdir(os.path.join(ROOT, "examples")):
         if os.path.isfile(os.path.join(ROOT, "examples", name)):
             shutil.copy(os.path.join(ROOT, "examples", name), inner.folder)
+    shutil.copytree(os.path.join(ROOT, "examples", "engines"), os.path.join(inner.folder, "engines"))
     for name in sorted(it for it in os.listdir(inner.folder) if it.endswith(".sby") and it != "counter.sby"):
         code, said = inner.run("-j", "2", name)
         want(code == 0, f"{name}: {code}\n{said}")
