@@ -437,7 +437,7 @@ def print_group(group, note=None):
     lines = "\n".join(map(line_of, group.cells))
     if note:
         print(f"// {note}")
-    print(f"""const {group.name}: Cells = Cells {{
+    print(f"""pub const {group.name}: Cells = Cells {{
     inputs: {quoted(inputs)},
     output: "{output}",
     parameters: {quoted(group.parameters)},
@@ -463,8 +463,6 @@ def main():
         print_group(group)
     for group, note in others.items():
         print_group(group, note)
-    names = [f"    {group.name}," for group in (*asked, *others)]
-    print("\n".join([f"/// All of them.\npub const TABLE: [Cells; {len(names)}] = [", *names, "];"]))
     sys.exit(1 if wrong else 0)
 
 

@@ -4,7 +4,12 @@ ghost use Rattle.std.specs.Prelude.{◌≡◌, ◌+◌, ◌∷◌, [], IfOk, OnO
 ghost use Rattle.model_core.specs.Choices.{open_states, without_digit};
 
 use crate::tests::played::{flat_of, play};
-use crate::tests::table::{Cells, TABLE};
+use crate::tests::table::{
+    BMUX, CONCAT, Cells, DIVISIONS_BY_ZERO, FLAGS, INITIAL, MUX, ONE_OPERAND, PARTS_PAST_THE_WORD,
+    PMUX, REGISTERS_ARST_CLK_D, REGISTERS_ARST_CLK_D_EN, REGISTERS_CLK_D, REGISTERS_CLK_D_EN,
+    REGISTERS_CLK_D_EN_SRST, REGISTERS_CLK_D_SRST, REGISTERS_D, SEVERAL_SELECTS, SHIFTS,
+    SHIFTS_BY_SIGNED, SLICE, SOURCES, TWO_OPERANDS,
+};
 use model_core::model::WordModel;
 use model_play::player::Player;
 use std::alloc::{AllocError, Global};
@@ -142,8 +147,65 @@ fn first_wrong(alloc: Global, table: &[Cells]) -> Result<Option<&'static str>, F
 }
 
 #[test]
-fn cells_have_their_rows(rt: HostRuntime) -> Result<(), Fail> {
-    assert_eq!(rt; first_wrong(rt.alloc(), &TABLE)?, None);
+fn cells_of_one_operand_have_their_rows(rt: HostRuntime) -> Result<(), Fail> {
+    let groups = [ONE_OPERAND];
+    assert_eq!(rt; first_wrong(rt.alloc(), &groups)?, None);
+    Ok(())
+}
+
+#[test]
+fn cells_of_two_operands_have_their_rows(rt: HostRuntime) -> Result<(), Fail> {
+    let groups = [TWO_OPERANDS];
+    assert_eq!(rt; first_wrong(rt.alloc(), &groups)?, None);
+    Ok(())
+}
+
+#[test]
+fn shifts_have_their_rows(rt: HostRuntime) -> Result<(), Fail> {
+    let groups = [SHIFTS];
+    assert_eq!(rt; first_wrong(rt.alloc(), &groups)?, None);
+    Ok(())
+}
+
+#[test]
+fn selects_and_parts_have_their_rows(rt: HostRuntime) -> Result<(), Fail> {
+    let groups = [MUX, PMUX, BMUX, SLICE, CONCAT];
+    assert_eq!(rt; first_wrong(rt.alloc(), &groups)?, None);
+    Ok(())
+}
+
+#[test]
+fn registers_have_their_rows(rt: HostRuntime) -> Result<(), Fail> {
+    let groups = [
+        REGISTERS_D,
+        REGISTERS_CLK_D,
+        REGISTERS_CLK_D_EN,
+        REGISTERS_CLK_D_SRST,
+        REGISTERS_CLK_D_EN_SRST,
+    ];
+    assert_eq!(rt; first_wrong(rt.alloc(), &groups)?, None);
+    Ok(())
+}
+
+#[test]
+fn registers_with_asynchronous_resets_have_their_rows(rt: HostRuntime) -> Result<(), Fail> {
+    let groups = [REGISTERS_ARST_CLK_D, REGISTERS_ARST_CLK_D_EN];
+    assert_eq!(rt; first_wrong(rt.alloc(), &groups)?, None);
+    Ok(())
+}
+
+#[test]
+fn cells_without_a_value_in_yosys_have_their_rows(rt: HostRuntime) -> Result<(), Fail> {
+    let groups = [
+        DIVISIONS_BY_ZERO,
+        SHIFTS_BY_SIGNED,
+        PARTS_PAST_THE_WORD,
+        SEVERAL_SELECTS,
+        FLAGS,
+        SOURCES,
+        INITIAL,
+    ];
+    assert_eq!(rt; first_wrong(rt.alloc(), &groups)?, None);
     Ok(())
 }
 

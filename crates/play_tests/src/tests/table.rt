@@ -13,7 +13,7 @@ pub struct Cells {
     pub lines: &'static str,
 }
 
-const ONE_OPERAND: Cells = Cells {
+pub const ONE_OPERAND: Cells = Cells {
     inputs: &["A"],
     output: "Y",
     parameters: &["A_SIGNED", "A_WIDTH", "Y_WIDTH"],
@@ -55,7 +55,7 @@ $logic_not 0 3 1: 000 = 1, 001 = 0, 010 = 0, 101 = 0, 110 = 0, 111 = 0
 $logic_not 1 3 2: 000 = 01, 001 = 00, 010 = 00, 101 = 00, 110 = 00, 111 = 00",
 };
 
-const TWO_OPERANDS: Cells = Cells {
+pub const TWO_OPERANDS: Cells = Cells {
     inputs: &["A", "B"],
     output: "Y",
     parameters: &["A_SIGNED", "A_WIDTH", "B_SIGNED", "B_WIDTH", "Y_WIDTH"],
@@ -171,7 +171,7 @@ $ge 1 2 1 3 1: 11 111 = 1, 01 001 = 1, 10 111 = 0, 01 100 = 1
 $ge 1 4 1 2 2: 1111 11 = 01, 0001 01 = 01, 1000 11 = 00, 0111 10 = 01",
 };
 
-const SHIFTS: Cells = Cells {
+pub const SHIFTS: Cells = Cells {
     inputs: &["A", "B"],
     output: "Y",
     parameters: &["A_SIGNED", "A_WIDTH", "B_SIGNED", "B_WIDTH", "Y_WIDTH"],
@@ -221,7 +221,7 @@ $shiftx 0 5 1 3 1: 01100 000 = 0, 01100 001 = 0, 10000 011 = 0
 $shiftx 0 5 1 3 2: 01100 000 = 00, 01100 001 = 10, 10000 011 = 10",
 };
 
-const MUX: Cells = Cells {
+pub const MUX: Cells = Cells {
     inputs: &["A", "B", "S"],
     output: "Y",
     parameters: &["WIDTH"],
@@ -229,7 +229,7 @@ const MUX: Cells = Cells {
 $mux 3: 101 010 0 = 101, 101 010 1 = 010, 011 110 1 = 110",
 };
 
-const PMUX: Cells = Cells {
+pub const PMUX: Cells = Cells {
     inputs: &["A", "B", "S"],
     output: "Y",
     parameters: &["S_WIDTH", "WIDTH"],
@@ -238,7 +238,7 @@ $pmux 3 2: 11 100100 000 = 11, 11 100100 001 = 00, 11 100100 010 = 01, 11 100100
 $pmux 2 3: 111 100010 00 = 111, 111 100010 01 = 010, 111 100010 10 = 100",
 };
 
-const BMUX: Cells = Cells {
+pub const BMUX: Cells = Cells {
     inputs: &["A", "S"],
     output: "Y",
     parameters: &["S_WIDTH", "WIDTH"],
@@ -246,7 +246,7 @@ const BMUX: Cells = Cells {
 $bmux 2 2: 11100100 00 = 00, 11100100 01 = 01, 11100100 10 = 10, 11100100 11 = 11",
 };
 
-const SLICE: Cells = Cells {
+pub const SLICE: Cells = Cells {
     inputs: &["A"],
     output: "Y",
     parameters: &["A_WIDTH", "OFFSET", "Y_WIDTH"],
@@ -255,7 +255,7 @@ $slice 5 2 3: 01101 = 011, 10010 = 100
 $slice 5 4 1: 01101 = 0, 10010 = 1",
 };
 
-const CONCAT: Cells = Cells {
+pub const CONCAT: Cells = Cells {
     inputs: &["A", "B"],
     output: "Y",
     parameters: &["A_WIDTH", "B_WIDTH"],
@@ -263,14 +263,14 @@ const CONCAT: Cells = Cells {
 $concat 3 1: 110 0 = 0110, 001 1 = 1001",
 };
 
-const REGISTERS_D: Cells = Cells {
+pub const REGISTERS_D: Cells = Cells {
     inputs: &["D"],
     output: "Q",
     parameters: &["WIDTH"],
     lines: "$ff 2: 11 = 10, 00 = 11, 11 = 00, 00 = 11, 11 = 00",
 };
 
-const REGISTERS_CLK_D: Cells = Cells {
+pub const REGISTERS_CLK_D: Cells = Cells {
     inputs: &["CLK", "D"],
     output: "Q",
     parameters: &["CLK_POLARITY", "WIDTH"],
@@ -278,7 +278,7 @@ const REGISTERS_CLK_D: Cells = Cells {
 $dff 0 2: 0 11 = 10, 1 00 = 11, 0 11 = 00, 0 00 = 11, 1 11 = 00",
 };
 
-const REGISTERS_CLK_D_EN: Cells = Cells {
+pub const REGISTERS_CLK_D_EN: Cells = Cells {
     inputs: &["CLK", "D", "EN"],
     output: "Q",
     parameters: &["CLK_POLARITY", "EN_POLARITY", "WIDTH"],
@@ -288,7 +288,7 @@ $dffe 0 1 2: 0 11 0 = 10, 1 00 1 = 10, 0 11 1 = 00, 0 00 0 = 11, 1 11 1 = 11
 $dffe 0 0 2: 0 11 0 = 10, 1 00 1 = 11, 0 11 1 = 11, 0 00 0 = 11, 1 11 1 = 00",
 };
 
-const REGISTERS_CLK_D_SRST: Cells = Cells {
+pub const REGISTERS_CLK_D_SRST: Cells = Cells {
     inputs: &["CLK", "D", "SRST"],
     output: "Q",
     parameters: &["CLK_POLARITY", "SRST_POLARITY", "SRST_VALUE", "WIDTH"],
@@ -298,7 +298,7 @@ $sdff 0 1 2'01 2: 0 11 1 = 10, 1 00 0 = 01, 0 11 1 = 00, 0 00 0 = 01, 1 11 0 = 0
 $sdff 0 0 2'01 2: 0 11 1 = 10, 1 00 0 = 11, 0 11 1 = 01, 0 00 0 = 11, 1 11 0 = 01",
 };
 
-const REGISTERS_CLK_D_EN_SRST: Cells = Cells {
+pub const REGISTERS_CLK_D_EN_SRST: Cells = Cells {
     inputs: &["CLK", "D", "EN", "SRST"],
     output: "Q",
     parameters: &[
@@ -326,7 +326,7 @@ $sdffce 0 0 1 2'01 2: 0 11 0 1 = 10, 1 00 1 0 = 01, 0 11 1 1 = 01, 0 00 0 0 = 01
 $sdffce 0 0 0 2'01 2: 0 11 0 1 = 10, 1 00 1 0 = 11, 0 11 1 1 = 11, 0 00 0 0 = 11, 1 11 1 0 = 01",
 };
 
-const REGISTERS_ARST_CLK_D: Cells = Cells {
+pub const REGISTERS_ARST_CLK_D: Cells = Cells {
     inputs: &["ARST", "CLK", "D"],
     output: "Q",
     parameters: &["ARST_POLARITY", "ARST_VALUE", "CLK_POLARITY", "WIDTH"],
@@ -336,7 +336,7 @@ $adff 0 2'01 1 2: 1 0 11 = 10, 0 1 00 = 01, 1 0 11 = 01, 0 0 00 = 01, 0 1 11 = 0
 $adff 0 2'01 0 2: 1 0 11 = 10, 0 1 00 = 01, 1 0 11 = 01, 0 0 00 = 01, 0 1 11 = 01",
 };
 
-const REGISTERS_ARST_CLK_D_EN: Cells = Cells {
+pub const REGISTERS_ARST_CLK_D_EN: Cells = Cells {
     inputs: &["ARST", "CLK", "D", "EN"],
     output: "Q",
     parameters: &[
@@ -357,7 +357,7 @@ $adffe 0 2'01 0 0 2: 1 0 11 0 = 10, 0 1 00 1 = 01, 1 0 11 1 = 01, 0 0 00 0 = 01,
 };
 
 // By the line alone, since Yosys has x: over zero.
-const DIVISIONS_BY_ZERO: Cells = Cells {
+pub const DIVISIONS_BY_ZERO: Cells = Cells {
     inputs: &["A", "B"],
     output: "Y",
     parameters: &["A_SIGNED", "A_WIDTH", "B_SIGNED", "B_WIDTH", "Y_WIDTH"],
@@ -372,7 +372,7 @@ $mod 1 2 1 3 5: 10 000 = 11110, 01 000 = 00001, 11 000 = 11111, 01 000 = 00001, 
 };
 
 // By the line alone, since Yosys has no such cells: B is read without its sign.
-const SHIFTS_BY_SIGNED: Cells = Cells {
+pub const SHIFTS_BY_SIGNED: Cells = Cells {
     inputs: &["A", "B"],
     output: "Y",
     parameters: &["A_SIGNED", "A_WIDTH", "B_SIGNED", "B_WIDTH", "Y_WIDTH"],
@@ -387,7 +387,7 @@ $sshr 1 4 1 3 5: 1111 001 = 11111, 1111 100 = 11111, 1111 111 = 11111",
 };
 
 // By the line alone, since Yosys has x past the word, and no signed `$shiftx`.
-const PARTS_PAST_THE_WORD: Cells = Cells {
+pub const PARTS_PAST_THE_WORD: Cells = Cells {
     inputs: &["A", "B"],
     output: "Y",
     parameters: &["A_SIGNED", "A_WIDTH", "B_SIGNED", "B_WIDTH", "Y_WIDTH"],
@@ -402,7 +402,7 @@ $shiftx 1 4 1 3 5: 0110 001 = 00011, 1111 011 = 00011, 1111 111 = 11110, 0110 11
 };
 
 // By the line alone, since Yosys has x: the lowest select counts.
-const SEVERAL_SELECTS: Cells = Cells {
+pub const SEVERAL_SELECTS: Cells = Cells {
     inputs: &["A", "B", "S"],
     output: "Y",
     parameters: &["S_WIDTH", "WIDTH"],
@@ -411,7 +411,7 @@ $pmux 2 3: 111 100010 11 = 010",
 };
 
 // By the line alone, since Yosys has no such flag: what isn't 0 is 1.
-const FLAGS: Cells = Cells {
+pub const FLAGS: Cells = Cells {
     inputs: &["A"],
     output: "Y",
     parameters: &["A_SIGNED", "A_WIDTH", "Y_WIDTH"],
@@ -419,7 +419,7 @@ const FLAGS: Cells = Cells {
 };
 
 // By hand: one value for the run, and one in each cycle.
-const SOURCES: Cells = Cells {
+pub const SOURCES: Cells = Cells {
     inputs: &[],
     output: "Y",
     parameters: &["WIDTH"],
@@ -428,35 +428,9 @@ $anyseq 2: = 10, = 01, = 11",
 };
 
 // By hand: the first cycle.
-const INITIAL: Cells = Cells {
+pub const INITIAL: Cells = Cells {
     inputs: &[],
     output: "Y",
     parameters: &[],
     lines: "$initstate: = 1, = 0, = 0",
 };
-
-/// All of them.
-pub const TABLE: [Cells; 22] = [
-    ONE_OPERAND,
-    TWO_OPERANDS,
-    SHIFTS,
-    MUX,
-    PMUX,
-    BMUX,
-    SLICE,
-    CONCAT,
-    REGISTERS_D,
-    REGISTERS_CLK_D,
-    REGISTERS_CLK_D_EN,
-    REGISTERS_CLK_D_SRST,
-    REGISTERS_CLK_D_EN_SRST,
-    REGISTERS_ARST_CLK_D,
-    REGISTERS_ARST_CLK_D_EN,
-    DIVISIONS_BY_ZERO,
-    SHIFTS_BY_SIGNED,
-    PARTS_PAST_THE_WORD,
-    SEVERAL_SELECTS,
-    FLAGS,
-    SOURCES,
-    INITIAL,
-];
