@@ -2,7 +2,7 @@
 
 ghost use Rattle.std.specs.Prelude.{◌≤◌, ◌^◌};
 
-use crate::pairs::{file_of, pair_of};
+use crate::pairs::pair_of;
 use inv_judge::{InvJudge, InvOutcome};
 use std::alloc::{AllocError, Global};
 use std::test::Fail;
@@ -119,18 +119,6 @@ fn wrong_row(alloc: Global, table: &'static str) -> Result<Option<&'static str>,
 fn streams_are_judged(rt: HostRuntime) -> Result<(), Fail> {
     for table in TABLES {
         assert_eq!(rt; wrong_row(rt.alloc(), table)?, None);
-    }
-    Ok(())
-}
-
-#[test]
-fn files_name_the_literals(rt: HostRuntime) -> Result<(), Fail> {
-    for table in TABLES {
-        let (head, _) = table.split_once('#').unwrap_or((table, ""));
-        let (_, file) = head.split_once(' ').unwrap_or((head, ""));
-        let pair = pair_of(rt.alloc(), file)?;
-        let text = file_of(rt.alloc(), &pair)?;
-        assert!(rt; text.as_slice() == file.as_bytes());
     }
     Ok(())
 }
