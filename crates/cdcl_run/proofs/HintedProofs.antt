@@ -23,7 +23,7 @@ use Rattle.cdcl_run.proofs.Words.{IsWord, AreIn, decimal_number, ended_texts, in
 id_word : (n : ℕ) → n < 2 ^ 63 → IsWord (decimal n)
 id_word n h = signed_word false n (omega (arith, h))
 
-id_read : (n : ℕ) → 0 < n → n < 2 ^ 63 → id_of (decimal n) ≡ Some n
+pub id_read : (n : ℕ) → 0 < n → n < 2 ^ 63 → id_of (decimal n) ≡ Some n
 id_read n p h =
     let a = decimal_number n p (omega (arith, h)) in
     let v = (decimal_is_IsNumeral n (omega (arith, h))).1 in
@@ -117,7 +117,7 @@ module _ (vars : ℕ) (small : vars < 2 ^ 64) where
   pub clause_words : (c : List LitOf) (id : ℕ) (hints : List ℕ) → AreIn vars c → length c ≤ vars → 0 < id → id < 2 ^ 63 → AreIdsIn hints → length hints ≤ 2 ^ 27 → IsClauseLine vars (addition_words c id hints) id c hints
   clause_words c id hints h short p i n few = (decimal id, map literal_text c ++ codes "0" ∷ [], map decimal hints ++ codes "0" ∷ [], refl, id_read id p i, ended_texts vars small c h short, are_ids hints n few)
 
-abbrev drop_words : ℕ → List (List ℕ)
+abbrev pub drop_words : ℕ → List (List ℕ)
 drop_words id = codes "1" ∷ codes "d" ∷ (decimal id ∷ codes "0" ∷ [])
 
 drop_first : (id : ℕ) (rest : List ℕ) → 0 < id → id < 2 ^ 63 → lines ((codes "1 d " ++ ids_text (id ∷ [])) ++ rest) ≡ drop_words id ∷ lines rest
@@ -174,7 +174,7 @@ bounded_drop h id b = record {
 }
 
 -- hints of live clauses have texts
-hints_in : (h : HeldOf) (id : ℕ) (hints : List ℕ) → IsBounded h → h.last < id → id < 2 ^ 63 → AreLive h.live hints → AreIdsIn hints
+pub hints_in : (h : HeldOf) (id : ℕ) (hints : List ℕ) → IsBounded h → h.last < id → id < 2 ^ 63 → AreLive h.live hints → AreIdsIn hints
 hints_in h id [] b above i all = tt
 hints_in h id (n ∷ hints) b above i all =
     let w = All-head (λ id. (c : List LitOf) × (h.live id ≡ Some c)) n hints all in
@@ -199,7 +199,7 @@ hinted_words (Adds c id hints) = addition_words c id hints
 hinted_words (Notes l id hints) = addition_words (l ∷ []) id hints
 hinted_words (Drops c id) = drop_words id
 
-one_filled : (l : LitOf) → (let c : List LitOf = l ∷ [] in c) ≢ []
+pub one_filled : (l : LitOf) → (let c : List LitOf = l ∷ [] in c) ≢ []
 one_filled l e = cc
 
 module _ (vars : ℕ) (small : vars < 2 ^ 64) where
@@ -208,7 +208,7 @@ module _ (vars : ℕ) (small : vars < 2 ^ 64) where
   line_read h (Notes l id hints) rest b (p, (i, few)) (above, live, by) = addition_first vars small (l ∷ []) id hints rest (in_of vars (l ∷ []) p.within) i (hints_in h id hints b above i live)
   line_read h (Drops c id) rest b (p, i) at = drop_first id rest (b.low id c at) i
 
-  bounded_after : (h : HeldOf) (l : LogLine) → IsBounded h → IsHintedLine h l → IsBounded (held_after h l)
+  pub bounded_after : (h : HeldOf) (l : LogLine) → IsBounded h → IsHintedLine h l → IsBounded (held_after h l)
   bounded_after h (Adds c id hints) b (above, live, by) = bounded_put h id c above b
   bounded_after h (Notes l id hints) b (above, live, by) = bounded_put h id (l ∷ []) above b
   bounded_after h (Drops c id) b at = bounded_drop h id b

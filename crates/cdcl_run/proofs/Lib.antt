@@ -15,3 +15,4 @@ pub mod Answering
 pub mod Contents
 pub mod Promise
 mod Unknown
+mod HintedUnknown

@@ -6,18 +6,19 @@ ghost use Rattle.cnf_form.specs.Dimacs.{IsDimacs};
 ghost use Rattle.cdcl_words.specs.Asking.{Asks};
 ghost use Rattle.sby_edge.specs.Files.{Store};
 ghost use Rattle.cdcl_run.specs.Answer.{IsUnknownStream, budget_of};
-ghost use Rattle.cdcl_run.specs.HintedAnswer.{IsAnswerBy};
+ghost use Rattle.cdcl_run.specs.HintedAnswer.{IsAnswerBy, IsHintedUnknownStream};
 ghost use Rattle.cert_judge.specs.Fate.{Unknown};
 ghost use Rattle.cert_judge.specs.Kinds.{IsFate};
-ghost use Rattle.cert_judge.specs.declared.stream.StreamKind.TheVariants.{Drup};
+ghost use Rattle.cert_judge.specs.declared.stream.StreamKind.TheVariants.{Drup, Lrat};
 ghost use Rattle.cdcl_run.specs.Output.{grown};
 ghost use Rattle.cdcl_run.specs.Run.{Did, IsCutShort, IsLeftOff, IsUngot, World};
 
 use cnf_form::dimacs_faults_are_decided;
 
-/// A stream that says that it doesn't know, all of whose bytes are taken, comes to nothing else: its fate is Unknown.
+/// A stream that says that it doesn't know, with hints or without, all of whose bytes are taken, comes to nothing else: its fate is Unknown.
 pub fn unknown_streams_are_unknown()
-    ensures { (job stream : List ℕ) (budget most : ℕ) → IsUnknownStream job budget stream → length stream ≤ most → IsFate Drup job stream most Unknown }
+    ensures plain { (job stream : List ℕ) (budget most : ℕ) → IsUnknownStream job budget stream → length stream ≤ most → IsFate Drup job stream most Unknown }
+    ensures hinted { (job stream : List ℕ) (budget most : ℕ) → IsHintedUnknownStream job budget stream → length stream ≤ most → IsFate Lrat job stream most Unknown }
 {}
 
 /// Where a store tells a file of at most 2^32 bytes that is a formula, and words ask for it, a call of `run_engine` writes a

@@ -10,4 +10,5 @@ mod run;
 mod values;
 
 pub use laws::{promise_is_kept, unknown_streams_are_unknown};
-pub use run::run_engine;
+pub use output::offer;
+pub use run::{budget_of, fault_line, refuse, run_engine};

@@ -11,8 +11,8 @@ use cnf_form::Lit;
 use itoa::Buffer;
 use sby_edge::{Failed, Sink};
 
-// Offers a text until it is taken whole.
-pub(crate) fn offer<S: Sink>(sink: &mut S, text: &[u8]) -> Result<(), Failed>
+/// Offers a text until it is taken whole.
+pub fn offer<S: Sink>(sink: &mut S, text: &[u8]) -> Result<(), Failed>
     ensures whole { OnOk result (S.taken sink.new ≡ grown (S.taken sink.old) text.now) }
     ensures part { OnErr result (GrownBySome (S.taken sink.old) (S.taken sink.new) text.now) }
     ensures still { OnOk result (S.faults sink.new ≡ S.faults sink.old) }

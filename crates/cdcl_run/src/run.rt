@@ -29,8 +29,8 @@ const FAULT: u8 = 1;
 
 const OUT_OF_MEMORY: u8 = 32;
 
-// Writes a line alone.
-fn refuse<S: Sink>(sink: &mut S, line: &[u8]) -> u8
+/// Writes a line alone. The exit status is 1, also where a call fails.
+pub fn refuse<S: Sink>(sink: &mut S, line: &[u8]) -> u8
     ensures exit { result ≡ 1 }
     ensures line { (told : _) (faults : ℕ) → Writes
         (record { told = told; file_faults = faults; taken = S.taken sink.old; sink_faults = S.faults sink.old })
@@ -51,7 +51,8 @@ fn kind_text(kind: DimacsFaultKind) -> &'static str
     }
 }
 
-fn fault_line(alloc: Global, fault: DimacsFault) -> Result<String, AllocError>
+/// The line of a fault of the file's text.
+pub fn fault_line(alloc: Global, fault: DimacsFault) -> Result<String, AllocError>
     ensures { IfOk result (λ text. string_bytes text ≡ fault_line fault.kind fault.byte) }
 {
     let byte = fault.byte;
@@ -176,8 +177,8 @@ fn serve<S: Sink>(alloc: Global, bytes: Vec<u8>, hinted: bool, budget: u64, sink
     }
 }
 
-// The most conflicts.
-fn budget_of(conflicts: Option<u32>) -> u64
+/// The most conflicts.
+pub fn budget_of(conflicts: Option<u32>) -> u64
     ensures { result ≡ budget_of conflicts }
 {
     match conflicts {

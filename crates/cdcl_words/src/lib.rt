@@ -18,8 +18,8 @@ pub struct Asked<'a> {
     pub file: &'a str,
 }
 
-// Reads a file, or `--conflicts`, a number and a file.
-fn read_plain(words: &[String]) -> Option<(Option<u32>, &str)>
+/// Reads the words after a program's name that are a file, or `--conflicts`, a number from 1 to `MAX_CONFLICTS` and a file.
+pub fn read_plain_words(words: &[String]) -> Option<(Option<u32>, &str)>
     ensures some { IfSome result (λ a. AsksPlainly (map string_bytes words.now) a.0 a.1.now) }
     ensures none { IfNone result ((conflicts : Option ℕ) (file : List ℕ) → AsksPlainly (map string_bytes words.now) conflicts file → ⊥) }
 {
@@ -47,7 +47,7 @@ fn read_hinted<'a>(option: &str, rest: &'a [String]) -> Option<Asked<'a>>
     if option != "--hints" {
         return None;
     }
-    match read_plain(rest) {
+    match read_plain_words(rest) {
         Some((conflicts, file)) => Some(Asked {
             hinted: true,
             conflicts,
@@ -63,7 +63,7 @@ pub fn read_words(words: &[String]) -> Option<Asked<'_>>
     ensures some { IfSome result (λ a. Asks (map string_bytes words.now) a.hinted a.conflicts a.file.now) }
     ensures none { IfNone result ((hinted : Bool) (conflicts : Option ℕ) (file : List ℕ) → Asks (map string_bytes words.now) hinted conflicts file → ⊥) }
 {
-    if let Some((conflicts, file)) = read_plain(words) {
+    if let Some((conflicts, file)) = read_plain_words(words) {
         return Some(Asked {
             hinted: false,
             conflicts,

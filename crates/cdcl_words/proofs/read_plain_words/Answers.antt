@@ -2,7 +2,7 @@ use Rattle.std.proofs.Common.{◌≡◌, ℕ, ◌∙◌, ap, sym, rules, string_
 use Rattle.std.specs.Prelude.{codes, Option, Some, None}
 use Rattle.sby_terms.specs.Number.{number_upto}
 use Rattle.cdcl_words.proofs.Words.{three, asks_within, asks_not}
-use Rattle.cdcl_words.proofs.read_plain.Goals as goal
+use Rattle.cdcl_words.proofs.read_plain_words.Goals as goal
 
 pub returns-in-Some-clause-some : goal.returns-in-Some-clause-some
 returns-in-Some-clause-some c =
