@@ -1,11 +1,11 @@
 -- What is started for an engine's words.
-use Rattle.std.specs.Prelude.{◌≡◌, ◌≢◌, ◌⊎◌, ℕ, List, [], ◌∷◌, ◌++◌}
+use Rattle.std.specs.Prelude.{◌≡◌, ◌⊎◌, ℕ, List, ◌∷◌, ◌++◌, codes}
 
--- cdcl_program
-abbrev pub engine_name : List ℕ
-engine_name = 99 ∷ 100 ∷ 99 ∷ 108 ∷ 95 ∷ 112 ∷ 114 ∷ 111 ∷ 103 ∷ 114 ∷ 97 ∷ 109 ∷ []
+-- the names of this repository's engines
+abbrev pub IsOwn : List ℕ → Type 0
+IsOwn word = (word ≡ codes "cdcl_program") ⊎ (word ≡ codes "pdr_program")
 
 -- the program that is run for the first word: that word, a path; or, where it has no slash, the file of that name in a folder; for the
--- name of this repository's engine it may be any
+-- name of an engine of this repository it may be any
 abbrev pub IsProgram : List ℕ → List ℕ → Type 0
-IsProgram word program = word ≢ engine_name → (program ≡ word) ⊎ ((folder : List ℕ) × (program ≡ folder ++ 47 ∷ word))
+IsProgram word program = (IsOwn word → ⊥) → (program ≡ word) ⊎ ((folder : List ℕ) × (program ≡ folder ++ 47 ∷ word))

@@ -1,8 +1,8 @@
 // What is started for an engine's words.
 
-ghost use Rattle.std.specs.Prelude.{◌≡◌, ◌≢◌, ℕ, List, ◌∷◌, ◌++◌, IfOk, IfSome, map, string_bytes};
+ghost use Rattle.std.specs.Prelude.{◌≡◌, ℕ, List, ◌∷◌, ◌++◌, IfOk, IfSome, map, string_bytes};
 ghost use Rattle.std.specs.Process.{command_args};
-ghost use Rattle.child_edge.specs.Engine.{IsProgram, engine_name};
+ghost use Rattle.child_edge.specs.Engine.{IsOwn, IsProgram};
 
 use std::alloc::{AllocError, Global};
 use std::env::{self, Env, VarError};
@@ -12,11 +12,14 @@ use std::path::AsPath;
 use std::process::{Command, Stdio};
 use std::rt::Files as SystemFiles;
 
-// The word that stands for the engine of this repository.
-const ENGINE: &str = "cdcl_program";
+// The words that stand for the engines of this repository, and the variables that name other programs in their place.
+const SOLVER: &str = "cdcl_program";
 
-// The variable that names another program in its place.
-const VARIABLE: &str = "SBY_ENGINE";
+const SOLVER_VARIABLE: &str = "SBY_ENGINE";
+
+const FINDER: &str = "pdr_program";
+
+const FINDER_VARIABLE: &str = "SBY_PDR";
 
 // Where programs are looked for if the variable PATH isn't set.
 const DEFAULT_PATH: &str = "/bin:/usr/bin";
@@ -46,10 +49,24 @@ fn is_program<R: SystemFiles>(rt: &R, path: &str) -> bool {
     }
 }
 
-// The engine beside the running program, if there is one.
+// The variable for a word that stands for an engine of this repository.
+fn variable_for(word: &str) -> Option<&'static str>
+    ensures { IfSome result (λ _. IsOwn word.now) }
+{
+    if word == SOLVER {
+        Some(SOLVER_VARIABLE)
+    } else if word == FINDER {
+        Some(FINDER_VARIABLE)
+    } else {
+        None
+    }
+}
+
+// The engine of this name beside the running program, if there is one.
 fn beside<R: SystemFiles + Alloc<A = Global>>(
     rt: &R,
     alloc: Global,
+    name: &str,
 ) -> Result<Option<String>, AllocError> {
     let Ok(own) = env::current_exe(rt) else {
         return Ok(None);
@@ -58,29 +75,29 @@ fn beside<R: SystemFiles + Alloc<A = Global>>(
     let Some((folder, _)) = own.path_text().rsplit_once('/') else {
         return Ok(None);
     };
-    let path = format!(in alloc; "{folder}/{ENGINE}")?;
+    let path = format!(in alloc; "{folder}/{name}")?;
     match fs::exists(rt, path.as_str()) {
         Ok(true) => Ok(Some(path)),
         _ => Ok(None),
     }
 }
 
-// The program that a word names: the word itself, but for the engine of this repository. That is the variable's, where it is set,
+// The program that a word names: the word itself, but for an engine of this repository. That is the variable's, where it is set,
 // else the one beside the running program, else looked for in the path.
 fn program_named<R: SystemFiles + Env + Alloc<A = Global>>(
     rt: &R,
     alloc: Global,
     word: &str,
 ) -> Result<String, AllocError>
-    ensures { word.now ≢ engine_name → IfOk result (λ program. string_bytes program ≡ word.now) }
+    ensures { (IsOwn word.now → ⊥) → IfOk result (λ program. string_bytes program ≡ word.now) }
 {
-    if word == ENGINE {
-        match env::var(rt, VARIABLE) {
+    if let Some(variable) = variable_for(word) {
+        match env::var(rt, variable) {
             Ok(path) => return Ok(path),
             Err(VarError::OutOfMemory) => return Err(AllocError),
             Err(_) => {}
         }
-        if let Some(path) = beside(rt, alloc)? {
+        if let Some(path) = beside(rt, alloc, word)? {
             return Ok(path);
         }
     }
@@ -117,7 +134,10 @@ pub fn find_program<R: SystemFiles + Env + Alloc<A = Global>>(
 {
     let name = program_named(rt, alloc, word)?;
     if name.as_str().contains('/') {
-        return Ok(is_program(rt, name.as_str()).then_some(name));
+        if is_program(rt, name.as_str()) {
+            return Ok(Some(name));
+        }
+        return Ok(None);
     }
     let path = search_path(rt, alloc)?;
     for folder in path.as_str().split(':') {

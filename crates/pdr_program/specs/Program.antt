@@ -1,0 +1,16 @@
+-- What the program's exit status says.
+use Rattle.std.specs.Prelude.{◌≡◌, ◌⊎◌, ℕ, List, None}
+use Rattle.cdcl_run.specs.Run.{World}
+use Rattle.pdr_run.specs.Run.{Did}
+
+-- real files and a real output, which tell nothing but their counts of faults
+abbrev pub untold : ℕ → ℕ → World
+untold file_faults sink_faults = record { told = None; file_faults = file_faults; taken = None; sink_faults = sink_faults }
+
+-- this is the exit status of a call for these words, before which no call of the files or the output failed
+abbrev pub IsExit : List (List ℕ) → ℕ → Type 0
+IsExit words status = (file_faults : ℕ) × (sink_faults : ℕ) × Did (untold 0 0) (untold file_faults sink_faults) words status
+
+-- the program's: of a call for some words, those that it was given; or memory ran out for these
+abbrev pub IsProgramExit : ℕ → Type 0
+IsProgramExit status = ((words : List (List ℕ)) × IsExit words status) ⊎ (status ≡ 32)

@@ -1,0 +1,6 @@
+mod Cycles
+mod Certificates
+mod Answering
+mod SamePairs
+mod Unknown
+mod Promise
