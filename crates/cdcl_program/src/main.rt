@@ -6,7 +6,7 @@ ghost use Rattle.std.specs.Process.{exit_status};
 ghost use Rattle.cdcl_program.specs.Program.{IsExit, IsProgramExit};
 
 use cdcl_run::run_engine;
-use child_edge::{RealFiles, StdSink};
+use child_edge::{RealFiles, StdSink, TcpDoor};
 use std::alloc::{AllocError, Global};
 use std::env;
 use std::io::{self, ErrorKind};
@@ -30,13 +30,14 @@ fn words(rt: &HostRuntime, alloc: Global) -> Result<Vec<String>, AllocError> {
     Ok(words)
 }
 
-// Runs the engine over the real files and a real output.
+// Runs the engine over the real files, a real output, and connections of the system.
 fn run_real(rt: &HostRuntime, alloc: Global, words: &[String]) -> u8
     ensures { IsExit (map string_bytes words.now) result }
 {
     let mut files = RealFiles::new(rt);
     let mut sink = StdSink::new(io::writer(rt));
-    run_engine(alloc, words, &mut files, &mut sink)
+    let mut door = TcpDoor::new(rt);
+    run_engine(alloc, words, &mut files, &mut sink, &mut door)
 }
 
 // Runs the program for the words that it was given.

@@ -3,8 +3,13 @@ use Rattle.std.proofs.Common.{◌≡◌, ◌⊎◌, ℕ, ◌+◌, ◌<◌, ◌�
 use Rattle.std.proofs.Math.Seq.{take-append_seam}
 use Rattle.std.proofs.lemmas.List.Elements.{All-nil, All-push}
 use Rattle.cnf_form.specs.Cnf.{FormulaOf, LitOf, Line, Addition, Deletion}
+use Rattle.std.specs.Prelude.{Option, Result, Ok, Err, IfOk, OnOk}
 use Rattle.cnf_form.specs.Dimacs.{IsDimacs}
+use Rattle.cnf_form.specs.Reading.{IsFault}
+use Rattle.cnf_form.specs.declared.reader.DimacsFaultKind.{DimacsFaultKind}
 use Rattle.sby_edge.specs.Cause.{Rose}
+use Rattle.sby_edge.specs.declared.outside.Fail.{Fail}
+use Rattle.net_answer.specs.Written.{Wrote as Streamed}
 use Rattle.cdcl_core.specs.Logged.{Logged, IsProper, MayFollow, additions, clause_of, none}
 use Rattle.cdcl_core.specs.Lines.{LogLine, Adds, Notes, Drops, plain, IsProperLine, HeldOf, held_first, held_after, IsHintedLine, LineFollows}
 use Rattle.cdcl_core.specs.declared.solver.Solved.{Solved}
@@ -14,7 +19,8 @@ use Rattle.cdcl_run.specs.HintedAnswer.{IsAnswerBy, IsHintedSearchText, IsSearch
 use Rattle.cdcl_run.specs.HintedText.{hinted_text}
 use Rattle.cdcl_run.specs.Searching.{EndBreaks, IsEnd, IsLogged, IsProof, Searches, Stops, text_by}
 use Rattle.cdcl_run.specs.Output.{Breaks, GrownByFirst, GrownBySome, OutputOf, Puts, grown}
-use Rattle.cdcl_run.specs.Text.{log_text, proof_text, unsatisfiable_line}
+use Rattle.cdcl_run.specs.Stream.{IsStream}
+use Rattle.cdcl_run.specs.Text.{fault_line, log_text, proof_text, unsatisfiable_line}
 use Rattle.cdcl_run.proofs.HintedStreams.{hinted_of, hinted_sat, hinted_unsat}
 use Rattle.cdcl_run.proofs.Plain.{plain_proof, plain_text}
 use Rattle.cdcl_run.proofs.Proofs.{searched_of}
@@ -94,12 +100,13 @@ answer_written hinted job f budget old mid new s text exit d begun done h e p =
 -- a call failed, and a first part of the lines of a search or of an answer was written
 pub record Cut (hinted : Bool) (job : List ℕ) (budget : ℕ) (old new : OutputOf) : Type 0 where
   pub rose : Rose old.faults new.faults
+  pub later : old.faults ≤ new.faults
   pub text : List ℕ
   pub part : GrownBySome old.taken new.taken text
   pub of : IsSearchTextBy hinted job budget text ⊎ ((exit : ℕ) × IsAnswerBy hinted job budget text exit)
 
 cut : (hinted : Bool) (job : List ℕ) (budget : ℕ) (old new : OutputOf) (text : List ℕ) → old.gathered ≡ [] → Breaks old new text → IsSearchTextBy hinted job budget text ⊎ ((exit : ℕ) × IsAnswerBy hinted job budget text exit) → Cut hinted job budget old new
-cut hinted job budget old new text begun b of = record { rose = b.rose; text = text; part = subst (λ z. GrownBySome old.taken new.taken (z ++ text)) begun b.part; of = of }
+cut hinted job budget old new text begun b of = record { rose = b.rose; later = b.later; text = text; part = subst (λ z. GrownBySome old.taken new.taken (z ++ text)) begun b.part; of = of }
 
 additions_push : (ls : List Line) (l : Line) → additions (ls ++ l ∷ []) ≤ additions ls + 1
 additions_push [] (Addition c) = omega arith
@@ -194,7 +201,7 @@ end_cut hinted job f budget old mid new s text exit d begun h e b =
 
 -- nothing more came after a fault
 same_breaks : (old mid new : OutputOf) (text : List ℕ) → new.taken ≡ mid.taken → new.faults ≡ mid.faults → Breaks old mid text → Breaks old new text
-same_breaks old mid new text t f b = record { part = subst (λ z. GrownBySome old.taken z (old.gathered ++ text)) (sym t) b.part; rose = subst (Rose old.faults) (sym f) b.rose }
+same_breaks old mid new text t f b = record { part = subst (λ z. GrownBySome old.taken z (old.gathered ++ text)) (sym t) b.part; rose = subst (Rose old.faults) (sym f) b.rose; later = subst (λ z. old.faults ≤ z) (sym f) b.later }
 
 pub answer_cut : (hinted : Bool) (job : List ℕ) (f : FormulaOf) (budget : ℕ) (old mid new : OutputOf) (s : Solved) → IsDimacs job f → old.gathered ≡ [] → Searches hinted f budget old mid s → EndBreaks mid new s → Cut hinted job budget old new
 answer_cut hinted job f budget old mid new s d begun h (inr e) = end_cut hinted job f budget old mid new s e.0 e.1 d begun h e.2 e.3
@@ -232,3 +239,37 @@ search_left hinted job f budget old new d begun s =
 pub none_searched : (hinted : Bool) (job : List ℕ) (f : FormulaOf) (budget : ℕ) → IsDimacs job f → IsSearchTextBy hinted job budget []
 none_searched false job f budget d = search_text false job f budget [] f.clauses 0 (held_first f.clauses) d (record { deletions = 0; logged = none; proper = All-nil (IsProperLine f.vars); hints = λ h. refl }) (omega arith)
 none_searched true job f budget d = search_text true job f budget [] f.clauses 0 (held_first f.clauses) d (record { deletions = 0; logged = none; proper = All-nil (IsProperLine f.vars); hints = λ h. refl }) (omega arith)
+
+-- no call of a search lowers the count of faults
+pub searches_later : (hinted : Bool) (f : FormulaOf) (budget : ℕ) (old new : OutputOf) (s : Solved) → Searches hinted f budget old new s → old.faults ≤ new.faults
+searches_later hinted f budget old new (Sat values) h = let p = h.6 in omega (arith, p.still)
+searches_later hinted f budget old new Unsat h = let p = h.8 in omega (arith, p.still)
+searches_later hinted f budget old new Budget h = let p = h.4 in omega (arith, p.still)
+searches_later hinted f budget old new LogFailed h = let b = h.10 in b.later
+
+-- a call failed after others that didn't
+rises : (old mid new : OutputOf) (text : List ℕ) → mid.faults ≡ old.faults → Breaks mid new text → Rose old.faults new.faults × (old.faults ≤ new.faults)
+rises old mid new text still b = (subst (λ z. Rose z new.faults) still b.rose, subst (λ z. z ≤ new.faults) still b.later)
+
+-- where the end of an answer was cut short, the count of faults rose
+pub cut_faults : (hinted : Bool) (f : FormulaOf) (budget : ℕ) (old mid new : OutputOf) (s : Solved) → Searches hinted f budget old mid s → EndBreaks mid new s → Rose old.faults new.faults × (old.faults ≤ new.faults)
+cut_faults hinted f budget old mid new (Sat values) h (inr e) = let p = h.6 in rises old mid new e.0 p.still e.3
+cut_faults hinted f budget old mid new Unsat h (inr e) = let p = h.8 in rises old mid new e.0 p.still e.3
+cut_faults hinted f budget old mid new Budget h (inr e) = let p = h.4 in rises old mid new e.0 p.still e.3
+cut_faults hinted f budget old mid new LogFailed h (inr e) = absurd e.2
+cut_faults hinted f budget old mid new (Sat values) h (inl e) = absurd (let k = e.0 in cc)
+cut_faults hinted f budget old mid new Unsat h (inl e) = absurd (let k = e.0 in cc)
+cut_faults hinted f budget old mid new Budget h (inl e) = absurd (let k = e.0 in cc)
+cut_faults hinted f budget old mid new LogFailed h (inl e) = let b = h.10 in (subst (Rose old.faults) (sym e.2) b.rose, subst (λ z. old.faults ≤ z) (sym e.2) b.later)
+
+-- a whole answer is a whole stream
+pub stream_answered : (hinted : Bool) (job : List ℕ) (f : FormulaOf) (budget : ℕ) (r : Result ℕ Fail) (before now : Option (List ℕ)) → IsDimacs job f
+    → IfOk r (λ exit. (job : List ℕ) → IsDimacs job f → Streamed before now (λ stream. IsAnswerBy hinted job budget stream exit)) → OnOk r (Streamed before now (IsStream hinted budget job))
+stream_answered hinted job f budget (Ok exit) before now d h = let w = h job d in (w.0, inr (exit, w.1), w.2)
+stream_answered hinted job f budget (Err e) before now d h = tt
+
+-- a whole line of a fault is a whole stream
+pub stream_told : (hinted : Bool) (job : List ℕ) (budget : ℕ) (kind : DimacsFaultKind) (byte : ℕ) (r : Result ℕ Fail) (before now : Option (List ℕ)) → IsFault job kind byte → OnOk r (now ≡ grown before (fault_line kind byte))
+    → OnOk r (Streamed before now (IsStream hinted budget job))
+stream_told hinted job budget kind byte (Ok exit) before now d e = (fault_line kind byte, inl (kind, byte, d, refl), e)
+stream_told hinted job budget kind byte (Err e) before now d h = tt

@@ -16,3 +16,4 @@ pub mod Contents
 pub mod Promise
 mod Unknown
 mod HintedUnknown
+pub mod Connections

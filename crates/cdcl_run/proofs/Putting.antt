@@ -1,5 +1,5 @@
 -- What was put, text after text.
-use Rattle.std.proofs.Common.{◌≡◌, ℕ, ◌+◌, List, [], ◌++◌, length, refl, ap, ◌∙◌, sym, subst, take, drop, append_assoc, append-nil, length-append, arith}
+use Rattle.std.proofs.Common.{◌≡◌, ℕ, ◌+◌, ◌≤◌, List, [], ◌++◌, length, refl, ap, ◌∙◌, sym, subst, take, drop, append_assoc, append-nil, length-append, arith}
 use Rattle.std.specs.Prelude.{Option, Some, None, Result, Ok, Err, OnErr}
 use Rattle.std.proofs.Math.Seq.{take-add, take-append-add}
 use Rattle.std.proofs.lemmas.List.{take-append-le}
@@ -47,6 +47,7 @@ puts_breaks a b c s t v w =
             ∙ ap (grown a.taken) (sym (take-append-add v.written rest count) ∙ ap (take (length v.written + count)) (sym e)),
       );
       rose = subst (λ z. Rose z c.faults) v.still w.rose;
+      later = subst (λ z. z ≤ c.faults) v.still w.later;
     }
 
 -- more was to be put after the fault
@@ -62,6 +63,7 @@ breaks_more a b s t w =
         w.part.2 ∙ ap (grown a.taken) (sym (take-append-le count had t (omega (arith, w.part.1))) ∙ ap (take count) e),
       );
       rose = w.rose;
+      later = w.later;
     }
 
 -- nothing put
@@ -73,8 +75,8 @@ pub puts_flushed : (t u : Option (List ℕ)) (f g : ℕ) (p q : List ℕ) → u 
 puts_flushed t u f g p q e h n = record { written = p; taken = e; split = ap (λ z. p ++ z) (sym n); still = h }
 
 -- a part of what was gathered is written
-pub breaks_flushed : (t u : Option (List ℕ)) (f g : ℕ) (p q : List ℕ) → GrownBySome t u p → Rose f g → Breaks (record { taken = t; faults = f; gathered = p }) (record { taken = u; faults = g; gathered = q }) []
-breaks_flushed t u f g p q e r = record { part = subst (GrownBySome t u) (sym (append-nil p)) e; rose = r }
+pub breaks_flushed : (t u : Option (List ℕ)) (f g : ℕ) (p q : List ℕ) → GrownBySome t u p → Rose f g → f ≤ g → Breaks (record { taken = t; faults = f; gathered = p }) (record { taken = u; faults = g; gathered = q }) []
+breaks_flushed t u f g p q e r l = record { part = subst (GrownBySome t u) (sym (append-nil p)) e; rose = r; later = l }
 
 -- more is gathered
 pub puts_gathered : (t : Option (List ℕ)) (f : ℕ) (p q text : List ℕ) → q ≡ p ++ text → Puts (record { taken = t; faults = f; gathered = p }) (record { taken = t; faults = f; gathered = q }) text

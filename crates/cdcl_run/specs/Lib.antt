@@ -6,3 +6,5 @@ pub mod Run
 pub mod Searching
 pub mod HintedText
 pub mod HintedAnswer
+pub mod Stream
+pub mod Serving

@@ -1,5 +1,5 @@
 -- What a sink takes, and what is gathered before it.
-use Rattle.std.specs.Prelude.{◌≡◌, ℕ, ◌<◌, List, ◌++◌, length, take, Option, option_map}
+use Rattle.std.specs.Prelude.{◌≡◌, ℕ, ◌<◌, ◌≤◌, List, ◌++◌, length, take, Option, option_map}
 use Rattle.sby_edge.specs.Cause.{Rose}
 
 -- what is told, with these bytes after it
@@ -31,3 +31,4 @@ pub record Puts (old new : OutputOf) (text : List ℕ) : Type 0 where
 pub record Breaks (old new : OutputOf) (text : List ℕ) : Type 0 where
   pub part : GrownBySome old.taken new.taken (old.gathered ++ text)
   pub rose : Rose old.faults new.faults
+  pub later : old.faults ≤ new.faults

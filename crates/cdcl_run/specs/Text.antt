@@ -61,7 +61,7 @@ break_text v = if nat_lt 1 v && (v % 10 == 1) then 10 ∷ codes "v" else []
 
 -- the other lines
 abbrev pub usage_line : List ℕ
-usage_line = line (codes "c usage: cdcl_program [--conflicts n] FILE.cnf | cdcl_program --hints [--conflicts n] FILE.cnf")
+usage_line = line (codes "c usage: cdcl_program [--conflicts n] FILE.cnf | cdcl_program --hints [--conflicts n] FILE.cnf | cdcl_program --serve HOST:PORT --count n")
 
 abbrev pub file_line : List ℕ
 file_line = line (codes "c fault: file")

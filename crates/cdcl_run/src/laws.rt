@@ -1,10 +1,12 @@
 // What a call promises.
 
-ghost use Rattle.std.specs.Prelude.{◌≡◌, ◌≢◌, ◌⊎◌, ◌≤◌, ◌^◌, ℕ, Bool, List, Option, Some, length};
+ghost use Rattle.std.specs.Prelude.{◌≡◌, ◌≢◌, ◌⊎◌, ◌+◌, ◌≤◌, ◌^◌, ◌++◌, ℕ, Bool, List, All, Option, Some, length, map, option_map};
 ghost use Rattle.cnf_form.specs.Cnf.{FormulaOf};
 ghost use Rattle.cnf_form.specs.Dimacs.{IsDimacs};
-ghost use Rattle.cdcl_words.specs.Asking.{Asks};
+ghost use Rattle.cdcl_words.specs.Asking.{Asks, AsksToServe};
+ghost use Rattle.sby_edge.specs.Cause.{greatest};
 ghost use Rattle.sby_edge.specs.Files.{Store};
+ghost use Rattle.net_serve.specs.declared.serving.Served.TheVariants as served;
 ghost use Rattle.cdcl_run.specs.Answer.{IsUnknownStream, budget_of};
 ghost use Rattle.cdcl_run.specs.HintedAnswer.{IsAnswerBy, IsHintedUnknownStream};
 ghost use Rattle.cert_judge.specs.Fate.{Unknown};
@@ -12,6 +14,7 @@ ghost use Rattle.cert_judge.specs.Kinds.{IsFate};
 ghost use Rattle.cert_judge.specs.declared.stream.StreamKind.TheVariants.{Drup, Lrat};
 ghost use Rattle.cdcl_run.specs.Output.{grown};
 ghost use Rattle.cdcl_run.specs.Run.{Did, IsCutShort, IsLeftOff, IsUngot, World};
+ghost use Rattle.cdcl_run.specs.Serving.{Connection, DoorOf, Passed, Ran};
 
 use cnf_form::dimacs_faults_are_decided;
 
@@ -40,3 +43,23 @@ pub fn promise_is_kept()
 {
     dimacs_faults_are_decided();
 }
+
+/// Where the words ask for a file, the door stays as it was, and a call does what the words ask for of the file.
+pub fn files_are_not_served()
+    ensures { (before after : World) (door door_after : DoorOf) (words : List (List ℕ)) (exit : ℕ) (hinted : Bool) (conflicts : Option ℕ) (file : List ℕ)
+        → Ran before after door door_after words exit → Asks words hinted conflicts file → (door_after ≡ door) × Did before after words exit }
+{}
+
+/// Where the words ask to serve n connections and the exit status is 0, n more came back, and each on which no call failed was answered:
+/// by a stream for what its bytes ask for, or, where they ask for nothing, by the line that says so. Connections that came back are those
+/// that the door tells of, in their order, and the door counts them.
+pub fn connections_are_answered()
+    ensures answered { (before after : World) (door door_after : DoorOf) (words : List (List ℕ)) (address : List ℕ) (count : ℕ)
+        → Ran before after door door_after words 0 → AsksToServe words address count
+        → (connections : List Connection) × Passed door door_after connections × (length connections ≡ count)
+        × All (λ c. c.back.faults ≡ 0 → (c.served ≡ served.Answered) ⊎ (c.served ≡ served.BadFrame)) connections }
+    ensures told { (before after : DoorOf) (connections : List Connection) → Passed before after connections
+        → after.came_back ≡ option_map (λ all. all ++ map (λ c. c.back) connections) before.came_back }
+    ensures counted { (before after : DoorOf) (connections : List Connection) → Passed before after connections
+        → before.backs + length connections ≤ greatest → after.backs ≡ before.backs + length connections }
+{}

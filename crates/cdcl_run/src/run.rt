@@ -1,24 +1,31 @@
 // The top call.
 
-ghost use Rattle.std.specs.Prelude.{◌≡◌, ◌⊎◌, ◌≤◌, ◌^◌, [], ℕ, List, length, map, string_bytes, IfOk, OnErr, Some, None};
+ghost use Rattle.std.specs.Prelude.{◌≡◌, ◌⊎◌, ◌≤◌, ◌^◌, [], ℕ, List, length, map, string_bytes, IfOk, OnErr, OnOk, Err};
 ghost use Rattle.cnf_form.specs.Cnf.{FormulaOf};
 ghost use Rattle.cnf_form.specs.Dimacs.{IsDimacs};
 ghost use Rattle.cdcl_core.specs.declared.solver.Solved.TheVariants.{LogFailed};
 ghost use Rattle.sby_edge.specs.Cause.{Rose};
+ghost use Rattle.sby_edge.specs.declared.outside.Fail.TheVariants as fail;
+ghost use Rattle.net_answer.specs.Written.{Wrote};
 ghost use Rattle.cdcl_run.specs.Answer.{budget_of};
+ghost use Rattle.cdcl_run.specs.HintedAnswer.{IsAnswerBy};
 ghost use Rattle.cdcl_run.specs.Searching.{EndBreaks, HasFew, IsEnd, Searches, Stops};
-ghost use Rattle.cdcl_run.specs.Output.{Puts};
+ghost use Rattle.cdcl_run.specs.Output.{Puts, grown};
 ghost use Rattle.cdcl_run.specs.Run.{Answers, Did, IsDone, IsOutOfMemory, IsServed, World, Writes};
+ghost use Rattle.cdcl_run.specs.Serving.{Ran};
+ghost use Rattle.cdcl_run.specs.Stream.{IsStream, exit_of};
 ghost use Rattle.cdcl_run.specs.Text.{fault_line, file_line, kind_text, long_line, usage_line};
 
 use crate::hinted::search_hinted;
 use crate::output::{flush, offer, put};
 use crate::piece::Piece;
 use crate::proof::search;
+use crate::serving::serve_all;
 use crate::values::put_values;
 use cdcl_core::Solved;
-use cdcl_words::read_words;
+use cdcl_words::{read_serving, read_words};
 use cnf_form::{DimacsFault, DimacsFaultKind, Formula, read_dimacs};
+use net_link::Door;
 use sby_edge::{Fail, Failed, Files, Got, Sink};
 use std::alloc::{AllocError, Global};
 
@@ -27,7 +34,7 @@ const MOST: u64 = 1 << 32;
 
 const FAULT: u8 = 1;
 
-const OUT_OF_MEMORY: u8 = 32;
+pub(crate) const OUT_OF_MEMORY: u8 = 32;
 
 /// Writes a line alone. The exit status is 1, also where a call fails.
 pub fn refuse<S: Sink>(sink: &mut S, line: &[u8]) -> u8
@@ -127,53 +134,89 @@ fn search_by<S: Sink>(
 }
 
 // Searches, and writes the stream with the answer.
-fn answer<S: Sink>(alloc: Global, formula: &Formula, hinted: bool, budget: u64, sink: &mut S) -> u8
-    ensures { (told : _) (faults : ℕ) (job : List ℕ) → IsDimacs job formula.now → Answers hinted
+fn answer<S: Sink>(
+    alloc: Global,
+    formula: &Formula,
+    hinted: bool,
+    budget: u64,
+    sink: &mut S,
+) -> Result<u8, Fail>
+    ensures answers { (told : _) (faults : ℕ) (job : List ℕ) → IsDimacs job formula.now → Answers hinted
         (record { told = told; file_faults = faults; taken = S.taken sink.old; sink_faults = S.faults sink.old })
-        (record { told = told; file_faults = faults; taken = S.taken sink.new; sink_faults = S.faults sink.new }) job budget result }
+        (record { told = told; file_faults = faults; taken = S.taken sink.new; sink_faults = S.faults sink.new }) job budget (exit_of result) }
+    ensures whole { IfOk result (λ exit. (job : List ℕ) → IsDimacs job formula.now → Wrote (S.taken sink.old) (S.taken sink.new) (λ stream. IsAnswerBy hinted job budget stream exit)) }
+    ensures failed { result ≡ Err fail.Failed → Rose (S.faults sink.old) (S.faults sink.new) }
+    ensures later { S.faults sink.old ≤ S.faults sink.new }
 {
     let mut piece = match Piece::new(alloc) {
         Ok(piece) => piece,
-        Err(AllocError) => return OUT_OF_MEMORY,
+        Err(AllocError) => return Err(Fail::Memory),
     };
     let _few = formula.vars();
     let solved = match search_by(alloc, formula, hinted, budget, sink, &mut piece) {
         Ok(solved) => solved,
-        Err(AllocError) => return OUT_OF_MEMORY,
+        Err(AllocError) => return Err(Fail::Memory),
     };
     match finish(sink, &mut piece, &solved) {
-        Ok(exit) => exit,
-        Err(Failed) => FAULT,
+        Ok(exit) => Ok(exit),
+        Err(Failed) => Err(Fail::Failed),
     }
 }
 
-// Tells a fault of the file's text.
-fn tell_fault<S: Sink>(alloc: Global, fault: DimacsFault, sink: &mut S) -> u8
-    ensures { (told : _) (faults : ℕ) →
+// Tells a fault of the bytes' text.
+fn tell_fault<S: Sink>(alloc: Global, fault: DimacsFault, sink: &mut S) -> Result<u8, Fail>
+    ensures tells { (told : _) (faults : ℕ) →
         let before : World = record { told = told; file_faults = faults; taken = S.taken sink.old; sink_faults = S.faults sink.old } in
         let after : World = record { told = told; file_faults = faults; taken = S.taken sink.new; sink_faults = S.faults sink.new } in
-        IsOutOfMemory before after result ⊎ ((result ≡ 1) × Writes before after (fault_line fault.kind fault.byte)) }
+        IsOutOfMemory before after (exit_of result) ⊎ ((exit_of result ≡ 1) × Writes before after (fault_line fault.kind fault.byte)) }
+    ensures whole { OnOk result (S.taken sink.new ≡ grown (S.taken sink.old) (fault_line fault.kind fault.byte)) }
+    ensures failed { result ≡ Err fail.Failed → Rose (S.faults sink.old) (S.faults sink.new) }
+    ensures later { S.faults sink.old ≤ S.faults sink.new }
 {
-    match fault_line(alloc, fault) {
-        Ok(line) => refuse(sink, line.as_bytes()),
-        Err(AllocError) => OUT_OF_MEMORY,
-    }
+    let line = match fault_line(alloc, fault) {
+        Ok(line) => line,
+        Err(AllocError) => return Err(Fail::Memory),
+    };
+    let Ok(()) = offer(sink, line.as_bytes()) else {
+        return Err(Fail::Failed);
+    };
+    Ok(FAULT)
 }
 
-// Serves the bytes of a file, whose memory is given back before the search.
-fn serve<S: Sink>(alloc: Global, bytes: Vec<u8>, hinted: bool, budget: u64, sink: &mut S) -> u8
+// Writes the stream for the bytes of a file, whose memory is given back before the search. The exit status where it was written whole.
+pub(crate) fn write_stream<S: Sink>(
+    alloc: Global,
+    bytes: Vec<u8>,
+    hinted: bool,
+    budget: u64,
+    sink: &mut S,
+) -> Result<u8, Fail>
     requires { length bytes.items ≤ 2 ^ 32 }
-    ensures { (told : _) (faults : ℕ) →
+    ensures served { (told : _) (faults : ℕ) →
         let before : World = record { told = told; file_faults = faults; taken = S.taken sink.old; sink_faults = S.faults sink.old } in
         let after : World = record { told = told; file_faults = faults; taken = S.taken sink.new; sink_faults = S.faults sink.new } in
-        IsOutOfMemory before after result ⊎ IsServed hinted before after bytes.items budget result }
+        IsOutOfMemory before after (exit_of result) ⊎ IsServed hinted before after bytes.items budget (exit_of result) }
+    ensures whole { OnOk result (Wrote (S.taken sink.old) (S.taken sink.new) (IsStream hinted budget bytes.items)) }
+    ensures failed { result ≡ Err fail.Failed → Rose (S.faults sink.old) (S.faults sink.new) }
+    ensures later { S.faults sink.old ≤ S.faults sink.new }
 {
     let read = read_dimacs(alloc, &bytes);
     drop(bytes);
     match read {
         Ok(Ok(formula)) => answer(alloc, &formula, hinted, budget, sink),
         Ok(Err(fault)) => tell_fault(alloc, fault, sink),
-        Err(AllocError) => OUT_OF_MEMORY,
+        Err(AllocError) => Err(Fail::Memory),
+    }
+}
+
+// The exit status that a stream ends with.
+pub(crate) fn exit_of(stream: Result<u8, Fail>) -> u8
+    ensures { result ≡ exit_of stream }
+{
+    match stream {
+        Ok(exit) => exit,
+        Err(Fail::Failed) => FAULT,
+        Err(Fail::Memory) => OUT_OF_MEMORY,
     }
 }
 
@@ -203,28 +246,18 @@ fn run_asked<F: Files, S: Sink>(
         hinted conflicts file.now result }
 {
     match files.get(alloc, file, MOST) {
-        Ok(Got::All(bytes)) => serve(alloc, bytes, hinted, budget_of(conflicts), sink),
+        Ok(Got::All(bytes)) => {
+            let stream = write_stream(alloc, bytes, hinted, budget_of(conflicts), sink);
+            exit_of(stream)
+        }
         Ok(Got::Long(_)) => refuse(sink, b"c fault: long\n"),
         Err(Fail::Failed) => refuse(sink, b"c fault: file\n"),
         Err(Fail::Memory) => OUT_OF_MEMORY,
     }
 }
 
-/// Does all that the program `cdcl_program` does: `words` are its arguments, `files` and `sink` the file store and the output
-/// that it uses. It answers the exit status: 10, 20 or 0 after an answer (satisfiable, unsatisfiable, unknown), 1 where the
-/// words are refused, the file can't be got, has more than 2^32 bytes or isn't DIMACS, or where the output failed, and 32 at
-/// out of memory. What was written by then is a first part of the line that was to be written, or of the lines of a search for
-/// values of the file's formula, or, where the output failed, of a whole answer.
-///
-/// Words are a file, or `--conflicts`, a number of conflicts from 1 to 1,000,000,000 and a file; without a number there are
-/// 2^64 - 1 conflicts. After `--hints` the stream is one with hints. Output is written in pieces of 64 KiB, while the solver
-/// searches, and what is left at the end.
-pub fn run_engine<F: Files, S: Sink>(
-    alloc: Global,
-    words: &[String],
-    files: &mut F,
-    sink: &mut S,
-) -> u8
+// Does what words that don't ask to serve connections ask for.
+fn run_file<F: Files, S: Sink>(alloc: Global, words: &[String], files: &mut F, sink: &mut S) -> u8
     ensures did { Did
         (record { told = F.told files.old; file_faults = F.faults files.old; taken = S.taken sink.old; sink_faults = S.faults sink.old })
         (record { told = F.told files.new; file_faults = F.faults files.new; taken = S.taken sink.new; sink_faults = S.faults sink.new })
@@ -241,7 +274,43 @@ pub fn run_engine<F: Files, S: Sink>(
         ),
         None => refuse(
             sink,
-            b"c usage: cdcl_program [--conflicts n] FILE.cnf | cdcl_program --hints [--conflicts n] FILE.cnf\n",
+            b"c usage: cdcl_program [--conflicts n] FILE.cnf | cdcl_program --hints [--conflicts n] FILE.cnf | cdcl_program --serve HOST:PORT --count n\n",
         ),
+    }
+}
+
+/// Does all that the program `cdcl_program` does: `words` are its arguments, `files` and `sink` the file store and the output
+/// that it uses, `door` what takes connections in. It answers the exit status: 10, 20 or 0 after an answer (satisfiable,
+/// unsatisfiable, unknown), 1 where the words are refused, the file can't be got, has more than 2^32 bytes or isn't DIMACS, or
+/// where the output failed, and 32 at out of memory. What was written by then is a first part of the line that was to be
+/// written, or of the lines of a search for values of the file's formula, or, where the output failed, of a whole answer.
+///
+/// Words are a file, or `--conflicts`, a number of conflicts from 1 to 1,000,000,000 and a file; without a number there are
+/// 2^64 - 1 conflicts. After `--hints` the stream is one with hints. Output is written in pieces of 64 KiB, while the solver
+/// searches, and what is left at the end.
+///
+/// With the words `--serve HOST:PORT --count n` it serves n connections that come to this address, one after the other, and
+/// writes nothing to the output: each job is answered by the stream that a file of its bytes gives. The exit status is then 0,
+/// 32 where memory ran out for one of them, and at once 1 where the door failed, or 32 where memory for the door ran out.
+pub fn run_engine<F: Files, S: Sink, D: Door>(
+    alloc: Global,
+    words: &[String],
+    files: &mut F,
+    sink: &mut S,
+    door: &mut D,
+) -> u8
+    ensures ran { Ran
+        (record { told = F.told files.old; file_faults = F.faults files.old; taken = S.taken sink.old; sink_faults = S.faults sink.old })
+        (record { told = F.told files.new; file_faults = F.faults files.new; taken = S.taken sink.new; sink_faults = S.faults sink.new })
+        (record { coming = D.coming door.old; came_back = D.came_back door.old; backs = D.backs door.old; faults = D.faults door.old })
+        (record { coming = D.coming door.new; came_back = D.came_back door.new; backs = D.backs door.new; faults = D.faults door.new })
+        (map string_bytes words.now) result }
+{
+    match read_serving(words) {
+        Some(asked) => {
+            let served = serve_all(alloc, asked.address, asked.count, door);
+            exit_of(served)
+        }
+        None => run_file(alloc, words, files, sink),
     }
 }

@@ -1,6 +1,7 @@
 // Whole runs with the streams of the engine: scenes, each after the work folder and the jobs whose files are put there.
 
 use cdcl_run::run_engine;
+use net_link::MemDoor;
 use run_scenes::{
     ASSERT, END, HEAD, NOT, Named, Placed, REGISTER, Scene, T, is_as_told, read_scene, run,
     script_of,
@@ -30,7 +31,8 @@ fn answer(alloc: Global, files: &mut MemFiles, path: &str) -> Result<MemSink, Fa
     let mut words = Vec::new(alloc);
     words.push(String::from_str(alloc, path)?)?;
     let mut sink = MemSink::new(alloc, 1 << 22, Vec::new(alloc))?;
-    match run_engine(alloc, &words, files, &mut sink) {
+    let mut door = MemDoor::new(alloc, Vec::new(alloc), Vec::new(alloc));
+    match run_engine(alloc, &words, files, &mut sink, &mut door) {
         10 | 20 => Ok(sink),
         _ => Err(Fail::from("no answer")),
     }

@@ -25,3 +25,14 @@ pub asks_neither : (words : List (List ℕ)) → ((c : Option ℕ) (file : List 
     → (hinted : Bool) (c : Option ℕ) (file : List ℕ) → Asks words hinted c file → ⊥
 asks_neither words n h false c file a = n c file a
 asks_neither words n h true c file a = h a.0 a.1 c file a.2
+
+four : {X : Type 0} (xs : List X) (a b c d : X) → 4 ≤ length xs → length xs < 5 → a ≡ get_or xs 0 a → b ≡ get_or xs 1 b → c ≡ get_or xs 2 c → d ≡ get_or xs 3 d → xs ≡ a ∷ b ∷ c ∷ d ∷ []
+four [] a b c d low high e f g h = absurd (omega (arith, low))
+four (x ∷ []) a b c d low high e f g h = absurd (omega (arith, low))
+four (x ∷ y ∷ []) a b c d low high e f g h = absurd (omega (arith, low))
+four (x ∷ y ∷ z ∷ []) a b c d low high e f g h = absurd (omega (arith, low))
+four (x ∷ y ∷ z ∷ w ∷ []) a b c d low high e f g h = cc
+four (x ∷ y ∷ z ∷ w ∷ v ∷ vs) a b c d low high e f g h = absurd (omega (arith, high))
+
+pub four_words : {X : Type 0} (f : X → List ℕ) (xs : List X) (a b c d : X) (u v : List ℕ) → 4 ≤ length xs → length xs < 5 → a ≡ get_or xs 0 a → b ≡ get_or xs 1 b → c ≡ get_or xs 2 c → d ≡ get_or xs 3 d → f a ≡ u → f c ≡ v → map f xs ≡ u ∷ f b ∷ v ∷ f d ∷ []
+four_words f xs a b c d u v low high e1 e2 e3 e4 p q = let w = ap (map f) (four xs a b c d low high e1 e2 e3 e4) in cc

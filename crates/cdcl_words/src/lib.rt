@@ -1,10 +1,13 @@
 //! The words of the solver's program.
 #![tactic(auto)]
 
+mod serving;
+
 ghost use Rattle.std.specs.Prelude.{◌≡◌, ℕ, Bool, true, List, Option, codes, map, string_bytes, IfSome, IfNone};
 ghost use Rattle.cdcl_words.specs.Asking.{Asks, AsksPlainly};
 
 use sby_terms::{number_upto, numbers_are_decimal};
+pub use serving::{Serving, read_serving};
 
 /// The most conflicts that may be asked for.
 pub const MAX_CONFLICTS: u32 = 1_000_000_000;

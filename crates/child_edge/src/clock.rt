@@ -5,6 +5,14 @@ use std::sync::atomic::{AtomicU64, Ordering};
 use std::thread;
 use std::time::{Clock as SystemClock, Duration};
 
+// The system's clock that never goes back, in milliseconds; 0 where it can't be read.
+pub(crate) fn millis<R: SystemClock>(rt: &R) -> u64 {
+    match rt.monotonic() {
+        Ok(since) => u64::try_from(since.as_millis()).unwrap_or(u64::MAX),
+        Err(_) => 0,
+    }
+}
+
 /// The system's clock that never goes back, in milliseconds. A reading that fails is the last one that didn't, so it shows no limit that
 /// an earlier one hasn't shown, and a limit that begins with it isn't over at once.
 #[derive(Drop)]

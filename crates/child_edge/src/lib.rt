@@ -1,4 +1,4 @@
-//! The outside for real: files, output, children and the clock of the system. Thin; its forms tell no content to a contract.
+//! The outside for real: files, output, children, connections and the clock of the system. Thin; its forms tell no content to a contract.
 #![tactic(auto)]
 
 mod child;
@@ -6,13 +6,19 @@ mod clock;
 mod command;
 mod files;
 mod log;
+mod tcp_door;
+mod tcp_link;
 mod yard;
 
 pub use child::{RealHold, RealPipe};
 pub use clock::RealClock;
 pub use files::{RealFiles, StdSink};
 pub use log::Log;
+pub use tcp_door::{TcpDoor, TcpGuest};
+pub use tcp_link::{TcpCut, TcpDial, TcpLink};
 pub use yard::{RealBay, RealYard};
 
+#[cfg(test)]
+mod tcp_tests;
 #[cfg(test)]
 mod tests;

@@ -1,5 +1,6 @@
 // What the real forms tell of a run while it goes on.
 
+use crate::clock::millis;
 use std::alloc::{AllocError, Global};
 use std::env::{self, Env, VarError};
 use std::fmt::Display;
@@ -21,14 +22,6 @@ pub struct Log<'a, R> {
     rt: &'a R,
     path: Option<String>,
     start: u64,
-}
-
-// The system's clock that never goes back, in milliseconds.
-fn millis<R: SystemClock>(rt: &R) -> u64 {
-    match rt.monotonic() {
-        Ok(since) => u64::try_from(since.as_millis()).unwrap_or(u64::MAX),
-        Err(_) => 0,
-    }
 }
 
 impl<'a, R> Log<'a, R> {

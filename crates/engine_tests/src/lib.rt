@@ -1,4 +1,4 @@
-//! Tests of the solver, of its words, and of the engine over files in memory.
+//! Tests of the solver, of its words, and of the engine over files and connections in memory.
 #![tactic(auto)]
 
 #[cfg(test)]

@@ -4,4 +4,5 @@ mod asking;
 mod engine;
 mod freezing;
 mod hints;
+mod serving;
 mod solving;

@@ -1,6 +1,7 @@
 // The engine at work, over files and output in memory.
 
 use cdcl_run::run_engine;
+use net_link::MemDoor;
 use sby_edge::{Files, MemFiles, MemSink};
 use std::alloc::{AllocError, Global};
 use std::test::Fail;
@@ -21,7 +22,8 @@ fn run(alloc: Global, asked: &str, content: &[u8], failing: u64) -> Result<(u8, 
         return Err(Fail::from("no file"));
     }
     let mut sink = MemSink::new(alloc, 1 << 20, vec![in alloc; failing; 1]?)?;
-    let exit = run_engine(alloc, &words, &mut files, &mut sink);
+    let mut door = MemDoor::new(alloc, Vec::new(alloc), Vec::new(alloc));
+    let exit = run_engine(alloc, &words, &mut files, &mut sink, &mut door);
     Ok((exit, sink))
 }
 
@@ -69,7 +71,7 @@ fn tells_faults(rt: HostRuntime) -> Result<(), Fail> {
         (
             "--conflicts 0 f.cnf",
             "",
-            "c usage: cdcl_program [--conflicts n] FILE.cnf | cdcl_program --hints [--conflicts n] FILE.cnf\n",
+            "c usage: cdcl_program [--conflicts n] FILE.cnf | cdcl_program --hints [--conflicts n] FILE.cnf | cdcl_program --serve HOST:PORT --count n\n",
         ),
     ] {
         let (exit, sink) = run(rt.alloc(), asked, text.as_bytes(), 0)?;

@@ -5,6 +5,7 @@ use super::solving::PIGEONS;
 use cdcl_run::run_engine;
 use cert_judge::{Judge, Outcome, StreamKind};
 use cnf_form::{Formula, read_dimacs, write_dimacs};
+use net_link::MemDoor;
 use sby_edge::{Files, MemFiles, MemSink};
 use std::alloc::{AllocError, Global};
 use std::test::Fail;
@@ -21,7 +22,8 @@ fn run(alloc: Global, content: &[u8], conflicts: u64) -> Result<(u8, MemSink), F
         return Err(Fail::from("no file"));
     }
     let mut sink = MemSink::new(alloc, 1 << 26, Vec::new(alloc))?;
-    let exit = run_engine(alloc, &words, &mut files, &mut sink);
+    let mut door = MemDoor::new(alloc, Vec::new(alloc), Vec::new(alloc));
+    let exit = run_engine(alloc, &words, &mut files, &mut sink, &mut door);
     Ok((exit, sink))
 }
 

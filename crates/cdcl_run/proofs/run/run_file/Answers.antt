@@ -1,5 +1,5 @@
 use Rattle.std.proofs.Common.{refl, inl}
-use Rattle.cdcl_run.proofs.run.run_engine.Goals as goal
+use Rattle.cdcl_run.proofs.run.run_file.Goals as goal
 
 pub returns-in-None : goal.returns-in-None
 returns-in-None g c = record {

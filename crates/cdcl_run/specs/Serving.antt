@@ -1,0 +1,78 @@
+-- What is done with connections.
+use Rattle.std.specs.Prelude.{◌≡◌, ◌≢◌, ◌⊎◌, ℕ, ◌<◌, false, List, [], ◌∷◌, ◌++◌, length, All, Contains, Option, IfSome, option_map}
+use Rattle.sby_edge.specs.Cause.{Rose, counted}
+use Rattle.net_link.specs.Doors.{Comes, Returned}
+use Rattle.net_link.specs.Frame.{Pieces, Unframed}
+use Rattle.net_serve.specs.Serving.{IsServed, fault_line}
+use Rattle.net_serve.specs.declared.serving.Served.{Served}
+use Rattle.net_serve.specs.declared.serving.Served.TheVariants.{Answered, BadFrame, Failed, Memory}
+use Rattle.cdcl_words.specs.Asking.{AsksToServe}
+use Rattle.cdcl_run.specs.Run.{Did, World}
+use Rattle.cdcl_run.specs.Stream.{IsStream}
+
+-- What a door shows: the requests still to come and what each connection came back with, where they are told, how many came back, and how
+-- often a call failed.
+pub record DoorOf : Type 0 where
+  pub coming : Option (List (List ℕ))
+  pub came_back : Option (List Returned)
+  pub backs : ℕ
+  pub faults : ℕ
+
+-- a connection that was served: the bytes that came on it, where they are told, what came of it, and what it came back with
+pub record Connection : Type 0 where
+  pub request : Option (List ℕ)
+  pub served : Served
+  pub back : Returned
+
+-- What was written to a connection, by what came of it: the answer of a stream for the file and the budget that its bytes ask for; that of
+-- a line which says that they ask for nothing, where they don't. Else a call of it failed, or memory ran out.
+abbrev pub StandsAs : Served → Option (List ℕ) → Returned → Type 0
+StandsAs Answered request back = IsServed (IsStream false) request back.written
+StandsAs BadFrame request back = IfSome request Unframed × IfSome back.written (Pieces fault_line)
+StandsAs Failed request back = Rose 0 back.faults
+StandsAs Memory request back = Unit {0}
+
+-- a connection came, was served, and came back
+pub record Passes (before after : DoorOf) (c : Connection) : Type 0 where
+  pub comes : Comes before.coming after.coming c.request
+  pub stands : StandsAs c.served c.request c.back
+  pub came_back : after.came_back ≡ option_map (λ all. all ++ c.back ∷ []) before.came_back
+  pub backs : after.backs ≡ counted before.backs
+  pub faults : after.faults ≡ before.faults
+
+-- these did, one after the other
+abbrev pub Passed : DoorOf → DoorOf → List Connection → Type 0
+Passed before after [] = after ≡ before
+Passed before after (c ∷ cs) = (middle : DoorOf) × Passes before middle c × Passed middle after cs
+
+-- the exit status after these connections: 32 where memory ran out for one of them, else 0
+abbrev pub IsExitOf : List Connection → ℕ → Type 0
+IsExitOf cs exit = ((exit ≡ 0) × All (λ c. c.served ≢ Memory) cs) ⊎ ((exit ≡ 32) × ((c : Connection) × Contains cs c × (c.served ≡ Memory)))
+
+-- that many connections were served
+pub record AreServed (before after : DoorOf) (count exit : ℕ) : Type 0 where
+  pub connections : List Connection
+  pub passed : Passed before after connections
+  pub all : length connections ≡ count
+  pub exit_is : IsExitOf connections exit
+
+-- After fewer connections the door failed, or memory for it ran out. One that had come may not have come back.
+pub record IsShut (before after : DoorOf) (count exit : ℕ) : Type 0 where
+  pub connections : List Connection
+  pub middle : DoorOf
+  pub passed : Passed before middle connections
+  pub fewer : length connections < count
+  pub came_back : after.came_back ≡ middle.came_back
+  pub backs : after.backs ≡ middle.backs
+  pub exit_is : ((exit ≡ 1) × Rose middle.faults after.faults) ⊎ ((exit ≡ 32) × (after.faults ≡ middle.faults))
+
+-- what is done where that many connections are to be served
+abbrev pub IsServing : DoorOf → DoorOf → ℕ → ℕ → Type 0
+IsServing before after count exit = AreServed before after count exit ⊎ IsShut before after count exit
+
+-- What a call does. Where the words ask to serve connections, that is done, and files and output stay as they were; else the door does, and
+-- what is done is what the words ask for of a file.
+abbrev pub Ran : World → World → DoorOf → DoorOf → List (List ℕ) → ℕ → Type 0
+Ran before after door door_after words exit =
+    ((address : List ℕ) × (count : ℕ) × AsksToServe words address count × (after ≡ before) × IsServing door door_after count exit)
+    ⊎ (((address : List ℕ) (count : ℕ) → AsksToServe words address count → ⊥) × (door_after ≡ door) × Did before after words exit)

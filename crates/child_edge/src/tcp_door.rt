@@ -1,0 +1,173 @@
+// Connections of the system that are taken in.
+
+ghost use Rattle.std.specs.Prelude.{◌≡◌, ◌+◌, ◌/◌, ◌≤◌, None, IfOk, OnOk};
+ghost use Rattle.sby_edge.specs.Cause.{HasPlainCause};
+
+use crate::clock::millis;
+use crate::tcp_link::TcpLink;
+use net_link::{Door, Link};
+use sby_edge::{Fail, Failed, Memory};
+use std::alloc::Global;
+use std::io::{self, ErrorKind};
+use std::net::{Net, TcpListener, TcpStream};
+use std::time::{Clock as SystemClock, Duration};
+
+// How many seconds a read or a write waits.
+const CALL: u64 = 10;
+
+// How many milliseconds the reads and writes of a connection wait in all, and for how many bytes that pass they wait one more.
+const PATIENCE: u64 = 60_000;
+
+const PACE: u64 = 1024;
+
+/// The end of a connection that came to a door. No call of it waits for more than ten seconds; and one fails where all calls have waited
+/// for longer than a minute, and a second more for each MiB that passed. So the other end can't keep it for ever.
+#[derive(Drop)]
+pub struct TcpGuest<'a, R> {
+    rt: &'a R,
+    link: TcpLink,
+    // How many milliseconds its calls waited, and how many bytes passed.
+    waited: u64,
+    passed: u64,
+}
+
+// A connection that came, with the bounds of its calls.
+fn guest<'a, R>(rt: &'a R, stream: TcpStream) -> io::Result<TcpGuest<'a, R>>
+    ensures { IfOk result (λ guest. guest.link.faults ≡ 0) }
+{
+    let most = Some(Duration::from_secs(CALL));
+    stream.set_read_timeout(most)?;
+    stream.set_write_timeout(most)?;
+    let link = TcpLink::new(stream)?;
+    Ok(TcpGuest {
+        rt,
+        link,
+        waited: 0,
+        passed: 0,
+    })
+}
+
+impl<'a, R: SystemClock> TcpGuest<'a, R> {
+    // Adds what a call took since then and how many bytes it moved. It fails where that was too long.
+    fn pass(&mut self, start: u64, count: usize) -> Result<usize, Failed>
+        ensures same { IfOk result (λ n. n ≡ count) }
+        ensures still { OnOk result (self.new.link.faults ≡ self.old.link.faults) }
+        ensures patient { OnOk result (self.new.waited ≤ 60000 + self.new.passed / 1024) }
+        ensures cause { HasPlainCause self.old.link.faults self.new.link.faults result }
+    {
+        let took = millis(self.rt).saturating_sub(start);
+        self.waited = self.waited.saturating_add(took);
+        self.passed = self.passed.saturating_add(count as u64);
+        if self.waited > PATIENCE + self.passed / PACE {
+            self.link.faults = self.link.faults.saturating_add(1);
+            return Err(Failed);
+        }
+        Ok(count)
+    }
+}
+
+impl<'a, R: SystemClock> Link for TcpGuest<'a, R> {
+    ghost left = { λ _. None };
+
+    ghost written = { λ _. None };
+
+    ghost faults = { λ g. g.link.faults };
+
+    fn read(&mut self, buf: &mut [u8]) -> Result<usize, Failed> {
+        let start = millis(self.rt);
+        let count = self.link.read(buf)?;
+        self.pass(start, count)
+    }
+
+    fn write(&mut self, piece: &[u8]) -> Result<usize, Failed> {
+        let start = millis(self.rt);
+        let count = self.link.write(piece)?;
+        self.pass(start, count)
+    }
+}
+
+/// Takes TCP connections in, one after the other, at the address that it is told and no other.
+#[derive(Drop)]
+pub struct TcpDoor<'a, R> {
+    rt: &'a R,
+    listener: Option<TcpListener>,
+    backs: u64,
+    faults: u64,
+}
+
+impl<'a, R> TcpDoor<'a, R> {
+    /// A door that isn't open yet.
+    pub fn new(rt: &'a R) -> Self
+        ensures { (result.backs ≡ 0) × (result.faults ≡ 0) }
+    {
+        TcpDoor {
+            rt,
+            listener: None,
+            backs: 0,
+            faults: 0,
+        }
+    }
+
+    // The next connection. One that is gone before it can be taken in doesn't count.
+    fn accept(&self) -> Result<TcpGuest<'a, R>, Failed>
+        ensures { IfOk result (λ guest. guest.link.faults ≡ 0) }
+    {
+        let Some(listener) = &self.listener else {
+            return Err(Failed);
+        };
+        for _ in 0..u64::MAX {
+            match listener.accept() {
+                Ok((stream, _)) => {
+                    if let Ok(guest) = guest(self.rt, stream) {
+                        return Ok(guest);
+                    }
+                }
+                Err(error) if error.kind() == ErrorKind::ConnectionAborted => {}
+                Err(error) if error.kind() == ErrorKind::Interrupted => {}
+                Err(_) => return Err(Failed),
+            }
+        }
+        Err(Failed)
+    }
+}
+
+impl<'a, R: Net<Stream = TcpStream, Listener = TcpListener> + SystemClock> Door for TcpDoor<'a, R> {
+    type Link = TcpGuest<'a, R>;
+
+    ghost coming = { λ _. None };
+
+    ghost came_back = { λ _. None };
+
+    ghost backs = { λ d. d.backs };
+
+    ghost faults = { λ d. d.faults };
+
+    fn listen(&mut self, _alloc: Global, address: &str) -> Result<(), Fail> {
+        match TcpListener::bind(self.rt, address) {
+            Ok(listener) => {
+                self.listener = Some(listener);
+                Ok(())
+            }
+            Err(_) => {
+                self.faults = self.faults.saturating_add(1);
+                Err(Fail::Failed)
+            }
+        }
+    }
+
+    fn next(&mut self, _alloc: Global) -> Result<TcpGuest<'a, R>, Fail> {
+        match self.accept() {
+            Ok(guest) => Ok(guest),
+            Err(Failed) => {
+                self.faults = self.faults.saturating_add(1);
+                Err(Fail::Failed)
+            }
+        }
+    }
+
+    fn back(&mut self, guest: TcpGuest<'a, R>) -> Result<(), Memory> {
+        drop(guest);
+        self.backs = self.backs.saturating_add(1);
+        Ok(())
+    }
+}
