@@ -18,6 +18,7 @@ HELP = {
     "$allseq": "quantifiers over all values aren't served",
     "$anyinit": "formalff -anyinit2ff in the script takes it away",
 }
+GATES = "gates aren't read: leave simplemap, techmap and abc out of the script"
 # What is wrong with a cell or wire, by the kind of fault.
 FAULTS = {
     "WidthLimit": "is too wide: arithmetic and orders have at most 128 bits, other cells 4096",
@@ -44,7 +45,8 @@ def explain_fault(design, folder, line, log):
     if found and found.group(2) in design.sources:
         kind, name = found.groups()
         what = design.types.get(name, "wire " + rtlil.unescaped(name))
-        said = FAULTS.get(kind, f"isn't served ({kind})" + (f": {HELP[what]}" if what in HELP else ""))
+        help_with = GATES if what.startswith("$_") else HELP.get(what)
+        said = FAULTS.get(kind, f"isn't served ({kind})" + (f": {help_with}" if help_with else ""))
         log.sum(f"{what} at {design.place(name)} {said}")
     found = re.match(r"ERROR: rtlil byte (\d+): (\w+)", line)
     if found:

@@ -266,7 +266,7 @@ def word_engine(words, mode, depth):
     line, last = " ".join(words), str(depth - 1)
     bounds = {"btormc": ["-kmax", last], "pono": ["--witness", "-k", last, "-e", "bmc"]}
     if mode == "prove":
-        return [], f"engine {line} is left out: it can't serve mode prove"
+        return ["sat"], f"engine {line} becomes sat: it shows runs alone, and mode prove needs a proof"
     if len(words) < 2 or not shutil.which(words[1]):
         return ["sat"], f"engine {line} becomes sat: its program isn't in the path"
     if words[1] not in bounds:
@@ -275,21 +275,21 @@ def word_engine(words, mode, depth):
     return [bounded, "sat"], f"engine {line} becomes {bounded}, and sat beside it: it shows runs alone"
 
 
+def without_options(words):
+    """An engine, and which of its kind."""
+    return [it for it in words if not it.startswith("-")]
+
+
 def served_engine(words, mode, depth, by):
     """The engine lines of sby for one of SymbiYosys's, and what is said of them."""
-    line = " ".join(words)
-    while words and words[0].startswith("--"):
-        words = words[1:]
-    name = words[0] if words else ""
+    line, [name, *kind] = " ".join(words), without_options(words) or [""]
     if name in ("sat", "drup", "lrat", "proof", "proofb", "inv"):
         return [line], None
     if name == "btor":
         return word_engine(words, mode, depth)
-    if name in ("smtbmc", "aiger") or words[:2] in (["abc", "bmc3"], ["abc", "sim3"]):
-        return ["sat"], f"engine {line} becomes sat, whose proofs sby checks"
-    if words[:2] == ["abc", "pdr"]:
-        if mode == "prove" and by == "induction":
-            return ["sat"], f"engine {line} becomes sat, by induction at the task's depth: option by invariant and a line inv are sby's own"
+    if name == "abc" and kind[:1] == ["pdr"] and by == "invariant":
+        return ["inv pdr_program", "sat"], f"engine {line} becomes inv pdr_program with option by invariant, and sat beside it, which finds runs"
+    if name in ("smtbmc", "aiger") or (name == "abc" and kind[:1] in (["bmc3"], ["sim3"], ["pdr"])):
         return ["sat"], f"engine {line} becomes sat, whose proofs sby checks"
     if name in ("itp", "none"):
         return [], f"engine {line} is left out: sby has nothing like it"
@@ -297,10 +297,12 @@ def served_engine(words, mode, depth, by):
 
 
 def serve_engines(task):
-    """The engine lines, each once."""
+    """The engine lines, each once. An invariant is sought where abc pdr would seek one, unless the file says how to prove."""
     lines = task.engine_modes.get(task.mode(), []) + task.engine_modes.get("", [])
     if not lines:
         raise Refused("the task has no engine")
+    if task.mode() == "prove" and any(without_options(words)[:2] == ["abc", "pdr"] for words in lines):
+        task.options.setdefault("by", "invariant")
     found = []
     for words in lines:
         served, said = served_engine(words, task.mode(), task.depth(), task.options.get("by", "induction"))
@@ -308,7 +310,7 @@ def serve_engines(task):
             task.changes.append(said)
         found += [line for line in served if line not in found]
     if not found:
-        raise Refused("no engine of the task is served")
+        raise Refused("no engine of the task is served: " + ", ".join(" ".join(words) for words in lines))
     task.engines = [it.split() for it in found]
 
 

@@ -108,8 +108,50 @@ class Design:
         return f"{found.group(1)}:{found.group(2)}" if found else source
 
 
-def without_statements(text):
-    """The text without assertions and cover statements, and with one assertion that every run breaks."""
+LAST_CYCLE = """  attribute \\init {width}'{zero}
+  wire width {width} $asked$cycle
+  wire width {width} $asked$next
+  wire $asked$last
+  cell $add $asked$add
+    parameter \\A_SIGNED 0
+    parameter \\A_WIDTH {width}
+    parameter \\B_SIGNED 0
+    parameter \\B_WIDTH {width}
+    parameter \\Y_WIDTH {width}
+    connect \\A $asked$cycle
+    connect \\B {width}'{one}
+    connect \\Y $asked$next
+  end
+  cell $ff $asked$ff
+    parameter \\WIDTH {width}
+    connect \\D $asked$next
+    connect \\Q $asked$cycle
+  end
+  cell $eq $asked$eq
+    parameter \\A_SIGNED 0
+    parameter \\A_WIDTH {width}
+    parameter \\B_SIGNED 0
+    parameter \\B_WIDTH {width}
+    parameter \\Y_WIDTH 1
+    connect \\A $asked$cycle
+    connect \\B {width}'{last}
+    connect \\Y $asked$last
+  end
+  cell $cover $asked$cover
+    connect \\A $asked$last
+    connect \\EN 1'1
+  end"""
+
+
+def last_cycle(depth):
+    """A cover statement that a run of this many cycles reaches, in its last one, and a register that counts them."""
+    width = max(1, (depth - 1).bit_length())
+    digits = {name: f"{value:0{width}b}" for name, value in (("zero", 0), ("one", 1), ("last", depth - 1))}
+    return LAST_CYCLE.format(width=width, **digits)
+
+
+def asking_for_a_run(text, depth):
+    """The text with one statement in place of its assertions and cover statements: that a run of this many cycles is reached."""
     lines, skipped, pending = [], False, []
     for line in text.split("\n"):
         words = line.split()
@@ -123,7 +165,7 @@ def without_statements(text):
             skipped = words[:1] != ["end"]
             continue
         if line.rstrip() == "end":
-            lines += ["  cell $assert \\no_run", "    connect \\A 1'0", "    connect \\EN 1'1", "  end"]
+            lines.append(last_cycle(depth))
         lines += pending + [line]
         pending = []
     return "\n".join(lines)

@@ -117,28 +117,32 @@ def run(task, folder, sby, log):
     return done.group(1), code
 
 
+def is_in_doubt(task, design, status):
+    """Whether the status says nothing where no run meets the assumptions: PASS, and of mode cover FAIL."""
+    return design.count("$assume") > 0 and status == ("FAIL" if task.mode() == "cover" else "PASS")
+
+
 def warn_if_vacuous(task, design, folder, sby, log):
-    """Asks whether any run of the task's depth meets the assumptions, where there are some: else PASS says nothing."""
-    if not design.count("$assume") or task.mode() == "cover":
-        return
+    """Asks by one more cover job whether any run of the task's depth meets the assumptions."""
     with open(os.path.join(folder, "model", "design.il"), encoding="utf-8") as file:
-        text = rtlil.without_statements(file.read())
+        text = rtlil.asking_for_a_run(file.read(), task.depth())
     inner = os.path.join(folder, "assumptions")
     os.makedirs(inner, exist_ok=True)
     with open(os.path.join(inner, "design.il"), "w", encoding="utf-8") as file:
         file.write(text)
     asked = config.Task(None, "-")
-    asked.options = {"mode": "bmc", "depth": str(task.depth()), "skip": str(task.depth() - 1)}
+    asked.options = {"mode": "cover", "depth": str(task.depth())}
     if "timeout" in task.options:
         asked.options["timeout"] = task.options["timeout"]
-    asked.engines = task.engines
+    asked.engines = [it for it in task.engines if it[0] != "inv"] or [["sat"]]
     path = os.path.join(inner, "config.sby")
     with open(path, "w", encoding="utf-8") as file:
         file.write(task_file(asked, inner, "design.il"))
     log.say(f"assumptions: asking for a run of {task.depth()} cycles that meets them")
     lines, _ = sby.run(inner, path, None, Silent())
     said = own_lines(lines, inner)
-    if said and said[-1].startswith("DONE (PASS"):
-        log.sum(f"WARNING: no run of {task.depth()} cycles meets the assumptions: PASS says nothing of such runs")
-    elif not (said and said[-1].startswith("DONE (FAIL")):
+    if said and said[-1].startswith("DONE (FAIL"):
+        nothing = "nothing is reached so late" if task.mode() == "cover" else "PASS says nothing of such runs"
+        log.sum(f"WARNING: no run of {task.depth()} cycles meets the assumptions: {nothing}")
+    elif not (said and said[-1].startswith("DONE (PASS")):
         log.say("assumptions: no answer")

@@ -243,6 +243,52 @@ module top(input clk, input [3:0] a);
 endmodule
 """
 
+ALL_CYCLES = ALL_VALUES.replace("allconst", "allseq")
+
+UNSTARTED = """
+module top(input clk, input d);
+  reg q;
+  always @(posedge clk) q <= d;
+  always @(posedge clk) assert (q || !q);
+endmodule
+"""
+
+STARTS_TWICE = """
+module top(input clk, input d);
+  reg q = 0;
+  (* keep, init = 1 *) wire r;
+  assign r = q;
+  always @(posedge clk) q <= d;
+  always @(posedge clk) assert (q == r);
+endmodule
+"""
+
+# What no Yosys leaves of that: the text that sby refuses.
+STARTS_TWICE_TEXT = """module \\top
+  wire input 1 \\clk
+  wire input 2 \\d
+  attribute \\src "top.v:3.7-3.8"
+  attribute \\init 1'0
+  wire \\q
+  attribute \\src "top.v:4.31-4.32"
+  attribute \\init 1'1
+  wire \\r
+  attribute \\src "top.v:6.3-6.34"
+  cell $dff $1
+    parameter \\CLK_POLARITY 1
+    parameter \\WIDTH 1
+    connect \\CLK \\clk
+    connect \\D \\d
+    connect \\Q \\q
+  end
+  cell $assert \\same
+    connect \\A \\r
+    connect \\EN 1'1
+  end
+  connect \\r \\q
+end
+"""
+
 LOOP = """
 module top(input clk, input a, output y);
   wire b;

@@ -70,7 +70,7 @@ ENGINES = {
     "smtbmc --presat --unroll boolector": "becomes sat, whose proofs sby checks",
     "abc bmc3": "becomes sat, whose proofs sby checks",
     "abc sim3 -F 10": "becomes sat, whose proofs sby checks",
-    "abc pdr": "becomes sat",
+    "abc pdr": "becomes sat, whose proofs sby checks",
     "aiger suprove": "becomes sat, whose proofs sby checks",
     "aiger avy": "becomes sat, whose proofs sby checks",
     "aiger aigbmc": "becomes sat, whose proofs sby checks",
@@ -80,7 +80,7 @@ ENGINES = {
 
 # What is refused: a task file, and a part of what is said.
 REFUSED = [
-    (sby_file("mode live\ndepth 3"), "mode live isn't served"),
+    *((sby_file(f"mode {mode}\ndepth 3"), f"mode {mode} isn't served: bmc, prove and cover are") for mode in ("live", "prep", "equiv")),
     (sby_file("depth 3"), "the task has no mode"),
     (sby_file("mode bmc\nfancy 1"), "option fancy isn't served"),
     (sby_file("mode bmc\nsmtc x.smtc"), "option smtc isn't served: a verdict without its constraints would be about something else"),
@@ -90,8 +90,8 @@ REFUSED = [
     (sby_file("mode bmc\nexpect good"), "option expect names no status: good"),
     (sby_file("mode bmc\nshort: depth 3", tasks="long"), "short: is no task and no tag"),
     (sby_file("mode bmc", engines="magic"), "engine magic isn't known"),
-    (sby_file("mode bmc", engines="itp"), "engine of the task is served"),
-    (sby_file("mode prove", engines="btor btormc"), "no engine of the task is served"),
+    *((sby_file(f"mode {mode}", engines=engine), f"no engine of the task is served: {engine}")
+      for mode in ("bmc", "prove", "cover") for engine in ("itp", "none")),
     (sby_file("mode bmc", engines=""), "the task has no engine"),
     (sby_file("mode bmc", script=""), "the task has no script"),
     (sby_file("mode bmc", files="missing.v"), "there is no file missing.v"),
@@ -104,10 +104,17 @@ REFUSED = [
     ("--pycode-begin--\n", "a Python block isn't ended"),
 ]
 
-# Designs that sby refuses: the options, and what is said of the place.
+# Designs that sby or Yosys refuses: the options, what is said of the place, and a script if it isn't the ordinary one.
+PREP = "read -formal top.v\nprep -top top"
 REFUSED_DESIGNS = [
     (d.POWER, "mode bmc\ndepth 3", "$pow at top.v:4 isn't served (UnknownCell): no pass takes powers away"),
     (d.ALL_VALUES, "mode bmc\ndepth 3", "$allconst at top.v:3 isn't served"),
+    (d.ALL_CYCLES, "mode bmc\ndepth 3", "$allseq at top.v:3 isn't served (LeftOut): quantifiers over all values aren't served"),
+    (d.UNSTARTED, "mode bmc\ndepth 3", "$anyinit at top.v:5 isn't served (UnknownCell): formalff -anyinit2ff in the script takes it away",
+     f"{PREP}\nformalff -clk2ff -ff2anyinit"),
+    (d.UNSTARTED, "mode bmc\ndepth 3", "$_DFF_P_ at top.v:5 isn't served (LeftOut): gates aren't read: leave simplemap, techmap and abc out of the script",
+     f"{PREP}\nsimplemap"),
+    (d.STARTS_TWICE, "mode bmc\ndepth 3", "yosys: ERROR: Conflicting init values for signal \\q"),
     (d.CLOCKS, "mode bmc\ndepth 3", "$dff at top.v:4 and another register have different clocks or edges: option multiclock on takes several"),
     (d.LOOP, "mode bmc\ndepth 3", "$and at top.v:4 is on a loop of combinational cells"),
     (d.DRIVEN_TWICE, "mode bmc\ndepth 3", "wire y at top.v:2 is driven twice"),

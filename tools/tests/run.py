@@ -4,7 +4,7 @@
     tools/tests/run.py [--sby PATH] [NAME ..]
 
 Needs Yosys; with iverilog in the path the traces are replayed too. Prints a line for each test that fails, and last
-'N passed, M failed'. Exit status 0 where none failed.
+'N passed, M failed', with a word behind where nothing was replayed. Exit status 0 where none failed.
 """
 import argparse
 import os
@@ -23,6 +23,7 @@ ROOT = os.path.join(HERE, "..", "..")
 TOOL = os.path.join(HERE, "..", "sby-yosys")
 sys.path[:0] = [HERE, os.path.join(HERE, "..", "sby_yosys")]
 
+import config
 import designs as d
 import files
 import replay
@@ -66,7 +67,7 @@ class Bench:
 
     def run(self, *words, programs=None, sby=None, text=None):
         """programs: a folder that comes first in the path; text: the standard input."""
-        env = {**os.environ, "PATH": f"{self.folder}/{programs}:{os.environ['PATH']}"} if programs else None
+        env = {**os.environ, "PATH": f"{os.path.join(self.folder, programs)}:{os.environ['PATH']}"} if programs else None
         run = subprocess.run(self.words(words, sby), cwd=self.folder, env=env, input=text or "", capture_output=True, text=True)
         return run.returncode, run.stdout + run.stderr
 
@@ -115,9 +116,8 @@ def each_engine_in_each_mode(bench):
         inner = bench.inner(f"e{number}", top_v=d.counter(16), x_sby=sby_file(options, engines=engine, tasks="bmc\nprove\ncover"))
         got, said = inner.run("x.sby")
         want(f"[x_bmc] engine {engine} {said_of_it}" in said, f"{engine}: {said}")
-        refused = engine.startswith("btor")
-        want(got == (16 if refused else 0) and ("no engine of the task is served" in said) == refused, f"{engine}: {got}\n{said}")
-        for mode in ("bmc", "cover") if refused else ("bmc", "prove", "cover"):
+        want(got == 0, f"{engine}: {got}\n{said}")
+        for mode in ("bmc", "prove", "cover"):
             want(inner.status(f"x_{mode}") == "PASS", f"{engine}, {mode}: {inner.status(f'x_{mode}')}")
 
 
@@ -187,6 +187,10 @@ def warnings(bench):
         code, said = bench.run("-f", "y.sby")
         depth = options.split()[-1]
         want(code == 0 and f"WARNING: no run of {depth} cycles meets the assumptions" in said, said)
+    bench.put("top.v", d.CONTRADICTION.replace("assert (n != 6)", "cover (n == 6)"))
+    bench.put("z.sby", sby_file("mode cover\ndepth 9"))
+    code, said = bench.run("z.sby")
+    want(code == 2 and "WARNING: no run of 9 cycles meets the assumptions: nothing is reached so late" in said, said)
     bench.put("top.v", d.MEETABLE)
     code, said = bench.run("-f", "y.sby")
     want(code == 0 and "asking for a run of 5 cycles" in said and "WARNING" not in said, said)
@@ -194,10 +198,15 @@ def warnings(bench):
 
 @test
 def refused_designs_are_explained(bench):
-    for number, (design, options, wanted) in enumerate(files.REFUSED_DESIGNS):
-        inner = bench.inner(f"r{number}", top_v=design, x_sby=sby_file(options))
+    for number, (design, options, wanted, *script) in enumerate(files.REFUSED_DESIGNS):
+        inner = bench.inner(f"r{number}", top_v=design, x_sby=sby_file(options, *script))
         code, said = inner.run("x.sby")
         want(code == 16 and wanted in said and inner.status("x") == "ERROR", f"{wanted}: {code} {said}")
+    inner = bench.inner("twice", top_v=d.STARTS_TWICE, x_sby=sby_file("mode bmc"), left_il=d.STARTS_TWICE_TEXT)
+    lists = " ".join(f"../model/{name}.txt" for name in ("inouts", "boxes", "liveness"))
+    stand_in = inner.program("yosys", f"#!/bin/sh\ncp {inner.folder}/left.il ../model/design.il\ntouch {lists}\n")
+    code, said = inner.run("--yosys", stand_in, "x.sby")
+    want(code == 16 and "starts with 0 and with 1" in said and "top.v:" in said, said)
     inner = bench.inner("unknown", top_v=d.NO_MODULE_OF, x_sby=sby_file("mode bmc"))
     code, said = inner.run("x.sby")
     want(code == 16 and "Module `\\secret' referenced in module `\\top' in cell `\\it' is not part of the design" in said, said)
@@ -238,11 +247,15 @@ def what_is_changed_is_said(bench):
                  "engine btor none becomes sat: its program isn't in the path", "engine abc bmc3 becomes sat", "engine itp is left out"):
         want(line in said, f"{line}: {said}")
     want(bench.read("x/config.sby").split("[engines]\n")[1].startswith("sat\n\n"), bench.read("x/config.sby"))
-    bench.put("p.sby", sby_file("mode prove\ndepth 9\nskip 3\nvcd on\nappend 0", engines="abc pdr"))
+    bench.put("p.sby", sby_file("mode prove\ndepth 9\nskip 3\nvcd on\nappend 0", engines="smtbmc"))
     _, said = bench.run("p.sby")
-    for line in ("engine abc pdr becomes sat, by induction at the task's depth", "option skip is left out: it has no meaning in mode prove"):
+    for line in ("engine smtbmc becomes sat, whose proofs sby checks", "option skip is left out: it has no meaning in mode prove"):
         want(line in said, f"{line}: {said}")
     want("option vcd" not in said and "option append" not in said, said)
+    bench.put("all.sby", sby_file("mode bmc\ndepth 2\n" + "".join(f"{it} x\n" for it in config.DROPPED)))
+    _, said = bench.run("all.sby")
+    for name, why in config.DROPPED.items():
+        want(f"option {name} x is left out: {why}" in said, f"{name}: {said}")
     bench.put("top.v", d.CLOCKS)
     bench.put("y.sby", sby_file("mode bmc\ndepth 4\nskip 1\nmulticlock on"))
     _, said = bench.run("y.sby")
@@ -267,9 +280,33 @@ def programs_that_read_words(bench):
         want(code == 0 and bench.status(name) == "PASS", said)
         want(bench.read(f"{name}.words").strip() == f"{wanted} {name}/model/base.btor", bench.read(f"{name}.words"))
         want((f"engine btor {name} --trace-gen-full becomes btor {name} {wanted}, and sat" in said) == (name != "own"), said)
-    bench.put("prove.sby", sby_file("mode prove\ndepth 2", engines="btor btormc\nsmtbmc"))
-    _, said = bench.run("prove.sby", programs="bin")
-    want("engine btor btormc is left out: it can't serve mode prove" in said, said)
+    bench.put("top.v", d.counter(16))
+    bench.put("prove.sby", sby_file("mode prove\ndepth 2", engines="btor btormc"))
+    code, said = bench.run("prove.sby", programs="bin")
+    want(code == 0 and "engine btor btormc becomes sat: it shows runs alone, and mode prove needs a proof" in said, said)
+    want("\n[engines]\nsat\n\n" in bench.read("prove/config.sby"), bench.read("prove/config.sby"))
+
+
+@test
+def invariants(bench):
+    """abc pdr of mode prove is an invariant that pdr_program finds, with sat beside it; DEEP has no induction at this depth."""
+    bench.put("top.v", d.DEEP)
+    for name, options, engines, wanted in (("x", "", "abc pdr", "by invariant\n\n[engines]\ninv pdr_program\nsat\n"),
+                                           ("y", "", "smtbmc\nabc pdr", "by invariant\n\n[engines]\nsat\ninv pdr_program\n"),
+                                           ("z", "\nby induction", "abc --keep-going pdr", "by induction\n\n[engines]\nsat\n")):
+        bench.put(f"{name}.sby", sby_file(f"mode prove\ndepth 2{options}", engines=engines))
+        code, said = bench.run(f"{name}.sby")
+        want(bench.status(name) == ("UNKNOWN" if options else "PASS"), said)
+        want(wanted in bench.read(f"{name}/config.sby"), bench.read(f"{name}/config.sby"))
+        line = "engine abc pdr becomes inv pdr_program with option by invariant, and sat beside it, which finds runs"
+        want((line in said) == (not options), said)
+    bench.put("top.v", d.counter(9))
+    bench.put("f.sby", sby_file("mode prove\ndepth 12", engines="abc pdr"))
+    code, said = bench.run("f.sby")
+    want(code == 2 and bench.status("f") == "FAIL" and "top.v:7: assertion broken at cycle " in said, said)
+    bench.put("g.sby", sby_file("mode prove\ndepth 4", engines="abc pdr"))
+    code, said = bench.run("g.sby")
+    want(code == 4 and bench.status("g") == "UNKNOWN" and "[g] base: UNSAT" in said and "engine_0 inv: unknown" in said, said)
 
 
 @test
@@ -402,7 +439,8 @@ def front_page(bench):
 
 @test
 def examples(bench):
-    """Each task has the status that its file expects, and the traces play in a simulator."""
+    """Each task has the status that its file expects, and the traces play in a simulator. Where CaDiCaL isn't there cdcl_program
+    proves for inv_abc.py."""
     inner = bench.inner("examples")
     os.makedirs(inner.folder)
     for name in os.listdir(os.path.join(ROOT, "examples")):
@@ -410,7 +448,7 @@ def examples(bench):
             shutil.copy(os.path.join(ROOT, "examples", name), inner.folder)
     shutil.copytree(os.path.join(ROOT, "examples", "engines"), os.path.join(inner.folder, "engines"))
     for name in sorted(it for it in os.listdir(inner.folder) if it.endswith(".sby") and it != "counter.sby"):
-        code, said = inner.run("-j", "2", name)
+        code, said = inner.run("-j", "2", name, programs=os.path.dirname(bench.sby or os.path.join(ROOT, "bin", "sby")))
         want(code == 0, f"{name}: {code}\n{said}")
         for folder in sorted(it for it in os.listdir(inner.folder) if it.startswith(name[:-4] + "_")):
             inner.replayed(folder, name[:-4] + ".v")
@@ -430,7 +468,8 @@ def main():
             except AssertionError as fault:
                 failed += 1
                 print(f"{name}: {fault}")
-    print(f"{len(names) - failed} passed, {failed} failed")
+    unplayed = "" if shutil.which("iverilog") else "; no trace was replayed: iverilog isn't in the path"
+    print(f"{len(names) - failed} passed, {failed} failed{unplayed}")
     return 1 if failed else 0
 
 
