@@ -64,8 +64,9 @@ fn pair_of(alloc: Global, formula: Formula, bytes: &[u8]) -> Result<Option<Pair>
 }
 
 /// Reads the file of a pair, as `Text` writes it, or tells why it is none: the fault of `read_dimacs`, or that no pair
-/// has this text. It takes time and memory in proportion to the bytes, and to the highest number that has a line, up to
-/// which the list of bits has a place for each: the numbers are those of a design's state bits.
+/// has this text. It fails at out of memory alone. It takes time and memory in proportion to the bytes, and to the highest
+/// number that has a line, up to which the list of bits has a place for each: the numbers, from 1 to 2^31, are those of a
+/// design's state bits.
 pub fn read_pair(alloc: Global, bytes: &[u8]) -> Result<Result<Pair, PairFault>, AllocError>
     ensures pair { IfOk result (λ answer. IfOk answer (λ p. pair_text p ≡ bytes.now)) }
     ensures fault { IfOk result (λ answer. IfErr answer (IsPairFault bytes.now)) }

@@ -6,7 +6,7 @@ pub record WorkOf : Type 0 where
   pub conflicts : ℕ
   pub queries : ℕ
 
--- a conflict costs one, and so does a query
+-- a conflict costs one, and so does a query, or the beginning of a search
 abbrev pub spent : WorkOf → ℕ
 spent w = w.conflicts + w.queries
 

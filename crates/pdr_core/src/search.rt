@@ -70,7 +70,8 @@ fn attempt_counted(
     }
 }
 
-/// Searches for an invariant of the pair, or a run that breaks an assertion.
+/// Searches for an invariant of the pair, or a run that breaks an assertion. Conflicts and queries are counted in `work`. It fails at out
+/// of memory alone.
 pub fn find_candidate(alloc: Global, pair: &Pair, work: &mut Work) -> Result<Candidate, AllocError>
     ensures goes_on { GoesOn work.old work.new }
     ensures spent { result ≡ Ok Candidate.Spent → IsSpent work.new }
@@ -84,7 +85,7 @@ pub fn find_candidate(alloc: Global, pair: &Pair, work: &mut Work) -> Result<Can
 }
 
 /// The bytes of a stream that is to show that the clauses are an invariant of the pair; none where it doesn't, or nothing is left to
-/// spend.
+/// spend. Conflicts and queries are counted in `work`. It fails at out of memory alone.
 pub fn write_stream(
     alloc: Global,
     pair: &Pair,

@@ -5,7 +5,7 @@ ghost use Rattle.pdr_core.specs.Work.{GoesOn, spent};
 
 use std::marker::Model;
 
-/// What a search may spend, and what it has: a conflict costs one, and so does a query.
+/// What a search may spend, and what it has: a conflict costs one, and so does a query, or the beginning of a search.
 #[derive(Drop)]
 pub struct Work {
     budget: u64,

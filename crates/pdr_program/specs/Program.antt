@@ -11,6 +11,6 @@ untold file_faults sink_faults = record { told = None; file_faults = file_faults
 abbrev pub IsExit : List (List ℕ) → ℕ → Type 0
 IsExit words status = (file_faults : ℕ) × (sink_faults : ℕ) × Did (untold 0 0) (untold file_faults sink_faults) words status
 
--- the program's: of a call for some words, those that it was given; or memory ran out for these
+-- the program's: of a call for some words; or memory ran out for those that it was given
 abbrev pub IsProgramExit : ℕ → Type 0
 IsProgramExit status = ((words : List (List ℕ)) × IsExit words status) ⊎ (status ≡ 32)

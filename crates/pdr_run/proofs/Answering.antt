@@ -6,7 +6,6 @@ use Rattle.cdcl_run.specs.Run.{World, Writes}
 use Rattle.pair_form.specs.Pair.{PairOf}
 use Rattle.pair_reader.specs.Reading.{IsPairFault}
 use Rattle.pair_reader.specs.declared.reader.PairFault.{PairFault}
-use Rattle.pair_reader.specs.declared.reader.PairFault.TheVariants.{Dimacs, Lines}
 use Rattle.pdr_run.specs.Answer.{IsAnswer}
 use Rattle.pdr_run.specs.Run.{Answers, IsServed}
 use Rattle.pdr_run.specs.Text.{pair_fault_line}
@@ -20,5 +19,4 @@ answer_told before after p budget exit status stream a (inr w) = inr (w.0, (w.2,
 
 -- a file that is no pair's is served by the line of its fault
 pub fault_served : (before after : World) (bytes : List ℕ) (budget exit : ℕ) (fault : PairFault) → length bytes ≤ 2 ^ 32 → IsPairFault bytes fault → exit ≡ 1 → Writes before after (pair_fault_line fault) → IsServed before after bytes budget exit
-fault_served before after bytes budget exit (Dimacs fault) short f e w = inr (inl (short, (fault.kind, fault.byte, f, e, w)))
-fault_served before after bytes budget exit Lines short f e w = inr (inr (inl (short, f.2, e, w)))
+fault_served before after bytes budget exit fault short f e w = inr (inl (short, (fault, f, e, w)))

@@ -1,34 +1,24 @@
 -- What a call promises.
-use Rattle.std.proofs.Common.{◌≡◌, ◌≢◌, ◌⊎◌, ℕ, ◌≤◌, ◌^◌, List, [], ◌∷◌, length, refl, ap, sym, ◌∙◌, subst, inl, inr, arith}
-use Rattle.std.specs.Prelude.{Option, Some, None, codes, decimal}
-use Rattle.std.proofs.lemmas.Fmt.{decimal_injective}
+use Rattle.std.proofs.Common.{◌≡◌, ◌≢◌, ◌⊎◌, ℕ, ◌≤◌, ◌^◌, List, length, ap, refl, ◌∙◌, subst, inl, inr, arith}
+use Rattle.std.specs.Prelude.{Option, Some}
 use Rattle.cnf_form.specs.Cnf.{FormulaOf}
 use Rattle.cnf_form.specs.Dimacs.{IsDimacs}
 use Rattle.cnf_form.specs.Reading.{IsFault}
 use Rattle.cnf_form.specs.declared.reader.DimacsFaultKind.{DimacsFaultKind}
 use Rattle.pair_form.specs.Pair.{IsPair, IsSamePair, PairOf}
 use Rattle.pair_form.specs.Text.{pair_text}
+use Rattle.pair_reader.specs.Reading.{IsPairFault}
+use Rattle.pair_reader.specs.declared.reader.PairFault.{PairFault}
+use Rattle.pair_reader.specs.declared.reader.PairFault.TheVariants.{Dimacs, Lines}
 use Rattle.sby_edge.specs.Files.{Store}
 use Rattle.cdcl_words.specs.Asking.{AsksPlainly}
 use Rattle.cdcl_run.specs.Answer.{budget_of}
 use Rattle.cdcl_run.specs.Output.{grown}
-use Rattle.cdcl_run.specs.Run.{IsContent, IsOutOfMemory, IsUngot, World}
+use Rattle.cdcl_run.specs.Run.{IsOutOfMemory, IsUngot, World}
+use Rattle.cdcl_run.proofs.Promise.{asked_plainly, told_content}
 use Rattle.pdr_run.specs.Answer.{IsAnswer}
 use Rattle.pdr_run.specs.Run.{Answers, Did, IsCutShort, IsDone, IsServed}
 use Rattle.pdr_run.proofs.SamePairs.{answers_same}
-
--- words ask for one thing
-asked_once : (words : List (List ℕ)) (c d : Option ℕ) (f g : List ℕ) → AsksPlainly words c f → AsksPlainly words d g → (c ≡ d) × (f ≡ g)
-asked_once words None None f g a b = (refl, (let e = sym a ∙ b in cc))
-asked_once words None (Some n) f g a b = absurd (let e = ap length (sym a ∙ b.0) in omega (arith, e))
-asked_once words (Some m) None f g a b = absurd (let e = ap length (sym a.0 ∙ b) in omega (arith, e))
-asked_once words (Some m) (Some n) f g a b =
-    let e : codes "--conflicts" ∷ decimal m ∷ f ∷ [] ≡ codes "--conflicts" ∷ decimal n ∷ g ∷ [] = sym a.0 ∙ b.0 in
-    let k : decimal m ≡ decimal n = cc in
-    (ap Some (decimal_injective m n (omega (arith, a.2)) (omega (arith, b.2)) k), (let h : f ≡ g = cc in h))
-
-told_content : (told : Option Store) (store : Store) (file bytes text : List ℕ) → told ≡ Some store → IsContent told file bytes → store file ≡ Some text → bytes ≡ text
-told_content told store file bytes text t c h = let e : Some bytes ≡ Some text = sym (subst (λ z. IsContent z file bytes) t c) ∙ h in cc
 
 -- exit statuses of answers
 exit_of : (p : PairOf) (budget : ℕ) (stream : List ℕ) (exit : ℕ) → IsAnswer p budget stream exit → (exit ≢ 1) × (exit ≢ 32)
@@ -47,11 +37,14 @@ module _ (texts : Texts) (before after : World) (words : List (List ℕ)) (exit 
   Comes : Type 0
   Comes = IsOutOfMemory before after exit ⊎ (IsUngot before after exit ⊎ Answers before after p (budget_of c) exit)
 
+  faultless : (fault : PairFault) → IsPairFault (pair_text p) fault → IsPair p → ⊥
+  faultless (Dimacs fault) w is = texts.decided (pair_text p) p.formula fault.kind fault.byte (texts.dimacs p is) w
+  faultless Lines w is = w.2 p is refl
+
   served : (bytes : List ℕ) → bytes ≡ pair_text p → length (pair_text p) ≤ 2 ^ 32 → IsPair p → IsServed before after bytes (budget_of c) exit → Answers before after p (budget_of c) exit
   served bytes e short is (inl long) = absurd (omega (arith, long.0, short, ap length e))
-  served bytes e short is (inr (inl (_, (kind, byte, fault, _, _)))) = absurd (texts.decided (pair_text p) p.formula kind byte (texts.dimacs p is) (subst (λ z. IsFault z kind byte) e fault))
-  served bytes e short is (inr (inr (inl (_, none, _, _)))) = absurd (none p is (sym e))
-  served bytes e short is (inr (inr (inr (_, (q, own, text, a))))) = answers_same q p (texts.one q p own is (text ∙ e)) before after (budget_of c) exit a
+  served bytes e short is (inr (inl (_, (fault, w, _, _)))) = absurd (faultless fault (subst (λ z. IsPairFault z fault) e w) is)
+  served bytes e short is (inr (inr (_, (q, own, text, a)))) = answers_same q p (texts.one q p own is (text ∙ e)) before after (budget_of c) exit a
 
   module _ (d : Did before after words exit) (asks : AsksPlainly words c file) (told : before.told ≡ Some store) (has : store file ≡ Some (pair_text p)) (short : length (pair_text p) ≤ 2 ^ 32) (is : IsPair p) where
     done : IsDone before after c file exit → Comes
@@ -64,7 +57,7 @@ module _ (texts : Texts) (before after : World) (words : List (List ℕ)) (exit 
     did = elim d.1 [
       | inl r ↦ absurd (r.none c file asks)
       | inr w ↦
-          let s = asked_once words w.0 c w.1 file w.2 asks in
+          let s = asked_plainly words w.0 c w.1 file w.2 asks in
           done (subst (λ z. IsDone before after c z exit) s.1 (subst (λ z. IsDone before after z w.1 exit) s.0 w.3))
     ]
 

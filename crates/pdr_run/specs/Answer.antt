@@ -6,13 +6,12 @@ use Rattle.inv_fate.specs.Fate.{Found, InvFateOf}
 use Rattle.pdr_run.specs.Breaking.{Breaks}
 use Rattle.pdr_run.specs.Text.{broken_text, spent_text}
 
--- A stream that is found to be a certificate, whatever the number of bytes is that may be taken, if it has no more. So some clauses are an
--- invariant of the pair.
+-- A stream that is found to be a certificate within every limit that is at least its length. So some clauses are an invariant of the pair.
 pub record IsInvariantStream (p : PairOf) (stream : List ℕ) : Type 0 where
   pub found : (most : ℕ) → length stream ≤ most → InvFateOf p stream most Found
   pub invariant : (I : List (List LitOf)) × IsInvariant p I
 
--- a stream that says that all of the budget was spent, and on what
+-- a stream that says that the budget is spent, and on what: the two numbers make it up
 abbrev pub IsSpentStream : ℕ → List ℕ → Type 0
 IsSpentStream budget stream = (conflicts : ℕ) × (queries : ℕ) × (conflicts + queries ≡ budget) × (stream ≡ spent_text conflicts queries)
 

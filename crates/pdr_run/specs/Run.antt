@@ -1,7 +1,5 @@
 -- What a call does.
 use Rattle.std.specs.Prelude.{◌≡◌, ◌⊎◌, ℕ, ◌^◌, ◌<◌, ◌≤◌, List, length, Option}
-use Rattle.cnf_form.specs.Reading.{IsFault}
-use Rattle.cnf_form.specs.declared.reader.DimacsFaultKind.{DimacsFaultKind}
 use Rattle.pair_form.specs.Pair.{IsPair, PairOf}
 use Rattle.pair_form.specs.Text.{pair_text}
 use Rattle.sby_edge.specs.Cause.{Rose}
@@ -9,10 +7,11 @@ use Rattle.cdcl_words.specs.Asking.{AsksPlainly}
 use Rattle.cdcl_run.specs.Answer.{budget_of}
 use Rattle.cdcl_run.specs.Output.{GrownBySome, grown}
 use Rattle.cdcl_run.specs.Run.{IsContent, IsOutOfMemory, IsUngot, World, Writes}
-use Rattle.cdcl_run.specs.Text.{fault_line, long_line}
-use Rattle.pair_reader.specs.Reading.{IsNoPair}
+use Rattle.cdcl_run.specs.Text.{long_line}
+use Rattle.pair_reader.specs.Reading.{IsPairFault}
+use Rattle.pair_reader.specs.declared.reader.PairFault.{PairFault}
 use Rattle.pdr_run.specs.Answer.{IsAnswer}
-use Rattle.pdr_run.specs.Text.{pair_line, usage_line}
+use Rattle.pdr_run.specs.Text.{pair_fault_line, usage_line}
 
 -- the words are refused: the usage line alone
 pub record IsRefused (before after : World) (words : List (List ℕ)) (exit : ℕ) : Type 0 where
@@ -37,8 +36,7 @@ Answers before after p budget exit = IsWhole before after p budget exit ⊎ ((ex
 abbrev pub IsServed : World → World → List ℕ → ℕ → ℕ → Type 0
 IsServed before after bytes budget exit =
     ((2 ^ 32 < length bytes) × (exit ≡ 1) × Writes before after long_line)
-    ⊎ ((length bytes ≤ 2 ^ 32) × ((kind : DimacsFaultKind) × (byte : ℕ) × IsFault bytes kind byte × (exit ≡ 1) × Writes before after (fault_line kind byte)))
-    ⊎ ((length bytes ≤ 2 ^ 32) × IsNoPair bytes × (exit ≡ 1) × Writes before after pair_line)
+    ⊎ ((length bytes ≤ 2 ^ 32) × ((fault : PairFault) × IsPairFault bytes fault × (exit ≡ 1) × Writes before after (pair_fault_line fault)))
     ⊎ ((length bytes ≤ 2 ^ 32) × ((p : PairOf) × IsPair p × (pair_text p ≡ bytes) × Answers before after p budget exit))
 
 -- What is done with a file: memory ran out, and nothing was written; or the file can't be got; or its bytes are served.

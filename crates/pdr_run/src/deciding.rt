@@ -25,7 +25,7 @@ pub(crate) enum Outcome {
     Spent,
 }
 
-// The same pair again.
+// A copy of the pair.
 fn copy(alloc: Global, pair: &Pair) -> Result<Pair, AllocError>
     ensures { IfOk result (λ copy. copy ≡ pair.now) }
 {
@@ -94,9 +94,6 @@ pub(crate) fn decide(alloc: Global, pair: &Pair, work: &mut Work) -> Result<Outc
     ensures outcome { IfOk result (IsOutcome pair.now work.new) }
 {
     while work.count_query() {
-        // Both numbers fit, so that the loop ends.
-        let _conflicts = work.conflicts();
-        let _queries = work.queries();
         let candidate = find_candidate(alloc, pair, work)?;
         if let Some(outcome) = judged(alloc, pair, candidate, work)? {
             return Ok(outcome);

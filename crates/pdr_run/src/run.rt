@@ -152,11 +152,13 @@ fn run_asked<F: Files, S: Sink>(
 /// Does all that the program `pdr_program` does: `words` are its arguments, `files` and `sink` the file store and the output
 /// that it uses. It answers the exit status: 20 after a stream that is a certificate of an invariant of the file's pair; 0 after one that
 /// says that it doesn't know, since a run breaks an assertion, or since all of its budget was spent; 1 where the words are
-/// refused, the file can't be got, has more than 2^32 bytes or isn't a pair's, or where the output failed; and 32 at out of memory,
-/// when nothing was written. Where the output failed, what was written is a first part of the line or the stream that was to be.
+/// refused, the file can't be got, has more than 2^32 bytes or isn't a pair's, each with a line that begins with `c usage:` or
+/// `c fault:`, or where the output failed; and 32 at out of memory, when nothing was written. Where the output failed, what was written
+/// is a first part of the line or the stream that was to be.
 ///
-/// Words are a file, or `--conflicts`, a number from 1 to 1,000,000,000 and a file; the number is the budget, of which each
-/// conflict and each query costs one. Without it the budget is 2^64 - 1.
+/// Words are a file, or `--conflicts`, a number from 1 to 1,000,000,000 and a file; the number is the budget, of which a conflict costs
+/// one, as do a query and the beginning of a search. Without it the budget is 2^64 - 1. A stream that doesn't know begins with a comment:
+/// the length, in cycles, of the run that breaks an assertion, or what the budget was spent on.
 pub fn run_pdr<F: Files, S: Sink>(
     alloc: Global,
     words: &[String],

@@ -1,4 +1,4 @@
-use Rattle.std.proofs.Common.{◌-◌, ◌^◌}
+use Rattle.std.proofs.Common.{◌-◌}
 use Rattle.pdr_core.specs.Work.{GoesOn, spent}
 use Rattle.pdr_run.proofs.deciding.decide.Given as goal
 
@@ -6,4 +6,4 @@ abbrev pub invariant-loop-alloc : goal.invariant-loop-alloc
 invariant-loop-alloc l = GoesOn l.fn.work l.work
 
 abbrev pub decreases-loop-alloc : goal.decreases-loop-alloc
-decreases-loop-alloc l = 2 ^ 65 - spent l.work
+decreases-loop-alloc l = l.work.budget - spent l.work

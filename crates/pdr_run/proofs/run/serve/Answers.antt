@@ -10,7 +10,7 @@ returns-in-Ok-Ok g c = λ told faults.
     let p = c.in-Ok-Ok.pair in
     let is = subst IsPair c.pair.view_is c.pair.invariant in
     let text = rw c.in-Ok-Ok.field-0-is at c.in-Ok-Ok.ensures.pair in
-    elim (c.answer.ensures told faults) [ inl e ↦ inl e | inr w ↦ inr (inr (inr (inr (c.requires, (p, is, text ∙ c.deref.ensures.value, w))))) ]
+    elim (c.answer.ensures told faults) [ inl e ↦ inl e | inr w ↦ inr (inr (inr (c.requires, (p, is, text ∙ c.deref.ensures.value, w)))) ]
 
 pub returns-in-Ok-Err : goal.returns-in-Ok-Err
 returns-in-Ok-Err g c = λ told faults.
