@@ -18,6 +18,6 @@ IsExit words status =
     (file_faults : ℕ) × (sink_faults : ℕ) × (backs : ℕ) × (door_faults : ℕ)
     × Ran (untold 0 0) (untold file_faults sink_faults) (untold_door 0 0) (untold_door backs door_faults) words status
 
--- the program's: of a call for some words, those that it was given; or memory ran out for these
+-- the program's: of a call for some words; or memory ran out for those that it was given
 abbrev pub IsProgramExit : ℕ → Type 0
 IsProgramExit status = ((words : List (List ℕ)) × IsExit words status) ⊎ (status ≡ 32)

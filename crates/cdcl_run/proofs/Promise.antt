@@ -29,7 +29,7 @@ three_items : (a b c x y z : List ℕ) → a ∷ b ∷ c ∷ [] ≡ x ∷ y ∷ 
 three_items a b c x y z e = (cc, cc)
 
 -- words ask for one thing
-asked_plainly : (words : List (List ℕ)) (c d : Option ℕ) (f g : List ℕ) → AsksPlainly words c f → AsksPlainly words d g → (c ≡ d) × (f ≡ g)
+pub asked_plainly : (words : List (List ℕ)) (c d : Option ℕ) (f g : List ℕ) → AsksPlainly words c f → AsksPlainly words d g → (c ≡ d) × (f ≡ g)
 asked_plainly words None None f g a b = (refl, one_item f g (sym a ∙ b))
 asked_plainly words None (Some n) f g a b = absurd (let k = ap length (sym a ∙ b.0) in omega (arith, k))
 asked_plainly words (Some m) None f g a b = absurd (let k = ap length (sym a.0 ∙ b) in omega (arith, k))
@@ -62,7 +62,8 @@ asked_once words true true c d f g a b =
 some_same : (b c : List ℕ) → Some b ≡ Some c → b ≡ c
 some_same b c e = cc
 
-told_content : (told : Option Store) (store : Store) (file bytes job : List ℕ) → told ≡ Some store → IsContent told file bytes → store file ≡ Some job → bytes ≡ job
+-- what was got of a file is what the store tells
+pub told_content : (told : Option Store) (store : Store) (file bytes job : List ℕ) → told ≡ Some store → IsContent told file bytes → store file ≡ Some job → bytes ≡ job
 told_content told store file bytes job t c j = some_same bytes job (sym (subst (λ z. IsContent z file bytes) t c) ∙ j)
 
 module _ (decided : (bytes : List ℕ) (f : FormulaOf) (kind : DimacsFaultKind) (byte : ℕ) → IsDimacs bytes f → IsFault bytes kind byte → ⊥) where

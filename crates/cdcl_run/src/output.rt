@@ -11,7 +11,7 @@ use cnf_form::Lit;
 use itoa::Buffer;
 use sby_edge::{Failed, Sink};
 
-/// Offers a text until it is taken whole.
+/// Offers a text until it is taken whole. It fails where a call of the sink does, and a part of the text may have been taken.
 pub fn offer<S: Sink>(sink: &mut S, text: &[u8]) -> Result<(), Failed>
     ensures whole { OnOk result (S.taken sink.new ≡ grown (S.taken sink.old) text.now) }
     ensures part { OnErr result (GrownBySome (S.taken sink.old) (S.taken sink.new) text.now) }

@@ -220,7 +220,7 @@ pub(crate) fn exit_of(stream: Result<u8, Fail>) -> u8
     }
 }
 
-/// The most conflicts.
+/// The most conflicts: the number, or 2^64 - 1 without one.
 pub fn budget_of(conflicts: Option<u32>) -> u64
     ensures { result ≡ budget_of conflicts }
 {
@@ -289,9 +289,11 @@ fn run_file<F: Files, S: Sink>(alloc: Global, words: &[String], files: &mut F, s
 /// 2^64 - 1 conflicts. After `--hints` the stream is one with hints. Output is written in pieces of 64 KiB, while the solver
 /// searches, and what is left at the end.
 ///
-/// With the words `--serve HOST:PORT --count n` it serves n connections that come to this address, one after the other, and
-/// writes nothing to the output: each job is answered by the stream that a file of its bytes gives. The exit status is then 0,
-/// 32 where memory ran out for one of them, and at once 1 where the door failed, or 32 where memory for the door ran out.
+/// With the words `--serve HOST:PORT --count n`, PORT from 1 to 65,535 and n from 1 to 1,000,000, it serves n connections that
+/// come to this address, one after the other, and writes nothing to the output: each request, of 1 to 1,000,000,000 conflicts,
+/// is answered by a stream as for a file of its job's bytes, without hints, in pieces; bytes that are no request by the line
+/// `c fault: frame`. The exit status is then 0, 32 where memory ran out for one of them, and at once 1 where the door failed, or
+/// 32 where memory for the door ran out.
 pub fn run_engine<F: Files, S: Sink, D: Door>(
     alloc: Global,
     words: &[String],

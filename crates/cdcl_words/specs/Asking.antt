@@ -1,4 +1,4 @@
--- What the words of the solver's program ask for.
+-- What the words of the engines' programs ask for.
 use Rattle.std.specs.Prelude.{◌≡◌, ℕ, ◌≤◌, Bool, true, false, List, [], ◌∷◌, ◌++◌, length, Option, Some, None, codes, decimal}
 
 -- a file alone, or --conflicts, a number from 1 to 1,000,000,000 and a file

@@ -1,4 +1,4 @@
-//! The words of the solver's program.
+//! The words of the engines' programs.
 #![tactic(auto)]
 
 mod serving;
