@@ -456,7 +456,7 @@ def examples(bench):
 
 def main():
     words = argparse.ArgumentParser(description=__doc__.splitlines()[0])
-    words.add_argument("--sby", help="path of sby (default: bin/sby of this repository, or that in the path)")
+    words.add_argument("--sby", default=os.environ.get("SBY"), help="path of sby (default: $SBY, bin/sby of this repository, or that in the path)")
     words.add_argument("names", nargs="*", help="tests to run (none: all)")
     words = words.parse_args()
     failed = 0
