@@ -102,8 +102,10 @@ impl<'a> Queries<'a> {
     // What each query rests on: the assumptions of both cycles.
     fn keep_base(&mut self) -> Result<(), Stop> {
         let formula = self.pair.formula();
-        self.cones.add(formula, &self.gates, self.gates.units())?;
-        self.cones.add(formula, &self.gates, &[self.pair.next()])?;
+        for unit in self.gates.units() {
+            self.cones.add(formula, &self.gates, *unit)?;
+        }
+        self.cones.add(formula, &self.gates, self.pair.next())?;
         self.cones.keep();
         Ok(())
     }
@@ -127,11 +129,13 @@ impl<'a> Queries<'a> {
         clause.push(switch.negate())?;
         push_all(self.pair, cube, false, true, &mut clause)?;
         self.solver.add(&clause)?;
+        let mut vars = Vec::new(self.alloc);
         for l in cube {
             if let Some(bit) = over(self.pair, *l, false) {
-                self.cones.keep_var(bit.var())?;
+                vars.push(bit.var())?;
             }
         }
+        self.cones.join(&vars);
         Ok(())
     }
 
@@ -145,6 +149,7 @@ impl<'a> Queries<'a> {
         let mut solver = load(self.alloc, self.pair.formula(), false)?;
         solver.take_signs(&self.solver, self.pair.formula().vars());
         self.solver = solver;
+        self.cones.part();
         for level in 1..self.switches.len() {
             let switch = self.solver.add_var()?;
             set(&mut self.switches, level, switch);
@@ -162,14 +167,19 @@ impl<'a> Queries<'a> {
         self.spent = self.spent.saturating_add(clauses);
     }
 
-    // The solver's answer under the assumptions, of which those after this many rest on gates.
-    fn ask(&mut self, from: usize) -> Result<bool, Stop> {
+    // The solver's answer under the assumptions, of which those after this many rest on gates, and a clause over the state bits of a cube.
+    fn ask(&mut self, from: usize, cube: &[Lit]) -> Result<bool, Stop> {
         self.meter.count_query()?;
-        self.cones.begin();
+        self.cones.begin()?;
         let formula = self.pair.formula();
+        for l in cube {
+            if let Some(bit) = over(self.pair, *l, false) {
+                self.cones.add(formula, &self.gates, bit)?;
+            }
+        }
         for place in from..self.assumptions.len() {
             let root = self.assumptions[place];
-            self.cones.add(formula, &self.gates, &[root])?;
+            self.cones.add(formula, &self.gates, root)?;
         }
         self.solver.restrict(self.cones.vars(), formula.vars())?;
         let (answer, conflicts) = self.solver.solve(&self.assumptions, self.meter.left())?;
@@ -207,7 +217,7 @@ impl<'a> Queries<'a> {
             self.assumptions.len()
         };
         self.assumptions.push(self.pair.bad())?;
-        self.ask(from)
+        self.ask(from, &[])
     }
 
     // Whether a step leads from a state of a level into a cube. `outside` has the state not in the cube itself.
@@ -219,11 +229,6 @@ impl<'a> Queries<'a> {
             clause.push(switch.negate())?;
             push_all(self.pair, cube, false, true, &mut clause)?;
             self.solver.add(&clause)?;
-            for l in cube {
-                if let Some(bit) = over(self.pair, *l, false) {
-                    self.cones.keep_var(bit.var())?;
-                }
-            }
             self.assumptions.push(switch)?;
             self.used = Some(switch);
         }
@@ -234,14 +239,14 @@ impl<'a> Queries<'a> {
             self.assumptions.len()
         };
         push_all(self.pair, cube, true, false, &mut self.assumptions)?;
-        self.ask(from)
+        self.ask(from, if outside { cube } else { &[] })
     }
 
     // Whether some start is in a cube, if propagation doesn't tell.
     fn meets_start(&mut self, cube: &[Lit]) -> Result<bool, Stop> {
         self.assume_level(0)?;
         push_all(self.pair, cube, false, false, &mut self.assumptions)?;
-        self.ask(0)
+        self.ask(0, &[])
     }
 
     // Whether a literal over state bits is false in each start.
