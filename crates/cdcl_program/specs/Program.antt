@@ -9,7 +9,7 @@ untold file_faults sink_faults = record { told = None; file_faults = file_faults
 
 -- a real door, which tells nothing but how many connections came back and its count of faults
 abbrev pub untold_door : ℕ → ℕ → DoorOf
-untold_door backs faults = record { coming = None; came_back = None; backs = backs; faults = faults }
+untold_door backs faults = record { listens_at = None; coming = None; came_back = None; backs = backs; faults = faults }
 
 -- this is the exit status of a call for these words, before which no call of the files, the output or the door failed and no connection
 -- came back

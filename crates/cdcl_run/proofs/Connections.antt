@@ -13,7 +13,7 @@ use Rattle.net_serve.specs.declared.serving.Served.{Served}
 use Rattle.net_serve.specs.declared.serving.Served.TheVariants.{Answered, BadFrame, Failed, Memory}
 use Rattle.cdcl_words.specs.Asking.{Asks, AsksToServe}
 use Rattle.cdcl_run.specs.Run.{Did, World}
-use Rattle.cdcl_run.specs.Serving.{Connection, DoorOf, IsExitOf, IsServing, Passed, Passes, Ran, StandsAs}
+use Rattle.cdcl_run.specs.Serving.{Breaks, Connection, DoorOf, IsExitOf, IsServing, Passed, Passes, Ran, StandsAs, opened}
 use Rattle.cdcl_run.specs.Stream.{IsStream, exit_of}
 
 -- what a connection has, by what came of it
@@ -47,11 +47,25 @@ exit_push cs c exit now m n e = elim (is_memory c.served) [
 pub no_exit : IsExitOf [] 0
 no_exit = inl (refl, All-nil (λ x. x.served ≢ Memory))
 
--- the door went wrong
-pub shut : (before middle after : DoorOf) (cs : List Connection) (count : ℕ) (e : Fail) → Passed before middle cs → length cs < count → after.came_back ≡ middle.came_back → after.backs ≡ middle.backs
-    → (e ≡ FailFailed → Rose middle.faults after.faults) → (e ≡ FailMemory → after.faults ≡ middle.faults) → IsServing before after count (exit_of (Err e))
-shut before middle after cs count FailFailed p f t b failed memory = inr (record { connections = cs; middle = middle; passed = p; fewer = f; came_back = t; backs = b; exit_is = inl (refl, failed refl) })
-shut before middle after cs count FailMemory p f t b failed memory = inr (record { connections = cs; middle = middle; passed = p; fewer = f; came_back = t; backs = b; exit_is = inr (refl, memory refl) })
+-- how the door broke
+breaks : (before after : DoorOf) (e : Fail) → (e ≡ FailFailed → Rose before.faults after.faults) → (e ≡ FailMemory → after.faults ≡ before.faults) → Breaks before after (exit_of (Err e))
+breaks before after FailFailed failed memory = inl (refl, failed refl)
+breaks before after FailMemory failed memory = inr (refl, memory refl)
+
+pub shut : (before middle after : DoorOf) (address : List ℕ) (cs : List Connection) (count : ℕ) (e : Fail) → Passed (opened address before) middle cs → length cs < count → after.came_back ≡ middle.came_back → after.backs ≡ middle.backs
+    → after.listens_at ≡ middle.listens_at → (e ≡ FailFailed → Rose middle.faults after.faults) → (e ≡ FailMemory → after.faults ≡ middle.faults) → IsServing before after address count (exit_of (Err e))
+shut before middle after address cs count e p f t b l failed memory =
+    inr (inl (record { connections = cs; middle = middle; passed = p; fewer = f; came_back = t; backs = b; listens = l; breaks = breaks middle after e failed memory }))
+
+pub unopened : (before after : DoorOf) (address : List ℕ) (count : ℕ) (e : Fail) → after.listens_at ≡ before.listens_at → after.coming ≡ before.coming → after.came_back ≡ before.came_back → after.backs ≡ before.backs
+    → (e ≡ FailFailed → Rose before.faults after.faults) → (e ≡ FailMemory → after.faults ≡ before.faults) → IsServing before after address count (exit_of (Err e))
+unopened before after address count e l c t b failed memory =
+    inr (inr (record { listens = l; coming = c; came_back = t; backs = b; breaks = breaks before after e failed memory }))
+
+-- where it listens
+pub listens_still : (before after : DoorOf) (cs : List Connection) → Passed before after cs → after.listens_at ≡ before.listens_at
+listens_still before after [] p = ap (λ d. d.listens_at) p
+listens_still before after (c ∷ cs) p = listens_still p.0 after cs p.2 ∙ p.1.listens
 
 -- what is told of those that came back
 mapped_nil : {X : Type 0} (o : Option (List X)) → option_map (λ all. all ++ []) o ≡ o
@@ -91,16 +105,27 @@ answered_all before after (c ∷ cs) p n =
 fourth : (a b c d u v w x : List ℕ) (xs : List (List ℕ)) → xs ≡ a ∷ b ∷ c ∷ d ∷ [] → xs ≡ u ∷ v ∷ w ∷ x ∷ [] → d ≡ x
 fourth a b c d u v w x xs e f = cc
 
+second : (a b c d u v w x : List ℕ) (xs : List (List ℕ)) → xs ≡ a ∷ b ∷ c ∷ d ∷ [] → xs ≡ u ∷ v ∷ w ∷ x ∷ [] → b ≡ v
+second a b c d u v w x xs e f = cc
+
+same_address : (words : List (List ℕ)) (a b : List ℕ) (m n : ℕ) → AsksToServe words a m → AsksToServe words b n → a ≡ b
+same_address words a b m n p q = second (codes "--serve") a (codes "--count") (decimal m) (codes "--serve") b (codes "--count") (decimal n) words p.0 q.0
+
 same_count : (words : List (List ℕ)) (a b : List ℕ) (m n : ℕ) → AsksToServe words a m → AsksToServe words b n → m ≡ n
 same_count words a b m n p q =
     decimal_injective m n (omega (arith, p.3)) (omega (arith, q.3)) (fourth (codes "--serve") a (codes "--count") (decimal m) (codes "--serve") b (codes "--count") (decimal n) words p.0 q.0)
 
+not_broken : (before after : DoorOf) → Breaks before after 0 → ⊥
+not_broken before after (inl e) = omega (arith, e.0)
+not_broken before after (inr e) = omega (arith, e.0)
+
 pub all_answered : (before after : World) (door door_after : DoorOf) (words : List (List ℕ)) (address : List ℕ) (count : ℕ) → Ran before after door door_after words 0 → AsksToServe words address count
-    → (connections : List Connection) × Passed door door_after connections × (length connections ≡ count) × All (λ c. c.back.faults ≡ 0 → (c.served ≡ Answered) ⊎ (c.served ≡ BadFrame)) connections
+    → (connections : List Connection) × Passed (opened address door) door_after connections × (length connections ≡ count) × All (λ c. c.back.faults ≡ 0 → (c.served ≡ Answered) ⊎ (c.served ≡ BadFrame)) connections
 all_answered before after door door_after words address count (inr r) a = absurd (r.0 address count a)
 all_answered before after door door_after words address count (inl r) a = elim r.4 [
-  | inl s ↦ (s.connections, s.passed, s.all ∙ same_count words r.0 address r.1 count r.2 a, elim s.exit_is [ inl n ↦ answered_all door door_after s.connections s.passed n.1 | inr m ↦ absurd (omega (arith, m.0)) ])
-  | inr s ↦ absurd (elim s.exit_is [ inl e ↦ omega (arith, e.0) | inr e ↦ omega (arith, e.0) ])
+  | inl s ↦ (s.connections, subst (λ a. Passed (opened a door) door_after s.connections) (same_address words r.0 address r.1 count r.2 a) s.passed, s.all ∙ same_count words r.0 address r.1 count r.2 a, elim s.exit_is [ inl n ↦ answered_all (opened r.0 door) door_after s.connections s.passed n.1 | inr m ↦ absurd (omega (arith, m.0)) ])
+  | inr (inl s) ↦ absurd (not_broken s.middle door_after s.breaks)
+  | inr (inr s) ↦ absurd (not_broken door door_after s.breaks)
 ]
 
 -- words that ask to serve ask for no file

@@ -14,7 +14,7 @@ ghost use Rattle.cert_judge.specs.Kinds.{IsFate};
 ghost use Rattle.cert_judge.specs.declared.stream.StreamKind.TheVariants.{Drup, Lrat};
 ghost use Rattle.cdcl_run.specs.Output.{grown};
 ghost use Rattle.cdcl_run.specs.Run.{Did, IsCutShort, IsLeftOff, IsUngot, World};
-ghost use Rattle.cdcl_run.specs.Serving.{Connection, DoorOf, Passed, Ran};
+ghost use Rattle.cdcl_run.specs.Serving.{Connection, DoorOf, Passed, Ran, opened};
 
 use cnf_form::dimacs_faults_are_decided;
 
@@ -50,14 +50,15 @@ pub fn files_are_not_served()
         → Ran before after door door_after words exit → Asks words hinted conflicts file → (door_after ≡ door) × Did before after words exit }
 {}
 
-/// Where the words ask to serve n connections and the exit status is 0, n more came back, and each on which no call failed was answered:
-/// by a stream for what its bytes ask for, or, where they ask for nothing, by the line that says so. Connections that came back are those
-/// that the door tells of, in their order, and the door counts them.
+/// Where the words ask to serve n connections and the exit status is 0, the door listens at their address, where it tells where, n more
+/// came back, and each on which no call failed was answered: by a stream for what its bytes ask for, or, where they ask for nothing, by
+/// the line that says so. Connections that came back are those that the door tells of, in their order, and the door counts them.
 pub fn connections_are_answered()
     ensures answered { (before after : World) (door door_after : DoorOf) (words : List (List ℕ)) (address : List ℕ) (count : ℕ)
         → Ran before after door door_after words 0 → AsksToServe words address count
-        → (connections : List Connection) × Passed door door_after connections × (length connections ≡ count)
+        → (connections : List Connection) × Passed (opened address door) door_after connections × (length connections ≡ count)
         × All (λ c. c.back.faults ≡ 0 → (c.served ≡ served.Answered) ⊎ (c.served ≡ served.BadFrame)) connections }
+    ensures listens { (before after : DoorOf) (connections : List Connection) → Passed before after connections → after.listens_at ≡ before.listens_at }
     ensures told { (before after : DoorOf) (connections : List Connection) → Passed before after connections
         → after.came_back ≡ option_map (λ all. all ++ map (λ c. c.back) connections) before.came_back }
     ensures counted { (before after : DoorOf) (connections : List Connection) → Passed before after connections

@@ -304,8 +304,8 @@ pub fn run_engine<F: Files, S: Sink, D: Door>(
     ensures ran { Ran
         (record { told = F.told files.old; file_faults = F.faults files.old; taken = S.taken sink.old; sink_faults = S.faults sink.old })
         (record { told = F.told files.new; file_faults = F.faults files.new; taken = S.taken sink.new; sink_faults = S.faults sink.new })
-        (record { coming = D.coming door.old; came_back = D.came_back door.old; backs = D.backs door.old; faults = D.faults door.old })
-        (record { coming = D.coming door.new; came_back = D.came_back door.new; backs = D.backs door.new; faults = D.faults door.new })
+        (record { listens_at = D.listens_at door.old; coming = D.coming door.old; came_back = D.came_back door.old; backs = D.backs door.old; faults = D.faults door.old })
+        (record { listens_at = D.listens_at door.new; coming = D.coming door.new; came_back = D.came_back door.new; backs = D.backs door.new; faults = D.faults door.new })
         (map string_bytes words.now) result }
 {
     match read_serving(words) {

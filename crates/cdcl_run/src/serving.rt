@@ -40,8 +40,9 @@ impl Answers for Engine {
 #[tactic(auto, using(crate::proofs::Connections::stands_as))]
 fn serve_next<D: Door>(alloc: Global, door: &mut D) -> Result<Served, Fail>
     ensures passes { IfOk result (λ served. (c : Connection) × (c.served ≡ served) × Passes
-        (record { coming = D.coming door.old; came_back = D.came_back door.old; backs = D.backs door.old; faults = D.faults door.old })
-        (record { coming = D.coming door.new; came_back = D.came_back door.new; backs = D.backs door.new; faults = D.faults door.new }) c) }
+        (record { listens_at = D.listens_at door.old; coming = D.coming door.old; came_back = D.came_back door.old; backs = D.backs door.old; faults = D.faults door.old })
+        (record { listens_at = D.listens_at door.new; coming = D.coming door.new; came_back = D.came_back door.new; backs = D.backs door.new; faults = D.faults door.new }) c) }
+    ensures listens { OnErr result (D.listens_at door.new ≡ D.listens_at door.old) }
     ensures came_back { OnErr result (D.came_back door.new ≡ D.came_back door.old) }
     ensures backs { OnErr result (D.backs door.new ≡ D.backs door.old) }
     ensures failed { result ≡ Err fail.Failed → Rose (D.faults door.old) (D.faults door.new) }
@@ -67,7 +68,7 @@ fn status_after(status: u8, served: Served) -> u8
 }
 
 // Serves that many connections that come to an address. The exit status.
-#[tactic(auto, using(crate::proofs::Connections::passed_push, crate::proofs::Connections::exit_push, crate::proofs::Connections::no_exit, crate::proofs::Connections::shut))]
+#[tactic(auto, using(crate::proofs::Connections::passed_push, crate::proofs::Connections::exit_push, crate::proofs::Connections::no_exit, crate::proofs::Connections::shut, crate::proofs::Connections::unopened))]
 pub(crate) fn serve_all<D: Door>(
     alloc: Global,
     address: &str,
@@ -76,8 +77,8 @@ pub(crate) fn serve_all<D: Door>(
 ) -> Result<u8, Fail>
     requires { 0 < count }
     ensures { IsServing
-        (record { coming = D.coming door.old; came_back = D.came_back door.old; backs = D.backs door.old; faults = D.faults door.old })
-        (record { coming = D.coming door.new; came_back = D.came_back door.new; backs = D.backs door.new; faults = D.faults door.new }) count (exit_of result) }
+        (record { listens_at = D.listens_at door.old; coming = D.coming door.old; came_back = D.came_back door.old; backs = D.backs door.old; faults = D.faults door.old })
+        (record { listens_at = D.listens_at door.new; coming = D.coming door.new; came_back = D.came_back door.new; backs = D.backs door.new; faults = D.faults door.new }) address.now count (exit_of result) }
 {
     door.listen(alloc, address)?;
     let mut status = 0;

@@ -1,7 +1,9 @@
 // Connections of the system that are taken in.
 
-ghost use Rattle.std.specs.Prelude.{◌≡◌, ◌+◌, ◌/◌, ◌≤◌, None, IfOk, OnOk};
-ghost use Rattle.sby_edge.specs.Cause.{HasPlainCause};
+ghost use Rattle.std.specs.Prelude.{◌≡◌, ◌⊎◌, ◌+◌, ◌/◌, ◌<◌, ◌≤◌, None, IfOk, OnOk, length, min};
+ghost use Rattle.sby_edge.specs.Cause.{HasPlainCause, Rose, greatest};
+ghost use Rattle.sby_edge.specs.Sink.{Takes};
+ghost use Rattle.net_link.specs.Link.{Receives};
 
 use crate::clock::millis;
 use crate::tcp_link::TcpLink;
@@ -53,6 +55,8 @@ impl<'a, R: SystemClock> TcpGuest<'a, R> {
         ensures same { IfOk result (λ n. n ≡ count) }
         ensures still { OnOk result (self.new.link.faults ≡ self.old.link.faults) }
         ensures patient { OnOk result (self.new.waited ≤ 60000 + self.new.passed / 1024) }
+        ensures waited { self.old.waited ≤ self.new.waited }
+        ensures moved { self.new.passed ≡ min (self.old.passed + count) greatest }
         ensures cause { HasPlainCause self.old.link.faults self.new.link.faults result }
     {
         let took = millis(self.rt).saturating_sub(start);
@@ -73,13 +77,31 @@ impl<'a, R: SystemClock> Link for TcpGuest<'a, R> {
 
     ghost faults = { λ g. g.link.faults };
 
-    fn read(&mut self, buf: &mut [u8]) -> Result<usize, Failed> {
+    fn read(&mut self, buf: &mut [u8]) -> Result<usize, Failed>
+        requires { 0 < length buf.old }
+        ensures bytes { Receives None None buf.new result }
+        ensures patient { OnOk result (self.new.waited ≤ 60000 + self.new.passed / 1024) }
+        ensures waited { self.old.waited ≤ self.new.waited }
+        ensures moved { IfOk result (λ count. self.new.passed ≡ min (self.old.passed + count) greatest) }
+        ensures fits { IfOk result (λ count. count ≤ length buf.old) }
+        ensures stands { IfOk result (λ _. self.new.link.faults ≡ self.old.link.faults) }
+        ensures cause { HasPlainCause self.old.link.faults self.new.link.faults result }
+    {
         let start = millis(self.rt);
         let count = self.link.read(buf)?;
         self.pass(start, count)
     }
 
-    fn write(&mut self, piece: &[u8]) -> Result<usize, Failed> {
+    fn write(&mut self, piece: &[u8]) -> Result<usize, Failed>
+        ensures taken { Takes None None piece.now result }
+        ensures patient { OnOk result (self.new.waited ≤ 60000 + self.new.passed / 1024) }
+        ensures waited { self.old.waited ≤ self.new.waited }
+        ensures moved { IfOk result (λ count. self.new.passed ≡ min (self.old.passed + count) greatest) }
+        ensures fits { IfOk result (λ count. count ≤ length piece.now) }
+        ensures some { IfOk result (λ count. count ≡ 0 → 0 < length piece.now → Rose self.old.link.faults self.new.link.faults) }
+        ensures stands { IfOk result (λ count. (0 < count) ⊎ (length piece.now ≡ 0) → self.new.link.faults ≡ self.old.link.faults) }
+        ensures cause { HasPlainCause self.old.link.faults self.new.link.faults result }
+    {
         let start = millis(self.rt);
         let count = self.link.write(piece)?;
         self.pass(start, count)
@@ -133,6 +155,8 @@ impl<'a, R> TcpDoor<'a, R> {
 
 impl<'a, R: Net<Stream = TcpStream, Listener = TcpListener> + SystemClock> Door for TcpDoor<'a, R> {
     type Link = TcpGuest<'a, R>;
+
+    ghost listens_at = { λ _. None };
 
     ghost coming = { λ _. None };
 

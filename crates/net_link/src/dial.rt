@@ -2,7 +2,7 @@
 
 ghost use Rattle.std.specs.Prelude.{◌≡◌, ◌↔◌, ℕ, ◌<◌, ◌^◌, ◌++◌, List, [], ◌∷◌, Option, IfOk, IfSome, IsSome, IsTrue, OnErr, OnOk, length, option_map};
 ghost use Rattle.sby_edge.specs.Cause.{HasCause, HasPlainCause, counted};
-ghost use Rattle.net_link.specs.Doors.{Comes, Returned, returned};
+ghost use Rattle.net_link.specs.Doors.{Comes, Returned, now_at, returned};
 
 use crate::link::Link;
 use sby_edge::{Fail, Failed, Memory};
@@ -48,6 +48,9 @@ pub trait Dial {
 pub trait Door {
     type Link: Link + Drop;
 
+    /// The address at which it listens, or None before it does, where that is told.
+    ghost listens_at: { Self → Option (Option (List ℕ)) };
+
     /// The requests still to come, each the bytes of its connection, where they are told.
     ghost coming: { Self → Option (List (List ℕ)) };
 
@@ -60,8 +63,10 @@ pub trait Door {
     /// How often a call failed; it stays at the greatest u64.
     ghost faults: { Self → ℕ };
 
-    /// Opens the door at this address, a host and a port as `HOST:PORT`.
+    /// Opens the door at this address, a host and a port as `HOST:PORT`. Where that fails, it listens where it did.
     fn listen(&mut self, alloc: Global, address: &str) -> Result<(), Fail>
+        ensures listens { OnOk result (listens_at self.new ≡ now_at address.now (listens_at self.old)) }
+        ensures refused { OnErr result (listens_at self.new ≡ listens_at self.old) }
         ensures coming { coming self.new ≡ coming self.old }
         ensures came_back { came_back self.new ≡ came_back self.old }
         ensures backs { backs self.new ≡ backs self.old }
@@ -73,6 +78,7 @@ pub trait Door {
         ensures written { IfOk result (λ link. IfSome (Self.Link.written link) (λ bytes. bytes ≡ [])) }
         ensures fresh { IfOk result (λ link. Self.Link.faults link ≡ 0) }
         ensures refused { OnErr result (coming self.new ≡ coming self.old) }
+        ensures listens { listens_at self.new ≡ listens_at self.old }
         ensures came_back { came_back self.new ≡ came_back self.old }
         ensures backs { backs self.new ≡ backs self.old }
         ensures cause { HasCause (faults self.old) (faults self.new) result };
@@ -82,6 +88,7 @@ pub trait Door {
         ensures came_back { OnOk result (came_back self.new ≡ option_map (λ all. all ++ returned (Self.Link.written link) (Self.Link.faults link) ∷ []) (came_back self.old)) }
         ensures backs { OnOk result (backs self.new ≡ counted (backs self.old)) }
         ensures refused { OnErr result ((came_back self.new ≡ came_back self.old) × (backs self.new ≡ backs self.old)) }
+        ensures listens { listens_at self.new ≡ listens_at self.old }
         ensures coming { coming self.new ≡ coming self.old }
         ensures faults { faults self.new ≡ faults self.old };
 }

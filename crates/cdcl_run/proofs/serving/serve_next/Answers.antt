@@ -23,5 +23,6 @@ returns-in-Ok-clause-passes g c =
         came_back = c.in-Ok.ensures.came_back ∙ ap (option_map (λ all. all ++ connection.back ∷ [])) e.came_back;
         backs = c.in-Ok.ensures.backs ∙ ap counted e.backs;
         faults = c.back.ensures.faults ∙ e.cause.ok refl;
+        listens = c.back.ensures.listens ∙ e.listens;
       },
     )
