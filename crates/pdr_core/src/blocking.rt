@@ -1,12 +1,12 @@
 // The search by frames (IC3: Bradley, 2011; property-directed reachability: Eén, Mishchenko and Brayton, 2011).
 
 use crate::frames::Frames;
-use crate::list::{at, set};
 use crate::meter::Stop;
 use crate::obligations::{NONE, Obligations};
 use crate::queries::Queries;
 use cnf_form::Lit;
 use pair_form::Pair;
+use pdr_solver::{at, set};
 use std::alloc::Global;
 
 // Dropping literals of a cube ends after this many that had to stay, one after the other.

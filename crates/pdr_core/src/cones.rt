@@ -2,8 +2,8 @@
 // of a cone that satisfy its clauses can be extended: all other clauses of frames hold in a start.
 
 use crate::gates::Gates;
-use crate::list::{at, narrow, set};
 use cnf_form::{Formula, Lit};
+use pdr_solver::{at, narrow, set};
 use std::alloc::{AllocError, Global};
 
 // The variables of a cone, of which the first belong to each one; how many of them were followed; and which those are, by their numbers.

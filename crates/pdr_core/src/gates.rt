@@ -1,8 +1,8 @@
 // The clauses that define each variable of a formula that was made from gates: those of several literals in which it is the greatest.
 
-use crate::list::{at, narrow, set};
 use cnf_form::{Formula, Lit};
 use pair_form::Pair;
+use pdr_solver::{at, narrow, set};
 use std::alloc::{AllocError, Global};
 
 // The numbers of the clauses that define each variable, and where each variable's end; the state bit of each variable, or 0; and the

@@ -6,7 +6,6 @@ mod cones;
 mod frames;
 mod gates;
 mod lifting;
-mod list;
 mod meter;
 mod obligations;
 mod queries;

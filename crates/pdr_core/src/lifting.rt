@@ -3,9 +3,8 @@
 // place of ternary values).
 
 use crate::gates::Gates;
-use crate::list::{at, narrow, set};
 use cnf_form::{Formula, Lit, MAX_VARS};
-use pdr_solver::Solver;
+use pdr_solver::{Solver, at, narrow, set};
 use std::alloc::{AllocError, Global};
 
 // The cost of what can't be had.

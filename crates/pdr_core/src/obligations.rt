@@ -1,7 +1,7 @@
 // Cubes that are to be excluded, since they lead to a break, the lowest levels first.
 
-use crate::list::narrow;
 use cnf_form::Lit;
+use pdr_solver::narrow;
 use std::alloc::{AllocError, Global};
 
 // The place of no obligation.

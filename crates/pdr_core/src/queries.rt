@@ -4,11 +4,10 @@ use crate::cones::Cones;
 use crate::frames::Frames;
 use crate::gates::Gates;
 use crate::lifting::Lifting;
-use crate::list::{at, narrow, set};
 use crate::meter::{Meter, Stop};
 use cnf_form::{Formula, Lit};
 use pair_form::{BitLits, Pair};
-use pdr_solver::{Answer, Solver};
+use pdr_solver::{Answer, Solver, at, narrow, set};
 use std::alloc::{AllocError, Global};
 
 // After this many clauses of no more use the solver is made again.

@@ -1,11 +1,10 @@
 // A smaller invariant: clauses that neither safety nor the other clauses that stay rest on are left out.
 
-use crate::list::{at, set};
 use crate::meter::{Meter, Stop};
 use crate::queries::{load, push_all};
 use cnf_form::Lit;
 use pair_form::Pair;
-use pdr_solver::{Answer, Solver};
+use pdr_solver::{Answer, Solver, at, set};
 use std::alloc::Global;
 
 // The cubes whose negations are an invariant, each with a switch under which its clause counts in the first cycle.

@@ -1,6 +1,6 @@
 // What a search may spend.
 
-ghost use Rattle.std.specs.Prelude.{◌≡◌, ◌+◌, ◌-◌, ◌≤◌, true, false};
+ghost use Rattle.std.specs.Prelude.{◌≡◌, ◌+◌, ◌-◌, ◌≤◌, min, true, false};
 ghost use Rattle.pdr_core.specs.Work.{GoesOn, spent};
 
 use std::marker::Model;
@@ -71,9 +71,11 @@ impl Work {
         true
     }
 
-    /// Counts conflicts and queries, as far as something is left.
+    /// Counts conflicts and then queries, as far as something is left.
     pub fn spend(&mut self, conflicts: u64, queries: u64)
-        ensures { GoesOn self.old self.new }
+        ensures goes_on { GoesOn self.old self.new }
+        ensures conflicts { self.new.conflicts ≡ self.old.conflicts + min conflicts (self.old.budget - spent self.old) }
+        ensures queries { self.new.queries ≡ self.old.queries + min queries (self.old.budget - (self.new.conflicts + self.old.queries)) }
     {
         self.conflicts += conflicts.min(self.left());
         self.queries += queries.min(self.left());

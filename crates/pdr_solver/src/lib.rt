@@ -1,4 +1,5 @@
-//! An incremental solver under assumptions, by conflict-driven clause learning. Nothing is promised of its answers.
+//! An incremental solver under assumptions, by conflict-driven clause learning. Nothing is promised of its answers but how
+//! many conflicts they took.
 #![tactic(auto)]
 
 mod analysis;
@@ -12,5 +13,6 @@ mod reduction;
 mod search;
 mod solver;
 
+pub use list::{at, narrow, set};
 pub use search::Answer;
 pub use solver::Solver;

@@ -24,7 +24,8 @@ pub enum Answer {
 
 // What a step comes to.
 enum Step {
-    Answered(Answer),
+    Satisfied,
+    Refuted,
     Decided,
     Learnt,
 }
@@ -53,8 +54,12 @@ fn luby(place: u64) -> u64 {
 }
 
 impl Solver {
-    /// Searches for values under the assumptions, until as many conflicts were met as are allowed. The answer, and how many were met.
-    pub fn solve(&mut self, assumptions: &[Lit], most: u64) -> Result<(Answer, u64), AllocError> {
+    /// Searches for values under the assumptions. The answer, and how many conflicts were met: no more than are allowed, and all of these
+    /// where they are spent. It fails at out of memory alone.
+    pub fn solve(&mut self, assumptions: &[Lit], most: u64) -> Result<(Answer, u64), AllocError>
+        ensures bounded { IfOk result (λ answer. answer.1 ≤ most) }
+        ensures spent { IfOk result (λ answer. answer.0 ≡ Spent → answer.1 ≡ most) }
+    {
         self.cancel(0)?;
         self.core.clear();
         if self.refuted {
@@ -71,18 +76,20 @@ impl Solver {
                 self.reduce_if_due()?;
             }
             match self.search(assumptions)? {
-                Some(answer) => return Ok((answer, conflicts)),
+                Some(true) => return Ok((Answer::Sat, conflicts)),
+                Some(false) => return Ok((Answer::Unsat, conflicts)),
                 None => conflicts += 1,
             }
         }
         Ok((Answer::Spent, conflicts))
     }
 
-    // Goes on until there is an answer, or a clause was learnt.
-    fn search(&mut self, assumptions: &[Lit]) -> Result<Option<Answer>, AllocError> {
+    // Goes on until it is known whether there are values, or a clause was learnt.
+    fn search(&mut self, assumptions: &[Lit]) -> Result<Option<bool>, AllocError> {
         for _ in 0..u64::MAX {
             match self.step(assumptions)? {
-                Step::Answered(answer) => return Ok(Some(answer)),
+                Step::Satisfied => return Ok(Some(true)),
+                Step::Refuted => return Ok(Some(false)),
                 Step::Learnt => return Ok(None),
                 Step::Decided => {}
             }
@@ -95,7 +102,7 @@ impl Solver {
         if let Some(conflict) = self.propagate()? {
             if self.depth() == 0 {
                 self.refute(conflict)?;
-                return Ok(Step::Answered(Answer::Unsat));
+                return Ok(Step::Refuted);
             }
             self.learn(conflict)?;
             return Ok(Step::Learnt);
@@ -109,7 +116,7 @@ impl Solver {
             let l = assumptions[place];
             if self.is_false(l) {
                 self.explain(l)?;
-                return Ok(Step::Answered(Answer::Unsat));
+                return Ok(Step::Refuted);
             }
             self.limits.push(self.trail.len())?;
             if !self.is_true(l) {
@@ -123,7 +130,7 @@ impl Solver {
                 self.assign(l, NO_CLAUSE)?;
                 Ok(Step::Decided)
             }
-            None => Ok(Step::Answered(Answer::Sat)),
+            None => Ok(Step::Satisfied),
         }
     }
 
