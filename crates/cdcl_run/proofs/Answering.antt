@@ -54,14 +54,14 @@ pub record Whole (hinted : Bool) (job : List ℕ) (budget : ℕ) (old mid : Outp
 last_text : (ls : List LogLine) (id : ℕ) (hints : List ℕ) → log_text (ls ++ Adds [] id hints ∷ []) ≡ proof_text (plain ls ++ Addition [] ∷ [])
 last_text ls id hints = plain_text (ls ++ Adds [] id hints ∷ []) ∙ ap proof_text (plain_push ls (Adds [] id hints))
 
-whole : (hinted : Bool) (job : List ℕ) (f : FormulaOf) (budget : ℕ) (old mid : OutputOf) (s : Solved) (text : List ℕ) (exit : ℕ) → IsDimacs job f → Searches hinted f budget old mid s → IsEnd s text exit → Whole hinted job budget old mid text exit
+whole : (hinted : Bool) (job : List ℕ) (f : FormulaOf) (budget : ℕ) (old mid : OutputOf) (s : Solved) (text : List ℕ) (exit : ℕ) → IsDimacs job f → Searches hinted f budget old mid s → IsEnd f.vars s text exit → Whole hinted job budget old mid text exit
 whole false job f budget old mid (Sat values) text exit d s e =
     let v = e.1 in
     let first = log_text s.0 in
     record {
       first = first;
       puts = s.6;
-      answer = inr (inl (e.0, sat_stream job f budget (plain s.0) s.1 s.2 values.items v.0 (first ++ text) d (plain_proof f s.0 s.1 s.2 s.3 s.4) s.5 s.7 s.8 v.1 (ap (λ z. z ++ text) (plain_text s.0) ∙ ap (λ z. proof_text (plain s.0) ++ z) v.2)));
+      answer = inr (inl (e.0, sat_stream job f budget (plain s.0) s.1 s.2 values.items v.0 (first ++ text) d (plain_proof f s.0 s.1 s.2 s.3 s.4) s.5 s.8 v.1 (ap (λ z. z ++ text) (plain_text s.0) ∙ ap (λ z. proof_text (plain s.0) ++ z) v.2)));
     }
 whole false job f budget old mid Unsat text exit d s e =
     let first = log_text (s.0 ++ Adds [] s.6 s.7 ∷ []) in
@@ -82,7 +82,7 @@ whole true job f budget old mid (Sat values) text exit d s e =
     record {
       first = hinted_text s.0;
       puts = s.6;
-      answer = inr (inl (e.0, hinted_sat job f budget s.0 s.1 s.2 s.3 values.items v.0 (hinted_text s.0 ++ text) d s.4 s.5 s.7 s.8 v.1 (ap (λ z. hinted_text s.0 ++ z) v.2)));
+      answer = inr (inl (e.0, hinted_sat job f budget s.0 s.1 s.2 s.3 values.items v.0 (hinted_text s.0 ++ text) d s.4 s.5 s.8 v.1 (ap (λ z. hinted_text s.0 ++ z) v.2)));
     }
 whole true job f budget old mid Unsat text exit d s e =
     let first = hinted_text (s.0 ++ Adds [] s.6 s.7 ∷ []) in
@@ -92,7 +92,7 @@ whole true job f budget old mid Budget text exit d s e =
 whole hinted job f budget old mid LogFailed text exit d s e = absurd e
 
 pub answer_written : (hinted : Bool) (job : List ℕ) (f : FormulaOf) (budget : ℕ) (old mid new : OutputOf) (s : Solved) (text : List ℕ) (exit : ℕ) → IsDimacs job f → old.gathered ≡ [] → new.gathered ≡ [] → Searches hinted f budget old mid s
-    → IsEnd s text exit → Puts mid new text → Wrote hinted job budget old new exit
+    → IsEnd f.vars s text exit → Puts mid new text → Wrote hinted job budget old new exit
 answer_written hinted job f budget old mid new s text exit d begun done h e p =
     let w = whole hinted job f budget old mid s text exit d h e in
     wrote hinted job budget old new exit (w.first ++ text) begun done (puts_both old mid new w.first text w.puts p) w.answer
@@ -194,7 +194,7 @@ hinted_cut job f budget old new ls present count held (Notes l id hints) d begun
     (inl (more_searched job f budget ls present count held (Notes l id hints) present count p.deletions d p proper by (subst (λ z. Logged f.clauses z present count p.deletions) (sym (plain_push ls (Notes l id hints) ∙ append-nil (plain ls))) p.logged) (omega (arith, h))))
 
 -- the end of an answer failed
-end_cut : (hinted : Bool) (job : List ℕ) (f : FormulaOf) (budget : ℕ) (old mid new : OutputOf) (s : Solved) (text : List ℕ) (exit : ℕ) → IsDimacs job f → old.gathered ≡ [] → Searches hinted f budget old mid s → IsEnd s text exit → Breaks mid new text → Cut hinted job budget old new
+end_cut : (hinted : Bool) (job : List ℕ) (f : FormulaOf) (budget : ℕ) (old mid new : OutputOf) (s : Solved) (text : List ℕ) (exit : ℕ) → IsDimacs job f → old.gathered ≡ [] → Searches hinted f budget old mid s → IsEnd f.vars s text exit → Breaks mid new text → Cut hinted job budget old new
 end_cut hinted job f budget old mid new s text exit d begun h e b =
     let w = whole hinted job f budget old mid s text exit d h e in
     cut hinted job budget old new (w.first ++ text) begun (puts_breaks old mid new w.first text w.puts b) (inr (exit, w.answer))
@@ -203,7 +203,7 @@ end_cut hinted job f budget old mid new s text exit d begun h e b =
 same_breaks : (old mid new : OutputOf) (text : List ℕ) → new.taken ≡ mid.taken → new.faults ≡ mid.faults → Breaks old mid text → Breaks old new text
 same_breaks old mid new text t f b = record { part = subst (λ z. GrownBySome old.taken z (old.gathered ++ text)) (sym t) b.part; rose = subst (Rose old.faults) (sym f) b.rose; later = subst (λ z. old.faults ≤ z) (sym f) b.later }
 
-pub answer_cut : (hinted : Bool) (job : List ℕ) (f : FormulaOf) (budget : ℕ) (old mid new : OutputOf) (s : Solved) → IsDimacs job f → old.gathered ≡ [] → Searches hinted f budget old mid s → EndBreaks mid new s → Cut hinted job budget old new
+pub answer_cut : (hinted : Bool) (job : List ℕ) (f : FormulaOf) (budget : ℕ) (old mid new : OutputOf) (s : Solved) → IsDimacs job f → old.gathered ≡ [] → Searches hinted f budget old mid s → EndBreaks f.vars mid new s → Cut hinted job budget old new
 answer_cut hinted job f budget old mid new s d begun h (inr e) = end_cut hinted job f budget old mid new s e.0 e.1 d begun h e.2 e.3
 answer_cut hinted job f budget old mid new (Sat values) d begun h (inl e) = absurd (let k = e.0 in cc)
 answer_cut hinted job f budget old mid new Unsat d begun h (inl e) = absurd (let k = e.0 in cc)
@@ -252,15 +252,15 @@ rises : (old mid new : OutputOf) (text : List ℕ) → mid.faults ≡ old.faults
 rises old mid new text still b = (subst (λ z. Rose z new.faults) still b.rose, subst (λ z. z ≤ new.faults) still b.later)
 
 -- where the end of an answer was cut short, the count of faults rose
-pub cut_faults : (hinted : Bool) (f : FormulaOf) (budget : ℕ) (old mid new : OutputOf) (s : Solved) → Searches hinted f budget old mid s → EndBreaks mid new s → Rose old.faults new.faults × (old.faults ≤ new.faults)
-cut_faults hinted f budget old mid new (Sat values) h (inr e) = let p = h.6 in rises old mid new e.0 p.still e.3
-cut_faults hinted f budget old mid new Unsat h (inr e) = let p = h.8 in rises old mid new e.0 p.still e.3
-cut_faults hinted f budget old mid new Budget h (inr e) = let p = h.4 in rises old mid new e.0 p.still e.3
-cut_faults hinted f budget old mid new LogFailed h (inr e) = absurd e.2
-cut_faults hinted f budget old mid new (Sat values) h (inl e) = absurd (let k = e.0 in cc)
-cut_faults hinted f budget old mid new Unsat h (inl e) = absurd (let k = e.0 in cc)
-cut_faults hinted f budget old mid new Budget h (inl e) = absurd (let k = e.0 in cc)
-cut_faults hinted f budget old mid new LogFailed h (inl e) = let b = h.10 in (subst (Rose old.faults) (sym e.2) b.rose, subst (λ z. old.faults ≤ z) (sym e.2) b.later)
+pub cut_faults : (hinted : Bool) (f : FormulaOf) (budget vars : ℕ) (old mid new : OutputOf) (s : Solved) → Searches hinted f budget old mid s → EndBreaks vars mid new s → Rose old.faults new.faults × (old.faults ≤ new.faults)
+cut_faults hinted f budget vars old mid new (Sat values) h (inr e) = let p = h.6 in rises old mid new e.0 p.still e.3
+cut_faults hinted f budget vars old mid new Unsat h (inr e) = let p = h.8 in rises old mid new e.0 p.still e.3
+cut_faults hinted f budget vars old mid new Budget h (inr e) = let p = h.4 in rises old mid new e.0 p.still e.3
+cut_faults hinted f budget vars old mid new LogFailed h (inr e) = absurd e.2
+cut_faults hinted f budget vars old mid new (Sat values) h (inl e) = absurd (let k = e.0 in cc)
+cut_faults hinted f budget vars old mid new Unsat h (inl e) = absurd (let k = e.0 in cc)
+cut_faults hinted f budget vars old mid new Budget h (inl e) = absurd (let k = e.0 in cc)
+cut_faults hinted f budget vars old mid new LogFailed h (inl e) = let b = h.10 in (subst (Rose old.faults) (sym e.2) b.rose, subst (λ z. old.faults ≤ z) (sym e.2) b.later)
 
 -- a whole answer is a whole stream
 pub stream_answered : (hinted : Bool) (job : List ℕ) (f : FormulaOf) (budget : ℕ) (r : Result ℕ Fail) (before now : Option (List ℕ)) → IsDimacs job f

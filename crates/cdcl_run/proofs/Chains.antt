@@ -1,5 +1,5 @@
 -- What a log took, line by line.
-use Rattle.std.proofs.Common.{◌≡◌, ℕ, Bool, true, false, refl, List, [], ◌∷◌, ◌++◌, ap, ◌∙◌, sym, subst, append-nil, append_assoc}
+use Rattle.std.proofs.Common.{◌≡◌, ℕ, Bool, true, false, refl, List, [], ◌∷◌, ◌++◌, ap, ◌∙◌, sym, subst, append-nil, append_assoc, arith}
 use Rattle.std.specs.Prelude.{Result, Ok, Err, IfOk, OnErr}
 use Rattle.std.specs.declared.alloc.AllocError.{AllocError}
 use Rattle.cnf_form.specs.Cnf.{FormulaOf}
@@ -78,7 +78,7 @@ module _ (hinted : Bool) {A N M : Type 0} (sink : A → N) (piece : A → M) (ou
       record {
         same_sink = h.same_sink;
         same_piece = h.same_piece;
-        searches = (s.lines, w.present, w.count, w.held, record { deletions = s.deletions; logged = s.logged; proper = s.proper; hints = s.hints }, w.in_time, h.puts, w.sized, w.satisfies);
+        searches = (s.lines, w.present, w.count, w.held, record { deletions = s.deletions; logged = s.logged; proper = s.proper; hints = s.hints }, w.in_time, h.puts, omega (arith, w.sized), w.satisfies);
         stops = tt;
       }
   searched f budget a b Unsat w =

@@ -13,7 +13,7 @@ use Rattle.net_serve.specs.declared.serving.Served.{Served}
 use Rattle.net_serve.specs.declared.serving.Served.TheVariants.{Answered, BadFrame, Failed, Memory}
 use Rattle.cdcl_words.specs.Asking.{Asks, AsksToServe}
 use Rattle.cdcl_run.specs.Run.{Did, World}
-use Rattle.cdcl_run.specs.Serving.{Breaks, Connection, DoorOf, IsExitOf, IsServing, Passed, Passes, Ran, StandsAs, opened}
+use Rattle.cdcl_run.specs.Serving.{Connection, DoorBreaks, DoorOf, IsExitOf, IsServing, Passed, Passes, Ran, StandsAs, opened}
 use Rattle.cdcl_run.specs.Stream.{IsStream, exit_of}
 
 -- what a connection has, by what came of it
@@ -48,7 +48,7 @@ pub no_exit : IsExitOf [] 0
 no_exit = inl (refl, All-nil (λ x. x.served ≢ Memory))
 
 -- how the door broke
-breaks : (before after : DoorOf) (e : Fail) → (e ≡ FailFailed → Rose before.faults after.faults) → (e ≡ FailMemory → after.faults ≡ before.faults) → Breaks before after (exit_of (Err e))
+breaks : (before after : DoorOf) (e : Fail) → (e ≡ FailFailed → Rose before.faults after.faults) → (e ≡ FailMemory → after.faults ≡ before.faults) → DoorBreaks before after (exit_of (Err e))
 breaks before after FailFailed failed memory = inl (refl, failed refl)
 breaks before after FailMemory failed memory = inr (refl, memory refl)
 
@@ -115,7 +115,7 @@ same_count : (words : List (List ℕ)) (a b : List ℕ) (m n : ℕ) → AsksToSe
 same_count words a b m n p q =
     decimal_injective m n (omega (arith, p.3)) (omega (arith, q.3)) (fourth (codes "--serve") a (codes "--count") (decimal m) (codes "--serve") b (codes "--count") (decimal n) words p.0 q.0)
 
-not_broken : (before after : DoorOf) → Breaks before after 0 → ⊥
+not_broken : (before after : DoorOf) → DoorBreaks before after 0 → ⊥
 not_broken before after (inl e) = omega (arith, e.0)
 not_broken before after (inr e) = omega (arith, e.0)
 

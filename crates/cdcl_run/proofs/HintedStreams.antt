@@ -1,6 +1,7 @@
 -- The hinted streams of answers.
-use Rattle.std.proofs.Common.{◌≡◌, ℕ, ◌+◌, ◌-◌, ◌<◌, ◌^◌, Bool, true, List, [], ◌∷◌, ◌++◌, length, drop, refl, ap, ◌∙◌, sym, subst, inl, append_assoc, append-nil, arith, length-drop}
+use Rattle.std.proofs.Common.{◌≡◌, ℕ, ◌<◌, ◌^◌, Bool, true, List, [], ◌∷◌, ◌++◌, length, refl, ap, ◌∙◌, sym, subst, inl, append_assoc, append-nil, arith}
 use Rattle.std.specs.Prelude.{codes, map}
+use Rattle.std.proofs.lemmas.List.FromFn.{length-map-range_with_len}
 use Rattle.cnf_form.specs.Cnf.{LitOf, FormulaOf, Satisfies, IsAdmitted}
 use Rattle.cnf_form.specs.Dimacs.{IsDimacs}
 use Rattle.cert_judge.specs.DrupCert.{Names, lines, named_by}
@@ -10,7 +11,7 @@ use Rattle.cdcl_core.specs.Solving.{valued}
 use Rattle.cdcl_run.specs.Answer.{literals_from}
 use Rattle.cdcl_run.specs.HintedAnswer.{IsHintedSearch, IsHintedSatStream, IsHintedUnsatStream}
 use Rattle.cdcl_run.specs.HintedText.{addition_text, hinted_text}
-use Rattle.cdcl_run.specs.Searching.{IsLogged}
+use Rattle.cdcl_run.specs.Searching.{IsLogged, values_to}
 use Rattle.cdcl_run.specs.Text.{AreValueLines, satisfiable_line, unsatisfiable_line}
 use Rattle.cdcl_run.proofs.HintedProofs.{as_held, addition_line, addition_words, admitted_words, bare_addition, bare_read, bounded_all, bounded_first, filled, hinted_leads, hinted_lines, hinted_text_append, hinted_words}
 use Rattle.cdcl_run.proofs.Naming.{bare_values, last_words, literals_in, named_value, names, row_words, satisfies_by, value_lines, values_fed}
@@ -66,17 +67,18 @@ hinted_unsat job f budget ls G n held id hints stream d p h a fits by is =
       is = is;
     }
 
-pub hinted_sat : (job : List ℕ) (f : FormulaOf) (budget : ℕ) (ls : List LogLine) (G : List (List LitOf)) (n : ℕ) (held : HeldOf) (values : List Bool) (text stream : List ℕ) → IsDimacs job f → IsLogged true f ls G n held → n < budget → length values ≡ f.vars + 1
-    → Satisfies (valued values) f.clauses → AreValueLines (literals_from 1 (drop 1 values)) text → stream ≡ hinted_text ls ++ (satisfiable_line ++ text) → IsHintedSatStream job budget stream
+pub hinted_sat : (job : List ℕ) (f : FormulaOf) (budget : ℕ) (ls : List LogLine) (G : List (List LitOf)) (n : ℕ) (held : HeldOf) (values : List Bool) (text stream : List ℕ) → IsDimacs job f → IsLogged true f ls G n held → n < budget → Satisfies (valued values) f.clauses → AreValueLines (literals_from 1 (values_to f.vars values)) text → stream ≡ hinted_text ls ++ (satisfiable_line ++ text) → IsHintedSatStream job budget stream
 unfolding hinted_of
-hinted_sat job f budget ls G count held values text stream d p h sized s v is =
+hinted_sat job f budget ls G count held values text stream d p h s v is =
     let small : f.vars < 2 ^ 64 = (let h = d.limit in omega (arith, h)) in
     let w = p.hints refl in
     let begun = held_first f.clauses in
     let b = bounded_first f.clauses in
-    let lits = literals_from 1 (drop 1 values) in
-    let n : length lits ≡ f.vars = (let a = length-literals_from 1 (drop 1 values) in let b : length (drop 1 values) ≡ length values - 1 = length-drop 1 values in omega (arith, a, b, sized)) in
-    let within = literals_in f.vars 1 (drop 1 values) (omega arith) (let b : length (drop 1 values) ≡ length values - 1 = length-drop 1 values in omega (arith, b, sized)) in
+    let all_values = values_to f.vars values in
+    let each : length all_values ≡ f.vars = length-map-range_with_len (valued values) 1 f.vars in
+    let lits = literals_from 1 all_values in
+    let n : length lits ≡ f.vars = length-literals_from 1 all_values ∙ each in
+    let within = literals_in f.vars 1 all_values (omega arith) (omega (arith, each)) in
     let all = v.all in
     let bare = bare_values v.rows v.last in
     let cert = hinted_text ls ++ (satisfiable_line ++ bare) in
@@ -97,8 +99,8 @@ hinted_sat job f budget ls G count held values text stream d p h sized s v is =
       count = count;
       searched = hinted_of job f ls G count held d p;
       in_time = h;
-      values = drop 1 values;
-      each = sym (length-literals_from 1 (drop 1 values)) ∙ n;
+      values = all_values;
+      each = each;
       text = text;
       value_lines = v;
       is = is;
@@ -113,7 +115,7 @@ hinted_sat job f budget ls G count held values text stream d p h sized s v is =
           read,
           hinted_leads f.vars small begun held ls (status ∷ []) (as_held held) w b p.proper (filled ls (logged_full p.logged)) (inl (idle, refl)),
           named,
-          satisfies_by f.vars f.clauses (named_by lits) (valued values) d.within (λ w low high. named_value values w low (omega (arith, high, sized))) s,
+          satisfies_by f.vars f.clauses (named_by lits) (valued values) d.within (named_value f.vars values) s,
         ),
       );
     }

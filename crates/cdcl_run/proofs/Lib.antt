@@ -11,6 +11,7 @@ pub mod Plain
 pub mod HintedClauses
 pub mod HintedProofs
 pub mod HintedStreams
+pub mod Fitted
 pub mod Answering
 pub mod Contents
 pub mod Promise

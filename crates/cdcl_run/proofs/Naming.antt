@@ -1,8 +1,9 @@
 -- The lines of values, read back.
-use Rattle.std.proofs.Common.{◌≡◌, ℕ, zero, suc, ◌+◌, ◌-◌, ◌<◌, ◌≤◌, ◌^◌, Bool, true, false, not, cond, eqb, List, [], ◌∷◌, ◌++◌, length, get_or, drop, refl, ap, ◌∙◌, sym, subst, inr, arith, append_assoc, length-append, length-drop, get_or-drop}
+use Rattle.std.proofs.Common.{◌≡◌, ℕ, zero, suc, ◌+◌, ◌-◌, ◌<◌, ◌≤◌, ◌^◌, Bool, true, false, not, cond, eqb, List, [], ◌∷◌, ◌++◌, length, get_or, refl, ap, ◌∙◌, sym, subst, inr, arith, append_assoc, length-append}
 use Rattle.std.specs.Prelude.{codes, map, flat_map, Contains}
 use Rattle.std.proofs.lemmas.Bool.{eq-eqb}
 use Rattle.std.proofs.lemmas.Bool.Decides.{nat_tests}
+use Rattle.std.proofs.lemmas.List.FromFn.{get_or-map-range_with_len, length-map-range_with_len}
 use Rattle.cnf_form.specs.Cnf.{LitOf, LitWithin, ClauseWithin, Within, Assignment, Satisfies}
 use Rattle.cnf_form.specs.Dimacs.{literal_text}
 use Rattle.cert_stream.specs.Text.{NoFeed, lines_of, put_first}
@@ -10,6 +11,7 @@ use Rattle.cdcl_core.specs.Solving.{valued}
 use Rattle.cert_judge.specs.DrupCert.{Names, lines, named_by, words}
 use Rattle.cert_judge.specs.Values.{named, named_from, unnamed}
 use Rattle.cdcl_run.specs.Answer.{literals_from}
+use Rattle.cdcl_run.specs.Searching.{values_to}
 use Rattle.cdcl_run.specs.Text.{spaced, value_line, last_value_line}
 use Rattle.cdcl_run.proofs.Proofs.{line_first}
 use Rattle.cdcl_run.proofs.Words.{AreIn, IsWord, ended_texts, in_split, no_feed_append, spaced_ended, spaced_feed, spaced_words, writes_texts}
@@ -98,11 +100,11 @@ named_at x k v zero (b ∷ bs) h e =
     before (named x (record { var = k; negated = not b })) (k + 1) v bs (omega (arith, e)) ∙ (rw d (not_not b))
 named_at x k v (suc i) (b ∷ bs) h e = named_at (named x (record { var = k; negated = not b })) (k + 1) v i bs (omega (arith, h)) (omega (arith, e))
 
-pub named_value : (values : List Bool) (v : ℕ) → 0 < v → v < length values → named_by (literals_from 1 (drop 1 values)) v ≡ valued values v
-named_value values v p h =
-    let n : length (drop 1 values) ≡ length values - 1 = length-drop 1 values in
-    let i : 1 + (v - 1) ≡ v = omega (arith, p) in
-    named_at unnamed 1 v (v - 1) (drop 1 values) (omega (arith, h, n, p)) (sym i) ∙ get_or-drop 1 values (v - 1) false ∙ ap (λ z. get_or values z false) i
+pub named_value : (vars : ℕ) (values : List Bool) (v : ℕ) → 0 < v → v ≤ vars → named_by (literals_from 1 (values_to vars values)) v ≡ valued values v
+named_value vars values v p h =
+    let n = length-map-range_with_len (valued values) 1 vars in
+    let i : v ≡ 1 + (v - 1) = omega (arith, p) in
+    named_at unnamed 1 v (v - 1) (values_to vars values) (omega (arith, h, n, p)) i ∙ get_or-map-range_with_len (valued values) 1 vars (v - 1) v false (omega (arith, h, p)) (sym i)
 
 -- what satisfies clauses satisfies them by the values of their variables alone
 same_lit : (x y : Assignment) (v : ℕ) (s : Bool) → x v ≡ y v → cond s (not (x v)) (x v) ≡ cond s (not (y v)) (y v)

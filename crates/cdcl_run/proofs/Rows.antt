@@ -1,15 +1,18 @@
 -- The lines of values, as far as they were put.
-use Rattle.std.proofs.Common.{◌≡◌, ◌≢◌, ℕ, suc, ◌+◌, ◌-◌, ◌*◌, ◌<◌, ◌≤◌, ◌%◌, Bool, true, false, not, ◌&&◌, eqb, ltb, List, [], ◌∷◌, ◌++◌, length, take, drop, get_or, refl, ap, ◌∙◌, sym, subst, inl, inr, arith, append-nil, append_assoc, length-append, length-drop, get_or-drop}
+use Rattle.std.proofs.Common.{◌≡◌, ◌≢◌, ℕ, suc, ◌+◌, ◌-◌, ◌*◌, ◌<◌, ◌≤◌, ◌%◌, Bool, true, false, not, ◌&&◌, eqb, ltb, List, [], ◌∷◌, ◌++◌, length, take, drop, refl, ap, ◌∙◌, sym, subst, inl, inr, arith, append-nil, append_assoc, length-append}
 use Rattle.std.specs.Prelude.{codes, flat_map, All}
 use Rattle.std.proofs.lemmas.Bool.{cases_Bool, cases_lt}
 use Rattle.std.proofs.lemmas.Bool.Decides.{nat_tests}
-use Rattle.std.proofs.lemmas.List.{take_more, take_all, length-take-le, take-append-drop}
+use Rattle.std.proofs.lemmas.List.{take-append-drop}
 use Rattle.std.proofs.lemmas.List.Elements.{All-nil, All-push, All-head, All-tail}
 use Rattle.std.proofs.lemmas.List.Concat.{flat_map-append}
+use Rattle.std.proofs.lemmas.List.FromFn.{length-map-range_with_len, map-range_with_len_more, take-map-range_with_len}
 use Rattle.cnf_form.specs.Cnf.{LitOf}
 use Rattle.cnf_form.specs.Dimacs.{literal_text}
+use Rattle.cdcl_core.specs.Solving.{valued}
 use Rattle.cdcl_run.specs.Answer.{literals_from}
 use Rattle.cdcl_run.specs.Output.{Breaks, OutputOf, Puts}
+use Rattle.cdcl_run.specs.Searching.{values_to}
 use Rattle.cdcl_run.specs.Text.{AreValueLines, spaced, value_line, break_text}
 use Rattle.cdcl_run.proofs.Putting.{breaks_more, puts_both, puts_breaks}
 
@@ -179,40 +182,33 @@ pub length-literals_from : (v : ℕ) (bs : List Bool) → length (literals_from 
 length-literals_from v [] = refl
 length-literals_from v (b ∷ bs) = ap suc (length-literals_from (v + 1) bs)
 
-pub literals_more : (values : List Bool) (v : ℕ) → 1 ≤ v → v < length values
-    → literals_from 1 (take (v - 1) (drop 1 values)) ++ record { var = v; negated = not (get_or values v false) } ∷ [] ≡ literals_from 1 (take (v + 1 - 1) (drop 1 values))
-literals_more values v low room =
-    let bs = drop 1 values in
-    let i = v - 1 in
-    let n : length bs ≡ length values - 1 = length-drop 1 values in
-    let few : length (take i bs) ≡ i = length-take-le i bs (omega (arith, n, room)) in
-    let one : take (i + 1) bs ≡ take i bs ++ get_or bs i false ∷ [] = take_more bs i false (omega (arith, n, room, low)) in
-    let at : get_or bs i false ≡ get_or values v false = get_or-drop 1 values i false ∙ ap (λ z. get_or values z false) (let e : 1 + i ≡ v = omega (arith, low) in e) in
-    let upto : v + 1 - 1 ≡ i + 1 = omega (arith, low) in
-    let here : 1 + length (take i bs) ≡ v = omega (arith, few, low) in
-    sym (ap (λ z. literals_from 1 (take z bs)) upto ∙ ap (literals_from 1) (one ∙ ap (λ z. take i bs ++ z ∷ []) at) ∙ literals_push 1 (take i bs) (get_or values v false)
-    ∙ ap (λ z. literals_from 1 (take i bs) ++ record { var = z; negated = not (get_or values v false) } ∷ []) here)
+-- the values of the variables before one
+abbrev pub values_before : List Bool → ℕ → List Bool
+values_before values v = values_to (v - 1) values
 
-pub literals_count : (values : List Bool) (v : ℕ) → 1 ≤ v → v < length values → length (literals_from 1 (take (v - 1) (drop 1 values))) + 1 ≡ v
-literals_count values v low room =
-    let n : length (drop 1 values) ≡ length values - 1 = length-drop 1 values in
-    let few : length (take (v - 1) (drop 1 values)) ≡ v - 1 = length-take-le (v - 1) (drop 1 values) (omega (arith, n, room)) in
-    omega (arith, few, low, length-literals_from 1 (take (v - 1) (drop 1 values)))
+pub literals_more : (values : List Bool) (v : ℕ) → 1 ≤ v → literals_from 1 (values_before values v) ++ record { var = v; negated = not (valued values v) } ∷ [] ≡ literals_from 1 (values_before values (v + 1))
+literals_more values v low =
+    let n : length (values_before values v) ≡ v - 1 = length-map-range_with_len (valued values) 1 (v - 1) in
+    let here : 1 + length (values_before values v) ≡ v = omega (arith, n, low) in
+    let upto : v + 1 - 1 ≡ v - 1 + 1 = omega (arith, low) in
+    let more : values_to (v - 1 + 1) values ≡ values_before values v ++ valued values v ∷ [] = map-range_with_len_more (valued values) 1 (v - 1) v (omega (arith, low)) in
+    sym (ap (λ z. literals_from 1 (values_to z values)) upto ∙ ap (literals_from 1) more ∙ literals_push 1 (values_before values v) (valued values v)
+    ∙ ap (λ z. literals_from 1 (values_before values v) ++ record { var = z; negated = not (valued values v) } ∷ []) here)
 
-pub literals_all : (values : List Bool) (v : ℕ) → 1 ≤ v → length values ≤ v → literals_from 1 (take (v - 1) (drop 1 values)) ≡ literals_from 1 (drop 1 values)
-literals_all values v low past =
-    let n : length (drop 1 values) ≡ length values - 1 = length-drop 1 values in
-    ap (literals_from 1) (take_all (v - 1) (drop 1 values) (omega (arith, n, past, low)))
+pub literals_count : (values : List Bool) (v : ℕ) → 1 ≤ v → length (literals_from 1 (values_before values v)) + 1 ≡ v
+literals_count values v low =
+    let n : length (values_before values v) ≡ v - 1 = length-map-range_with_len (valued values) 1 (v - 1) in
+    omega (arith, n, low, length-literals_from 1 (values_before values v))
 
 -- literals of more values
 literals_append : (v : ℕ) (xs ys : List Bool) → (rest : List LitOf) × (literals_from v (xs ++ ys) ≡ literals_from v xs ++ rest)
 literals_append v [] ys = (literals_from v ys, refl)
 literals_append v (x ∷ xs) ys = let w = literals_append (v + 1) xs ys in (w.0, ap (λ z. record { var = v; negated = not x } ∷ z) w.1)
 
-pub literals_rest : (values : List Bool) (v : ℕ) → 1 ≤ v → v < length values
-    → (rest : List LitOf) × (literals_from 1 (drop 1 values) ≡ (literals_from 1 (take (v - 1) (drop 1 values)) ++ record { var = v; negated = not (get_or values v false) } ∷ []) ++ rest)
-literals_rest values v low room =
-    let i = v + 1 - 1 in
-    let bs = drop 1 values in
-    let w = literals_append 1 (take i bs) (drop i bs) in
-    (w.0, ap (literals_from 1) (sym (take-append-drop i bs)) ∙ w.1 ∙ ap (λ z. z ++ w.0) (sym (literals_more values v low room)))
+pub literals_rest : (vars : ℕ) (values : List Bool) (v : ℕ) → 1 ≤ v → v ≤ vars
+    → (rest : List LitOf) × (literals_from 1 (values_to vars values) ≡ (literals_from 1 (values_before values v) ++ record { var = v; negated = not (valued values v) } ∷ []) ++ rest)
+literals_rest vars values v low room =
+    let all = values_to vars values in
+    let first : take (v + 1 - 1) all ≡ values_before values (v + 1) = take-map-range_with_len (valued values) 1 vars (v + 1 - 1) (omega (arith, room)) in
+    let w = literals_append 1 (values_before values (v + 1)) (drop (v + 1 - 1) all) in
+    (w.0, ap (literals_from 1) (sym (take-append-drop (v + 1 - 1) all) ∙ ap (λ z. z ++ drop (v + 1 - 1) all) first) ∙ w.1 ∙ ap (λ z. z ++ w.0) (sym (literals_more values v low)))

@@ -1,13 +1,14 @@
 -- The stream for a satisfiable formula.
-use Rattle.std.proofs.Common.{◌≡◌, ℕ, ◌+◌, ◌-◌, ◌<◌, ◌^◌, Bool, List, [], ◌∷◌, ◌++◌, length, drop, refl, ap, ◌∙◌, sym, subst, inl, inr, append_assoc, arith, length-drop}
+use Rattle.std.proofs.Common.{◌≡◌, ℕ, ◌<◌, ◌^◌, Bool, List, [], ◌∷◌, ◌++◌, length, refl, ap, ◌∙◌, sym, subst, inl, inr, append_assoc, arith}
 use Rattle.std.specs.Prelude.{codes, map}
+use Rattle.std.proofs.lemmas.List.FromFn.{length-map-range_with_len}
 use Rattle.cnf_form.specs.Cnf.{LitOf, FormulaOf, Line, Satisfies}
 use Rattle.cnf_form.specs.Dimacs.{IsDimacs}
 use Rattle.cdcl_core.specs.Solving.{valued}
 use Rattle.cdcl_core.proofs.Solutions.{logged_drup}
 use Rattle.cert_judge.specs.DrupCert.{IsIdle, Names, lines, named_by}
 use Rattle.cdcl_run.specs.Answer.{IsSatStream, literals_from}
-use Rattle.cdcl_run.specs.Searching.{IsProof}
+use Rattle.cdcl_run.specs.Searching.{IsProof, values_to}
 use Rattle.cdcl_run.specs.Text.{AreValueLines, proof_text, satisfiable_line}
 use Rattle.cdcl_run.proofs.Naming.{bare_values, last_words, literals_in, named_value, names, row_words, satisfies_by, value_lines, values_fed}
 use Rattle.cdcl_run.proofs.Proofs.{full_of, line_first, line_words, proof_leads, proof_lines, searched_of}
@@ -21,13 +22,15 @@ status = codes "s" ∷ codes "SATISFIABLE" ∷ []
 pub idle : IsIdle status
 idle = inr (refl, λ e. (let k : codes "SATISFIABLE" ≡ codes "UNKNOWN" = cc in let j : ◌≡◌ {A = ℕ} 83 85 = cc in omega (arith, j)))
 
-pub sat_stream : (job : List ℕ) (f : FormulaOf) (budget : ℕ) (ls : List Line) (G : List (List LitOf)) (n : ℕ) (values : List Bool) (text stream : List ℕ) → IsDimacs job f → IsProof f ls G n → n < budget → length values ≡ f.vars + 1 → Satisfies (valued values) f.clauses
-    → AreValueLines (literals_from 1 (drop 1 values)) text → stream ≡ proof_text ls ++ (satisfiable_line ++ text) → IsSatStream job budget stream
-sat_stream job f budget ls G count values text stream d p h sized s v is =
+pub sat_stream : (job : List ℕ) (f : FormulaOf) (budget : ℕ) (ls : List Line) (G : List (List LitOf)) (n : ℕ) (values : List Bool) (text stream : List ℕ) → IsDimacs job f → IsProof f ls G n → n < budget → Satisfies (valued values) f.clauses
+    → AreValueLines (literals_from 1 (values_to f.vars values)) text → stream ≡ proof_text ls ++ (satisfiable_line ++ text) → IsSatStream job budget stream
+sat_stream job f budget ls G count values text stream d p h s v is =
     let small : f.vars < 2 ^ 64 = (let h = d.limit in omega (arith, h)) in
-    let lits = literals_from 1 (drop 1 values) in
-    let n : length lits ≡ f.vars = (let a = length-literals_from 1 (drop 1 values) in let b : length (drop 1 values) ≡ length values - 1 = length-drop 1 values in omega (arith, a, b, sized)) in
-    let within = literals_in f.vars 1 (drop 1 values) (omega arith) (let b : length (drop 1 values) ≡ length values - 1 = length-drop 1 values in omega (arith, b, sized)) in
+    let all_values = values_to f.vars values in
+    let each : length all_values ≡ f.vars = length-map-range_with_len (valued values) 1 f.vars in
+    let lits = literals_from 1 all_values in
+    let n : length lits ≡ f.vars = length-literals_from 1 all_values ∙ each in
+    let within = literals_in f.vars 1 all_values (omega arith) (omega (arith, each)) in
     let all = v.all in
     let bare = bare_values v.rows v.last in
     let cert = proof_text ls ++ (satisfiable_line ++ bare) in
@@ -48,8 +51,8 @@ sat_stream job f budget ls G count values text stream d p h sized s v is =
       count = count;
       searched = searched_of job f ls G count d p;
       in_time = h;
-      values = drop 1 values;
-      each = sym (length-literals_from 1 (drop 1 values)) ∙ n;
+      values = all_values;
+      each = each;
       text = text;
       lines = v;
       is = is;
@@ -64,7 +67,7 @@ sat_stream job f budget ls G count values text stream d p h sized s v is =
           read,
           proof_leads f.vars small ls (status ∷ []) f.clauses G G (logged_drup p.logged) p.proper (full_of ls f.clauses G (valued values) (logged_drup p.logged) s) (inl (idle, refl)),
           named,
-          satisfies_by f.vars f.clauses (named_by lits) (valued values) d.within (λ w low high. named_value values w low (omega (arith, high, sized))) s,
+          satisfies_by f.vars f.clauses (named_by lits) (valued values) d.within (named_value f.vars values) s,
         ),
       );
     }

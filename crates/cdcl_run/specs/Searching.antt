@@ -1,5 +1,6 @@
 -- What a search puts, and how its stream ends.
-use Rattle.std.specs.Prelude.{◌≡◌, ◌⊎◌, ℕ, ◌^◌, ◌+◌, ◌<◌, ◌≤◌, Bool, IsTrue, true, false, drop, List, [], ◌∷◌, ◌++◌, length}
+use Rattle.std.specs.Prelude.{◌≡◌, ◌⊎◌, ℕ, ◌+◌, ◌<◌, ◌≤◌, Bool, IsTrue, true, false, List, [], ◌∷◌, ◌++◌, length, map}
+use Rattle.std.specs.List.{range_with_len}
 use Rattle.cnf_form.specs.Cnf.{LitOf, FormulaOf, Satisfies, IsAdmitted, Line}
 use Rattle.cdcl_core.specs.Logged.{Logged, AreProper}
 use Rattle.cdcl_core.specs.Lines.{LogLine, Adds, plain, AreProperLines, IsProperLine, HeldOf, held_first, AreHinted, IsHintedLine, LineFollows}
@@ -10,6 +11,15 @@ use Rattle.cdcl_run.specs.Answer.{literals_from}
 use Rattle.cdcl_run.specs.Output.{OutputOf, Puts, Breaks}
 use Rattle.cdcl_run.specs.HintedText.{hinted_line, hinted_text}
 use Rattle.cdcl_run.specs.Text.{log_line, log_text, satisfiable_line, unsatisfiable_line, unknown_line, AreValueLines}
+
+-- The formula that is searched for one that was read: the same clauses, over no more variables.
+pub record IsFitted (read searched : FormulaOf) : Type 0 where
+  pub clauses : searched.clauses ≡ read.clauses
+  pub fewer : searched.vars ≤ read.vars
+
+-- the value of each variable from 1 to this many
+abbrev pub values_to : ℕ → List Bool → List Bool
+values_to vars values = map (valued values) (range_with_len 1 vars)
 
 -- the lines of a search, this many of which add clauses, that lead to the present clauses
 pub record IsProof (f : FormulaOf) (proof : List Line) (present : List (List LitOf)) (count : ℕ) : Type 0 where
@@ -37,7 +47,7 @@ text_by true ls = hinted_text ls
 abbrev pub Searches : Bool → FormulaOf → ℕ → OutputOf → OutputOf → Solved → Type 0
 Searches hinted f budget old new (Sat values) =
     (lines : List LogLine) × (present : List (List LitOf)) × (count : ℕ) × (held : HeldOf) × IsLogged hinted f lines present count held × (count < budget) × Puts old new (text_by hinted lines)
-    × (length values.items ≡ f.vars + 1) × Satisfies (valued values.items) f.clauses
+    × (length values.items ≤ f.vars + 1) × Satisfies (valued values.items) f.clauses
 Searches hinted f budget old new Unsat =
     (lines : List LogLine) × (present : List (List LitOf)) × (count : ℕ) × (held : HeldOf) × IsLogged hinted f lines present count held × (count < budget)
     × (id : ℕ) × (hints : List ℕ) × Puts old new (text_by hinted (lines ++ Adds [] id hints ∷ [])) × IsAdmitted present [] × IsProperLine f.vars (Adds [] id hints) × (IsTrue hinted → IsHintedLine held (Adds [] id hints))
@@ -52,22 +62,15 @@ abbrev pub Stops : Bool → FormulaOf → ℕ → OutputOf → OutputOf → Type
 Stops hinted f budget old new =
     (lines : List LogLine) × (present : List (List LitOf)) × (count : ℕ) × (held : HeldOf) × IsLogged hinted f lines present count held × (count ≤ budget) × Puts old new (text_by hinted lines)
 
--- how the stream of an answer ends, and with which exit status
-abbrev pub IsEnd : Solved → List ℕ → ℕ → Type 0
-IsEnd (Sat values) text exit = (exit ≡ 10) × ((lines : List ℕ) × AreValueLines (literals_from 1 (drop 1 values.items)) lines × (text ≡ satisfiable_line ++ lines))
-IsEnd Unsat text exit = (exit ≡ 20) × (text ≡ unsatisfiable_line)
-IsEnd Budget text exit = (exit ≡ 0) × (text ≡ unknown_line)
-IsEnd LogFailed text exit = ⊥
+-- how the stream of an answer for a formula of this many variables ends, and with which exit status
+abbrev pub IsEnd : ℕ → Solved → List ℕ → ℕ → Type 0
+IsEnd vars (Sat values) text exit = (exit ≡ 10) × ((lines : List ℕ) × AreValueLines (literals_from 1 (values_to vars values.items)) lines × (text ≡ satisfiable_line ++ lines))
+IsEnd vars Unsat text exit = (exit ≡ 20) × (text ≡ unsatisfiable_line)
+IsEnd vars Budget text exit = (exit ≡ 0) × (text ≡ unknown_line)
+IsEnd vars LogFailed text exit = ⊥
 
 -- The end of an answer's stream was cut short: a search that ended by a fault put nothing more; after another a call failed.
-abbrev pub EndBreaks : OutputOf → OutputOf → Solved → Type 0
-EndBreaks old new s =
+abbrev pub EndBreaks : ℕ → OutputOf → OutputOf → Solved → Type 0
+EndBreaks vars old new s =
     ((s ≡ LogFailed) × (new.taken ≡ old.taken) × (new.faults ≡ old.faults))
-    ⊎ ((text : List ℕ) × (exit : ℕ) × IsEnd s text exit × Breaks old new text)
-
--- values of no more variables than a formula may have
-abbrev pub HasFew : Solved → Type 0
-HasFew (Sat values) = length values.items ≤ 2 ^ 27 + 1
-HasFew Unsat = Unit {0}
-HasFew Budget = Unit {0}
-HasFew LogFailed = Unit {0}
+    ⊎ ((text : List ℕ) × (exit : ℕ) × IsEnd vars s text exit × Breaks old new text)

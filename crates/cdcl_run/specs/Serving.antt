@@ -63,8 +63,8 @@ pub record AreServed (before after : DoorOf) (address : List ℕ) (count exit : 
   pub exit_is : IsExitOf connections exit
 
 -- a call of the door failed, or memory for it ran out
-abbrev pub Breaks : DoorOf → DoorOf → ℕ → Type 0
-Breaks before after exit = ((exit ≡ 1) × Rose before.faults after.faults) ⊎ ((exit ≡ 32) × (after.faults ≡ before.faults))
+abbrev pub DoorBreaks : DoorOf → DoorOf → ℕ → Type 0
+DoorBreaks before after exit = ((exit ≡ 1) × Rose before.faults after.faults) ⊎ ((exit ≡ 32) × (after.faults ≡ before.faults))
 
 -- After it was opened, and after fewer connections, the door broke, and listens there still. One that had come may not have come back.
 pub record IsShut (before after : DoorOf) (address : List ℕ) (count exit : ℕ) : Type 0 where
@@ -75,7 +75,7 @@ pub record IsShut (before after : DoorOf) (address : List ℕ) (count exit : ℕ
   pub came_back : after.came_back ≡ middle.came_back
   pub backs : after.backs ≡ middle.backs
   pub listens : after.listens_at ≡ middle.listens_at
-  pub breaks : Breaks middle after exit
+  pub breaks : DoorBreaks middle after exit
 
 -- the door wasn't opened, and no connection came
 pub record IsUnopened (before after : DoorOf) (exit : ℕ) : Type 0 where
@@ -83,7 +83,7 @@ pub record IsUnopened (before after : DoorOf) (exit : ℕ) : Type 0 where
   pub coming : after.coming ≡ before.coming
   pub came_back : after.came_back ≡ before.came_back
   pub backs : after.backs ≡ before.backs
-  pub breaks : Breaks before after exit
+  pub breaks : DoorBreaks before after exit
 
 -- what is done where that many connections that come to this address are to be served
 abbrev pub IsServing : DoorOf → DoorOf → List ℕ → ℕ → ℕ → Type 0

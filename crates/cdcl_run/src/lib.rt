@@ -1,6 +1,7 @@
 //! The engine: the solver at work on a file, or on jobs that come over connections; its answer is a stream.
 #![tactic(auto)]
 
+mod fitting;
 mod hinted;
 mod laws;
 mod output;

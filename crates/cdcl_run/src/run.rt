@@ -2,6 +2,7 @@
 
 ghost use Rattle.std.specs.Prelude.{◌≡◌, ◌⊎◌, ◌≤◌, ◌^◌, [], ℕ, List, length, map, string_bytes, IfOk, OnErr, OnOk, Err};
 ghost use Rattle.cnf_form.specs.Cnf.{FormulaOf};
+ghost use Rattle.cnf_form.specs.declared.literal.TheConstants.{MAX_VARS};
 ghost use Rattle.cnf_form.specs.Dimacs.{IsDimacs};
 ghost use Rattle.cdcl_core.specs.declared.solver.Solved.TheVariants.{LogFailed};
 ghost use Rattle.sby_edge.specs.Cause.{Rose};
@@ -9,13 +10,14 @@ ghost use Rattle.sby_edge.specs.declared.outside.Fail.TheVariants as fail;
 ghost use Rattle.net_answer.specs.Written.{Wrote};
 ghost use Rattle.cdcl_run.specs.Answer.{budget_of};
 ghost use Rattle.cdcl_run.specs.HintedAnswer.{IsAnswerBy};
-ghost use Rattle.cdcl_run.specs.Searching.{EndBreaks, HasFew, IsEnd, Searches, Stops};
+ghost use Rattle.cdcl_run.specs.Searching.{EndBreaks, IsEnd, Searches, Stops};
 ghost use Rattle.cdcl_run.specs.Output.{Puts, grown};
 ghost use Rattle.cdcl_run.specs.Run.{Answers, Did, IsDone, IsOutOfMemory, IsServed, World, Writes};
 ghost use Rattle.cdcl_run.specs.Serving.{Ran};
 ghost use Rattle.cdcl_run.specs.Stream.{IsStream, exit_of};
 ghost use Rattle.cdcl_run.specs.Text.{fault_line, file_line, kind_text, long_line, usage_line};
 
+use crate::fitting::fitted;
 use crate::hinted::search_hinted;
 use crate::output::{flush, offer, put};
 use crate::piece::Piece;
@@ -67,13 +69,18 @@ pub fn fault_line(alloc: Global, fault: DimacsFault) -> Result<String, AllocErro
     format!(in alloc; "c fault: byte {byte} {kind}\n")
 }
 
-// Gathers how the stream of an answer ends. The exit status.
-fn put_end<S: Sink>(sink: &mut S, piece: &mut Piece, solved: &Solved) -> Result<u8, Failed>
-    requires { HasFew solved.now }
-    ensures end { IfOk result (λ exit. (text : List ℕ) × IsEnd solved.now text exit × Puts
+// Gathers how the stream of an answer for a formula of this many variables ends. The exit status.
+fn put_end<S: Sink>(
+    sink: &mut S,
+    piece: &mut Piece,
+    vars: u32,
+    solved: &Solved,
+) -> Result<u8, Failed>
+    requires { vars ≤ MAX_VARS }
+    ensures end { IfOk result (λ exit. (text : List ℕ) × IsEnd vars solved.now text exit × Puts
         (record { taken = S.taken sink.old; faults = S.faults sink.old; gathered = piece.old })
         (record { taken = S.taken sink.new; faults = S.faults sink.new; gathered = piece.new }) text) }
-    ensures failed { OnErr result (EndBreaks
+    ensures failed { OnErr result (EndBreaks vars
         (record { taken = S.taken sink.old; faults = S.faults sink.old; gathered = piece.old })
         (record { taken = S.taken sink.new; faults = S.faults sink.new; gathered = piece.new }) solved.now) }
 {
@@ -84,7 +91,7 @@ fn put_end<S: Sink>(sink: &mut S, piece: &mut Piece, solved: &Solved) -> Result<
         }
         Solved::Sat(values) => {
             put(sink, piece, b"s SATISFIABLE\n")?;
-            put_values(sink, piece, values)?;
+            put_values(sink, piece, vars, values)?;
             Ok(10)
         }
         Solved::Budget => {
@@ -95,56 +102,62 @@ fn put_end<S: Sink>(sink: &mut S, piece: &mut Piece, solved: &Solved) -> Result<
     }
 }
 
-// Writes how the stream of an answer ends. The exit status.
-fn finish<S: Sink>(sink: &mut S, piece: &mut Piece, solved: &Solved) -> Result<u8, Failed>
-    requires { HasFew solved.now }
-    ensures end { IfOk result (λ exit. (text : List ℕ) × IsEnd solved.now text exit × Puts
+// Writes how the stream of an answer for a formula of this many variables ends. The exit status.
+fn finish<S: Sink>(
+    sink: &mut S,
+    piece: &mut Piece,
+    vars: u32,
+    solved: &Solved,
+) -> Result<u8, Failed>
+    requires { vars ≤ MAX_VARS }
+    ensures end { IfOk result (λ exit. (text : List ℕ) × IsEnd vars solved.now text exit × Puts
         (record { taken = S.taken sink.old; faults = S.faults sink.old; gathered = piece.old })
         (record { taken = S.taken sink.new; faults = S.faults sink.new; gathered = [] }) text) }
-    ensures failed { OnErr result (EndBreaks
+    ensures failed { OnErr result (EndBreaks vars
         (record { taken = S.taken sink.old; faults = S.faults sink.old; gathered = piece.old })
         (record { taken = S.taken sink.new; faults = S.faults sink.new; gathered = piece.new }) solved.now) }
 {
-    let exit = put_end(sink, piece, solved)?;
+    let exit = put_end(sink, piece, vars, solved)?;
     flush(sink, piece)?;
     Ok(exit)
 }
 
-// Searches, and writes the proof, with hints or without.
+// Searches over the variables up to the greatest of a clause, and writes the proof, with hints or without.
 fn search_by<S: Sink>(
     alloc: Global,
-    formula: &Formula,
+    formula: Formula,
     hinted: bool,
     budget: u64,
     sink: &mut S,
     piece: &mut Piece,
 ) -> Result<Solved, AllocError>
-    ensures searches { IfOk result (λ solved. Searches hinted formula.now budget
+    ensures searches { IfOk result (λ solved. Searches hinted formula budget
         (record { taken = S.taken sink.old; faults = S.faults sink.old; gathered = piece.old })
         (record { taken = S.taken sink.new; faults = S.faults sink.new; gathered = piece.new }) solved) }
-    ensures stops { OnErr result (Stops hinted formula.now budget
+    ensures stops { OnErr result (Stops hinted formula budget
         (record { taken = S.taken sink.old; faults = S.faults sink.old; gathered = piece.old })
         (record { taken = S.taken sink.new; faults = S.faults sink.new; gathered = piece.new })) }
 {
+    let searched = fitted(formula);
     if hinted {
-        search_hinted(alloc, formula, budget, sink, piece)
+        search_hinted(alloc, &searched, budget, sink, piece)
     } else {
-        search(alloc, formula, budget, sink, piece)
+        search(alloc, &searched, budget, sink, piece)
     }
 }
 
 // Searches, and writes the stream with the answer.
 fn answer<S: Sink>(
     alloc: Global,
-    formula: &Formula,
+    formula: Formula,
     hinted: bool,
     budget: u64,
     sink: &mut S,
 ) -> Result<u8, Fail>
-    ensures answers { (told : _) (faults : ℕ) (job : List ℕ) → IsDimacs job formula.now → Answers hinted
+    ensures answers { (told : _) (faults : ℕ) (job : List ℕ) → IsDimacs job formula → Answers hinted
         (record { told = told; file_faults = faults; taken = S.taken sink.old; sink_faults = S.faults sink.old })
         (record { told = told; file_faults = faults; taken = S.taken sink.new; sink_faults = S.faults sink.new }) job budget (exit_of result) }
-    ensures whole { IfOk result (λ exit. (job : List ℕ) → IsDimacs job formula.now → Wrote (S.taken sink.old) (S.taken sink.new) (λ stream. IsAnswerBy hinted job budget stream exit)) }
+    ensures whole { IfOk result (λ exit. (job : List ℕ) → IsDimacs job formula → Wrote (S.taken sink.old) (S.taken sink.new) (λ stream. IsAnswerBy hinted job budget stream exit)) }
     ensures failed { result ≡ Err fail.Failed → Rose (S.faults sink.old) (S.faults sink.new) }
     ensures later { S.faults sink.old ≤ S.faults sink.new }
 {
@@ -152,12 +165,12 @@ fn answer<S: Sink>(
         Ok(piece) => piece,
         Err(AllocError) => return Err(Fail::Memory),
     };
-    let _few = formula.vars();
+    let vars = formula.vars();
     let solved = match search_by(alloc, formula, hinted, budget, sink, &mut piece) {
         Ok(solved) => solved,
         Err(AllocError) => return Err(Fail::Memory),
     };
-    match finish(sink, &mut piece, &solved) {
+    match finish(sink, &mut piece, vars, &solved) {
         Ok(exit) => Ok(exit),
         Err(Failed) => Err(Fail::Failed),
     }
@@ -203,7 +216,7 @@ pub(crate) fn write_stream<S: Sink>(
     let read = read_dimacs(alloc, &bytes);
     drop(bytes);
     match read {
-        Ok(Ok(formula)) => answer(alloc, &formula, hinted, budget, sink),
+        Ok(Ok(formula)) => answer(alloc, formula, hinted, budget, sink),
         Ok(Err(fault)) => tell_fault(alloc, fault, sink),
         Err(AllocError) => Err(Fail::Memory),
     }

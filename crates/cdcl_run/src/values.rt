@@ -1,11 +1,13 @@
 // Values as lines.
 
-ghost use Rattle.std.specs.Prelude.{◌≡◌, ◌≤◌, ◌<◌, ◌+◌, ◌∷◌, ◌++◌, List, ℕ, not, length, drop, OnErr, OnOk};
+ghost use Rattle.std.specs.Prelude.{◌≡◌, ◌≤◌, ◌<◌, ◌∷◌, ◌++◌, List, ℕ, not, OnErr, OnOk};
 ghost use Rattle.cnf_form.specs.declared.literal.TheConstants.{MAX_VARS};
 ghost use Rattle.cnf_form.specs.Dimacs.{literal_text};
 ghost use Rattle.sby_edge.specs.Cause.{Rose, greatest};
+ghost use Rattle.cdcl_core.specs.Solving.{valued};
 ghost use Rattle.cdcl_run.specs.Answer.{literals_from};
 ghost use Rattle.cdcl_run.specs.Output.{Breaks, Puts};
+ghost use Rattle.cdcl_run.specs.Searching.{values_to};
 ghost use Rattle.cdcl_run.specs.Text.{AreValueLines, break_text};
 
 use crate::output::{put, put_literal};
@@ -62,24 +64,32 @@ fn put_next<S: Sink>(sink: &mut S, piece: &mut Piece, var: u32, value: bool) -> 
     put_value(sink, piece, Lit::new(var, !value))
 }
 
-// Gathers the lines of the values, that of each variable at its number.
+// The value of a variable, which is at its number; false where the list ends before it.
+fn value_of(values: &[bool], var: u32) -> bool
+    ensures { result ≡ valued values.now var }
+{
+    values.get(var as usize).copied().unwrap_or(false)
+}
+
+// Gathers the lines of the values of the variables from 1 to `vars`.
 pub(crate) fn put_values<S: Sink>(
     sink: &mut S,
     piece: &mut Piece,
+    vars: u32,
     values: &[bool],
 ) -> Result<(), Failed>
-    requires { length values.now ≤ MAX_VARS + 1 }
-    ensures ok { OnOk result ((text : List ℕ) × AreValueLines (literals_from 1 (drop 1 values.now)) text × Puts
+    requires { vars ≤ MAX_VARS }
+    ensures ok { OnOk result ((text : List ℕ) × AreValueLines (literals_from 1 (values_to vars values.now)) text × Puts
         (record { taken = S.taken sink.old; faults = S.faults sink.old; gathered = piece.old })
         (record { taken = S.taken sink.new; faults = S.faults sink.new; gathered = piece.new }) text) }
-    ensures failed { OnErr result ((text : List ℕ) × AreValueLines (literals_from 1 (drop 1 values.now)) text × Breaks
+    ensures failed { OnErr result ((text : List ℕ) × AreValueLines (literals_from 1 (values_to vars values.now)) text × Breaks
         (record { taken = S.taken sink.old; faults = S.faults sink.old; gathered = piece.old })
         (record { taken = S.taken sink.new; faults = S.faults sink.new; gathered = piece.new }) text) }
     ensures later { S.faults sink.old ≤ S.faults sink.new }
 {
     put(sink, piece, b"v")?;
-    for var in 1..values.len() {
-        put_next(sink, piece, var as u32, values[var])?;
+    for var in 1..vars + 1 {
+        put_next(sink, piece, var, value_of(values, var))?;
     }
     put(sink, piece, b" 0\n")
 }

@@ -1,6 +1,8 @@
 // The engine at work, over files and output in memory.
 
+use super::hints::{judged, read};
 use cdcl_run::run_engine;
+use cert_judge::StreamKind;
 use net_link::MemDoor;
 use sby_edge::{Files, MemFiles, MemSink};
 use std::alloc::{AllocError, Global};
@@ -58,6 +60,46 @@ fn names_all_values(rt: HostRuntime) -> Result<(), Fail> {
     let (exit, sink) = run(rt.alloc(), "f.cnf", b"p cnf 0 0\n", 0)?;
     assert_eq!(rt; exit, 10);
     assert_eq!(rt; sink.bytes(), b"s SATISFIABLE\nv 0\n".as_slice());
+    Ok(())
+}
+
+// How many variables the values of a stream name from 1 on, one after the other, before 0; 0 where others stand among them.
+fn named_in_order(stream: &str) -> u32 {
+    let mut count = 0;
+    for word in stream.split_ascii_whitespace() {
+        let Ok(number) = word.parse::<i32>() else {
+            continue;
+        };
+        match number.unsigned_abs() {
+            0 => return count,
+            var if var - 1 == count => count = var,
+            _ => return 0,
+        }
+    }
+    0
+}
+
+// The variables above the greatest of a clause.
+#[test]
+fn names_variables_of_the_header_alone(rt: HostRuntime) -> Result<(), Fail> {
+    let alloc = rt.alloc();
+    let text = "p cnf 1000 1\n-3 0\n";
+    let (exit, sink) = run(alloc, "f.cnf", text.as_bytes(), 0)?;
+    assert_eq!(rt; exit, 10);
+    let stream = sink.bytes();
+    assert_eq!(rt; named_in_order(str::from_utf8(stream).unwrap_or("?")), 1000);
+    let outcome = judged(alloc, &read(alloc, text)?, StreamKind::Drup, stream)?;
+    assert_eq!(rt; outcome.as_str(), "Satisfied");
+    Ok(())
+}
+
+// Tables for all variables of the header would take gigabytes.
+#[test]
+fn a_header_of_most_variables_is_cheap(rt: HostRuntime) -> Result<(), Fail> {
+    let text = b"p cnf 134217728 2\n1 0\n-1 0\n";
+    let (exit, sink) = run(rt.alloc(), "f.cnf", text, 0)?;
+    assert_eq!(rt; exit, 20);
+    assert_eq!(rt; sink.bytes(), b"0\ns UNSATISFIABLE\n".as_slice());
     Ok(())
 }
 

@@ -35,14 +35,24 @@ fn outcome_by(judge: &mut Judge<Formula>, stream: &[u8]) -> Result<Outcome, Allo
 }
 
 // What a stream comes to.
-fn outcome_of(alloc: Global, formula: &Formula, stream: &[u8]) -> Result<Outcome, AllocError> {
-    let mut judge = Judge::new(alloc, formula.copy(alloc)?, StreamKind::Lrat, 1 << 32)?;
+fn outcome_of(
+    alloc: Global,
+    formula: &Formula,
+    kind: StreamKind,
+    stream: &[u8],
+) -> Result<Outcome, AllocError> {
+    let mut judge = Judge::new(alloc, formula.copy(alloc)?, kind, 1 << 32)?;
     outcome_by(&mut judge, stream)
 }
 
 // The same in words.
-fn judged(alloc: Global, formula: &Formula, stream: &[u8]) -> Result<String, AllocError> {
-    match outcome_of(alloc, formula, stream)? {
+pub(crate) fn judged(
+    alloc: Global,
+    formula: &Formula,
+    kind: StreamKind,
+    stream: &[u8],
+) -> Result<String, AllocError> {
+    match outcome_of(alloc, formula, kind, stream)? {
         Outcome::Refuted => String::from_str(alloc, "Refuted"),
         Outcome::Satisfied => String::from_str(alloc, "Satisfied"),
         Outcome::Unknown => String::from_str(alloc, "Unknown"),
@@ -54,23 +64,29 @@ fn judged(alloc: Global, formula: &Formula, stream: &[u8]) -> Result<String, All
 fn answer(alloc: Global, formula: &Formula, conflicts: u64) -> Result<(u8, String), Fail> {
     let text = write_dimacs(alloc, formula)?;
     let (exit, sink) = run(alloc, &text, conflicts)?;
-    Ok((exit, judged(alloc, formula, sink.bytes())?))
+    Ok((
+        exit,
+        judged(alloc, formula, StreamKind::Lrat, sink.bytes())?,
+    ))
 }
 
-fn read(alloc: Global, text: &str) -> Result<Formula, Fail> {
+pub(crate) fn read(alloc: Global, text: &str) -> Result<Formula, Fail> {
     match read_dimacs(alloc, text.as_bytes())? {
         Ok(formula) => Ok(formula),
         Err(_) => Err(Fail::from("no formula")),
     }
 }
 
-// The fact that 1 is true, by the first clause; the empty clause, by the fact and the second.
+// The fact that 1 is true, by the first clause; the empty clause, by the fact and the second. Tables for all variables of the second
+// header would take gigabytes.
 #[test]
 fn hinted_lines_are_written(rt: HostRuntime) -> Result<(), Fail> {
-    let (exit, sink) = run(rt.alloc(), b"p cnf 1 2\n1 0\n-1 0\n", 9)?;
-    assert_eq!(rt; exit, 20);
-    let text = str::from_utf8(sink.bytes()).unwrap_or("?");
-    assert_eq!(rt; text, "3 1 0 1 0\n4 0 3 2 0\ns UNSATISFIABLE\n");
+    for text in ["p cnf 1 2\n1 0\n-1 0\n", "p cnf 134217728 2\n1 0\n-1 0\n"] {
+        let (exit, sink) = run(rt.alloc(), text.as_bytes(), 9)?;
+        assert_eq!(rt; exit, 20);
+        let stream = str::from_utf8(sink.bytes()).unwrap_or("?");
+        assert_eq!(rt; stream, "3 1 0 1 0\n4 0 3 2 0\ns UNSATISFIABLE\n");
+    }
     Ok(())
 }
 
@@ -85,6 +101,7 @@ fn small_streams_are_certificates(rt: HostRuntime) -> Result<(), Fail> {
         ("p cnf 1 2\n1 0\n-1 0\n", 20, "Refuted"),
         ("p cnf 3 4\n1 0\n-1 2 0\n-2 3 0\n-1 -3 0\n", 20, "Refuted"),
         (PIGEONS, 20, "Refuted"),
+        ("p cnf 1000 1\n-3 0\n", 10, "Satisfied"),
     ] {
         let formula = read(alloc, text)?;
         let (found, judged) = answer(alloc, &formula, 1_000_000)?;
