@@ -1,5 +1,6 @@
 -- What the words of the engines' programs ask for.
-use Rattle.std.specs.Prelude.{◌≡◌, ℕ, ◌≤◌, Bool, true, false, List, [], ◌∷◌, ◌++◌, length, Option, Some, None, codes, decimal}
+use Rattle.std.specs.Prelude.{◌≡◌, ℕ, ◌≤◌, Bool, true, false, List, [], ◌∷◌, Option, Some, None, codes, decimal}
+use Rattle.sby_terms.specs.Address.{IsAddress}
 
 -- a file alone, or --conflicts, a number from 1 to 1,000,000,000 and a file
 abbrev pub AsksPlainly : List (List ℕ) → Option ℕ → List ℕ → Type 0
@@ -10,10 +11,6 @@ AsksPlainly words (Some n) file = (words ≡ codes "--conflicts" ∷ decimal n �
 abbrev pub Asks : List (List ℕ) → Bool → Option ℕ → List ℕ → Type 0
 Asks words false conflicts file = AsksPlainly words conflicts file
 Asks words true conflicts file = (rest : List (List ℕ)) × (words ≡ codes "--hints" ∷ rest) × AsksPlainly rest conflicts file
-
--- a host, a colon and a port from 1 to 65,535
-abbrev pub IsAddress : List ℕ → Type 0
-IsAddress word = (host : List ℕ) × (port : ℕ) × (word ≡ host ++ 58 ∷ decimal port) × (1 ≤ length host) × (1 ≤ port) × (port ≤ 65535)
 
 -- --serve, an address, --count and a number of connections from 1 to 1,000,000
 abbrev pub AsksToServe : List (List ℕ) → List ℕ → ℕ → Type 0

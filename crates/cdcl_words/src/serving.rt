@@ -1,13 +1,9 @@
 // The words that ask to serve connections.
 
-ghost use Rattle.std.specs.Prelude.{◌≡◌, ◌↔◌, ℕ, List, [], ◌∷◌, codes, map, string_bytes, IfNone, IfSome, IsTrue};
-ghost use Rattle.cdcl_words.specs.Asking.{AsksToServe, IsAddress};
+ghost use Rattle.std.specs.Prelude.{◌≡◌, ℕ, List, [], ◌∷◌, codes, map, string_bytes, IfNone, IfSome};
+ghost use Rattle.cdcl_words.specs.Asking.{AsksToServe};
 
-use memchr::memrchr;
-use sby_terms::{number_upto, numbers_are_decimal};
-
-// The greatest port.
-const MAX_PORT: u32 = 65535;
+use sby_terms::{is_address, number_upto, numbers_are_decimal};
 
 /// The most connections that may be asked for.
 pub const MAX_CONNECTIONS: u32 = 1_000_000;
@@ -17,20 +13,6 @@ pub const MAX_CONNECTIONS: u32 = 1_000_000;
 pub struct Serving<'a> {
     pub address: &'a str,
     pub count: u32,
-}
-
-// Whether a word is a host, a colon and a port.
-fn is_address(word: &[u8]) -> bool
-    ensures { IsTrue result ↔ IsAddress word.now }
-{
-    let Some(at) = memrchr(b':', word) else {
-        return false;
-    };
-    if at == 0 {
-        return false;
-    }
-    numbers_are_decimal();
-    number_upto(MAX_PORT, word.split_at(at + 1).1).is_some()
 }
 
 // The address and the number of connections of `--serve`, an address, `--count` and a number.

@@ -1,5 +1,6 @@
 // The clock of the system.
 
+use libc::types::timespec;
 use sby_edge::Clock;
 use std::sync::atomic::{AtomicU64, Ordering};
 use std::thread;
@@ -11,6 +12,22 @@ pub(crate) fn millis<R: SystemClock>(rt: &R) -> u64 {
         Ok(since) => u64::try_from(since.as_millis()).unwrap_or(u64::MAX),
         Err(_) => 0,
     }
+}
+
+// The same clock, for what is handed to other threads and so keeps no handle.
+pub(crate) fn monotonic_millis() -> u64 {
+    let mut time = timespec {
+        tv_sec: 0,
+        tv_nsec: 0,
+    };
+    if libc::clock_gettime(libc::CLOCK_MONOTONIC, &mut time) != 0 {
+        return 0;
+    }
+    let seconds = u64::try_from(time.tv_sec).unwrap_or(0);
+    let nanos = u64::try_from(time.tv_nsec).unwrap_or(0);
+    seconds
+        .saturating_mul(1000)
+        .saturating_add(nanos / 1_000_000)
 }
 
 /// The system's clock that never goes back, in milliseconds. A reading that fails is the last one that didn't, so it shows no limit that

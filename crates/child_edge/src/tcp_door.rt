@@ -5,14 +5,14 @@ ghost use Rattle.sby_edge.specs.Cause.{HasPlainCause, Rose, greatest};
 ghost use Rattle.sby_edge.specs.Sink.{Takes};
 ghost use Rattle.net_link.specs.Link.{Receives};
 
-use crate::clock::millis;
+use crate::clock::monotonic_millis;
 use crate::tcp_link::TcpLink;
 use net_link::{Door, Link};
 use sby_edge::{Fail, Failed, Memory};
 use std::alloc::Global;
 use std::io::{self, ErrorKind};
 use std::net::{Net, TcpListener, TcpStream};
-use std::time::{Clock as SystemClock, Duration};
+use std::time::Duration;
 
 // How many seconds a read or a write waits.
 const CALL: u64 = 10;
@@ -22,34 +22,43 @@ const PATIENCE: u64 = 60_000;
 
 const PACE: u64 = 1024;
 
+// How many milliseconds each read waits for what is still sent once a connection is over, and how many reads there are.
+const LEAVING: u64 = 1000;
+
+const LEFT: u32 = 16;
+
 /// The end of a connection that came to a door. No call of it waits for more than ten seconds; and one fails where all calls have waited
 /// for longer than a minute, and a second more for each MiB that passed. So the other end can't keep it for ever.
 #[derive(Drop)]
-pub struct TcpGuest<'a, R> {
-    rt: &'a R,
-    link: TcpLink,
+pub struct TcpGuest {
+    pub(crate) link: TcpLink,
     // How many milliseconds its calls waited, and how many bytes passed.
     waited: u64,
     passed: u64,
 }
 
 // A connection that came, with the bounds of its calls.
-fn guest<'a, R>(rt: &'a R, stream: TcpStream) -> io::Result<TcpGuest<'a, R>>
+fn guest(stream: TcpStream) -> io::Result<TcpGuest>
     ensures { IfOk result (λ guest. guest.link.faults ≡ 0) }
 {
-    let most = Some(Duration::from_secs(CALL));
-    stream.set_read_timeout(most)?;
-    stream.set_write_timeout(most)?;
+    stream.set_read_timeout(Some(Duration::from_secs(CALL)))?;
+    with_bounded_writes(stream)
+}
+
+// A connection with the bounds of its calls, but for that of a single read.
+pub(crate) fn with_bounded_writes(stream: TcpStream) -> io::Result<TcpGuest>
+    ensures { IfOk result (λ guest. guest.link.faults ≡ 0) }
+{
+    stream.set_write_timeout(Some(Duration::from_secs(CALL)))?;
     let link = TcpLink::new(stream)?;
     Ok(TcpGuest {
-        rt,
         link,
         waited: 0,
         passed: 0,
     })
 }
 
-impl<'a, R: SystemClock> TcpGuest<'a, R> {
+impl TcpGuest {
     // Adds what a call took since then and how many bytes it moved. It fails where that was too long.
     fn pass(&mut self, start: u64, count: usize) -> Result<usize, Failed>
         ensures same { IfOk result (λ n. n ≡ count) }
@@ -59,7 +68,7 @@ impl<'a, R: SystemClock> TcpGuest<'a, R> {
         ensures moved { self.new.passed ≡ min (self.old.passed + count) greatest }
         ensures cause { HasPlainCause self.old.link.faults self.new.link.faults result }
     {
-        let took = millis(self.rt).saturating_sub(start);
+        let took = monotonic_millis().saturating_sub(start);
         self.waited = self.waited.saturating_add(took);
         self.passed = self.passed.saturating_add(count as u64);
         if self.waited > PATIENCE + self.passed / PACE {
@@ -70,7 +79,24 @@ impl<'a, R: SystemClock> TcpGuest<'a, R> {
     }
 }
 
-impl<'a, R: SystemClock> Link for TcpGuest<'a, R> {
+impl TcpGuest {
+    // Ends the connection. What the other end still sends is read first, up to a bound: where some of it were left unread, the system
+    // would take back what was written and hasn't arrived.
+    fn leave(mut self) {
+        if !self.link.end_writes(LEAVING) {
+            return;
+        }
+        let mut rest = [0u8; 4096];
+        for _ in 0..LEFT {
+            match self.read(&mut rest) {
+                Ok(count) if count > 0 => {}
+                _ => return,
+            }
+        }
+    }
+}
+
+impl Link for TcpGuest {
     ghost left = { λ _. None };
 
     ghost written = { λ _. None };
@@ -87,7 +113,7 @@ impl<'a, R: SystemClock> Link for TcpGuest<'a, R> {
         ensures stands { IfOk result (λ _. self.new.link.faults ≡ self.old.link.faults) }
         ensures cause { HasPlainCause self.old.link.faults self.new.link.faults result }
     {
-        let start = millis(self.rt);
+        let start = monotonic_millis();
         let count = self.link.read(buf)?;
         self.pass(start, count)
     }
@@ -102,7 +128,7 @@ impl<'a, R: SystemClock> Link for TcpGuest<'a, R> {
         ensures stands { IfOk result (λ count. (0 < count) ⊎ (length piece.now ≡ 0) → self.new.link.faults ≡ self.old.link.faults) }
         ensures cause { HasPlainCause self.old.link.faults self.new.link.faults result }
     {
-        let start = millis(self.rt);
+        let start = monotonic_millis();
         let count = self.link.write(piece)?;
         self.pass(start, count)
     }
@@ -131,7 +157,7 @@ impl<'a, R> TcpDoor<'a, R> {
     }
 
     // The next connection. One that is gone before it can be taken in doesn't count.
-    fn accept(&self) -> Result<TcpGuest<'a, R>, Failed>
+    fn accept(&self) -> Result<TcpGuest, Failed>
         ensures { IfOk result (λ guest. guest.link.faults ≡ 0) }
     {
         let Some(listener) = &self.listener else {
@@ -140,7 +166,7 @@ impl<'a, R> TcpDoor<'a, R> {
         for _ in 0..u64::MAX {
             match listener.accept() {
                 Ok((stream, _)) => {
-                    if let Ok(guest) = guest(self.rt, stream) {
+                    if let Ok(guest) = guest(stream) {
                         return Ok(guest);
                     }
                 }
@@ -153,8 +179,8 @@ impl<'a, R> TcpDoor<'a, R> {
     }
 }
 
-impl<'a, R: Net<Stream = TcpStream, Listener = TcpListener> + SystemClock> Door for TcpDoor<'a, R> {
-    type Link = TcpGuest<'a, R>;
+impl<'a, R: Net<Stream = TcpStream, Listener = TcpListener>> Door for TcpDoor<'a, R> {
+    type Link = TcpGuest;
 
     ghost listens_at = { λ _. None };
 
@@ -179,7 +205,7 @@ impl<'a, R: Net<Stream = TcpStream, Listener = TcpListener> + SystemClock> Door 
         }
     }
 
-    fn next(&mut self, _alloc: Global) -> Result<TcpGuest<'a, R>, Fail> {
+    fn next(&mut self, _alloc: Global) -> Result<TcpGuest, Fail> {
         match self.accept() {
             Ok(guest) => Ok(guest),
             Err(Failed) => {
@@ -189,8 +215,8 @@ impl<'a, R: Net<Stream = TcpStream, Listener = TcpListener> + SystemClock> Door 
         }
     }
 
-    fn back(&mut self, guest: TcpGuest<'a, R>) -> Result<(), Memory> {
-        drop(guest);
+    fn back(&mut self, guest: TcpGuest) -> Result<(), Memory> {
+        guest.leave();
         self.backs = self.backs.saturating_add(1);
         Ok(())
     }

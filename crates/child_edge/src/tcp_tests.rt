@@ -12,7 +12,7 @@ use std::time::Clock as SystemClock;
 const ADDRESS: &str = "127.0.0.1:47231";
 
 // Takes a connection in, answers its three bytes by four, and gives it back; then takes one in that says nothing, and reads its end.
-fn answer<R: Net<Stream = TcpStream, Listener = TcpListener> + SystemClock>(
+fn answer<R: Net<Stream = TcpStream, Listener = TcpListener>>(
     door: &mut TcpDoor<'_, R>,
     alloc: Global,
 ) -> bool {

@@ -2,8 +2,7 @@
 
 use super::*;
 use sby_edge::{
-    Clock, Exit, Fail, Failed, Files, Got, Hold, Launch, Nothing, Pipe, Sink, Source, ToldBytes,
-    Yard,
+    Clock, Exit, Fail, Failed, Files, Got, Hold, Launch, Nothing, Pipe, Sink, Source, Yard,
 };
 use sby_terms::JobName;
 use std::alloc::{AllocError, Global};
@@ -256,7 +255,7 @@ fn watched<L: Launch>(
     most: usize,
     kills: bool,
 ) -> Result<(usize, bool, Exit), Fail> {
-    let (mut pipe, mut hold) = bay.start(alloc, JobName::Step, words, &ToldBytes::of(&Nothing))?;
+    let (mut pipe, mut hold) = bay.start(alloc, JobName::Step, words, &Nothing)?;
     let mut buffer = [0u8; 64];
     let mut taken = 0usize;
     for _ in 0..1000 {
@@ -333,7 +332,7 @@ fn dies<Y: Yard, C: Clock>(
 ) -> Result<bool, Fail> {
     let words = shell(alloc, line)?;
     let mut bay = yard.bay(alloc, 0, 0)?;
-    let started = bay.start(alloc, JobName::Step, &words, &ToldBytes::of(&Nothing));
+    let started = bay.start(alloc, JobName::Step, &words, &Nothing);
     let ended = match started {
         Ok((mut pipe, mut hold)) => {
             let mut buffer = [0u8; 4096];

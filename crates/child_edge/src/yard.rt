@@ -1,24 +1,40 @@
 // A yard of the system's children, and its bays.
 
-ghost use Rattle.std.specs.Prelude.{◌≡◌, false, None, IfOk};
+ghost use Rattle.std.specs.Prelude.{◌≡◌, cond, false, true, None, Some, IfOk};
 ghost use Rattle.sby_edge.specs.Cause.{RisesBy};
+ghost use Rattle.child_edge.specs.Either.{of_either};
 
 use crate::child::{Errors, RealHold, RealPipe};
 use crate::command::{find_program, guarded_command, plain_command};
+use crate::either::Either;
 use crate::files::open_and_read;
 use crate::log::Log;
-use sby_edge::{Fail, Failed, Got, Hold, Launch, Memory, ToldBytes, Yard};
+use crate::tcp_dial::{TcpDial, TcpHost};
+use crate::tcp_link::TcpCut;
+use net_answer::NetPipe;
+use net_lane::NetHold;
+use sby_edge::{Fail, Failed, Got, Hold, JobFile, Launch, Memory, Pipe, Yard};
 use sby_terms::JobName;
 use std::alloc::{AllocError, Global};
 use std::env::Env;
 use std::io::ErrorKind;
+use std::net::{Net, TcpStream};
 use std::process::{Child, Command, Processes, Stdio, SystemProcess};
 use std::rt::Files as SystemFiles;
 use std::sync::Arc;
 use std::sync::atomic::AtomicBool;
 use std::time::Clock as SystemClock;
 
-/// Starts the children of one lane. Contracts see its counts.
+// The first word of what is reached over a connection.
+const NET: &str = "net";
+
+/// The output of what a bay started.
+pub type LanePipe<'a, R> = Either<RealPipe<'a, R>, NetPipe<TcpHost>>;
+
+/// The hold of what a bay started.
+pub type LaneHold<'a, R> = Either<RealHold<'a, R>, NetHold<TcpCut>>;
+
+/// Starts the children of one lane, and connects to its engines elsewhere. Contracts see its counts.
 #[derive(Drop)]
 pub struct RealBay<'a, R> {
     rt: &'a R,
@@ -126,12 +142,12 @@ fn risen(count: u64, part: u64) -> u64
 }
 
 impl<'a, R: SystemFiles + SystemClock> RealBay<'a, R> {
-    // Tells the log of a start.
+    // Tells the log of a start, or that there is none.
     fn say_start(
         &self,
         alloc: Global,
         words: &[String],
-        answer: &Result<(RealPipe<'a, R>, RealHold<'a, R>), Fail>,
+        answer: &Result<(LanePipe<'a, R>, LaneHold<'a, R>), Fail>,
     ) {
         if self.log.is_silent() {
             return;
@@ -141,18 +157,89 @@ impl<'a, R: SystemFiles + SystemClock> RealBay<'a, R> {
         };
         let (task, lane) = (self.task, self.lane);
         match answer {
-            Ok((_, hold)) => {
+            Ok((_, Either::Child(hold))) => {
                 let id = hold.child.id();
                 self.log.say(
                     alloc,
                     &format_args!("task {task}, lane {lane}: child {id} is {text}"),
                 );
             }
+            Ok((_, Either::Net(_))) => self.log.say(
+                alloc,
+                &format_args!("task {task}, lane {lane}: connected for {text}"),
+            ),
             Err(_) => self.log.say(
                 alloc,
                 &format_args!("task {task}, lane {lane}: no start of {text}"),
             ),
         }
+    }
+}
+
+// Lets go of the output; answers how often a read failed.
+fn pipe_faults<R: SystemFiles + SystemClock>(pipe: LanePipe<'_, R>) -> u64
+    ensures { result ≡ of_either (λ p. p.faults) (λ p. p.faults) pipe.entry }
+{
+    match pipe {
+        Either::Child(mut pipe) => {
+            pipe.close();
+            pipe.into_faults()
+        }
+        Either::Net(pipe) => pipe.faults(),
+    }
+}
+
+// Lets go of what was started and reaped; answers how often a call failed.
+fn hold_faults<R>(hold: LaneHold<'_, R>) -> u64
+    requires { of_either (λ h. h.is_reaped) (λ h. h.is_reaped) hold ≡ true }
+    ensures { result ≡ of_either (λ h. h.faults) (λ h. h.faults) hold.entry }
+{
+    match hold {
+        Either::Child(hold) => hold.into_faults(),
+        Either::Net(hold) => {
+            let faults = hold.faults();
+            hold.end();
+            faults
+        }
+    }
+}
+
+// Whether the words are those of an engine that is reached over a connection.
+fn is_net(words: &[String]) -> bool {
+    match words.first() {
+        Some(word) => word.as_str() == NET,
+        None => false,
+    }
+}
+
+impl<'a, R> RealBay<'a, R>
+where
+    R: Processes<Started = SystemProcess>
+        + SystemFiles
+        + SystemClock
+        + Env
+        + Net<Stream = TcpStream>
+        + Alloc<A = Global>,
+{
+    // Starts a child, or connects to an engine elsewhere and sends it the job.
+    fn open<F: JobFile>(
+        &self,
+        alloc: Global,
+        words: &[String],
+        file: &F,
+    ) -> Result<(LanePipe<'a, R>, LaneHold<'a, R>), Fail>
+        ensures pipe { IfOk result (λ started. of_either (λ p. p.faults) (λ p. p.faults) started.0 ≡ 0) }
+        ensures hold { IfOk result (λ started. (of_either (λ h. cond h.is_killed (Some 0) None) (λ h. h.killed) started.1 ≡ None)
+            × (of_either (λ h. h.is_reaped) (λ h. h.is_reaped) started.1 ≡ false) × (of_either (λ h. h.exit) (λ h. h.exit) started.1 ≡ None)
+            × (of_either (λ h. h.faults) (λ h. h.faults) started.1 ≡ 0)) }
+    {
+        if is_net(words) {
+            let mut dial = TcpDial::new(self.rt);
+            let (pipe, hold) = net_lane::open(&mut dial, alloc, words, file, None)?;
+            return Ok((Either::Net(pipe), Either::Net(hold)));
+        }
+        let (pipe, hold) = start(self.rt, self.log, alloc, words)?;
+        Ok((Either::Child(pipe), Either::Child(hold)))
     }
 }
 
@@ -162,12 +249,13 @@ where
         + SystemFiles
         + SystemClock
         + Env
+        + Net<Stream = TcpStream>
         + Alloc<A = Global>
         + Sync,
 {
-    type Pipe = RealPipe<'a, R>;
+    type Pipe = LanePipe<'a, R>;
 
-    type Hold = RealHold<'a, R>;
+    type Hold = LaneHold<'a, R>;
 
     ghost told = { λ _. None };
 
@@ -177,14 +265,14 @@ where
 
     ghost hold_faults = { λ b. b.hold_faults };
 
-    fn start(
+    fn start<F: JobFile>(
         &mut self,
         alloc: Global,
         _job: JobName,
         words: &[String],
-        _bytes: &ToldBytes,
-    ) -> Result<(RealPipe<'a, R>, RealHold<'a, R>), Fail> {
-        let answer = start(self.rt, self.log, alloc, words);
+        file: &F,
+    ) -> Result<(LanePipe<'a, R>, LaneHold<'a, R>), Fail> {
+        let answer = self.open(alloc, words, file);
         self.say_start(alloc, words, &answer);
         if matches!(answer, Err(Fail::Failed)) {
             self.start_faults = self.start_faults.saturating_add(1);
@@ -200,20 +288,19 @@ where
         answer
     }
 
-    fn kill(&self, _pipe: &RealPipe<'a, R>, hold: &mut RealHold<'a, R>) -> Result<(), Failed> {
+    fn kill(&self, _pipe: &LanePipe<'a, R>, hold: &mut LaneHold<'a, R>) -> Result<(), Failed> {
         hold.kill()
     }
 
-    fn finish(&mut self, mut pipe: RealPipe<'a, R>, hold: RealHold<'a, R>) {
-        pipe.close();
-        let reads = pipe.into_faults();
-        let holds = hold.into_faults();
+    fn finish(&mut self, pipe: LanePipe<'a, R>, hold: LaneHold<'a, R>) {
+        let reads = pipe_faults(pipe);
+        let holds = hold_faults(hold);
         self.read_faults = risen(self.read_faults, reads);
         self.hold_faults = risen(self.hold_faults, holds);
     }
 }
 
-/// The children of the system, each with the guard that kills all it has started where it is killed, or where this process ends.
+/// Engines elsewhere, and the children of the system, each of these with the guard that kills all it has started where it is killed, or where this process ends.
 #[derive(Drop)]
 pub struct RealYard<'a, R> {
     rt: &'a R,
@@ -244,6 +331,7 @@ where
         + SystemFiles
         + SystemClock
         + Env
+        + Net<Stream = TcpStream>
         + Alloc<A = Global>
         + Sync,
 {

@@ -188,6 +188,21 @@ fn the_first_fault_of_an_engine_is_named(rt: HostRuntime) -> Result<(), Fail> {
         ("proofb solver {proof}", Some(TaskKind::Marks)),
         ("proofb solver {cnf} a{proof}{proof}", Some(TaskKind::Marks)),
         ("proofb solver { cnf } {proof}", Some(TaskKind::Marks)),
+        ("net host:1", None),
+        ("net host:1 --conflicts 7", None),
+        ("net [::1]:7000", None),
+        ("net", Some(TaskKind::BadValue)),
+        ("net host", Some(TaskKind::BadValue)),
+        ("net :1", Some(TaskKind::BadValue)),
+        ("net host:0", Some(TaskKind::BadValue)),
+        ("net host:65536", Some(TaskKind::BadValue)),
+        ("net host:1 7", Some(TaskKind::BadValue)),
+        ("net host:1 --conflicts", Some(TaskKind::BadValue)),
+        ("net host:1 --conflicts 0", Some(TaskKind::BadValue)),
+        (
+            "net host:1 --conflicts 1000000001",
+            Some(TaskKind::BadValue),
+        ),
     ] {
         let text = format!(in rt.alloc(); "[engines]\n{engine}\n")?;
         let (line, first) = match kind {

@@ -7,7 +7,7 @@ ghost use Rattle.sby_edge.specs.Child.{KillsAt, ProofFrom, finished, pipe_of, st
 ghost use Rattle.sby_edge.specs.Files.{GotFits};
 
 use jobs_pool::{Place, Pool, PoolSeat};
-use sby_edge::{Fail, Failed, Got, Hold, Launch, Pipe, ToldBytes};
+use sby_edge::{Fail, Failed, Got, Hold, JobFile, Launch, Pipe};
 use sby_terms::JobName;
 use std::alloc::Global;
 use std::marker::Model;
@@ -157,19 +157,19 @@ impl<'a, L> Berth<'a, L> {
 }
 
 impl<'a, L: Launch> Berth<'a, L> {
-    /// Starts the job's child. `bytes` tells the job's file.
-    pub fn start(
+    /// Starts the job's child.
+    pub fn start<F: JobFile>(
         &mut self,
         alloc: Global,
         job: JobName,
         words: &[String],
-        bytes: &ToldBytes,
+        file: &F,
     ) -> Result<(L::Pipe, L::Hold), Fail>
         requires { MayStart self.old }
         ensures same { self.new ≡ record self.old { bay = self.new.bay; stands = self.new.stands } }
         ensures stands { IfOk result (λ _. self.new.stands ≡ true) }
         ensures away { IfErr result (λ _. self.new.stands ≡ false) }
-        ensures told { L.told self.new.bay ≡ option_map (started result job (map string_bytes words.now) bytes.now.bytes) (L.told self.old.bay) }
+        ensures told { L.told self.new.bay ≡ option_map (started result job (map string_bytes words.now) (F.bytes file.now)) (L.told self.old.bay) }
         ensures pipe { IfOk result (λ child. L.Pipe.told child.0 ≡ option_map (λ bay. pipe_of (bay.scripts job) (length bay.starts)) (L.told self.old.bay)) }
         ensures exit { IfOk result (λ child. L.Hold.exit child.1 ≡ option_map (λ bay. (bay.scripts job).exit) (L.told self.old.bay)) }
         ensures fresh { IfOk result (λ child. (L.Hold.killed child.1 ≡ None) × (L.Hold.is_reaped child.1 ≡ false)
@@ -178,7 +178,7 @@ impl<'a, L: Launch> Berth<'a, L> {
         ensures reads { L.read_faults self.new.bay ≡ L.read_faults self.old.bay }
         ensures holds { L.hold_faults self.new.bay ≡ L.hold_faults self.old.bay }
     {
-        let child = self.bay.start(alloc, job, words, bytes)?;
+        let child = self.bay.start(alloc, job, words, file)?;
         self.stands = true;
         Ok(child)
     }

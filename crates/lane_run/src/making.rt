@@ -7,7 +7,7 @@ ghost use Rattle.race_core.specs.declared.event.Judged.TheVariants.{More};
 ghost use Rattle.sby_terms.specs.declared.names.JobName.{JobName};
 
 use crate::subject::{Asks, Subject};
-use sby_edge::ToldBytes;
+use sby_edge::JobFile;
 use sby_terms::{JobName, Settled};
 use std::alloc::{AllocError, Global};
 
@@ -15,7 +15,7 @@ use std::alloc::{AllocError, Global};
 #[derive(Drop)]
 pub struct Child<S> {
     pub subject: S,
-    /// The words of the child, the path of the job's file among them.
+    /// The words of the child. One on this machine finds the path of the job's file among them.
     pub words: Vec<String>,
     /// The path at which the child may leave a proof file.
     pub proof: String,
@@ -24,6 +24,8 @@ pub struct Child<S> {
 /// Who makes the children of a task's lanes. Lanes are counted from 0.
 pub trait Makes<T: Settled>: Asks<T> {
     type Subject: Subject<T> + Send + Drop;
+
+    type File: JobFile + Send + Drop;
 
     /// The lane's engine serves the job.
     ghost is_served: { Self → ℕ → JobName → Type 0 };
@@ -34,7 +36,7 @@ pub trait Makes<T: Settled>: Asks<T> {
     /// The path at which the child may leave a proof file.
     ghost proof: { Self → ℕ → JobName → List ℕ };
 
-    /// The job's file.
+    /// The bytes of the job's file.
     ghost file: { Self → JobName → List ℕ };
 
     /// What an output that begins with these bytes comes to, these bytes as the whole output, and these as the whole proof file.
@@ -69,9 +71,10 @@ pub trait Makes<T: Settled>: Asks<T> {
         ensures judges { IfOk result (λ c. Within (Self.Subject.stands c.subject) (stands self.now lane job) × Within (Self.Subject.ends c.subject) (ends self.now lane job)
             × Within (Self.Subject.proves c.subject) (proves self.now lane job)) };
 
-    /// What tells the job's file.
-    fn bytes(&self, job: JobName) -> ToldBytes
-        ensures { result.bytes ≡ file self.now job };
+    /// The file of a job that the lane serves.
+    fn file(&self, lane: u32, job: JobName) -> Self::File
+        requires { is_served self.now lane job }
+        ensures { Self.File.bytes result ≡ file self.now job };
 
     fn most(&self) -> u64
         ensures { result ≡ most self.now };

@@ -11,7 +11,6 @@ ghost use Rattle.race_core.specs.declared.part.Reader.TheVariants as reader;
 use crate::entering::enter;
 use race_cells::{Cells, Notes, Settling};
 use race_core::{EventList, LaneEvent, Reader};
-use sby_edge::ToldBytes;
 use sby_terms::{JobName, Settled};
 use std::alloc::Global;
 
@@ -19,9 +18,6 @@ use std::alloc::Global;
 #[derive(Clone, Copy)]
 pub struct Asked<'a> {
     pub job: JobName,
-    /// The words of the child, the path of the job's file among them; and what tells that file.
-    pub words: &'a [String],
-    pub bytes: &'a ToldBytes,
     /// The path at which the child may leave a proof file, and of how many bytes it is judged at most.
     pub proof: &'a str,
     pub most: u64,

@@ -30,7 +30,7 @@ use crate::waiting::wait_place;
 use lane_berth::Berth;
 use race_cells::Notes;
 use race_core::{EventList, JobEnd, LaneEvent};
-use sby_edge::{Clock, Fail, Launch, ToldBytes};
+use sby_edge::{Clock, Fail, JobFile, Launch};
 use sby_terms::{JobName, Settled};
 use std::alloc::{AllocError, Global};
 use std::sync::Wait;
@@ -241,6 +241,7 @@ fn start_child<
     R: Threads + Wait + Sync,
     L: Launch,
     S: Subject<T> + Drop,
+    F: JobFile,
     J: Asks<T> + Sync,
     T: Settled + Drop + Send + Sync,
     C: Clock,
@@ -250,7 +251,7 @@ fn start_child<
     berth: &mut Berth<'_, L>,
     watch: &Watch<'_, J, T, C>,
     child: Child<S>,
-    bytes: &ToldBytes,
+    file: &F,
     most: u64,
     notes: &mut Notes<T>,
     reader_events: EventList<T>,
@@ -276,7 +277,7 @@ fn start_child<
     ensures won { IfWon (reader_from reader.Fresh result.events.events) (λ f. known_at notes.new watch.now.terms.now.cell ≡ Some f) }
     ensures found { (f : T) → HasEnd (reader_from reader.Fresh result.events.events) (end.Found f) → (T.problem f ≡ J.problem watch.now.asks.now) × (T.job f ≡ watch.now.terms.now.job) }
     ensures starts { (starts : List StartOf) × (L.told berth.new.bay ≡ option_map (with_starts starts) (L.told berth.old.bay))
-        × Starts berth.old.pool watch.now.terms.now.job (map string_bytes child.words.items) bytes.now.bytes
+        × Starts berth.old.pool watch.now.terms.now.job (map string_bytes child.words.items) (F.bytes file.now)
         (ReadsScript (S.stands child.subject) (S.ends child.subject) (S.proves child.subject) (L.told berth.old.bay) watch.now.terms.now.job most (S.most child.subject) result.events.events)
         result.events.events keeper_events.new.events result.end starts }
     ensures start_failed { result.end ≡ end.StartFailed → Rose (L.start_faults berth.old.bay) (L.start_faults berth.new.bay) }
@@ -291,7 +292,7 @@ fn start_child<
     } = child;
     findings_are_for(&subject);
     let job = watch.terms.job;
-    match berth.start(alloc, job, words.as_slice(), bytes) {
+    match berth.start(alloc, job, words.as_slice(), file) {
         Err(Fail::Failed) => {
             give_place(watch, berth, notes, keeper_events);
             Ran {
@@ -306,8 +307,6 @@ fn start_child<
         Ok(started) => {
             let asked = Asked {
                 job,
-                words: words.as_slice(),
-                bytes,
                 proof: proof.as_str(),
                 most,
             };
@@ -399,7 +398,7 @@ pub fn run_child<
         berth,
         watch,
         child,
-        &makes.bytes(job),
+        &makes.file(lane, job),
         makes.most(),
         notes,
         reader_events,

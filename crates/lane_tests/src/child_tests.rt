@@ -61,6 +61,12 @@ const CALLED: Row = Row {
     ..TURN
 };
 
+// The stream of an engine that is reached over a connection.
+const SENT: Row = Row {
+    kind: Kind::Net,
+    ..TURN
+};
+
 // A hinted stream.
 const HINTED: Row = Row {
     kind: Kind::Lrat,
@@ -80,7 +86,7 @@ const BINARY: Row = Row {
 };
 
 // Streams over one cycle and over two.
-const STREAMS: [Row; 9] = [
+const STREAMS: [Row; 11] = [
     Row {
         text: "",
         end: Ended::Bad(48, 0),
@@ -120,6 +126,12 @@ const STREAMS: [Row; 9] = [
         text: "0 1",
         end: Ended::Bad(44, 0),
         ..TURN
+    },
+    SENT,
+    Row {
+        text: "c a\n",
+        end: Ended::Bad(48, 4),
+        ..SENT
     },
 ];
 

@@ -6,6 +6,8 @@ mod child_tests;
 #[cfg(test)]
 mod load_tests;
 #[cfg(test)]
+mod net_tests;
+#[cfg(test)]
 mod race_tests;
 #[cfg(test)]
 mod short_tests;

@@ -26,7 +26,7 @@ use std::sync::Wait;
 use std::test::Fail;
 use std::thread::Threads;
 use std::time::Clock as SystemClock;
-use task_race::ProblemLanes;
+use task_race::{ProblemFile, ProblemLanes};
 
 // An output with its next piece.
 #[derive(Drop)]
@@ -193,6 +193,8 @@ impl<'a> Makes<Finding> for ShortLanes<'a> {
 
     type Subject = ShortJudge<'a>;
 
+    type File = ProblemFile<'a>;
+
     ghost is_served = { λ l lane job. IsServed l.lanes.engines.now l.lanes.problem.now lane job × Serves (Certificate Drup) job × (1 ≤ l.most) × (l.most ≤ 2 ^ 32) };
 
     ghost words = { λ l lane job. [] };
@@ -232,8 +234,8 @@ impl<'a> Makes<Finding> for ShortLanes<'a> {
         })
     }
 
-    fn bytes(&self, job: JobName) -> ToldBytes {
-        self.lanes.bytes(job)
+    fn file(&self, lane: u32, job: JobName) -> ProblemFile<'a> {
+        self.lanes.file(lane, job)
     }
 
     fn most(&self) -> u64 {

@@ -70,8 +70,8 @@ fn scripts_of(alloc: Global, case: &Case) -> Result<Vec<Scripted>, AllocError> {
     Ok(scripts)
 }
 
-// A clock that reads 5 first, then 400, and 1005 from then on.
-fn clock_of(alloc: Global) -> Result<ListClock, AllocError> {
+/// A clock that reads 5 first, then 400, and 1005 from then on.
+pub fn clock_of(alloc: Global) -> Result<ListClock, AllocError> {
     let mut readings = vec![in alloc; 5]?;
     readings.push(400)?;
     readings.push(1005)?;
@@ -123,8 +123,8 @@ impl Files for NoFiles {
     }
 }
 
-// Races lanes.
-fn race_over<R: Threads + Wait + Sync, Y: Yard, C: Clock>(
+/// Races lanes.
+pub fn race_over<R: Threads + Wait + Sync, Y: Yard, C: Clock>(
     rt: &R,
     alloc: Global,
     yard: &mut Y,

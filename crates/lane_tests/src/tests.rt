@@ -187,14 +187,25 @@ pub enum Kind {
     Lrat,
     Proof,
     ProofBinary,
+    Net,
 }
 
-fn engine_of(alloc: Global, kind: Kind) -> Engine {
+/// The words of a `net` line.
+pub fn net_words(alloc: Global) -> Result<Vec<String>, AllocError> {
+    let mut words = Vec::new(alloc);
+    for word in ["net", "host:1", "--conflicts", "7"] {
+        words.push(String::from_str(alloc, word)?)?;
+    }
+    Ok(words)
+}
+
+fn engine_of(alloc: Global, kind: Kind) -> Result<Engine, AllocError> {
     match kind {
-        Kind::Sat => Engine::Sat(None),
-        Kind::Lrat => Engine::Lrat(Words::new(Vec::new(alloc))),
-        Kind::Proof => Engine::Proof(Words::new(Vec::new(alloc))),
-        Kind::ProofBinary => Engine::ProofBinary(Words::new(Vec::new(alloc))),
+        Kind::Sat => Ok(Engine::Sat(None)),
+        Kind::Lrat => Ok(Engine::Lrat(Words::new(Vec::new(alloc)))),
+        Kind::Proof => Ok(Engine::Proof(Words::new(Vec::new(alloc)))),
+        Kind::ProofBinary => Ok(Engine::ProofBinary(Words::new(Vec::new(alloc)))),
+        Kind::Net => Ok(Engine::Net(Words::new(net_words(alloc)?))),
     }
 }
 
@@ -202,7 +213,7 @@ fn engine_of(alloc: Global, kind: Kind) -> Engine {
 pub fn engines_of(alloc: Global, kind: Kind, lanes: u32) -> Result<Vec<Engine>, AllocError> {
     let mut engines = Vec::new(alloc);
     for _ in 0..lanes {
-        engines.push(engine_of(alloc, kind))?;
+        engines.push(engine_of(alloc, kind)?)?;
     }
     Ok(engines)
 }

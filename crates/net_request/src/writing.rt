@@ -37,8 +37,7 @@ pub fn write_request<L: Link, S: Source>(
     count: u64,
     job: &mut S,
 ) -> Result<(), Failed>
-    requires { count ≡ length (S.rest job.old) }
-    ensures written { OnOk result (Grew (L.written link.old) (L.written link.new) (request budget (S.rest job.old))) }
+    ensures written { count ≡ length (S.rest job.old) → OnOk result (Grew (L.written link.old) (L.written link.new) (request budget (S.rest job.old))) }
     ensures left { L.left link.new ≡ L.left link.old }
     ensures still { OnOk result (L.faults link.new ≡ L.faults link.old) }
     ensures failed { OnErr result (Rose (L.faults link.old) (L.faults link.new)) }

@@ -5,30 +5,13 @@ ghost use Rattle.std.specs.Prelude.{map, string_bytes};
 ghost use Rattle.std.specs.Process.{exit_status};
 ghost use Rattle.pdr_program.specs.Program.{IsExit, IsProgramExit};
 
-use child_edge::{RealFiles, StdSink};
+use child_edge::{RealFiles, StdSink, arguments};
 use pdr_run::run_pdr;
 use std::alloc::{AllocError, Global};
-use std::env;
-use std::io::{self, ErrorKind};
+use std::io;
 use std::process::ExitCode;
 
 const OUT_OF_MEMORY: u8 = 32;
-
-// The arguments after the program's name. Arguments that aren't all UTF-8 are refused as no arguments are.
-fn words(rt: &HostRuntime, alloc: Global) -> Result<Vec<String>, AllocError> {
-    let mut words = Vec::new(alloc);
-    let args = match env::args(rt) {
-        Ok(args) => args,
-        Err(error) if error.kind() == ErrorKind::OutOfMemory => return Err(AllocError),
-        Err(_) => return Ok(words),
-    };
-    for word in args.skip(1) {
-        if words.push(word).is_err() {
-            return Err(AllocError);
-        }
-    }
-    Ok(words)
-}
 
 // Runs the engine over the real files and a real output.
 fn run_real(rt: &HostRuntime, alloc: Global, words: &[String]) -> u8
@@ -44,7 +27,7 @@ fn run(rt: &HostRuntime) -> ExitCode
     ensures { IsProgramExit (exit_status result) }
 {
     let alloc = rt.alloc();
-    match words(rt, alloc) {
+    match arguments(rt, alloc) {
         Ok(words) => ExitCode::from(run_real(rt, alloc, &words)),
         Err(AllocError) => ExitCode::from(OUT_OF_MEMORY),
     }

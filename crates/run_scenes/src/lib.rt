@@ -11,6 +11,6 @@ mod texts;
 pub use child::{Child, FINDS, script_of};
 pub use design::{ASSERT, END, HEAD, NOT, REGISTER, T};
 pub use reading::read_scene;
-pub use running::{Ran, first_wrong, is_as_told, run, run_into};
+pub use running::{Ended, Ran, first_wrong, is_as_told, run, run_into};
 pub use scene::{Placed, Scene};
 pub use texts::{Named, joined, owned, push_text};

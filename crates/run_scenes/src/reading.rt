@@ -12,7 +12,8 @@ use std::alloc::{AllocError, Global};
 /// - `clock N`: the clock reads 0, then 400, then N from then on; `child PART=VALUE;..`: a child;
 /// - `rc N`: the exit status; `> TEXT`: a line that is printed; `lines TEXT`: whole lines that are printed;
 /// - `first N`: only the first N lines so far are printed;
-/// - `left PATH TEXT`, `missing PATH`: what stands there after the run.
+/// - `left PATH TEXT`, `missing PATH`: what stands there after the run;
+/// - `starts WORD ..`: a child is started with these words.
 pub fn read_scene(
     alloc: Global,
     names: &[Named],
@@ -55,6 +56,7 @@ fn read_line(
         "words" => scene.words = owned(alloc, rest)?,
         "left" => scene.left.push(placed(alloc, names, rest)?)?,
         "missing" => scene.missing.push(String::from_str(alloc, rest)?)?,
+        "starts" => scene.starts.push(String::from_str(alloc, rest)?)?,
         "child" => return read_child(alloc, scene, names, rest),
         ">" => {
             push_text(&mut scene.printed, names, rest)?;

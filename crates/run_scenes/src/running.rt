@@ -5,7 +5,8 @@ use crate::reading::read_scene;
 use crate::scene::Scene;
 use crate::texts::Named;
 use sby_edge::{
-    Clock, Fail, Files, ListClock, MemFiles, MemSink, ScriptYard, Scripted, Sink, Stage, StillClock,
+    Clock, Fail, Files, LaneStarts, ListClock, MemFiles, MemSink, ScriptYard, Scripted, Sink,
+    Stage, StillClock,
 };
 use sby_top::run_sby;
 use std::alloc::{AllocError, Global};
@@ -13,15 +14,45 @@ use std::sync::Wait;
 use std::thread::Threads;
 use std::time::Clock as SystemClock;
 
-/// What a run printed, the files after it, and its exit status.
+/// How a run ended: its exit status, and the words of each child that was started, between single spaces.
+#[derive(Drop)]
+pub struct Ended {
+    pub rc: u8,
+    pub starts: Vec<String>,
+}
+
+/// What a run printed, the files after it, and how it ended.
 #[derive(Drop)]
 pub struct Ran {
-    pub rc: u8,
+    pub ended: Ended,
     pub printed: MemSink,
     pub files: MemFiles,
 }
 
-/// The exit status of a run into a sink, over children of these scripts; all others say that they don't know.
+// Words between single spaces.
+fn line_of(alloc: Global, words: &[String]) -> Result<String, AllocError> {
+    let mut line = String::new(alloc);
+    for word in words {
+        if !line.is_empty() {
+            line.push_str(" ")?;
+        }
+        line.push_str(word.as_str())?;
+    }
+    Ok(line)
+}
+
+// The words of each start of these lanes.
+fn starts_of(alloc: Global, lanes: &[LaneStarts]) -> Result<Vec<String>, AllocError> {
+    let mut starts = Vec::new(alloc);
+    for lane in lanes {
+        for started in &lane.started {
+            starts.push(line_of(alloc, &started.words)?)?;
+        }
+    }
+    Ok(starts)
+}
+
+/// The end of a run into a sink, over children of these scripts; all others say that they don't know.
 pub fn run_into<H: Threads + Wait + SystemClock + Sync + Alloc<A = Global>, S: Sink, C: Clock>(
     rt: &H,
     files: &mut MemFiles,
@@ -29,12 +60,14 @@ pub fn run_into<H: Threads + Wait + SystemClock + Sync + Alloc<A = Global>, S: S
     out: &mut S,
     scripts: &[Scripted],
     clock: &C,
-) -> Result<u8, AllocError> {
+) -> Result<Ended, AllocError> {
     let alloc = rt.alloc();
     let unknown = script_of(alloc, Vec::from_slice(alloc, b"s UNKNOWN\n")?);
     let stage = Stage::new(alloc);
     let mut yard = ScriptYard::new(rt, alloc, &stage, scripts, &unknown);
-    Ok(run_sby(rt, alloc, words, files, out, &mut yard, clock).rc)
+    let rc = run_sby(rt, alloc, words, files, out, &mut yard, clock).rc;
+    let starts = starts_of(alloc, yard.lanes().unwrap_or(&[]))?;
+    Ok(Ended { rc, starts })
 }
 
 // The store before the run.
@@ -57,13 +90,13 @@ fn sink_of(alloc: Global, cut: &[u64]) -> Result<MemSink, AllocError> {
     MemSink::new(alloc, 2000, Vec::from_slice(alloc, cut)?)
 }
 
-// The exit status of a run under a clock that goes on.
+// The end of a run under a clock that goes on.
 fn run_timed<H: Threads + Wait + SystemClock + Sync + Alloc<A = Global>>(
     rt: &H,
     scene: &Scene,
     ran: &mut Ran,
     last: u64,
-) -> Result<u8, AllocError> {
+) -> Result<Ended, AllocError> {
     let clock = clock_of(rt.alloc(), last)?;
     let (words, scripts) = (&scene.words, &scene.scripts);
     run_into(rt, &mut ran.files, words, &mut ran.printed, scripts, &clock)
@@ -76,7 +109,7 @@ fn run_over<H: Threads + Wait + SystemClock + Sync + Alloc<A = Global>>(
     ran: &mut Ran,
 ) -> Result<(), AllocError> {
     let (words, scripts, clock) = (&scene.words, &scene.scripts, StillClock(0));
-    ran.rc = match scene.last {
+    ran.ended = match scene.last {
         Some(last) => run_timed(rt, scene, ran, last)?,
         None => run_into(rt, &mut ran.files, words, &mut ran.printed, scripts, &clock)?,
     };
@@ -90,8 +123,12 @@ pub fn run<H: Threads + Wait + SystemClock + Sync + Alloc<A = Global>>(
 ) -> Result<Ran, Fail> {
     let files = stored(rt.alloc(), scene)?;
     let printed = sink_of(rt.alloc(), &scene.cut)?;
-    let mut ran = Ran {
+    let ended = Ended {
         rc: 0,
+        starts: Vec::new(rt.alloc()),
+    };
+    let mut ran = Ran {
+        ended,
         printed,
         files,
     };
@@ -111,7 +148,12 @@ pub fn is_as_told(scene: &Scene, ran: &Ran) -> bool {
             return false;
         }
     }
-    ran.rc == scene.rc && ran.printed.bytes() == scene.printed.as_slice()
+    for start in &scene.starts {
+        if !ran.ended.starts.contains(start) {
+            return false;
+        }
+    }
+    ran.ended.rc == scene.rc && ran.printed.bytes() == scene.printed.as_slice()
 }
 
 /// The first of the scenes between empty lines that can't be read or isn't as told. Each begins with the lines of the head.

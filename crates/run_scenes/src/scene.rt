@@ -30,6 +30,8 @@ pub struct Scene {
     pub left: Vec<Placed>,
     /// Paths where no file stands after the run.
     pub missing: Vec<String>,
+    /// The words of children that are started, between single spaces.
+    pub starts: Vec<String>,
 }
 
 impl Scene {
@@ -46,6 +48,7 @@ impl Scene {
             printed: Vec::new(alloc),
             left: Vec::new(alloc),
             missing: Vec::new(alloc),
+            starts: Vec::new(alloc),
         }
     }
 }

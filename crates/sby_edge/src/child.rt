@@ -6,8 +6,7 @@ ghost use Rattle.sby_edge.specs.Child.{BayOf, IsLogged, Kills, KillsAt, LaneOf, 
 ghost use Rattle.sby_edge.specs.Files.{GotFits};
 ghost use Rattle.sby_edge.specs.declared.script.Exit.{Exit};
 
-use crate::told::ToldBytes;
-use crate::{Exit, Fail, Failed, Got, Memory};
+use crate::{Exit, Fail, Failed, Got, JobFile, Memory};
 use sby_terms::JobName;
 use std::alloc::Global;
 
@@ -83,15 +82,16 @@ pub trait Launch {
     /// How many finished children had a hold with a fault.
     ghost hold_faults: { Self → ℕ };
 
-    /// Starts the job's child with these words. `bytes` tells the job's file, of which nothing is kept: its path stands among the words.
-    fn start(
+    /// Starts the job's child with these words. A child on this machine reads the job's file at the path among its words; one that is
+    /// reached over a connection is sent it.
+    fn start<F: JobFile>(
         &mut self,
         alloc: Global,
         job: JobName,
         words: &[String],
-        bytes: &ToldBytes,
+        file: &F,
     ) -> Result<(Self::Pipe, Self::Hold), Fail>
-        ensures told { told self.new ≡ option_map (started result job (map string_bytes words.now) bytes.now.bytes) (told self.old) }
+        ensures told { told self.new ≡ option_map (started result job (map string_bytes words.now) (F.bytes file.now)) (told self.old) }
         ensures pipe { IfOk result (λ child. Self.Pipe.told child.0
             ≡ option_map (λ bay. pipe_of (bay.scripts job) (length bay.starts)) (told self.old)) }
         ensures exit { IfOk result (λ child. Self.Hold.exit child.1 ≡ option_map (λ bay. (bay.scripts job).exit) (told self.old)) }

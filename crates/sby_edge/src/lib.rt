@@ -4,6 +4,7 @@
 mod calls;
 mod child;
 mod contents;
+mod job_file;
 mod list_clock;
 mod memory;
 mod none;
@@ -17,6 +18,7 @@ mod stage;
 mod told;
 
 pub use child::{Clock, Hold, Launch, Pipe, Yard};
+pub use job_file::{FileReader, JobFile};
 pub use list_clock::ListClock;
 pub use memory::{MemFiles, MemSink};
 pub use none::{NoBay, NoHold, NoPipe, NoYard, StillClock};

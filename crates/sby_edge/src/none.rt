@@ -3,8 +3,7 @@
 ghost use Rattle.std.specs.Prelude.{◌≡◌, ℕ, ◌<◌, None, Some, true, cond, IsErr};
 ghost use Rattle.sby_edge.specs.Cause.{HasCause, HasPlainCause, RisesBy, counted};
 
-use crate::told::ToldBytes;
-use crate::{Clock, Exit, Fail, Failed, Got, Hold, Launch, Memory, Pipe, Yard};
+use crate::{Clock, Exit, Fail, Failed, Got, Hold, JobFile, Launch, Memory, Pipe, Yard};
 use sby_terms::JobName;
 use std::alloc::Global;
 use std::marker::Model;
@@ -120,12 +119,12 @@ impl Launch for NoBay {
 
     ghost hold_faults = { λ b. b.holds };
 
-    fn start(
+    fn start<F: JobFile>(
         &mut self,
         _alloc: Global,
         _job: JobName,
         _words: &[String],
-        _bytes: &ToldBytes,
+        _file: &F,
     ) -> Result<(NoPipe, NoHold), Fail>
         ensures fails { result ≡ Err Fail.Failed }
         ensures counts { self.new ≡ record self.old { starts = counted self.old.starts } }

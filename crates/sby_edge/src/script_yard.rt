@@ -11,8 +11,8 @@ use crate::script::{Call, Script};
 use crate::script_child::{ScriptHold, ScriptPipe};
 use crate::scripted::{Scripted, script_for};
 use crate::stage::{Role, Stage};
-use crate::told::ToldBytes;
-use crate::{Fail, Failed, Got, Launch, Memory, Yard};
+use crate::told::{Told, ToldBytes};
+use crate::{Fail, Failed, Got, JobFile, Launch, Memory, Yard};
 use sby_terms::JobName;
 use std::alloc::{AllocError, Global};
 use std::marker::Model;
@@ -40,13 +40,14 @@ impl Model for Started {
 }
 
 impl Started {
-    fn new(
+    /// A start of the job with these words and this file, which isn't finished.
+    pub fn new<F: Told>(
         alloc: Global,
         job: JobName,
         words: &[String],
-        bytes: &ToldBytes,
+        file: &F,
     ) -> Result<Self, AllocError>
-        ensures { IfOk result (λ started. started ≡ record { job = job; words = map string_bytes words.now; bytes = bytes.now.bytes; given = None; killed = None }) }
+        ensures { IfOk result (λ started. started ≡ record { job = job; words = map string_bytes words.now; bytes = F.bytes file.now; given = None; killed = None }) }
     {
         let mut copied = Vec::with_capacity(alloc, words.len())?;
         for word in words {
@@ -55,13 +56,14 @@ impl Started {
         Ok(Started {
             job,
             words: copied,
-            bytes: ToldBytes::of(bytes),
+            bytes: ToldBytes::of(file),
             given: None,
             killed: None,
         })
     }
 
-    fn finish(&mut self, given: usize, killed: Option<usize>)
+    /// Its finish: how many bytes its pipe gave, and how many it had given when the child was killed, if it was.
+    pub fn finish(&mut self, given: usize, killed: Option<usize>)
         ensures { self.new ≡ gave given killed self.old }
     {
         self.given = Some(given);
@@ -127,17 +129,17 @@ impl<'a, R: Wait + SystemClock + Sync> Launch for ScriptBay<'a, R> {
 
     ghost hold_faults = { λ b. b.hold_faults };
 
-    fn start(
+    fn start<F: JobFile>(
         &mut self,
         alloc: Global,
         job: JobName,
         words: &[String],
-        bytes: &ToldBytes,
+        file: &F,
     ) -> Result<(ScriptPipe<'a, R>, ScriptHold<'a, R>), Fail> {
         let script = script_for(self.scripts, self.other, self.task, self.lane, job);
         let times = self.times(job);
         let place = self.started.len();
-        let started = Started::new(alloc, job, words, bytes)?;
+        let started = Started::new(alloc, job, words, file)?;
         if script.fails(Call::Start, times) {
             self.started.push(started)?;
             self.start_faults = self.start_faults.saturating_add(1);

@@ -7,33 +7,16 @@ ghost use Rattle.sby_top.specs.Run.{Did};
 ghost use Rattle.sby_top.specs.World.{world_at};
 ghost use Rattle.sby_top.specs.declared.outcome.Done.{Done};
 
-use child_edge::{Log, RealClock, RealFiles, RealYard, StdSink};
+use child_edge::{Log, RealClock, RealFiles, RealYard, StdSink, arguments};
 use sby_edge::{Clock, Files, Sink, Yard};
 use sby_top::run_sby;
-use std::alloc::{AllocError, Global};
-use std::env;
-use std::io::{self, ErrorKind};
+use std::alloc::Global;
+use std::io;
 use std::process::ExitCode;
 use std::sync::Wait;
 use std::thread::Threads;
 
 const OUT_OF_MEMORY: u8 = 32;
-
-// The arguments after the program's name. Arguments that aren't all UTF-8 are refused as no arguments are.
-fn words(rt: &HostRuntime, alloc: Global) -> Result<Vec<String>, AllocError> {
-    let mut words = Vec::new(alloc);
-    let args = match env::args(rt) {
-        Ok(args) => args,
-        Err(error) if error.kind() == ErrorKind::OutOfMemory => return Err(AllocError),
-        Err(_) => return Ok(words),
-    };
-    for word in args.skip(1) {
-        if words.push(word).is_err() {
-            return Err(AllocError);
-        }
-    }
-    Ok(words)
-}
 
 /// Does all that the program does, and answers its exit status: what a call of `run_sby` for these words does over this outside, with all that
 /// it promises a reader of the output.
@@ -64,7 +47,7 @@ fn run_program<R: Threads + Wait + Sync, F: Files, S: Sink, Y: Yard, C: Clock>(
 // The program over the real files, a real output, the children of the system and its clock.
 fn main(rt: HostRuntime) -> ExitCode {
     let alloc = rt.alloc();
-    let (Ok(words), Ok(log)) = (words(&rt, alloc), Log::asked(&rt, alloc)) else {
+    let (Ok(words), Ok(log)) = (arguments(&rt, alloc), Log::asked(&rt, alloc)) else {
         return ExitCode::from(OUT_OF_MEMORY);
     };
     let mut files = RealFiles::logged(&rt, &log);

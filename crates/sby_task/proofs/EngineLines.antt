@@ -5,10 +5,10 @@ use Rattle.std.specs.Prelude.{bytes_eq}
 use Rattle.sby_terms.specs.declared.engine.Engine.{Engine}
 use Rattle.sby_terms.specs.declared.engine.Engine.TheVariants as engine
 use Rattle.sby_task.specs.Values.{number_of}
-use Rattle.sby_task.specs.Engines.{engine_name, with_conflicts, sat_of, program_of, marked_of, engine_from, engine_of}
+use Rattle.sby_task.specs.Engines.{engine_name, with_conflicts, sat_of, is_net, net_of, program_of, marked_of, engine_from, engine_of}
 use Rattle.sby_task.specs.Marks.{HasMarks, IsMarked, are_marked}
 use Rattle.sby_task.specs.declared.engines.EngineName.{EngineName}
-use Rattle.sby_task.specs.declared.engines.EngineName.TheVariants.{Sat, Drup, Btor, Inv, Lrat, Proof, ProofBinary, LeftOut, Unknown}
+use Rattle.sby_task.specs.declared.engines.EngineName.TheVariants.{Sat, Drup, Btor, Inv, Lrat, Proof, ProofBinary, Net, LeftOut, Unknown}
 use Rattle.sby_task.proofs.MarkCounts.{marked}
 use Rattle.sby_task.proofs.RowsSaid.{ok_same, err_ok}
 
@@ -40,11 +40,17 @@ sat_marked (option ∷ value) x h = elim (cases_Bool (bytes_eq option (codes "--
   | inr n ↦ absurd (err_ok x _ (rw n at h))
 ]
 
+net_marked : (name : List ℕ) (arguments : List (List ℕ)) (x : Engine) → net_of name arguments ≡ Ok x → IsMarked x
+net_marked name arguments x h = elim (cases_Bool (is_net arguments)) as (λ _. IsMarked x) [
+  | inl y ↦ subst IsMarked (ok_same _ x (rw y at h)) tt
+  | inr n ↦ absurd (err_ok x _ (rw n at h))
+]
+
 pub engine_marked : (words : List (List ℕ)) (x : Engine) → engine_of words ≡ Ok x → IsMarked x
 engine_marked [] x h = absurd (err_ok x _ h)
 engine_marked (name ∷ arguments) x h = by (engine_name name) h
   where
-    by : (n : EngineName) → engine_from n arguments ≡ Ok x → IsMarked x
+    by : (n : EngineName) → engine_from n name arguments ≡ Ok x → IsMarked x
     by Sat h = sat_marked arguments x h
     by Drup h = subst IsMarked (program_is engine.Drup arguments x h) tt
     by Btor h = subst IsMarked (program_is engine.Btor arguments x h) tt
@@ -52,5 +58,6 @@ engine_marked (name ∷ arguments) x h = by (engine_name name) h
     by Lrat h = subst IsMarked (program_is engine.Lrat arguments x h) tt
     by Proof h = let p = marked_when engine.Proof arguments x h in subst IsMarked p.1 p.0
     by ProofBinary h = let p = marked_when engine.ProofBinary arguments x h in subst IsMarked p.1 p.0
+    by Net h = net_marked name arguments x h
     by LeftOut h = absurd (err_ok x _ h)
     by Unknown h = absurd (err_ok x _ h)

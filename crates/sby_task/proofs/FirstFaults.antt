@@ -24,7 +24,7 @@ use Rattle.sby_task.proofs.RowsSaid.{err_ok}
 use Rattle.sby_task.proofs.Said.{drafted_err, drafted_from}
 use Rattle.sby_task.proofs.CyclesSaid.{mode_given, mode_unset, says_span, span_refused}
 use Rattle.sby_task.proofs.EngineLines.{ok_err, err_same}
-use Rattle.sby_task.proofs.LineFaults.{engine_count, scripted, unscripted, row_is, row_least, row_sound}
+use Rattle.sby_task.proofs.LineFaults.{engine_count, scripted, unscripted, ToldAddresses, row_is, row_least, row_sound}
 
 module _ (files : List StoredFile) (all : List Row) where
   drafted_more : (rows more : List Row) (r : Result Draft TaskFault) → drafted files all r (rows ++ more) ≡ drafted files all (drafted files all r rows) more
@@ -54,13 +54,13 @@ module _ (files : List StoredFile) (all : List Row) where
           (before, row, rows, d, refl, said, e ∙ ap (λ (x : TaskFault). Err x.kind) is, ap (λ (x : TaskFault). x.line) is)
 
   -- lines that were read are sound
-  pub sound : (rows : List Row) (d : Draft) → drafted files all (Ok blank) rows ≡ Ok d → AreSound files all rows
-  sound rows d said before row after k parts f =
+  pub sound : ToldAddresses → (rows : List Row) (d : Draft) → drafted files all (Ok blank) rows ≡ Ok d → AreSound files all rows
+  sound addresses rows d said before row after k parts f =
       let e = sym (drafted_more before (row ∷ after) (Ok blank)) ∙ ap (drafted files all (Ok blank)) (sym parts) ∙ said in
       by (drafted files all (Ok blank) before) refl e
     where
       read : (m : Draft) → drafted files all (Ok blank) before ≡ Ok m → (r : Result Draft TaskKind) → row_after files all m row ≡ r → drafted files all (at_number row.number r) after ≡ Ok d → ⊥
-      read m is (Ok n) s h = row_sound files all before m is row n s k f
+      read m is (Ok n) s h = row_sound files all before m is addresses row n s k f
       read m is (Err j) s h = err_ok d (record { line = row.number; kind = j }) (sym (drafted_err files all after (record { line = row.number; kind = j })) ∙ h)
 
       by : (r : Result Draft TaskFault) → drafted files all (Ok blank) before ≡ r → drafted files all r (row ∷ after) ≡ Ok d → ⊥
@@ -137,22 +137,22 @@ module _ (files : List StoredFile) (rows : List Row) (name : List ℕ) (d : Draf
   ]
 
 module _ (c : ConfigOf) (asked : Option (List ℕ)) (rows : List Row) where
-  pub first_answered : (f : TaskFault) → expansion c asked ≡ Err f → AreKept c asked rows → IsFirstFault c.files rows f
-  first_answered f h (names, is, e) = by (drafted c.files rows (Ok blank) rows) refl answer
+  pub first_answered : ToldAddresses → (f : TaskFault) → expansion c asked ≡ Err f → AreKept c asked rows → IsFirstFault c.files rows f
+  first_answered addresses f h (names, is, e) = by (drafted c.files rows (Ok blank) rows) refl answer
     where
       answer : task_of c.files rows (asked_text asked) ≡ Err f
       answer = ap (λ (l : List Row). task_of c.files l (asked_text asked)) e ∙ ap (expanded c (asked_text asked)) (sym is) ∙ h
 
       of_row : Refusal c.files rows rows f → IsFirstFault c.files rows f
       of_row (before, row, after, d, parts, said, refused, number) =
-          of_line before row after parts (sound c.files rows before d said) number (row_is c.files rows before d said row f.kind refused)
-          (row_least c.files rows before d said row f.kind refused)
+          of_line before row after parts (sound c.files rows addresses before d said) number (row_is c.files rows before d said addresses row f.kind refused)
+          (row_least c.files rows before d said addresses row f.kind refused)
 
       by : (r : Result Draft TaskFault) → drafted c.files rows (Ok blank) rows ≡ r → finish c.files rows (asked_text asked) r ≡ Err f → IsFirstFault c.files rows f
       by (Err g) s h = of_row (subst (Refusal c.files rows rows) (err_same {A = Task} g f h) (refusal c.files rows rows [] blank g refl s))
       by (Ok d) s h =
           let end = mode_end c.files rows (asked_text asked) d s f d.mode refl h in
-          of_no_line (sound c.files rows rows d s) end.0 end.1 end.2
+          of_no_line (sound c.files rows addresses rows d s) end.0 end.1 end.2
 
-  pub task_sound : (t : Task) → Expand c asked t → AreKept c asked rows → AreSound c.files rows rows
-  task_sound t h k = let d = drafted_from c asked t rows h k in sound c.files rows rows d.0 d.1
+  pub task_sound : ToldAddresses → (t : Task) → Expand c asked t → AreKept c asked rows → AreSound c.files rows rows
+  task_sound addresses t h k = let d = drafted_from c asked t rows h k in sound c.files rows addresses rows d.0 d.1

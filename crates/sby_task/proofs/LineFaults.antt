@@ -1,22 +1,23 @@
 -- Which lines are refused: those at fault, for the first of their faults.
-use Rattle.std.proofs.Common.{◌≡◌, ◌≢◌, ◌⊎◌, ℕ, suc, ◌≤◌, Bool, true, false, List, [], ◌∷◌, ◌++◌, length, Option, Some, None, Result, Ok, Err, refl, sym, ◌∙◌, ap, subst, inl, inr, arith, codes, leb}
+use Rattle.std.proofs.Common.{◌≡◌, ◌≢◌, ◌↔◌, ◌⊎◌, ℕ, suc, ◌≤◌, Bool, true, false, List, [], ◌∷◌, ◌++◌, length, Option, Some, None, Result, Ok, Err, refl, sym, ◌∙◌, ap, subst, inl, inr, arith, codes, leb}
 use Rattle.std.proofs.lemmas.Bool.{cases_Bool, false≢true, leb-true, leb-false, le-leb}
 use Rattle.std.proofs.lemmas.List.{length-map}
 use Rattle.std.proofs.lemmas.List.Elements.{Contains-append_right}
 use Rattle.std.proofs.lemmas.Slice.Eq.{bytes_eq-Decides}
-use Rattle.std.specs.Prelude.{◌||◌, Contains, bytes_eq, is_some}
+use Rattle.std.specs.Prelude.{◌||◌, Contains, bytes_eq, is_some, is_ok}
+use Rattle.sby_terms.specs.Address.{IsAddress, is_address}
 use Rattle.sby_terms.specs.declared.engine.Engine.{Engine}
 use Rattle.sby_terms.specs.declared.engine.Engine.TheVariants as engine
 use Rattle.sby_task.specs.Values.{by_of, mode_of, count_of, number_of, statuses_of, switch_of}
 use Rattle.sby_task.specs.Marks.{are_marked}
-use Rattle.sby_task.specs.Engines.{engine_name, with_conflicts, sat_of, program_of, marked_of, engine_from, engine_of}
+use Rattle.sby_task.specs.Engines.{engine_name, with_conflicts, sat_of, is_net, net_of, program_of, marked_of, engine_from, engine_of}
 use Rattle.sby_task.specs.Draft.{blank, option_name, option_after, once, off_only, if_proved, with_engine, read_command}
 use Rattle.sby_task.specs.Files.{bytes_in, path_in}
 use Rattle.sby_task.specs.Proved.{is_proved}
 use Rattle.sby_task.specs.Task.{is_found, seek, found, script_after, section_after, row_after}
 use Rattle.sby_task.specs.Expand.{drafted}
 use Rattle.sby_task.specs.Said.{IsUnset, IsSet, HasOption, LacksMarks, engine_lines, script_lines, NoneStands}
-use Rattle.sby_task.specs.Faulty.{spelled, SetsOption, IsValue, program_engines, left_out_engines, IsSatValue, ReadsDesign, NoneGives, IsFaulty, rank}
+use Rattle.sby_task.specs.Faulty.{spelled, SetsOption, IsValue, program_engines, left_out_engines, IsSatValue, IsNetValue, ReadsDesign, NoneGives, IsFaulty, rank}
 use Rattle.sby_file.specs.declared.config.Row.{Row}
 use Rattle.sby_file.specs.declared.config.StoredFile.{StoredFile}
 use Rattle.sby_task.specs.declared.draft.Draft.{Draft}
@@ -28,6 +29,7 @@ use Rattle.sby_file.specs.declared.section.Section.{Section}
 use Rattle.sby_file.specs.declared.section.Section.TheVariants.{Nowhere, Tasks, Options, Engines, Script, Files, File, Unknown}
 use Rattle.sby_task.specs.declared.task_fault.TaskKind.{TaskKind}
 use Rattle.sby_task.specs.declared.task_fault.TaskKind.TheVariants as kind
+use Rattle.sby_terms.proofs.Numbers.{both_true}
 use Rattle.sby_task.proofs.RowsSaid.{is_spelled, none_some, none_is, by_says, mode_says, skip_says, depth_says, stride_says, timeout_says, expect_says, wait_says, multiclock_says}
 use Rattle.sby_task.proofs.Said.{answer, engines_read, script_read, script_unread}
 use Rattle.sby_task.proofs.CyclesSaid.{set_stands, stands_set}
@@ -206,14 +208,15 @@ Spelt word name.Inv = word ≡ codes "inv"
 Spelt word name.Lrat = word ≡ codes "lrat"
 Spelt word name.Proof = word ≡ codes "proof"
 Spelt word name.ProofBinary = word ≡ codes "proofb"
+Spelt word name.Net = word ≡ codes "net"
 Spelt word name.LeftOut = Among left_out_engines word
-Spelt word name.Unknown = Among (codes "sat" ∷ program_engines ++ left_out_engines) word → ⊥
+Spelt word name.Unknown = Among (codes "sat" ∷ codes "net" ∷ program_engines ++ left_out_engines) word → ⊥
 
 abbrev Either : Bool → Type 0
 Either b = (b ≡ true) ⊎ (b ≡ false)
 
 spelt : (word : List ℕ) → Spelt word (engine_name word)
-spelt word = by (cases_Bool (bytes_eq word (codes "sat"))) (cases_Bool (bytes_eq word (codes "drup"))) (cases_Bool (bytes_eq word (codes "btor"))) (cases_Bool (bytes_eq word (codes "inv"))) (cases_Bool (bytes_eq word (codes "lrat"))) (cases_Bool (bytes_eq word (codes "proof"))) (cases_Bool (bytes_eq word (codes "proofb"))) (cases_Bool (bytes_eq word (codes "smtbmc"))) (cases_Bool (bytes_eq word (codes "abc"))) (cases_Bool (bytes_eq word (codes "aiger"))) (cases_Bool (bytes_eq word (codes "itp"))) (cases_Bool (bytes_eq word (codes "none")))
+spelt word = by (cases_Bool (bytes_eq word (codes "sat"))) (cases_Bool (bytes_eq word (codes "drup"))) (cases_Bool (bytes_eq word (codes "btor"))) (cases_Bool (bytes_eq word (codes "inv"))) (cases_Bool (bytes_eq word (codes "lrat"))) (cases_Bool (bytes_eq word (codes "proof"))) (cases_Bool (bytes_eq word (codes "proofb"))) (cases_Bool (bytes_eq word (codes "net"))) (cases_Bool (bytes_eq word (codes "smtbmc"))) (cases_Bool (bytes_eq word (codes "abc"))) (cases_Bool (bytes_eq word (codes "aiger"))) (cases_Bool (bytes_eq word (codes "itp"))) (cases_Bool (bytes_eq word (codes "none")))
   where
     give : (n : EngineName) → engine_name word ≡ n → Spelt word n → Spelt word (engine_name word)
     give n e s = subst (Spelt word) (sym e) s
@@ -224,43 +227,46 @@ spelt word = by (cases_Bool (bytes_eq word (codes "sat"))) (cases_Bool (bytes_eq
     never : (other : List ℕ) → bytes_eq word other ≡ false → word ≡ other → ⊥
     never other n e = false≢true (sym n ∙ (bytes_eq-Decides word other).1 e)
 
-    by : Either (bytes_eq word (codes "sat")) → Either (bytes_eq word (codes "drup")) → Either (bytes_eq word (codes "btor")) → Either (bytes_eq word (codes "inv")) → Either (bytes_eq word (codes "lrat")) → Either (bytes_eq word (codes "proof")) → Either (bytes_eq word (codes "proofb")) → Either (bytes_eq word (codes "smtbmc")) → Either (bytes_eq word (codes "abc")) → Either (bytes_eq word (codes "aiger")) → Either (bytes_eq word (codes "itp")) → Either (bytes_eq word (codes "none")) → Spelt word (engine_name word)
-    by (inl a) b c d e f g h i j k m = give name.Sat (rw a refl) (is (codes "sat") a)
-    by (inr a) (inl b) c d e f g h i j k m = give name.Drup (rw (a, b) refl) (is (codes "drup") b)
-    by (inr a) (inr b) (inl c) d e f g h i j k m = give name.Btor (rw (a, b, c) refl) (is (codes "btor") c)
-    by (inr a) (inr b) (inr c) (inl d) e f g h i j k m = give name.Inv (rw (a, b, c, d) refl) (is (codes "inv") d)
-    by (inr a) (inr b) (inr c) (inr d) (inl e) f g h i j k m = give name.Lrat (rw (a, b, c, d, e) refl) (is (codes "lrat") e)
-    by (inr a) (inr b) (inr c) (inr d) (inr e) (inl f) g h i j k m = give name.Proof (rw (a, b, c, d, e, f) refl) (is (codes "proof") f)
-    by (inr a) (inr b) (inr c) (inr d) (inr e) (inr f) (inl g) h i j k m = give name.ProofBinary (rw (a, b, c, d, e, f, g) refl) (is (codes "proofb") g)
-    by (inr a) (inr b) (inr c) (inr d) (inr e) (inr f) (inr g) (inl h) i j k m = give name.LeftOut (rw (a, b, c, d, e, f, g, h) refl) (inl (is (codes "smtbmc") h))
-    by (inr a) (inr b) (inr c) (inr d) (inr e) (inr f) (inr g) (inr h) (inl i) j k m = give name.LeftOut (rw (a, b, c, d, e, f, g, h, i) refl) (inr (inl (is (codes "abc") i)))
-    by (inr a) (inr b) (inr c) (inr d) (inr e) (inr f) (inr g) (inr h) (inr i) (inl j) k m = give name.LeftOut (rw (a, b, c, d, e, f, g, h, i, j) refl) (inr (inr (inl (is (codes "aiger") j))))
-    by (inr a) (inr b) (inr c) (inr d) (inr e) (inr f) (inr g) (inr h) (inr i) (inr j) (inl k) m = give name.LeftOut (rw (a, b, c, d, e, f, g, h, i, j, k) refl) (inr (inr (inr (inl (is (codes "itp") k)))))
-    by (inr a) (inr b) (inr c) (inr d) (inr e) (inr f) (inr g) (inr h) (inr i) (inr j) (inr k) (inl m) = give name.LeftOut (rw (a, b, c, d, e, f, g, h, i, j, k, m) refl) (inr (inr (inr (inr (inl (is (codes "none") m))))))
-    by (inr a) (inr b) (inr c) (inr d) (inr e) (inr f) (inr g) (inr h) (inr i) (inr j) (inr k) (inr m) = give name.Unknown (rw (a, b, c, d, e, f, g, h, i, j, k, m) refl) other
+    by : Either (bytes_eq word (codes "sat")) → Either (bytes_eq word (codes "drup")) → Either (bytes_eq word (codes "btor")) → Either (bytes_eq word (codes "inv")) → Either (bytes_eq word (codes "lrat")) → Either (bytes_eq word (codes "proof")) → Either (bytes_eq word (codes "proofb")) → Either (bytes_eq word (codes "net")) → Either (bytes_eq word (codes "smtbmc")) → Either (bytes_eq word (codes "abc")) → Either (bytes_eq word (codes "aiger")) → Either (bytes_eq word (codes "itp")) → Either (bytes_eq word (codes "none")) → Spelt word (engine_name word)
+    by (inl a) b c d e f g h i j k m n = give name.Sat (rw a refl) (is (codes "sat") a)
+    by (inr a) (inl b) c d e f g h i j k m n = give name.Drup (rw (a, b) refl) (is (codes "drup") b)
+    by (inr a) (inr b) (inl c) d e f g h i j k m n = give name.Btor (rw (a, b, c) refl) (is (codes "btor") c)
+    by (inr a) (inr b) (inr c) (inl d) e f g h i j k m n = give name.Inv (rw (a, b, c, d) refl) (is (codes "inv") d)
+    by (inr a) (inr b) (inr c) (inr d) (inl e) f g h i j k m n = give name.Lrat (rw (a, b, c, d, e) refl) (is (codes "lrat") e)
+    by (inr a) (inr b) (inr c) (inr d) (inr e) (inl f) g h i j k m n = give name.Proof (rw (a, b, c, d, e, f) refl) (is (codes "proof") f)
+    by (inr a) (inr b) (inr c) (inr d) (inr e) (inr f) (inl g) h i j k m n = give name.ProofBinary (rw (a, b, c, d, e, f, g) refl) (is (codes "proofb") g)
+    by (inr a) (inr b) (inr c) (inr d) (inr e) (inr f) (inr g) (inl h) i j k m n = give name.Net (rw (a, b, c, d, e, f, g, h) refl) (is (codes "net") h)
+    by (inr a) (inr b) (inr c) (inr d) (inr e) (inr f) (inr g) (inr h) (inl i) j k m n = give name.LeftOut (rw (a, b, c, d, e, f, g, h, i) refl) (inl (is (codes "smtbmc") i))
+    by (inr a) (inr b) (inr c) (inr d) (inr e) (inr f) (inr g) (inr h) (inr i) (inl j) k m n = give name.LeftOut (rw (a, b, c, d, e, f, g, h, i, j) refl) (inr (inl (is (codes "abc") j)))
+    by (inr a) (inr b) (inr c) (inr d) (inr e) (inr f) (inr g) (inr h) (inr i) (inr j) (inl k) m n = give name.LeftOut (rw (a, b, c, d, e, f, g, h, i, j, k) refl) (inr (inr (inl (is (codes "aiger") k))))
+    by (inr a) (inr b) (inr c) (inr d) (inr e) (inr f) (inr g) (inr h) (inr i) (inr j) (inr k) (inl m) n = give name.LeftOut (rw (a, b, c, d, e, f, g, h, i, j, k, m) refl) (inr (inr (inr (inl (is (codes "itp") m)))))
+    by (inr a) (inr b) (inr c) (inr d) (inr e) (inr f) (inr g) (inr h) (inr i) (inr j) (inr k) (inr m) (inl n) = give name.LeftOut (rw (a, b, c, d, e, f, g, h, i, j, k, m, n) refl) (inr (inr (inr (inr (inl (is (codes "none") n))))))
+    by (inr a) (inr b) (inr c) (inr d) (inr e) (inr f) (inr g) (inr h) (inr i) (inr j) (inr k) (inr m) (inr n) = give name.Unknown (rw (a, b, c, d, e, f, g, h, i, j, k, m, n) refl) other
       where
-        other : Among (codes "sat" ∷ program_engines ++ left_out_engines) word → ⊥
+        other : Among (codes "sat" ∷ codes "net" ∷ program_engines ++ left_out_engines) word → ⊥
         other (inl s) = never (codes "sat") a s
-        other (inr (inl s)) = never (codes "drup") b s
-        other (inr (inr (inl s))) = never (codes "btor") c s
-        other (inr (inr (inr (inl s)))) = never (codes "inv") d s
-        other (inr (inr (inr (inr (inl s))))) = never (codes "lrat") e s
-        other (inr (inr (inr (inr (inr (inl s)))))) = never (codes "proof") f s
-        other (inr (inr (inr (inr (inr (inr (inl s))))))) = never (codes "proofb") g s
-        other (inr (inr (inr (inr (inr (inr (inr (inl s)))))))) = never (codes "smtbmc") h s
-        other (inr (inr (inr (inr (inr (inr (inr (inr (inl s))))))))) = never (codes "abc") i s
-        other (inr (inr (inr (inr (inr (inr (inr (inr (inr (inl s)))))))))) = never (codes "aiger") j s
-        other (inr (inr (inr (inr (inr (inr (inr (inr (inr (inr (inl s))))))))))) = never (codes "itp") k s
-        other (inr (inr (inr (inr (inr (inr (inr (inr (inr (inr (inr (inl s)))))))))))) = never (codes "none") m s
-        other (inr (inr (inr (inr (inr (inr (inr (inr (inr (inr (inr (inr s)))))))))))) = absurd s
+        other (inr (inl s)) = never (codes "net") h s
+        other (inr (inr (inl s))) = never (codes "drup") b s
+        other (inr (inr (inr (inl s)))) = never (codes "btor") c s
+        other (inr (inr (inr (inr (inl s))))) = never (codes "inv") d s
+        other (inr (inr (inr (inr (inr (inl s)))))) = never (codes "lrat") e s
+        other (inr (inr (inr (inr (inr (inr (inl s))))))) = never (codes "proof") f s
+        other (inr (inr (inr (inr (inr (inr (inr (inl s)))))))) = never (codes "proofb") g s
+        other (inr (inr (inr (inr (inr (inr (inr (inr (inl s))))))))) = never (codes "smtbmc") i s
+        other (inr (inr (inr (inr (inr (inr (inr (inr (inr (inl s)))))))))) = never (codes "abc") j s
+        other (inr (inr (inr (inr (inr (inr (inr (inr (inr (inr (inl s))))))))))) = never (codes "aiger") k s
+        other (inr (inr (inr (inr (inr (inr (inr (inr (inr (inr (inr (inl s)))))))))))) = never (codes "itp") m s
+        other (inr (inr (inr (inr (inr (inr (inr (inr (inr (inr (inr (inr (inl s))))))))))))) = never (codes "none") n s
+        other (inr (inr (inr (inr (inr (inr (inr (inr (inr (inr (inr (inr (inr s))))))))))))) = absurd s
 
 -- what an engine line that is refused says
 abbrev EngineFault : List (List ℕ) → TaskKind → Type 0
 EngineFault words kind.BadValue =
-    ((value : List (List ℕ)) × (words ≡ codes "sat" ∷ value) × (IsSatValue value → ⊥)) ⊎ ((word : List ℕ) × (words ≡ word ∷ []) × Contains program_engines word)
+    (((value : List (List ℕ)) × (words ≡ codes "sat" ∷ value) × (IsSatValue value → ⊥)) ⊎ ((value : List (List ℕ)) × (words ≡ codes "net" ∷ value) × (IsNetValue value → ⊥)))
+    ⊎ ((word : List ℕ) × (words ≡ word ∷ []) × Contains program_engines word)
 EngineFault words kind.LeftOutEngine = (word : List ℕ) × (arguments : List (List ℕ)) × (words ≡ word ∷ arguments) × Contains left_out_engines word
 EngineFault words kind.UnknownEngine =
-    (word : List ℕ) (arguments : List (List ℕ)) → words ≡ word ∷ arguments → Contains (codes "sat" ∷ program_engines ++ left_out_engines) word → ⊥
+    (word : List ℕ) (arguments : List (List ℕ)) → words ≡ word ∷ arguments → Contains (codes "sat" ∷ codes "net" ∷ program_engines ++ left_out_engines) word → ⊥
 EngineFault words kind.Marks = LacksMarks words
 EngineFault words kind.UnknownTask = ⊥
 EngineFault words kind.Limit = ⊥
@@ -310,6 +316,43 @@ sat_refused (first ∷ words) h = elim (cases_Bool (bytes_eq first (codes "--con
   | inr n ↦ rw n refl
 ]
 
+sat_value : (value : List (List ℕ)) → is_ok (sat_of value) ≡ true → IsSatValue value
+sat_value [] h = inl refl
+sat_value (first ∷ words) h = elim (cases_Bool (bytes_eq first (codes "--conflicts"))) as (λ _. IsSatValue (first ∷ words)) [
+  | inl y ↦ by (number_of 1000000000 words) refl y (rw y at h)
+  | inr n ↦ absurd (false≢true (rw n at h))
+]
+  where
+    by : (o : Option ℕ) → number_of 1000000000 words ≡ o → bytes_eq first (codes "--conflicts") ≡ true → is_ok (with_conflicts (number_of 1000000000 words)) ≡ true → IsSatValue (first ∷ words)
+    by None e y h = absurd (false≢true (rw e at h))
+    by (Some n) e y h = inr (words, n, ap (λ (w : List ℕ). w ∷ words) ((bytes_eq-Decides first (codes "--conflicts")).0 y), e)
+
+value_sat : (value : List (List ℕ)) → IsSatValue value → is_ok (sat_of value) ≡ true
+value_sat value (inl e) = ap (λ (v : List (List ℕ)). is_ok (sat_of v)) e
+value_sat value (inr (words, n, e, r)) = ap (λ (v : List (List ℕ)). is_ok (sat_of v)) e ∙ ap (λ (o : Option ℕ). is_ok (with_conflicts o)) r
+
+-- which words are an address
+abbrev pub ToldAddresses : Type 0
+ToldAddresses = (word : List ℕ) → (is_address word ≡ true) ↔ IsAddress word
+
+net_value : ToldAddresses → (value : List (List ℕ)) → is_net value ≡ true → IsNetValue value
+net_value addresses [] h = absurd (false≢true h)
+net_value addresses (address ∷ budget) h =
+    let p = both_true (is_address address) (is_ok (sat_of budget)) h in
+    (address, budget, refl, (addresses address).0 p.0, sat_value budget p.1)
+
+value_net : ToldAddresses → (value : List (List ℕ)) → IsNetValue value → is_net value ≡ true
+value_net addresses value (address, budget, e, a, b) = ap is_net e ∙ rw ((addresses address).1 a, value_sat budget b) refl
+
+net_why : ToldAddresses → (word : List ℕ) (value : List (List ℕ)) (k : TaskKind) → net_of word value ≡ Err k → (k ≡ kind.BadValue) × (IsNetValue value → ⊥)
+net_why addresses word value k h = elim (cases_Bool (is_net value)) as (λ _. (k ≡ kind.BadValue) × (IsNetValue value → ⊥)) [
+  | inl y ↦ absurd (ok_err _ k (rw y at h))
+  | inr n ↦ (sym (err_same kind.BadValue k (rw n at h)), λ v. false≢true (sym n ∙ value_net addresses value v))
+]
+
+net_refused : ToldAddresses → (word : List ℕ) (value : List (List ℕ)) → (IsNetValue value → ⊥) → net_of word value ≡ Err kind.BadValue
+net_refused addresses word value h = let n = not_true (is_net value) (λ y. h (net_value addresses value y)) in rw n refl
+
 module _ (words : List (List ℕ)) where
   to_fault : (j k : TaskKind) → ◌≡◌ {A = Result Engine TaskKind} (Err j) (Err k) → EngineFault words j → EngineFault words k
   to_fault j k h f = subst (EngineFault words) (err_same j k h) f
@@ -331,22 +374,25 @@ module _ (words : List (List ℕ)) where
       is (inl e) = inl (w ∙ ap (λ (x : List ℕ). x ∷ program ∷ arguments) e)
       is (inr e) = inr (w ∙ ap (λ (x : List ℕ). x ∷ program ∷ arguments) e)
 
-  named_why : (word : List ℕ) (arguments : List (List ℕ)) (k : TaskKind) → words ≡ word ∷ arguments → (n : EngineName) → Spelt word n → engine_from n arguments ≡ Err k → EngineFault words k
-  named_why word arguments k w name.Sat s h =
+  named_why : ToldAddresses → (word : List ℕ) (arguments : List (List ℕ)) (k : TaskKind) → words ≡ word ∷ arguments → (n : EngineName) → Spelt word n → engine_from n word arguments ≡ Err k → EngineFault words k
+  named_why addresses word arguments k w name.Sat s h =
       let p = sat_why arguments k h in
-      subst (EngineFault words) (sym p.0) (inl (arguments, w ∙ ap (λ (x : List ℕ). x ∷ arguments) s, p.1))
-  named_why word arguments k w name.Drup s h = program_why engine.Drup word arguments k w (contained program_engines word (inl s)) h
-  named_why word arguments k w name.Btor s h = program_why engine.Btor word arguments k w (contained program_engines word (inr (inl s))) h
-  named_why word arguments k w name.Inv s h = program_why engine.Inv word arguments k w (contained program_engines word (inr (inr (inl s)))) h
-  named_why word arguments k w name.Lrat s h = program_why engine.Lrat word arguments k w (contained program_engines word (inr (inr (inr (inl s))))) h
-  named_why word arguments k w name.Proof s h = marks_why engine.Proof word arguments k w (inl s) (contained program_engines word (inr (inr (inr (inr (inl s)))))) h
-  named_why word arguments k w name.ProofBinary s h = marks_why engine.ProofBinary word arguments k w (inr s) (contained program_engines word (inr (inr (inr (inr (inr (inl s))))))) h
-  named_why word arguments k w name.LeftOut s h = to_fault kind.LeftOutEngine k h (word, arguments, w, contained left_out_engines word s)
-  named_why word arguments k w name.Unknown s h = to_fault kind.UnknownEngine k h (λ other rest e c. s (among (codes "sat" ∷ program_engines ++ left_out_engines) word (subst (Contains (codes "sat" ∷ program_engines ++ left_out_engines)) (sym (same_head word other arguments rest (sym w ∙ e))) c)))
+      subst (EngineFault words) (sym p.0) (inl (inl (arguments, w ∙ ap (λ (x : List ℕ). x ∷ arguments) s, p.1)))
+  named_why addresses word arguments k w name.Drup s h = program_why engine.Drup word arguments k w (contained program_engines word (inl s)) h
+  named_why addresses word arguments k w name.Btor s h = program_why engine.Btor word arguments k w (contained program_engines word (inr (inl s))) h
+  named_why addresses word arguments k w name.Inv s h = program_why engine.Inv word arguments k w (contained program_engines word (inr (inr (inl s)))) h
+  named_why addresses word arguments k w name.Lrat s h = program_why engine.Lrat word arguments k w (contained program_engines word (inr (inr (inr (inl s))))) h
+  named_why addresses word arguments k w name.Proof s h = marks_why engine.Proof word arguments k w (inl s) (contained program_engines word (inr (inr (inr (inr (inl s)))))) h
+  named_why addresses word arguments k w name.ProofBinary s h = marks_why engine.ProofBinary word arguments k w (inr s) (contained program_engines word (inr (inr (inr (inr (inr (inl s))))))) h
+  named_why addresses word arguments k w name.Net s h =
+      let p = net_why addresses word arguments k h in
+      subst (EngineFault words) (sym p.0) (inl (inr (arguments, w ∙ ap (λ (x : List ℕ). x ∷ arguments) s, p.1)))
+  named_why addresses word arguments k w name.LeftOut s h = to_fault kind.LeftOutEngine k h (word, arguments, w, contained left_out_engines word s)
+  named_why addresses word arguments k w name.Unknown s h = to_fault kind.UnknownEngine k h (λ other rest e c. s (among (codes "sat" ∷ codes "net" ∷ program_engines ++ left_out_engines) word (subst (Contains (codes "sat" ∷ codes "net" ∷ program_engines ++ left_out_engines)) (sym (same_head word other arguments rest (sym w ∙ e))) c)))
 
-  engine_why : (given : List (List ℕ)) (k : TaskKind) → words ≡ given → engine_of given ≡ Err k → EngineFault words k
-  engine_why [] k w h = to_fault kind.UnknownEngine k h (λ other rest e c. nil_cons other rest (sym w ∙ e))
-  engine_why (word ∷ arguments) k w h = named_why word arguments k w (engine_name word) (spelt word) h
+  engine_why : ToldAddresses → (given : List (List ℕ)) (k : TaskKind) → words ≡ given → engine_of given ≡ Err k → EngineFault words k
+  engine_why addresses [] k w h = to_fault kind.UnknownEngine k h (λ other rest e c. nil_cons other rest (sym w ∙ e))
+  engine_why addresses (word ∷ arguments) k w h = named_why addresses word arguments k w (engine_name word) (spelt word) h
 
 -- and that one at fault is refused
 program_refused : (word : List ℕ) → Among program_engines word → engine_of (word ∷ []) ≡ Err kind.BadValue
@@ -370,18 +416,19 @@ unknown_refused : (words : List (List ℕ)) → EngineFault words kind.UnknownEn
 unknown_refused [] f = refl
 unknown_refused (word ∷ arguments) f = by (engine_name word) (spelt word) refl
   where
-    known : Among (codes "sat" ∷ program_engines ++ left_out_engines) word → ⊥
-    known a = f word arguments refl (contained (codes "sat" ∷ program_engines ++ left_out_engines) word a)
+    known : Among (codes "sat" ∷ codes "net" ∷ program_engines ++ left_out_engines) word → ⊥
+    known a = f word arguments refl (contained (codes "sat" ∷ codes "net" ∷ program_engines ++ left_out_engines) word a)
 
-    by : (n : EngineName) → Spelt word n → engine_name word ≡ n → engine_from (engine_name word) arguments ≡ Err kind.UnknownEngine
+    by : (n : EngineName) → Spelt word n → engine_name word ≡ n → engine_from (engine_name word) word arguments ≡ Err kind.UnknownEngine
     by name.Sat s e = absurd (known (inl s))
-    by name.Drup s e = absurd (known (inr (inl s)))
-    by name.Btor s e = absurd (known (inr (inr (inl s))))
-    by name.Inv s e = absurd (known (inr (inr (inr (inl s)))))
-    by name.Lrat s e = absurd (known (inr (inr (inr (inr (inl s))))))
-    by name.Proof s e = absurd (known (inr (inr (inr (inr (inr (inl s)))))))
-    by name.ProofBinary s e = absurd (known (inr (inr (inr (inr (inr (inr (inl s))))))))
-    by name.LeftOut s e = absurd (known (inr (inr (inr (inr (inr (inr (inr s))))))))
+    by name.Drup s e = absurd (known (inr (inr (inl s))))
+    by name.Btor s e = absurd (known (inr (inr (inr (inl s)))))
+    by name.Inv s e = absurd (known (inr (inr (inr (inr (inl s))))))
+    by name.Lrat s e = absurd (known (inr (inr (inr (inr (inr (inl s)))))))
+    by name.Proof s e = absurd (known (inr (inr (inr (inr (inr (inr (inl s))))))))
+    by name.ProofBinary s e = absurd (known (inr (inr (inr (inr (inr (inr (inr (inl s)))))))))
+    by name.Net s e = absurd (known (inr (inl s)))
+    by name.LeftOut s e = absurd (known (inr (inr (inr (inr (inr (inr (inr (inr s)))))))))
     by name.Unknown s e = rw e refl
 
 marks_refused : (words : List (List ℕ)) → LacksMarks words → engine_of words ≡ Err kind.Marks
@@ -400,21 +447,22 @@ marks_refused words (program, arguments, e, lacks) = by e
     by (inl w) = ap engine_of w ∙ text
     by (inr w) = ap engine_of w ∙ binary
 
-engine_refused : (words : List (List ℕ)) (k : TaskKind) → EngineFault words k → engine_of words ≡ Err k
-engine_refused words kind.BadValue (inl (value, w, never)) = ap engine_of w ∙ sat_refused value never
-engine_refused words kind.BadValue (inr (word, w, c)) = ap engine_of w ∙ program_refused word (among program_engines word c)
-engine_refused words kind.LeftOutEngine (word, arguments, w, c) = ap engine_of w ∙ left_out_refused word arguments (among left_out_engines word c)
-engine_refused words kind.UnknownEngine f = unknown_refused words f
-engine_refused words kind.Marks f = marks_refused words f
-engine_refused words kind.UnknownTask f = absurd f
-engine_refused words kind.Limit f = absurd f
-engine_refused words kind.UnknownOption f = absurd f
-engine_refused words kind.DoubleOption f = absurd f
-engine_refused words kind.NoMode f = absurd f
-engine_refused words kind.NoEngine f = absurd f
-engine_refused words kind.Script f = absurd f
-engine_refused words kind.MissingFile f = absurd f
-engine_refused words kind.Slices f = absurd f
+engine_refused : ToldAddresses → (words : List (List ℕ)) (k : TaskKind) → EngineFault words k → engine_of words ≡ Err k
+engine_refused addresses words kind.BadValue (inl (inl (value, w, never))) = ap engine_of w ∙ sat_refused value never
+engine_refused addresses words kind.BadValue (inl (inr (value, w, never))) = ap engine_of w ∙ net_refused addresses (codes "net") value never
+engine_refused addresses words kind.BadValue (inr (word, w, c)) = ap engine_of w ∙ program_refused word (among program_engines word c)
+engine_refused addresses words kind.LeftOutEngine (word, arguments, w, c) = ap engine_of w ∙ left_out_refused word arguments (among left_out_engines word c)
+engine_refused addresses words kind.UnknownEngine f = unknown_refused words f
+engine_refused addresses words kind.Marks f = marks_refused words f
+engine_refused addresses words kind.UnknownTask f = absurd f
+engine_refused addresses words kind.Limit f = absurd f
+engine_refused addresses words kind.UnknownOption f = absurd f
+engine_refused addresses words kind.DoubleOption f = absurd f
+engine_refused addresses words kind.NoMode f = absurd f
+engine_refused addresses words kind.NoEngine f = absurd f
+engine_refused addresses words kind.Script f = absurd f
+engine_refused addresses words kind.MissingFile f = absurd f
+engine_refused addresses words kind.Slices f = absurd f
 
 -- ---- a line after others
 module _ (files : List StoredFile) (all before : List Row) (d : Draft) (said : drafted files all (Ok blank) before ≡ Ok d) where
@@ -461,7 +509,7 @@ module _ (files : List StoredFile) (all before : List Row) (d : Draft) (said : d
   pub unscripted : d.script ≡ None → script_lines before ≡ []
   unscripted s = script_unread files all before blank d said s
 
-  module _ (row : Row) where
+  module _ (addresses : ToldAddresses) (row : Row) where
     abbrev Is : TaskKind → Type 0
     Is k = IsFaulty files all before row k
 
@@ -495,7 +543,8 @@ module _ (files : List StoredFile) (all before : List Row) (d : Draft) (said : d
             ]
 
     of_engine : (k : TaskKind) → row.section ≡ Engines → EngineFault row.words k → Is k
-    of_engine kind.BadValue s (inl (value, w, never)) = inr (inl (value, (s, w), never))
+    of_engine kind.BadValue s (inl (inl (value, w, never))) = inr (inl (inl (value, (s, w), never)))
+    of_engine kind.BadValue s (inl (inr (value, w, never))) = inr (inl (inr (value, (s, w), never)))
     of_engine kind.BadValue s (inr (word, w, c)) = inr (inr (inl (word, (s, w), c)))
     of_engine kind.LeftOutEngine s (word, arguments, w, c) = (word, arguments, (s, w), c)
     of_engine kind.UnknownEngine s f = (s, f)
@@ -517,7 +566,7 @@ module _ (files : List StoredFile) (all before : List Row) (d : Draft) (said : d
     engine_fault : (k : TaskKind) → row.section ≡ Engines → section_after files all d Engines row.words ≡ Err k → Is k
     engine_fault k s h = elim (cases_Bool (leb 64 (length d.engines))) as (λ _. Is k) [
       | inl y ↦ as_kind kind.Limit k (rw y at h) (s, omega (arith, leb-true 64 (length d.engines) y, engine_count))
-      | inr n ↦ of_engine k s (engine_why row.words row.words k refl (with_fault (engine_of row.words) k (rw n at h)))
+      | inr n ↦ of_engine k s (engine_why row.words addresses row.words k refl (with_fault (engine_of row.words) k (rw n at h)))
     ]
 
     other_words : (words : List (List ℕ)) → row.words ≡ words → (length words ≡ 2 → ⊥) → (word : List ℕ) → ReadsDesign word row → ⊥
@@ -576,7 +625,7 @@ module _ (files : List StoredFile) (all before : List Row) (d : Draft) (said : d
 
     at_engine : (j : TaskKind) → row.section ≡ Engines → EngineFault row.words j → 1 ≤ rank j → Refused j
     at_engine j s f low =
-        let e = engine_refused row.words j f in
+        let e = engine_refused addresses row.words j f in
         elim (cases_Bool (leb 64 (length d.engines))) as (λ _. Refused j) [
           | inl y ↦ (kind.Limit, rw (s, y) refl, low)
           | inr n ↦ (j, rw (s, n, e) refl, omega arith)
@@ -625,7 +674,8 @@ module _ (files : List StoredFile) (all before : List Row) (d : Draft) (said : d
         (kind.DoubleOption, option_at o value sets ∙ doubled (is_proved all) d value o sets.0 (set_before o sets.0 had), omega arith)
     is_refused kind.BadValue (inl (inl (o, value, sets, never))) = let r = bad (is_proved all) d value o sets.0 never in (r.0, option_at o value sets ∙ r.1, r.2)
     is_refused kind.BadValue (inl (inr (value, sets, never))) = let r = alone (is_proved all) d value (none_proved all never) in (r.0, option_at option.By value sets ∙ r.1, r.2)
-    is_refused kind.BadValue (inr (inl (value, is, never))) = at_engine kind.BadValue is.0 (inl (value, is.1, never)) (omega arith)
+    is_refused kind.BadValue (inr (inl (inl (value, is, never)))) = at_engine kind.BadValue is.0 (inl (inl (value, is.1, never))) (omega arith)
+    is_refused kind.BadValue (inr (inl (inr (value, is, never)))) = at_engine kind.BadValue is.0 (inl (inr (value, is.1, never))) (omega arith)
     is_refused kind.BadValue (inr (inr (inl (word, is, c)))) = at_engine kind.BadValue is.0 (inr (word, is.1, c)) (omega arith)
     is_refused kind.BadValue (inr (inr (inr (s, many)))) =
         let n = not_true (leb (length row.words) 2) (λ y. omega (arith, many, leb-true (length row.words) 2 y)) in

@@ -22,6 +22,7 @@ use Rattle.sby_task.specs.declared.task_fault.TaskKind.TheVariants as kind
 use Rattle.sby_task.proofs.RowsSaid.{RowSays, option_line, engine_line, script_line, other_line, beside_options, ok_same}
 use Rattle.sby_task.proofs.Said.{first_read, drafted_from}
 use Rattle.sby_task.proofs.EngineLines.{engine_marked}
+use Rattle.sby_task.proofs.LineFaults.{ToldAddresses}
 use Rattle.sby_task.proofs.FirstFaults.{first_answered, task_sound}
 use Rattle.sby_task.specs.Faulty.{IsFirstFault, of_line, of_no_line}
 use Rattle.std.proofs.lemmas.List.Elements.{Contains-append_right}
@@ -43,7 +44,7 @@ module _ (files : List StoredFile) (all : List Row) where
   engines_marked [] d e h a = subst (All IsMarked) (ap (λ (y : Draft). y.engines) (ok_same {B = TaskFault} d e h)) a
   engines_marked (row ∷ rows) d e h a = let m = first_read files all d row rows e h in engines_marked rows m.0 e m.2 (line_marked d m.0 row m.1 a)
 
-module _ (c : ConfigOf) (asked : Option (List ℕ)) (line : ℕ) (rows : List Row) where
+module _ (addresses : ToldAddresses) (c : ConfigOf) (asked : Option (List ℕ)) (line : ℕ) (rows : List Row) where
   abbrev fault : TaskKind → TaskFault
   fault k = record { line = line; kind = k }
 
@@ -51,7 +52,7 @@ module _ (c : ConfigOf) (asked : Option (List ℕ)) (line : ℕ) (rows : List Ro
   Refused = (line ≡ 0) × ((mode : Mode) × (span : Span) × IsSet (codes "mode") (λ value. mode_of value ≡ Some mode) rows × SaysSpan rows span × AreRefused rows mode span)
 
   pub slices_refused : expansion c asked ≡ Err (fault kind.Slices) → AreKept c asked rows → Refused
-  slices_refused h k = by (first_answered c asked rows (fault kind.Slices) h k)
+  slices_refused h k = by (first_answered c asked rows addresses (fault kind.Slices) h k)
     where
       by : IsFirstFault c.files rows (fault kind.Slices) → Refused
       by (of_line before row after parts sound number faulty least) = absurd faulty
@@ -61,7 +62,7 @@ module _ (c : ConfigOf) (asked : Option (List ℕ)) (line : ℕ) (rows : List Ro
   Lacking = (row : Row) × Contains rows row × (row.number ≡ line) × (row.section ≡ Engines) × LacksMarks row.words
 
   pub marks_refused : expansion c asked ≡ Err (fault kind.Marks) → AreKept c asked rows → Lacking
-  marks_refused h k = by (first_answered c asked rows (fault kind.Marks) h k)
+  marks_refused h k = by (first_answered c asked rows addresses (fault kind.Marks) h k)
     where
       by : IsFirstFault c.files rows (fault kind.Marks) → Lacking
       by (of_line before row after parts sound number faulty least) =
@@ -69,8 +70,8 @@ module _ (c : ConfigOf) (asked : Option (List ℕ)) (line : ℕ) (rows : List Ro
       by (of_no_line sound zeroth missing least) = absurd missing
 
 module _ (c : ConfigOf) (asked : Option (List ℕ)) (t : Task) (rows : List Row) (h : Expand c asked t) (k : AreKept c asked rows) where
-  pub marks_served : (row : Row) → Contains rows row → row.section ≡ Engines → LacksMarks row.words → ⊥
-  marks_served row there s l = let p = between rows row there in task_sound c asked rows t h k p.0 row p.1 kind.Marks p.2 (s, l)
+  pub marks_served : ToldAddresses → (row : Row) → Contains rows row → row.section ≡ Engines → LacksMarks row.words → ⊥
+  marks_served addresses row there s l = let p = between rows row there in task_sound c asked rows addresses t h k p.0 row p.1 kind.Marks p.2 (s, l)
 
   pub marks_said : All IsMarked t.engines
   marks_said =

@@ -4,6 +4,7 @@ use Rattle.std.specs.Prelude.{◌≡◌, ◌≢◌, ◌⊎◌, ℕ, ◌<◌, ◌
 use Rattle.sby_terms.specs.declared.names.Mode.{Mode}
 use Rattle.sby_terms.specs.declared.names.Status.{Status}
 use Rattle.sby_terms.specs.declared.span.Span.{Span}
+use Rattle.sby_terms.specs.Address.{IsAddress}
 use Rattle.sby_task.specs.Values.{by_of, mode_of, number_of, count_of, statuses_of, switch_of}
 use Rattle.sby_task.specs.Said.{IsOption, IsUnset, IsSet, HasOption, SaysSpan, AreRefused, LacksMarks, engine_lines, script_lines, NoneStands, GivesPath}
 use Rattle.sby_file.specs.declared.config.Row.{Row}
@@ -57,9 +58,17 @@ left_out_engines = codes "smtbmc" ∷ codes "abc" ∷ codes "aiger" ∷ codes "i
 abbrev pub IsSatValue : List (List ℕ) → Type 0
 IsSatValue value = (value ≡ []) ⊎ ((words : List (List ℕ)) × (n : ℕ) × (value ≡ codes "--conflicts" ∷ words) × (number_of 1000000000 words ≡ Some n))
 
+-- what may stand after `net`: an address, and after it what may stand after `sat`
+abbrev pub IsNetValue : List (List ℕ) → Type 0
+IsNetValue value = (address : List ℕ) × (budget : List (List ℕ)) × (value ≡ address ∷ budget) × IsAddress address × IsSatValue budget
+
 -- a line of this engine
 abbrev pub IsEngine : List ℕ → List (List ℕ) → Row → Type 0
 IsEngine name arguments row = (row.section ≡ section.Engines) × (row.words ≡ name ∷ arguments)
+
+-- a line of this engine with other words after its name than may stand there
+abbrev pub HasOther : List ℕ → (List (List ℕ) → Type 0) → Row → Type 0
+HasOther name May row = (value : List (List ℕ)) × IsEngine name value row × (May value → ⊥)
 
 -- a line of the script that reads this design
 abbrev pub ReadsDesign : List ℕ → Row → Type 0
@@ -74,12 +83,12 @@ abbrev pub StandsAlone : List Row → Row → Type 0
 StandsAlone all row =
     (value : List (List ℕ)) × SetsOption option.By value row × ((line : Row) → Contains all line → IsOption (codes "mode") (codes "prove" ∷ []) line → ⊥)
 
--- an option has another value; `by` stands in another mode than prove; `sat` has other words after it; an engine that is a program has none;
--- a line of `[files]` has more than two words
+-- an option has another value; `by` stands in another mode than prove; `sat` or `net` has other words after it; an engine that is a program
+-- has none; a line of `[files]` has more than two words
 abbrev pub HasBadValue : List Row → Row → Type 0
 HasBadValue all row =
     (((o : OptionName) × (value : List (List ℕ)) × SetsOption o value row × (IsValue o value → ⊥)) ⊎ StandsAlone all row)
-    ⊎ (((value : List (List ℕ)) × IsEngine (codes "sat") value row × (IsSatValue value → ⊥))
+    ⊎ ((HasOther (codes "sat") IsSatValue row ⊎ HasOther (codes "net") IsNetValue row)
     ⊎ (((name : List ℕ) × IsEngine name [] row × Contains program_engines name) ⊎ ((row.section ≡ section.Files) × (2 < length row.words))))
 
 -- what is wrong with a line of all that are kept, by its kind
@@ -94,7 +103,7 @@ IsFaulty files all before row kind.NoEngine = ⊥
 IsFaulty files all before row kind.LeftOutEngine = (name : List ℕ) × (arguments : List (List ℕ)) × IsEngine name arguments row × Contains left_out_engines name
 IsFaulty files all before row kind.UnknownEngine =
     (row.section ≡ section.Engines)
-    × ((name : List ℕ) (arguments : List (List ℕ)) → row.words ≡ name ∷ arguments → Contains (codes "sat" ∷ program_engines ++ left_out_engines) name → ⊥)
+    × ((name : List ℕ) (arguments : List (List ℕ)) → row.words ≡ name ∷ arguments → Contains (codes "sat" ∷ codes "net" ∷ program_engines ++ left_out_engines) name → ⊥)
 IsFaulty files all before row kind.Script =
     (row.section ≡ section.Script) × (((name : List ℕ) → ReadsDesign name row → ⊥) ⊎ (0 < length (script_lines before)))
 IsFaulty files all before row kind.MissingFile = (name : List ℕ) × ReadsDesign name row × NoneStands files name × NoneGives all name

@@ -1,7 +1,7 @@
 -- The marks on an engine line whose program writes a proof file.
 use Rattle.std.specs.Prelude.{◌≡◌, ℕ, ◌+◌, Bool, cond, ◌&&◌, eqb, List, [], ◌∷◌, length, take, drop, Some, slice_get, codes, bytes_eq}
 use Rattle.sby_terms.specs.declared.engine.Engine.{Engine}
-use Rattle.sby_terms.specs.declared.engine.Engine.TheVariants.{Sat, Drup, Btor, Inv, Lrat, Proof, ProofBinary}
+use Rattle.sby_terms.specs.declared.engine.Engine.TheVariants.{Sat, Drup, Btor, Inv, Lrat, Proof, ProofBinary, Net}
 
 -- for the path of the job's file, and for that of the proof file
 abbrev pub formula_mark : List ℕ
@@ -35,6 +35,7 @@ IsMarked (Drup words) = Unit {0}
 IsMarked (Btor words) = Unit {0}
 IsMarked (Inv words) = Unit {0}
 IsMarked (Lrat words) = Unit {0}
+IsMarked (Net words) = Unit {0}
 IsMarked (Proof words) = HasMarks words
 IsMarked (ProofBinary words) = HasMarks words
 

@@ -1,13 +1,13 @@
 // Engine lines.
 
 ghost use Rattle.std.specs.Prelude.{◌≡◌, List, map, string_bytes, IfOk, [], ◌∷◌, ◌++◌, length, ◌==◌};
-ghost use Rattle.sby_task.specs.Engines.{engine_name, sat_of, program_of, marked_of, engine_of};
+ghost use Rattle.sby_task.specs.Engines.{engine_name, sat_of, is_net, program_of, marked_of, engine_of};
 
 use crate::marks::are_marked;
 use crate::task_fault::TaskKind;
 use crate::values::number_of;
 use sby_file::copied_words;
-use sby_terms::Engine;
+use sby_terms::{Engine, addresses_are_told, is_address};
 use std::alloc::{AllocError, Global};
 use std::marker::Model;
 
@@ -24,6 +24,7 @@ pub enum EngineName {
     Lrat,
     Proof,
     ProofBinary,
+    Net,
     /// An engine that hands over no certificate.
     LeftOut,
     Unknown,
@@ -40,6 +41,7 @@ fn engine_name(word: &str) -> EngineName
         "lrat" => EngineName::Lrat,
         "proof" => EngineName::Proof,
         "proofb" => EngineName::ProofBinary,
+        "net" => EngineName::Net,
         "smtbmc" | "abc" | "aiger" | "itp" | "none" => EngineName::LeftOut,
         _ => EngineName::Unknown,
     }
@@ -59,6 +61,17 @@ fn sat_of(words: &[String]) -> Result<Engine, TaskKind>
                 None => Err(TaskKind::BadValue),
             }
         }
+    }
+}
+
+// Whether an address stands after `net`, and after it what may stand after `sat`.
+fn is_net(arguments: &[String]) -> bool
+    ensures { result ≡ is_net (map string_bytes arguments.now) }
+{
+    addresses_are_told();
+    match arguments {
+        [] => false,
+        [address, budget @ ..] => is_address(address.as_bytes()) && sat_of(budget).is_ok(),
     }
 }
 
@@ -82,12 +95,14 @@ pub fn engine_of(alloc: Global, words: &[String]) -> Result<Result<Engine, TaskK
             EngineName::Proof | EngineName::ProofBinary if !are_marked(arguments) => {
                 Ok(Err(TaskKind::Marks))
             }
+            EngineName::Net if !is_net(arguments) => Ok(Err(TaskKind::BadValue)),
             EngineName::Drup => Ok(Ok(Engine::Drup(copied_words(alloc, arguments)?))),
             EngineName::Btor => Ok(Ok(Engine::Btor(copied_words(alloc, arguments)?))),
             EngineName::Inv => Ok(Ok(Engine::Inv(copied_words(alloc, arguments)?))),
             EngineName::Lrat => Ok(Ok(Engine::Lrat(copied_words(alloc, arguments)?))),
             EngineName::Proof => Ok(Ok(Engine::Proof(copied_words(alloc, arguments)?))),
             EngineName::ProofBinary => Ok(Ok(Engine::ProofBinary(copied_words(alloc, arguments)?))),
+            EngineName::Net => Ok(Ok(Engine::Net(copied_words(alloc, words)?))),
         },
     }
 }

@@ -1,4 +1,4 @@
-//! What the definitions mean in the format's terms: each function's contract is a law, and its body is empty.
+//! What the definitions mean in the format's terms: each function's contract is a law, and its body does nothing.
 
 ghost use Rattle.std.specs.Prelude.{◌≡◌, ◌↔◌, ◌⊎◌, ◌++◌, Contains, ◌∷◌, [], ℕ, Bool, true, false, List, Option, Some, None, Ok, Err, codes, map, unwrap_or};
 ghost use Rattle.sby_terms.specs.declared.names.Mode.{Mode};
@@ -20,6 +20,8 @@ ghost use Rattle.sby_task.specs.declared.expansion.Task.{Task};
 ghost use Rattle.sby_file.specs.declared.section.Section.{Section};
 ghost use Rattle.sby_task.specs.declared.task_fault.TaskFault.{TaskFault};
 ghost use Rattle.sby_task.specs.declared.task_fault.TaskKind.{TaskKind};
+
+use sby_terms::addresses_are_told;
 
 /// A path's name is its part after the last `/`.
 pub fn paths_end_in_names()
@@ -65,7 +67,9 @@ pub fn slices_are_refused()
         × SaysSpan rows span × AreRefused rows mode span) }
     ensures served { (c : ConfigOf) (asked : Option (List ℕ)) (t : Task) (rows : List Row) → Expand c asked t → AreKept c asked rows
         → AreRefused rows t.mode t.span → ⊥ }
-{}
+{
+    addresses_are_told();
+}
 
 /// Marks is answered only for a kept engine line whose program writes a proof file and on which the marks don't stand once each, and
 /// no such line is kept for a task.
@@ -75,7 +79,9 @@ pub fn marks_are_asked_for()
         → (row : Row) × Contains rows row × (row.number ≡ line) × (row.section ≡ Section.Engines) × LacksMarks row.words }
     ensures served { (c : ConfigOf) (asked : Option (List ℕ)) (t : Task) (rows : List Row) → Expand c asked t → AreKept c asked rows
         → (row : Row) → Contains rows row → row.section ≡ Section.Engines → LacksMarks row.words → ⊥ }
-{}
+{
+    addresses_are_told();
+}
 
 /// Of the lines that are kept for a task one is of the script, and names the design: a file that stands in the text, or else that of
 /// the last line of `[files]` with that name.
@@ -99,10 +105,14 @@ pub fn other_tasks_are_unknown()
 pub fn first_fault_is_answered()
     ensures { (c : ConfigOf) (asked : Option (List ℕ)) (fault : TaskFault) (rows : List Row)
         → expansion c asked ≡ Err fault → AreKept c asked rows → IsFirstFault c.files rows fault }
-{}
+{
+    addresses_are_told();
+}
 
 /// No line that is kept for a task is at fault.
 pub fn kept_lines_are_sound()
     ensures { (c : ConfigOf) (asked : Option (List ℕ)) (t : Task) (rows : List Row) → Expand c asked t → AreKept c asked rows
         → AreSound c.files rows rows }
-{}
+{
+    addresses_are_told();
+}

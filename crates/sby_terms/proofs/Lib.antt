@@ -1,3 +1,5 @@
 mod Copies
 mod Decimals
 pub mod Numbers
+mod Addresses
+mod AddressWords

@@ -5,3 +5,4 @@ pub mod Code
 pub mod Number
 pub mod Span
 pub mod Path
+pub mod Address

@@ -65,6 +65,9 @@ pub enum Engine {
     Proof(Words),
     /// A program that writes its answer, and a proof file in binary.
     ProofBinary(Words),
+    /// An engine that is reached over a connection. All words of the line stand here: `net`, the address, and after it `--conflicts` and
+    /// a budget where one is given.
+    Net(Words),
 }
 
 impl Engine {
@@ -97,6 +100,10 @@ impl Engine {
             Engine::ProofBinary(words) => {
                 let words = words.copy()?;
                 Ok(Engine::ProofBinary(words))
+            }
+            Engine::Net(words) => {
+                let words = words.copy()?;
+                Ok(Engine::Net(words))
             }
         }
     }

@@ -1,6 +1,7 @@
 //! The terms of the runner: modes, jobs, answers, verdicts, statuses and engines, with the tables that decide them.
 #![tactic(auto)]
 
+mod address;
 mod engine;
 mod expect;
 mod names;
@@ -10,6 +11,7 @@ mod settled;
 mod span;
 mod tables;
 
+pub use address::{addresses_are_told, is_address};
 pub use engine::{Engine, Words};
 pub use expect::Expect;
 pub use names::{Answer, Event, JobName, Mode, Status, Verdict};

@@ -54,7 +54,7 @@ fn run_slowly<H: Threads + Wait + SystemClock + Sync + Alloc<A = Global>>(
 ) -> Result<u8, Fail> {
     let mut files = stored(rt.alloc())?;
     let words = owned(rt.alloc(), "--judge t.il bmc 1 s0")?;
-    Ok(run_into(rt, &mut files, &words, out, &[], &StillClock(0))?)
+    Ok(run_into(rt, &mut files, &words, out, &[], &StillClock(0))?.rc)
 }
 
 #[test]

@@ -14,6 +14,15 @@ clock 1000
 > SBY [two] DONE (PASS, rc=0)
 
 file t.il <T>
+file two.sby [options]|mode bmc|depth 1|[engines]|net host:7000 --conflicts 9|[script]|read_rtlil t.il|[files]|t.il|
+child
+clock 1000
+starts net host:7000 --conflicts 9
+> SBY [two] design: 1 register bits, 1 assert, 0 assume, 0 cover
+> SBY [two] base: UNSAT
+> SBY [two] DONE (PASS, rc=0)
+
+file t.il <T>
 file two.sby [options]|mode bmc|depth 1|[engines]|drup solver|[script]|read_rtlil t.il|[files]|t.il|
 child text=s UNSATISFIABLE|
 clock 1000

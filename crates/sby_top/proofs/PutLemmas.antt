@@ -181,6 +181,7 @@ btor_at (engine.Sat conflicts ∷ engines) some = let rest = btor_at engines som
 btor_at (engine.Drup words ∷ engines) some = let rest = btor_at engines some in (suc rest.0, rest.1, rest.2)
 btor_at (engine.Inv words ∷ engines) some = let rest = btor_at engines some in (suc rest.0, rest.1, rest.2)
 btor_at (engine.Lrat words ∷ engines) some = let rest = btor_at engines some in (suc rest.0, rest.1, rest.2)
+btor_at (engine.Net words ∷ engines) some = let rest = btor_at engines some in (suc rest.0, rest.1, rest.2)
 btor_at (engine.Proof words ∷ engines) some = let rest = btor_at engines some in (suc rest.0, rest.1, rest.2)
 btor_at (engine.ProofBinary words ∷ engines) some = let rest = btor_at engines some in (suc rest.0, rest.1, rest.2)
 

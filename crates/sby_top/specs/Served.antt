@@ -73,6 +73,7 @@ is_btor (engine.Drup words) = false
 is_btor (engine.Btor words) = true
 is_btor (engine.Inv words) = false
 is_btor (engine.Lrat words) = false
+is_btor (engine.Net words) = false
 is_btor (engine.Proof words) = false
 is_btor (engine.ProofBinary words) = false
 

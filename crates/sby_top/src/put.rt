@@ -16,13 +16,13 @@ ghost use Rattle.task_race.specs.Words.{btor_path};
 use crate::serve::file_fault;
 use crate::task::{Service, Task};
 use cert_judge::Kind;
-use judge::{JobText, Problem};
+use judge::Problem;
 use sby_edge::{Bytes, Fail, Files, Source};
 use sby_lines::Early;
 use sby_terms::{Engine, JobName, job_path};
 use sby_words::stream_kind;
 use std::alloc::Global;
-use task_race::btor_path;
+use task_race::{FileText, btor_path};
 
 // Puts all that a source gives.
 fn put_from<F: Files, S: Source>(
@@ -42,20 +42,6 @@ fn put_from<F: Files, S: Source>(
         Ok(()) => Ok(()),
         Err(Fail::Failed) => Err(file_fault(alloc, path)),
         Err(Fail::Memory) => Err(Early::Memory),
-    }
-}
-
-// The text of a job's file, which is put by pieces.
-#[derive(Drop)]
-struct FileText<'a> {
-    text: JobText<'a>,
-}
-
-impl<'a> Source for FileText<'a> {
-    ghost rest = { λ t. t.text };
-
-    fn next(&mut self, buffer: &mut [u8]) -> usize {
-        self.text.next(buffer)
     }
 }
 
@@ -83,7 +69,7 @@ fn put_formula<F: Files>(
     let Ok(file) = problem.job_file(alloc, job) else {
         return Err(Early::Memory);
     };
-    let mut text = FileText { text: file.text() };
+    let mut text = FileText::new(file.text());
     put_from(alloc, files, path.as_str(), &mut text)
 }
 

@@ -10,3 +10,4 @@ pub mod LearnLemmas
 pub mod PlaceLemmas
 pub mod RanLemmas
 pub mod WonLemmas
+mod Files

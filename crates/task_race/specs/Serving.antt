@@ -21,6 +21,7 @@ evidence_of (engine.Sat conflicts) = Output (Certificate Drup)
 evidence_of (engine.Drup words) = Output (Certificate Drup)
 evidence_of (engine.Btor words) = Output Witness
 evidence_of (engine.Inv words) = Output Invariant
+evidence_of (engine.Net words) = Output (Certificate Drup)
 evidence_of (engine.Lrat words) = Output (Certificate Lrat)
 evidence_of (engine.Proof words) = ProofFile Proof
 evidence_of (engine.ProofBinary words) = ProofFile ProofBinary
@@ -53,3 +54,8 @@ file_of p (Base i) = formula_text p (Base i)
 file_of p Step = formula_text p Step
 file_of p Inv = pair_text (pair_in p)
 file_of p (Cover k) = formula_text p (Cover k)
+
+-- a job of a problem, whose file is meant
+pub record ProblemFileOf : Type 0 where
+  pub problem : AskedOf
+  pub job : JobName

@@ -44,7 +44,8 @@ both_joined path proof word (Some (front, back)) = replaced proof_mark proof fro
 abbrev pub with_paths : List ℕ → List ℕ → List ℕ → List ℕ
 with_paths path proof word = both_joined path proof word (parted formula_mark word)
 
--- the words of an engine's child, for the file that it reads and the proof file at these paths
+-- the words of an engine's child, for the file that it reads and the proof file at these paths; one that is reached over a connection
+-- reads none, so its line's words stand as they are
 abbrev pub words_of : Engine → List ℕ → List ℕ → List (List ℕ)
 words_of (engine.Sat None) path proof = solver_word ∷ path ∷ []
 words_of (engine.Sat (Some n)) path proof = solver_word ∷ budget_word ∷ decimal n ∷ path ∷ []
@@ -52,6 +53,7 @@ words_of (engine.Drup words) path proof = words ++ path ∷ []
 words_of (engine.Btor words) path proof = words ++ path ∷ []
 words_of (engine.Inv words) path proof = words ++ path ∷ []
 words_of (engine.Lrat words) path proof = words ++ path ∷ []
+words_of (engine.Net words) path proof = words
 words_of (engine.Proof words) path proof = map (with_paths path proof) words
 words_of (engine.ProofBinary words) path proof = map (with_paths path proof) words
 
@@ -62,13 +64,14 @@ btor_file folder job = folder ++ codes "/model/" ++ job ++ codes ".btor"
 abbrev pub btor_path : List ℕ → ℕ → JobName → List ℕ
 btor_path folder slices job = btor_file folder (job_text slices job)
 
--- the path of the file that an engine's child reads for a job: the model in BTOR2, or the job's own file
+-- the path of the file that an engine reads for a job, or that is sent to it: the model in BTOR2, or the job's own file
 abbrev pub path_of : Engine → List ℕ → ℕ → JobName → List ℕ
 path_of (engine.Sat conflicts) folder slices job = job_path folder slices job
 path_of (engine.Drup words) folder slices job = job_path folder slices job
 path_of (engine.Btor words) folder slices job = btor_path folder slices job
 path_of (engine.Inv words) folder slices job = job_path folder slices job
 path_of (engine.Lrat words) folder slices job = job_path folder slices job
+path_of (engine.Net words) folder slices job = job_path folder slices job
 path_of (engine.Proof words) folder slices job = job_path folder slices job
 path_of (engine.ProofBinary words) folder slices job = job_path folder slices job
 

@@ -9,17 +9,18 @@ ghost use Rattle.task_race.specs.Words.{path_of, proof_path, words_at};
 ghost use Rattle.sby_terms.specs.Span.{slices_of};
 
 use crate::evidence::Evidence;
+use crate::file::ProblemFile;
 use crate::subject::{JobJudge, Watch};
 use crate::words::{path_of, proof_path, words_of};
 use cert_judge::{Kind, StreamKind};
 use judge::{Finding, Judge, Problem, SolverJudge, serves};
 use lane_run::{Asks, Child, Makes};
-use sby_edge::{Nothing, Told, ToldBytes};
+use sby_edge::{Nothing, ToldBytes};
 use sby_terms::{Engine, JobName, MAX_STREAM};
 use std::alloc::{AllocError, Global};
 
 /// The lanes of a problem, one for each engine line: `btor` serves the jobs that ask for a run from the start, `inv`
-/// the one that asks for an invariant, every other engine each other job.
+/// the one that asks for an invariant, every other engine each other job. A `net` line's engine is sent the job's file.
 /// The jobs' files lie in the work folder, below `model`, and so do the proof files that children leave.
 #[derive(Clone, Copy)]
 pub struct ProblemLanes<'a> {
@@ -33,7 +34,7 @@ fn evidence_of(engine: &Engine) -> Evidence
     ensures { result ≡ evidence_of engine.now }
 {
     match engine {
-        Engine::Sat(_) | Engine::Drup(_) => {
+        Engine::Sat(_) | Engine::Drup(_) | Engine::Net(_) => {
             Evidence::Output(Kind::Certificate(StreamKind::Drup))
         }
         Engine::Btor(_) => Evidence::Output(Kind::Witness),
@@ -99,19 +100,6 @@ fn is_job(problem: &Problem, job: JobName) -> bool
     false
 }
 
-// A job's file, which is spoken of alone.
-#[derive(Drop)]
-struct JobFile<'a> {
-    problem: &'a Problem,
-    job: JobName,
-}
-
-impl<'a> Told for JobFile<'a> {
-    ghost use Rattle.task_race.specs.Serving.{file_of};
-
-    ghost bytes = { λ f. file_of f.problem.now f.job };
-}
-
 // The path of the file that an engine's child reads for a job.
 fn file_path(
     alloc: Global,
@@ -162,6 +150,8 @@ impl<'a> Makes<Finding> for ProblemLanes<'a> {
     ghost use Rattle.task_race.specs.Fates.{stays_law};
 
     type Subject = JobJudge<'a>;
+
+    type File = ProblemFile<'a>;
 
     ghost is_served = { λ l lane job. IsServed l.engines.now l.problem.now lane job };
 
@@ -214,11 +204,8 @@ impl<'a> Makes<Finding> for ProblemLanes<'a> {
         })
     }
 
-    fn bytes(&self, job: JobName) -> ToldBytes {
-        ToldBytes::of(&JobFile {
-            problem: self.problem,
-            job,
-        })
+    fn file(&self, _lane: u32, job: JobName) -> ProblemFile<'a> {
+        ProblemFile::new(self.problem, job)
     }
 
     fn most(&self) -> u64 {

@@ -4,6 +4,7 @@
 
 mod bays;
 mod evidence;
+mod file;
 mod lanes;
 mod laws;
 mod prepare;
@@ -14,6 +15,7 @@ mod truth;
 mod words;
 
 pub use evidence::Evidence;
+pub use file::{FileText, ProblemFile};
 pub use lanes::ProblemLanes;
 pub use laws::{
     each_lane_reports, ends_have_causes, lanes_stop_under_a_limit, streams_give_their_fates,

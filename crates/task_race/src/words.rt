@@ -132,7 +132,7 @@ fn marked_words(
     Ok(replaced)
 }
 
-// The words of an engine's child, for the job's file and the proof file at these paths.
+// The words of an engine's child, for the job's file and the proof file at these paths; of a `net` line as they stand.
 pub(crate) fn words_of(
     alloc: Global,
     engine: &Engine,
@@ -146,6 +146,7 @@ pub(crate) fn words_of(
         Engine::Drup(words) | Engine::Lrat(words) | Engine::Btor(words) | Engine::Inv(words) => {
             program_words(words, path)
         }
+        Engine::Net(words) => Ok(words.copy()?.into_words()),
         Engine::Proof(words) | Engine::ProofBinary(words) => {
             marked_words(alloc, words.as_slice(), path.as_str(), proof)
         }
@@ -188,6 +189,7 @@ pub(crate) fn path_of(
         | Engine::Drup(_)
         | Engine::Inv(_)
         | Engine::Lrat(_)
+        | Engine::Net(_)
         | Engine::Proof(_)
         | Engine::ProofBinary(_) => job_path(alloc, folder, slices, job),
     }

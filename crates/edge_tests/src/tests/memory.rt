@@ -5,7 +5,7 @@ ghost use Rattle.sby_edge.specs.declared.outside.Fail.TheVariants.{Failed as Fai
 
 use sby_edge::{
     Bytes, Clock, Exit, Fail, Failed, Files, Got, Hold, Launch, MemFiles, MemSink, Memory, NoYard,
-    Nothing, Sink, Source, StillClock, ToldBytes, Yard, fill,
+    Nothing, Sink, Source, StillClock, Yard, fill,
 };
 use sby_terms::JobName;
 use std::alloc::{AllocError, Global};
@@ -165,7 +165,7 @@ fn one_child<Y: Yard>(yard: &mut Y, alloc: Global, words: &[String]) -> Result<E
 }
 
 fn in_bay<L: Launch>(bay: &mut L, alloc: Global, words: &[String]) -> Result<Exit, Fail> {
-    let (pipe, mut hold) = bay.start(alloc, JobName::Base(0), words, &ToldBytes::of(&Nothing))?;
+    let (pipe, mut hold) = bay.start(alloc, JobName::Base(0), words, &Nothing)?;
     let killed = hold.kill();
     let reaped = hold.reap();
     bay.finish(pipe, hold);

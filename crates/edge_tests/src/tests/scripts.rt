@@ -4,7 +4,7 @@ ghost use Rattle.std.specs.Prelude.{◌≡◌, ◌<◌, true, length};
 
 use sby_edge::{
     Call, CallFault, Clock, Exit, Fail, Gate, Got, Hold, Launch, ListClock, Memory, Nothing, Pipe,
-    Script, ScriptYard, Scripted, Stage, ToldBytes, Yard,
+    Script, ScriptYard, Scripted, Stage, Yard,
 };
 use sby_terms::JobName;
 use std::alloc::{AllocError, Global};
@@ -27,12 +27,7 @@ fn script_of(alloc: Global, bytes: &[u8]) -> Result<Script, AllocError> {
 // What two reads gave, and the exit; a failed call ends the child.
 fn play<L: Launch>(bay: &mut L, alloc: Global) -> Result<(usize, usize, Exit), Fail> {
     let words = Vec::<String>::new(alloc);
-    let (mut pipe, mut hold) = bay.start(
-        alloc,
-        JobName::Base(0),
-        &words,
-        &ToldBytes::of(&Nothing),
-    )?;
+    let (mut pipe, mut hold) = bay.start(alloc, JobName::Base(0), &words, &Nothing)?;
     let mut buffer = [0u8; 8];
     let _polled = hold.poll();
     let killed = hold.kill();
@@ -143,14 +138,14 @@ fn first_bytes<L: Launch>(
     beside: bool,
 ) -> Result<[usize; 2], Fail> {
     let words = Vec::<String>::new(alloc);
-    let (mut pipe, mut hold) = one.start(alloc, JobName::Step, &words, &ToldBytes::of(&Nothing))?;
+    let (mut pipe, mut hold) = one.start(alloc, JobName::Step, &words, &Nothing)?;
     let mut buffer = [0u8; 8];
     let mut counts = [0, 0];
     if !beside {
         counts[0] = pipe.read(&mut buffer).unwrap_or(0);
         let _reaped = hold.reap();
     }
-    let started = two.start(alloc, JobName::Step, &words, &ToldBytes::of(&Nothing));
+    let started = two.start(alloc, JobName::Step, &words, &Nothing);
     if beside {
         counts[0] = pipe.read(&mut buffer).unwrap_or(0);
     }

@@ -91,16 +91,16 @@ returns-clause-starts g c =
     let events = c.start_child.result.events.events in
     let kept = c.start_child.new.keeper_events.events in
     let h = subst (λ (b : BerthOf g.row.L.Denot). (starts : List StartOf) × (g.L.Launch.told c.start_child.new.berth.bay ≡ option_map (with_starts starts) (g.L.Launch.told b.bay))
-    × Starts b.pool job (map string_bytes c.in-Ok.child.words.items) c.bytes.result.bytes
+    × Starts b.pool job (map string_bytes c.in-Ok.child.words.items) (g.M.File.Told.bytes c.file.result)
     (ReadsScript (g.M.Subject.Subject.stands s) (g.M.Subject.Subject.ends s) (g.M.Subject.Subject.proves s) (g.L.Launch.told b.bay) job c.most.result (g.M.Subject.Subject.most s) events)
     events kept c.start_child.result.end starts) c.wait_place.ensures.same c.start_child.ensures.starts in
     let w = c.in-Ok.ensures.judges in (
       h.0,
       h.1,
-      starts_within c.args.berth.now.pool job (map string_bytes c.in-Ok.child.words.items) (g.M.Makes.words m c.args.lane job) c.bytes.result.bytes (g.M.Makes.file m job)
+      starts_within c.args.berth.now.pool job (map string_bytes c.in-Ok.child.words.items) (g.M.Makes.words m c.args.lane job) (g.M.File.Told.bytes c.file.result) (g.M.Makes.file m job)
           (ReadsScript (g.M.Subject.Subject.stands s) (g.M.Subject.Subject.ends s) (g.M.Subject.Subject.proves s) bay job (g.M.Makes.most m) (g.M.Subject.Subject.most s) events)
           (ReadsScript (g.M.Makes.stands m c.args.lane job) (g.M.Makes.ends m c.args.lane job) (g.M.Makes.proves m c.args.lane job) bay job (g.M.Makes.most m) (g.M.Makes.most_output m c.args.lane) events)
-          events kept c.start_child.result.end h.0 c.in-Ok.ensures.words c.bytes.ensures
+          events kept c.start_child.result.end h.0 c.in-Ok.ensures.words c.file.ensures
           (reads_within (g.M.Subject.Subject.stands s) (g.M.Makes.stands m c.args.lane job) (g.M.Subject.Subject.ends s) (g.M.Makes.ends m c.args.lane job) (g.M.Subject.Subject.proves s) (g.M.Makes.proves m c.args.lane job)
           bay job (g.M.Makes.most m) (g.M.Subject.Subject.most s) (g.M.Makes.most_output m c.args.lane) events w.0 w.1 w.2 c.in-Ok.ensures.most)
           (rw c.most.ensures at h.2),

@@ -13,15 +13,15 @@ use Rattle.lane_run.proofs.start.start_child.Goals as goal
 pub returns-in-Err-Failed-clause-starts : goal.returns-in-Err-Failed-clause-starts
 returns-in-Err-Failed-clause-starts g c =
     let told = rw (c.in-Err-Failed.field-0-is, c.as_slice.ensures.value) at c.in-Err-Failed.ensures.told in
-    (start_of c.args.watch.now.terms.now.job (map string_bytes c.args.child.words.items) c.args.bytes.now.bytes None None ∷ [], ap (λ (b : BerthOf g.row.L.Denot). g.L.Launch.told b.bay) c.give_place.ensures.same ∙ told, inr (inl (refl, c.requires.fresh.1, refl)))
+    (start_of c.args.watch.now.terms.now.job (map string_bytes c.args.child.words.items) (g.F.Told.bytes c.args.file.now) None None ∷ [], ap (λ (b : BerthOf g.row.L.Denot). g.L.Launch.told b.bay) c.give_place.ensures.same ∙ told, inr (inl (refl, c.requires.fresh.1, refl)))
 
 pub returns-in-Err-Memory-clause-starts : goal.returns-in-Err-Memory-clause-starts
 returns-in-Err-Memory-clause-starts g c =
     let told = rw c.as_slice.ensures.value at c.start.ensures.told in
     let bay = g.L.Launch.told c.args.berth.now.bay in (
       [],
-      ap (λ (b : BerthOf g.row.L.Denot). g.L.Launch.told b.bay) c.want_placed.ensures.same ∙ none_started c.start.result c.in-Err-Memory.field-0 c.args.watch.now.terms.now.job (map string_bytes c.args.child.words.items) c.args.bytes.now.bytes bay (g.L.Launch.told c.start.new.self.bay) c.in-Err-Memory.is c.in-Err-Memory.field-0-is told,
-      none_for_want c.args.berth.now.pool c.args.watch.now.terms.now.job (map string_bytes c.args.child.words.items) c.args.bytes.now.bytes
+      ap (λ (b : BerthOf g.row.L.Denot). g.L.Launch.told b.bay) c.want_placed.ensures.same ∙ none_started c.start.result c.in-Err-Memory.field-0 c.args.watch.now.terms.now.job (map string_bytes c.args.child.words.items) (g.F.Told.bytes c.args.file.now) bay (g.L.Launch.told c.start.new.self.bay) c.in-Err-Memory.is c.in-Err-Memory.field-0-is told,
+      none_for_want c.args.berth.now.pool c.args.watch.now.terms.now.job (map string_bytes c.args.child.words.items) (g.F.Told.bytes c.args.file.now)
           (ReadsScript (g.S.Subject.stands c.args.child.subject) (g.S.Subject.ends c.args.child.subject) (g.S.Subject.proves c.args.child.subject) bay c.args.watch.now.terms.now.job c.args.most (g.S.Subject.most c.args.child.subject) c.args.reader_events.events)
           c.args.reader_events.events c.want_placed.new.events.events c.want_placed.result c.want_placed.ensures.is c.requires.fresh.1,
     )
@@ -48,9 +48,9 @@ returns-clause-starts g c =
     let words = map string_bytes c.args.child.words.items in
     let events = c.run_started.result.events.events in
     let told = rw c.as_slice.ensures.value at c.in-Ok.ensures.told in
-    let l = life (g.S.Subject.stands s) (g.S.Subject.ends s) (g.S.Subject.proves s) job words c.args.bytes.now.bytes c.args.most (g.S.Subject.most s) events c.run_started.new.keeper_events.events
+    let l = life (g.S.Subject.stands s) (g.S.Subject.ends s) (g.S.Subject.proves s) job words (g.F.Told.bytes c.args.file.now) c.args.most (g.S.Subject.most s) events c.run_started.new.keeper_events.events
     (g.L.Launch.told c.args.berth.now.bay) (g.L.Launch.told c.start.new.self.bay) (g.L.Launch.told c.run_started.new.berth.bay) (g.L.Pipe.Pipe.told c.in-Ok.started.0)
     c.in-Ok.started told c.in-Ok.ensures.pipe c.run_started.ensures.ran in
     let tells = told_after c.args.berth.now.pool c.start.new.self.pool c.enter_place.new.events.events c.run_started.new.keeper_events.events
     (ap (λ (b : BerthOf g.row.L.Denot). b.pool) c.start.ensures.same) c.enter_place.ensures.told c.run_started.ensures.keeps.starts in
-    (start_of job words c.args.bytes.now.bytes (Some (bytes_read events)) l.killed ∷ [], l.told, inr (inr ((c.run_started.ensures.started, tells), l.reads, (l.killed, l.for, refl))))
+    (start_of job words (g.F.Told.bytes c.args.file.now) (Some (bytes_read events)) l.killed ∷ [], l.told, inr (inr ((c.run_started.ensures.started, tells), l.reads, (l.killed, l.for, refl))))

@@ -10,5 +10,5 @@ returns-clause-ok g c =
     on_ok c.put_from.result _ _ (λ put. (
       c.in-Ok-job_file.file,
       c.in-Ok-job_file.ensures,
-      put ∙ ap₂ (λ (at text : List ℕ). option_map (put_at at text) (g.F.Files.told c.args.files.now)) path c.text.ensures,
+      put ∙ ap₂ (λ (at text : List ℕ). option_map (put_at at text) (g.F.Files.told c.args.files.now)) path (c.new-text.ensures ∙ c.text.ensures),
     )) c.put_from.ensures.ok

@@ -1,0 +1,3 @@
+mod Asks
+mod Asking
+mod Starts

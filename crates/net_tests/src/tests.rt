@@ -1,0 +1,8 @@
+// The tests, by subject.
+
+mod answers;
+mod engine;
+mod requests;
+mod serving;
+mod starts;
+mod tools;
