@@ -16,7 +16,9 @@ FIRST = b"SBYJOB1\n"
 FAULT = b"c fault: frame\n"
 SMALL = b"p cnf 2 4\n1 2 0\n-1 2 0\n1 -2 0\n-1 -2 0\n"
 GONE = (errno.ECONNRESET, errno.EPIPE, errno.ENOTCONN)
-KINDS = ["random", "cut", "long", "huge", "silent", "leaves", "deaf", "slow", "good"]
+# Two clauses below a header of 2^27 variables: what they cost is the clauses' cost.
+WIDE = b"p cnf 134217728 2\n1 0\n-1 0\n"
+KINDS = ["random", "cut", "long", "huge", "wide", "silent", "leaves", "deaf", "slow", "good"]
 
 
 def request(budget, job):
@@ -148,6 +150,9 @@ def hostile(server, kind, rand):
             if kind == "huge":
                 link.sendall(FIRST + struct.pack(">QQ", 1, (1 << 32) + 1))
                 return answer(link) == FAULT
+            if kind == "wide":
+                link.sendall(request(1, WIDE))
+                return answer(link) == b"0\ns UNSATISFIABLE\n"
             if kind == "leaves":
                 link.sendall(whole[: rand.randrange(1, len(whole) + 1)])
             elif kind == "deaf":

@@ -426,8 +426,17 @@ class Runs:
 
 
 def cluster_sby(runs):
-    if any(wrapper.name == "far_srun" for wrapper in runs.wrappers):
-        it = runs.site.run(runs.sby, "cluster/cluster.sby")
+    """Beside the engine at a port, and without it: its lane then fails to start, and the others decide."""
+    if not any(wrapper.name == "far_srun" for wrapper in runs.wrappers):
+        return
+    for is_served in (True, False):
+        server = subprocess.Popen([runs.engine, "--serve", "127.0.0.1:4700", "--count", "2"], stdin=subprocess.DEVNULL) if is_served else None
+        try:
+            it = runs.site.run(runs.sby, "cluster/cluster.sby")
+        finally:
+            if server:
+                server.kill()
+                server.wait()
         done = [line.split("] ")[1] for line in it.stdout.decode().splitlines() if "DONE" in line]
         want(done == ["DONE (PASS, rc=0)", "DONE (FAIL, rc=0)", "DONE (PASS, rc=0)"] and it.returncode == 0, it.stdout.decode())
         want(within(SOON, lambda: not runs.site.queue()), f"in the queue: {runs.site.queue()}")
