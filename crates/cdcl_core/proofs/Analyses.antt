@@ -16,28 +16,28 @@ use Rattle.std.proofs.lemmas.List.{take_all}
 use Rattle.unit_propagation.proofs.Slots.{clauses_of-contains}
 use Rattle.unit_propagation.specs.Propagation.{ContainsAll, IsConsistent, IsDerived}
 use Rattle.unit_propagation.specs.Propagator.{PropagatorOf, clauses_of}
-use Rattle.cdcl_core.specs.Levels.{IsDriven, IsPending, end_of, base_of}
-use Rattle.cdcl_core.specs.Analysis.{IsListed, IsNoted, Supports, IsFirst, IsBuilt, IsLearnt}
+use Rattle.cdcl_core.specs.Levels.{IsJustified, IsPending, end_of, base_of}
+use Rattle.cdcl_core.specs.Analysis.{AreMarksListed, IsSeenOrRoot, Supports, IsUip, IsBuilt, IsLearnt}
 use Rattle.cdcl_core.proofs.Marks.{unmark_other, of_prefix}
-use Rattle.cdcl_core.proofs.Driven.{end_inside, end_past}
+use Rattle.cdcl_core.proofs.Justified.{end_inside, end_past}
 
 -- what holds of each member
 pub All-of : {X : Type 0} (xs : List X) (P : X → Type 0) → ((x : X) → Contains xs x → P x) → All P xs
 All-of xs P h i d room = h (get_or xs i d) (Contains-get_or xs i d room)
 
 -- what is noted is derived where the marked literals and level 0 are
-noted_derived : (G : List (List LitOf)) (t : List LitOf) (root : ℕ) (seen : List Bool) (m : LitOf) → IsDerived G (take root t) → ((l : LitOf) → is_marked seen l ≡ true → Closure G l) → IsNoted t root seen m → Closure G (negate m)
+noted_derived : (G : List (List LitOf)) (t : List LitOf) (root : ℕ) (seen : List Bool) (m : LitOf) → IsDerived G (take root t) → ((l : LitOf) → is_marked seen l ≡ true → Closure G l) → IsSeenOrRoot t root seen m → Closure G (negate m)
 noted_derived G t root seen m d all n = elim n [ inl h ↦ all (negate m) h | inr h ↦ d.each (negate m) h ]
 
 -- a conflict rests on the negations of its clause's literals
-pub supports_clause : (F : List (List LitOf)) (t : List LitOf) (root : ℕ) (seen : List Bool) (c : List LitOf) → Contains F c → ((m : LitOf) → Contains c m → IsNoted t root seen m) → Supports F t root seen
+pub supports_clause : (F : List (List LitOf)) (t : List LitOf) (root : ℕ) (seen : List Bool) (c : List LitOf) → Contains F c → ((m : LitOf) → Contains c m → IsSeenOrRoot t root seen m) → Supports F t root seen
 supports_clause F t root seen c h noted = record {
   conflict = λ G all d marked. (c, all.each c h, λ m k. noted_derived G t root seen m d marked (noted m k));
 }
 
 -- a literal of a clause whose others are noted may give way to them
 pub supports_resolved : (F : List (List LitOf)) (t : List LitOf) (root : ℕ) (seen seen' : List Bool) (c : List LitOf) (l : LitOf) → Contains F c → Contains c l
-    → ((m : LitOf) → Contains c m → m ≢ l → IsNoted t root seen' m) → ((x : LitOf) → is_marked (set seen (index_of l) false) x ≡ true → is_marked seen' x ≡ true)
+    → ((m : LitOf) → Contains c m → m ≢ l → IsSeenOrRoot t root seen' m) → ((x : LitOf) → is_marked (set seen (index_of l) false) x ≡ true → is_marked seen' x ≡ true)
     → Supports F t root seen → Supports F t root seen'
 supports_resolved F t root seen seen' c l h k noted keeps w = record {
   conflict = λ G all d marked. w.conflict G all d (λ x q. elim (lit_cases x l) [
@@ -57,8 +57,8 @@ pub supports_more : (F : List (List LitOf)) (t : List LitOf) (root : ℕ) (seen 
 supports_more F t root seen seen' keeps w = record { conflict = λ G all d marked. w.conflict G all d (λ x q. marked x (keeps x q)) }
 
 -- the clause that an analysis ends with
-pub learnt_built : (p : PropagatorOf) (base root : ℕ) (seen : List Bool) (lower current : List LitOf) (l : LitOf) (c : List LitOf) → IsDriven p → root ≡ end_of p 0 → IsListed p.trail base seen lower current
-    → Supports (clauses_of p.slots) p.trail root seen → IsFirst p.trail base seen current l → IsBuilt seen lower l c → length c ≤ p.vars → IsLearnt p base c (negate l)
+pub learnt_built : (p : PropagatorOf) (base root : ℕ) (seen : List Bool) (lower current : List LitOf) (l : LitOf) (c : List LitOf) → IsJustified p → root ≡ end_of p 0 → AreMarksListed p.trail base seen lower current
+    → Supports (clauses_of p.slots) p.trail root seen → IsUip p.trail base seen current l → IsBuilt seen lower l c → length c ≤ p.vars → IsLearnt p base c (negate l)
 learnt_built p base root seen lower current l c v e listed w f built short =
     let F = clauses_of p.slots in
     let G = F ++ negated_units c in
@@ -84,7 +84,7 @@ learnt_built p base root seen lower current l c v e listed w f built short =
     }
 
 -- what is noted stays so while marks are only set
-pub noted_keeps : (t : List LitOf) (root : ℕ) (seen seen' : List Bool) (m : LitOf) → ((l : LitOf) → is_marked seen l ≡ true → is_marked seen' l ≡ true) → IsNoted t root seen m → IsNoted t root seen' m
+pub noted_keeps : (t : List LitOf) (root : ℕ) (seen seen' : List Bool) (m : LitOf) → ((l : LitOf) → is_marked seen l ≡ true → is_marked seen' l ≡ true) → IsSeenOrRoot t root seen m → IsSeenOrRoot t root seen' m
 noted_keeps t root seen seen' m keeps n = elim n [ inl h ↦ inl (keeps (negate m) h) | inr h ↦ inr h ]
 
 -- a variable counted from 0
@@ -136,7 +136,7 @@ trail_short vars t within distinct consistent =
     omega (arith, h, n)
 
 -- the clause of the negations of all that was true when the last level was decided
-pub learnt_trail : (p : PropagatorOf) (k : ℕ) (c : List LitOf) (d : LitOf) → IsDriven p → 0 < length p.limits → base_of p < length p.trail → IsPending p (Some k) → IsDistinct p.trail → IsConsistent p.trail
+pub learnt_trail : (p : PropagatorOf) (k : ℕ) (c : List LitOf) (d : LitOf) → IsJustified p → 0 < length p.limits → base_of p < length p.trail → IsPending p (Some k) → IsDistinct p.trail → IsConsistent p.trail
     → d ≡ get_or p.trail (base_of p) d → c ≡ map negate (take (base_of p) p.trail) ++ negate d ∷ [] → IsLearnt p (base_of p) c (negate d)
 learnt_trail p k c d v levels room pending distinct consistent read is =
     let F = clauses_of p.slots in
@@ -181,7 +181,7 @@ learnt_trail p k c d v levels room pending distinct consistent read is =
     }
 
 -- where the last level begins there is its decision
-pub base_room : (p : PropagatorOf) → IsDriven p → 0 < length p.limits → base_of p < length p.trail
+pub base_room : (p : PropagatorOf) → IsJustified p → 0 < length p.limits → base_of p < length p.trail
 base_room p v levels =
     let L = length p.limits in
     let s = v.strict (L - 1) (omega (arith, levels)) in

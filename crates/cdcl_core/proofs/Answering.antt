@@ -8,9 +8,9 @@ use Rattle.cnf_form.specs.Cnf.{LitOf, negate, LitWithin, ClauseWithin, Satisfies
 use Rattle.cnf_form.proofs.Members.{Contains-empty, Contains-head, Contains-tail, Contains-cases}
 use Rattle.unit_propagation.specs.Propagation.{IsConsistent, IsFixpoint, ContainsAll, IsDerived, HasFalsified}
 use Rattle.unit_propagation.specs.Propagator.{PropagatorOf, clauses_of}
-use Rattle.cdcl_core.specs.Levels.{IsDriven, IsTotal, end_of}
+use Rattle.cdcl_core.specs.Levels.{IsJustified, IsTotal, end_of}
 use Rattle.cdcl_core.specs.Solving.{valued}
-use Rattle.cdcl_core.proofs.Driven.{end_past}
+use Rattle.cdcl_core.proofs.Justified.{end_past}
 
 -- each literal is true or false
 lit_value : (t : List LitOf) (l : LitOf) → Contains t (record { var = l.var; negated = false }) ⊎ Contains t (record { var = l.var; negated = true }) → Contains t l ⊎ Contains t (negate l)
@@ -49,7 +49,7 @@ total_satisfies p values total fix within is c h =
     ]
 
 -- a falsified clause at level 0 admits the empty clause
-pub root_admits : (p : PropagatorOf) → IsDriven p → p.limits ≡ [] → HasFalsified p.trail (clauses_of p.slots) → IsAdmitted (clauses_of p.slots) []
+pub root_admits : (p : PropagatorOf) → IsJustified p → p.limits ≡ [] → HasFalsified p.trail (clauses_of p.slots) → IsAdmitted (clauses_of p.slots) []
 root_admits p v none w =
     let F = clauses_of p.slots in
     let G = F ++ negated_units [] in

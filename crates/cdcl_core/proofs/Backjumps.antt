@@ -7,7 +7,7 @@ use Rattle.std.proofs.lemmas.List.Elements.{Contains-append_left, Contains-push,
 use Rattle.cnf_form.specs.Cnf.{LitOf, negate}
 use Rattle.cnf_form.proofs.Literals.{lit_cases}
 use Rattle.cnf_form.proofs.Members.{Contains-empty}
-use Rattle.unit_propagation.specs.Propagation.{IsConsistent, IsOpen, IsFalsifiedBut, IsFixpoint}
+use Rattle.unit_propagation.specs.Propagation.{IsConsistent, IsUnassigned, IsFalsifiedBut, IsFixpoint}
 use Rattle.unit_propagation.specs.Propagator.{PropagatorOf, clauses_of}
 use Rattle.cdcl_core.specs.Logged.{IsNew, IsContingent}
 use Rattle.cdcl_core.specs.Levels.{base_of}
@@ -88,7 +88,7 @@ module _ (p : PropagatorOf) (c : List LitOf) (first : LitOf) (w : IsLearnt p (ba
           absurd (before (prefix_grows p.trail (base_of p) place (negate second) b (w.others second last.contains (λ q. last.two (sym q)))))
     ]
 
-    pub still_open : ((i j : ℕ) → i ≤ j → j < length p.limits → get_or p.limits i 0 ≤ get_or p.limits j 0) → IsOpen (take (get_or p.limits level 0) p.trail) first
+    pub still_open : ((i j : ℕ) → i ≤ j → j < length p.limits → get_or p.limits i 0 ≤ get_or p.limits j 0) → IsUnassigned (take (get_or p.limits level 0) p.trail) first
     still_open rising = record {
       not_true = λ k. ok.apart first (of_prefix p.trail _ first k) w.on;
       not_false = λ k. w.late (prefix_grows p.trail (get_or p.limits level 0) (base_of p) (negate first) (rising level (length p.limits - 1) (omega (arith, level_room)) (omega (arith, levels))) k);

@@ -1,6 +1,6 @@
 mod Marks
 mod Analyses
-mod Driven
+mod Justified
 mod Backjumps
 mod Answering
 pub mod Solutions

@@ -8,7 +8,7 @@ use Rattle.std.proofs.lemmas.Option.{get_or_from_slice_get}
 use Rattle.cnf_form.specs.Cnf.{LitOf, negate, index_of}
 use Rattle.cnf_form.proofs.Literals.{index_of-injective, lit_cases, negate-negate}
 use Rattle.unit_propagation.specs.Marks.{is_marked}
-use Rattle.cdcl_core.specs.Analysis.{IsListed}
+use Rattle.cdcl_core.specs.Analysis.{AreMarksListed}
 
 pub mark_here : (seen : List Bool) (l : LitOf) → index_of l < length seen → is_marked (set seen (index_of l) true) l ≡ true
 mark_here seen l room = get_or-set_same seen (index_of l) true false room
@@ -50,8 +50,8 @@ of_prefix t n l k =
     let low : k.0 < n = omega (arith, k.1, length-take n t) in
     (k.0, omega (arith, k.1, length-take n t), sym (get_or-take n t k.0 l low) ∙ k.2)
 
-module _ (t : List LitOf) (base : ℕ) (seen : List Bool) (lower current : List LitOf) (w : IsListed t base seen lower current) where
-  pub listed_lower : (m : LitOf) → Contains (take base t) (negate m) → IsListed t base (set seen (index_of (negate m)) true) (lower ++ m ∷ []) current
+module _ (t : List LitOf) (base : ℕ) (seen : List Bool) (lower current : List LitOf) (w : AreMarksListed t base seen lower current) where
+  pub listed_lower : (m : LitOf) → Contains (take base t) (negate m) → AreMarksListed t base (set seen (index_of (negate m)) true) (lower ++ m ∷ []) current
   listed_lower m h = record {
     listed = λ x k. elim (mark_cases seen (negate m) x k) [
       | inl e ↦ inl (subst (λ z. Contains (lower ++ m ∷ []) (negate z)) (sym e) (subst (Contains (lower ++ m ∷ [])) (sym (negate-negate m)) (Contains-push lower m)))
@@ -60,7 +60,7 @@ module _ (t : List LitOf) (base : ℕ) (seen : List Bool) (lower current : List 
     lower_false = λ x k. elim (Contains-push_cases lower m x k) [ inl i ↦ w.lower_false x i | inr e ↦ subst (λ z. Contains (take base t) (negate z)) e h ];
   }
 
-  pub listed_current : (l : LitOf) → IsListed t base (set seen (index_of l) true) lower (current ++ l ∷ [])
+  pub listed_current : (l : LitOf) → AreMarksListed t base (set seen (index_of l) true) lower (current ++ l ∷ [])
   listed_current l = record {
     listed = λ x k. elim (mark_cases seen l x k) [
       | inl e ↦ inr (subst (Contains (current ++ l ∷ [])) (sym e) (Contains-push current l))
@@ -69,7 +69,7 @@ module _ (t : List LitOf) (base : ℕ) (seen : List Bool) (lower current : List 
     lower_false = w.lower_false;
   }
 
-  pub listed_less : (l : LitOf) → index_of l < length seen → IsListed t base (set seen (index_of l) false) lower current
+  pub listed_less : (l : LitOf) → index_of l < length seen → AreMarksListed t base (set seen (index_of l) false) lower current
   listed_less l room = record { listed = λ x k. let q = unmark_cases seen l x room k in w.listed x q.1; lower_false = w.lower_false }
 
 -- a negative literal or its negation is true

@@ -8,40 +8,40 @@ use Rattle.cnf_form.proofs.Members.{Contains-head, Contains-tail, Contains-cases
 use Rattle.cnf_form.proofs.Rup.{Closure-least}
 use Rattle.unit_propagation.specs.Propagation.{IsFixpoint}
 use Rattle.unit_propagation.specs.Propagator.{clauses_of, slot_at}
-use Rattle.cdcl_core.specs.Present.{Inserts, front, behind, Reorders, empty, placed, SameOrders}
+use Rattle.cdcl_core.specs.Present.{Inserts, front, later, Reorders, empty, placed, SameOrders}
 
--- of two clauses that are put somewhere the second may be put first
+-- of two clauses that are inserted the second may be inserted first
 inserts_swap : {a b : List LitOf} {A B C : List (List LitOf)} → Inserts a A B → Inserts b B C → (D : List (List LitOf)) × Inserts b A D × Inserts a D C
-inserts_swap {a} {b} (front A) (front F) = (b ∷ A, front A, behind b A (a ∷ A) (front A))
-inserts_swap {a} {b} (front A) (behind d F G j) = (G, j, front G)
-inserts_swap {a} {b} (behind x A B i) (front F) = (b ∷ x ∷ A, front (x ∷ A), behind b (x ∷ A) (x ∷ B) (behind x A B i))
-inserts_swap {a} {b} (behind x A B i) (behind d F G j) = let w = inserts_swap i j in (x ∷ w.0, behind x A w.0 w.1, behind x w.0 G w.2)
+inserts_swap {a} {b} (front A) (front F) = (b ∷ A, front A, later b A (a ∷ A) (front A))
+inserts_swap {a} {b} (front A) (later d F G j) = (G, j, front G)
+inserts_swap {a} {b} (later x A B i) (front F) = (b ∷ x ∷ A, front (x ∷ A), later b (x ∷ A) (x ∷ B) (later x A B i))
+inserts_swap {a} {b} (later x A B i) (later d F G j) = let w = inserts_swap i j in (x ∷ w.0, later x A w.0 w.1, later x w.0 G w.2)
 
 inserts_new : {c : List LitOf} {F G : List (List LitOf)} → Inserts c F G → Contains G c
 inserts_new {c} (front F) = Contains-head c F
-inserts_new {c} (behind d F G i) = Contains-tail d c G (inserts_new i)
+inserts_new {c} (later d F G i) = Contains-tail d c G (inserts_new i)
 
 inserts_old : {c : List LitOf} {F G : List (List LitOf)} → Inserts c F G → (e : List LitOf) → Contains F e → Contains G e
 inserts_old {c} (front F) e h = Contains-tail c e F h
-inserts_old {c} (behind d F G i) e h = elim (Contains-cases d e F h) [
+inserts_old {c} (later d F G i) e h = elim (Contains-cases d e F h) [
   | inl s ↦ subst (λ z. Contains (d ∷ G) z) s (Contains-head d G)
   | inr k ↦ Contains-tail d e G (inserts_old i e k)
 ]
 
 inserts_cases : {c : List LitOf} {F G : List (List LitOf)} → Inserts c F G → (e : List LitOf) → Contains G e → (c ≡ e) ⊎ Contains F e
 inserts_cases {c} (front F) e h = Contains-cases c e F h
-inserts_cases {c} (behind d F G i) e h = elim (Contains-cases d e G h) [
+inserts_cases {c} (later d F G i) e h = elim (Contains-cases d e G h) [
   | inl s ↦ inr (subst (λ z. Contains (d ∷ F) z) s (Contains-head d F))
   | inr k ↦ elim (inserts_cases i e k) [ inl s ↦ inl s | inr j ↦ inr (Contains-tail d e F j) ]
 ]
 
 inserts_end : (F : List (List LitOf)) (c : List LitOf) → Inserts c F (F ++ c ∷ [])
 inserts_end [] c = front []
-inserts_end (d ∷ F) c = behind d F (F ++ c ∷ []) (inserts_end F c)
+inserts_end (d ∷ F) c = later d F (F ++ c ∷ []) (inserts_end F c)
 
 inserts_removes : {c : List LitOf} {F G : List (List LitOf)} → Inserts c F G → Removes c G F
 inserts_removes {c} (front F) = cnf.first c F (record { forth = λ l h. h; back = λ l h. h })
-inserts_removes {c} (behind d F G i) = cnf.later d G F (inserts_removes i)
+inserts_removes {c} (later d F G i) = cnf.later d G F (inserts_removes i)
 
 pub reorders_same : (F : List (List LitOf)) → Reorders F F
 reorders_same [] = empty
@@ -131,7 +131,7 @@ module _ (t : List LitOf) (xs ys O : List (List LitOf)) (c : List LitOf) (r : Re
       let below : (l : LitOf) → Closure O l → Contains t l = λ l h. Closure-least (λ m. Contains t m) (λ d m g i others. let s = fix d g in s.closed m i (record { each = others })) h in
       (w.0, inl (inserts_removes w.1, λ v. let s = fix v.0 v.1 in s.not_falsified (record { each = λ l h. below (negate l) (v.2 l h) }), λ v. no v.0 v.1 (below v.0 v.2)), w.2)
 
--- fewer clauses are left where one was taken out
+-- fewer clauses are left where one was removed
 pub clauses_less : (slots : List (Option (List LitOf))) (k : ℕ) (c : List LitOf) → slot_at slots k ≡ Some c → length (clauses_of (set slots k None)) < length (clauses_of slots)
 clauses_less slots k c e =
     let w = slot_parts slots k c e in

@@ -7,25 +7,25 @@ use Rattle.unit_propagation.specs.Propagation.{IsFixpoint}
 use Rattle.unit_propagation.specs.Propagator.{PropagatorOf, clauses_of, present, slot_at}
 use Rattle.frozen_clauses.specs.Frozen.{FrozenOf}
 use Rattle.cdcl_core.specs.Present.{SameOrders}
-use Rattle.cdcl_core.specs.Levels.{IsDriven, IsPending, Follows, end_of}
+use Rattle.cdcl_core.specs.Levels.{IsJustified, IsPending, Follows, end_of}
 use Rattle.lrat_check.specs.Hints.{Live, put}
 use Rattle.hint_chain.specs.Ids.{IdsOf, IsNamed, AreNamed, id_at}
 use Rattle.hint_chain.specs.Chains.{Hints}
 use Rattle.hint_chain.proofs.Naming.{named_delete, named_delete_frozen}
 use Rattle.cdcl_core.specs.Lines.{LogLine, Adds, Notes, Drops, AreFew, HeldOf, held_first, held_after, IsHintedAs, IsHintedLine}
 use Rattle.cdcl_core.specs.Logged.{IsNew, IsProper}
-use Rattle.cdcl_core.specs.Searching.{IsSolver, IsAtRest, IsOf, IsBegun, IsHeld, HasLogged, Leads, Moves, Reduces, Stops, EndsBy, StepFits, IsAddable, IsNamedBy, present_of}
+use Rattle.cdcl_core.specs.Searching.{IsSolver, IsAtRest, IsOf, StandFirst, IsHeld, HasLogged, Leads, Moves, Reduces, Stops, EndsBy, StepFits, IsAddable, IsNamedBy, present_of}
 use Rattle.cdcl_core.specs.Solving.{IsFound, IsRefuted, IsStopped, IsBroken, SolvedFits, valued}
 use Rattle.cdcl_core.specs.declared.solver.Step.{Step}
 use Rattle.cdcl_core.specs.declared.solver.Step.TheVariants.{Answered, Learnt, Thawed}
 use Rattle.cdcl_core.specs.declared.solver.Solver.{Solver}
-use Rattle.cdcl_core.specs.Analysis.{IsIdle}
+use Rattle.cdcl_core.specs.Analysis.{IsUnmarked}
 use Rattle.cdcl_core.specs.declared.analysis.Analysis.{Analysis}
 use Rattle.cdcl_core.specs.declared.stop.Stop.{Stop}
 use Rattle.cdcl_core.specs.declared.stop.Stop.TheVariants.{OutOfMemory, Failed}
-use Rattle.cdcl_core.proofs.Driven.{clauses_push}
+use Rattle.cdcl_core.proofs.Justified.{clauses_push}
 use Rattle.cdcl_core.proofs.Orders.{slot_parts, reorders_delete, orders_both, orders_thaw, orders_freeze, orders_same}
-use Rattle.cdcl_core.proofs.Reductions.{begun_push, begun_set, begun_present, begun_all, clauses_map}
+use Rattle.cdcl_core.proofs.Reductions.{stand_push, stand_set, stand_present, stand_all, clauses_map}
 use Rattle.cdcl_core.proofs.Solutions.{held_none, held_added, held_noted, held_deleted, held_stops, held_finds, held_refutes, breaks_added, breaks_noted, breaks_deleted, breaks_empty}
 use Rattle.std.proofs.lemmas.List.{append_assoc}
 use Rattle.std.proofs.lemmas.List.Elements.{All-nil, All-cons, Contains-append_cases}
@@ -39,7 +39,7 @@ named_as old new h s z i w t =
 -- clauses are the same, in the same order
 pub moves_same : (old new : Solver) → new.core.vars ≡ old.core.vars → new.core.slots ≡ old.core.slots → new.given ≡ old.given → new.frozen ≡ old.frozen → new.conflicts ≡ old.conflicts → new.deletions ≡ old.deletions → new.ids ≡ old.ids → Moves old new
 moves_same old new v s g z n d i = record {
-  of = λ f w. record { vars = v ∙ w.vars; given = g ∙ w.given; begun = subst (IsBegun f.clauses) (sym s) w.begun };
+  of = λ f w. record { vars = v ∙ w.vars; given = g ∙ w.given; originals = subst (StandFirst f.clauses) (sym s) w.originals };
   orders = subst (SameOrders (present_of old)) (sym (ap (λ x. x ++ clauses_of new.frozen.slots) (ap clauses_of s) ∙ ap (λ (x : FrozenOf). clauses_of old.core.slots ++ clauses_of x.slots) z)) (orders_same (present_of old));
   conflicts = n;
   deletions = d;
@@ -64,7 +64,7 @@ moves_thaw old new k c at v s g z n d i named =
     let are : present_of new ≡ (clauses_of old.core.slots ++ c ∷ []) ++ clauses_of (set old.frozen.slots k None) =
     ap (λ x. x ++ clauses_of new.frozen.slots) (ap clauses_of s ∙ clauses_push old.core.slots c) ∙ ap (λ x. (clauses_of old.core.slots ++ c ∷ []) ++ clauses_of x) z in
     record {
-      of = λ f w. record { vars = v ∙ w.vars; given = g ∙ w.given; begun = subst (IsBegun f.clauses) (sym s) (begun_push f.clauses old.core.slots w.begun (Some c)) };
+      of = λ f w. record { vars = v ∙ w.vars; given = g ∙ w.given; originals = subst (StandFirst f.clauses) (sym s) (stand_push f.clauses old.core.slots w.originals (Some c)) };
       orders = subst (SameOrders (present_of old)) (sym are) (orders_thaw (clauses_of old.core.slots) old.frozen.slots k c at);
       conflicts = n;
       deletions = d;
@@ -79,7 +79,7 @@ moves_freeze old new k c at low v s g z n d i named =
     let are : present_of new ≡ clauses_of (set old.core.slots k None) ++ (clauses_of old.frozen.slots ++ c ∷ []) =
     ap (λ x. clauses_of x ++ clauses_of new.frozen.slots) s ∙ ap (λ x. clauses_of (set old.core.slots k None) ++ x) (ap clauses_of z ∙ clauses_push old.frozen.slots c) in
     record {
-      of = λ f w. record { vars = v ∙ w.vars; given = g ∙ w.given; begun = subst (IsBegun f.clauses) (sym s) (begun_set f.clauses old.core.slots w.begun k None (omega (arith, low, w.given))) };
+      of = λ f w. record { vars = v ∙ w.vars; given = g ∙ w.given; originals = subst (StandFirst f.clauses) (sym s) (stand_set f.clauses old.core.slots w.originals k None (omega (arith, low, w.given))) };
       orders = subst (SameOrders (present_of old)) (sym are) (orders_freeze (clauses_of old.frozen.slots) old.core.slots k c at);
       conflicts = n;
       deletions = d;
@@ -92,7 +92,7 @@ pub moves_collect : (old new : Solver) → new.core.vars ≡ old.core.vars → n
 moves_collect old new v s g z n d i named =
     let are : present_of new ≡ present_of old = ap (λ x. x ++ clauses_of new.frozen.slots) (ap clauses_of s ∙ clauses_map (clauses_of old.core.slots)) ∙ ap (λ (x : FrozenOf). clauses_of old.core.slots ++ clauses_of x.slots) z in
     record {
-      of = λ f w. record { vars = v ∙ w.vars; given = g ∙ w.given; begun = subst (IsBegun f.clauses) (sym s) (begun_present f.clauses old.core.slots w.begun) };
+      of = λ f w. record { vars = v ∙ w.vars; given = g ∙ w.given; originals = subst (StandFirst f.clauses) (sym s) (stand_present f.clauses old.core.slots w.originals) };
       orders = subst (SameOrders (present_of old)) (sym are) (orders_same (present_of old));
       conflicts = n;
       deletions = d;
@@ -106,7 +106,7 @@ moves_collect_frozen old new p z g n d i named =
     let s = ap (λ x. x.slots) p in
     let are : present_of new ≡ present_of old = ap (λ x. clauses_of x ++ clauses_of new.frozen.slots) s ∙ ap (λ x. clauses_of old.core.slots ++ x) (ap clauses_of z ∙ clauses_map (clauses_of old.frozen.slots)) in
     record {
-      of = λ f w. record { vars = v ∙ w.vars; given = g ∙ w.given; begun = subst (IsBegun f.clauses) (sym s) w.begun };
+      of = λ f w. record { vars = v ∙ w.vars; given = g ∙ w.given; originals = subst (StandFirst f.clauses) (sym s) w.originals };
       orders = subst (SameOrders (present_of old)) (sym are) (orders_same (present_of old));
       conflicts = n;
       deletions = d;
@@ -120,8 +120,8 @@ pending_rest p q None e h w = inl h
 pending_rest p q (Some k) e h w = absurd (let x : true ≡ false = sym w.0 ∙ e in cc)
 
 -- numbers of clauses that are gone are given away
-pub driven_collect : (p : PropagatorOf) → IsDriven p → IsDriven (record p { slots = present p.slots })
-driven_collect p v =
+pub justified_collect : (p : PropagatorOf) → IsJustified p → IsJustified (record p { slots = present p.slots })
+justified_collect p v =
     let e : clauses_of p.slots ≡ clauses_of (present p.slots) = sym (clauses_map (clauses_of p.slots)) in
     record {
       root = subst (λ F. Follows F [] (take (end_of p 0) p.trail)) e v.root;
@@ -205,7 +205,7 @@ pub named_collect_frozen_by : (old new : Solver) → new.core.slots ≡ old.core
     → ((live : Live) (slots : List (Option (List LitOf))) → AreNamed live slots old.frozen.slots old.ids → AreNamed live slots (present old.frozen.slots) new.ids) → (h : HeldOf) → IsNamedBy h old → IsNamedBy h new
 named_collect_frozen_by old new s z i l all h w = by_ids old new h old.core.slots (present old.frozen.slots) s z i l (λ n. all h.live old.core.slots (λ t. n)) w
 
--- a clause was put under a new id
+-- a clause was added under a new id
 pub named_push_by : (old new : Solver) (c : List LitOf) (id : ℕ) (hints : List ℕ) → new.core.slots ≡ old.core.slots ++ Some c ∷ [] → new.frozen.slots ≡ old.frozen.slots → new.ids.wanted ≡ old.ids.wanted → (IsTrue old.ids.wanted → new.ids.last ≡ id) → (IsTrue old.ids.wanted → old.ids.last < id)
     → ((live : Live) (slots zs : List (Option (List LitOf))) (d : List LitOf) → (IsTrue old.ids.wanted → old.ids.last < id) → AreNamed live slots zs old.ids → AreNamed (put live id (Some d)) (slots ++ Some d ∷ []) zs new.ids)
     → (h : HeldOf) → IsNamedBy h old → IsNamedBy (held_after h (Adds c id hints)) new
@@ -226,16 +226,16 @@ named_fact_by old new x id hints s z i l above all h w t =
     (subst (λ x'. IsNamed (put h.live id (Some (x ∷ []))) x' new.frozen.slots new.ids) (sym s) (subst (λ x'. IsNamed (put h.live id (Some (x ∷ []))) old.core.slots x' new.ids) (sym z) k), l y)
 
 -- a true literal by itself is a proper clause
-pub proper_one : (p : PropagatorOf) (l : LitOf) → IsDriven p → Contains p.trail l → IsProper p.vars (l ∷ [])
+pub proper_one : (p : PropagatorOf) (l : LitOf) → IsJustified p → Contains p.trail l → IsProper p.vars (l ∷ [])
 proper_one p l v on = let w = v.within l on in record { within = All-cons (LitWithin p.vars) l [] (w.0, w.1) (All-nil (LitWithin p.vars)); short = (let a = w.0 in let b = w.1 in omega (arith, a, b)) }
 
 -- what a solver rests on is the same
 pub solver_same : (old new : Solver) → new.core ≡ old.core → new.frozen ≡ old.frozen → new.pending ≡ old.pending → new.analysis ≡ old.analysis → IsSolver old → IsSolver new
 solver_same old new p z o a w = record {
   frozen = ap (λ (x : FrozenOf). x.vars) z ∙ w.frozen ∙ sym (ap (λ (x : PropagatorOf). x.vars) p);
-  idle = subst (λ (x : PropagatorOf). IsIdle x.vars new.analysis.seen.items new.analysis.lower.items new.analysis.current.items) (sym p)
-      (subst (λ (x : Analysis). IsIdle old.core.vars x.seen.items x.lower.items x.current.items) (sym a) w.idle);
-  driven = subst IsDriven (sym p) w.driven;
+  unmarked = subst (λ (x : PropagatorOf). IsUnmarked x.vars new.analysis.seen.items new.analysis.lower.items new.analysis.current.items) (sym p)
+      (subst (λ (x : Analysis). IsUnmarked old.core.vars x.seen.items x.lower.items x.current.items) (sym a) w.unmarked);
+  justified = subst IsJustified (sym p) w.justified;
   pending = subst (λ x. IsPending x new.pending) (sym p) (subst (λ x. IsPending old.core x) (sym o) w.pending);
 }
 
@@ -284,7 +284,7 @@ module _ {A : Type 0} (takes : A → LogLine → A → Type 0) where
     pub reduces_both : (a b c : Solver) (x y z : A) → Reduces takes faults a b x y → Reduces takes faults b c y z → Reduces takes faults a c x z
     reduces_both a b c x y z v w = record { leads = leads_both a b c x y z v.leads w.leads; solver = w.solver; rest = w.rest; conflicts = w.conflicts ∙ v.conflicts }
 
-    -- a clause was logged and put
+    -- a clause was logged and added
     pub leads_added : (old new : Solver) (c : List LitOf) (id : ℕ) (hints : List ℕ) (now next : A) → IsAddable old.core old.frozen c → AreFew (Adds c id hints) → IsHintedFor old (Adds c id hints) → takes now (Adds c id hints) next → faults now ≤ faults next
         → new.core.vars ≡ old.core.vars → new.core.slots ≡ old.core.slots ++ Some c ∷ [] → new.given ≡ old.given → new.frozen ≡ old.frozen → new.conflicts ≡ old.conflicts + 1 → new.deletions ≡ old.deletions → new.ids.wanted ≡ old.ids.wanted
         → ((h : HeldOf) → IsNamedBy h old → IsNamedBy (held_after h (Adds c id hints)) new) → Leads takes faults old new now next
@@ -295,7 +295,7 @@ module _ {A : Type 0} (takes : A → LogLine → A → Type 0) where
           let G = clauses_of old.frozen.slots in
           let are : present_of new ≡ (F ++ c ∷ []) ++ G = ap (λ x. x ++ clauses_of new.frozen.slots) (ap clauses_of s ∙ clauses_push old.core.slots c) ∙ ap (λ (x : FrozenOf). (F ++ c ∷ []) ++ clauses_of x.slots) z in
           record {
-            of = record { vars = v ∙ o.vars; given = g ∙ o.given; begun = subst (IsBegun f.clauses) (sym s) (begun_push f.clauses old.core.slots o.begun (Some c)) };
+            of = record { vars = v ∙ o.vars; given = g ∙ o.given; originals = subst (StandFirst f.clauses) (sym s) (stand_push f.clauses old.core.slots o.originals (Some c)) };
             live = held_after h.live (Adds c id hints);
             held = held_as f first next new old.ids.wanted ((F ++ c ∷ []) ++ G) (old.conflicts + 1) old.deletions (held_after h.live (Adds c id hints)) i are n d
                 (held_added takes old.ids.wanted f first now next F G old.conflicts old.deletions h.live c id hints h.held a.admitted a.new a.contingent (subst (λ x. IsProper x c) o.vars a.proper, few) (by h.live h.named) t);
@@ -314,7 +314,7 @@ module _ {A : Type 0} (takes : A → LogLine → A → Type 0) where
           let o = h.of in
           let are : present_of new ≡ present_of old = ap (λ (y : PropagatorOf). clauses_of y.slots ++ clauses_of new.frozen.slots) p ∙ ap (λ (y : FrozenOf). clauses_of old.core.slots ++ clauses_of y.slots) z in
           record {
-            of = record { vars = ap (λ (y : PropagatorOf). y.vars) p ∙ o.vars; given = g ∙ o.given; begun = subst (λ (y : PropagatorOf). IsBegun f.clauses y.slots) (sym p) o.begun };
+            of = record { vars = ap (λ (y : PropagatorOf). y.vars) p ∙ o.vars; given = g ∙ o.given; originals = subst (λ (y : PropagatorOf). StandFirst f.clauses y.slots) (sym p) o.originals };
             live = held_after h.live (Notes x id hints);
             held = held_as f first next new old.ids.wanted (present_of old) old.conflicts old.deletions (held_after h.live (Notes x id hints)) i are n d
                 (held_noted takes old.ids.wanted f first now next (present_of old) old.conflicts old.deletions h.live x id hints h.held (subst (λ y. IsProper y (x ∷ [])) o.vars fits, few) (by h.live h.named) t);
@@ -338,7 +338,7 @@ module _ {A : Type 0} (takes : A → LogLine → A → Type 0) where
           let held = subst (λ x. IsHeld takes old.ids.wanted f first now x old.conflicts old.deletions h.live) was h.held in
           let del = reorders_delete old.core.trail w.0 (w.1 ++ B) held.order c held.reorders (subst (IsFixpoint old.core.trail) was fix) off in
           record {
-            of = record { vars = v ∙ o.vars; given = g ∙ o.given; begun = subst (IsBegun f.clauses) (sym s) (begun_set f.clauses old.core.slots o.begun k None (omega (arith, low, o.given))) };
+            of = record { vars = v ∙ o.vars; given = g ∙ o.given; originals = subst (StandFirst f.clauses) (sym s) (stand_set f.clauses old.core.slots o.originals k None (omega (arith, low, o.given))) };
             live = held_after h.live (Drops c id);
             held = held_as f first next new old.ids.wanted (w.0 ++ (w.1 ++ B)) old.conflicts (old.deletions + 1) (held_after h.live (Drops c id)) (ap (λ (x : IdsOf). x.wanted) i) are n d
                 (held_deleted takes old.ids.wanted f first now next (w.0 ++ c ∷ (w.1 ++ B)) (w.0 ++ (w.1 ++ B)) del.0 old.conflicts old.deletions h.live c id held del.1 del.2 (subst (λ x. IsProper x c) o.vars fits, low63) few
@@ -363,7 +363,7 @@ module _ {A : Type 0} (takes : A → LogLine → A → Type 0) where
           let held = subst (λ x. IsHeld takes old.ids.wanted f first now x old.conflicts old.deletions h.live) was h.held in
           let del = reorders_delete old.core.trail (A ++ w.0) w.1 held.order c held.reorders (subst (IsFixpoint old.core.trail) was fix) off in
           record {
-            of = record { vars = ap (λ (x : PropagatorOf). x.vars) p ∙ o.vars; given = g ∙ o.given; begun = subst (λ (x : PropagatorOf). IsBegun f.clauses x.slots) (sym p) o.begun };
+            of = record { vars = ap (λ (x : PropagatorOf). x.vars) p ∙ o.vars; given = g ∙ o.given; originals = subst (λ (x : PropagatorOf). StandFirst f.clauses x.slots) (sym p) o.originals };
             live = held_after h.live (Drops c id);
             held = held_as f first next new old.ids.wanted ((A ++ w.0) ++ w.1) old.conflicts (old.deletions + 1) (held_after h.live (Drops c id)) (ap (λ (x : IdsOf). x.wanted) i) are n d
                 (held_deleted takes old.ids.wanted f first now next ((A ++ w.0) ++ c ∷ w.1) ((A ++ w.0) ++ w.1) del.0 old.conflicts old.deletions h.live c id held del.1 del.2 (subst (λ x. IsProper x c) o.vars fits, low63) few
@@ -445,7 +445,7 @@ module _ {A : Type 0} (takes : A → LogLine → A → Type 0) where
             r,
           )
 
-      -- what a step comes to after what was logged before
+      -- the result of a step after what was logged before
       pub step_later : (old mid new : Solver) (now then next : A) (s : Step) → Leads takes faults old mid now then → mid.conflicts ≡ old.conflicts → length (clauses_of mid.frozen.slots) ≤ length (clauses_of old.frozen.slots)
           → StepFits takes fails faults mid new then next s → StepFits takes fails faults old new now next s
       step_later old mid new now then next (Answered s) l n few w = (w.0, λ f first budget h k. subst (λ z. SolvedFits takes fails z f budget first next s) l.wanted (w.1 f first budget (omega (arith, h, n)) (l.on f first k)))
@@ -458,7 +458,7 @@ module _ {A : Type 0} (takes : A → LogLine → A → Type 0) where
       step_finds s t now values m sized sat f first budget h k =
           let w = logged_moves s t f first now m k in
           let o = w.of in
-          let all = begun_all f.clauses t.core.slots o.begun in
+          let all = stand_all f.clauses t.core.slots o.originals in
           subst (λ z. IsFound takes z f budget first now values) m.wanted
           (held_finds takes t.ids.wanted f budget first now (present_of t) t.conflicts t.deletions w.live values (let n = m.conflicts in omega (arith, h, n)) w.held (sized ∙ ap (λ z. z + 1) o.vars) (λ d i. sat d (all.each d i)))
 

@@ -10,20 +10,20 @@ abbrev pub IsClear : List Bool → Type 0
 IsClear seen = (l : LitOf) → is_marked seen l ≡ true → ⊥
 
 -- Each marked literal is listed: its negation where it was true when the last level began, else itself.
-pub record IsListed (t : List LitOf) (base : ℕ) (seen : List Bool) (lower current : List LitOf) : Type 0 where
+pub record AreMarksListed (t : List LitOf) (base : ℕ) (seen : List Bool) (lower current : List LitOf) : Type 0 where
   pub listed : (l : LitOf) → is_marked seen l ≡ true → Contains lower (negate l) ⊎ Contains current l
   pub lower_false : (m : LitOf) → Contains lower m → Contains (take base t) (negate m)
 
 -- nothing is marked or listed
-pub record IsIdle (vars : ℕ) (seen : List Bool) (lower current : List LitOf) : Type 0 where
+pub record IsUnmarked (vars : ℕ) (seen : List Bool) (lower current : List LitOf) : Type 0 where
   pub sized : length seen ≡ 2 * vars + 2
   pub clear : IsClear seen
   pub no_lower : lower ≡ []
   pub no_current : current ≡ []
 
 -- the negation of a literal is marked, or true at level 0
-abbrev pub IsNoted : List LitOf → ℕ → List Bool → LitOf → Type 0
-IsNoted t root seen m = (is_marked seen (negate m) ≡ true) ⊎ Contains (take root t) (negate m)
+abbrev pub IsSeenOrRoot : List LitOf → ℕ → List Bool → LitOf → Type 0
+IsSeenOrRoot t root seen m = (is_marked seen (negate m) ≡ true) ⊎ Contains (take root t) (negate m)
 
 -- whatever clauses have those of F, and derive level 0 and all marked literals, have a conflict
 pub record Supports (F : List (List LitOf)) (t : List LitOf) (root : ℕ) (seen : List Bool) : Type 0 where
@@ -46,7 +46,7 @@ pub record IsLearnt (p : PropagatorOf) (base : ℕ) (c : List LitOf) (first : Li
   pub short : length c ≤ p.vars
 
 -- a literal that became true on the last level, which alone of those is marked
-pub record IsFirst (t : List LitOf) (base : ℕ) (seen : List Bool) (current : List LitOf) (l : LitOf) : Type 0 where
+pub record IsUip (t : List LitOf) (base : ℕ) (seen : List Bool) (current : List LitOf) (l : LitOf) : Type 0 where
   pub on : Contains t l
   pub late : Contains (take base t) l → ⊥
   pub only : (x : LitOf) → Contains current x → is_marked seen x ≡ true → x ≡ l

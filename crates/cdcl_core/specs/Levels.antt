@@ -20,7 +20,7 @@ base_of p = slice_index_or p.limits (length p.limits - 1) 0
 
 -- Level 0 follows from the clauses alone, and each other level from its decision, which is its first literal, and what was true
 -- before; all literals are of the variables.
-pub record IsDriven (p : PropagatorOf) : Type 0 where
+pub record IsJustified (p : PropagatorOf) : Type 0 where
   pub root : Follows (clauses_of p.slots) [] (take (end_of p 0) p.trail)
   pub level : (i : ℕ) → i < length p.limits → Follows (clauses_of p.slots) (take (end_of p i + 1) p.trail) (take (end_of p (i + 1)) p.trail)
   pub strict : (i : ℕ) → i < length p.limits → end_of p i < end_of p (i + 1)

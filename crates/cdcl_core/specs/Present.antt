@@ -8,10 +8,10 @@ use Rattle.frozen_clauses.specs.Frozen.{FrozenOf}
 abbrev pub all_of : PropagatorOf → FrozenOf → List (List LitOf)
 all_of p z = clauses_of p.slots ++ clauses_of z.slots
 
--- the second list is the first with the clause put somewhere
+-- the second list is the first with the clause inserted somewhere
 pub data Inserts (c : List LitOf) : List (List LitOf) → List (List LitOf) → Type 0 where
   front : (F : List (List LitOf)) → Inserts c F (c ∷ F)
-  behind : (d : List LitOf) (F G : List (List LitOf)) → Inserts c F G → Inserts c (d ∷ F) (d ∷ G)
+  later : (d : List LitOf) (F G : List (List LitOf)) → Inserts c F G → Inserts c (d ∷ F) (d ∷ G)
 
 -- the second list has the clauses of the first, in some order
 pub data Reorders : List (List LitOf) → List (List LitOf) → Type 0 where

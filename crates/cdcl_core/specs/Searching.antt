@@ -6,11 +6,11 @@ use Rattle.unit_propagation.specs.Propagation.{IsFixpoint}
 use Rattle.unit_propagation.specs.Propagator.{PropagatorOf, clauses_of, slot_at}
 use Rattle.frozen_clauses.specs.Frozen.{FrozenOf}
 use Rattle.cdcl_core.specs.Present.{all_of, Reorders, SameOrders}
-use Rattle.cdcl_core.specs.Levels.{IsDriven, IsPending}
+use Rattle.cdcl_core.specs.Levels.{IsJustified, IsPending}
 use Rattle.hint_chain.specs.Ids.{IsNamed}
 use Rattle.cdcl_core.specs.Lines.{LogLine, HeldOf}
 use Rattle.cdcl_core.specs.Logged.{IsNew, IsContingent, IsProper}
-use Rattle.cdcl_core.specs.Analysis.{IsIdle}
+use Rattle.cdcl_core.specs.Analysis.{IsUnmarked}
 use Rattle.cdcl_core.specs.Solving.{IsSearch, IsStopped, IsBroken, SolvedFits}
 use Rattle.cdcl_core.specs.declared.solver.Solver.{Solver}
 use Rattle.cdcl_core.specs.declared.solver.Solved.TheVariants.{LogFailed}
@@ -23,8 +23,8 @@ use Rattle.cdcl_core.specs.declared.stop.Stop.TheVariants.{OutOfMemory, Failed}
 -- from its decision, and a falsified clause is known.
 pub record IsSolver (s : Solver) : Type 0 where
   pub frozen : s.frozen.vars ≡ s.core.vars
-  pub idle : IsIdle s.core.vars s.analysis.seen.items s.analysis.lower.items s.analysis.current.items
-  pub driven : IsDriven s.core
+  pub unmarked : IsUnmarked s.core.vars s.analysis.seen.items s.analysis.lower.items s.analysis.current.items
+  pub justified : IsJustified s.core
   pub pending : IsPending s.core s.pending
 
 -- it is at level 0, with nothing left to do at any present clause
@@ -38,14 +38,14 @@ abbrev pub present_of : Solver → List (List LitOf)
 present_of s = all_of s.core s.frozen
 
 -- the clauses stand at the first numbers, in order
-abbrev pub IsBegun : List (List LitOf) → List (Option (List LitOf)) → Type 0
-IsBegun F slots = (j : ℕ) (d : List LitOf) → j < length F → slot_at slots j ≡ Some (slice_index_or F j d)
+abbrev pub StandFirst : List (List LitOf) → List (Option (List LitOf)) → Type 0
+StandFirst F slots = (j : ℕ) (d : List LitOf) → j < length F → slot_at slots j ≡ Some (slice_index_or F j d)
 
 -- it searches for values of this formula, whose clauses stand first
 pub record IsOf (f : FormulaOf) (s : Solver) : Type 0 where
   pub vars : s.core.vars ≡ f.vars
   pub given : s.given ≡ length f.clauses
-  pub begun : IsBegun f.clauses s.core.slots
+  pub originals : StandFirst f.clauses s.core.slots
 
 -- lines were logged that lead to these clauses, in some order, and, where the log is hinted, to these live ones: this many additions and deletions
 pub record IsHeld {A : Type 0} (takes : A → LogLine → A → Type 0) (hinted : Bool) (f : FormulaOf) (first now : A) (present : List (List LitOf)) (count deleted : ℕ) (held : HeldOf) : Type 0 where
@@ -100,7 +100,7 @@ abbrev pub EndsBy : {A : Type 0} → (A → LogLine → A → Type 0) → (A →
 EndsBy takes fails hinted f budget first now OutOfMemory = IsStopped takes hinted f budget first now
 EndsBy takes fails hinted f budget first now Failed = IsBroken takes fails hinted f budget first now
 
--- what a step comes to: an answer, one more clause that was learnt, or a frozen one that was put back
+-- the result of a step: an answer, one more clause that was learnt, or a frozen one that was thawed
 abbrev pub StepFits : {A : Type 0} → (A → LogLine → A → Type 0) → (A → LogLine → A → Type 0) → (A → ℕ) → Solver → Solver → A → A → Step → Type 0
 StepFits takes fails faults old new now next (Answered s) =
     (s ≢ LogFailed) × ((f : FormulaOf) (first : _) (budget : ℕ) → old.conflicts < budget → HasLogged takes f first now old → SolvedFits takes fails old.ids.wanted f budget first next s)
@@ -109,7 +109,7 @@ StepFits takes fails faults old new now next Thawed =
     Leads takes faults old new now next × (new.conflicts ≡ old.conflicts)
     × (length (clauses_of new.frozen.slots) < length (clauses_of old.frozen.slots))
 
--- a clause that may be logged and put: the watched clauses admit it, no present one is a subset of it, and it is neither empty nor a tautology
+-- a clause that may be logged and added: the watched clauses admit it, no present one is a subset of it, and it is neither empty nor a tautology
 pub record IsAddable (p : PropagatorOf) (z : FrozenOf) (c : List LitOf) : Type 0 where
   pub admitted : IsAdmitted (clauses_of p.slots) c
   pub new : IsNew (all_of p z) c

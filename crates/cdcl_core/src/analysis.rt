@@ -5,16 +5,16 @@ ghost use Rattle.cnf_form.specs.Cnf.{LitOf, negate, ClauseWithin};
 ghost use Rattle.cnf_form.specs.declared.literal.TheConstants.{MAX_VARS};
 ghost use Rattle.unit_propagation.specs.Marks.{is_marked};
 ghost use Rattle.unit_propagation.specs.Propagator.{clauses_of};
-ghost use Rattle.cdcl_core.specs.Levels.{IsDriven, end_of};
-ghost use Rattle.cdcl_core.specs.Analysis.{IsClear, IsListed, IsNoted, Supports, IsFirst, IsBuilt, IsLearnt};
+ghost use Rattle.cdcl_core.specs.Levels.{IsJustified, end_of};
+ghost use Rattle.cdcl_core.specs.Analysis.{IsClear, AreMarksListed, IsSeenOrRoot, Supports, IsUip, IsBuilt, IsLearnt};
 
 use cnf_form::{Lit, MAX_VARS};
 use std::alloc::{AllocError, Global};
 use unit_propagation::Propagator;
 
-// The true literals that a conflict rests on, as far as it was gone through: those that are marked. `lower` has the negations
+// The true literals that a conflict rests on, as far as it was resolved: those that are marked. `lower` has the negations
 // of those that were true when the last level began, `current` those that became true on it, resolved ones among them. `used` has
-// the numbers of the clauses that it went through.
+// the numbers of the clauses that were resolved.
 #[derive(Drop)]
 pub(crate) struct Analysis {
     seen: Vec<bool>,
@@ -56,12 +56,12 @@ impl Analysis {
         self.current.as_slice()
     }
 
-    // The others, negated.
+    // The literals of lower levels that the conflict rested on, negated.
     pub fn lower(&self) -> &[Lit] {
         self.lower.as_slice()
     }
 
-    // The numbers of the clauses that it went through.
+    // The numbers of the clauses that were resolved.
     pub fn used(&self) -> &[u32] {
         self.used.as_slice()
     }
@@ -79,8 +79,8 @@ impl Analysis {
         requires { 2 * m.var + 1 < length self.old.seen.items }
         ensures sized { length self.new.seen.items ≡ length self.old.seen.items }
         ensures listed { (t : List LitOf) (base : ℕ) → Contains (take base t) (negate m)
-            → IsListed t base self.old.seen.items self.old.lower.items self.old.current.items
-            → IsListed t base self.new.seen.items self.new.lower.items self.new.current.items }
+            → AreMarksListed t base self.old.seen.items self.old.lower.items self.old.current.items
+            → AreMarksListed t base self.new.seen.items self.new.lower.items self.new.current.items }
         ensures keeps { (l : LitOf) → is_marked self.old.seen.items l ≡ true → is_marked self.new.seen.items l ≡ true }
         ensures marked { OnOk result (is_marked self.new.seen.items (negate m) ≡ true) }
     {
@@ -93,8 +93,8 @@ impl Analysis {
     fn mark_current(&mut self, l: Lit) -> Result<(), AllocError>
         requires { 2 * l.var + 1 < length self.old.seen.items }
         ensures sized { length self.new.seen.items ≡ length self.old.seen.items }
-        ensures listed { (t : List LitOf) (base : ℕ) → IsListed t base self.old.seen.items self.old.lower.items self.old.current.items
-            → IsListed t base self.new.seen.items self.new.lower.items self.new.current.items }
+        ensures listed { (t : List LitOf) (base : ℕ) → AreMarksListed t base self.old.seen.items self.old.lower.items self.old.current.items
+            → AreMarksListed t base self.new.seen.items self.new.lower.items self.new.current.items }
         ensures keeps { (x : LitOf) → is_marked self.old.seen.items x ≡ true → is_marked self.new.seen.items x ≡ true }
         ensures marked { OnOk result (is_marked self.new.seen.items l ≡ true) }
     {
@@ -114,10 +114,10 @@ impl Analysis {
         requires below { m.var ≤ core.now.vars }
         requires sized { length self.old.seen.items ≡ 2 * core.now.vars + 2 }
         ensures sized { length self.new.seen.items ≡ 2 * core.now.vars + 2 }
-        ensures listed { IsListed core.now.trail base self.old.seen.items self.old.lower.items self.old.current.items
-            → IsListed core.now.trail base self.new.seen.items self.new.lower.items self.new.current.items }
+        ensures listed { AreMarksListed core.now.trail base self.old.seen.items self.old.lower.items self.old.current.items
+            → AreMarksListed core.now.trail base self.new.seen.items self.new.lower.items self.new.current.items }
         ensures keeps { (l : LitOf) → is_marked self.old.seen.items l ≡ true → is_marked self.new.seen.items l ≡ true }
-        ensures noted { result ≡ Ok true → IsNoted core.now.trail root self.new.seen.items m }
+        ensures noted { result ≡ Ok true → IsSeenOrRoot core.now.trail root self.new.seen.items m }
     {
         let l = m.negate();
         if !core.is_true(l) {
@@ -138,7 +138,7 @@ impl Analysis {
         Ok(true)
     }
 
-    // The same of a literal that isn't this one.
+    // Whether a literal of a clause is `but`, or false. Its negation is marked then, unless it is `but`, or true at level 0.
     fn note_but(
         &mut self,
         core: &Propagator,
@@ -150,10 +150,10 @@ impl Analysis {
         requires below { m.var ≤ core.now.vars }
         requires sized { length self.old.seen.items ≡ 2 * core.now.vars + 2 }
         ensures sized { length self.new.seen.items ≡ 2 * core.now.vars + 2 }
-        ensures listed { IsListed core.now.trail base self.old.seen.items self.old.lower.items self.old.current.items
-            → IsListed core.now.trail base self.new.seen.items self.new.lower.items self.new.current.items }
+        ensures listed { AreMarksListed core.now.trail base self.old.seen.items self.old.lower.items self.old.current.items
+            → AreMarksListed core.now.trail base self.new.seen.items self.new.lower.items self.new.current.items }
         ensures keeps { (l : LitOf) → is_marked self.old.seen.items l ≡ true → is_marked self.new.seen.items l ≡ true }
-        ensures noted { result ≡ Ok true → m ≢ but → IsNoted core.now.trail root self.new.seen.items m }
+        ensures noted { result ≡ Ok true → m ≢ but → IsSeenOrRoot core.now.trail root self.new.seen.items m }
     {
         if m == but {
             return Ok(true);
@@ -173,12 +173,12 @@ impl Analysis {
         requires within { ClauseWithin core.now.vars clause.now }
         requires sized { length self.old.seen.items ≡ 2 * core.now.vars + 2 }
         ensures sized { length self.new.seen.items ≡ 2 * core.now.vars + 2 }
-        ensures listed { IsListed core.now.trail base self.old.seen.items self.old.lower.items self.old.current.items
-            → IsListed core.now.trail base self.new.seen.items self.new.lower.items self.new.current.items }
+        ensures listed { AreMarksListed core.now.trail base self.old.seen.items self.old.lower.items self.old.current.items
+            → AreMarksListed core.now.trail base self.new.seen.items self.new.lower.items self.new.current.items }
         ensures keeps { (l : LitOf) → is_marked self.old.seen.items l ≡ true → is_marked self.new.seen.items l ≡ true }
         ensures found { result ≡ Ok true → Contains clause.now but }
         ensures noted { result ≡ Ok true → (m : LitOf) → Contains clause.now m → m ≢ but
-            → IsNoted core.now.trail root self.new.seen.items m }
+            → IsSeenOrRoot core.now.trail root self.new.seen.items m }
     {
         let mut found = false;
         for m in clause {
@@ -193,7 +193,7 @@ impl Analysis {
         Ok(found)
     }
 
-    // Begins with a clause: whether all its literals are false.
+    // Begins with a clause. Returns whether all its literals are false.
     fn begin(
         &mut self,
         core: &Propagator,
@@ -204,8 +204,8 @@ impl Analysis {
         requires clause { k < length core.now.slots }
         requires sized { length self.old.seen.items ≡ 2 * core.now.vars + 2 }
         ensures sized { length self.new.seen.items ≡ 2 * core.now.vars + 2 }
-        ensures listed { IsListed core.now.trail base self.old.seen.items self.old.lower.items self.old.current.items
-            → IsListed core.now.trail base self.new.seen.items self.new.lower.items self.new.current.items }
+        ensures listed { AreMarksListed core.now.trail base self.old.seen.items self.old.lower.items self.old.current.items
+            → AreMarksListed core.now.trail base self.new.seen.items self.new.lower.items self.new.current.items }
         ensures supports { result ≡ Ok true
             → Supports (clauses_of core.now.slots) core.now.trail root self.new.seen.items }
     {
@@ -224,7 +224,7 @@ impl Analysis {
         self.note_others(core, clause, first, root, base)
     }
 
-    // Puts what a literal was derived from in its place. Whether the clause that it is said to come from derives it.
+    // Resolves a literal: marks what it was derived from in its place. Returns whether the clause that is its reason derives it.
     fn resolve(
         &mut self,
         core: &Propagator,
@@ -235,8 +235,8 @@ impl Analysis {
         requires below { l.var ≤ core.now.vars }
         requires sized { length self.old.seen.items ≡ 2 * core.now.vars + 2 }
         ensures sized { length self.new.seen.items ≡ 2 * core.now.vars + 2 }
-        ensures listed { IsListed core.now.trail base self.old.seen.items self.old.lower.items self.old.current.items
-            → IsListed core.now.trail base self.new.seen.items self.new.lower.items self.new.current.items }
+        ensures listed { AreMarksListed core.now.trail base self.old.seen.items self.old.lower.items self.old.current.items
+            → AreMarksListed core.now.trail base self.new.seen.items self.new.lower.items self.new.current.items }
         ensures supports { result ≡ Ok true
             → Supports (clauses_of core.now.slots) core.now.trail root self.old.seen.items
             → Supports (clauses_of core.now.slots) core.now.trail root self.new.seen.items }
@@ -253,8 +253,8 @@ impl Analysis {
         self.note_others(core, clause, l, root, base)
     }
 
-    // Whether no literal of the last level is marked but this one, which became true on it.
-    fn is_first(&self, core: &Propagator, l: Lit, base: usize) -> bool
+    // Whether a literal is a unique implication point: it became true on the last level, and no other literal of that is marked.
+    fn is_uip(&self, core: &Propagator, l: Lit, base: usize) -> bool
         requires below { l.var ≤ core.now.vars }
         requires on { Contains core.now.trail l }
         ensures late { IsTrue result → Contains (take base core.now.trail) l → ⊥ }
@@ -275,8 +275,8 @@ impl Analysis {
         true
     }
 
-    // Goes back on the last level until one of its literals alone is marked.
-    fn walk(
+    // Resolves the literals of the last level from the end of the trail on, until one of them alone is marked. Returns that literal.
+    fn resolve_to_uip(
         &mut self,
         core: &Propagator,
         root: usize,
@@ -284,11 +284,11 @@ impl Analysis {
     ) -> Result<Option<Lit>, AllocError>
         requires sized { length self.old.seen.items ≡ 2 * core.now.vars + 2 }
         ensures sized { length self.new.seen.items ≡ 2 * core.now.vars + 2 }
-        ensures listed { IsListed core.now.trail base self.old.seen.items self.old.lower.items self.old.current.items
-            → IsListed core.now.trail base self.new.seen.items self.new.lower.items self.new.current.items }
+        ensures listed { AreMarksListed core.now.trail base self.old.seen.items self.old.lower.items self.old.current.items
+            → AreMarksListed core.now.trail base self.new.seen.items self.new.lower.items self.new.current.items }
         ensures supports { IfOk result (λ o. Supports (clauses_of core.now.slots) core.now.trail root self.old.seen.items
             → IfSome o (λ l. Supports (clauses_of core.now.slots) core.now.trail root self.new.seen.items)) }
-        ensures first { IfOk result (λ o. IfSome o (λ l. IsFirst core.now.trail base self.new.seen.items self.new.current.items l)) }
+        ensures first { IfOk result (λ o. IfSome o (λ l. IsUip core.now.trail base self.new.seen.items self.new.current.items l)) }
     {
         let trail = core.trail();
         let mut resolved: usize = 0;
@@ -298,7 +298,7 @@ impl Analysis {
                 continue;
             }
             if self.current.len() <= resolved.saturating_add(1) {
-                if self.is_first(core, l, base) {
+                if self.is_uip(core, l, base) {
                     return Ok(Some(l));
                 }
                 return Ok(None);
@@ -312,10 +312,10 @@ impl Analysis {
     }
 
     // Whether the negation of a literal is marked, or true at level 0.
-    fn is_noted(&self, core: &Propagator, m: Lit, root: usize) -> bool
+    fn is_seen_or_root(&self, core: &Propagator, m: Lit, root: usize) -> bool
         requires below { m.var ≤ core.now.vars }
         requires sized { length self.now.seen.items ≡ 2 * core.now.vars + 2 }
-        ensures { IsTrue result → IsNoted core.now.trail root self.now.seen.items m }
+        ensures { IsTrue result → IsSeenOrRoot core.now.trail root self.now.seen.items m }
     {
         let l = m.negate();
         if self.seen[l.index()] {
@@ -336,27 +336,27 @@ impl Analysis {
         requires sized { length self.now.seen.items ≡ 2 * core.now.vars + 2 }
         ensures found { IsTrue result → Contains clause.now but }
         ensures noted { IsTrue result → (m : LitOf) → Contains clause.now m → m ≢ but
-            → IsNoted core.now.trail root self.now.seen.items m }
+            → IsSeenOrRoot core.now.trail root self.now.seen.items m }
     {
         let mut found = false;
         for m in clause {
             let m = *m;
             if m == but {
                 found = true;
-            } else if !self.is_noted(core, m, root) {
+            } else if !self.is_seen_or_root(core, m, root) {
                 return false;
             }
         }
         found
     }
 
-    // Takes the mark of a literal back. Whether it follows from what is marked still.
+    // Takes back the mark of a literal. Returns whether it follows from what is still marked.
     fn drop_implied(&mut self, core: &Propagator, l: Lit, root: usize) -> bool
         requires below { l.var ≤ core.now.vars }
         requires sized { length self.old.seen.items ≡ 2 * core.now.vars + 2 }
         ensures sized { length self.new.seen.items ≡ 2 * core.now.vars + 2 }
-        ensures listed { (base : ℕ) → IsListed core.now.trail base self.old.seen.items self.old.lower.items self.old.current.items
-            → IsListed core.now.trail base self.new.seen.items self.new.lower.items self.new.current.items }
+        ensures listed { (base : ℕ) → AreMarksListed core.now.trail base self.old.seen.items self.old.lower.items self.old.current.items
+            → AreMarksListed core.now.trail base self.new.seen.items self.new.lower.items self.new.current.items }
         ensures supports { IsTrue result
             → Supports (clauses_of core.now.slots) core.now.trail root self.old.seen.items
             → Supports (clauses_of core.now.slots) core.now.trail root self.new.seen.items }
@@ -382,8 +382,8 @@ impl Analysis {
     ) -> Result<(), AllocError>
         requires sized { length self.old.seen.items ≡ 2 * core.now.vars + 2 }
         ensures sized { length self.new.seen.items ≡ 2 * core.now.vars + 2 }
-        ensures listed { IsListed core.now.trail base self.old.seen.items self.old.lower.items self.old.current.items
-            → IsListed core.now.trail base self.new.seen.items self.new.lower.items self.new.current.items }
+        ensures listed { AreMarksListed core.now.trail base self.old.seen.items self.old.lower.items self.old.current.items
+            → AreMarksListed core.now.trail base self.new.seen.items self.new.lower.items self.new.current.items }
         ensures keeps { (l : LitOf) → is_marked self.old.seen.items l ≡ true → is_marked self.new.seen.items l ≡ true }
     {
         for l in implied {
@@ -395,13 +395,12 @@ impl Analysis {
         Ok(())
     }
 
-    // Takes the marks of these literals back, from the last on, each of which is to follow from what is marked before it. Whether
-    // they do.
+    // Takes back the marks of these literals, from the last on. Returns whether each follows from what is still marked.
     fn drop_all(&mut self, core: &Propagator, implied: &[Lit], root: usize) -> bool
         requires sized { length self.old.seen.items ≡ 2 * core.now.vars + 2 }
         ensures sized { length self.new.seen.items ≡ 2 * core.now.vars + 2 }
-        ensures listed { (base : ℕ) → IsListed core.now.trail base self.old.seen.items self.old.lower.items self.old.current.items
-            → IsListed core.now.trail base self.new.seen.items self.new.lower.items self.new.current.items }
+        ensures listed { (base : ℕ) → AreMarksListed core.now.trail base self.old.seen.items self.old.lower.items self.old.current.items
+            → AreMarksListed core.now.trail base self.new.seen.items self.new.lower.items self.new.current.items }
         ensures supports { IsTrue result
             → Supports (clauses_of core.now.slots) core.now.trail root self.old.seen.items
             → Supports (clauses_of core.now.slots) core.now.trail root self.new.seen.items }
@@ -450,11 +449,11 @@ impl Analysis {
         Ok(())
     }
 
-    // Takes all marks back.
+    // Takes back all marks.
     pub fn reset(&mut self)
         ensures sized { length self.new.seen.items ≡ length self.old.seen.items }
         ensures clause { self.new.clause ≡ self.old.clause }
-        ensures clear { (t : List LitOf) (base : ℕ) → IsListed t base self.old.seen.items self.old.lower.items self.old.current.items
+        ensures clear { (t : List LitOf) (base : ℕ) → AreMarksListed t base self.old.seen.items self.old.lower.items self.old.current.items
             → IsClear self.new.seen.items }
         ensures lower { self.new.lower.items ≡ [] }
         ensures current { self.new.current.items ≡ [] }
@@ -471,7 +470,7 @@ impl Analysis {
         self.lower.clear();
     }
 
-    // Goes through what a falsified clause rests on until one literal of the last level alone is left: that literal.
+    // Finds the first unique implication point: resolves a falsified clause until one literal of the last level alone is left.
     pub fn first_uip(
         &mut self,
         core: &Propagator,
@@ -481,19 +480,19 @@ impl Analysis {
     ) -> Result<Option<Lit>, AllocError>
         requires clause { k < length core.now.slots }
         requires sized { length self.old.seen.items ≡ 2 * core.now.vars + 2 }
-        requires listed { IsListed core.now.trail base self.old.seen.items self.old.lower.items self.old.current.items }
+        requires listed { AreMarksListed core.now.trail base self.old.seen.items self.old.lower.items self.old.current.items }
         ensures sized { length self.new.seen.items ≡ 2 * core.now.vars + 2 }
-        ensures listed { IsListed core.now.trail base self.new.seen.items self.new.lower.items self.new.current.items }
+        ensures listed { AreMarksListed core.now.trail base self.new.seen.items self.new.lower.items self.new.current.items }
         ensures supports { IfOk result (λ o. IfSome o (λ l. Supports (clauses_of core.now.slots) core.now.trail root self.new.seen.items)) }
         ensures on { IfOk result (λ o. IfSome o (λ l. Contains core.now.trail l)) }
     {
         if !self.begin(core, k, root, base)? {
             return Ok(None);
         }
-        self.walk(core, root, base)
+        self.resolve_to_uip(core, root, base)
     }
 
-    // The clause that is learnt, without these literals, which follow from its others: its first literal.
+    // Builds the clause that is learnt, without these literals, which follow from its others. Returns its first literal.
     pub fn finish(
         &mut self,
         core: &Propagator,
@@ -503,21 +502,21 @@ impl Analysis {
         base: usize,
     ) -> Result<Option<Lit>, AllocError>
         requires sized { length self.old.seen.items ≡ 2 * core.now.vars + 2 }
-        requires listed { IsListed core.now.trail base self.old.seen.items self.old.lower.items self.old.current.items }
-        requires driven { IsDriven core.now }
+        requires listed { AreMarksListed core.now.trail base self.old.seen.items self.old.lower.items self.old.current.items }
+        requires justified { IsJustified core.now }
         requires root { root ≡ end_of core.now 0 }
         requires supports { Supports (clauses_of core.now.slots) core.now.trail root self.old.seen.items }
         requires on { Contains core.now.trail l }
         requires below { l.var ≤ core.now.vars }
         ensures sized { length self.new.seen.items ≡ 2 * core.now.vars + 2 }
-        ensures listed { IsListed core.now.trail base self.new.seen.items self.new.lower.items self.new.current.items }
+        ensures listed { AreMarksListed core.now.trail base self.new.seen.items self.new.lower.items self.new.current.items }
         ensures learnt { IfOk result (λ o. IfSome o (λ first. IsLearnt core.now base self.new.clause.items first)) }
     {
         self.mark_all(core, implied, root, base)?;
         if !self.drop_all(core, implied, root) {
             return Ok(None);
         }
-        if !self.is_first(core, l, base) {
+        if !self.is_uip(core, l, base) {
             return Ok(None);
         }
         self.build(l)?;

@@ -2,39 +2,39 @@
 
 ghost use Rattle.std.specs.Prelude.{◌≡◌, ◌*◌, ◌+◌, ◌<◌, ◌≤◌, false, length, IsTrue, IfSome, IfNone, Contains, ◌⊎◌};
 ghost use Rattle.cnf_form.specs.Cnf.{negate, LitWithin};
-ghost use Rattle.unit_propagation.specs.Propagation.{IsOpen};
+ghost use Rattle.unit_propagation.specs.Propagation.{IsUnassigned};
 ghost use Rattle.cdcl_core.specs.Levels.{IsTotal};
 
 use cnf_form::{Formula, Lit};
-use decision_order::{Order, is_open};
+use decision_order::{Order, is_unassigned};
 use unit_propagation::Propagator;
 
 // A shorter last clause isn't taken for a goal.
 const LEAST_GOAL: usize = 4;
 
-// The literal of the open variable that comes first in focused mode.
-fn open_by_queue(core: &Propagator, order: &mut Order) -> Option<Lit>
-    ensures { IfSome result (λ l. LitWithin core.now.vars l × IsOpen core.now.trail l) }
+// The literal of the unassigned variable that comes first in focused mode.
+fn unassigned_by_queue(core: &Propagator, order: &mut Order) -> Option<Lit>
+    ensures { IfSome result (λ l. LitWithin core.now.vars l × IsUnassigned core.now.trail l) }
 {
     let var = order.front(core);
     if 0 < var && var <= core.vars() {
-        let l = Lit::new(var, order.sign(var));
-        if is_open(core, l) {
+        let l = Lit::new(var, order.phase(var));
+        if is_unassigned(core, l) {
             return Some(l);
         }
     }
     None
 }
 
-// The literal of an open variable, with the sign that it had last.
-fn open_by_order(core: &Propagator, order: &mut Order) -> Option<Lit>
-    ensures { IfSome result (λ l. LitWithin core.now.vars l × IsOpen core.now.trail l) }
+// The literal of the most active unassigned variable, with its phase.
+fn unassigned_by_order(core: &Propagator, order: &mut Order) -> Option<Lit>
+    ensures { IfSome result (λ l. LitWithin core.now.vars l × IsUnassigned core.now.trail l) }
 {
     for _ in 0..order.len() {
         let var = order.pop();
         if 0 < var && var <= core.vars() {
-            let l = Lit::new(var, order.sign(var));
-            if is_open(core, l) {
+            let l = Lit::new(var, order.phase(var));
+            if is_unassigned(core, l) {
                 return Some(l);
             }
         }
@@ -42,14 +42,14 @@ fn open_by_order(core: &Propagator, order: &mut Order) -> Option<Lit>
     None
 }
 
-// The literal of the first open variable.
-fn first_open(core: &Propagator) -> Option<Lit>
-    ensures some { IfSome result (λ l. LitWithin core.now.vars l × IsOpen core.now.trail l) }
+// The literal of the first unassigned variable.
+fn first_unassigned(core: &Propagator) -> Option<Lit>
+    ensures some { IfSome result (λ l. LitWithin core.now.vars l × IsUnassigned core.now.trail l) }
     ensures none { IfNone result (IsTotal core.now) }
 {
     for place in 0..core.vars() {
         let l = Lit::new(place + 1, true);
-        if is_open(core, l) {
+        if is_unassigned(core, l) {
             return Some(l);
         }
     }
@@ -77,10 +77,10 @@ pub(crate) fn has_goal(formula: &Formula) -> bool {
     clauses.len() > 0 && is_goal(clauses.get(clauses.len() - 1))
 }
 
-// A literal that is open: one that is guessed, else the first goal that isn't refuted, else the first in order.
+// An unassigned literal: one that is guessed, else the first goal that isn't refuted, else the first in order.
 // None where all variables have values.
 pub(crate) fn choose(core: &Propagator, order: &mut Order, formula: &Formula) -> Option<Lit>
-    ensures some { IfSome result (λ l. LitWithin core.now.vars l × IsOpen core.now.trail l) }
+    ensures some { IfSome result (λ l. LitWithin core.now.vars l × IsUnassigned core.now.trail l) }
     ensures none { IfNone result (IsTotal core.now) }
     ensures room { length core.now.trail ≤ 2 * core.now.vars + 2 }
 {
@@ -95,11 +95,11 @@ pub(crate) fn choose(core: &Propagator, order: &mut Order, formula: &Formula) ->
             return Some(l);
         }
     }
-    if let Some(l) = open_by_queue(core, order) {
+    if let Some(l) = unassigned_by_queue(core, order) {
         return Some(l);
     }
-    if let Some(l) = open_by_order(core, order) {
+    if let Some(l) = unassigned_by_order(core, order) {
         return Some(l);
     }
-    first_open(core)
+    first_unassigned(core)
 }

@@ -3,15 +3,15 @@
 ghost use Rattle.std.specs.Prelude.{◌≡◌, ◌+◌, ◌*◌, ◌-◌, ◌^◌, ◌<◌, ◌≤◌, ◌++◌, ◌∷◌, [], ℕ, List, length, Contains, IsTrue, IfOk, IfErr, IfSome, OnOk, Some};
 ghost use Rattle.cnf_form.specs.Cnf.{LitOf};
 ghost use Rattle.unit_propagation.specs.Propagator.{clauses_of, slot_at};
-ghost use Rattle.cdcl_core.specs.Levels.{IsDriven, IsPending, base_of, end_of};
+ghost use Rattle.cdcl_core.specs.Levels.{IsJustified, IsPending, base_of, end_of};
 ghost use Rattle.cdcl_core.specs.Logged.{IsContingent, IsNew};
-ghost use Rattle.cdcl_core.specs.Analysis.{IsIdle, IsListed, Supports, IsLearnt};
+ghost use Rattle.cdcl_core.specs.Analysis.{IsUnmarked, AreMarksListed, Supports, IsLearnt};
 ghost use Rattle.hint_chain.specs.Chains.{Hints};
 ghost use Rattle.cdcl_core.specs.Lines.{Adds, HeldOf, held_after};
 ghost use Rattle.cdcl_core.specs.Searching.{IsAddable, IsNamedBy, IsSolver, Leads, Moves, StepFits, Stops};
 
 use crate::analysis::Analysis;
-use crate::learn::{assert_learnt, back_to_root, negate_trail};
+use crate::learn::{assert_learnt, backtrack_to_root, negate_trail};
 use crate::log::Log;
 use crate::minimizer::Minimizer;
 use crate::restarts::Restarts;
@@ -38,8 +38,8 @@ fn bump_all(analysis: &Analysis, order: &mut Order) -> Result<(), AllocError> {
     Ok(())
 }
 
-// The clause of the first unique implication point, where there is one, without the literals that follow from its others. Its first
-// literal.
+// Builds the clause of the first unique implication point, where there is one, without the literals that follow from its others.
+// Returns its first literal.
 fn minimize(
     core: &Propagator,
     analysis: &mut Analysis,
@@ -50,13 +50,13 @@ fn minimize(
     base: usize,
 ) -> Result<Option<Lit>, AllocError>
     requires sized { length analysis.old.seen.items ≡ 2 * core.now.vars + 2 }
-    requires listed { IsListed core.now.trail base analysis.old.seen.items analysis.old.lower.items analysis.old.current.items }
-    requires driven { IsDriven core.now }
+    requires listed { AreMarksListed core.now.trail base analysis.old.seen.items analysis.old.lower.items analysis.old.current.items }
+    requires justified { IsJustified core.now }
     requires root { root ≡ end_of core.now 0 }
     requires supports { IfSome point (λ l. Supports (clauses_of core.now.slots) core.now.trail root analysis.old.seen.items) }
     requires on { IfSome point (λ l. Contains core.now.trail l) }
     ensures sized { length analysis.new.seen.items ≡ 2 * core.now.vars + 2 }
-    ensures listed { IsListed core.now.trail base analysis.new.seen.items analysis.new.lower.items analysis.new.current.items }
+    ensures listed { AreMarksListed core.now.trail base analysis.new.seen.items analysis.new.lower.items analysis.new.current.items }
     ensures learnt { IfOk result (λ o. IfSome o (λ first. IsLearnt core.now base analysis.new.clause.items first)) }
 {
     let Some(l) = point else {
@@ -67,10 +67,10 @@ fn minimize(
 }
 
 impl Solver {
-    // The clause that is learnt from a falsified one. Its first literal.
+    // Builds the clause that is learnt from a falsified one. Returns its first literal.
     fn analyze_conflict(&mut self, k: u32) -> Result<Lit, AllocError>
-        requires idle { IsIdle self.old.core.vars self.old.analysis.seen.items self.old.analysis.lower.items self.old.analysis.current.items }
-        requires driven { IsDriven self.old.core }
+        requires unmarked { IsUnmarked self.old.core.vars self.old.analysis.seen.items self.old.analysis.lower.items self.old.analysis.current.items }
+        requires justified { IsJustified self.old.core }
         requires levels { 0 < length self.old.core.limits }
         requires conflict { IsPending self.old.core (Some k) }
         ensures core { self.new.core ≡ self.old.core }
@@ -80,7 +80,7 @@ impl Solver {
         ensures conflicts { self.new.conflicts ≡ self.old.conflicts }
         ensures deletions { self.new.deletions ≡ self.old.deletions }
         ensures ids { self.new.ids ≡ self.old.ids }
-        ensures idle { OnOk result (IsIdle self.old.core.vars self.new.analysis.seen.items self.new.analysis.lower.items self.new.analysis.current.items) }
+        ensures unmarked { OnOk result (IsUnmarked self.old.core.vars self.new.analysis.seen.items self.new.analysis.lower.items self.new.analysis.current.items) }
         ensures learnt { IfOk result (λ first. IsLearnt self.old.core (base_of self.old.core) self.new.analysis.clause.items first) }
     {
         let core = &self.core;
@@ -106,10 +106,10 @@ impl Solver {
         }
     }
 
-    // The same; no watched clause is a subset of it, though a frozen one may be.
+    // Returns the first literal of the clause that is learnt. No watched clause is a subset of it, though a frozen one may be.
     fn analyze(&mut self, k: u32) -> Result<Lit, AllocError>
-        requires idle { IsIdle self.old.core.vars self.old.analysis.seen.items self.old.analysis.lower.items self.old.analysis.current.items }
-        requires driven { IsDriven self.old.core }
+        requires unmarked { IsUnmarked self.old.core.vars self.old.analysis.seen.items self.old.analysis.lower.items self.old.analysis.current.items }
+        requires justified { IsJustified self.old.core }
         requires levels { 0 < length self.old.core.limits }
         requires conflict { IsPending self.old.core (Some k) }
         ensures core { self.new.core ≡ self.old.core }
@@ -119,7 +119,7 @@ impl Solver {
         ensures conflicts { self.new.conflicts ≡ self.old.conflicts }
         ensures deletions { self.new.deletions ≡ self.old.deletions }
         ensures ids { self.new.ids ≡ self.old.ids }
-        ensures idle { OnOk result (IsIdle self.old.core.vars self.new.analysis.seen.items self.new.analysis.lower.items self.new.analysis.current.items) }
+        ensures unmarked { OnOk result (IsUnmarked self.old.core.vars self.new.analysis.seen.items self.new.analysis.lower.items self.new.analysis.current.items) }
         ensures learnt { IfOk result (λ first. IsLearnt self.old.core (base_of self.old.core) self.new.analysis.clause.items first) }
         ensures new { OnOk result (IsNew (clauses_of self.old.core.slots) self.new.analysis.clause.items) }
         ensures contingent { OnOk result (IsContingent self.new.analysis.clause.items) }
@@ -129,11 +129,11 @@ impl Solver {
         Ok(first)
     }
 
-    // Puts the clause that was learnt, and goes back to where it makes a literal true.
-    fn put_learnt(&mut self, first: Lit, glue: u32, id: u64) -> Result<(), AllocError>
+    // Adds the clause that was learnt, and backtracks to where it makes a literal true.
+    fn add_learnt(&mut self, first: Lit, glue: u32, id: u64) -> Result<(), AllocError>
         requires frozen { self.old.frozen.vars ≡ self.old.core.vars }
-        requires idle { IsIdle self.old.core.vars self.old.analysis.seen.items self.old.analysis.lower.items self.old.analysis.current.items }
-        requires driven { IsDriven self.old.core }
+        requires unmarked { IsUnmarked self.old.core.vars self.old.analysis.seen.items self.old.analysis.lower.items self.old.analysis.current.items }
+        requires justified { IsJustified self.old.core }
         requires levels { 0 < length self.old.core.limits }
         requires learnt { IsLearnt self.old.core (base_of self.old.core) self.old.analysis.clause.items first }
         requires room { self.old.conflicts < 2 ^ 64 - 1 }
@@ -156,7 +156,7 @@ impl Solver {
         Ok(())
     }
 
-    // The hints of the clause that was learnt, where they are wanted.
+    // Finds the hints of the clause that was learnt, where they are wanted.
     fn find_hints(&mut self) -> Result<(), AllocError>
         requires addable { IsAddable self.old.core self.old.frozen self.old.analysis.clause.items }
         ensures given { self.new.given ≡ self.old.given }
@@ -181,11 +181,11 @@ impl Solver {
         )
     }
 
-    // Logs the clause that was learnt, and puts it.
+    // Logs the clause that was learnt, and adds it.
     fn add<L: Log>(&mut self, log: &mut L, first: Lit) -> Result<(), Stop>
         requires frozen { self.old.frozen.vars ≡ self.old.core.vars }
-        requires idle { IsIdle self.old.core.vars self.old.analysis.seen.items self.old.analysis.lower.items self.old.analysis.current.items }
-        requires driven { IsDriven self.old.core }
+        requires unmarked { IsUnmarked self.old.core.vars self.old.analysis.seen.items self.old.analysis.lower.items self.old.analysis.current.items }
+        requires justified { IsJustified self.old.core }
         requires levels { 0 < length self.old.core.limits }
         requires learnt { IsLearnt self.old.core (base_of self.old.core) self.old.analysis.clause.items first }
         requires addable { IsAddable self.old.core self.old.frozen self.old.analysis.clause.items }
@@ -202,11 +202,11 @@ impl Solver {
         if log.clause(clause, id, self.chain.hints()).is_err() {
             return Err(Stop::Failed);
         }
-        self.put_learnt(first, glue, id)?;
+        self.add_learnt(first, glue, id)?;
         Ok(())
     }
 
-    // Puts a frozen clause back, at level 0.
+    // Backtracks to level 0, and thaws a frozen clause.
     fn back_and_thaw(&mut self, k: u32) -> Result<(), AllocError>
         requires solver { IsSolver self.old }
         requires levels { 0 < length self.old.core.limits }
@@ -216,12 +216,12 @@ impl Solver {
         ensures fewer { OnOk result ((c : List LitOf) → slot_at self.old.frozen.slots k ≡ Some c
             → length (clauses_of self.new.frozen.slots) < length (clauses_of self.old.frozen.slots)) }
     {
-        back_to_root(&mut self.core, &mut self.order)?;
+        backtrack_to_root(&mut self.core, &mut self.order)?;
         self.pending = None;
         self.thaw(k)
     }
 
-    // Learns from a falsified clause, unless a frozen clause is a subset of what would be learnt: that one is put back then.
+    // Learns from a falsified clause, unless a frozen clause is a subset of what would be learnt: that one is thawed then.
     fn learn_from<L: Log>(&mut self, log: &mut L, k: u32) -> Result<Step, Stop>
         requires solver { IsSolver self.old }
         requires levels { 0 < length self.old.core.limits }
@@ -243,7 +243,7 @@ impl Solver {
         Ok(Step::Learnt)
     }
 
-    // The same, once the literals of level 0 are noted.
+    // Notes the literals of level 0, and then learns from a falsified clause.
     pub(crate) fn learn<L: Log>(&mut self, log: &mut L, k: u32) -> Result<Step, Stop>
         requires solver { IsSolver self.old }
         requires levels { 0 < length self.old.core.limits }

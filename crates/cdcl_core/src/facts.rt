@@ -46,7 +46,7 @@ impl Solver {
         self.core.limit(0)
     }
 
-    // The same of the literals that came to level 0, where ids are wanted.
+    // Logs the literals that are new at level 0 as unit clauses, where ids are wanted.
     pub(crate) fn note_facts<L: Log>(&mut self, log: &mut L) -> Result<(), Stop>
         requires solver { IsSolver self.old }
         ensures solver { OnOk result (IsSolver self.new) }

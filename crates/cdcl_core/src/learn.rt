@@ -2,23 +2,23 @@
 
 ghost use Rattle.std.specs.Prelude.{◌≡◌, ◌≢◌, ◌<◌, ◌≤◌, ◌++◌, ◌∷◌, [], ℕ, false, List, length, take, Contains, IsTrue, IfOk, IfSome, OnOk, Some};
 ghost use Rattle.cnf_form.specs.Cnf.{LitOf, negate, ClauseWithin};
-ghost use Rattle.cdcl_core.specs.Levels.{IsDriven, IsPending, base_of};
+ghost use Rattle.cdcl_core.specs.Levels.{IsJustified, IsPending, base_of};
 ghost use Rattle.cdcl_core.specs.Analysis.{IsLearnt, IsLastOf, ComesLast};
 
-use crate::load::put_next;
+use crate::load::add_at_root;
 use cnf_form::Lit;
 use decision_order::Order;
 use std::alloc::AllocError;
 use unit_propagation::Propagator;
 
-// The clause of the negations of all that was true when the last level was decided. Its first literal.
+// Learns the negations of all that was true when the last level was decided. Returns the clause's first literal.
 pub(crate) fn negate_trail(
     core: &Propagator,
     k: u32,
     base: usize,
     clause: &mut Vec<Lit>,
 ) -> Result<Lit, AllocError>
-    requires driven { IsDriven core.now }
+    requires justified { IsJustified core.now }
     requires levels { 0 < length core.now.limits }
     requires base { base ≡ base_of core.now }
     requires conflict { IsPending core.now (Some k) }
@@ -52,7 +52,7 @@ fn is_before(core: &Propagator, a: Lit, b: Lit) -> bool
     false
 }
 
-// Of the literals but one the one that became false last, with one more literal.
+// Of the last false literal so far and `m`, returns the one that became false later.
 fn later(core: &Propagator, first: Lit, last: Option<Lit>, m: Lit) -> Option<Lit>
     requires below { m.var ≤ core.now.vars }
     requires false_now { m ≢ first → Contains core.now.trail (negate m) }
@@ -72,7 +72,7 @@ fn later(core: &Propagator, first: Lit, last: Option<Lit>, m: Lit) -> Option<Lit
     Some(s)
 }
 
-// Of the literals of a clause but one, the one that became false last.
+// Of the literals of a clause but `first`, returns the one that became false last.
 fn last_false(core: &Propagator, clause: &[Lit], first: Lit) -> Option<Lit>
     requires within { ClauseWithin core.now.vars clause.now }
     requires others { (m : LitOf) → Contains clause.now m → m ≢ first → Contains core.now.trail (negate m) }
@@ -85,8 +85,8 @@ fn last_false(core: &Propagator, clause: &[Lit], first: Lit) -> Option<Lit>
     last
 }
 
-// The variables from a place of the trail on will be open again.
-fn reopen(core: &Propagator, order: &mut Order, place: usize) -> Result<(), AllocError> {
+// Tells the order that the variables from a place of the trail on will be unassigned.
+fn unassign_from(core: &Propagator, order: &mut Order, place: usize) -> Result<(), AllocError> {
     let trail = core.trail();
     for place in place..trail.len() {
         order.unassign(trail[place].var(), trail[place].is_negated())?;
@@ -94,89 +94,89 @@ fn reopen(core: &Propagator, order: &mut Order, place: usize) -> Result<(), Allo
     Ok(())
 }
 
-// Takes all levels back, where there are some; after a conflict too.
-pub(crate) fn back_to_root(core: &mut Propagator, order: &mut Order) -> Result<(), AllocError>
-    requires driven { IsDriven core.old }
+// Backtracks to level 0 from a level above it, after a conflict too.
+pub(crate) fn backtrack_to_root(core: &mut Propagator, order: &mut Order) -> Result<(), AllocError>
+    requires justified { IsJustified core.old }
     requires levels { 0 < length core.old.limits }
     ensures vars { core.new.vars ≡ core.old.vars }
     ensures slots { core.new.slots ≡ core.old.slots }
     ensures level { OnOk result (core.new.limits ≡ []) }
-    ensures driven { IsDriven core.new }
+    ensures justified { IsJustified core.new }
     ensures conflict { OnOk result (core.new.conflict ≡ false) }
     ensures same { core.old.conflict ≡ false → core.new.conflict ≡ false }
 {
     core.levels_are_complete();
-    reopen(core, order, core.limit(0))?;
-    core.undo(0);
+    unassign_from(core, order, core.limit(0))?;
+    core.backtrack(0);
     Ok(())
 }
 
-// Takes all levels back.
+// Backtracks to level 0, where no clause is falsified.
 pub(crate) fn restart(core: &mut Propagator, order: &mut Order) -> Result<(), AllocError>
-    requires driven { IsDriven core.old }
+    requires justified { IsJustified core.old }
     requires conflict { core.old.conflict ≡ false }
     ensures vars { core.new.vars ≡ core.old.vars }
     ensures slots { core.new.slots ≡ core.old.slots }
     ensures level { OnOk result (core.new.limits ≡ []) }
-    ensures driven { IsDriven core.new }
+    ensures justified { IsJustified core.new }
     ensures conflict { core.new.conflict ≡ false }
 {
     if core.levels() == 0 {
         return Ok(());
     }
-    back_to_root(core, order)
+    backtrack_to_root(core, order)
 }
 
-// Goes back to the lowest level on which all literals of a learnt clause but its first are false, puts it, and makes the
-// first true. The falsified clause, if there is one above level 0.
+// Backtracks to the lowest level on which all literals of a learnt clause but its first are false, adds it, and makes the first
+// true. Returns the falsified clause, if there is one above level 0.
 pub(crate) fn assert_learnt(
     core: &mut Propagator,
     order: &mut Order,
     clause: &[Lit],
     first: Lit,
 ) -> Result<Option<u32>, AllocError>
-    requires driven { IsDriven core.old }
+    requires justified { IsJustified core.old }
     requires levels { 0 < length core.old.limits }
     requires learnt { IsLearnt core.old (base_of core.old) clause.now first }
     ensures vars { OnOk result (core.new.vars ≡ core.old.vars) }
     ensures slots { OnOk result (core.new.slots ≡ core.old.slots ++ Some clause.now ∷ []) }
-    ensures driven { OnOk result (IsDriven core.new) }
+    ensures justified { OnOk result (IsJustified core.new) }
     ensures pending { IfOk result (λ o. IsPending core.new o) }
 {
     match last_false(core, clause, first) {
         None => {
-            back_to_root(core, order)?;
-            put_next(core, clause)?;
+            backtrack_to_root(core, order)?;
+            add_at_root(core, clause)?;
             Ok(None)
         }
-        Some(second) => go_back(core, order, clause, first, second),
+        Some(second) => backtrack_and_assert(core, order, clause, first, second),
     }
 }
 
-// The same for a clause of two literals or more.
-fn go_back(
+// Asserts a learnt clause of two literals or more.
+fn backtrack_and_assert(
     core: &mut Propagator,
     order: &mut Order,
     clause: &[Lit],
     first: Lit,
     second: Lit,
 ) -> Result<Option<u32>, AllocError>
-    requires driven { IsDriven core.old }
+    requires justified { IsJustified core.old }
     requires levels { 0 < length core.old.limits }
     requires learnt { IsLearnt core.old (base_of core.old) clause.now first }
     requires last { ComesLast core.old.trail first clause.now second }
     ensures vars { core.new.vars ≡ core.old.vars }
     ensures slots { OnOk result (core.new.slots ≡ core.old.slots ++ Some clause.now ∷ []) }
-    ensures driven { OnOk result (IsDriven core.new) }
+    ensures justified { OnOk result (IsJustified core.new) }
     ensures pending { IfOk result (λ o. IsPending core.new o) }
 {
     core.levels_are_complete();
     let place = core.place(second.negate());
     let level = core.level_of(place);
-    reopen(core, order, core.limit(level))?;
-    core.undo(level);
+    unassign_from(core, order, core.limit(level))?;
+    core.backtrack(level);
     core.levels_are_complete();
-    let falsified = core.learn(clause, first, second)?;
+    let falsified = core.assert_clause(clause, first, second)?;
     core.clauses_are_within();
     Ok(falsified)
 }

@@ -10,13 +10,13 @@ use unit_propagation::Propagator;
 // This many conflicts come before the first reduction.
 const FIRST_INTERVAL: u64 = 1000;
 
-// This many conflicts more come before each later one.
+// The interval between reductions grows by this many conflicts.
 const INTERVAL_STEP: u64 = 150;
 
-// A clause of this glue or less is kept, ..
+// Clauses of this glue or less are kept.
 const GOOD_GLUE: u32 = 3;
 
-// .. and in a long search of this.
+// In a long search only clauses of this glue or less are kept.
 const BEST_GLUE: u32 = 2;
 
 // A clause up to this glue is in the second tier: it is kept through two reductions after the last conflict that rested on it, others
@@ -46,7 +46,7 @@ struct Candidate {
 
 // What is known of the learnt clauses: the number of the first, and the glue of each from there on, and through how many reductions it is
 // kept since a conflict rested on it. The sums are of literals: of the formula, and of the learnt clauses left at the last collection and
-// those learnt or put back since.
+// those learnt or thawed since.
 #[derive(Drop)]
 pub(crate) struct Learnts {
     first: usize,
@@ -76,7 +76,7 @@ impl Learnts {
         }
     }
 
-    // One more clause, of this many literals.
+    // Adds a learnt clause of this many literals.
     pub fn push(&mut self, glue: u32, length: usize) -> Result<(), AllocError> {
         self.glues.push(glue)?;
         self.used.push(turns(glue))?;
@@ -84,7 +84,7 @@ impl Learnts {
         Ok(())
     }
 
-    // A frozen clause of this many literals was put back: it is worth keeping for a while.
+    // Adds a thawed clause of this many literals: it is worth keeping for a while.
     pub fn push_thawed(&mut self, length: usize) -> Result<(), AllocError> {
         self.push(GOOD_GLUE, length)
     }

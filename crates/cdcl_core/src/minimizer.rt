@@ -1,6 +1,5 @@
 // Which literals of a clause that is to be learnt follow from its others, through the clauses that made them false (minimization:
-// Sörensson and Biere, 2009). Nothing is
-// promised of it: who takes literals out looks at those clauses again.
+// Sörensson and Biere, 2009). Nothing is promised of it: who removes literals looks at those clauses again.
 
 use crate::analysis::Analysis;
 use crate::restarts::Restarts;
@@ -8,7 +7,7 @@ use cnf_form::Lit;
 use std::alloc::{AllocError, Global};
 use unit_propagation::Propagator;
 
-// This many literals are gone through at once.
+// At most this many literals are visited at once, each for the one before it.
 const MAX_DEPTH: usize = 500;
 
 // What was found of a true literal: nothing yet; that it follows from literals that are marked; that it is marked, and does not; or
@@ -21,7 +20,7 @@ enum Finding {
     Failed,
 }
 
-// A literal, the number of the clause that made it true, and how many literals of that were gone through.
+// A literal, the number of the clause that made it true, and how many literals of that were visited.
 #[derive(Clone, Copy)]
 struct Step {
     lit: Lit,

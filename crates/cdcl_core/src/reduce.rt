@@ -49,7 +49,7 @@ fn is_loose(core: &Propagator, clause: &[Lit]) -> bool
     true
 }
 
-// Whether more than half of the frozen clauses are gone.
+// Whether more than half of the frozen clauses were removed.
 fn is_sparse(frozen: &Frozen) -> bool {
     let mut gone: usize = 0;
     for k in 0..frozen.len() {
@@ -85,7 +85,7 @@ impl Solver {
         if log.delete(clause, id).is_err() {
             return Err(Stop::Failed);
         }
-        self.core.take_out(k);
+        self.core.remove_clause(k);
         self.deletions += 1;
         Ok(())
     }
@@ -109,7 +109,7 @@ impl Solver {
         let _fixpoint = self.core.conflict();
         self.frozen.push(clause)?;
         self.ids.freeze(k)?;
-        self.core.take_out(k);
+        self.core.remove_clause(k);
         Ok(())
     }
 
@@ -132,7 +132,7 @@ impl Solver {
         Ok(())
     }
 
-    // The same of one clause after another.
+    // Deletes or freezes one learnt clause after another.
     fn drop_all<L: Log>(&mut self, log: &mut L, worst: &[u32]) -> Result<(), Stop>
         requires solver { IsSolver self.old }
         requires rest { IsAtRest self.old }
@@ -171,12 +171,12 @@ impl Solver {
         if log.delete(clause, id).is_err() {
             return Err(Stop::Failed);
         }
-        self.frozen.take_out(k);
+        self.frozen.remove_clause(k);
         self.deletions += 1;
         Ok(())
     }
 
-    // The same of all frozen clauses, the oldest first.
+    // Deletes all frozen clauses that may go, the oldest first.
     fn delete_all_frozen<L: Log>(&mut self, log: &mut L) -> Result<(), Stop>
         requires solver { IsSolver self.old }
         requires rest { IsAtRest self.old }
@@ -189,7 +189,7 @@ impl Solver {
         Ok(())
     }
 
-    // Gives memory back where much of it is that of clauses that were deleted or frozen.
+    // Gives back memory where much of it is that of clauses that were deleted or frozen.
     fn tidy(&mut self) -> Result<(), AllocError>
         requires solver { IsSolver self.old }
         requires rest { IsAtRest self.old }
@@ -206,7 +206,7 @@ impl Solver {
         Ok(())
     }
 
-    // The same of frozen clauses that are gone.
+    // Gives back the memory of frozen clauses that were removed, where they are more than half.
     fn tidy_frozen(&mut self) -> Result<(), AllocError>
         requires solver { IsSolver self.old }
         ensures solver { OnOk result (IsSolver self.new) }
@@ -234,8 +234,7 @@ impl Solver {
         self.drop_all(log, &worst)
     }
 
-    // Takes all levels back and puts the frozen clauses back at which something is left to do. Whether then nothing is left to do at
-    // any.
+    // Restarts, and thaws the frozen clauses at which something is left to do. Returns whether nothing is left to do at any then.
     fn come_to_rest(&mut self) -> Result<bool, AllocError>
         requires solver { IsSolver self.old }
         requires conflict { self.old.core.conflict ≡ false }
@@ -271,7 +270,7 @@ impl Solver {
         Ok(())
     }
 
-    // The same where it is time to and no clause is falsified.
+    // Reduces where it is time to and no clause is falsified.
     pub(crate) fn reduce_if_due<L: Log>(&mut self, log: &mut L) -> Result<(), Stop>
         requires solver { IsSolver self.old }
         ensures solver { OnOk result (IsSolver self.new) }

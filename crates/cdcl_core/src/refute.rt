@@ -38,7 +38,7 @@ fn find_falsified(core: &Propagator) -> u32 {
 }
 
 impl Solver {
-    // The hints of the empty clause, where they are wanted.
+    // Finds the hints of the empty clause, where they are wanted.
     fn find_last_hints(&mut self) -> Result<(), AllocError>
         requires admitted { IsAdmitted (clauses_of self.old.core.slots) [] }
         ensures given { self.new.given ≡ self.old.given }
@@ -74,7 +74,7 @@ impl Solver {
         Ok(Solved::Unsat)
     }
 
-    // The same, once the literals of level 0 are noted.
+    // Notes the literals of level 0, and then logs the empty clause.
     pub(crate) fn refute<L: Log>(&mut self, log: &mut L) -> Result<Solved, Stop>
         requires solver { IsSolver self.old }
         requires admitted { IsAdmitted (clauses_of self.old.core.slots) [] }

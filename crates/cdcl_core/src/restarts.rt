@@ -6,10 +6,10 @@ use cnf_form::Lit;
 use std::alloc::{AllocError, Global};
 use unit_propagation::Propagator;
 
-// In focused mode, this many conflicts come at least between one restart and the next, ..
+// In focused mode, at least this many conflicts come between one restart and the next.
 const LEAST: u64 = 50;
 
-// .. and where the formula is that of a job over several cycles, this many.
+// In focused mode, at least this many do where the formula is that of a job over several cycles.
 const LEAST_OF_JOB: u64 = 10;
 
 // In stable mode, the conflicts between one restart and the next are a multiple of this.
@@ -84,7 +84,7 @@ fn level_of(core: &Propagator, l: Lit) -> usize {
     low
 }
 
-// What an average over this many values becomes by one more.
+// Returns the exponential moving average after one more value.
 fn moved(average: u64, value: u64, count: u64) -> u64 {
     if count == 0 {
         return value;
@@ -120,7 +120,7 @@ impl Restarts {
         self.slow = 0;
     }
 
-    // On how many levels the literals of a clause became false.
+    // The glue of a clause: on how many levels its literals became false.
     pub fn glue(&mut self, core: &Propagator, clause: &[Lit]) -> u32 {
         self.clock = self.clock.saturating_add(1);
         let mut glue: u32 = 0;
@@ -134,13 +134,13 @@ impl Restarts {
         glue
     }
 
-    // Whether a true literal became so on a level on which a literal of the clause became false whose glue was taken last.
+    // Whether a literal became true on one of the levels of the clause whose glue was counted last.
     pub fn has_level(&self, core: &Propagator, l: Lit) -> bool {
         let level = level_of(core, l);
         level < self.stamps.len() && self.stamps[level] == self.clock
     }
 
-    // Counts a conflict, and the clause that is learnt from it. Its glue.
+    // Counts a conflict, and the clause that is learnt from it. Returns its glue.
     pub fn count(&mut self, core: &Propagator, clause: &[Lit]) -> u32 {
         let glue = self.glue(core, clause);
         let scaled = glue as u64 * (1 << 32);

@@ -2,9 +2,9 @@
 
 ghost use Rattle.std.specs.Prelude.{◌≡◌, ◌*◌, ◌+◌, ◌<◌, ◌≤◌, [], false, length, IfOk, IfSome, IfNone, OnOk};
 ghost use Rattle.cnf_form.specs.Cnf.{LitWithin};
-ghost use Rattle.unit_propagation.specs.Propagation.{IsOpen};
+ghost use Rattle.unit_propagation.specs.Propagation.{IsUnassigned};
 ghost use Rattle.unit_propagation.specs.Propagator.{EndsDecided, clauses_of};
-ghost use Rattle.cdcl_core.specs.Levels.{IsDriven, FoundFits};
+ghost use Rattle.cdcl_core.specs.Levels.{IsJustified, FoundFits};
 ghost use Rattle.cdcl_core.specs.declared.search.Found.TheVariants.{Assigned, Falsified};
 ghost use Rattle.cdcl_core.specs.Searching.{IsSolver, Moves};
 
@@ -12,7 +12,7 @@ use crate::choose::choose;
 use crate::learn::restart;
 use crate::solver::Solver;
 use cnf_form::{Formula, Lit};
-use decision_order::{Order, find_signs};
+use decision_order::{Order, rephase_by_local_search};
 use std::alloc::AllocError;
 use unit_propagation::Propagator;
 
@@ -23,15 +23,15 @@ pub(crate) enum Found {
     Falsified(u32),
 }
 
-// Decides a literal. The falsified clause, if there is one.
+// Decides a literal. Returns the falsified clause, if there is one.
 fn decide(core: &mut Propagator, l: Lit) -> Result<Option<u32>, AllocError>
-    requires driven { IsDriven core.old }
+    requires justified { IsJustified core.old }
     requires conflict { core.old.conflict ≡ false }
     requires lit { LitWithin core.old.vars l }
-    requires opened { IsOpen core.old.trail l }
+    requires opened { IsUnassigned core.old.trail l }
     ensures vars { core.new.vars ≡ core.old.vars }
     ensures slots { core.new.slots ≡ core.old.slots }
-    ensures driven { OnOk result (IsDriven core.new) }
+    ensures justified { OnOk result (IsJustified core.new) }
     ensures levels { OnOk result (0 < length core.new.limits) }
     ensures grown { OnOk result (length core.old.trail < length core.new.trail) }
     ensures ends { IfOk result (λ o. EndsDecided core.new o) }
@@ -42,17 +42,17 @@ fn decide(core: &mut Propagator, l: Lit) -> Result<Option<u32>, AllocError>
     Ok(falsified)
 }
 
-// Decides one literal after another, until a clause is falsified, or all variables have values.
+// Decides one literal after another, until a clause is falsified or all variables have values. Returns that clause.
 fn decide_on(
     core: &mut Propagator,
     order: &mut Order,
     formula: &Formula,
 ) -> Result<Option<u32>, AllocError>
-    requires driven { IsDriven core.old }
+    requires justified { IsJustified core.old }
     requires conflict { core.old.conflict ≡ false }
     ensures vars { core.new.vars ≡ core.old.vars }
     ensures slots { core.new.slots ≡ core.old.slots }
-    ensures driven { OnOk result (IsDriven core.new) }
+    ensures justified { OnOk result (IsJustified core.new) }
     ensures falsified { IfOk result (λ o. IfSome o (λ k. FoundFits core.new (Falsified k))) }
     ensures assigned { IfOk result (λ o. IfNone o (FoundFits core.new Assigned)) }
 {
@@ -65,7 +65,7 @@ fn decide_on(
 }
 
 impl Solver {
-    // Whether the search is to begin again at level 0: also after a lucky guess, and where the walk is to begin.
+    // Whether the search is to begin again at level 0: also after a lucky guess, and where local search is to begin.
     fn is_restart_due(&mut self) -> bool
         ensures given { self.new.given ≡ self.old.given }
         ensures core { self.new.core ≡ self.old.core }
@@ -80,10 +80,10 @@ impl Solver {
         if guesses {
             self.restarts.begin();
         }
-        self.restarts.is_due() || guesses || self.order.wants_first_walk()
+        self.restarts.is_due() || guesses || self.order.wants_first_local_search()
     }
 
-    // Puts the frozen clauses back at which something is left to do, where level 0 has grown.
+    // Thaws the frozen clauses at which something is left to do, where level 0 has grown.
     fn settle_if_grown(&mut self) -> Result<(), AllocError>
         requires solver { IsSolver self.old }
         requires level { self.old.core.limits ≡ [] }
@@ -101,7 +101,7 @@ impl Solver {
         self.thaw_unsettled()
     }
 
-    // Takes all levels back where it is time to, unless a clause is falsified.
+    // Restarts where it is time to, unless a clause is falsified.
     pub(crate) fn restart_if_due(&mut self, formula: &Formula) -> Result<(), AllocError>
         requires solver { IsSolver self.old }
         ensures solver { OnOk result (IsSolver self.new) }
@@ -113,7 +113,7 @@ impl Solver {
         }
         restart(&mut self.core, &mut self.order)?;
         self.order.lucky.advance();
-        find_signs(
+        rephase_by_local_search(
             self.alloc,
             &self.core,
             formula.clauses().len(),

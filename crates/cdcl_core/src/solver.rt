@@ -40,8 +40,8 @@ pub enum Solved {
     LogFailed,
 }
 
-// What a step comes to: an answer, a clause that was learnt, or a frozen one that was put back, since it is a subset of what would
-// have been learnt.
+// The result of a step: an answer, a clause that was learnt, or a frozen one that was thawed, since it is a subset of what would have
+// been learnt.
 pub(crate) enum Step {
     Answered(Solved),
     Learnt,
@@ -50,7 +50,7 @@ pub(crate) enum Step {
 
 // What a search stands on: the watched clauses with the trail, of which this many, the formula's, come first; the frozen clauses; the
 // number of a falsified clause; how many clauses were logged, one for each conflict, and how many of them were deleted. The rest
-// chooses, and nothing is promised of it; `fixed` is how many literals level 0 had when frozen clauses were gone through last, and `noted`
+// chooses, and nothing is promised of it; `fixed` is how many literals level 0 had when frozen clauses were last thawed, and `noted`
 // how many of them were noted as facts. Where the log wants hints, `ids` has the ids of all clauses, and `chain` finds hints.
 #[derive(Drop)]
 pub(crate) struct Solver {
@@ -137,7 +137,7 @@ impl Solver {
         })
     }
 
-    // Goes on until there is an answer, a clause was learnt, or a frozen one was put back.
+    // Goes on until there is an answer, a clause was learnt, or a frozen one was thawed.
     fn step<L: Log>(&mut self, formula: &Formula, log: &mut L) -> Result<Step, Stop>
         requires solver { IsSolver self.old }
         requires room { self.old.conflicts < 2 ^ 64 - 1 }

@@ -1,4 +1,4 @@
-// Frozen clauses are put back at level 0.
+// Frozen clauses are thawed at level 0: they are watched again.
 
 ghost use Rattle.std.specs.Prelude.{◌≡◌, ◌<◌, ◌≤◌, ◌∷◌, [], IsTrue, List, length, OnOk, Some, None};
 ghost use Rattle.cnf_form.specs.Cnf.{LitOf, ClauseWithin};
@@ -6,14 +6,14 @@ ghost use Rattle.unit_propagation.specs.Propagation.{IsSettled, IsFixpoint};
 ghost use Rattle.unit_propagation.specs.Propagator.{clauses_of, slot_at};
 ghost use Rattle.cdcl_core.specs.Searching.{IsSolver, Moves};
 
-use crate::load::put_next;
+use crate::load::add_at_root;
 use crate::solver::Solver;
 use cnf_form::Lit;
 use frozen_clauses::Frozen;
 use std::alloc::AllocError;
 use unit_propagation::Propagator;
 
-// Whether a clause has a true literal, or two open ones.
+// Whether unit propagation has nothing to do at a clause: it has a true literal, or two unassigned ones.
 fn is_settled(core: &Propagator, clause: &[Lit]) -> bool
     requires within { ClauseWithin core.now.vars clause.now }
     ensures { IsTrue result → IsSettled core.now.trail clause.now }
@@ -41,7 +41,7 @@ fn is_settled(core: &Propagator, clause: &[Lit]) -> bool
     false
 }
 
-// Whether a frozen clause is gone, or nothing is left to do at it.
+// Whether a frozen clause was removed, or nothing is left to do at it.
 fn is_settled_at(core: &Propagator, frozen: &Frozen, k: u32) -> bool
     requires vars { frozen.now.vars ≡ core.now.vars }
     requires clause { k < length frozen.now.slots }
@@ -67,7 +67,7 @@ pub(crate) fn are_settled(core: &Propagator, frozen: &Frozen) -> bool
 }
 
 impl Solver {
-    // Puts a frozen clause back.
+    // Thaws a frozen clause.
     pub(crate) fn thaw(&mut self, k: u32) -> Result<(), AllocError>
         requires solver { IsSolver self.old }
         requires clause { k < length self.old.frozen.slots }
@@ -85,14 +85,14 @@ impl Solver {
         let Some(clause) = self.frozen.clause(k) else {
             return Ok(());
         };
-        put_next(&mut self.core, clause)?;
+        add_at_root(&mut self.core, clause)?;
         self.learnts.push_thawed(clause.len())?;
         self.ids.thaw(k)?;
-        self.frozen.take_out(k);
+        self.frozen.remove_clause(k);
         Ok(())
     }
 
-    // Puts a frozen clause back, unless nothing is left to do at it.
+    // Thaws a frozen clause, unless nothing is left to do at it.
     fn thaw_unsettled_at(&mut self, k: u32) -> Result<(), AllocError>
         requires solver { IsSolver self.old }
         requires clause { k < length self.old.frozen.slots }
@@ -111,7 +111,7 @@ impl Solver {
         self.thaw(k)
     }
 
-    // Puts the frozen clauses back at which something is left to do.
+    // Thaws the frozen clauses at which something is left to do.
     pub(crate) fn thaw_unsettled(&mut self) -> Result<(), AllocError>
         requires solver { IsSolver self.old }
         requires level { self.old.core.limits ≡ [] }

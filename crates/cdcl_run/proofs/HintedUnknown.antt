@@ -27,7 +27,7 @@ use Rattle.lrat_check.specs.Hints.{IsHinted, Live}
 use Rattle.hint_chain.specs.Chains.{AreLive}
 use Rattle.cert_judge.specs.DrupCert.{words}
 use Rattle.cert_judge.specs.Values.{unnamed}
-use Rattle.cert_judge.specs.Lrat.{ByHints, ComesTo, Held, HintsComeTo, deleted, first_bad, ids_of}
+use Rattle.cert_judge.specs.Lrat.{ByHints, SayingsFate, Held, HintsFate, deleted, first_bad, ids_of}
 use Rattle.cert_judge.specs.LratCert.{live_without}
 use Rattle.cert_judge.specs.Fate.{Unknown}
 use Rattle.cert_judge.specs.Kinds.{IsFate}
@@ -218,14 +218,14 @@ last_lines = (codes "s" ∷ codes "UNKNOWN" ∷ []) ∷ [] ∷ []
 
 module _ (vars : ℕ) (small : vars < 2 ^ 64) (C : List (List LitOf)) where
   abbrev Comes : HeldOf → List LratSaying → Type 0
-  Comes h ss = ComesTo C (as_held h) unnamed ss (Some Unknown)
+  Comes h ss = SayingsFate C (as_held h) unnamed ss (Some Unknown)
 
   -- a clause that its hints admit, and what comes after it
   clause_comes : (h : HeldOf) (c : List LitOf) (id : ℕ) (hints : List ℕ) (got : List Hint) (place : ℕ) (ss : List LratSaying) → AreOf hints got → IsHintedAs h c id hints → c ≢ []
       → Comes (held_after h (Adds c id hints)) ss → Comes h (IsClause id c got place ∷ ss)
   clause_comes h c id hints got place ss w (above, live, by) n k =
       let rest : Type 0 = Comes (held_after h (Adds c id hints)) ss in
-      inr (above, subst (λ o. ByHints o (HintsComeTo h.live c got place rest (Some Unknown)) (Some Unknown)) (sym (w.good h.live live)) (inr (inl (subst (IsHinted h.live c) (sym w.are) by, n, k))))
+      inr (above, subst (λ o. ByHints o (HintsFate h.live c got place rest (Some Unknown)) (Some Unknown)) (sym (w.good h.live live)) (inr (inl (subst (IsHinted h.live c) (sym w.are) by, n, k))))
 
   -- a line, and what comes after it
   module _ (at : ℕ) (t u : List ℕ) (ts : List (List ℕ)) where
@@ -252,7 +252,7 @@ module _ (vars : ℕ) (small : vars < 2 ^ 64) (C : List (List LitOf)) where
     deletion_line h c id e b i live k =
         let s = deletion_said vars small broken going more (words_from true at [] t) id (done_all at [] t) (line_texts true at t ∙ e) (b.low id c live) i in
         let same : deleted (as_held h) s.0 ≡ as_held (held_after h (Drops c id)) = ap (λ z. record { live = z; last = h.last }) (without_ids h.live s.0 ∙ ap (live_without h.live) s.1) in
-        subst (Comes h) (sym s.2) (subst (λ (F : Held). ComesTo C F unnamed more (Some Unknown)) (sym same) k)
+        subst (Comes h) (sym s.2) (subst (λ (F : Held). SayingsFate C F unnamed more (Some Unknown)) (sym same) k)
 
   lines_come : (at : ℕ) (h k : HeldOf) (ls : List LogLine) (us : List (List ℕ)) → map words us ≡ map hinted_words ls ++ last_lines → AreHinted h ls k → IsBounded h → AreProperLines vars ls → AreFilled ls
       → Comes h (lines_say vars true false at us)
@@ -298,4 +298,4 @@ hinted_unknown_fate job stream budget most w l =
     let b = bounded_first f.clauses in
     let read = hinted_lines f.vars small first s.held w.lines unknown_line s.hinted b s.proper in
     let c = lines_come f.vars small f.clauses 0 first s.held w.lines (lines_of (hinted_text w.lines ++ unknown_line)) read s.hinted b s.proper (filled w.lines (logged_full s.logged)) in
-    (f, d, record { within = λ h. inl (subst (λ z. ComesTo f.clauses (as_held first) unnamed (lines_say f.vars true false 0 (lines_of z)) (Some Unknown)) (sym w.is) c); beyond = λ b. absurd (omega (arith, b, l)) })
+    (f, d, record { within = λ h. inl (subst (λ z. SayingsFate f.clauses (as_held first) unnamed (lines_say f.vars true false 0 (lines_of z)) (Some Unknown)) (sym w.is) c); beyond = λ b. absurd (omega (arith, b, l)) })

@@ -14,7 +14,7 @@ use Rattle.cert_stream.proofs.Apart.{fed_lines, list_line}
 use Rattle.cert_stream.proofs.Streams.{some_line}
 use Rattle.cert_judge.specs.DrupCert.{words, Writes, IsEnded}
 use Rattle.cert_judge.specs.Values.{unnamed}
-use Rattle.cert_judge.specs.Drup.{ComesTo}
+use Rattle.cert_judge.specs.Drup.{SayingsFate}
 use Rattle.cert_judge.specs.Fate.{Unknown}
 use Rattle.cert_judge.specs.Kinds.{IsFate}
 use Rattle.cert_judge.specs.declared.stream.StreamKind.TheVariants.{Drup as DrupKind}
@@ -33,7 +33,7 @@ none_heard (l ∷ lits) = none_heard lits
 
 module _ (vars : ℕ) (small : vars < 2 ^ 64) (C : List (List LitOf)) where
   abbrev Comes : List (List LitOf) → List Saying → Type 0
-  Comes F ss = ComesTo C F unnamed ss (Some Unknown)
+  Comes F ss = SayingsFate C F unnamed ss (Some Unknown)
 
   -- what a clause's line says, and a deletion's, each with a line feed after it
   module _ (at : ℕ) (t : List ℕ) (broken going more : List Saying) where
@@ -119,4 +119,4 @@ unknown_fate job stream budget most w l =
     let d = s.is_formula in
     let small : f.vars < 2 ^ 64 = (let h = d.limit in omega (arith, h)) in
     let c = lines_come f.vars small f.clauses 0 w.proof f.clauses s.present (logged_drup s.logged) s.proper (logged_full s.logged) in
-    (f, d, record { within = λ h. inl (subst (λ z. ComesTo f.clauses f.clauses unnamed (lines_say f.vars true false 0 (lines_of z)) (Some Unknown)) (sym w.is) c); beyond = λ b. absurd (omega (arith, b, l)) })
+    (f, d, record { within = λ h. inl (subst (λ z. SayingsFate f.clauses f.clauses unnamed (lines_say f.vars true false 0 (lines_of z)) (Some Unknown)) (sym w.is) c); beyond = λ b. absurd (omega (arith, b, l)) })

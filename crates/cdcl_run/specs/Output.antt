@@ -20,7 +20,7 @@ pub record OutputOf : Type 0 where
   pub faults : ℕ
   pub gathered : List ℕ
 
--- the text was put: of what was gathered and the text a first part was written, and the rest is gathered; no call failed
+-- the text was taken: of what was gathered and the text a first part was written, and the rest is gathered; no call failed
 pub record Puts (old new : OutputOf) (text : List ℕ) : Type 0 where
   pub written : List ℕ
   pub taken : new.taken ≡ grown old.taken written

@@ -18,7 +18,7 @@ ghost use Rattle.cdcl_run.specs.Serving.{Connection, DoorOf, Passed, Ran, opened
 
 use cnf_form::dimacs_faults_are_decided;
 
-/// A stream that says that it doesn't know, with hints or without, all of whose bytes are taken, comes to nothing else: its fate is Unknown.
+/// A stream that says that it doesn't know, with hints or without, all of whose bytes are taken, has no other result: its fate is Unknown.
 pub fn unknown_streams_are_unknown()
     ensures plain { (job stream : List ℕ) (budget most : ℕ) → IsUnknownStream job budget stream → length stream ≤ most → IsFate Drup job stream most Unknown }
     ensures hinted { (job stream : List ℕ) (budget most : ℕ) → IsHintedUnknownStream job budget stream → length stream ≤ most → IsFate Lrat job stream most Unknown }

@@ -25,7 +25,7 @@ impl Model for Piece {
 }
 
 impl Piece {
-    /// No byte yet.
+    /// A piece without bytes.
     pub fn new(alloc: Global) -> Result<Self, AllocError>
         ensures { IfOk result (λ piece. piece ≡ []) }
     {
@@ -41,14 +41,14 @@ impl Piece {
         &self.bytes
     }
 
-    /// Begins again.
+    /// Removes all bytes.
     pub fn clear(&mut self)
         ensures { self.new ≡ [] }
     {
         self.bytes.clear();
     }
 
-    /// Gathers as much of a text as there is room for. How much.
+    /// Gathers as much of a text as there is room for. Returns how much.
     pub fn gather(&mut self, text: &[u8]) -> usize
         ensures fits { result ≤ length text.now }
         ensures gathered { self.new ≡ self.old ++ take result text.now }

@@ -38,7 +38,7 @@ const FAULT: u8 = 1;
 
 pub(crate) const OUT_OF_MEMORY: u8 = 32;
 
-/// Writes a line alone. The exit status is 1, also where a call fails.
+/// Writes a line alone. Returns the exit status 1, also where a call fails.
 pub fn refuse<S: Sink>(sink: &mut S, line: &[u8]) -> u8
     ensures exit { result ≡ 1 }
     ensures line { (told : _) (faults : ℕ) → Writes
@@ -69,7 +69,7 @@ pub fn fault_line(alloc: Global, fault: DimacsFault) -> Result<String, AllocErro
     format!(in alloc; "c fault: byte {byte} {kind}\n")
 }
 
-// Gathers how the stream of an answer for a formula of this many variables ends. The exit status.
+// Gathers how the stream of an answer for a formula of this many variables ends. Returns the exit status.
 fn put_end<S: Sink>(
     sink: &mut S,
     piece: &mut Piece,
@@ -102,7 +102,7 @@ fn put_end<S: Sink>(
     }
 }
 
-// Writes how the stream of an answer for a formula of this many variables ends. The exit status.
+// Writes how the stream of an answer for a formula of this many variables ends. Returns the exit status.
 fn finish<S: Sink>(
     sink: &mut S,
     piece: &mut Piece,
@@ -196,7 +196,7 @@ fn tell_fault<S: Sink>(alloc: Global, fault: DimacsFault, sink: &mut S) -> Resul
     Ok(FAULT)
 }
 
-// Writes the stream for the bytes of a file, whose memory is given back before the search. The exit status where it was written whole.
+// Writes the stream for the bytes of a file, whose memory is given back before the search. Returns the exit status where it was written whole.
 pub(crate) fn write_stream<S: Sink>(
     alloc: Global,
     bytes: Vec<u8>,

@@ -67,7 +67,7 @@ fn status_after(status: u8, served: Served) -> u8
     }
 }
 
-// Serves that many connections that come to an address. The exit status.
+// Serves that many connections that come to an address. Returns the exit status.
 #[tactic(auto, using(crate::proofs::Connections::passed_push, crate::proofs::Connections::exit_push, crate::proofs::Connections::no_exit, crate::proofs::Connections::shut, crate::proofs::Connections::unopened))]
 pub(crate) fn serve_all<D: Door>(
     alloc: Global,

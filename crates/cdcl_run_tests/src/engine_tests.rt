@@ -115,7 +115,7 @@ fn first_wrong<H: Threads + Wait + SystemClock + Sync + Alloc<A = Global>>(
     Ok(None)
 }
 
-// A counter of two bits that must not come to 3.
+// A counter of two bits that must not reach 3.
 const COUNTED: &str = r"module \t
   wire input 1 \clk
   attribute \init 2'00

@@ -74,7 +74,7 @@ pub record HasHeader (bytes : List ℕ) (V C : ℕ) (body : List ℕ) : Type 0 w
   pub count_next : Finds false after_vars count_word body
   pub count : IsNumber count_word C
 
--- what the words after a header come to: clauses, an unfinished clause, or a word that is no literal, with the text from it
+-- what the words after a header are: clauses, an unfinished clause, or a word that is no literal, with the text from it
 pub data Body : Type 0 where
   Clauses : List (List LitOf) → Body
   Unfinished : Body

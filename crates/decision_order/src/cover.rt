@@ -1,8 +1,8 @@
-// The clauses that a walk looks at, and which of them have a literal. Nothing is promised of it.
+// The clauses that local search looks at, and which of them have a literal. Nothing is promised of it.
 
 ghost use Rattle.cnf_form.specs.Cnf.{ClauseWithin};
 
-use crate::open::is_satisfied;
+use crate::unassigned::is_satisfied;
 use cnf_form::Lit;
 use std::alloc::{AllocError, Global};
 use unit_propagation::Propagator;
@@ -39,8 +39,8 @@ fn start_of(ends: &[u32], number: usize) -> usize {
     }
 }
 
-// The clauses that level 0 leaves open, without their false literals, one after the other, and where each ends. The numbers of the
-// clauses of each literal, in the order of the literals' places, and where those of each end.
+// The clauses that level 0 doesn't satisfy, without their false literals, one after the other, and where each ends. The numbers of the
+// clauses of each literal, in the order of the literals' indices, and where those of each end.
 #[derive(Drop)]
 pub(crate) struct Cover {
     lits: Vec<Lit>,

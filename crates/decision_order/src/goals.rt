@@ -4,9 +4,9 @@
 
 ghost use Rattle.std.specs.Prelude.{◌≤◌, IfSome};
 ghost use Rattle.cnf_form.specs.Cnf.{LitWithin};
-ghost use Rattle.unit_propagation.specs.Propagation.{IsOpen};
+ghost use Rattle.unit_propagation.specs.Propagation.{IsUnassigned};
 
-use crate::open::is_open;
+use crate::unassigned::is_unassigned;
 use cnf_form::Lit;
 use unit_propagation::Propagator;
 
@@ -43,7 +43,7 @@ impl Goals {
         }
     }
 
-    /// One more conflict.
+    /// Counts one more conflict.
     pub fn count(&mut self) {
         self.conflicts = self.conflicts.saturating_add(1);
         if self.conflicts > GOAL_CONFLICTS {
@@ -51,14 +51,14 @@ impl Goals {
         }
     }
 
-    /// Goals are decided no more.
+    /// Goals aren't decided any more.
     pub fn end(&mut self) {
         self.is_over = true;
     }
 
-    /// The first goal that isn't refuted, if it is open.
+    /// The first goal that isn't refuted, if it is unassigned.
     pub fn next(&mut self, core: &Propagator, goals: &[Lit]) -> Option<Lit>
-        ensures { IfSome result (λ l. LitWithin core.now.vars l × IsOpen core.now.trail l) }
+        ensures { IfSome result (λ l. LitWithin core.now.vars l × IsUnassigned core.now.trail l) }
     {
         if self.is_over {
             return None;
@@ -68,7 +68,7 @@ impl Goals {
             if l.var() == 0 || l.var() > core.vars() {
                 return None;
             }
-            if is_open(core, l) {
+            if is_unassigned(core, l) {
                 return Some(l);
             }
             if !is_refuted(core, l) {

@@ -1,17 +1,17 @@
-//! The order in which variables are decided, and the signs that they are decided by. Of neither is anything promised.
+//! The order in which variables are decided, and the phases that they are decided by. Of neither is anything promised.
 #![tactic(auto)]
 
 mod cover;
 mod goals;
+mod local_search;
 mod lucky;
-mod open;
 mod order;
 mod queue;
-mod walk;
-mod walks;
+mod rephasing;
+mod unassigned;
 mod weights;
 
+pub use crate::local_search::rephase_by_local_search;
 pub use crate::lucky::Lucky;
-pub use crate::open::{is_open, is_satisfied, open_of};
 pub use crate::order::Order;
-pub use crate::walk::find_signs;
+pub use crate::unassigned::{is_satisfied, is_unassigned, unassigned_in};

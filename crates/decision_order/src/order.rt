@@ -7,7 +7,7 @@ ghost use Rattle.std.specs.Prelude.{◌<◌};
 use crate::goals::Goals;
 use crate::lucky::Lucky;
 use crate::queue::Queue;
-use crate::walks::Walks;
+use crate::rephasing::Rephasing;
 use cnf_form::Lit;
 use std::alloc::{AllocError, Global};
 use unit_propagation::Propagator;
@@ -26,7 +26,7 @@ pub struct Order {
     heap: Vec<u32>,
     places: Vec<u32>,
     activities: Vec<u64>,
-    signs: Vec<bool>,
+    phases: Vec<bool>,
     queue: Queue,
     has_queue: bool,
     step: u64,
@@ -36,7 +36,7 @@ pub struct Order {
     stretches: u32,
     targets: Vec<bool>,
     longest: usize,
-    pub(crate) walks: Walks,
+    pub(crate) rephasing: Rephasing,
 }
 
 impl Order {
@@ -51,13 +51,13 @@ impl Order {
             places.push(place)?;
         }
         let activities = vec![in alloc; 0; vars as usize + 1]?;
-        let signs = vec![in alloc; true; vars as usize + 1]?;
+        let phases = vec![in alloc; true; vars as usize + 1]?;
         let targets = vec![in alloc; true; vars as usize + 1]?;
         Ok(Order {
             heap,
             places,
             activities,
-            signs,
+            phases,
             queue: Queue::new(alloc, vars)?,
             has_queue: has_goal,
             step: 1 << 20,
@@ -67,7 +67,7 @@ impl Order {
             stretches: 0,
             targets,
             longest: 0,
-            walks: Walks::new(),
+            rephasing: Rephasing::new(),
         })
     }
 
@@ -76,53 +76,54 @@ impl Order {
         self.heap.len()
     }
 
-    /// Whether a variable is to be false: its phase (Pipatsrisawat and Darwiche, 2007), or target phase (Biere and Fleury, 2020): as it was on the longest trail of a stretch in stable mode, else as it was last.
-    pub fn sign(&self, var: u32) -> bool {
-        let sign = if self.stable {
+    /// Whether a variable is to be false: its phase (Pipatsrisawat and Darwiche, 2007), which is as it was last; in stable mode its target
+    /// phase (Biere and Fleury, 2020), which is as it was on the longest trail of the stretch.
+    pub fn phase(&self, var: u32) -> bool {
+        let phase = if self.stable {
             self.targets.get(var as usize)
         } else {
-            self.signs.get(var as usize)
+            self.phases.get(var as usize)
         };
-        match sign {
-            Some(sign) => *sign,
+        match phase {
+            Some(phase) => *phase,
             None => true,
         }
     }
 
     /// A stretch in stable mode, or focused mode, goes on or begins. Some in stable mode begin with all variables true (rephasing:
-    /// Biere and Fleury, 2020), the others with the signs that variables had last.
+    /// Biere and Fleury, 2020), the others with the phases that variables had last.
     pub fn set_stable(&mut self, stable: bool) {
         if stable && !self.stable {
             self.longest = 0;
             self.stretches = self.stretches.saturating_add(1);
             let turned = self.stretches % TURNED == 4;
             for index in 0..self.targets.len() {
-                if index < self.signs.len() {
-                    self.targets[index] = !turned && self.signs[index];
+                if index < self.phases.len() {
+                    self.targets[index] = !turned && self.phases[index];
                 }
             }
         }
         self.stable = stable;
     }
 
-    /// Whether the walk is to begin or to go on, once guesses are over.
-    pub fn wants_walk(&self) -> bool {
-        self.walks.is_due() && !self.lucky.is_left()
+    /// Whether local search is to begin or to go on, once guesses are over.
+    pub fn wants_local_search(&self) -> bool {
+        self.rephasing.is_due() && !self.lucky.is_left()
     }
 
-    /// Whether it is to begin.
-    pub fn wants_first_walk(&self) -> bool {
-        self.wants_walk() && self.walks.count() == 0
+    /// Whether local search is to begin.
+    pub fn wants_first_local_search(&self) -> bool {
+        self.wants_local_search() && self.rephasing.count() == 0
     }
 
-    /// Variables are decided by these signs. Nothing comes first where they satisfy all clauses.
-    pub fn follow(&mut self, signs: &[bool], satisfy: bool) {
-        for index in 0..signs.len() {
-            if index < self.signs.len() {
-                self.signs[index] = signs[index];
+    /// Sets the phases of variables. Goals don't come first any more where these satisfy all clauses.
+    pub fn set_phases(&mut self, phases: &[bool], satisfy: bool) {
+        for index in 0..phases.len() {
+            if index < self.phases.len() {
+                self.phases[index] = phases[index];
             }
             if index < self.targets.len() {
-                self.targets[index] = signs[index];
+                self.targets[index] = phases[index];
             }
         }
         if satisfy {
@@ -130,7 +131,7 @@ impl Order {
         }
     }
 
-    /// Keeps the signs of these true literals, where they are the most of a stretch in stable mode.
+    /// Keeps the phases of these true literals, where they are the most of a stretch in stable mode.
     pub fn save_target(&mut self, lits: &[Lit]) {
         if !self.stable || lits.len() <= self.longest {
             return;
@@ -219,7 +220,7 @@ impl Order {
         self.set(place, var);
     }
 
-    /// Takes the most active variable out, or answers 0.
+    /// Removes the most active variable from the heap, and returns it, or 0.
     pub fn pop(&mut self) -> u32 {
         let top = self.at(0);
         if let Some(last) = self.heap.pop() {
@@ -234,13 +235,13 @@ impl Order {
         top
     }
 
-    /// A variable is open again, with the sign that it had, unless that was guessed.
-    pub fn unassign(&mut self, var: u32, sign: bool) -> Result<(), AllocError> {
+    /// A variable is unassigned again: keeps the phase that it had, unless that was guessed.
+    pub fn unassign(&mut self, var: u32, phase: bool) -> Result<(), AllocError> {
         let index = var as usize;
-        self.walks.open();
+        self.rephasing.count_unassigned();
         self.queue.unassign(var);
-        if index < self.signs.len() && !self.lucky.is_left() {
-            self.signs[index] = sign;
+        if index < self.phases.len() && !self.lucky.is_left() {
+            self.phases[index] = phase;
         }
         if index < self.places.len() && self.places[index] == NO_PLACE {
             let place = self.heap.len();
@@ -257,7 +258,7 @@ impl Order {
         self.has_queue && !self.stable
     }
 
-    /// The open variable that comes first, where the queue decides, else 0.
+    /// The unassigned variable that comes first, where the queue decides, else 0.
     pub fn front(&mut self, core: &Propagator) -> u32 {
         if !self.is_by_queue() {
             return 0;

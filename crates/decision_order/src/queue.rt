@@ -4,7 +4,7 @@
 ghost use Rattle.std.specs.Prelude.{◌<◌};
 
 use crate::cover::{at, set};
-use crate::open::is_open;
+use crate::unassigned::is_unassigned;
 use cnf_form::Lit;
 use std::alloc::{AllocError, Global};
 use unit_propagation::Propagator;
@@ -64,21 +64,21 @@ impl Queue {
         })
     }
 
-    // A variable is open again.
+    // A variable is unassigned again.
     pub fn unassign(&mut self, var: u32) {
         if stamp_of(&self.stamps, var) > stamp_of(&self.stamps, self.next) {
             self.next = var;
         }
     }
 
-    // The open variable that was moved last, or 0.
+    // The unassigned variable that was moved last, or 0.
     pub fn front(&mut self, core: &Propagator) -> u32 {
         let mut var = self.next;
         for _ in 0..core.vars() {
             if var == 0 || var > core.vars() {
                 break;
             }
-            if is_open(core, Lit::new(var, false)) {
+            if is_unassigned(core, Lit::new(var, false)) {
                 self.next = var;
                 return var;
             }

@@ -1,9 +1,9 @@
-// Signs by weight, for formulas that are too large for the walk: a variable is decided as more of its clauses have it, and a clause
-// counts half as much for each literal more that it has (Jeroslow and Wang). Nothing is promised of it.
+// Phases by weight, for formulas that are too large for local search: a variable is decided as more of its clauses have it, and a
+// clause counts half as much for each literal more that it has (Jeroslow and Wang, 1990). Nothing is promised of it.
 
 use crate::cover::{at, set};
-use crate::open::is_satisfied;
 use crate::order::Order;
+use crate::unassigned::is_satisfied;
 use cnf_form::Lit;
 use std::alloc::{AllocError, Global};
 use unit_propagation::Propagator;
@@ -23,7 +23,7 @@ fn weight_of(length: usize) -> u32 {
     weight
 }
 
-// The weights of the literals, by their places, over the first clauses that level 0 leaves open, this many.
+// The weights of the literals, by their indices, over those of the first clauses, this many, that level 0 doesn't satisfy.
 fn weigh(alloc: Global, core: &Propagator, given: usize) -> Result<Vec<u32>, AllocError> {
     let mut weights = vec![in alloc; 0; 2 * core.vars() as usize + 2]?;
     for k in 0..core.len() {
@@ -43,20 +43,20 @@ fn weigh(alloc: Global, core: &Propagator, given: usize) -> Result<Vec<u32>, All
     Ok(weights)
 }
 
-// At level 0: variables are decided by the sign of the heavier literal from then on.
-pub(crate) fn follow_weights(
+// At level 0: sets the phase of each variable to that of its heavier literal.
+pub(crate) fn set_phases_by_weight(
     alloc: Global,
     core: &Propagator,
     given: usize,
     order: &mut Order,
 ) -> Result<(), AllocError> {
     let weights = weigh(alloc, core, given)?;
-    let mut signs = Vec::new(alloc);
-    signs.push(true)?;
+    let mut phases = Vec::new(alloc);
+    phases.push(true)?;
     for place in 0..core.vars() {
         let l = Lit::new(place + 1, false);
-        signs.push(at(&weights, l.negate().index()) >= at(&weights, l.index()))?;
+        phases.push(at(&weights, l.negate().index()) >= at(&weights, l.index()))?;
     }
-    order.follow(&signs, false);
+    order.set_phases(&phases, false);
     Ok(())
 }

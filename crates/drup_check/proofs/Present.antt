@@ -8,7 +8,7 @@ use Rattle.cnf_form.specs.Cnf.{LitOf, SameClause, Conflict, IsReason, Removes, f
 use Rattle.cnf_form.proofs.Members.{take_one_more, Contains-empty}
 use Rattle.cnf_form.proofs.Removal.{Closure-monotone, Closure-without, Removes-cases}
 use Rattle.unit_propagation.specs.Propagation.{HasFalsified, IsDerived}
-use Rattle.unit_propagation.specs.Propagator.{PropagatorOf, clauses_of, present, slot_at, IsPut, IsWanting}
+use Rattle.unit_propagation.specs.Propagator.{PropagatorOf, clauses_of, present, slot_at, IsAdded, IsOutOfMemory}
 use Rattle.drup_check.specs.Marks.{HasPlaces, Weighs, weight}
 use Rattle.drup_check.specs.Copies.{CopiesOf, Holds, beginning, after}
 use Rattle.drup_check.specs.Inside.{IsRoot, IsFree, IsFiled, Keeps}
@@ -48,12 +48,12 @@ module _ (F G : List (List LitOf)) (more : (c : List LitOf) → Contains F c →
   falsified_more : HasFalsified t F → HasFalsified t G
   falsified_more w = (w.0, more w.0 w.1, w.2)
 
-module _ (p q : PropagatorOf) (c : List LitOf) (r : IsRoot p) (w : IsPut p c q) where
+module _ (p q : PropagatorOf) (c : List LitOf) (r : IsRoot p) (w : IsAdded p c q) where
   more : (d : List LitOf) → Contains (clauses_of p.slots) d → Contains (clauses_of q.slots) d
   more d h = subst (λ z. Contains z d) (sym (ap clauses_of w.slots ∙ clauses_push p.slots c)) (Contains-append_left (clauses_of p.slots) (c ∷ []) d h)
 
-  pub root_put : IsRoot q
-  root_put = record { level = w.limits ∙ r.level; derived = derived; falsified = falsified }
+  pub root_added : IsRoot q
+  root_added = record { level = w.limits ∙ r.level; derived = derived; falsified = falsified }
     where
       derived : IsDerived (clauses_of q.slots) q.trail
       derived = elim (cases_Bool p.conflict) [
@@ -67,9 +67,9 @@ module _ (p q : PropagatorOf) (c : List LitOf) (r : IsRoot p) (w : IsPut p c q) 
         | inr n ↦ w.falsified n e
       ]
 
-  pub filed_put : (t t' : CopiesOf) (h n : ℕ) → IsFiled p t → ((a k : ℕ) → Holds t a k → Holds t' a k) → n ≡ length p.slots
+  pub filed_added : (t t' : CopiesOf) (h n : ℕ) → IsFiled p t → ((a k : ℕ) → Holds t a k → Holds t' a k) → n ≡ length p.slots
       → t'.count ≡ n + 1 → n < length t'.nexts → Weighs c h → Holds t' h n → IsFiled q t'
-  filed_put t t' h n f keeps size count place weighs held = record { each = each; counted = omega (arith, size, count, grown); placed = omega (arith, size, place, grown) }
+  filed_added t t' h n f keeps size count place weighs held = record { each = each; counted = omega (arith, size, count, grown); placed = omega (arith, size, place, grown) }
     where
       grown : length q.slots ≡ length p.slots + 1
       grown = ap length w.slots ∙ length_push p.slots (Some c)
@@ -86,24 +86,24 @@ module _ (p q : PropagatorOf) (c : List LitOf) (r : IsRoot p) (w : IsPut p c q) 
                 (v.0, v.1, keeps v.0 k v.2)
           ]
 
-module _ (p q : PropagatorOf) (w : IsWanting p q) where
-  pub clauses_wanting : clauses_of q.slots ≡ clauses_of p.slots
-  clauses_wanting = elim w.0 [ inl e ↦ ap clauses_of e | inr e ↦ ap clauses_of e ∙ clauses_none p.slots ]
+module _ (p q : PropagatorOf) (w : IsOutOfMemory p q) where
+  pub clauses_out_of_memory : clauses_of q.slots ≡ clauses_of p.slots
+  clauses_out_of_memory = elim w.0 [ inl e ↦ ap clauses_of e | inr e ↦ ap clauses_of e ∙ clauses_none p.slots ]
 
-  slots_of_wanting : (r : PropagatorOf) → r ≡ record p { slots = q.slots } → (r.vars ≡ p.vars) × (r.limits ≡ p.limits) × (r.trail ≡ p.trail) × (r.conflict ≡ p.conflict)
-  slots_of_wanting r e = (ap (λ (z : PropagatorOf). z.vars) e, ap (λ (z : PropagatorOf). z.limits) e, ap (λ (z : PropagatorOf). z.trail) e, ap (λ (z : PropagatorOf). z.conflict) e)
+  slots_of_out_of_memory : (r : PropagatorOf) → r ≡ record p { slots = q.slots } → (r.vars ≡ p.vars) × (r.limits ≡ p.limits) × (r.trail ≡ p.trail) × (r.conflict ≡ p.conflict)
+  slots_of_out_of_memory r e = (ap (λ (z : PropagatorOf). z.vars) e, ap (λ (z : PropagatorOf). z.limits) e, ap (λ (z : PropagatorOf). z.trail) e, ap (λ (z : PropagatorOf). z.conflict) e)
 
-  pub root_wanting : IsRoot p → IsRoot q
-  root_wanting r =
-      let s = slots_of_wanting q w.1 in
+  pub root_out_of_memory : IsRoot p → IsRoot q
+  root_out_of_memory r =
+      let s = slots_of_out_of_memory q w.1 in
       record {
         level = s.1 ∙ r.level;
-        derived = subst (λ z. IsDerived z q.trail) (sym clauses_wanting) (subst (IsDerived (clauses_of p.slots)) (sym s.2) r.derived);
-        falsified = λ e. subst (HasFalsified q.trail) (sym clauses_wanting) (subst (λ z. HasFalsified z (clauses_of p.slots)) (sym s.2) (r.falsified (sym s.3 ∙ e)));
+        derived = subst (λ z. IsDerived z q.trail) (sym clauses_out_of_memory) (subst (IsDerived (clauses_of p.slots)) (sym s.2) r.derived);
+        falsified = λ e. subst (HasFalsified q.trail) (sym clauses_out_of_memory) (subst (λ z. HasFalsified z (clauses_of p.slots)) (sym s.2) (r.falsified (sym s.3 ∙ e)));
       }
 
-  pub filed_wanting : (t t' : CopiesOf) → ((a k : ℕ) → Holds t a k → Holds t' a k) → t'.count ≡ t.count → length t'.nexts ≡ length t.nexts + 1 → IsFiled p t → IsFiled q t'
-  filed_wanting t t' keeps count place f = record { each = each; counted = omega (arith, count, f.counted, grown.0); placed = omega (arith, place, f.placed, grown.1) }
+  pub filed_out_of_memory : (t t' : CopiesOf) → ((a k : ℕ) → Holds t a k → Holds t' a k) → t'.count ≡ t.count → length t'.nexts ≡ length t.nexts + 1 → IsFiled p t → IsFiled q t'
+  filed_out_of_memory t t' keeps count place f = record { each = each; counted = omega (arith, count, f.counted, grown.0); placed = omega (arith, place, f.placed, grown.1) }
     where
       grown : (length p.slots ≤ length q.slots) × (length q.slots ≤ length p.slots + 1)
       grown = elim w.0 [
@@ -135,7 +135,7 @@ module _ (slots : List (Option (List LitOf))) (k : ℕ) (room : k < length slots
   pub clauses_same : slot_at slots k ≡ None → clauses_of (take (k + 1) slots) ≡ clauses_of (take k slots)
   clauses_same e = ap clauses_of (take_one_more slots k None room (sym e)) ∙ clauses_none (take k slots)
 
--- a clause is taken out that is no reason
+-- a clause is removed that is no reason
 module _ (p : PropagatorOf) (k : ℕ) (c d : List LitOf) (at : slot_at p.slots k ≡ Some d) (same : SameClause c d) where
   abbrev without : PropagatorOf
   without = record p { slots = set p.slots k None }
@@ -203,22 +203,22 @@ filed_none p t k at f j d b e =
       | inr ne ↦ f j d (omega (arith, b, ne)) e
     ]
 
-pub checker_wanting : (p q : PropagatorOf) (t t' : CopiesOf) (marks others : List Bool) → IsWanting p q → ((a k : ℕ) → Holds t a k → Holds t' a k)
+pub checker_out_of_memory : (p q : PropagatorOf) (t t' : CopiesOf) (marks others : List Bool) → IsOutOfMemory p q → ((a k : ℕ) → Holds t a k → Holds t' a k)
     → t'.count ≡ t.count → length t'.nexts ≡ length t.nexts + 1 → IsRoot p → IsFree (clauses_of p.slots) marks → IsFree (clauses_of p.slots) others → IsFiled p t
     → IsRoot q × IsFree (clauses_of q.slots) marks × IsFree (clauses_of q.slots) others × IsFiled q t'
-checker_wanting p q t t' marks others w keeps count place r m o f =
-    let e = sym (clauses_wanting p q w) in
-    (root_wanting p q w r, subst (λ F. IsFree F marks) e m, subst (λ F. IsFree F others) e o, filed_wanting p q w t t' keeps count place f)
+checker_out_of_memory p q t t' marks others w keeps count place r m o f =
+    let e = sym (clauses_out_of_memory p q w) in
+    (root_out_of_memory p q w r, subst (λ F. IsFree F marks) e m, subst (λ F. IsFree F others) e o, filed_out_of_memory p q w t t' keeps count place f)
 
-pub checker_put : (p q : PropagatorOf) (c : List LitOf) (t t' : CopiesOf) (marks others : List Bool) (h n : ℕ) → IsPut p c q → ((a k : ℕ) → Holds t a k → Holds t' a k)
+pub checker_added : (p q : PropagatorOf) (c : List LitOf) (t t' : CopiesOf) (marks others : List Bool) (h n : ℕ) → IsAdded p c q → ((a k : ℕ) → Holds t a k → Holds t' a k)
     → n ≡ length p.slots → t'.count ≡ n + 1 → n < length t'.nexts → Weighs c h → Holds t' h n → IsRoot p → HasPlaces marks c → HasPlaces others c
     → IsFree (clauses_of p.slots) marks → IsFree (clauses_of p.slots) others → IsFiled p t → IsRoot q × IsFree (clauses_of q.slots) marks × IsFree (clauses_of q.slots) others × IsFiled q t'
-checker_put p q c t t' marks others h n w keeps size count place weighs held r in_marks in_others m o f =
+checker_added p q c t t' marks others h n w keeps size count place weighs held r in_marks in_others m o f =
     let e = sym (ap clauses_of w.slots ∙ clauses_push p.slots c) in (
-      root_put p q c r w,
+      root_added p q c r w,
       subst (λ F. IsFree F marks) e (free_push (clauses_of p.slots) c marks in_marks m),
       subst (λ F. IsFree F others) e (free_push (clauses_of p.slots) c others in_others o),
-      filed_put p q c r w t t' h n f keeps size count place weighs held,
+      filed_added p q c r w t t' h n f keeps size count place weighs held,
     )
 
 pub checker_of : (v v' : ℕ) (F G : List (List LitOf)) (r o : Bool) → v ≡ v' → F ≡ G → (let k : CheckerOf = record { vars = v; clauses = F; refuted = r; out_of_memory = o } in k) ≡ record { vars = v'; clauses = G; refuted = r; out_of_memory = o }

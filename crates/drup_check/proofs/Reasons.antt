@@ -52,7 +52,7 @@ taken : (c : List LitOf) (i : ℕ) (l : LitOf) → Contains (take i c) l → Con
 taken c i l h = subst (λ z. Contains z l) (take-append-drop i c) (Contains-append_left (take i c) (drop i c) l h)
 
 module _ (F : List (List LitOf)) (t : List LitOf) (c : List LitOf) (ok : IsConsistent t) (fix : IsFixpoint t F) where
-  -- a literal that is open, or a second true one
+  -- an unassigned literal, or a second true one
   pub no_reason_open : (l : LitOf) → Contains c l → (Contains t l → ⊥) → (Contains t (negate l) → ⊥) → IsReason F c → ⊥
   no_reason_open l h not_on not_off w =
       let r = reason_on F t fix c w in

@@ -21,6 +21,6 @@ sum_from place (b ∷ bs) = (if b then scattered place else 0) + sum_from (place
 abbrev pub weight : List Bool → ℕ
 weight marks = sum_from 0 marks % 2 ^ 32
 
--- each table of the literals of the clause weighs so much
+-- each table of the literals of the clause has this weight
 pub record Weighs (c : List LitOf) (h : ℕ) : Type 0 where
   pub each : (marks : List Bool) → Shows marks c → weight marks ≡ h

@@ -36,7 +36,7 @@ pub(crate) fn reaches_conflict(
     negate_all(clause, negated)?;
     let _outcome = core.assume(negated)?;
     let conflict = core.conflict();
-    core.undo(0);
+    core.backtrack(0);
     Ok(conflict)
 }
 

@@ -31,7 +31,7 @@ impl Model for Copies {
 }
 
 impl Copies {
-    // Without entries: this many chains, and places for this many clauses.
+    // Copies without entries: this many chains, and places for this many clauses.
     pub fn new(alloc: Global, chains: usize, clauses: usize) -> Result<Self, AllocError>
         requires { 0 < chains }
         ensures count { IfOk result (λ t. t.count ≡ 0) }

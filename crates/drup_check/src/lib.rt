@@ -32,10 +32,10 @@ pub enum Added {
 // A checker begins with this many chains of clauses.
 const CHAINS: usize = 64;
 
-// As many literals of deleted clauses keep their place at least.
+// The memory of at least this many literals of deleted clauses is kept.
 const FEW: usize = 65_536;
 
-// How many literals the clause with a number has; none where it isn't present.
+// How many literals the clause with a number has: 0 where it isn't present.
 fn literals(core: &Propagator, k: u32) -> usize {
     if k as usize >= core.len() {
         return 0;
@@ -130,7 +130,7 @@ impl Checker {
         let weight = weigh(clause, &mut self.marks);
         self.copies.make_place()?;
         let k = self.core.len() as u32;
-        self.core.put(clause)?;
+        self.core.add_clause(clause)?;
         self.copies.enter(weight, k);
         self.live = self.live.saturating_add(clause.len());
         Ok(())
@@ -161,7 +161,7 @@ impl Checker {
         reaches_conflict(&mut self.core, clause, &mut self.negated)
     }
 
-    // The clause, if it is admitted, is kept.
+    // Keeps a clause if it is admitted.
     fn judge(&mut self, clause: &[Lit]) -> Result<Added, AllocError>
         requires { ClauseWithin self.old.vars clause.now }
         ensures exact { IfOk result (λ v. (v ≡ Added.Admitted) ↔ IsAdmitted self.old.clauses clause.now) }
@@ -185,7 +185,7 @@ impl Checker {
         ensures admitted { result ≡ Ok Added.Admitted → self.new ≡ with_clause self.old clause.now }
         ensures not_rup { result ≡ Ok Added.NotRup → self.new ≡ self.old }
         ensures err { OnErr result (self.new ≡ record self.old { out_of_memory = true }) }
-        ensures wanting { IsTrue self.old.out_of_memory → IsErr result }
+        ensures stays { IsTrue self.old.out_of_memory → IsErr result }
     {
         if self.out_of_memory {
             return Err(AllocError);
@@ -200,7 +200,7 @@ impl Checker {
         Ok(added)
     }
 
-    // Deletes one copy of a clause, whose literals keep their place.
+    // Deletes one copy of a clause. The memory of its literals is kept.
     fn drop_copy(&mut self, clause: &[Lit])
         requires { ClauseWithin self.old.vars clause.now }
         ensures deleted { Deletes self.old.clauses clause.now self.new.clauses }
@@ -222,7 +222,7 @@ impl Checker {
             return;
         }
         let size = literals(&self.core, found);
-        self.core.take_out(found);
+        self.core.remove_clause(found);
         self.live = self.live.saturating_sub(size);
         self.dead = self.dead.saturating_add(size);
     }
@@ -232,8 +232,8 @@ impl Checker {
         self.dead > FEW && self.dead > self.live && self.dead > self.core.vars() as usize
     }
 
-    // Gives the place of deleted clauses back where most literals are theirs, if there is memory for that; else it is tried again
-    // after as many deletions more.
+    // Gives back the memory of deleted clauses where most literals are theirs, if there is memory for that; else it is tried again
+    // after as many more deletions.
     fn collect(&mut self)
         ensures { self.new ≡ self.old }
     {

@@ -56,7 +56,7 @@ fn reach(marks: &mut Vec<bool>, clause: &[Lit]) -> Result<(), AllocError>
     Ok(())
 }
 
-// The same in two tables.
+// Makes places in two tables for the literals of a clause.
 pub(crate) fn reach_both(
     marks: &mut Vec<bool>,
     others: &mut Vec<bool>,
@@ -72,7 +72,7 @@ pub(crate) fn reach_both(
     reach(others, clause)
 }
 
-// Marks the literals of a clause. What their set weighs.
+// Marks the literals of a clause. Returns what their set weighs.
 pub(crate) fn mark_all(clause: &[Lit], marks: &mut [bool]) -> u32
     requires places { HasPlaces marks.old clause.now }
     requires clear { Shows marks.old [] }
@@ -90,7 +90,7 @@ pub(crate) fn mark_all(clause: &[Lit], marks: &mut [bool]) -> u32
     sum
 }
 
-// Takes the marks of a clause back.
+// Takes back the marks of a clause.
 pub(crate) fn unmark_all(clause: &[Lit], marks: &mut [bool])
     requires places { HasPlaces marks.old clause.now }
     requires shows { Shows marks.old clause.now }
@@ -135,7 +135,7 @@ fn is_within(clause: &[Lit], marks: &[bool]) -> bool
     true
 }
 
-// Whether two clauses are the same set, of which the first is marked in a table of its own.
+// Whether two clauses are the same set, where the first is marked in a table of its own.
 pub(crate) fn is_same(a: &[Lit], a_marks: &[bool], b: &[Lit], b_marks: &mut [bool]) -> bool
     requires places { HasPlaces b_marks.old b.now }
     requires shows { Shows a_marks.now a.now }

@@ -2,7 +2,7 @@
 use Rattle.std.specs.Prelude.{ℕ, List, Option}
 use Rattle.cnf_form.specs.Cnf.{LitOf}
 
--- the clause at each number, if it wasn't taken out, over the variables from 1 to vars
+-- the clause at each number, if it wasn't removed, over the variables from 1 to vars
 pub record FrozenOf : Type 0 where
   pub vars : ℕ
   pub slots : List (Option (List LitOf))

@@ -14,7 +14,7 @@ abbrev pub slot_of : Option (Vec LitOf Global) → Option (List LitOf)
 slot_of (Some v) = Some v.items
 slot_of None = None
 
--- the clause at each number, if it wasn't taken out
+-- the clause at each number, if it wasn't removed
 abbrev pub slots_of : List (Option (Vec LitOf Global)) → List (Option (List LitOf))
 slots_of clauses = map slot_of clauses
 

@@ -35,7 +35,7 @@ impl Model for Frozen {
 }
 
 impl Frozen {
-    /// Without clauses, over the variables from 1 to `vars`, at most `MAX_VARS`.
+    /// A list without clauses, over the variables from 1 to `vars`, at most `MAX_VARS`.
     pub fn new(alloc: Global, vars: u32) -> Result<Self, AllocError>
         requires { vars ≤ MAX_VARS }
         ensures { IfOk result (λ f. f ≡ record { vars = vars; slots = [] }) }
@@ -54,7 +54,7 @@ impl Frozen {
         })
     }
 
-    /// The number of clauses that were put, those that were taken out among them.
+    /// The number of clauses that were added, those that were removed among them.
     pub fn len(&self) -> usize
         ensures count { result ≡ length self.now.slots }
         ensures few { length self.now.slots ≤ u32.MAX }
@@ -62,7 +62,7 @@ impl Frozen {
         self.clauses.len()
     }
 
-    /// The clause with a number, if it wasn't taken out.
+    /// The clause with a number, if it wasn't removed.
     pub fn clause(&self, k: u32) -> Option<&[Lit]>
         requires { k < length self.now.slots }
         ensures there { IfSome result (λ c. slot_at self.now.slots k ≡ Some c.now) }
@@ -81,7 +81,7 @@ impl Frozen {
         self.lists[l.index() % LISTS].len()
     }
 
-    // The place of a literal of a clause whose list is shortest: the shorter the lists, the fewer entries are gone through.
+    // The index of the literal of a clause whose list is shortest: the shorter the lists, the fewer entries are visited.
     fn lightest(&self, clause: &[Lit]) -> usize
         requires { 0 < length clause.now }
         ensures { result < length clause.now }
@@ -95,7 +95,7 @@ impl Frozen {
         lightest
     }
 
-    /// Puts a clause over the variables that isn't empty. If memory runs out, or numbers below 2^32 - 1 do, nothing changes.
+    /// Adds a clause over the variables that isn't empty. If memory runs out, or numbers below 2^32 - 1 do, nothing changes.
     pub fn push(&mut self, clause: &[Lit]) -> Result<(), AllocError>
         requires within { ClauseWithin self.old.vars clause.now }
         requires full { 0 < length clause.now }
@@ -127,8 +127,8 @@ impl Frozen {
         Ok(())
     }
 
-    /// Takes a clause out.
-    pub fn take_out(&mut self, k: u32)
+    /// Removes a clause.
+    pub fn remove_clause(&mut self, k: u32)
         requires { k < length self.old.slots }
         ensures { self.new ≡ record self.old { slots = slice_set self.old.slots k None } }
     {
@@ -165,8 +165,8 @@ impl Frozen {
         self.search(clause)
     }
 
-    /// Gives the place of the clauses that were taken out back: the others keep their order and are numbered from 0 on. If memory runs
-    /// out, nothing changes.
+    /// Gives back the memory of removed clauses: the others keep their order and are numbered from 0 on. If memory runs out, nothing
+    /// changes.
     pub fn collect(&mut self) -> Result<(), AllocError>
         ensures ok { OnOk result (self.new ≡ record self.old { slots = present self.old.slots }) }
         ensures err { OnErr result (self.new ≡ self.old) }

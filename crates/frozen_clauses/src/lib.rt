@@ -1,4 +1,4 @@
-//! Clauses that are present but frozen: nothing is propagated by them, and it is told whether one is a subset of another clause.
+//! Clauses that are present but frozen: nothing is propagated by them, but those that are subsets of another clause are found.
 #![tactic(auto)]
 
 mod entry;

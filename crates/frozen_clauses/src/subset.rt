@@ -22,7 +22,7 @@ pub(crate) fn mark(marks: &mut [bool], clause: &[Lit])
     }
 }
 
-// Takes the marks of the literals of a clause back.
+// Takes back the marks of the literals of a clause.
 pub(crate) fn unmark(marks: &mut [bool], clause: &[Lit])
     requires { All (HasPlace (length marks.old)) clause.now }
     ensures { (l : LitOf) → is_marked marks.new l ≡ true → is_marked marks.old l ≡ true × (Contains clause.now l → ⊥) }
@@ -45,7 +45,7 @@ fn are_marked(lits: &[Lit], marks: &[bool]) -> bool
     true
 }
 
-// Whether a clause wasn't taken out and all its literals are marked. It is called seldom, so it stays out of the loop that calls it.
+// Whether a clause wasn't removed and all its literals are marked. It is called seldom, so it stays out of the loop that calls it.
 #[inline(never)]
 fn is_covered(clauses: &[Option<Vec<Lit>>], k: u32, marks: &[bool]) -> bool
     requires number { k < length clauses.now }

@@ -37,7 +37,7 @@ impl Model for Chain {
     ghost invariant = { λ c. Marks c.marked.marks.items c.marked.trail.items × (length c.hints.items ≤ 2 ^ 27) };
 }
 
-// One more hint. An error where a line may have no more, as when memory runs out.
+// Adds a hint. An error where a line may have no more, as when memory runs out.
 fn push_hint(hints: &mut Vec<u64>, id: u64) -> Result<(), AllocError>
     requires { length hints.old.items ≤ 2 ^ 27 }
     ensures few { length hints.new.items ≤ 2 ^ 27 }
@@ -50,7 +50,7 @@ fn push_hint(hints: &mut Vec<u64>, id: u64) -> Result<(), AllocError>
     Ok(())
 }
 
-// Makes a literal true that has a unit clause of its own, unless it or its negation is.
+// Makes a literal true if it has a unit clause of its own, unless it or its negation is true.
 fn join_fact(ids: &Ids, l: Lit, marked: &mut Marked, hints: &mut Vec<u64>) -> Result<(), AllocError>
     requires marked { Marks marked.old.marks.items marked.old.trail.items }
     requires places { HasPlaces marked.old.marks.items l }
@@ -71,7 +71,7 @@ fn join_fact(ids: &Ids, l: Lit, marked: &mut Marked, hints: &mut Vec<u64>) -> Re
     marked.push(l)
 }
 
-// The same of the negations of a clause's literals.
+// Makes those negations of a clause's literals true that have unit clauses of their own, unless they or their negations are true.
 fn join_facts(
     ids: &Ids,
     clause: &[Lit],
@@ -121,7 +121,7 @@ fn standing(
     Ok(marked.standing(clause))
 }
 
-// Goes on with a clause: whether it is falsified. It is a hint where it is, or makes one more literal true.
+// Propagates with one clause. Returns whether it is falsified. It is a hint where it is, or where it makes one more literal true.
 fn follow(
     core: &Propagator,
     ids: &Ids,
@@ -163,7 +163,7 @@ fn follow(
     }
 }
 
-// Goes on with the clauses that made literals true, in order.
+// Propagates with the clauses that made literals true, in order. Returns whether one is falsified.
 fn follow_reasons(
     core: &Propagator,
     ids: &Ids,
@@ -193,7 +193,7 @@ fn follow_reasons(
     Ok(false)
 }
 
-// Goes on with clauses, from the last to the first.
+// Propagates with clauses, from the last to the first. Returns whether one is falsified.
 fn follow_back(
     core: &Propagator,
     ids: &Ids,
@@ -252,7 +252,7 @@ fn follow_order(
     follow_back(core, ids, numbers, marked, hints)
 }
 
-// Goes through all clauses.
+// Propagates with all clauses, each once. Returns whether one is falsified.
 fn follow_all(
     core: &Propagator,
     ids: &Ids,
@@ -279,7 +279,7 @@ fn follow_all(
     Ok(false)
 }
 
-// Goes through all clauses again and again until one is falsified.
+// Propagates with all clauses again and again until one is falsified.
 fn search(
     core: &Propagator,
     ids: &Ids,
@@ -310,7 +310,7 @@ fn search(
 }
 
 impl Chain {
-    /// Without hints.
+    /// A chain without hints.
     pub fn new(alloc: Global) -> Self
         ensures { result ≡ [] }
     {
@@ -352,7 +352,7 @@ impl Chain {
         )
     }
 
-    /// The same of a clause that the watched ones admit, by going through all of them where these don't do.
+    /// Finds hints of a clause that the watched clauses admit: with the given ones where these admit it, else with all.
     pub fn find(
         &mut self,
         core: &Propagator,

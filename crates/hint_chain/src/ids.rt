@@ -18,7 +18,7 @@ use unit_propagation::Propagator;
 const MAX_ID: u64 = (1 << 63) - 1;
 
 /// The ids of clauses: of watched and of frozen ones by their numbers, and of unit clauses of their own, the facts, by their literals.
-/// Nothing is kept where none are wanted.
+/// Nothing is kept where ids aren't wanted.
 #[derive(Drop)]
 pub struct Ids {
     alloc: Global,
@@ -47,7 +47,7 @@ fn id_at(ids: &[u64], place: usize) -> u64
     }
 }
 
-// Puts an id in a place, if there is one.
+// Sets the id at a place, if there is one.
 fn set_at(ids: &mut Vec<u64>, place: usize, id: u64)
     ensures { (ids.new.items ≡ ids.old.items) ⊎ ((place < length ids.old.items) × (ids.new.items ≡ slice_set ids.old.items place id)) }
 {
@@ -68,7 +68,7 @@ fn numbers(alloc: Global, count: usize) -> Result<Vec<u64>, AllocError>
     Ok(numbers)
 }
 
-// Keeps the id of a clause, unless that was taken out.
+// Keeps the id of a clause, unless that was removed.
 fn keep_next(left: &mut Vec<u64>, ids: &[u64], core: &Propagator, k: u32) -> Result<(), AllocError>
     requires { k < length core.now.slots }
     ensures { OnOk result (left.new.items ≡ left.old.items ++ kept ids.now k (slot_at core.now.slots k ∷ [])) }
@@ -82,7 +82,7 @@ fn keep_next(left: &mut Vec<u64>, ids: &[u64], core: &Propagator, k: u32) -> Res
     }
 }
 
-// The ids of the clauses that weren't taken out.
+// The ids of the clauses that weren't removed.
 fn kept(alloc: Global, ids: &[u64], core: &Propagator) -> Result<Vec<u64>, AllocError>
     ensures { IfOk result (λ v. v.items ≡ kept ids.now 0 core.now.slots) }
 {
@@ -93,7 +93,7 @@ fn kept(alloc: Global, ids: &[u64], core: &Propagator) -> Result<Vec<u64>, Alloc
     Ok(kept)
 }
 
-// Keeps the id of a frozen clause, unless that was taken out.
+// Keeps the id of a frozen clause, unless that was removed.
 fn keep_next_frozen(
     left: &mut Vec<u64>,
     ids: &[u64],
@@ -112,7 +112,7 @@ fn keep_next_frozen(
     }
 }
 
-// The ids of the frozen clauses that weren't.
+// The ids of the frozen clauses that weren't removed.
 fn kept_frozen(alloc: Global, ids: &[u64], frozen: &Frozen) -> Result<Vec<u64>, AllocError>
     ensures { IfOk result (λ v. v.items ≡ kept ids.now 0 frozen.now.slots) }
 {
@@ -124,7 +124,7 @@ fn kept_frozen(alloc: Global, ids: &[u64], frozen: &Frozen) -> Result<Vec<u64>, 
 }
 
 impl Ids {
-    /// Of this many clauses, over the variables from 1 to `vars`, the ids from 1 on, if they are wanted.
+    /// The ids of this many clauses over the variables from 1 to `vars`, which are the numbers from 1 on, if ids are wanted.
     pub fn new(alloc: Global, wanted: bool, vars: u32, count: usize) -> Result<Self, AllocError>
         requires { vars ≤ MAX_VARS }
         ensures wanted { IfOk result (λ ids. ids.wanted ≡ wanted) }
@@ -153,14 +153,14 @@ impl Ids {
         })
     }
 
-    /// Whether they are.
+    /// Whether ids are wanted.
     pub fn are_wanted(&self) -> bool
         ensures { result ≡ self.now.wanted }
     {
         self.wanted
     }
 
-    /// The id of the next line, 0 where none are wanted. An error where no id is left, as when memory runs out.
+    /// The id of the next line, 0 where ids aren't wanted. An error where no id is left, as when memory runs out.
     pub fn next(&self) -> Result<u64, AllocError>
         ensures above { IfOk result (λ id. IsTrue self.now.wanted → self.now.last < id) }
         ensures most { IfOk result (λ id. id < 2 ^ 63) }
@@ -181,7 +181,7 @@ impl Ids {
         id_at(&self.watched, k as usize)
     }
 
-    /// The id of a frozen one.
+    /// The id of a frozen clause.
     pub fn frozen(&self, k: u32) -> u64
         ensures { result ≡ id_at self.now.frozen k }
     {
@@ -250,7 +250,7 @@ impl Ids {
         Ok(())
     }
 
-    /// The watched clauses that weren't taken out are numbered from 0 on, in the same order.
+    /// The watched clauses that weren't removed are numbered from 0 on, in the same order.
     pub fn collect(&mut self, core: &Propagator) -> Result<(), AllocError>
         ensures wanted { self.new.wanted ≡ self.old.wanted }
         ensures last { self.new.last ≡ self.old.last }
@@ -263,7 +263,7 @@ impl Ids {
         Ok(())
     }
 
-    /// The frozen ones are.
+    /// The frozen clauses that weren't removed are numbered from 0 on, in the same order.
     pub fn collect_frozen(&mut self, frozen: &Frozen) -> Result<(), AllocError>
         ensures wanted { self.new.wanted ≡ self.old.wanted }
         ensures last { self.new.last ≡ self.old.last }

@@ -54,7 +54,7 @@ impl Marked {
         Ok(())
     }
 
-    // Takes all marks back.
+    // Takes back all marks.
     fn clear(&mut self)
         requires marked { Marks self.old.marks.items self.old.trail.items }
         ensures clear { IsClear self.new.marks.items }
@@ -83,7 +83,7 @@ impl Marked {
     }
 
     // Marks the negations of a clause's literals, unless two of these are a literal and its negation.
-    fn put_negations(&mut self, clause: &[Lit]) -> Result<bool, AllocError>
+    fn mark_negations(&mut self, clause: &[Lit]) -> Result<bool, AllocError>
         requires clear { IsClear self.old.marks.items }
         requires none { self.old.trail.items ≡ [] }
         requires places { All (HasPlaces self.old.marks.items) clause.now }
@@ -103,7 +103,7 @@ impl Marked {
         Ok(true)
     }
 
-    // The same, in place of what was marked.
+    // Takes back all marks, and marks the negations of a clause's literals, unless two of these are a literal and its negation.
     pub fn begin(&mut self, vars: u32, clause: &[Lit]) -> Result<bool, AllocError>
         requires marked { Marks self.old.marks.items self.old.trail.items }
         requires within { All (λ l. l.var ≤ vars) clause.now }
@@ -115,7 +115,7 @@ impl Marked {
     {
         self.clear();
         self.reach(vars)?;
-        self.put_negations(clause)
+        self.mark_negations(clause)
     }
 
     // What is left of a clause.

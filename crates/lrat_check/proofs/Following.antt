@@ -1,4 +1,4 @@
--- What one more hint comes to.
+-- What one more hint leaves of a refutation.
 use Rattle.std.proofs.Common.{◌≡◌, ℕ, ◌<◌, ◌≤◌, ◌+◌, suc, Some, Bool, true, List, [], ◌∷◌, ◌++◌, length, get_or, drop, add-one, drop-cons, sym, ap, subst, inl, inr}
 use Rattle.std.specs.Prelude.{Contains}
 use Rattle.std.proofs.lemmas.List.{drop_all}

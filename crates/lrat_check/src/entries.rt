@@ -11,7 +11,7 @@ use cnf_form::Lit;
 use std::alloc::{AllocError, Global};
 use std::marker::Model;
 
-// Deleted clauses keep their place while they are no more than this, or than the live ones.
+// The memory of deleted clauses is kept while they are no more than this, or than the live ones.
 const FEW: usize = 1024;
 
 // Where the literals of a clause lie.
@@ -29,7 +29,7 @@ struct Slot {
 }
 
 // The literals of all clauses stand in one list. No hashing: whoever writes a proof chooses the ids. An id is looked for where it
-// stands if no id is left out, and else by halving.
+// stands if no id is left out, and else by binary search.
 #[derive(Drop)]
 pub(crate) struct Table {
     alloc: Global,
@@ -63,7 +63,7 @@ impl Table {
         }
     }
 
-    // The place of an id, looked for by halving.
+    // The place of an id, by binary search.
     fn search(&self, id: u64) -> Option<usize>
         ensures some { IfSome result (IsPlaceOf self.now id) }
         ensures none { IfNone result (held self.now id ≡ None) }
@@ -111,7 +111,7 @@ impl Table {
         }
     }
 
-    // Gives an id above all others its clause.
+    // Adds a clause under an id above all others.
     pub(crate) fn push(&mut self, id: u64, clause: &[Lit]) -> Result<(), AllocError>
         requires { (e : Entry) → Contains self.old e → e.id < id }
         ensures entries { OnOk result (self.new ≡ self.old ++ (record { id = id; clause = Some clause.now }) ∷ []) }
@@ -153,8 +153,8 @@ impl Table {
         Ok(live)
     }
 
-    // Gives the places of deleted clauses back where most are theirs, if there is memory for that; else it is tried again after as
-    // many deletions more.
+    // Gives back the memory of deleted clauses where most of it is theirs, if there is memory for that; else it is tried again after
+    // as many more deletions.
     fn collect(&mut self)
         ensures held { (n : ℕ) → held self.new n ≡ held self.old n }
         ensures ids { (last : ℕ) → IsUpto self.old last → IsUpto self.new last }
@@ -169,7 +169,7 @@ impl Table {
         }
     }
 
-    // Takes the clause of an id away, if it has one.
+    // Deletes the clause of an id, if it has one.
     pub(crate) fn remove(&mut self, id: u64)
         ensures held { (n : ℕ) → held self.new n ≡ put (held self.old) id None n }
         ensures ids { (last : ℕ) → IsUpto self.old last → IsUpto self.new last }
@@ -184,7 +184,7 @@ impl Table {
     }
 }
 
-// Gives an id above all others the clause that a source gives.
+// Adds the clause that a source gives under an id above all others.
 fn push_given(table: &mut Table, id: u64, given: Given<'_>) -> Result<(), AllocError>
     requires { (e : Entry) → Contains table.old e → e.id < id }
     ensures held { OnOk result ((n : ℕ) → held table.new n ≡ put (held table.old) id (Some (lits_of given.entry)) n) }

@@ -31,7 +31,7 @@ fn set_mark(marks: &mut [bool], l: Lit, value: bool)
     marks[l.index()] = value;
 }
 
-// Puts a literal to those that are marked.
+// Marks a literal, and adds it to the trail.
 fn assign(marks: &mut [bool], trail: &mut Vec<Lit>, l: Lit) -> Result<(), AllocError>
     requires marks { Marks marks.old trail.old.items }
     requires places { HasPlaces marks.old l }

@@ -19,7 +19,7 @@ pub(crate) enum Entry {
     Before(u32),
 }
 
-// What a search comes to: the level above which the clauses are an invariant, or an obligation that a start meets. Without an
+// The result of a search: the level above which the clauses are an invariant, or an obligation that a start meets. Without an
 // obligation the start itself breaks an assertion.
 pub(crate) enum Reached {
     Closed(u32),
@@ -189,7 +189,7 @@ impl<'a> Search<'a> {
         Ok(Some(core))
     }
 
-    // Excludes a cube at a level, and at the higher ones that no step leads into it from. The highest.
+    // Excludes a cube at a level, and at the higher ones that no step leads into it from. Returns the highest.
     fn learn(&mut self, cube: Vec<Lit>, level: u32) -> Result<u32, Stop> {
         let mut cube = cube;
         let mut level = level;
@@ -211,7 +211,7 @@ impl<'a> Search<'a> {
         Ok(level)
     }
 
-    // Excludes each cube one level higher, where no step leads into it. The level at which none is left, if there is one.
+    // Excludes each cube one level higher, where no step leads into it. Returns the level at which none is left, if there is one.
     fn push_clauses(&mut self) -> Result<Option<u32>, Stop> {
         let top = self.queries.top();
         self.queries.add_level()?;
@@ -225,7 +225,7 @@ impl<'a> Search<'a> {
         Ok(None)
     }
 
-    // The same for those of one level.
+    // Excludes each cube of a level one level higher, where no step leads into it.
     fn push_level(&mut self, level: u32) -> Result<(), Stop> {
         for place in 0..self.frames.lemmas.len() {
             let Some(lemma) = self.frames.lemmas.get(place) else {

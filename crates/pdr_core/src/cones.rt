@@ -19,7 +19,7 @@ pub(crate) struct Cones {
 }
 
 impl Cones {
-    // A cone without variables, of up to so many.
+    // A cone without variables, of those up to `vars`.
     pub fn new(alloc: Global, vars: u32) -> Result<Self, AllocError> {
         let mut cones = Cones {
             vars: Vec::new(alloc),
@@ -124,7 +124,7 @@ impl Cones {
         Ok(())
     }
 
-    // The variables of clauses belong to it.
+    // The variables of clauses belong to the cone.
     fn add_below(&mut self, formula: &Formula, numbers: &[u32]) -> Result<(), AllocError> {
         let clauses = formula.clauses();
         for number in numbers {
@@ -137,7 +137,7 @@ impl Cones {
         Ok(())
     }
 
-    // The next variable of a ring belongs to it.
+    // The next variable of a ring belongs to the cone.
     fn add_next(&mut self, var: u32) -> Result<(), AllocError> {
         let next = at(&self.nexts, var as usize, var);
         self.push(next)

@@ -3,7 +3,7 @@
 use cnf_form::Lit;
 use std::alloc::{AllocError, Global};
 
-// A cube that no run within `level` steps of a start reaches. At level 0 it counts no more.
+// A cube that no run within `level` steps of a start reaches. At level 0 it doesn't count any more.
 #[derive(Drop)]
 pub(crate) struct Lemma {
     pub(crate) cube: Vec<Lit>,
@@ -25,7 +25,7 @@ fn signature(cube: &[Lit]) -> u64 {
     bits
 }
 
-// The first place from one on at which a cube has no lower bit than a literal's.
+// The first index from one on at which a cube has no lower bit than a literal's.
 fn place_of(cube: &[Lit], l: Lit, place: usize) -> usize {
     for at in place..cube.len() {
         if cube[at].var() >= l.var() {
@@ -67,7 +67,7 @@ impl Frames {
         level
     }
 
-    // Puts a cube after the others, of which those that it makes needless count no more.
+    // Adds a cube after the others, of which those that it makes needless don't count any more.
     pub fn add(&mut self, cube: Vec<Lit>, level: u32) -> Result<(), AllocError> {
         let bits = signature(&cube);
         for place in 0..self.lemmas.len() {
@@ -111,7 +111,7 @@ impl Frames {
         Ok(cubes)
     }
 
-    // Takes those out that count no more.
+    // Removes the cubes that don't count any more.
     pub fn compact(&mut self, alloc: Global) -> Result<(), AllocError> {
         let mut kept = Vec::new(alloc);
         for _ in 0..self.lemmas.len() {

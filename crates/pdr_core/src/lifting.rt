@@ -7,7 +7,7 @@ use cnf_form::{Formula, Lit, MAX_VARS};
 use pdr_solver::{Solver, at, narrow, set};
 use std::alloc::{AllocError, Global};
 
-// The cost of what can't be had.
+// The cost of what isn't possible.
 const DEAR: u32 = 0xffff_ffff;
 
 // By variables: whether it lies in the cone of what is asked, whether its value is needed, and how many state bits it costs.

@@ -31,13 +31,13 @@ impl Obligations {
         }
     }
 
-    // Forgets all.
+    // Removes all obligations.
     pub fn clear(&mut self) {
         self.all.clear();
         self.waiting.clear();
     }
 
-    // A new obligation. Its place.
+    // Adds an obligation. Returns its place.
     pub fn push(&mut self, cube: Vec<Lit>, next: u32) -> Result<u32, AllocError> {
         let place = narrow(self.all.len());
         self.all.push(Obligation { cube, next })?;
@@ -55,7 +55,7 @@ impl Obligations {
         Ok(())
     }
 
-    // Takes one of the lowest level out: its place and the level.
+    // Removes an obligation of the lowest level from those that wait. Returns its place and the level.
     pub fn pop(&mut self) -> Option<(u32, u32)> {
         for level in 0..self.waiting.len() {
             if let Some(list) = self.waiting.get_mut(level) {

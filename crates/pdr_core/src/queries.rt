@@ -10,7 +10,7 @@ use pair_form::{BitLits, Pair};
 use pdr_solver::{Answer, Solver, at, narrow, set};
 use std::alloc::{AllocError, Global};
 
-// After this many clauses of no more use the solver is made again.
+// The solver is made again after this many of its clauses have become useless.
 const SPENT_CLAUSES: usize = 1_500;
 
 // What a search stands on. `switches` has a literal for each level, under which its clauses count; that of level 0 is the pair's start.
@@ -114,14 +114,14 @@ impl<'a> Queries<'a> {
         narrow(self.switches.len()).saturating_sub(1)
     }
 
-    // One more level, without clauses.
+    // Adds a level without clauses.
     pub fn add_level(&mut self) -> Result<(), Stop> {
         let switch = self.solver.add_var()?;
         self.switches.push(switch)?;
         Ok(())
     }
 
-    // The clause that a cube is excluded up to a level.
+    // Adds the clause by which a cube is excluded up to a level.
     pub fn exclude(&mut self, cube: &[Lit], level: u32) -> Result<(), Stop> {
         let mut clause = Vec::new(self.alloc);
         let switch = at(&self.switches, level as usize, self.pair.start());
@@ -138,7 +138,7 @@ impl<'a> Queries<'a> {
         Ok(())
     }
 
-    // The solver is made again where many of its clauses count no more.
+    // Makes the solver again where many of its clauses are useless.
     pub fn renew_if_due(&mut self, frames: &Frames) -> Result<(), Stop> {
         if self.spent < SPENT_CLAUSES {
             return Ok(());
@@ -161,7 +161,7 @@ impl<'a> Queries<'a> {
         Ok(())
     }
 
-    // So many clauses of the solver count no more.
+    // Counts clauses of the solver that have become useless.
     pub fn waste(&mut self, clauses: usize) {
         self.spent = self.spent.saturating_add(clauses);
     }
@@ -337,7 +337,7 @@ impl<'a> Queries<'a> {
     }
 }
 
-// Puts the literals of a cube after others, as those of a cycle, negated where that is wanted.
+// Adds the literals of a cube after others, as those of a cycle, negated where that is wanted.
 pub(crate) fn push_all(
     pair: &Pair,
     cube: &[Lit],

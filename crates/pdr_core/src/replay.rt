@@ -20,7 +20,7 @@ struct Replay<'a> {
 }
 
 impl<'a> Replay<'a> {
-    // Finds a cycle for the assumptions. Whether there is one.
+    // Finds a cycle for the assumptions. Returns whether there is one.
     fn add_cycle(&mut self, meter: &mut Meter) -> Result<bool, Stop> {
         meter.count_query()?;
         let (answer, conflicts) = self.solver.solve(&self.assumptions, meter.left())?;

@@ -1,4 +1,4 @@
-// What a search comes to, and the stream of an invariant.
+// The result of a search, and the stream of an invariant.
 
 ghost use Rattle.std.specs.Prelude.{◌≡◌, ◌≢◌, Ok, Some};
 ghost use Rattle.pdr_core.specs.Work.{GoesOn, IsSpent};
@@ -21,7 +21,7 @@ pub struct Invariant {
     cubes: Vec<Vec<Lit>>,
 }
 
-/// What a search comes to. Nothing is promised of an invariant or a run: who asks has them judged.
+/// The result of a search. Nothing is promised of an invariant or a run: who asks has them judged.
 #[derive(Drop)]
 pub enum Candidate {
     Invariant(Invariant),
@@ -51,7 +51,7 @@ fn attempt(alloc: Global, pair: &Pair, meter: &mut Meter) -> Result<Option<Candi
     }
 }
 
-// The same, with what it spends counted. None also where it spent all.
+// An attempt whose conflicts and queries are counted as work. None also where it spent all.
 fn attempt_counted(
     alloc: Global,
     pair: &Pair,

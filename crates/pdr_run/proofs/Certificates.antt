@@ -3,7 +3,7 @@ use Rattle.std.proofs.Common.{◌≡◌, ℕ, ◌≤◌, true, List, [], length,
 use Rattle.std.specs.Prelude.{Some}
 use Rattle.pair_form.specs.Pair.{PairOf}
 use Rattle.inv_stream.specs.Telling.{sayings}
-use Rattle.inv_fate.specs.Fate.{BytesCome, Found, InvFateOf}
+use Rattle.inv_fate.specs.Fate.{BytesFate, Found, InvFateOf}
 use Rattle.inv_fate.proofs.Finding.{head_found}
 use Rattle.inv_fate.proofs.Sounding.{is_invariant}
 use Rattle.inv_judge.specs.Claim.{fate_of}
@@ -13,13 +13,13 @@ use Rattle.inv_judge.specs.declared.outcome.InvOutcome.TheVariants as outcome
 use Rattle.pdr_run.specs.Answer.{IsInvariantStream}
 
 -- where all of a stream's bytes are taken, their number doesn't matter
-pub invariant_stream : (p : PairOf) (stream : List ℕ) → BytesCome p true stream (Some Found) → IsInvariantStream p stream
+pub invariant_stream : (p : PairOf) (stream : List ℕ) → BytesFate p true stream (Some Found) → IsInvariantStream p stream
 invariant_stream p stream h = record {
   found = λ most room. record { within = λ _. inl h; beyond = λ past. absurd (omega (arith, past, room)) };
   invariant = let w = head_found p [] (sayings p.formula.vars true stream) h in (w.0, is_invariant p w.0 w.1);
 }
 
-pub found_whole : (p : PairOf) (stream : List ℕ) (most : ℕ) → length stream ≤ most → InvFateOf p stream most Found → BytesCome p true stream (Some Found)
+pub found_whole : (p : PairOf) (stream : List ℕ) (most : ℕ) → length stream ≤ most → InvFateOf p stream most Found → BytesFate p true stream (Some Found)
 found_whole p stream most fits fate = elim (fate.within fits) [ inl h ↦ h | inr w ↦ absurd (let e = w.1 in cc) ]
 
 -- a judge found that a stream is one, of which it took as many bytes as there are

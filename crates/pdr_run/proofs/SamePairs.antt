@@ -10,7 +10,7 @@ use Rattle.inv_stream.specs.Machine.{InvSaying, IsFault, IsNext, Says}
 use Rattle.inv_stream.specs.Telling.{sayings}
 use Rattle.inv_stream.specs.declared.mode.Part.{Part}
 use Rattle.inv_stream.specs.declared.mode.Part.TheVariants.{Head, Inv, Start, Step, Safe}
-use Rattle.inv_fate.specs.Fate.{AreAdmitted, BytesCome, Comes, ComesTo, InvFate, IsOverBits, after, opened, owed}
+use Rattle.inv_fate.specs.Fate.{AreAdmitted, BytesFate, StreamFate, SayingsFate, InvFate, IsOverBits, after, opened, owed}
 use Rattle.inv_fate.proofs.Finding.{Clauses}
 use Rattle.cdcl_run.specs.Run.{World}
 use Rattle.pdr_run.specs.Answer.{IsAnswer, IsInvariantStream}
@@ -59,8 +59,8 @@ module _ (p q : PairOf) (s : IsSamePair p q) where
   b = same_back p q s
 
   -- where another part begins
-  moved : (part : Part) (I : Clauses) (ss : List InvSaying) (fate : Option InvFate) → ComesTo q part I (opened p part I) ss fate → ComesTo q part I (opened q part I) ss fate
-  moved part I ss fate h = subst (λ (G : Clauses). ComesTo q part I G ss fate) (opened_same p q s part I) h
+  moved : (part : Part) (I : Clauses) (ss : List InvSaying) (fate : Option InvFate) → SayingsFate q part I (opened p part I) ss fate → SayingsFate q part I (opened q part I) ss fate
+  moved part I ss fate h = subst (λ (G : Clauses). SayingsFate q part I G ss fate) (opened_same p q s part I) h
 
   owes : (part : Part) (I F : Clauses) → AreAdmitted F (owed p part I) → AreAdmitted F (owed q part I)
   owes part I F a = subst (AreAdmitted F) (owed_same p q s part I) a
@@ -68,7 +68,7 @@ module _ (p q : PairOf) (s : IsSamePair p q) where
   owes_not : (part : Part) (I F : Clauses) → (AreAdmitted F (owed p part I) → ⊥) → AreAdmitted F (owed q part I) → ⊥
   owes_not part I F n a = n (subst (AreAdmitted F) (owed_same q p b part I) a)
 
-  comes_same : (part : Part) (I F : Clauses) (ss : List InvSaying) (fate : Option InvFate) → ComesTo p part I F ss fate → ComesTo q part I F ss fate
+  comes_same : (part : Part) (I F : Clauses) (ss : List InvSaying) (fate : Option InvFate) → SayingsFate p part I F ss fate → SayingsFate q part I F ss fate
   comes_same part I F [] fate h = h
   comes_same Head I F (IsNext place ∷ ss) fate h = moved Inv I ss fate (comes_same Inv I (opened p Inv I) ss fate h)
   comes_same Inv I F (IsNext place ∷ ss) fate h = moved Start I ss fate (comes_same Start I (opened p Start I) ss fate h)
@@ -94,8 +94,8 @@ module _ (p q : PairOf) (s : IsSamePair p q) where
   comes_same part I F (Says (IsParseFault f) ∷ ss) fate h = h
   comes_same part I F (IsFault f ∷ ss) fate h = h
 
-  bytes_same : (stream : List ℕ) (fate : Option InvFate) → BytesCome p true stream fate → BytesCome q true stream fate
-  bytes_same stream fate h = subst (λ (f : FormulaOf). Comes q (sayings f.vars true stream) fate) s.formula (comes_same Head [] [] (sayings p.formula.vars true stream) fate h)
+  bytes_same : (stream : List ℕ) (fate : Option InvFate) → BytesFate p true stream fate → BytesFate q true stream fate
+  bytes_same stream fate h = subst (λ (f : FormulaOf). StreamFate q (sayings f.vars true stream) fate) s.formula (comes_same Head [] [] (sayings p.formula.vars true stream) fate h)
 
   invariant_same : (stream : List ℕ) → IsInvariantStream p stream → IsInvariantStream q stream
   invariant_same stream i =

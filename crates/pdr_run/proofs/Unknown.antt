@@ -9,18 +9,18 @@ use Rattle.cert_stream.specs.Telling.{IsUnknown, told_by}
 use Rattle.cert_stream.specs.Text.{NoFeed, is_blank}
 use Rattle.cert_stream.specs.declared.mode.Mode.TheVariants.{Skip}
 use Rattle.pair_form.specs.Pair.{PairOf}
-use Rattle.inv_stream.specs.Machine.{InvOf, InvSaying, Says, Turn, line_behind, turn}
+use Rattle.inv_stream.specs.Machine.{InvOf, InvSaying, Says, Turn, line_after, turn}
 use Rattle.inv_stream.specs.Telling.{fresh, said}
 use Rattle.inv_stream.specs.declared.mode.Line.{Line}
 use Rattle.inv_stream.specs.declared.mode.Line.TheVariants.{Inside}
 use Rattle.inv_stream.specs.declared.mode.Part.TheVariants.{Head}
-use Rattle.inv_fate.specs.Fate.{BytesCome, ComesTo, InvFateOf, Unknown}
+use Rattle.inv_fate.specs.Fate.{BytesFate, SayingsFate, InvFateOf, Unknown}
 use Rattle.inv_fate.proofs.Fates.{comes_more}
 use Rattle.cdcl_run.specs.Text.{unknown_line}
 use Rattle.cdcl_run.proofs.Words.{no_feed_append, signed_word, visible_feed}
 use Rattle.pdr_run.specs.Answer.{IsBrokenStream, IsSpentStream}
 
--- in a comment, after so many bytes
+-- in a comment, after this many bytes
 abbrev skip : ℕ → ℕ → DrupOf
 skip vars n = record { vars = vars; taken = n; place = 0; mode = Skip false; lits = [] }
 
@@ -30,12 +30,12 @@ skipping w line = record { parser = w; part = Head; line = line; place = 0 }
 turned : (vars n b : ℕ) → eqb b 10 ≡ false → drup.turn (skip vars n) b ≡ record { to = skip vars (n + 1); event = None }
 turned vars n b e = elim (cases_Bool (is_blank b)) [ inl t ↦ rw (e, t) refl | inr f ↦ rw (e, f) refl ]
 
-within : (b : ℕ) → eqb b 10 ≡ false → line_behind None b ≡ Inside
+within : (b : ℕ) → eqb b 10 ≡ false → line_after None b ≡ Inside
 within b e = rw e refl
 
 skipped : (vars n b : ℕ) → eqb b 10 ≡ false → turn (skipping (skip vars n) Inside) b ≡ record { to = skipping (skip vars (n + 1)) Inside; says = [] }
 skipped vars n b e =
-    ap (λ (t : drup.Turn). turned_to (skipping t.to (line_behind (fault_of t.to.mode) b)) (map Says (told_by t.to t.event ++ []))) (turned vars n b e) ∙ ap (λ (line : Line). turned_to (skipping (skip vars (n + 1)) line) []) (within b e)
+    ap (λ (t : drup.Turn). turned_to (skipping t.to (line_after (fault_of t.to.mode) b)) (map Says (told_by t.to t.event ++ []))) (turned vars n b e) ∙ ap (λ (line : Line). turned_to (skipping (skip vars (n + 1)) line) []) (within b e)
   where
     turned_to : InvOf → List InvSaying → Turn
     turned_to w ss = record { to = w; says = ss }
@@ -44,15 +44,15 @@ said_after : (vars n : ℕ) (t : List ℕ) → NoFeed t → said (skipping (skip
 said_after vars n [] f = refl
 said_after vars n (b ∷ t) (e, f) = ap (λ (u : Turn). u.says ++ said u.to (t ++ 10 ∷ unknown_line)) (skipped vars n b e) ∙ said_after vars (n + 1) t f
 
-comment_comes : (p : PairOf) (t : List ℕ) → NoFeed t → BytesCome p true (99 ∷ (t ++ 10 ∷ unknown_line)) (Some Unknown)
+comment_comes : (p : PairOf) (t : List ℕ) → NoFeed t → BytesFate p true (99 ∷ (t ++ 10 ∷ unknown_line)) (Some Unknown)
 comment_comes p t f =
     let stream = 99 ∷ (t ++ 10 ∷ unknown_line) in
     let e : said (fresh p.formula.vars) stream ≡ Says IsUnknown ∷ [] = said_after p.formula.vars 1 t f in
-    comes_more p Head [] [] (said (fresh p.formula.vars) stream) _ Unknown (subst (λ (ss : List InvSaying). ComesTo p Head [] [] ss (Some Unknown)) (sym e) refl)
+    comes_more p Head [] [] (said (fresh p.formula.vars) stream) _ Unknown (subst (λ (ss : List InvSaying). SayingsFate p Head [] [] ss (Some Unknown)) (sym e) refl)
 
 comment_fate : (p : PairOf) (t stream : List ℕ) (most : ℕ) → NoFeed t → stream ≡ 99 ∷ (t ++ 10 ∷ unknown_line) → length stream ≤ most → InvFateOf p stream most Unknown
 comment_fate p t stream most f is room = record {
-  within = λ _. inl (subst (λ (s : List ℕ). BytesCome p true s (Some Unknown)) (sym is) (comment_comes p t f));
+  within = λ _. inl (subst (λ (s : List ℕ). BytesFate p true s (Some Unknown)) (sym is) (comment_comes p t f));
   beyond = λ past. absurd (omega (arith, past, room));
 }
 

@@ -15,7 +15,7 @@ ghost use Rattle.pdr_run.specs.Run.{Did, IsCutShort};
 use cnf_form::dimacs_faults_are_decided;
 use pair_form::{texts_are_dimacs, texts_have_one_pair};
 
-/// A stream that says that it doesn't know, all of whose bytes are taken, comes to nothing else for any pair: its fate is Unknown.
+/// A stream that says that it doesn't know, all of whose bytes are taken, has no other result for any pair: its fate is Unknown.
 pub fn unknown_streams_are_unknown()
     ensures spent { (p : PairOf) (stream : List ℕ) (budget most : ℕ) → IsSpentStream budget stream → budget < 2 ^ 64 → length stream ≤ most → InvFateOf p stream most Unknown }
     ensures broken { (p q : PairOf) (stream : List ℕ) (most : ℕ) → IsBrokenStream p stream → length stream ≤ most → InvFateOf q stream most Unknown }

@@ -21,7 +21,7 @@ const HOLDS: [&str; 7] = [
     // Two bits that become one input, and may not differ.
     "c bit 1 2 4\nc bit 2 3 4\nc start 6\nc next 1\nc bad 5\np cnf 6 8\n1 0\n\
 -5 2 3 0\n-5 -2 -3 0\n5 -2 3 0\n5 2 -3 0\n-6 -2 0\n-6 -3 0\n6 2 3 0\n",
-    // A counter modulo 5 that may not come to 7, to which 5 and 6 lead.
+    // A counter modulo 5 that may not reach 7, to which 5 and 6 lead.
     "c bit 1 2 5\nc bit 2 3 6\nc bit 3 4 7\nc start 9\nc next 1\nc bad 8\np cnf 9 24\n1 0\n\
 -5 -2 0\n-5 -4 3 0\n5 2 4 0\n5 2 -3 0\n-6 2 3 0\n-6 -2 -3 0\n6 -2 3 0\n6 2 -3 0\n\
 7 4 -3 -2 0\n7 -4 3 -2 0\n7 -4 -3 2 0\n-7 4 3 0\n-7 4 2 0\n-7 3 2 0\n-7 -4 -3 -2 0\n\
@@ -47,7 +47,7 @@ const BREAKS: [(usize, &str); 5] = [
         2,
         "c bit 1 2 3\nc start -2\nc next 1\nc bad 2\np cnf 3 1\n1 0\n",
     ),
-    // A counter modulo 5 that may not come to 4.
+    // A counter modulo 5 that may not reach 4.
     (
         5,
         "c bit 1 2 5\nc bit 2 3 6\nc bit 3 4 7\nc start 9\nc next 1\nc bad 8\np cnf 9 24\n1 0\n\
@@ -60,7 +60,7 @@ const BREAKS: [(usize, &str); 5] = [
 // More than any of these pairs takes.
 const WORDS: &str = "--conflicts 100000 f.cnf";
 
-// What a stream comes to for the pair of a file.
+// What a stream is judged as for the pair of a file.
 fn outcome_of(alloc: Global, file: &str, stream: &[u8]) -> Result<InvOutcome, Fail> {
     let Ok(pair) = read_pair(alloc, file.as_bytes())? else {
         return Err(Fail::from("no pair"));

@@ -25,7 +25,7 @@ pub fn run(alloc: Global, asked: &str, file: &str, sink: MemSink) -> Result<(u8,
     Ok((exit, sink))
 }
 
-// An output that takes so many bytes.
+// An output that takes this many bytes.
 pub fn output(alloc: Global, room: usize) -> Result<MemSink, AllocError> {
     MemSink::new(alloc, room, Vec::new(alloc))
 }

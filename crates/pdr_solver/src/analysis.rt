@@ -29,7 +29,7 @@ impl Solver {
         self.marked.clear();
     }
 
-    // Takes a false literal of a clause that the conflict rests on in. Whether it is one more of the last level.
+    // Marks a false literal of a clause that the conflict rests on. Returns whether it is one more of the last level.
     fn take(&mut self, l: Lit) -> Result<bool, AllocError> {
         if self.is_seen(l) {
             return Ok(false);
@@ -48,7 +48,7 @@ impl Solver {
         Ok(false)
     }
 
-    // Takes the literals of a clause in, but one. How many more of the last level there are.
+    // Marks the literals of a clause, but one. Returns how many more of the last level there are.
     fn take_all(&mut self, clause: u32, but: Option<Lit>) -> Result<usize, AllocError> {
         self.derived.note(Premise::Clause(clause))?;
         self.activate(clause);
@@ -82,7 +82,7 @@ impl Solver {
         }
     }
 
-    // Goes back from a conflict until one literal of the last level is left: that one.
+    // Resolves a conflict until one literal of the last level is left. Returns that one.
     fn walk(&mut self, conflict: u32) -> Result<Option<Lit>, AllocError> {
         let mut open = self.take_all(conflict, None)?;
         let mut place = self.trail.len();
@@ -105,7 +105,7 @@ impl Solver {
         Ok(None)
     }
 
-    // Learns from a conflict above level 0, and goes back to the level where the clause makes a literal true.
+    // Learns from a conflict above level 0, and backtracks to the level where the clause makes a literal true.
     pub(crate) fn learn(&mut self, conflict: u32) -> Result<(), AllocError> {
         self.clause.clear();
         let first = self.walk(conflict)?;
@@ -121,7 +121,7 @@ impl Solver {
         Ok(())
     }
 
-    // Puts the clause with this literal before the others, and makes that true.
+    // Adds the clause of this literal and the others, and makes the former true.
     fn keep(&mut self, first: Lit) -> Result<(), AllocError> {
         let mut clause = Vec::new(self.alloc);
         clause.push(first)?;
@@ -137,7 +137,7 @@ impl Solver {
         self.assign(first, number)
     }
 
-    // Puts the literal of the highest level among the others in the second place. That level.
+    // Moves the literal of the highest level among the others to the second place. Returns that level.
     fn put_highest_second(&self, clause: &mut Vec<Lit>) -> u32 {
         let mut best = 1;
         let mut level = 0;
@@ -154,7 +154,7 @@ impl Solver {
         level
     }
 
-    // Takes literals out that the others imply.
+    // Removes literals that the others imply.
     fn minimize(&mut self) -> Result<(), AllocError> {
         let mut kept = 0;
         for place in 0..self.clause.len() {
@@ -212,7 +212,7 @@ impl Solver {
         Ok(())
     }
 
-    // Takes marks after some back.
+    // Takes back the marks after some.
     fn unmark_from(&mut self, top: usize) {
         for place in top..self.marked.len() {
             let var = at(&self.marked, place, 0);
@@ -221,7 +221,7 @@ impl Solver {
         self.marked.truncate(top);
     }
 
-    // Puts the other literals of the clause that a literal came from on the stack, if all have such a clause or are marked.
+    // Pushes the other literals of the clause that a literal came from on the stack, if all have such a clause or are marked.
     fn push_premises(&mut self, l: Lit) -> Result<bool, AllocError> {
         let reason = self.reason(l);
         for place in 0..self.clauses.get(reason).len() {

@@ -4,7 +4,7 @@ use crate::list::{at, narrow, set};
 use cnf_form::Lit;
 use std::alloc::{AllocError, Global};
 
-// Where the literals of a clause lie, and how active it was of late. A clause of the formula has no activity.
+// Where the literals of a clause lie, and how active it was lately. A clause of the formula has no activity.
 #[derive(Clone, Copy)]
 struct Head {
     start: u32,
@@ -45,7 +45,7 @@ impl Clauses {
         self.lits.len()
     }
 
-    // Puts a clause after the others. Its number.
+    // Adds a clause after the others. Returns its number.
     pub fn push(&mut self, clause: &[Lit], learnt: bool) -> Result<u32, AllocError> {
         let number = narrow(self.heads.len());
         let head = Head {
@@ -90,7 +90,7 @@ impl Clauses {
         set(&mut self.heads, number as usize, head);
     }
 
-    // Takes the literals of a clause away.
+    // Removes the literals of a clause.
     pub fn delete(&mut self, number: u32) {
         let head = Head {
             count: 0,

@@ -1,4 +1,4 @@
-// Places of lists, which are looked up with a value for those that there aren't.
+// Lists, which are looked up with a value for indices after their end.
 
 /// The value at a place, or another after the list's end.
 pub fn at<T: Copy>(list: &[T], place: usize, other: T) -> T {

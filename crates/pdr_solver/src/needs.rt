@@ -14,7 +14,7 @@ struct Needs {
     open: Vec<Premise>,
 }
 
-// Sets a place of a table. Whether it wasn't set.
+// Sets a place of a table. Returns whether it wasn't set.
 fn claim(table: &mut [bool], place: u32) -> bool {
     let is_new = !at(table, place as usize, true);
     set(table, place as usize, true);

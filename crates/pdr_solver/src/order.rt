@@ -1,4 +1,4 @@
-// The order in which variables are decided: those first that conflicts rested on of late, by activities that fade (VSIDS: Moskewicz and
+// The order in which variables are decided: those first that conflicts rested on lately, by activities that fade (VSIDS: Moskewicz and
 // others, 2001; Eén and Sörensson, 2003).
 
 use crate::list::{at, narrow, set};
@@ -20,7 +20,7 @@ pub(crate) struct Order {
 }
 
 impl Order {
-    // Without variables.
+    // An order without variables.
     pub fn new(alloc: Global) -> Self {
         Order {
             heap: Vec::new(alloc),
@@ -30,7 +30,7 @@ impl Order {
         }
     }
 
-    // One more variable has places in the tables.
+    // Adds places in the tables for one more variable.
     pub fn grow(&mut self) -> Result<(), AllocError> {
         self.places.push(NO_PLACE)?;
         self.activities.push(0)?;
@@ -98,7 +98,7 @@ impl Order {
         self.put(place, var);
     }
 
-    // Takes the most active variable out, or answers 0.
+    // Removes the most active variable from the heap, and returns it, or 0.
     pub fn pop(&mut self) -> u32 {
         let top = at(&self.heap, 0, 0);
         if let Some(last) = self.heap.pop() {
@@ -111,7 +111,7 @@ impl Order {
         top
     }
 
-    // Takes all variables out.
+    // Removes all variables from the heap.
     pub fn clear(&mut self) {
         for place in 0..self.heap.len() {
             let var = at(&self.heap, place, 0);
@@ -120,7 +120,7 @@ impl Order {
         self.heap.clear();
     }
 
-    // A variable is open again.
+    // A variable is unassigned again.
     pub fn insert(&mut self, var: u32) -> Result<(), AllocError> {
         let place = at(&self.places, var as usize, 0);
         if place == NO_PLACE {

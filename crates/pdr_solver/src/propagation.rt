@@ -7,7 +7,7 @@ use std::alloc::AllocError;
 use std::mem;
 
 impl Solver {
-    // Propagates what is true. The clause that is false then, if there is one.
+    // Propagates what is true. Returns the clause that is false then, if there is one.
     pub(crate) fn propagate(&mut self) -> Result<Option<u32>, AllocError> {
         for _ in 0..u64::MAX {
             let Some(l) = self.trail.get(self.head) else {
@@ -23,7 +23,7 @@ impl Solver {
         Ok(None)
     }
 
-    // Goes through the clauses that watch a literal that is false now.
+    // Visits the clauses that watch a literal that is false now.
     fn visit(&mut self, l: Lit) -> Result<Option<u32>, AllocError> {
         if l.index() >= self.watches.len() {
             return Ok(None);

@@ -1,10 +1,10 @@
-// Deletion of learnt clauses that served least of late.
+// Deletion of the learnt clauses that served least lately.
 
 use crate::list::{at, narrow, set};
 use crate::solver::{NO_CLAUSE, Solver};
 use std::alloc::AllocError;
 
-// So many learnt clauses may stand beside a third of the others.
+// There may be this many learnt clauses, and a third of the number of the others.
 const LEAST: usize = 2_000;
 
 impl Solver {

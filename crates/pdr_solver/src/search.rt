@@ -22,7 +22,7 @@ pub enum Answer {
     Spent,
 }
 
-// What a step comes to.
+// The result of a step.
 enum Step {
     Satisfied,
     Refuted,
@@ -54,7 +54,7 @@ fn luby(place: u64) -> u64 {
 }
 
 impl Solver {
-    /// Searches for values under the assumptions. The answer, and how many conflicts were met: no more than are allowed, and all of these
+    /// Searches for values under the assumptions. Returns the answer, and how many conflicts were met: no more than are allowed, and all of these
     /// where they are spent. It fails at out of memory alone.
     pub fn solve(&mut self, assumptions: &[Lit], most: u64) -> Result<(Answer, u64), AllocError>
         ensures bounded { IfOk result (λ answer. answer.1 ≤ most) }
@@ -110,7 +110,7 @@ impl Solver {
         self.decide(assumptions)
     }
 
-    // Decides the next assumption that isn't true, or else an open variable.
+    // Decides the next assumption that isn't true, or else an unassigned variable.
     fn decide(&mut self, assumptions: &[Lit]) -> Result<Step, AllocError> {
         for place in self.limits.len()..assumptions.len() {
             let l = assumptions[place];
@@ -134,7 +134,7 @@ impl Solver {
         }
     }
 
-    // The most active open variable, with its last sign.
+    // The most active unassigned variable, with its last sign.
     fn next_decision(&mut self) -> Option<Lit> {
         for _ in 0..u64::MAX {
             let var = self.order.pop();

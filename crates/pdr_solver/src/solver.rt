@@ -54,7 +54,7 @@ pub struct Solver {
 }
 
 impl Solver {
-    /// Without variables. It keeps what each learnt clause was derived from, and all of them, where that is wanted.
+    /// A solver without variables. It keeps what each learnt clause was derived from, and all of them, where that is wanted.
     pub fn new(alloc: Global, derives: bool) -> Result<Self, AllocError> {
         let mut solver = Solver {
             alloc,
@@ -89,7 +89,7 @@ impl Solver {
         narrow(self.levels.len()).saturating_sub(1)
     }
 
-    // The tables get places for one more variable.
+    // Adds places in the tables for one more variable.
     fn grow(&mut self) -> Result<(), AllocError> {
         self.truth.push(false)?;
         self.truth.push(false)?;
@@ -169,7 +169,7 @@ impl Solver {
         narrow(self.limits.len())
     }
 
-    // Makes an open literal true.
+    // Makes an unassigned literal true.
     pub(crate) fn assign(&mut self, l: Lit, reason: u32) -> Result<(), AllocError> {
         let depth = self.depth();
         set(&mut self.truth, l.index(), true);
@@ -179,7 +179,7 @@ impl Solver {
         Ok(())
     }
 
-    // Takes all levels above one back.
+    // Takes back all levels above one.
     pub(crate) fn cancel(&mut self, level: u32) -> Result<(), AllocError> {
         let limit = match self.limits.get(level as usize) {
             Some(limit) => *limit,
@@ -207,7 +207,7 @@ impl Solver {
         Ok(())
     }
 
-    // Puts a clause of at least two literals, of which the first two are watched. Its number.
+    // Adds a clause of at least two literals, of which the first two are watched. Returns its number.
     pub(crate) fn attach(&mut self, clause: &[Lit], learnt: bool) -> Result<u32, AllocError> {
         let number = self.clauses.push(clause, learnt)?;
         if let [first, second, ..] = clause {
@@ -246,7 +246,7 @@ impl Solver {
         }
     }
 
-    // Adds a clause whose open literals come first.
+    // Adds a clause whose unassigned literals come first.
     fn add_open(&mut self, clause: &[Lit]) -> Result<(), AllocError> {
         let number = self.attach(clause, false)?;
         match clause {

@@ -9,11 +9,13 @@ use Rattle.cnf_form.proofs.Literals.{lit_cases}
 use Rattle.unit_propagation.specs.declared.watch.Head.{Head}
 use Rattle.unit_propagation.specs.declared.watch.Watch.{Watch}
 use Rattle.unit_propagation.specs.declared.visit.Stop.{Stop}
+use Rattle.unit_propagation.specs.declared.visit.Visited.{Visited}
+use Rattle.unit_propagation.specs.declared.visit.Visited.TheVariants.{Left, Moved, Satisfied, Assigned, Falsified, NoMemory}
 use Rattle.unit_propagation.specs.declared.visit.Stop.TheVariants.{Conflict, Memory}
-use Rattle.unit_propagation.specs.Propagation.{IsOpen, IsFalsifiedBut, Propagates}
+use Rattle.unit_propagation.specs.Propagation.{IsUnassigned, IsFalsifiedBut, Propagates}
 use Rattle.unit_propagation.specs.Propagator.{slot_at, clauses_of}
 use Rattle.unit_propagation.specs.Watch.{Watches, IsStale}
-use Rattle.unit_propagation.specs.Visit.{State, IsKept, EntryFits, IsFiledAt, MovesWatch, Assigns, IsVisited, IsPending, StopFits}
+use Rattle.unit_propagation.specs.Visit.{State, IsKept, EntryFits, IsFiledAt, MovesWatch, Assigns, IsVisited, IsPending, StopFits, VisitedFits}
 use Rattle.unit_propagation.proofs.Slots.{clauses_of-contains}
 use Rattle.unit_propagation.proofs.Falsified.{falsified_by_all}
 use Rattle.unit_propagation.proofs.Watched.{kept_satisfied, kept_stale, other_in}
@@ -99,7 +101,7 @@ module _ (slots : List (Option (List LitOf))) (start s : State) (f : LitOf) (p :
     arm_satisfied s' on e = subst (λ z. Goes z (set list kept (record { clause = j₀; blocker = other })) (kept + 1) None) (sym e)
         (kept_visit s.trail (propagates_none (clauses_of slots) s.trail), kept_pending s.trail (λ l h. h) on)
 
-    pub arm_assigned : (s' : State) → IsFalsifiedBut s.trail c other → IsOpen s.trail other → Assigns s s' other → Goes s' (set list kept (record { clause = j₀; blocker = other })) (kept + 1) None
+    pub arm_assigned : (s' : State) → IsFalsifiedBut s.trail c other → IsUnassigned s.trail other → Assigns s s' other → Goes s' (set list kept (record { clause = j₀; blocker = other })) (kept + 1) None
     arm_assigned s' unit o w = subst (λ z. Goes z (set list kept (record { clause = j₀; blocker = other })) (kept + 1) None) (sym (state_of s' _ _ _ w.heads w.rows w.trail)) (
       kept_visit (s.trail ++ other ∷ []) (propagates_unit (clauses_of slots) s.trail c other (clauses_of-contains slots j₀ c is) other_facts.0 unit o),
       kept_pending (s.trail ++ other ∷ []) (λ l h. Contains-append_left s.trail (other ∷ []) l h) (Contains-push s.trail other),
@@ -112,6 +114,44 @@ module _ (slots : List (Option (List LitOf))) (start s : State) (f : LitOf) (p :
     pub arm_memory : (s' : State) → s' ≡ s → Goes s' (set list kept (record { clause = j₀; blocker = other })) (kept + 1) (Some Memory)
     arm_memory s' e = subst (λ z. Goes z (set list kept (record { clause = j₀; blocker = other })) (kept + 1) (Some Memory)) (sym e)
         (kept_visit s.trail (propagates_none (clauses_of slots) s.trail), tt)
+
+  -- the clause is there, where the visit did something with it
+  there : (x : Visited) → (x ≡ Left → ⊥) → (slot_at slots j₀ ≡ None → x ≡ Left) → (c : List LitOf) × (slot_at slots j₀ ≡ Some c)
+  there x d gone = elim (slot_cases (slot_at slots j₀)) [ inl w ↦ w | inr g ↦ absurd (d (gone g)) ]
+
+  no_clause : Head
+  no_clause = record { start = 0; from = 0; left = f; right = f }
+
+  -- what the loop is at after what was done with the clause
+  abbrev AfterVisit : State → Visited → Type 0
+  AfterVisit s' Left = Goes s' list kept None
+  AfterVisit s' (Moved other m) = Goes s' list kept None
+  AfterVisit s' (Satisfied other) = Goes s' (set list kept (record { clause = j₀; blocker = other })) (kept + 1) None
+  AfterVisit s' (Assigned other) = Goes s' (set list kept (record { clause = j₀; blocker = other })) (kept + 1) None
+  AfterVisit s' (Falsified other) = Goes s' (set list kept (record { clause = j₀; blocker = other })) (kept + 1) (Some (Conflict j₀))
+  AfterVisit s' (NoMemory other) = Goes s' (set list kept (record { clause = j₀; blocker = other })) (kept + 1) (Some Memory)
+
+  pub arm_visited : (s' : State) (x : Visited) → (slot_at slots j₀ ≡ None → (x ≡ Left) × (s' ≡ s)) → ((c : List LitOf) (d : Head) → slot_at slots j₀ ≡ Some c → VisitedFits s s' c j₀ (get_or s.heads j₀ d) f x) → AfterVisit s' x
+  arm_visited s' Left gone fits = arm_left s' fits (λ e. (gone e).1)
+  arm_visited s' (Moved other m) gone fits =
+      let w = there (Moved other m) (λ e. cc) (λ e. (gone e).0) in
+      let x = fits w.0 no_clause w.1 in
+      arm_moved w.0 other w.1 (λ d. (fits w.0 d w.1).0) (λ d. (fits w.0 d w.1).1) s' m x.2 x.3 x.4 x.5
+  arm_visited s' (Satisfied other) gone fits =
+      let w = there (Satisfied other) (λ e. cc) (λ e. (gone e).0) in
+      let x = fits w.0 no_clause w.1 in
+      arm_satisfied w.0 other w.1 (λ d. (fits w.0 d w.1).0) (λ d. (fits w.0 d w.1).1) s' x.2 x.3
+  arm_visited s' (Assigned other) gone fits =
+      let w = there (Assigned other) (λ e. cc) (λ e. (gone e).0) in
+      let x = fits w.0 no_clause w.1 in
+      arm_assigned w.0 other w.1 (λ d. (fits w.0 d w.1).0) (λ d. (fits w.0 d w.1).1) s' x.2 x.3 x.4
+  arm_visited s' (Falsified other) gone fits =
+      let w = there (Falsified other) (λ e. cc) (λ e. (gone e).0) in
+      let x = fits w.0 no_clause w.1 in
+      arm_falsified w.0 other w.1 (λ d. (fits w.0 d w.1).0) (λ d. (fits w.0 d w.1).1) s' x.2 x.3 x.4
+  arm_visited s' (NoMemory other) gone fits =
+      let w = there (NoMemory other) (λ e. cc) (λ e. (gone e).0) in
+      arm_memory w.0 other w.1 (λ d. (fits w.0 d w.1).0) (λ d. (fits w.0 d w.1).1) s' (fits w.0 no_clause w.1).2
 
 -- the entry at k, as it was read
 pub here_read : (list : List Watch) (k : ℕ) (w : Watch) → k < length list → (e : Watch) → (get_or list k e).clause ≡ (get_or list k w).clause

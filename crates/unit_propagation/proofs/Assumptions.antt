@@ -8,7 +8,7 @@ use Rattle.std.specs.declared.alloc.AllocError.{AllocError}
 use Rattle.cnf_form.specs.Cnf.{LitOf}
 use Rattle.unit_propagation.specs.declared.watch.Watch.{Watch}
 use Rattle.unit_propagation.specs.declared.outcome.Outcome.TheVariants.{Complete, Falsified}
-use Rattle.unit_propagation.specs.Propagation.{IsOpen, IsConsistent}
+use Rattle.unit_propagation.specs.Propagation.{IsUnassigned, IsConsistent}
 use Rattle.unit_propagation.specs.Propagator.{Assumes}
 use Rattle.unit_propagation.specs.Visit.{State, AllKept, IsFiled, SettleFits, Walks}
 use Rattle.unit_propagation.specs.Assumption.{AssumeFits, AssumeWalks}
@@ -17,7 +17,7 @@ use Rattle.unit_propagation.proofs.Visits.{propagates_grows}
 use Rattle.unit_propagation.proofs.Walks.{kept_all_grown}
 use Rattle.unit_propagation.proofs.States.{filed_trail}
 
-pub assume_more : (lits s t t' : List LitOf) (l : LitOf) → Assumes lits s t → Contains lits l → (t' ≡ t) ⊎ (IsOpen t l × (t' ≡ t ++ l ∷ [])) → Assumes lits s t'
+pub assume_more : (lits s t t' : List LitOf) (l : LitOf) → Assumes lits s t → Contains lits l → (t' ≡ t) ⊎ (IsUnassigned t l × (t' ≡ t ++ l ∷ [])) → Assumes lits s t'
 assume_more lits s t t' l a h g =
     elim g [
       | inl e ↦ subst (Assumes lits s) (sym e) a
@@ -32,7 +32,7 @@ assume_more lits s t t' l a h g =
 pub assumed_grows : (lits s t : List LitOf) → Assumes lits s t → (l : LitOf) → Contains s l → Contains t l
 assumed_grows lits s t a l h = subst (λ z. Contains z l) (sym a.grown) (Contains-append_left s a.added l h)
 
-pub front_more : (lits t t' : List LitOf) (i : ℕ) (l : LitOf) → i < length lits → l ≡ get_or lits i l → ((k : ℕ) (d : LitOf) → k < i → Contains t (get_or lits k d)) → (t' ≡ t) ⊎ (IsOpen t l × (t' ≡ t ++ l ∷ [])) → Contains t' l
+pub front_more : (lits t t' : List LitOf) (i : ℕ) (l : LitOf) → i < length lits → l ≡ get_or lits i l → ((k : ℕ) (d : LitOf) → k < i → Contains t (get_or lits k d)) → (t' ≡ t) ⊎ (IsUnassigned t l × (t' ≡ t ++ l ∷ [])) → Contains t' l
     → (k : ℕ) (d : LitOf) → k < i + 1 → Contains t' (get_or lits k d)
 front_more lits t t' i l room is all g now k d h =
     elim (cases_eq k i) [

@@ -90,7 +90,7 @@ module _ (test : Watch → Bool) (w : Watch) where
       ]
       go false f rest = elim (Contains-cases x w xs h) [ inl g ↦ absurd (both_ways _ f (ap test g ∙ e)) | inr i ↦ rest i ]
 
--- a list without the entries of clauses that were taken out
+-- a list without the entries of clauses that were removed
 module _ (slots : List (Option (List LitOf))) (rows : List (List Watch)) (l : LitOf) where
   abbrev is_there : Watch → Bool
   is_there w = is_some (slot_at slots w.clause)

@@ -8,7 +8,7 @@ use Rattle.cnf_form.proofs.Literals.{lit_cases}
 use Rattle.cnf_form.proofs.Members.{Contains-empty, Contains-cases, Contains-one}
 use Rattle.unit_propagation.specs.declared.watch.Head.{Head}
 use Rattle.unit_propagation.specs.declared.watch.Watch.{Watch}
-use Rattle.unit_propagation.specs.Propagation.{IsOpen, IsSatisfied}
+use Rattle.unit_propagation.specs.Propagation.{IsUnassigned, IsSatisfied}
 use Rattle.unit_propagation.specs.Propagator.{slot_at}
 use Rattle.unit_propagation.specs.Watch.{row, Watches, Enters, Sweeps}
 use Rattle.unit_propagation.specs.Visit.{State, IsKept, AllKept, EntryFits, IsListed, IsPairOf, PairFits, IsFiled, IsFiledBut}
@@ -227,8 +227,8 @@ module _ (slots : List (Option (List LitOf))) (s : State) (pairs pairs' : List (
         | inr ne ↦ rw (get_or-set_other s.heads n j h d ne, get_or-set_other slots n j None None ne) (all j d (omega (arith, k, length-set s.heads n h)) ne)
       ]
 
--- a new clause is kept where its watches are open, or where it is satisfied
-pub kept_open : (p t c : List LitOf) (h : Head) → ((l : LitOf) → Contains p l → Contains t l) → h.left ≢ h.right → Contains c h.left → Contains c h.right → IsOpen t h.left → IsOpen t h.right → IsKept p t (Some c) h
+-- a new clause is kept where its watches are unassigned, or where it is satisfied
+pub kept_open : (p t c : List LitOf) (h : Head) → ((l : LitOf) → Contains p l → Contains t l) → h.left ≢ h.right → Contains c h.left → Contains c h.right → IsUnassigned t h.left → IsUnassigned t h.right → IsKept p t (Some c) h
 kept_open p t c h less d l r a b = record {
   watched = λ _. (
     c,
@@ -263,7 +263,7 @@ from_ok (Err x) P e h = absurd (false≢true e)
 pub slots_last : (slots : List (Option (List LitOf))) (o : Option (List LitOf)) (n : ℕ) → length slots ≡ n → set (slots ++ o ∷ []) n None ≡ slots ++ None ∷ []
 slots_last slots o n e = set_at slots o [] None n e
 
--- beside a new clause that goes again each clause is kept as it was
+-- beside a new clause that is removed again each clause is kept as it was
 pub kept_before_last : (p t : List LitOf) (slots : List (Option (List LitOf))) (heads : List Head) (o : Option (List LitOf)) (h : Head) (n : ℕ) → length slots ≡ n → length heads ≡ n → AllKept p t slots heads
     → (j : ℕ) (d : Head) → j < length (heads ++ h ∷ []) → j ≢ n → IsKept p t (slot_at (slots ++ o ∷ []) j) (get_or (heads ++ h ∷ []) j d)
 kept_before_last p t slots heads o h n size count all j d k ne =

@@ -1,13 +1,14 @@
--- Clauses that are put on a level, and levels that a decision opens.
+-- Clauses that are added on a level, and levels that a decision opens.
 use Rattle.std.proofs.Common.{◌≡◌, ◌≢◌, ℕ, ◌<◌, ◌≤◌, Bool, true, false, List, [], ◌∷◌, ◌++◌, length, get_or, take, refl, sym, ◌∙◌, ap, subst, inl, inr, arith, append_assoc}
-use Rattle.std.specs.Prelude.{Contains, Option, Some, None, Ok, is_some}
+use Rattle.std.specs.Prelude.{Contains, Option, Some, None, Result, Ok, is_some}
+use Rattle.std.specs.declared.alloc.AllocError.{AllocError}
 use Rattle.std.proofs.lemmas.Bool.{cases_eq, cases_lt}
 use Rattle.std.proofs.lemmas.List.{take-append-le, length-append, length_push}
 use Rattle.std.proofs.lemmas.List.Elements.{Contains-append_left, Contains-push}
 use Rattle.cnf_form.specs.Cnf.{LitOf, negate, ClauseWithin}
 use Rattle.unit_propagation.specs.declared.watch.Head.{Head}
 use Rattle.unit_propagation.specs.declared.watch.Watch.{Watch}
-use Rattle.unit_propagation.specs.Propagation.{IsConsistent, IsOpen, IsFixpoint, IsSatisfied, IsFalsified, IsFalsifiedBut, Propagates}
+use Rattle.unit_propagation.specs.Propagation.{IsConsistent, IsUnassigned, IsFixpoint, IsSatisfied, IsFalsified, IsFalsifiedBut, Propagates}
 use Rattle.unit_propagation.specs.Propagator.{PropagatorOf, EndsDecided, slot_at, clauses_of, Same}
 use Rattle.unit_propagation.specs.Visit.{State, IsKept, AllKept, IsFiled, Walks, SettleFits}
 use Rattle.unit_propagation.specs.Assumption.{AssumeWalks}
@@ -21,7 +22,7 @@ use Rattle.unit_propagation.proofs.Filing.{kept_push, kept_before_last, slot_new
 use Rattle.unit_propagation.proofs.States.{taken, consistent_prefix, within_push}
 
 -- a decision as an assumption
-pub decided : (slots : List (Option (List LitOf))) (pairs : List (List Watch)) (s new : State) (l : LitOf) → IsOpen s.trail l
+pub decided : (slots : List (Option (List LitOf))) (pairs : List (List Watch)) (s new : State) (l : LitOf) → IsUnassigned s.trail l
     → Walks slots pairs (record s { trail = s.trail ++ l ∷ [] }) new → AssumeWalks slots pairs s new (l ∷ [])
 decided slots pairs s new l o w = record {
   assumed = s.trail ++ l ∷ [];
@@ -39,7 +40,7 @@ pub ends_of_settle : (p : PropagatorOf) (slots : List (Option (List LitOf))) (pa
 ends_of_settle p slots pairs old new base None e g h f = h
 ends_of_settle p slots pairs old new base (Some k) e g h f = (h, (f.1, subst (λ z. slot_at z k ≡ Some f.1) (sym e) f.2, subst (λ z. IsFalsified z f.1) (sym g) f.3))
 
--- of two literals of a clause the first is open, and the second false
+-- of two literals of a clause the first is unassigned, and the second false
 pub kept_learnt : (t c : List LitOf) (h : Head) (first second : LitOf) → h.left ≡ first → h.right ≡ second → Contains c first → Contains c second → first ≢ second → (Contains t (negate first) → ⊥)
     → (p : List LitOf) → ((l : LitOf) → Contains p l → Contains t l) → ((Contains p (negate second)) → ⊥) → IsKept p p (Some c) h
 kept_learnt t c h first second l r hf hs d opened p less none = record {
@@ -89,8 +90,8 @@ module _ (vars : ℕ) (slots : List (Option (List LitOf))) (s : State) (pairs : 
         | inr i ↦ absurd (omega (arith, i, w.1, v.count))
       ]
 
-  -- a clause came, on the level that is open, and what follows from its first literal
-  pub learnt : (c : List LitOf) (h : Head) (rows' pairs' : List (List Watch)) (l : LitOf) (new : State) (conflict' : Bool) → ClauseWithin vars c → IsOpen s.trail l
+  -- a clause came, on the current level, and what follows from its first literal
+  pub learnt : (c : List LitOf) (h : Head) (rows' pairs' : List (List Watch)) (l : LitOf) (new : State) (conflict' : Bool) → ClauseWithin vars c → IsUnassigned s.trail l
       → ((n : ℕ) → Contains limits n → IsKept (take n s.trail) (take n s.trail) (Some c) h)
       → Walks (slots ++ Some c ∷ []) pairs' (record { heads = s.heads ++ h ∷ []; rows = rows'; trail = s.trail ++ l ∷ [] }) new
       → (conflict' ≡ false → AllKept new.trail new.trail (slots ++ Some c ∷ []) new.heads)
@@ -114,6 +115,17 @@ module _ (vars : ℕ) (slots : List (Option (List LitOf))) (s : State) (pairs : 
             );
         rising = v.rising;
       }
+
+  -- a clause was filed, and its first literal is true: how propagation ended
+  pub settled : (c : List LitOf) (h : Head) (l : LitOf) (rows' pairs' : List (List Watch)) (slots' : List (Option (List LitOf))) (heads' : List Head) (new : State) (r : Result (Option ℕ) AllocError)
+      → conflict ≡ false → slots' ≡ slots ++ Some c ∷ [] → heads' ≡ s.heads ++ h ∷ [] → IsFiled slots' (record { heads = heads'; rows = rows'; trail = s.trail }) pairs' → IsKept s.trail (s.trail ++ l ∷ []) (Some c) h
+      → (IsFiled slots' (record { heads = heads'; rows = rows'; trail = s.trail }) pairs' → AllKept s.trail (s.trail ++ l ∷ []) slots' heads'
+      → SettleFits slots' pairs' (record { heads = heads'; rows = rows'; trail = s.trail ++ l ∷ [] }) new s.trail r)
+      → SettleFits (slots ++ Some c ∷ []) pairs' (record { heads = s.heads ++ h ∷ []; rows = rows'; trail = s.trail ++ l ∷ [] }) new s.trail r
+  settled c h l rows' pairs' slots' heads' new r free e w filed kept step =
+      let all = kept_push slots s pairs (length slots) refl (sym v.count) s.trail (s.trail ++ l ∷ []) (Some c) h (kept_before slots s l (v.now free)) kept in
+      subst (λ z. SettleFits (slots ++ Some c ∷ []) pairs' (record { heads = z; rows = rows'; trail = s.trail ++ l ∷ [] }) new s.trail r) w
+      (subst (λ z. SettleFits z pairs' (record { heads = heads'; rows = rows'; trail = s.trail ++ l ∷ [] }) new s.trail r) e (step filed (rw (e, w) all)))
 
   -- no clause came, because memory ran out
   pub unlearnt : (slots' : List (Option (List LitOf))) (s' : State) (pairs' : List (List Watch)) → s'.trail ≡ s.trail → length slots' ≡ length s'.heads → Same slots slots' → IsFiled slots' s' pairs'
@@ -142,8 +154,8 @@ module _ (vars : ℕ) (slots : List (Option (List LitOf))) (s : State) (pairs : 
       → (n : ℕ) → length slots ≡ n → (j : ℕ) (d : Head) → j < length hs → j ≢ n → IsKept b b (slot_at (slots ++ Some c ∷ []) j) (get_or hs j d)
   kept_less c h hs b size all below n e j d k ne = below j d k (kept_before_last b b slots s.heads (Some c) h n e (sym v.count ∙ e) all j d (omega (arith, k, size)) ne)
 
--- a clause with one open literal, and what follows when that becomes true
-pub learnt_grown : (slots : List (Option (List LitOf))) (s : State) (c : List LitOf) (l : LitOf) → Contains c l → IsFalsifiedBut s.trail c l → IsOpen s.trail l → (t : List LitOf)
+-- a clause with one unassigned literal, and what follows when that becomes true
+pub learnt_grown : (slots : List (Option (List LitOf))) (s : State) (c : List LitOf) (l : LitOf) → Contains c l → IsFalsifiedBut s.trail c l → IsUnassigned s.trail l → (t : List LitOf)
     → Propagates (clauses_of (slots ++ Some c ∷ [])) (s.trail ++ l ∷ []) t → Propagates (clauses_of (slots ++ Some c ∷ [])) s.trail t
 learnt_grown slots s c l contains unit o t p =
     propagates_trans (clauses_of (slots ++ Some c ∷ [])) s.trail (s.trail ++ l ∷ []) t

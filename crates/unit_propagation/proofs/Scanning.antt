@@ -5,12 +5,12 @@ use Rattle.std.proofs.lemmas.List.{take-append-drop}
 use Rattle.std.proofs.lemmas.List.Elements.{Contains-push, Contains-push_cases, Contains-append_left}
 use Rattle.cnf_form.specs.Cnf.{LitOf, negate}
 use Rattle.cnf_form.proofs.Members.{Contains-empty, take_one_more, Contains-read}
-use Rattle.unit_propagation.specs.Propagation.{IsOpen, IsFalsified, IsFalsifiedBut}
+use Rattle.unit_propagation.specs.Propagation.{IsUnassigned, IsFalsified, IsFalsifiedBut}
 
--- what is known of the literals so far: all are false, or all but an open one
+-- what is known of the literals so far: all are false, or all but an unassigned one
 abbrev pub Scanned : List LitOf → List LitOf → Option LitOf → Type 0
 Scanned t front None = IsFalsified t front
-Scanned t front (Some u) = Contains front u × IsOpen t u × IsFalsifiedBut t front u
+Scanned t front (Some u) = Contains front u × IsUnassigned t u × IsFalsifiedBut t front u
 
 Contains-take : (n : ℕ) (xs : List LitOf) (x : LitOf) → Contains (take n xs) x → Contains xs x
 Contains-take n xs x h = subst (λ ys. Contains ys x) (take-append-drop n xs) (Contains-append_left (take n xs) (drop n xs) x h)
@@ -24,7 +24,7 @@ but_more t c l u f n = record {
 }
 
 module _ (t cs : List LitOf) (i : ℕ) (l : LitOf) (h : i < length cs) (is : l ≡ get_or cs i l) (o o' : Option LitOf) where
-  pub scan_open : Scanned t (take i cs) o → o ≡ None → o' ≡ Some l → IsOpen t l → Scanned t (take (i + 1) cs) o'
+  pub scan_open : Scanned t (take i cs) o → o ≡ None → o' ≡ Some l → IsUnassigned t l → Scanned t (take (i + 1) cs) o'
   scan_open w e e' op =
       let f : Scanned t (take i cs) None = subst (Scanned t (take i cs)) e w in
       rw (take_one_more cs i l h is, e') (Contains-push (take i cs) l, op, but_more t (take i cs) l l (λ m k d. f.each m k) (λ d. absurd (d refl)))
@@ -43,7 +43,7 @@ module _ (t cs : List LitOf) (i : ℕ) (l : LitOf) (h : i < length cs) (is : l �
       let b = f.2 in
       rw (take_one_more cs i l h is, e') (Contains-append_left (take i cs) (l ∷ []) u f.0, f.1, but_more t (take i cs) l u b.each (λ d. absurd (d (sym same))))
 
-  pub scan_two : (u : LitOf) → Scanned t (take i cs) o → o ≡ Some u → u ≢ l → IsOpen t l → Contains cs u × Contains cs l × (u ≢ l) × IsOpen t u × IsOpen t l
+  pub scan_two : (u : LitOf) → Scanned t (take i cs) o → o ≡ Some u → u ≢ l → IsUnassigned t l → Contains cs u × Contains cs l × (u ≢ l) × IsUnassigned t u × IsUnassigned t l
   scan_two u w e ne op =
       let f : Scanned t (take i cs) (Some u) = subst (Scanned t (take i cs)) e w in
       (Contains-take i cs u f.0, Contains-read cs i l h is, ne, f.1, op)

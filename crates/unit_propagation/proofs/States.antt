@@ -1,22 +1,19 @@
 -- What holds of a propagator's fields still, when a clause comes or goes and when levels are taken back.
 use Rattle.std.proofs.Common.{◌≡◌, ◌≢◌, ℕ, ◌<◌, ◌≤◌, Bool, true, false, List, [], ◌∷◌, ◌++◌, length, get_or, set, take, refl, sym, ◌∙◌, ap, subst, inl, inr, arith}
 use Rattle.std.specs.Prelude.{Contains, Option, Some, None, Ok, is_some}
-use Rattle.std.proofs.lemmas.List.Elements.{Contains-append_left, Contains-push}
 use Rattle.std.proofs.lemmas.Bool.{cases_eq, cases_lt, false≢true}
 use Rattle.std.proofs.lemmas.List.{get_or-take, length-take, take-take, get_or_default, length_push, get_or-set_same, get_or-set_other, length-set}
 use Rattle.cnf_form.specs.Cnf.{LitOf, negate, ClauseWithin}
 use Rattle.cnf_form.proofs.Members.{Contains-empty}
 use Rattle.unit_propagation.specs.declared.watch.Head.{Head}
 use Rattle.unit_propagation.specs.declared.watch.Watch.{Watch}
-use Rattle.unit_propagation.specs.Propagation.{IsConsistent, IsOpen, IsFixpoint, IsFalsifiedBut, HasFalsified, Propagates}
-use Rattle.unit_propagation.specs.Propagator.{slot_at, clauses_of, Same}
+use Rattle.unit_propagation.specs.Propagation.{IsConsistent, IsFixpoint, HasFalsified}
+use Rattle.unit_propagation.specs.Propagator.{slot_at, clauses_of}
 use Rattle.unit_propagation.specs.Visit.{State, IsKept, AllKept, IsFiled, Walks, SettleFits}
 use Rattle.unit_propagation.specs.Inside.{IsPropagator}
 use Rattle.unit_propagation.proofs.Slots.{clauses_of-slot, clauses_of-contains}
-use Rattle.unit_propagation.proofs.Visits.{propagates_trans, propagates_unit}
-use Rattle.unit_propagation.proofs.Walks.{kept_all_grown}
 use Rattle.unit_propagation.proofs.Watched.{kept_settled}
-use Rattle.unit_propagation.proofs.Filing.{kept_push, kept_loose, kept_before_last, slot_new, slot_before, some_below}
+use Rattle.unit_propagation.proofs.Filing.{kept_push, slot_new, slot_before, some_below}
 
 -- filing says nothing of the trail
 pub filed_trail : (slots : List (Option (List LitOf))) (s : State) (pairs : List (List Watch)) (t : List LitOf) → IsFiled slots s pairs → IsFiled slots (record s { trail = t }) pairs
@@ -54,27 +51,6 @@ module _ (vars : ℕ) (slots : List (Option (List LitOf))) (s : State) (pairs : 
     ];
     consistent = v.consistent;
     now = λ e. let k = kept e in kept_push slots s pairs (length slots) refl (sym v.count) s.trail s.trail (Some c) h (v.now k.0) k.1;
-    levels = λ n k. absurd (Contains-empty n (subst (λ z. Contains z n) zero k));
-    rising = λ i j d h k. absurd (omega (arith, k, ap length zero));
-  }
-
-  -- no clause came, because memory ran out
-  pub without_clause : (slots' : List (Option (List LitOf))) (s' : State) (pairs' : List (List Watch)) → limits ≡ [] → s'.trail ≡ s.trail → length slots' ≡ length s'.heads → Same slots slots' → IsFiled slots' s' pairs'
-      → (AllKept s.trail s.trail slots s.heads → AllKept s.trail s.trail slots' s'.heads) → IsPropagator vars slots' s' pairs' limits conflict
-  without_clause slots' s' pairs' zero same_trail count same filed kept = record {
-    count = count;
-    filed = filed;
-    within = λ j c e. elim same [
-      | inl g ↦ v.within j c (subst (λ z. slot_at z j ≡ Some c) g e)
-      | inr g ↦ let e' : slot_at (slots ++ None ∷ []) j ≡ Some c = subst (λ z. slot_at z j ≡ Some c) g e in
-          let inside = some_below (slots ++ None ∷ []) j c e' in
-          elim (cases_eq j (length slots)) [
-            | inl i ↦ absurd (let f : None ≡ Some c = sym (slot_new slots None j (sym i)) ∙ e' in cc)
-            | inr ne ↦ v.within j c (sym (slot_before slots None j (omega (arith, inside, ne, (let o : Option (List LitOf) = None in length_push slots o)))) ∙ e')
-          ]
-    ];
-    consistent = subst IsConsistent (sym same_trail) v.consistent;
-    now = λ e. rw same_trail (kept (v.now e));
     levels = λ n k. absurd (Contains-empty n (subst (λ z. Contains z n) zero k));
     rising = λ i j d h k. absurd (omega (arith, k, ap length zero));
   }
@@ -129,21 +105,6 @@ pub settle_ok : (slots : List (Option (List LitOf))) (pairs : List (List Watch))
 settle_ok slots pairs old new base None f = (f.0, λ e. f.1, λ e. absurd (false≢true e))
 settle_ok slots pairs old new base (Some k) f = (f.0, λ e. absurd (false≢true (sym e)), λ e. (f.1, clauses_of-contains slots k f.1 f.2, f.3))
 
-pub walked : (vars : ℕ) (slots : List (Option (List LitOf))) (s new : State) (pairs : List (List Watch)) (limits : List ℕ) (conflict : Bool) → length slots ≡ length s.heads
-    → ((j : ℕ) (c : List LitOf) → slot_at slots j ≡ Some c → ClauseWithin vars c) → IsConsistent s.trail → limits ≡ [] → Walks slots pairs s new
-    → (conflict ≡ false → AllKept new.trail new.trail slots new.heads) → IsPropagator vars slots new pairs limits conflict
-walked vars slots s new pairs limits conflict count within ok zero w now =
-    let g = w.grown in
-    record {
-      count = count ∙ sym w.count;
-      filed = w.filed;
-      within = within;
-      consistent = g.consistent ok;
-      now = now;
-      levels = λ n k. absurd (Contains-empty n (subst (λ z. Contains z n) zero k));
-      rising = λ i j d h k. absurd (omega (arith, k, ap length zero));
-    }
-
 -- the clauses are within bounds beside a new one
 pub within_push : (vars : ℕ) (slots : List (Option (List LitOf))) (c : List LitOf) → ((j : ℕ) (c' : List LitOf) → slot_at slots j ≡ Some c' → ClauseWithin vars c') → ClauseWithin vars c
     → (j : ℕ) (c' : List LitOf) → slot_at (slots ++ Some c ∷ []) j ≡ Some c' → ClauseWithin vars c'
@@ -151,22 +112,3 @@ within_push vars slots c old new j c' e = elim (cases_eq j (length slots)) [
   | inl g ↦ let f : Some c ≡ Some c' = sym (slot_new slots (Some c) j (sym g)) ∙ e in let same : c ≡ c' = cc in subst (ClauseWithin vars) same new
   | inr ne ↦ let inside = some_below (slots ++ Some c ∷ []) j c' e in old j c' (sym (slot_before slots (Some c) j (omega (arith, inside, ne, length_push slots (Some c)))) ∙ e)
 ]
-
--- a clause with one open literal, before that becomes true
-module _ (slots : List (Option (List LitOf))) (s : State) (pairs : List (List Watch)) (c : List LitOf) (h : Head) (l : LitOf) (count : length slots ≡ length s.heads) (none : h.left ≡ h.right) (contains : Contains c l) where
-  pub kept_unit : AllKept s.trail s.trail slots s.heads → AllKept s.trail (s.trail ++ l ∷ []) (slots ++ Some c ∷ []) (s.heads ++ h ∷ [])
-  kept_unit k =
-      let grows : (m : LitOf) → Contains s.trail m → Contains (s.trail ++ l ∷ []) m = λ m i. Contains-append_left s.trail (l ∷ []) m i in
-      kept_push slots s pairs (length slots) refl (sym count) s.trail (s.trail ++ l ∷ []) (Some c) h (kept_all_grown s.trail s.trail (s.trail ++ l ∷ []) slots s.heads grows k)
-      (kept_loose s.trail (s.trail ++ l ∷ []) c h none (record { lit = l; contains = contains; on = Contains-push s.trail l }))
-
-  pub unit_grown : IsFalsifiedBut s.trail c l → IsOpen s.trail l → (t : List LitOf) → Propagates (clauses_of (slots ++ Some c ∷ [])) (s.trail ++ l ∷ []) t → Propagates (clauses_of (slots ++ Some c ∷ [])) s.trail t
-  unit_grown unit o t p =
-      propagates_trans (clauses_of (slots ++ Some c ∷ [])) s.trail (s.trail ++ l ∷ []) t
-      (propagates_unit (clauses_of (slots ++ Some c ∷ [])) s.trail c l (clauses_of-contains (slots ++ Some c ∷ []) (length slots) c (slot_new slots (Some c) (length slots) refl)) contains unit o) p
-
-  -- each clause but the new one is kept as before, where propagation kept what was kept
-  pub kept_less_unit : (hs : List Head) → length hs ≡ length (s.heads ++ h ∷ []) → AllKept s.trail s.trail slots s.heads
-      → ((j : ℕ) (d : Head) → j < length hs → IsKept s.trail s.trail (slot_at (slots ++ Some c ∷ []) j) (get_or (s.heads ++ h ∷ []) j d) → IsKept s.trail s.trail (slot_at (slots ++ Some c ∷ []) j) (get_or hs j d))
-      → (n : ℕ) → length slots ≡ n → (j : ℕ) (d : Head) → j < length hs → j ≢ n → IsKept s.trail s.trail (slot_at (slots ++ Some c ∷ []) j) (get_or hs j d)
-  kept_less_unit hs size all below n e j d k ne = below j d k (kept_before_last s.trail s.trail slots s.heads (Some c) h n e (sym count ∙ e) all j d (omega (arith, k, size)) ne)

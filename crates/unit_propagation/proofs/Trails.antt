@@ -12,7 +12,7 @@ use Rattle.cnf_form.proofs.Literals.{index_of-injective, lit_cases, negate-negat
 use Rattle.cnf_form.proofs.Members.{take_one_more, Contains-read}
 use Rattle.unit_propagation.specs.Marks.{is_marked, IsBelow, IsDistinct, IsTrail, IsPlaced, TrailOf}
 use Rattle.unit_propagation.specs.declared.watch.Origin.{Origin}
-use Rattle.unit_propagation.specs.Propagation.{IsConsistent, IsOpen}
+use Rattle.unit_propagation.specs.Propagation.{IsConsistent, IsUnassigned}
 
 sign_room : (v n : ℕ) (a : Bool) → v ≤ n → 2 * v + cond a 1 0 < 2 * n + 2
 sign_room v n true h = omega arith
@@ -56,7 +56,7 @@ longer_mark marks n i =
 abbrev weight : Bool → ℕ
 weight b = cond b 1 0
 
-pub consistent_push : (t : List LitOf) (l : LitOf) → IsConsistent t → IsOpen t l → IsConsistent (t ++ l ∷ [])
+pub consistent_push : (t : List LitOf) (l : LitOf) → IsConsistent t → IsUnassigned t l → IsConsistent (t ++ l ∷ [])
 consistent_push t l ok o = record {
   apart = λ m h k. elim (Contains-push_cases t l m h) [
     | inl h' ↦ elim (Contains-push_cases t l (negate m) k) [
@@ -71,7 +71,7 @@ consistent_push t l ok o = record {
 }
 
 module _ (vars : ℕ) (marks : List Bool) (t : List LitOf) (l : LitOf) where
-  pub trail_push : IsTrail vars marks t → l.var ≤ vars → index_of l < length marks → IsOpen t l → IsTrail vars (set marks (index_of l) true) (t ++ l ∷ [])
+  pub trail_push : IsTrail vars marks t → l.var ≤ vars → index_of l < length marks → IsUnassigned t l → IsTrail vars (set marks (index_of l) true) (t ++ l ∷ [])
   trail_push w below room o = record {
     limit = w.limit;
     sized = omega (arith, length-set marks (index_of l) true, w.sized);
@@ -194,7 +194,7 @@ var_cases m l same =
     ]
 
 -- the table of places, as the trail grows and as it is cut
-pub placed_push : (origins : List Origin) (t : List LitOf) (l : LitOf) (o : Origin) → IsPlaced origins t → l.var < length origins → IsOpen t l → o.place ≡ length t → IsPlaced (set origins l.var o) (t ++ l ∷ [])
+pub placed_push : (origins : List Origin) (t : List LitOf) (l : LitOf) (o : Origin) → IsPlaced origins t → l.var < length origins → IsUnassigned t l → o.place ≡ length t → IsPlaced (set origins l.var o) (t ++ l ∷ [])
 placed_push origins t l o w room opened at = record {
   within = λ i d h. elim (cases_eq i (length t)) [
     | inl g ↦ subst (λ (z : LitOf). z.var < length (set origins l.var o)) (sym (get_or_push t l d i (sym g))) (omega (arith, room, length-set origins l.var o))
@@ -249,8 +249,8 @@ placed_longer n o origins origins' t w e = rw e (record {
   placed = λ i d q h. ap (λ (z : Origin). z.place) (get_or_append_left origins (replicate n o) q (get_or t i d).var (w.within i d h)) ∙ w.placed i d q h;
 })
 
--- a literal is open where only those before it are true
-pub open_next : (t : List LitOf) (i : ℕ) (l : LitOf) → i < length t → l ≡ get_or t i l → IsDistinct t → IsConsistent t → IsOpen (take i t) l
+-- a literal is unassigned where only those before it are true
+pub open_next : (t : List LitOf) (i : ℕ) (l : LitOf) → i < length t → l ≡ get_or t i l → IsDistinct t → IsConsistent t → IsUnassigned (take i t) l
 open_next t i l room is d c = record {
   not_true = λ h. d.once i l room (subst (Contains (take i t)) is h);
   not_false = λ h. c.apart l (Contains-read t i l room is) (subst (λ z. Contains z (negate l)) (take-append-drop i t) (Contains-append_left (take i t) (drop i t) (negate l) h));

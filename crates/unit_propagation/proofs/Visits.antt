@@ -8,7 +8,7 @@ use Rattle.cnf_form.specs.Cnf.{LitOf, negate, index_of, Closure, propagated}
 use Rattle.cnf_form.proofs.Literals.{lit_cases}
 use Rattle.unit_propagation.specs.declared.watch.Head.{Head}
 use Rattle.unit_propagation.specs.declared.watch.Watch.{Watch}
-use Rattle.unit_propagation.specs.Propagation.{IsOpen, IsFalsifiedBut, Propagates}
+use Rattle.unit_propagation.specs.Propagation.{IsUnassigned, IsFalsifiedBut, Propagates}
 use Rattle.unit_propagation.specs.Propagator.{slot_at, clauses_of}
 use Rattle.unit_propagation.specs.Watch.{row, Watches, IsStale}
 use Rattle.unit_propagation.specs.Visit.{State, IsKept, EntryFits, IsListed, StandsIn, IsFiledAt, IsVisited, StandsFrom, IsPending}
@@ -76,7 +76,7 @@ propagates_trans F s t u p q = record {
 }
 
 -- a literal that a clause makes unit becomes true
-pub propagates_unit : (F : List (List LitOf)) (t c : List LitOf) (l : LitOf) → Contains F c → Contains c l → IsFalsifiedBut t c l → IsOpen t l → Propagates F t (t ++ l ∷ [])
+pub propagates_unit : (F : List (List LitOf)) (t c : List LitOf) (l : LitOf) → Contains F c → Contains c l → IsFalsifiedBut t c l → IsUnassigned t l → Propagates F t (t ++ l ∷ [])
 propagates_unit F t c l h k unit o = record {
   consistent = λ ok. consistent_push t l ok o;
   added = l ∷ [];

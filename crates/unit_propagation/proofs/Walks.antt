@@ -12,7 +12,7 @@ use Rattle.unit_propagation.specs.declared.watch.Head.{Head}
 use Rattle.unit_propagation.specs.declared.watch.Watch.{Watch}
 use Rattle.unit_propagation.specs.declared.visit.Stop.{Stop}
 use Rattle.unit_propagation.specs.declared.visit.Stop.TheVariants.{Conflict, Memory}
-use Rattle.unit_propagation.specs.Propagation.{IsOpen, IsFalsified, Propagates}
+use Rattle.unit_propagation.specs.Propagation.{IsUnassigned, IsFalsified, Propagates}
 use Rattle.unit_propagation.specs.Propagator.{slot_at, clauses_of}
 use Rattle.unit_propagation.specs.Watch.{row, Watches}
 use Rattle.unit_propagation.specs.Visit.{State, IsKept, AllKept, EntryFits, IsListed, StandsIn, StandsFrom, IsFiledAt, IsVisited, IsPending, StopFits, PairFits, IsFiled, Walks, EndFits, AllImplied, PairsFit, ImpliedFits}
@@ -50,7 +50,7 @@ listed_end list kept k j room past s =
 module _ (slots : List (Option (List LitOf))) (pairs : List (List Watch)) (p : List LitOf) (f : LitOf) where
   -- one entry of the pairs
   pub implied : (heads : List Head) (s t : List LitOf) (w : Watch) → PairFits slots heads f w → Contains s (negate f)
-      → (t ≡ s) ⊎ (((c : List LitOf) × (slot_at slots w.clause ≡ Some c)) × IsOpen s w.blocker × (t ≡ s ++ w.blocker ∷ [])) → Propagates (clauses_of slots) s t
+      → (t ≡ s) ⊎ (((c : List LitOf) × (slot_at slots w.clause ≡ Some c)) × IsUnassigned s w.blocker × (t ≡ s ++ w.blocker ∷ [])) → Propagates (clauses_of slots) s t
   implied heads s t w fit off grown =
       elim grown [
         | inl e ↦ subst (Propagates (clauses_of slots) s) (sym e) (propagates_none (clauses_of slots) s)
@@ -126,7 +126,7 @@ module _ (slots : List (Option (List LitOf))) (pairs : List (List Watch)) (p : L
         satisfied j d k c e l h on = kept_satisfied p s.trail (slot_at slots j) (get_or s.heads j d) k (p ++ negate f ∷ []) s.trail
             (λ c' g. let same : c ≡ c' = cc in record { lit = l; contains = subst (λ z. Contains z l) same h; on = on })
 
-    -- after the list was gone through and put back
+    -- after the list was gone through and set again
     pub walks_end : (new : State) (list : List Watch) (n : ℕ) → index_of f < length new.rows → n ≤ length list → IsVisited slots taken new f list n (length list) → Walks slots pairs s (record new { rows = set new.rows (index_of f) (take n list) })
     walks_end new list n wide room v = record {
       filed = record {
@@ -184,7 +184,7 @@ module _ (slots : List (Option (List LitOf))) (heads : List Head) (f : LitOf) (l
   clause_read = ap (λ (q : Watch). q.clause) (get_or_default list k r x within)
 
   abbrev pub Grows : Type 0
-  Grows = (t' ≡ t) ⊎ (((c : List LitOf) × (slot_at slots (get_or list k r).clause ≡ Some c)) × IsOpen t (get_or list k x).blocker × (t' ≡ t ++ (get_or list k x).blocker ∷ []))
+  Grows = (t' ≡ t) ⊎ (((c : List LitOf) × (slot_at slots (get_or list k r).clause ≡ Some c)) × IsUnassigned t (get_or list k x).blocker × (t' ≡ t ++ (get_or list k x).blocker ∷ []))
 
   pub pair_grown : Grows → Propagates (clauses_of slots) s t'
   pair_grown g = propagates_trans (clauses_of slots) s t t' before (implied slots [] [] f heads t t' (get_or list k x) (fit (get_or list k x) (Contains-get_or list k x within)) off_still

@@ -7,7 +7,7 @@ pub record IsConsistent (t : List LitOf) : Type 0 where
   pub apart : (l : LitOf) → Contains t l → Contains t (negate l) → ⊥
 
 -- neither the literal nor its negation is true
-pub record IsOpen (t : List LitOf) (l : LitOf) : Type 0 where
+pub record IsUnassigned (t : List LitOf) (l : LitOf) : Type 0 where
   pub not_true : Contains t l → ⊥
   pub not_false : Contains t (negate l) → ⊥
 

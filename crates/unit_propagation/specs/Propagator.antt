@@ -5,7 +5,7 @@ use Rattle.unit_propagation.specs.declared.outcome.Outcome.{Outcome}
 use Rattle.unit_propagation.specs.declared.outcome.Outcome.TheVariants.{Complete, Falsified, Opposed}
 use Rattle.unit_propagation.specs.Propagation.{IsConsistent, IsFalsified, HasFalsified, Propagates}
 
--- The clause at each number, if it wasn't taken out; the trail; how long it was when each level began; and whether a clause
+-- The clause at each number, if it wasn't removed; the trail; how long it was when each level began; and whether a clause
 -- or an assumption is falsified.
 pub record PropagatorOf : Type 0 where
   pub vars : ℕ
@@ -14,7 +14,7 @@ pub record PropagatorOf : Type 0 where
   pub limits : List ℕ
   pub conflict : Bool
 
--- the clauses that weren't taken out, in order
+-- the clauses that weren't removed, in order
 abbrev pub clauses_of : List (Option (List LitOf)) → List (List LitOf)
 clauses_of [] = []
 clauses_of (Some c ∷ ss) = c ∷ clauses_of ss
@@ -32,8 +32,8 @@ slot_at slots k = slice_index_or slots k None
 abbrev pub Same : List (Option (List LitOf)) → List (Option (List LitOf)) → Type 0
 Same old new = (new ≡ old) ⊎ (new ≡ old ++ None ∷ [])
 
--- the clause was put, and what follows is true; after a conflict nothing is propagated any more
-pub record IsPut (old : PropagatorOf) (c : List LitOf) (new : PropagatorOf) : Type 0 where
+-- the clause was added, and what follows is true; after a conflict nothing is propagated any more
+pub record IsAdded (old : PropagatorOf) (c : List LitOf) (new : PropagatorOf) : Type 0 where
   pub vars : new.vars ≡ old.vars
   pub slots : new.slots ≡ old.slots ++ Some c ∷ []
   pub limits : new.limits ≡ old.limits
@@ -82,5 +82,5 @@ EndsDecided new None = new.conflict ≡ false
 EndsDecided new (Some k) = (new.conflict ≡ true) × ((c : List LitOf) × (slot_at new.slots k ≡ Some c) × IsFalsified new.trail c)
 
 -- memory ran out: only a number may be used up
-abbrev pub IsWanting : PropagatorOf → PropagatorOf → Type 0
-IsWanting old new = Same old.slots new.slots × (new ≡ record old { slots = new.slots })
+abbrev pub IsOutOfMemory : PropagatorOf → PropagatorOf → Type 0
+IsOutOfMemory old new = Same old.slots new.slots × (new ≡ record old { slots = new.slots })

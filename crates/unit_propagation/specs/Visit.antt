@@ -10,7 +10,7 @@ use Rattle.unit_propagation.specs.declared.visit.Visited.{Visited}
 use Rattle.unit_propagation.specs.declared.visit.Visited.TheVariants.{Left, Moved, Satisfied, Assigned, Falsified, NoMemory}
 use Rattle.unit_propagation.specs.declared.visit.Stop.{Stop}
 use Rattle.unit_propagation.specs.declared.visit.Stop.TheVariants.{Conflict, Memory}
-use Rattle.unit_propagation.specs.Propagation.{IsOpen, IsSatisfied, IsFalsified, IsFalsifiedBut, Propagates}
+use Rattle.unit_propagation.specs.Propagation.{IsUnassigned, IsSatisfied, IsFalsified, IsFalsifiedBut, Propagates}
 use Rattle.unit_propagation.specs.Propagator.{slot_at, clauses_of}
 use Rattle.unit_propagation.specs.Watch.{row, Watches, IsStale}
 
@@ -78,7 +78,7 @@ abbrev pub VisitFits : List LitOf → List LitOf → ℕ → Head → LitOf → 
 VisitFits t c end h l Stale = IsStale h l
 VisitFits t c end h l (Keep other) = Watches h l other × (h.left ≢ h.right) × Contains t other
 VisitFits t c end h l (Move from m other) = Watches h l other × (h.left ≢ h.right) × Contains c m × (m ≢ other) × (Contains t (negate m) → ⊥) × (h.start ≤ from) × (from ≤ end)
-VisitFits t c end h l (Assign other) = Watches h l other × (h.left ≢ h.right) × IsFalsifiedBut t c other × IsOpen t other
+VisitFits t c end h l (Assign other) = Watches h l other × (h.left ≢ h.right) × IsFalsifiedBut t c other × IsUnassigned t other
 VisitFits t c end h l (Falsify other) = Watches h l other × (h.left ≢ h.right) × IsFalsifiedBut t c other × Contains t (negate other)
 
 -- what was done with the clause c at j, whose head is h
@@ -86,7 +86,7 @@ abbrev pub VisitedFits : State → State → List LitOf → ℕ → Head → Lit
 VisitedFits s s' c j h l Left = IsStale h l × (s' ≡ s)
 VisitedFits s s' c j h l (Moved other m) = Watches h l other × (h.left ≢ h.right) × Contains c m × (m ≢ other) × (Contains s.trail (negate m) → ⊥) × MovesWatch s s' j other m
 VisitedFits s s' c j h l (Satisfied other) = Watches h l other × (h.left ≢ h.right) × Contains s.trail other × (s' ≡ s)
-VisitedFits s s' c j h l (Assigned other) = Watches h l other × (h.left ≢ h.right) × IsFalsifiedBut s.trail c other × IsOpen s.trail other × Assigns s s' other
+VisitedFits s s' c j h l (Assigned other) = Watches h l other × (h.left ≢ h.right) × IsFalsifiedBut s.trail c other × IsUnassigned s.trail other × Assigns s s' other
 VisitedFits s s' c j h l (Falsified other) = Watches h l other × (h.left ≢ h.right) × IsFalsifiedBut s.trail c other × Contains s.trail (negate other) × (s' ≡ s)
 VisitedFits s s' c j h l (NoMemory other) = Watches h l other × (h.left ≢ h.right) × (s' ≡ s)
 
@@ -140,7 +140,7 @@ pub record IsPairOf (heads : List Head) (u : LitOf) (w : Watch) (c : List LitOf)
   pub watches : (d : Head) → Watches (slice_index_or heads w.clause d) u w.blocker
   pub apart : (d : Head) → (slice_index_or heads w.clause d).left ≢ (slice_index_or heads w.clause d).right
 
--- an entry in the list of u is of a clause of two literals, if the clause wasn't taken out
+-- an entry in the list of u is of a clause of two literals, if the clause wasn't removed
 abbrev pub PairFits : List (Option (List LitOf)) → List Head → LitOf → Watch → Type 0
 PairFits slots heads u w = (c : List LitOf) → slot_at slots w.clause ≡ Some c → IsPairOf heads u w c
 
@@ -171,13 +171,13 @@ EndFits p slots s None = AllKept p s.trail slots s.heads
 EndFits p slots s (Some (Conflict j)) = (c : List LitOf) × (slot_at slots j ≡ Some c) × IsFalsified s.trail c
 EndFits p slots s (Some Memory) = ⊤
 
--- the blocker of the clause k, of two literals, is true now, or false, or the clause was taken out
+-- the blocker of the clause k, of two literals, is true now, or false, or the clause was removed
 abbrev pub ImpliedFits : List (Option (List LitOf)) → List LitOf → List LitOf → ℕ → LitOf → Option Stop → Type 0
 ImpliedFits slots s t k b None = Contains t b ⊎ (slot_at slots k ≡ None)
 ImpliedFits slots s t k b (Some (Conflict j)) = (j ≡ k) × ((c : List LitOf) × (slot_at slots k ≡ Some c)) × Contains s (negate b) × (t ≡ s)
 ImpliedFits slots s t k b (Some Memory) = t ≡ s
 
--- the blocker of each clause that wasn't taken out is true
+-- the blocker of each clause that wasn't removed is true
 abbrev pub AllImplied : List (Option (List LitOf)) → List Watch → List LitOf → Type 0
 AllImplied slots list t = (w : Watch) (c : List LitOf) → Contains list w → slot_at slots w.clause ≡ Some c → Contains t w.blocker
 

@@ -12,7 +12,7 @@ use Rattle.unit_propagation.specs.Propagator.{slot_at}
 abbrev pub end_of : ℕ → List Head → ℕ → ℕ
 end_of size heads k = slice_index_or (map (λ (h : Head). h.start) heads) (k + 1) size
 
--- the clause of a head whose literals end there, if it wasn't taken out
+-- the clause of a head whose literals end there, if it wasn't removed
 abbrev pub slot_of : List LitOf → ℕ → Head → Option (List LitOf)
 slot_of lits end h = if h.from == GONE then None else Some (slice_range lits h.start end)
 
@@ -70,7 +70,7 @@ pub record Enters (rows rows' : List (List Watch)) (k : ℕ) (left right : LitOf
   pub keeps : (u : LitOf) (w : Watch) → Contains (row rows u) w → Contains (row rows' u) w
   pub only : (u : LitOf) (w : Watch) → Contains (row rows' u) w → Contains (row rows u) w ⊎ IsEntryOf k left right u w
 
--- no entry came, and only entries of clauses that were taken out went
+-- no entry came, and only entries of clauses that were removed went
 pub record Sweeps (slots : List (Option (List LitOf))) (rows rows' : List (List Watch)) : Type 0 where
   pub keeps : (u : LitOf) (w : Watch) (c : List LitOf) → Contains (row rows u) w → slot_at slots w.clause ≡ Some c → Contains (row rows' u) w
   pub only : (u : LitOf) (w : Watch) → Contains (row rows' u) w → Contains (row rows u) w

@@ -3,7 +3,7 @@
 ghost use Rattle.std.specs.Prelude.{ℕ, ◌≡◌, ◌≤◌, ◌⊎◌, ◌++◌, ◌∷◌, [], true, false, List, Option, length, Contains, All, IfOk, Ok, slice_index_or};
 ghost use Rattle.cnf_form.specs.Cnf.{LitOf, negate};
 ghost use Rattle.unit_propagation.specs.Marks.{IsBelow};
-ghost use Rattle.unit_propagation.specs.Propagation.{IsOpen};
+ghost use Rattle.unit_propagation.specs.Propagation.{IsUnassigned};
 ghost use Rattle.unit_propagation.specs.Propagator.{Assumes, is_conflict};
 ghost use Rattle.unit_propagation.specs.Watch.{slots_of, rows_of};
 ghost use Rattle.unit_propagation.specs.Visit.{State, AllKept, IsFiled};
@@ -13,16 +13,16 @@ use crate::lists::WatchLists;
 use crate::outcome::Outcome;
 use crate::store::ClauseStore;
 use crate::trail::Trail;
-use crate::walk::settle;
+use crate::walk::propagate_from;
 use crate::watch::GONE;
 use cnf_form::Lit;
 use std::alloc::AllocError;
 
-// Makes a literal true, unless it is false.
+// Makes a literal true, unless it is false. Returns whether it is true.
 fn assume_one(trail: &mut Trail, l: Lit) -> Result<bool, AllocError>
     requires { l.var ≤ trail.old.vars }
     ensures vars { trail.new.vars ≡ trail.old.vars }
-    ensures grown { (trail.new.lits ≡ trail.old.lits) ⊎ (IsOpen trail.old.lits l × (trail.new.lits ≡ trail.old.lits ++ l ∷ [])) }
+    ensures grown { (trail.new.lits ≡ trail.old.lits) ⊎ (IsUnassigned trail.old.lits l × (trail.new.lits ≡ trail.old.lits ++ l ∷ [])) }
     ensures yes { result ≡ Ok true → Contains trail.new.lits l }
     ensures no { result ≡ Ok false → Contains trail.new.lits (negate l) }
 {
@@ -36,7 +36,7 @@ fn assume_one(trail: &mut Trail, l: Lit) -> Result<bool, AllocError>
     Ok(true)
 }
 
-// Makes literals true up to the first one that is false.
+// Makes literals true up to the first one that is false. Returns whether all are true.
 fn assume_all(trail: &mut Trail, lits: &[Lit]) -> Result<bool, AllocError>
     requires { All (IsBelow trail.old.vars) lits.now }
     ensures vars { trail.new.vars ≡ trail.old.vars }
@@ -52,7 +52,7 @@ fn assume_all(trail: &mut Trail, lits: &[Lit]) -> Result<bool, AllocError>
     Ok(true)
 }
 
-// Assumes literals and propagates. Out of memory the trail is as it was.
+// Assumes literals and propagates. If memory runs out, the trail is as it was.
 pub(crate) fn assume(
     store: &mut ClauseStore,
     lists: &mut WatchLists,
@@ -88,7 +88,7 @@ pub(crate) fn assume(
             return Err(e);
         }
     }
-    match settle(store, lists, pairs, trail, base)? {
+    match propagate_from(store, lists, pairs, trail, base)? {
         None => Ok(Outcome::Complete),
         Some(k) => Ok(Outcome::Falsified(k)),
     }

@@ -1,4 +1,4 @@
-// Clauses that come, and clauses that go.
+// Clauses are stored and entered in watch lists, and removed.
 
 ghost use Rattle.std.specs.Prelude.{ℕ, ◌≡◌, ◌≢◌, ◌⊎◌, ◌+◌, ◌<◌, ◌≤◌, ◌++◌, ◌∷◌, [], true, false, List, Option, length, Contains, All, OnOk, OnErr, IsTrue, Some, None, slice_index_or, slice_set};
 ghost use Rattle.cnf_form.specs.Cnf.{LitOf};
@@ -15,7 +15,7 @@ use crate::watch::Head;
 use cnf_form::Lit;
 use std::alloc::AllocError;
 
-// A clause of two literals was taken out: its entry in the list of one of them goes where half of the list is such entries.
+// A clause of two literals was removed: its entry in the list of one of them is swept out where half of the list is such entries.
 fn leave_list(store: &ClauseStore, pairs: &mut WatchLists, l: Lit)
     requires lit { l.var ≤ pairs.old.vars }
     ensures vars { pairs.new.vars ≡ pairs.old.vars }
@@ -28,7 +28,7 @@ fn leave_list(store: &ClauseStore, pairs: &mut WatchLists, l: Lit)
     }
 }
 
-// The same for both literals that a clause of this size watches, if it is one of two literals.
+// Sweeps the lists of both literals that a removed clause of this size watched, if it is one of two literals.
 fn leave_pair(store: &ClauseStore, pairs: &mut WatchLists, size: u32, left: Lit, right: Lit)
     requires left { left ≢ right → left.var ≤ pairs.old.vars }
     requires right { left ≢ right → right.var ≤ pairs.old.vars }
@@ -43,8 +43,8 @@ fn leave_pair(store: &ClauseStore, pairs: &mut WatchLists, size: u32, left: Lit,
     }
 }
 
-// Takes a clause out: it watches nothing. Its entries stay in lists until those are visited, or half of a list is such entries.
-pub(crate) fn take_out(store: &mut ClauseStore, pairs: &mut WatchLists, k: u32)
+// Removes a clause: it watches nothing. Its entries stay in lists until those are visited, or half of a list is such entries.
+pub(crate) fn remove_clause(store: &mut ClauseStore, pairs: &mut WatchLists, k: u32)
     requires vars { pairs.old.vars ≡ store.old.vars }
     requires clause { k < length store.old.heads.items }
     ensures store_vars { store.new.vars ≡ store.old.vars }
@@ -154,7 +154,7 @@ pub(crate) fn file_clause(
     }
     let k = (store.len() - 1) as u32;
     if enter_clause(lists, pairs, clause.len() == 2, k, left, right).is_err() {
-        take_out(store, pairs, k);
+        remove_clause(store, pairs, k);
         return Err(AllocError);
     }
     Ok(())

@@ -11,14 +11,14 @@ use cnf_form::Lit;
 use std::alloc::{AllocError, Global};
 use std::mem;
 
-// The lists of literals by their place. Those from some place on aren't there while they are empty.
+// The lists of literals by their index. Those from some index on aren't there while they are empty.
 #[derive(Drop)]
 pub struct WatchLists {
     alloc: Global,
     vars: u32,
     clauses: u32,
     lists: Vec<Vec<Watch>>,
-    // How many entries of each list are counted as those of clauses that were taken out: none from some place on.
+    // How many entries of each list are counted as those of clauses that were removed: none from some place on.
     stale: Vec<u32>,
     ghost sized: { length lists.items ≤ 2 * vars + 2 },
     ghost fit: { All (AreWatches vars clauses) lists.items },
@@ -111,8 +111,8 @@ impl WatchLists {
         list[place] = Watch { clause, blocker };
     }
 
-    // Counts an entry of a literal's list, whose clause was taken out. Whether half of the list is counted, or there is no memory
-    // for counts; the count is 0 then.
+    // Counts an entry of a literal's list, whose clause was removed. Returns whether half of the list is counted, or there is no
+    // memory for counts; the count is 0 then.
     pub fn count_stale(&mut self, l: Lit) -> bool
         requires lit { l.var ≤ self.old.vars }
         ensures vars { self.new.vars ≡ self.old.vars }
@@ -130,7 +130,7 @@ impl WatchLists {
         is_half
     }
 
-    // Takes the entries of clauses that were taken out out of the list of a literal.
+    // Removes the entries of removed clauses from the list of a literal.
     pub fn sweep(&mut self, l: Lit, store: &ClauseStore)
         requires lit { l.var ≤ self.old.vars }
         ensures vars { self.new.vars ≡ self.old.vars }
@@ -144,7 +144,7 @@ impl WatchLists {
         }
     }
 
-    // The list of a literal, which is empty until it is put back.
+    // Takes the list of a literal, which is empty until it is set again.
     pub fn take(&mut self, l: Lit) -> Vec<Watch>
         requires lit { l.var ≤ self.old.vars }
         ensures fit { AreWatches self.old.vars self.old.clauses result }
@@ -163,7 +163,8 @@ impl WatchLists {
         }
     }
 
-    pub fn put(&mut self, l: Lit, list: Vec<Watch>)
+    // Sets the list of a literal, which was taken.
+    pub fn set_list(&mut self, l: Lit, list: Vec<Watch>)
         requires lit { l.var ≤ self.old.vars }
         requires fit { AreWatches self.old.vars self.old.clauses list }
         requires there { 0 < length list.items → index_of l < length self.old.lists.items }

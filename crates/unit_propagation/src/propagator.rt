@@ -3,12 +3,14 @@
 ghost use Rattle.std.specs.Prelude.{ℕ, ◌≡◌, ◌≢◌, ◌↔◌, ◌⊎◌, ◌+◌, ◌*◌, ◌<◌, ◌≤◌, ◌^◌, ◌++◌, ◌∷◌, [], true, false, List, Option, length, take, Contains, All, IfOk, IfSome, IfNone, OnOk, OnErr, IsTrue, Some, None, slice_get, slice_index_or, slice_set};
 ghost use Rattle.cnf_form.specs.Cnf.{LitOf, negate, LitWithin, ClauseWithin};
 ghost use Rattle.cnf_form.specs.declared.literal.TheConstants.{MAX_VARS};
-ghost use Rattle.unit_propagation.specs.Propagation.{IsConsistent, IsOpen, IsSatisfied, IsFalsified, IsFalsifiedBut, IsSettled, IsFixpoint, Propagates};
+ghost use Rattle.unit_propagation.specs.Propagation.{IsConsistent, IsUnassigned, IsSatisfied, IsFalsified, IsFalsifiedBut, IsSettled, IsFixpoint, Propagates};
 ghost use Rattle.unit_propagation.specs.Marks.{IsBelow, IsDistinct};
-ghost use Rattle.unit_propagation.specs.Propagator.{clauses_of, slot_at, present, IsPut, IsWanting, IsAssumed, EndsAssumed, IsDecided, EndsDecided, is_conflict};
+ghost use Rattle.unit_propagation.specs.Visit.{IsKept};
+ghost use Rattle.unit_propagation.specs.declared.watch.Head.{Head};
+ghost use Rattle.unit_propagation.specs.Propagator.{clauses_of, slot_at, present, IsAdded, IsOutOfMemory, IsAssumed, EndsAssumed, IsDecided, EndsDecided, is_conflict};
 
 use crate::assume::assume;
-use crate::file::{file_clause, take_out};
+use crate::file::{file_clause, remove_clause};
 use crate::lists::WatchLists;
 use crate::outcome::Outcome;
 use crate::scan::{Standing, scan_clause};
@@ -57,7 +59,7 @@ impl Model for Propagator {
         (rows_of p.pairs.vars p.pairs.lists.items) p.limits.items p.conflict };
 }
 
-// What a clause that watches nothing names.
+// The literal that a clause which watches nothing names.
 fn some_literal(clause: &[Lit]) -> Lit {
     match clause.first() {
         Some(l) => *l,
@@ -66,7 +68,7 @@ fn some_literal(clause: &[Lit]) -> Lit {
 }
 
 impl Propagator {
-    /// Without clauses, over the variables from 1 to `vars`, at most `MAX_VARS`.
+    /// A propagator without clauses, over the variables from 1 to `vars`, at most `MAX_VARS`.
     pub fn new(alloc: Global, vars: u32) -> Result<Self, AllocError>
         requires { vars ≤ MAX_VARS }
         ensures { IfOk result (λ p. p ≡ record { vars = vars; slots = []; trail = []; limits = []; conflict = false }) }
@@ -92,7 +94,7 @@ impl Propagator {
         self.vars
     }
 
-    /// The number of clauses that were put, those that were taken out among them.
+    /// The number of clauses that were added, those that were removed among them.
     pub fn len(&self) -> usize
         ensures count { result ≡ length self.now.slots }
         ensures few { length self.now.slots < u32.MAX }
@@ -125,7 +127,7 @@ impl Propagator {
         self.trail.is_true(l)
     }
 
-    /// The clause with a number, if it wasn't taken out.
+    /// The clause with a number, if it wasn't removed.
     pub fn clause(&self, k: u32) -> Option<&[Lit]>
         requires { k < length self.now.slots }
         ensures there { IfSome result (λ c. slot_at self.now.slots k ≡ Some c.now) }
@@ -135,8 +137,8 @@ impl Propagator {
         self.store.clause(k)
     }
 
-    /// Takes the levels above this one back.
-    pub fn undo(&mut self, level: usize)
+    /// Takes back the levels above this one.
+    pub fn backtrack(&mut self, level: usize)
         requires { level < length self.old.limits }
         ensures { self.new ≡ record self.old {
           trail = take (slice_index_or self.old.limits level 0) self.old.trail;
@@ -150,46 +152,32 @@ impl Propagator {
         self.conflict = false;
     }
 
-    /// Takes a clause out, at level 0.
-    pub fn take_out(&mut self, k: u32)
+    /// Removes a clause, at level 0.
+    pub fn remove_clause(&mut self, k: u32)
         requires clause { k < length self.old.slots }
         requires level { self.old.limits ≡ [] }
         ensures { self.new ≡ record self.old { slots = slice_set self.old.slots k None } }
     {
-        take_out(&mut self.store, &mut self.pairs, k);
+        remove_clause(&mut self.store, &mut self.pairs, k);
     }
 
-    // Puts a clause that watches nothing, since it is satisfied or nothing is propagated any more.
-    fn put_loose(&mut self, clause: &[Lit]) -> Result<(), AllocError>
+    // Adds a clause with its watches, at level 0. Without a conflict it has to be kept.
+    fn add_watching(
+        &mut self,
+        clause: &[Lit],
+        left: Lit,
+        right: Lit,
+        conflict: bool,
+    ) -> Result<(), AllocError>
         requires level { self.old.limits ≡ [] }
         requires within { ClauseWithin self.old.vars clause.now }
-        requires satisfied { self.old.conflict ≡ false → IsSatisfied self.old.trail clause.now }
-        ensures ok { OnOk result (self.new ≡ record self.old { slots = self.old.slots ++ Some clause.now ∷ [] }) }
-        ensures err { OnErr result (IsWanting self.old self.new) }
-    {
-        let any = some_literal(clause);
-        file_clause(
-            &mut self.store,
-            &mut self.lists,
-            &mut self.pairs,
-            clause,
-            any,
-            any,
-        )?;
-        Ok(())
-    }
-
-    // Puts a clause that watches two open literals.
-    fn attach(&mut self, clause: &[Lit], left: Lit, right: Lit) -> Result<(), AllocError>
-        requires level { self.old.limits ≡ [] }
-        requires within { ClauseWithin self.old.vars clause.now }
-        requires left { Contains clause.now left }
-        requires right { Contains clause.now right }
-        requires two { left ≢ right }
-        requires left_open { IsOpen self.old.trail left }
-        requires right_open { IsOpen self.old.trail right }
-        ensures ok { OnOk result (self.new ≡ record self.old { slots = self.old.slots ++ Some clause.now ∷ [] }) }
-        ensures err { OnErr result (IsWanting self.old self.new) }
+        requires left { left ≢ right → Contains clause.now left }
+        requires right { left ≢ right → Contains clause.now right }
+        requires kept { conflict ≡ false → (self.old.conflict ≡ false)
+            × ((h : Head) → h.left ≡ left → h.right ≡ right → IsKept self.old.trail self.old.trail (Some clause.now) h) }
+        ensures ok { OnOk result (self.new
+            ≡ record self.old { slots = self.old.slots ++ Some clause.now ∷ []; conflict = conflict }) }
+        ensures err { OnErr result (IsOutOfMemory self.old self.new) }
     {
         file_clause(
             &mut self.store,
@@ -199,49 +187,79 @@ impl Propagator {
             left,
             right,
         )?;
+        self.conflict = conflict;
         Ok(())
     }
 
-    // Puts a falsified clause.
-    fn put_falsified(&mut self, clause: &[Lit]) -> Result<(), AllocError>
+    // Adds a clause that watches nothing, since it is satisfied or nothing is propagated any more.
+    fn add_loose(&mut self, clause: &[Lit]) -> Result<(), AllocError>
+        requires level { self.old.limits ≡ [] }
+        requires within { ClauseWithin self.old.vars clause.now }
+        requires satisfied { self.old.conflict ≡ false → IsSatisfied self.old.trail clause.now }
+        ensures ok { OnOk result (self.new ≡ record self.old { slots = self.old.slots ++ Some clause.now ∷ [] }) }
+        ensures err { OnErr result (IsOutOfMemory self.old self.new) }
+    {
+        let any = some_literal(clause);
+        self.add_watching(clause, any, any, self.conflict)
+    }
+
+    // Adds a clause that watches two unassigned literals.
+    fn attach(&mut self, clause: &[Lit], left: Lit, right: Lit) -> Result<(), AllocError>
+        requires level { self.old.limits ≡ [] }
+        requires within { ClauseWithin self.old.vars clause.now }
+        requires left { Contains clause.now left }
+        requires right { Contains clause.now right }
+        requires two { left ≢ right }
+        requires left_open { IsUnassigned self.old.trail left }
+        requires right_open { IsUnassigned self.old.trail right }
+        ensures ok { OnOk result (self.new ≡ record self.old { slots = self.old.slots ++ Some clause.now ∷ [] }) }
+        ensures err { OnErr result (IsOutOfMemory self.old self.new) }
+    {
+        self.add_watching(clause, left, right, self.conflict)
+    }
+
+    // Adds a falsified clause.
+    fn add_falsified(&mut self, clause: &[Lit]) -> Result<(), AllocError>
         requires level { self.old.limits ≡ [] }
         requires within { ClauseWithin self.old.vars clause.now }
         requires conflict { self.old.conflict ≡ false }
         ensures ok { OnOk result (self.new
             ≡ record self.old { slots = self.old.slots ++ Some clause.now ∷ []; conflict = true }) }
-        ensures err { OnErr result (IsWanting self.old self.new) }
+        ensures err { OnErr result (IsOutOfMemory self.old self.new) }
     {
         let any = some_literal(clause);
-        file_clause(
-            &mut self.store,
-            &mut self.lists,
-            &mut self.pairs,
-            clause,
-            any,
-            any,
-        )?;
-        self.conflict = true;
-        Ok(())
+        self.add_watching(clause, any, any, true)
     }
 
-    // Puts a clause whose only open literal is this one, and propagates.
-    fn put_unit(&mut self, clause: &[Lit], l: Lit) -> Result<(), AllocError>
-        requires level { self.old.limits ≡ [] }
-        requires within { ClauseWithin self.old.vars clause.now }
+    // Adds a clause of which only the first watch is unassigned, makes that true, and then what follows. The clause has to be kept
+    // where levels begin, and once the first watch is true.
+    fn add_propagating(
+        &mut self,
+        clause: &[Lit],
+        first: Lit,
+        second: Lit,
+    ) -> Result<Option<u32>, AllocError>
         requires conflict { self.old.conflict ≡ false }
-        requires lit { Contains clause.now l }
-        requires opened { IsOpen self.old.trail l }
-        requires unit { IsFalsifiedBut self.old.trail clause.now l }
-        ensures ok { OnOk result (IsPut self.old clause.now self.new) }
-        ensures err { OnErr result (IsWanting self.old self.new) }
+        requires within { ClauseWithin self.old.vars clause.now }
+        requires first { Contains clause.now first }
+        requires second { Contains clause.now second }
+        requires opened { IsUnassigned self.old.trail first }
+        requires unit { IsFalsifiedBut self.old.trail clause.now first }
+        requires kept { (h : Head) → h.left ≡ first → h.right ≡ second
+            → IsKept self.old.trail (self.old.trail ++ first ∷ []) (Some clause.now) h }
+        requires levels { (n : ℕ) (h : Head) → Contains self.old.limits n → h.left ≡ first → h.right ≡ second
+            → IsKept (take n self.old.trail) (take n self.old.trail) (Some clause.now) h }
+        ensures ok { OnOk result (IsAdded self.old clause.now self.new) }
+        ensures ends { IfOk result (λ o. EndsDecided self.new o) }
+        ensures err { OnErr result (IsOutOfMemory self.old self.new) }
     {
         file_clause(
             &mut self.store,
             &mut self.lists,
             &mut self.pairs,
             clause,
-            l,
-            l,
+            first,
+            second,
         )?;
         let k = (self.store.len() - 1) as u32;
         match settle_unit(
@@ -249,61 +267,76 @@ impl Propagator {
             &mut self.lists,
             &self.pairs,
             &mut self.trail,
-            l,
+            first,
             k,
         ) {
-            Ok(stop) => {
-                self.conflict = stop.is_some();
-                Ok(())
+            Ok(falsified) => {
+                self.conflict = falsified.is_some();
+                Ok(falsified)
             }
             Err(e) => {
-                take_out(&mut self.store, &mut self.pairs, k);
+                remove_clause(&mut self.store, &mut self.pairs, k);
                 Err(e)
             }
         }
     }
 
-    /// Puts a clause over the variables at level 0, and makes what follows from it true. After a conflict it is only kept.
-    /// If memory runs out, no clause is put; a number may be used up.
-    pub fn put(&mut self, clause: &[Lit]) -> Result<(), AllocError>
+    // Adds a clause whose only unassigned literal is this one, and propagates.
+    fn add_unit(&mut self, clause: &[Lit], l: Lit) -> Result<(), AllocError>
         requires level { self.old.limits ≡ [] }
         requires within { ClauseWithin self.old.vars clause.now }
-        ensures ok { OnOk result (IsPut self.old clause.now self.new) }
-        ensures err { OnErr result (IsWanting self.old self.new) }
+        requires conflict { self.old.conflict ≡ false }
+        requires lit { Contains clause.now l }
+        requires opened { IsUnassigned self.old.trail l }
+        requires unit { IsFalsifiedBut self.old.trail clause.now l }
+        ensures ok { OnOk result (IsAdded self.old clause.now self.new) }
+        ensures err { OnErr result (IsOutOfMemory self.old self.new) }
+    {
+        self.add_propagating(clause, l, l)?;
+        Ok(())
+    }
+
+    /// Adds a clause over the variables at level 0, and makes what follows from it true. After a conflict it is only kept.
+    /// If memory runs out, no clause is added; a number may be used up.
+    pub fn add_clause(&mut self, clause: &[Lit]) -> Result<(), AllocError>
+        requires level { self.old.limits ≡ [] }
+        requires within { ClauseWithin self.old.vars clause.now }
+        ensures ok { OnOk result (IsAdded self.old clause.now self.new) }
+        ensures err { OnErr result (IsOutOfMemory self.old self.new) }
     {
         if self.conflict {
-            return self.put_loose(clause);
+            return self.add_loose(clause);
         }
         match scan_clause(clause, &self.trail) {
-            Standing::Satisfied => self.put_loose(clause),
-            Standing::Falsified => self.put_falsified(clause),
-            Standing::One(l) => self.put_unit(clause, l),
+            Standing::Satisfied => self.add_loose(clause),
+            Standing::Falsified => self.add_falsified(clause),
+            Standing::One(l) => self.add_unit(clause, l),
             Standing::Two(l, m) => self.attach(clause, l, m),
         }
     }
 
-    // Puts a clause at which nothing is left to do.
-    fn put_settled(&mut self, clause: &[Lit]) -> Result<(), AllocError>
+    // Adds a clause at which nothing is left to do.
+    fn add_settled(&mut self, clause: &[Lit]) -> Result<(), AllocError>
         requires level { self.old.limits ≡ [] }
         requires within { ClauseWithin self.old.vars clause.now }
         requires settled { self.old.conflict ≡ false → IsSettled self.old.trail clause.now }
         ensures ok { OnOk result (self.new ≡ record self.old { slots = self.old.slots ++ Some clause.now ∷ [] }) }
-        ensures err { OnErr result (IsWanting self.old self.new) }
+        ensures err { OnErr result (IsOutOfMemory self.old self.new) }
     {
         match scan_clause(clause, &self.trail) {
             Standing::Two(l, m) => self.attach(clause, l, m),
-            Standing::Satisfied => self.put_loose(clause),
-            Standing::Falsified => self.put_loose(clause),
-            Standing::One(_) => self.put_loose(clause),
+            Standing::Satisfied => self.add_loose(clause),
+            Standing::Falsified => self.add_loose(clause),
+            Standing::One(_) => self.add_loose(clause),
         }
     }
 
-    // The same literals true, and no clauses.
+    // Copies the true literals, without clauses.
     fn without_clauses(&self) -> Result<Self, AllocError>
         requires level { self.now.limits ≡ [] }
         ensures { IfOk result (λ p. p ≡ record self.now { slots = [] }) }
     {
-        let trail = self.trail.again(self.alloc)?;
+        let trail = self.trail.copy_without_reasons(self.alloc)?;
         Ok(Propagator {
             alloc: self.alloc,
             vars: self.vars,
@@ -316,8 +349,8 @@ impl Propagator {
         })
     }
 
-    /// Gives the place of the clauses that were taken out back, at level 0: the others keep their order and are numbered from 0
-    /// on. What made a literal true is told no more. If memory runs out, nothing changes.
+    /// Gives back the memory of removed clauses, at level 0: the others keep their order and are numbered from 0 on. What made a
+    /// literal true isn't known any more. If memory runs out, nothing changes.
     pub fn collect(&mut self) -> Result<(), AllocError>
         requires level { self.old.limits ≡ [] }
         ensures ok { OnOk result (self.new ≡ record self.old { slots = present self.old.slots }) }
@@ -326,7 +359,7 @@ impl Propagator {
         let mut rest = self.without_clauses()?;
         for k in 0..self.store.len() {
             if let Some(clause) = self.clause(k as u32) {
-                rest.put_settled(clause)?;
+                rest.add_settled(clause)?;
             }
         }
         *self = rest;
@@ -363,6 +396,7 @@ impl Propagator {
             }
         }
     }
+
     /// The literals that are true, in the order in which they became so.
     #[inline(always)]
     pub fn trail(&self) -> &[Lit]
@@ -412,7 +446,7 @@ impl Propagator {
         self.limits[level]
     }
 
-    /// The level of a place of the trail: how many levels began at it or before.
+    /// The level of a place of the trail: how many levels began at it or before it.
     pub fn level_of(&self, place: usize) -> usize
         ensures within { result ≤ length self.now.limits }
         ensures below { (i : ℕ) → i < result → slice_index_or self.now.limits i 0 ≤ place }
@@ -435,7 +469,7 @@ impl Propagator {
         let _conflict = self.conflict;
     }
 
-    /// Where a level begins, nothing is left to do on the trail up to there.
+    /// Where a level begins, nothing is left to propagate on the trail up to there.
     pub fn levels_are_complete(&self)
         ensures consistent { IsConsistent self.now.trail }
         ensures rising { (i j : ℕ) → i ≤ j → j < length self.now.limits
@@ -447,12 +481,12 @@ impl Propagator {
         let _conflict = self.conflict;
     }
 
-    /// Opens a level, makes an open literal true, and then what follows from it. The number of the falsified clause, if there
-    /// is one. If memory runs out, nothing changes.
+    /// Opens a level, makes an unassigned literal true, and then what follows from it. Returns the number of the falsified clause,
+    /// if there is one. If memory runs out, nothing changes.
     pub fn decide(&mut self, l: Lit) -> Result<Option<u32>, AllocError>
         requires conflict { self.old.conflict ≡ false }
         requires below { l.var ≤ self.old.vars }
-        requires opened { IsOpen self.old.trail l }
+        requires opened { IsUnassigned self.old.trail l }
         ensures decided { OnOk result (IsDecided self.old l self.new) }
         ensures ends { IfOk result (λ o. EndsDecided self.new o) }
         ensures err { OnErr result (self.new ≡ self.old) }
@@ -479,10 +513,10 @@ impl Propagator {
         }
     }
 
-    /// Puts a clause on the level that is open, all of whose literals are false but the first of these two, and of which the
-    /// second became false on this level; makes the first true, and then what follows. The number of the falsified clause, if
-    /// there is one. If memory runs out, no clause is put; a number may be used up.
-    pub fn learn(
+    /// Adds a clause on the current level, all of whose literals are false but the first of these two, and of which the second
+    /// became false on this level; makes the first true, and then what follows. Returns the number of the falsified clause, if
+    /// there is one. If memory runs out, no clause is added; a number may be used up.
+    pub fn assert_clause(
         &mut self,
         clause: &[Lit],
         first: Lit,
@@ -493,38 +527,13 @@ impl Propagator {
         requires first { Contains clause.now first }
         requires second { Contains clause.now second }
         requires two { first ≢ second }
-        requires opened { IsOpen self.old.trail first }
+        requires opened { IsUnassigned self.old.trail first }
         requires unit { IsFalsifiedBut self.old.trail clause.now first }
         requires level { (n : ℕ) → Contains self.old.limits n → Contains (take n self.old.trail) (negate second) → ⊥ }
-        ensures ok { OnOk result (IsPut self.old clause.now self.new) }
+        ensures ok { OnOk result (IsAdded self.old clause.now self.new) }
         ensures ends { IfOk result (λ o. EndsDecided self.new o) }
-        ensures err { OnErr result (IsWanting self.old self.new) }
+        ensures err { OnErr result (IsOutOfMemory self.old self.new) }
     {
-        file_clause(
-            &mut self.store,
-            &mut self.lists,
-            &mut self.pairs,
-            clause,
-            first,
-            second,
-        )?;
-        let k = (self.store.len() - 1) as u32;
-        match settle_unit(
-            &mut self.store,
-            &mut self.lists,
-            &self.pairs,
-            &mut self.trail,
-            first,
-            k,
-        ) {
-            Ok(falsified) => {
-                self.conflict = falsified.is_some();
-                Ok(falsified)
-            }
-            Err(e) => {
-                take_out(&mut self.store, &mut self.pairs, k);
-                Err(e)
-            }
-        }
+        self.add_propagating(clause, first, second)
     }
 }

@@ -11,8 +11,9 @@ use cnf_form::Lit;
 pub(crate) enum Standing {
     Falsified,
     Satisfied,
-    // One literal is open, and all others are false.
+    // One literal is unassigned, and all others are false.
     One(Lit),
+    // Two literals are unassigned, and no literal before the second is true.
     Two(Lit, Lit),
 }
 

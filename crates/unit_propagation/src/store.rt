@@ -55,7 +55,7 @@ impl ClauseStore {
         self.heads[k as usize]
     }
 
-    // Whether there is a clause with a number that wasn't taken out.
+    // Whether there is a clause with a number that wasn't removed.
     #[inline(always)]
     pub fn has(&self, k: u32) -> bool
         ensures { result ≡ is_some (slot_at (slots_of self.now.lits.items self.now.heads.items) k) }
@@ -136,7 +136,7 @@ impl ClauseStore {
         self.heads[k as usize] = head;
     }
 
-    // Takes a clause out.
+    // Removes a clause.
     pub fn forget(&mut self, k: u32)
         requires { k < length self.old.heads.items }
         ensures vars { self.new.vars ≡ self.old.vars }

@@ -3,7 +3,7 @@
 ghost use Rattle.std.specs.Prelude.{ℕ, ◌≡◌, ◌↔◌, ◌+◌, ◌-◌, ◌*◌, ◌<◌, ◌≤◌, ◌^◌, ◌++◌, ◌∷◌, [], false, replicate, IsTrue, IfOk, OnOk, OnErr, length, take, All, Contains, slice_get, Some};
 ghost use Rattle.cnf_form.specs.Cnf.{LitOf, negate, index_of};
 ghost use Rattle.unit_propagation.specs.Marks.{is_marked, IsBelow, IsDistinct, Shows};
-ghost use Rattle.unit_propagation.specs.Propagation.{IsConsistent, IsOpen};
+ghost use Rattle.unit_propagation.specs.Propagation.{IsConsistent, IsUnassigned};
 ghost use Rattle.unit_propagation.specs.declared.watch.TheConstants.{GONE};
 ghost use Rattle.unit_propagation.specs.declared.watch.Origin.{Origin};
 
@@ -79,8 +79,8 @@ impl Trail {
         }
     }
 
-    // The same literals, of which no clause is told.
-    pub fn again(&self, alloc: Global) -> Result<Self, AllocError>
+    // Copies the literals, without the clauses that made them true.
+    pub fn copy_without_reasons(&self, alloc: Global) -> Result<Self, AllocError>
         ensures { IfOk result (λ t. t ≡ self.now) }
     {
         let mut trail = Trail::new(alloc, self.vars);
@@ -107,11 +107,11 @@ impl Trail {
         self.marks.as_slice()
     }
 
-    // Makes an open literal true. The reason is a hint, from which nothing follows.
+    // Makes an unassigned literal true. The reason is a hint, from which nothing follows.
     #[inline(always)]
     pub fn assign(&mut self, l: Lit, reason: u32) -> Result<(), AllocError>
         requires below { l.var ≤ self.old.vars }
-        requires opened { IsOpen self.old.lits l }
+        requires opened { IsUnassigned self.old.lits l }
         ensures ok { OnOk result (self.new ≡ record self.old { lits = self.old.lits ++ l ∷ [] }) }
         ensures err { OnErr result (self.new ≡ self.old) }
     {
@@ -175,7 +175,7 @@ impl Trail {
         self.lits.as_slice()
     }
 
-    // Takes the last literal back.
+    // Takes back the last literal.
     #[inline(always)]
     fn pop(&mut self)
         requires { 0 < length self.old.lits }
@@ -187,7 +187,7 @@ impl Trail {
         self.lits.truncate(place);
     }
 
-    // Takes the literals from a place on back.
+    // Takes back the literals from a place on.
     pub fn cut(&mut self, place: usize)
         ensures { self.new ≡ record self.old { lits = take place self.old.lits } }
     {

@@ -48,9 +48,9 @@ pub(crate) struct Visits {
     pub stop: Option<Stop>,
 }
 
-// The place of a literal other than this one that is not false.
+// The index of the first literal other than this one that isn't false.
 #[inline(always)]
-fn place_of_open(clause: &[Lit], other: Lit, marks: &[bool]) -> Option<usize>
+fn index_of_unfalsified(clause: &[Lit], other: Lit, marks: &[bool]) -> Option<usize>
     ensures within { IfSome result (λ k. k < length clause.now) }
     ensures found { (t : List LitOf) → Shows marks.now t → IfSome result (λ k. (d : LitOf)
         → (slice_index_or clause.now k d ≢ other) × (Contains t (negate (slice_index_or clause.now k d)) → ⊥)) }
@@ -67,18 +67,18 @@ fn place_of_open(clause: &[Lit], other: Lit, marks: &[bool]) -> Option<usize>
     None
 }
 
-// The same, from a place on, and then before it.
+// The index of a literal other than this one that isn't false: the first one from an index on, else the first one before it.
 #[inline(always)]
-fn find_open(clause: &[Lit], from: usize, other: Lit, marks: &[bool]) -> Option<usize>
+fn find_unfalsified(clause: &[Lit], from: usize, other: Lit, marks: &[bool]) -> Option<usize>
     requires from { from ≤ length clause.now }
     ensures within { IfSome result (λ k. k < length clause.now) }
     ensures found { (t : List LitOf) → Shows marks.now t → IfSome result (λ k. (d : LitOf)
         → (slice_index_or clause.now k d ≢ other) × (Contains t (negate (slice_index_or clause.now k d)) → ⊥)) }
     ensures none { (t : List LitOf) → Shows marks.now t → IfNone result (IsFalsifiedBut t clause.now other) }
 {
-    match place_of_open(&clause[from..], other, marks) {
+    match index_of_unfalsified(&clause[from..], other, marks) {
         Some(k) => Some(from + k),
-        None => place_of_open(&clause[..from], other, marks),
+        None => index_of_unfalsified(&clause[..from], other, marks),
     }
 }
 
@@ -121,7 +121,7 @@ fn look_at(store: &ClauseStore, k: u32, head: Head, trail: &Trail, falsified: Li
     let lits = store.lits();
     let end = store.end(k);
     let clause = &lits[head.start as usize..end as usize];
-    match find_open(clause, (head.from - head.start) as usize, other, marks) {
+    match find_unfalsified(clause, (head.from - head.start) as usize, other, marks) {
         // The next search begins after the new watch.
         Some(k) => Visit::Move(head.start + k as u32 + 1, clause[k], other),
         None => {

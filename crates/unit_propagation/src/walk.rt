@@ -4,7 +4,7 @@ ghost use Rattle.std.specs.Prelude.{ℕ, ◌≡◌, ◌≢◌, ◌⊎◌, ◌+�
 ghost use Rattle.cnf_form.specs.Cnf.{LitOf, negate};
 ghost use Rattle.unit_propagation.specs.Watch.{WatchFits, slots_of, rows_of, row};
 ghost use Rattle.unit_propagation.specs.Visit.{State, AllKept, IsVisited, IsPending, StopFits, PairFits, IsFiled, Walks, EndFits, ImpliedFits, AllImplied, PairsFit, SettleFits};
-ghost use Rattle.unit_propagation.specs.Propagation.{IsOpen, Propagates};
+ghost use Rattle.unit_propagation.specs.Propagation.{IsUnassigned, Propagates};
 ghost use Rattle.unit_propagation.specs.Propagator.{slot_at, clauses_of};
 ghost use Rattle.unit_propagation.specs.declared.watch.Head.{Head};
 ghost use Rattle.unit_propagation.specs.declared.watch.Watch.{Watch};
@@ -17,7 +17,7 @@ use crate::watch::Watch;
 use cnf_form::Lit;
 use std::alloc::AllocError;
 
-// Keeps the entries from a place on. How many are kept then.
+// Keeps the entries from an index on. Returns how many are kept then.
 fn keep_rest(lists: &WatchLists, list: &mut [Watch], kept: usize, from: usize) -> usize
     requires kept { kept ≤ from }
     requires from { from ≤ length list.old }
@@ -84,13 +84,13 @@ fn visit_list(
     Visits { kept, stop: None }
 }
 
-// Makes the other literal of a clause of two true, since the one is false, unless the clause was taken out.
+// Makes the other literal of a clause of two true, since the one is false, unless the clause was removed.
 #[inline(always)]
 fn imply(store: &ClauseStore, trail: &mut Trail, clause: u32, blocker: Lit) -> Option<Stop>
     requires { blocker.var ≤ trail.old.vars }
     ensures vars { trail.new.vars ≡ trail.old.vars }
     ensures grown { (trail.new.lits ≡ trail.old.lits) ⊎ (((c : List LitOf) × (slot_at (slots_of store.now.lits.items store.now.heads.items) clause ≡ Some c))
-        × IsOpen trail.old.lits blocker × (trail.new.lits ≡ trail.old.lits ++ blocker ∷ [])) }
+        × IsUnassigned trail.old.lits blocker × (trail.new.lits ≡ trail.old.lits ++ blocker ∷ [])) }
     ensures ends { ImpliedFits (slots_of store.now.lits.items store.now.heads.items) trail.old.lits trail.new.lits clause blocker result }
 {
     if trail.is_true(blocker) {
@@ -163,7 +163,7 @@ fn visit_long(
     let mut list = lists.take(falsified);
     let Visits { kept, stop } = visit_list(store, lists, trail, &mut list, falsified);
     list.truncate(kept);
-    lists.put(falsified, list);
+    lists.set_list(falsified, list);
     stop
 }
 
@@ -237,9 +237,9 @@ pub(crate) fn propagate(
     None
 }
 
-// Propagates from a place of the trail on. Out of memory the trail is cut to that place. The falsified clause, if there
-// is one.
-pub(crate) fn settle(
+// Propagates from a place of the trail on. Returns the falsified clause, if there is one. If memory runs out, the trail is cut
+// to that place.
+pub(crate) fn propagate_from(
     store: &mut ClauseStore,
     lists: &mut WatchLists,
     pairs: &WatchLists,
@@ -273,7 +273,8 @@ pub(crate) fn settle(
     }
 }
 
-// Makes an open literal true, and propagates. Out of memory the trail is as it was.
+// Makes an unassigned literal true, and propagates. Returns the falsified clause, if there is one. If memory runs out, the trail
+// is as it was.
 pub(crate) fn settle_unit(
     store: &mut ClauseStore,
     lists: &mut WatchLists,
@@ -287,7 +288,7 @@ pub(crate) fn settle_unit(
     requires pairs { pairs.now.vars ≡ store.old.vars }
     requires clauses { lists.old.clauses ≡ length store.old.heads.items }
     requires below { l.var ≤ store.old.vars }
-    requires opened { IsOpen trail.old.lits l }
+    requires opened { IsUnassigned trail.old.lits l }
     ensures trail { trail.new.vars ≡ trail.old.vars }
     ensures store_vars { store.new.vars ≡ store.old.vars }
     ensures slots { slots_of store.new.lits.items store.new.heads.items ≡ slots_of store.old.lits.items store.old.heads.items }
@@ -302,5 +303,5 @@ pub(crate) fn settle_unit(
 {
     let base = trail.len();
     trail.assign(l, reason)?;
-    settle(store, lists, pairs, trail, base)
+    propagate_from(store, lists, pairs, trail, base)
 }

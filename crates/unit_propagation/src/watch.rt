@@ -2,7 +2,7 @@
 
 use cnf_form::Lit;
 
-// In `from`: the clause was taken out.
+// In `from`: the clause was removed.
 pub const GONE: u32 = 0xffff_ffff;
 
 // Where a clause's literals begin, where the search for another watch does, and the two literals that it watches. It

@@ -27,7 +27,7 @@ fn finds_a_frozen_subset(rt: HostRuntime) -> Result<(), Fail> {
     assert_eq!(rt; frozen.subset_of(&[a, b.negate(), c]), None);
     assert_eq!(rt; frozen.subset_of(&[a.negate(), b, d]), Some(1));
     assert_eq!(rt; frozen.subset_of(&[c, d]), Some(2));
-    frozen.take_out(0);
+    frozen.remove_clause(0);
     assert_eq!(rt; frozen.subset_of(&[a, b, c]), None);
     assert!(rt; frozen.clause(0).is_none());
     frozen.collect()?;

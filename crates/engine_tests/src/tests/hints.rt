@@ -34,7 +34,7 @@ fn outcome_by(judge: &mut Judge<Formula>, stream: &[u8]) -> Result<Outcome, Allo
     }
 }
 
-// What a stream comes to.
+// What a stream is judged as.
 fn outcome_of(
     alloc: Global,
     formula: &Formula,
@@ -45,7 +45,7 @@ fn outcome_of(
     outcome_by(&mut judge, stream)
 }
 
-// The same in words.
+// What a stream is judged as, in words.
 pub(crate) fn judged(
     alloc: Global,
     formula: &Formula,
@@ -60,7 +60,7 @@ pub(crate) fn judged(
     }
 }
 
-// The exit status of the engine, and what its stream comes to.
+// The exit status of the engine, and what its stream is judged as.
 fn answer(alloc: Global, formula: &Formula, conflicts: u64) -> Result<(u8, String), Fail> {
     let text = write_dimacs(alloc, formula)?;
     let (exit, sink) = run(alloc, &text, conflicts)?;

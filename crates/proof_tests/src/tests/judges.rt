@@ -1,4 +1,4 @@
-// What streams and outputs come to, cut into two pieces at each place.
+// Streams and outputs are judged, cut into two pieces at each place.
 
 ghost use Rattle.std.specs.Prelude.{◌≤◌, ◌^◌};
 
@@ -112,7 +112,7 @@ fn outcome_of(
     judge.end()
 }
 
-// What a stream in two pieces comes to.
+// What a stream in two pieces is judged as.
 pub fn stream_told(
     alloc: Global,
     formula: &Formula,
@@ -138,7 +138,7 @@ fn end_of(
     judge.end()
 }
 
-// What an output in two pieces comes to.
+// What an output in two pieces is judged as.
 fn output_told(
     alloc: Global,
     formula: &Formula,
@@ -167,7 +167,7 @@ fn judged(
     }
 }
 
-// Whether it comes to this, however it is cut.
+// Whether it is judged as this, however it is cut.
 fn comes_to(
     alloc: Global,
     formula: &Formula,
@@ -262,7 +262,7 @@ fn hinted_line(alloc: Global, id: u64, last: u32) -> Result<String, AllocError> 
     Ok(text)
 }
 
-// What a hinted stream comes to.
+// What a hinted stream is judged as.
 fn hinted_told(alloc: Global, formula: &Formula, text: &str) -> Result<String, AllocError> {
     stream_told(
         alloc,

@@ -24,7 +24,7 @@ d -16 4 8 3 0\nd -14 4 8 3 0\nd -13 4 8 3 0\n-19 13 10 7 8 12 0\n-5 19 13 10 12 
 3 0\n-6 0\n-9 0\n-16 0\n-19 0\n-11 7 0\n-13 0\n-12 0\n-17 7 0\n7 0\n-10 0\n-5 0\n11 0\n-1 0\n-8 0\n-14 0\n\
 -17 0\n15 0\n18 0\n-2 0\n0\n";
 
-// A line of the proof, what stands in its place, and what the proof then comes to: as it is; without a line of its middle
+// A line of the proof, what stands in its place, and what the proof is then judged as: as it is; without a line of its middle
 // on which a later one rests; with a negated literal; and with the empty clause in the place of the last clause that is
 // needed, after which unit propagation alone reaches a conflict and any clause is admitted.
 const CHANGES: [(&str, &str, &str); 4] = [
@@ -34,7 +34,7 @@ const CHANGES: [(&str, &str, &str); 4] = [
     ("\n7 0\n", "\n0\n", "NotRup 454"),
 ];
 
-// What the proof comes to where something stands in the place of a line.
+// What the proof is judged as where something stands in the place of a line.
 fn changed_told(
     alloc: Global,
     formula: &Formula,

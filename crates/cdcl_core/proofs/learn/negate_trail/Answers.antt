@@ -10,7 +10,7 @@ pub loop-place-preserved : goal.loop-place-preserved
 loop-place-preserved c =
     let t = c.args.core.now.trail in
     let i = c.loop-place.place in
-    let b = base_room c.args.core.now c.requires.driven c.requires.levels in
+    let b = base_room c.args.core.now c.requires.justified c.requires.levels in
     let x = c.index-trail-place.result in
     let read : x ≡ get_or t i x = c.index-trail-place.is ∙ ap (λ z. get_or z i x) c.trail-trail.ensures.trail in
     let one : take (i + 1) t ≡ take i t ++ x ∷ [] = take_one_more t i x (omega (arith, b, c.requires.base, c.loop-place-test.true)) read in
@@ -19,19 +19,19 @@ loop-place-preserved c =
 
 pub offset_bounds-trail-base : goal.offset_bounds-trail-base
 offset_bounds-trail-base c =
-    let b = base_room c.args.core.now c.requires.driven c.requires.levels in
+    let b = base_room c.args.core.now c.requires.justified c.requires.levels in
     omega (arith, b, c.requires.base, c.trail-trail.ensures.room, c.vars-limit.ensures.limit)
 
 pub bounds-trail-base : goal.bounds-trail-base
 bounds-trail-base c =
-    let b = base_room c.args.core.now c.requires.driven c.requires.levels in
+    let b = base_room c.args.core.now c.requires.justified c.requires.levels in
     omega (arith, b, c.requires.base, ap length c.trail-trail.ensures.trail)
 
 pub returns : goal.returns
 returns c =
     let core = c.args.core.now in
     let r = c.requires in
-    let b = base_room core r.driven r.levels in
+    let b = base_room core r.justified r.levels in
     let d = c.index-trail-base.result in
     let read : d ≡ get_or core.trail (base_of core) d = c.index-trail-base.is ∙ ap (λ z. get_or z c.args.base d) c.trail-trail.ensures.trail ∙ ap (λ z. get_or core.trail z d) r.base in
     let e = c.in_ok-push-2.ensures in
@@ -39,4 +39,4 @@ returns c =
     let is : c.push-2.new.self.items ≡ map negate (take (base_of core) core.trail) ++ negate d ∷ [] =
     e.items ∙ ap (λ z. z ++ c.negate-first.result ∷ []) (c.loop-place.invariant ∙ ap (map negate) upto) ∙ ap (λ z. map negate (take (base_of core) core.trail) ++ z ∷ []) c.negate-first.ensures in
     subst (λ z. IsLearnt core z c.push-2.new.self.items c.negate-first.result) (sym r.base) (subst (IsLearnt core (base_of core) c.push-2.new.self.items) (sym c.negate-first.ensures)
-    (learnt_trail core c.args.k c.push-2.new.self.items d r.driven r.levels b r.conflict c.trail-trail.ensures.distinct c.trail-trail.ensures.consistent read is))
+    (learnt_trail core c.args.k c.push-2.new.self.items d r.justified r.levels b r.conflict c.trail-trail.ensures.distinct c.trail-trail.ensures.consistent read is))

@@ -1,13 +1,13 @@
 use Rattle.std.proofs.Common.{◌∷◌, [], ◌++◌, length, arith, ap}
 use Rattle.std.proofs.lemmas.List.{length-append, length_push}
-use Rattle.cdcl_core.proofs.Driven.{driven_decided}
+use Rattle.cdcl_core.proofs.Justified.{justified_decided}
 use Rattle.cdcl_core.proofs.search.decide.Goals as goal
 
-pub returns-clause-driven : goal.returns-clause-driven
-returns-clause-driven c =
+pub returns-clause-justified : goal.returns-clause-justified
+returns-clause-justified c =
     let f = c.levels_are_complete.ensures in
     let e = c.in_ok-falsified.ensures in
-    driven_decided c.args.core.now c.requires.driven f.within c.decide.new.self c.args.l e.decided c.clauses_are_within.ensures c.requires.lit
+    justified_decided c.args.core.now c.requires.justified f.within c.decide.new.self c.args.l e.decided c.clauses_are_within.ensures c.requires.lit
 
 pub returns-clause-levels : goal.returns-clause-levels
 returns-clause-levels c =

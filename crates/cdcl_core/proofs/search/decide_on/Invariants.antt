@@ -1,12 +1,12 @@
 use Rattle.std.proofs.Common.{◌≡◌, ◌*◌, ◌+◌, ◌-◌, false, length}
-use Rattle.cdcl_core.specs.Levels.{IsDriven}
+use Rattle.cdcl_core.specs.Levels.{IsJustified}
 use Rattle.cdcl_core.proofs.search.decide_on.Given as goal
 
 abbrev pub invariant-loop-l : goal.invariant-loop-l
 invariant-loop-l l = record {
   vars : l.core.vars ≡ l.fn.core.vars;
   slots : l.core.slots ≡ l.fn.core.slots;
-  driven : IsDriven l.core;
+  justified : IsJustified l.core;
   conflict : l.core.conflict ≡ false;
 }
 

@@ -46,7 +46,7 @@ invariant_of-self-2 c =
     let a' : others.len ≡ length others.items = search rules in
     let b' : length c.find_clause.new.others ≡ length others.items = search rules in
     let less = less_without p c.in-Some.found c.args.clause.now d.0 d.1 d.2 in
-    rw c.take_out.ensures (
+    rw c.remove_clause.ensures (
       root_without p c.in-Some.found c.args.clause.now d.0 d.1 d.2 i.0 e kept,
       freed_back _ marks.items c.find_clause.new.marks marks.len a b (free_less (clauses_of p.slots) _ _ less s.free),
       freed_back _ others.items c.find_clause.new.others others.len a' b' (free_less (clauses_of p.slots) _ _ less s.others_free),
@@ -64,6 +64,6 @@ returns-clause-deleted c =
     let s = c.in-Some.ensures in
     let found = s.found in
     let d = found.1 in
-    let slots = ap (λ (q : PropagatorOf). clauses_of q.slots) c.take_out.ensures in
-    subst (λ (k : CheckerOf). Deletes k.clauses c.args.clause.now (clauses_of c.take_out.new.self.slots)) c.self.view_is
+    let slots = ap (λ (q : PropagatorOf). clauses_of q.slots) c.remove_clause.ensures in
+    subst (λ (k : CheckerOf). Deletes k.clauses c.args.clause.now (clauses_of c.remove_clause.new.self.slots)) c.self.view_is
     (subst (Deletes (clauses_of p.slots) c.args.clause.now) (sym slots) (deletes_without p c.in-Some.found c.args.clause.now d.0 d.1 d.2 i.0 e calm kept))

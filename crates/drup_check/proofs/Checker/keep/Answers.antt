@@ -8,7 +8,7 @@ use Rattle.drup_check.specs.Inside.{IsFree, IsFiled}
 use Rattle.drup_check.specs.Checking.{CheckerOf}
 use Rattle.drup_check.proofs.Weights.{free_back, free_same, places_back}
 use Rattle.drup_check.proofs.Chains.{holds_push}
-use Rattle.drup_check.proofs.Present.{checker_wanting, checker_put, checker_of, clauses_wanting, clauses_push}
+use Rattle.drup_check.proofs.Present.{checker_out_of_memory, checker_added, checker_of, clauses_out_of_memory, clauses_push}
 use Rattle.drup_check.proofs.Checker.keep.Goals as goal
 
 pub invariant_of-self : goal.invariant_of-self
@@ -59,8 +59,8 @@ invariant_of-self-in_err-make_place c =
     let p = c.in_err-make_place.ensures in
     (i.0, freed, others_free, subst (IsFiled core) (sym p.err) i.3)
 
-pub invariant_of-self-in_err-put : goal.invariant_of-self-in_err-put
-invariant_of-self-in_err-put c =
+pub invariant_of-self-in_err-add_clause : goal.invariant_of-self-in_err-add_clause
+invariant_of-self-in_err-add_clause c =
     let i = c.self.invariant in
     let core = c.self.inside.core in
     let F = clauses_of core.slots in
@@ -76,18 +76,18 @@ invariant_of-self-in_err-put c =
     let b : length c.weigh-weight.new.marks ≡ length marks.items = search rules in
     let freed = free_back F marks.items c.weigh-weight.new.marks marks.len a b free w.clear in
     let p = c.in_ok-make_place.ensures in
-    let q = c.in_err-put.ensures in
+    let q = c.in_err-add_clause.ensures in
     let t = c.self.inside.copies in
     let t' = c.make_place.new.self in
     let place : length t'.nexts ≡ length t.nexts + 1 = ap (λ (z : CopiesOf). length z.nexts) p.ok ∙ length_push t.nexts 0 in
-    checker_wanting core c.put.new.self t t' _ _ q.err (holds_push t t' p.ok) (ap (λ (z : CopiesOf). z.count) p.ok) place i.0 freed others_free i.3
+    checker_out_of_memory core c.add_clause.new.self t t' _ _ q.err (holds_push t t' p.ok) (ap (λ (z : CopiesOf). z.count) p.ok) place i.0 freed others_free i.3
 
-pub returns-in_err-put-clause-err : goal.returns-in_err-put-clause-err
-returns-in_err-put-clause-err c =
-    let q = c.in_err-put.ensures in
-    let r = err_from_is_err_and c.from_residual-in_err-put.result c.from_residual-in_err-put.ensures.1 in
+pub returns-in_err-add_clause-clause-err : goal.returns-in_err-add_clause-clause-err
+returns-in_err-add_clause-clause-err c =
+    let q = c.in_err-add_clause.ensures in
+    let r = err_from_is_err_and c.from_residual-in_err-add_clause.result c.from_residual-in_err-add_clause.ensures.1 in
     let e = q.err in
-    rw r.1 (checker_of _ _ _ _ c.self.inside.refuted c.self.inside.out_of_memory (ap (λ (z : PropagatorOf). z.vars) e.1) (clauses_wanting c.self.inside.core c.put.new.self e) ∙ c.self.view_is ∙ c.in_ok-make_room.ensures)
+    rw r.1 (checker_of _ _ _ _ c.self.inside.refuted c.self.inside.out_of_memory (ap (λ (z : PropagatorOf). z.vars) e.1) (clauses_out_of_memory c.self.inside.core c.add_clause.new.self e) ∙ c.self.view_is ∙ c.in_ok-make_room.ensures)
 
 pub invariant_of-self-2 : goal.invariant_of-self-2
 invariant_of-self-2 c =
@@ -106,7 +106,7 @@ invariant_of-self-2 c =
     let b : length c.weigh-weight.new.marks ≡ length marks.items = search rules in
     let freed = free_back F marks.items c.weigh-weight.new.marks marks.len a b free w.clear in
     let p = c.in_ok-make_place.ensures in
-    let q = c.in_ok-put.ensures in
+    let q = c.in_ok-add_clause.ensures in
     let n = c.len-k.ensures in
     let e = c.enter.ensures in
     let t = c.self.inside.copies in
@@ -115,12 +115,12 @@ invariant_of-self-2 c =
     let rooms = c.in_ok-reach_both.ensures.places in
     let more : length t'.nexts ≡ length t.nexts + 1 = ap (λ (z : CopiesOf). length z.nexts) p.ok ∙ length_push t.nexts 0 in
     let place : c.len-k.result < length c.enter.new.self.nexts = omega (arith, e.places, more, filed.placed, n.count) in
-    checker_put core c.put.new.self c.args.clause.now t c.enter.new.self _ _ c.weigh-weight.result c.len-k.result q.ok (λ h j s. e.keeps h j (holds_push t t' p.ok h j s)) n.count e.count place
+    checker_added core c.add_clause.new.self c.args.clause.now t c.enter.new.self _ _ c.weigh-weight.result c.len-k.result q.ok (λ h j s. e.keeps h j (holds_push t t' p.ok h j s)) n.count e.count place
     w.weighs e.holds i.0 (places_back marks.items c.weigh-weight.new.marks marks.len c.args.clause.now a b rooms.0) rooms.1 freed others_free filed
 
 pub returns-clause-ok : goal.returns-clause-ok
 returns-clause-ok c =
-    let q = c.in_ok-put.ensures in
+    let q = c.in_ok-add_clause.ensures in
     let k = q.ok in
     checker_of _ _ _ _ c.self.inside.refuted c.self.inside.out_of_memory k.vars (ap clauses_of k.slots ∙ clauses_push c.self.inside.core.slots c.args.clause.now)
     ∙ ap (λ (x : CheckerOf). let y : CheckerOf = record x { clauses = x.clauses ++ c.args.clause.now ∷ [] } in y) (c.self.view_is ∙ c.in_ok-make_room.ensures)

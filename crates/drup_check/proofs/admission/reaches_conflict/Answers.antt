@@ -13,7 +13,7 @@ pub returns-clause-core : goal.returns-clause-core
 returns-clause-core c =
     let root = c.requires.root in
     let a = c.in_ok-_outcome.ensures in
-    taken_back c.args.core.now c.assume.new.self c.undo.new.self c.deref.result.now root.level c.requires.conflict a.assumed c.undo.ensures
+    taken_back c.args.core.now c.assume.new.self c.backtrack.new.self c.deref.result.now root.level c.requires.conflict a.assumed c.backtrack.ensures
 
 pub returns-clause-exact : goal.returns-clause-exact
 returns-clause-exact c =

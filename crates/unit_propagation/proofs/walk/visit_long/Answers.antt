@@ -27,11 +27,11 @@ returns-clause-step c = λ p pairs filed kept dealt blocked.
     let v₁ = subst (IsVisited slots (record s { rows = set s.rows (index_of f) [] }) new f c.visit_list-kept.new.list c.visit_list-kept.result.kept) size v in
     let room : c.visit_list-kept.result.kept ≤ length c.visit_list-kept.new.list = search rules in
     let u = c.truncate.ensures in
-    let put = c.put.ensures in
+    let stored = c.set_list.ensures in
     let cut : c.truncate.new.self.items ≡ take c.visit_list-kept.result.kept c.visit_list-kept.new.list = u.items ∙ take_front c.visit_list-kept.result.kept _ c.visit_list-kept.new.list _ (search rules) in
-    let rows : rows_of c.put.new.self.vars c.put.new.self.lists.items ≡ set new.rows (index_of f) (take c.visit_list-kept.result.kept c.visit_list-kept.new.list) = put.rows ∙ ap (set new.rows (index_of f)) cut in
-    let last : State = record { heads = new.heads; rows = rows_of c.put.new.self.vars c.put.new.self.lists.items; trail = new.trail } in
+    let rows : rows_of c.set_list.new.self.vars c.set_list.new.self.lists.items ≡ set new.rows (index_of f) (take c.visit_list-kept.result.kept c.visit_list-kept.new.list) = stored.rows ∙ ap (set new.rows (index_of f)) cut in
+    let last : State = record { heads = new.heads; rows = rows_of c.set_list.new.self.vars c.set_list.new.self.lists.items; trail = new.trail } in
     let end : last ≡ record new { rows = set new.rows (index_of f) (take c.visit_list-kept.result.kept c.visit_list-kept.new.list) } = ap (λ (r : List (List Watch)). let z : State = record new { rows = r } in z) rows in (
       subst (Walks slots pairs s) (sym end) (walks_end slots pairs p f s filed kept dealt new c.visit_list-kept.new.list c.visit_list-kept.result.kept wide room v₁),
-      end_from_stop p f slots new (rows_of c.put.new.self.vars c.put.new.self.lists.items) c.visit_list-kept.new.list (length c.deref_mut.result.now) c.visit_list-kept.result.stop (omega (arith, size)) x.1,
+      end_from_stop p f slots new (rows_of c.set_list.new.self.vars c.set_list.new.self.lists.items) c.visit_list-kept.new.list (length c.deref_mut.result.now) c.visit_list-kept.result.stop (omega (arith, size)) x.1,
     )

@@ -1,11 +1,11 @@
 use Rattle.std.proofs.Common.{ℕ, ◌≡◌, ◌+◌, ◌*◌, length}
 use Rattle.unit_propagation.specs.Propagator.{clauses_of}
-use Rattle.cdcl_core.specs.Analysis.{IsListed, Supports}
+use Rattle.cdcl_core.specs.Analysis.{AreMarksListed, Supports}
 use Rattle.cdcl_core.proofs.analysis.Analysis.drop_all.Given as goal
 
 abbrev pub invariant-loop-taken : goal.invariant-loop-taken
 invariant-loop-taken l = record {
   sized : length l.self.seen.items ≡ 2 * l.core.vars + 2;
-  listed : (base : ℕ) → IsListed l.core.trail base l.fn.self.seen.items l.fn.self.lower.items l.fn.self.current.items → IsListed l.core.trail base l.self.seen.items l.self.lower.items l.self.current.items;
+  listed : (base : ℕ) → AreMarksListed l.core.trail base l.fn.self.seen.items l.fn.self.lower.items l.fn.self.current.items → AreMarksListed l.core.trail base l.self.seen.items l.self.lower.items l.self.current.items;
   supports : Supports (clauses_of l.core.slots) l.core.trail l.root l.fn.self.seen.items → Supports (clauses_of l.core.slots) l.core.trail l.root l.self.seen.items;
 }

@@ -4,7 +4,7 @@ use Rattle.std.proofs.lemmas.Bool.{cases_eq}
 use Rattle.std.proofs.lemmas.List.{get_or_default}
 use Rattle.cnf_form.proofs.Literals.{same_by_eq}
 use Rattle.cnf_form.proofs.Members.{Contains-read}
-use Rattle.cdcl_core.specs.Analysis.{IsNoted}
+use Rattle.cdcl_core.specs.Analysis.{IsSeenOrRoot}
 use Rattle.cdcl_core.proofs.Analyses.{noted_keeps}
 use Rattle.cdcl_core.proofs.analysis.Analysis.note_others.Goals.{then-eq, else-eq}
 use Rattle.cdcl_core.proofs.analysis.Analysis.note_others.Goals as goal
@@ -28,7 +28,7 @@ loop-m-preserved c =
       noted = λ j d h n. elim (cases_eq j c.loop-m.m-index) [
         | inl e ↦
             let read : get_or clause j d ≡ m = subst (λ z. get_or clause z d ≡ m) (sym e) (get_or_default clause c.loop-m.m-index d m room ∙ sym c.m-item.is) in
-            subst (IsNoted c.args.core.now.trail c.args.root c.note_but.new.self.seen.items) (sym read) (b.noted ok (λ q. n (read ∙ q)))
+            subst (IsSeenOrRoot c.args.core.now.trail c.args.root c.note_but.new.self.seen.items) (sym read) (b.noted ok (λ q. n (read ∙ q)))
         | inr ne ↦ noted_keeps c.args.core.now.trail c.args.root c.loop-m.self.seen.items c.note_but.new.self.seen.items (get_or clause j d) b.keeps (i.noted j d (omega (arith, h, ne)) n)
       ];
     }

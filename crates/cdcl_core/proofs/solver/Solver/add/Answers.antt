@@ -31,8 +31,8 @@ returns-then-is_err-clause-stopped g c =
     let rose : Rose (g.L.Log.faults a) (g.L.Log.faults b) = search rules in
     fails_added g.L.Log.takes g.L.Log.faults g.L.Log.fails s cl id hints a b c.requires.addable few by (subst (λ z. g.L.Log.fails a (Adds z id hints) b) is broke) rose
 
-pub returns-in_err-put_learnt-clause-stopped : goal.returns-in_err-put_learnt-clause-stopped
-returns-in_err-put_learnt-clause-stopped g c =
+pub returns-in_err-add_learnt-clause-stopped : goal.returns-in_err-add_learnt-clause-stopped
+returns-in_err-add_learnt-clause-stopped g c =
     let s = c.args.self.now in
     let mid = c.find_hints.new.self in
     let a = c.args.log.now in
@@ -47,7 +47,7 @@ returns-in_err-put_learnt-clause-stopped g c =
     let few : AreFew (Adds cl id hints) = (i.most, subst (λ z. length z ≤ 2 ^ 27) (sym h.hints) h.few) in
     let by : IsHintedFor s (Adds cl id hints) = hinted_by s cl id hints (λ t. subst (Hints s.core.slots s.ids cl) (sym h.hints) (e.hints t)) (λ t. subst (λ (x : IdsOf). x.last < id) e.ids (i.above (subst (λ (x : IdsOf). IsTrue x.wanted) (sym e.ids) t))) in
     let taken : g.L.Log.takes a (Adds c.clause-clause.result.now id hints) b = search rules in
-    let p = err_from_is_err_and c.from_residual-in_err-put_learnt.result c.from_residual-in_err-put_learnt.ensures.1 in
+    let p = err_from_is_err_and c.from_residual-in_err-add_learnt.result c.from_residual-in_err-add_learnt.ensures.1 in
     rw (p.1, p.2) (stops_added g.L.Log.takes g.L.Log.faults g.L.Log.fails s cl id hints a b c.requires.addable few by (subst (λ z. g.L.Log.takes a (Adds z id hints) b) is taken))
 
 pub returns-clause-leads : goal.returns-clause-leads
@@ -65,8 +65,8 @@ returns-clause-leads g c =
     let is : c.clause-clause.result.now ≡ cl = c.clause-clause.ensures ∙ ap (λ (x : Analysis). x.clause.items) e.analysis in
     let few : AreFew (Adds cl id hints) = (i.most, subst (λ z. length z ≤ 2 ^ 27) (sym h.hints) h.few) in
     let by : IsHintedFor s (Adds cl id hints) = hinted_by s cl id hints (λ t. subst (Hints s.core.slots s.ids cl) (sym h.hints) (e.hints t)) (λ t. subst (λ (x : IdsOf). x.last < id) e.ids (i.above (subst (λ (x : IdsOf). IsTrue x.wanted) (sym e.ids) t))) in
-    let new = c.put_learnt.new.self in
-    let p = c.in_ok-put_learnt.ensures in
+    let new = c.add_learnt.new.self in
+    let p = c.in_ok-add_learnt.ensures in
     let taken : g.L.Log.takes a (Adds c.clause-clause.result.now id hints) b = search rules in
     let later : g.L.Log.faults a ≤ g.L.Log.faults b = search rules in
     let named : (k : HeldOf) → IsNamedBy k s → IsNamedBy (held_after k (Adds cl id hints)) new =
@@ -77,4 +77,4 @@ returns-clause-leads g c =
     (p.given ∙ e.given) (p.frozen ∙ e.frozen) (p.conflicts ∙ ap (λ z. z + 1) e.conflicts) (p.deletions ∙ e.deletions) (p.wanted ∙ ap (λ (x : IdsOf). x.wanted) e.ids) named
 
 pub returns-clause-conflicts : goal.returns-clause-conflicts
-returns-clause-conflicts g c = let e = c.in_ok-find_hints.ensures in let p = c.in_ok-put_learnt.ensures in p.conflicts ∙ ap (λ z. z + 1) e.conflicts
+returns-clause-conflicts g c = let e = c.in_ok-find_hints.ensures in let p = c.in_ok-add_learnt.ensures in p.conflicts ∙ ap (λ z. z + 1) e.conflicts

@@ -1,7 +1,7 @@
 use Rattle.std.proofs.Common.{◌-◌, length, arith}
 use Rattle.cdcl_core.specs.Levels.{base_of}
 use Rattle.cdcl_core.proofs.Backjumps.{learnt_new, learnt_contingent}
-use Rattle.cdcl_core.proofs.Driven.{last_limit}
+use Rattle.cdcl_core.proofs.Justified.{last_limit}
 use Rattle.cdcl_core.proofs.solver.Solver.analyze.Goals as goal
 
 pub returns-clause-new : goal.returns-clause-new

@@ -3,11 +3,11 @@ use Rattle.std.specs.Prelude.{None}
 use Rattle.sby_edge.specs.Cause.{Rose}
 use Rattle.unit_propagation.specs.Propagation.{IsFixpoint}
 use Rattle.unit_propagation.specs.Propagator.{PropagatorOf, clauses_of}
-use Rattle.cdcl_core.specs.Levels.{IsDriven}
+use Rattle.cdcl_core.specs.Levels.{IsJustified}
 use Rattle.cdcl_core.specs.Lines.{Drops}
-use Rattle.cdcl_core.specs.Analysis.{IsIdle}
+use Rattle.cdcl_core.specs.Analysis.{IsUnmarked}
 use Rattle.cdcl_core.specs.declared.solver.Solver.{Solver}
-use Rattle.cdcl_core.proofs.Reductions.{deletes_at, driven_less}
+use Rattle.cdcl_core.proofs.Reductions.{deletes_at, justified_less}
 use Rattle.cdcl_core.proofs.Steps.{leads_deleted, fails_deleted, pending_rest}
 use Rattle.cdcl_core.proofs.Thawing.{fixpoint_both}
 use Rattle.cdcl_core.proofs.solver.Solver.delete.Goals as goal
@@ -43,8 +43,8 @@ returns-clause-reduces g c =
     let id = c.watched-id.result in
     let a = c.args.log.now in
     let b = c.delete.new.self in
-    let q = c.take_out.new.self in
-    let o = c.take_out.ensures in
+    let q = c.remove_clause.new.self in
+    let o = c.remove_clause.ensures in
     let fix = fixpoint_both p.trail (clauses_of p.slots) (clauses_of s.frozen.slots) (f.fixpoint t.conflict) t.settled in
     let proper = i.proper c.if-not-is_loose.false in
     let taken : g.L.Log.takes a (Drops cl id) b = search rules in
@@ -56,8 +56,8 @@ returns-clause-reduces g c =
           (ap (λ (x : PropagatorOf). x.vars) o) (ap (λ (x : PropagatorOf). x.slots) o) refl refl refl refl refl;
       solver = record {
         frozen = r.frozen ∙ sym (ap (λ (x : PropagatorOf). x.vars) o);
-        idle = subst (λ (x : PropagatorOf). IsIdle x.vars s.analysis.seen.items s.analysis.lower.items s.analysis.current.items) (sym o) r.idle;
-        driven = subst IsDriven (sym o) (driven_less p (set p.slots c.args.k None) cl t.level less r.driven);
+        unmarked = subst (λ (x : PropagatorOf). IsUnmarked x.vars s.analysis.seen.items s.analysis.lower.items s.analysis.current.items) (sym o) r.unmarked;
+        justified = subst IsJustified (sym o) (justified_less p (set p.slots c.args.k None) cl t.level less r.justified);
         pending = pending_rest p q s.pending t.conflict (ap (λ (x : PropagatorOf). x.conflict) o ∙ t.conflict) r.pending;
       };
       rest = record {

@@ -42,16 +42,16 @@ returns-clause-reduces g c =
     let id = c.frozen-id.result in
     let a = c.args.log.now in
     let b = c.delete.new.self in
-    let o = c.take_out.ensures in
-    let rest : c.take_out.new.self.slots ≡ set s.frozen.slots c.args.k None = ap (λ (y : FrozenOf). y.slots) o in
+    let o = c.remove_clause.ensures in
+    let rest : c.remove_clause.new.self.slots ≡ set s.frozen.slots c.args.k None = ap (λ (y : FrozenOf). y.slots) o in
     let fix = fixpoint_both p.trail (clauses_of p.slots) (clauses_of s.frozen.slots) (f.fixpoint t.conflict) t.settled in
     let proper = i.proper c.if-not-is_loose.false in
     let taken : g.L.Log.takes a (Drops cl id) b = search rules in
     let later : g.L.Log.faults a ≤ g.L.Log.faults b = search rules in
-    let new : Solver = record s { frozen = c.take_out.new.self; deletions = s.deletions + 1 } in
+    let new : Solver = record s { frozen = c.remove_clause.new.self; deletions = s.deletions + 1 } in
     record {
       leads = leads_deleted_frozen g.L.Log.takes g.L.Log.faults s new c.args.k cl id a b e.there fix (i.untrue c.if-not-is_loose.false) proper (c.may_delete.ensures c.if-not-may_delete.false) c.frozen-id.ensures (c.is_writable.ensures c.if-not-is_writable.false) taken later refl rest refl refl refl refl;
-      solver = record { frozen = ap (λ (y : FrozenOf). y.vars) o ∙ r.frozen; idle = r.idle; driven = r.driven; pending = r.pending };
+      solver = record { frozen = ap (λ (y : FrozenOf). y.vars) o ∙ r.frozen; unmarked = r.unmarked; justified = r.justified; pending = r.pending };
       rest = record {
         level = t.level;
         conflict = t.conflict;

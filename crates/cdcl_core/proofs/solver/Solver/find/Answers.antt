@@ -1,7 +1,7 @@
 use Rattle.std.proofs.Common.{subst, sym, ◌∙◌}
 use Rattle.unit_propagation.proofs.Slots.{clauses_of-contains}
 use Rattle.cdcl_core.specs.Levels.{IsPending}
-use Rattle.cdcl_core.proofs.Driven.{no_element}
+use Rattle.cdcl_core.proofs.Justified.{no_element}
 use Rattle.cdcl_core.proofs.solver.Solver.find.Goals as goal
 
 pub returns-then-levels-eq0-clause-found : goal.returns-then-levels-eq0-clause-found

@@ -3,8 +3,8 @@ use Rattle.std.specs.Prelude.{Contains, ◌<◌}
 use Rattle.cnf_form.specs.Cnf.{LitOf}
 use Rattle.unit_propagation.specs.Propagator.{PropagatorOf, clauses_of, slot_at}
 use Rattle.frozen_clauses.specs.Frozen.{FrozenOf}
-use Rattle.cdcl_core.specs.Levels.{IsDriven, IsPending}
-use Rattle.cdcl_core.specs.Analysis.{IsIdle}
+use Rattle.cdcl_core.specs.Levels.{IsJustified, IsPending}
+use Rattle.cdcl_core.specs.Analysis.{IsUnmarked}
 use Rattle.cdcl_core.specs.Searching.{IsAddable, Moves}
 use Rattle.cdcl_core.specs.declared.solver.Solver.{Solver}
 use Rattle.cdcl_core.proofs.Steps.{moves_same, moves_both, leads_moves, leads_both, new_both}
@@ -18,8 +18,8 @@ back_and_thaw-requires-clause-solver g c =
     let s = c.analyze.new.self in
     record {
       frozen = ap (λ (z : FrozenOf). z.vars) (n.same ∙ e.frozen) ∙ r.frozen ∙ sym (ap (λ (p : PropagatorOf). p.vars) e.core);
-      idle = subst (λ (p : PropagatorOf). IsIdle p.vars s.analysis.seen.items s.analysis.lower.items s.analysis.current.items) (sym e.core) e.idle;
-      driven = subst IsDriven (sym e.core) r.driven;
+      unmarked = subst (λ (p : PropagatorOf). IsUnmarked p.vars s.analysis.seen.items s.analysis.lower.items s.analysis.current.items) (sym e.core) e.unmarked;
+      justified = subst IsJustified (sym e.core) r.justified;
       pending = subst (λ o. IsPending s.core o) (sym e.pending) (subst (λ p. IsPending p c.args.self.now.pending) (sym e.core) r.pending);
     }
 

@@ -10,7 +10,7 @@ pub follow-requires : goal.follow-requires
 follow-requires g c =
     let s = c.args.self.now in
     let r = c.requires.solver in
-    let p = proper_one s.core c.args.l r.driven c.requires.on in
+    let p = proper_one s.core c.args.l r.justified c.requires.on in
     record { within = p.within }
 
 pub returns-then-is_err-clause-stopped : goal.returns-then-is_err-clause-stopped
@@ -25,7 +25,7 @@ returns-then-is_err-clause-stopped g c =
     let k = c.in_ok-follow.ensures in
     let id = c.in_ok-id.id in
     let hints = c.hints.result.now in
-    let fits = proper_one s.core l r.driven c.requires.on in
+    let fits = proper_one s.core l r.justified c.requires.on in
     let few : AreFew (Notes l id hints) = (i.most, subst (λ z. length z ≤ 2 ^ 27) (sym h.hints) h.few) in
     let by : IsHintedFor s (Notes l id hints) = hinted_by s (l ∷ []) id hints (λ t. subst (Hints s.core.slots s.ids (l ∷ [])) (sym h.hints) (k.hints (cc))) i.above in
     let broke : g.L.Log.fails a (Notes l id hints) b = search rules in
@@ -44,7 +44,7 @@ returns-clause-leads g c =
     let k = c.in_ok-follow.ensures in
     let id = c.in_ok-id.id in
     let hints = c.hints.result.now in
-    let fits = proper_one s.core l r.driven c.requires.on in
+    let fits = proper_one s.core l r.justified c.requires.on in
     let few : AreFew (Notes l id hints) = (i.most, subst (λ z. length z ≤ 2 ^ 27) (sym h.hints) h.few) in
     let by : IsHintedFor s (Notes l id hints) = hinted_by s (l ∷ []) id hints (λ t. subst (Hints s.core.slots s.ids (l ∷ [])) (sym h.hints) (k.hints (cc))) i.above in
     let taken : g.L.Log.takes a (Notes l id hints) b = search rules in

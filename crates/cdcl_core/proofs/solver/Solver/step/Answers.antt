@@ -26,7 +26,7 @@ refute-requires-clause-admitted g c =
     let f = c.in_ok-find.ensures in
     let i = f.solver in
     let w = subst (FoundFits t.core) c.in-Refuted.is f.found in
-    root_admits t.core i.driven w.0 w.1
+    root_admits t.core i.justified w.0 w.1
 
 pub returns-in_ok-solved-in-Refuted-clause-fits : goal.returns-in_ok-solved-in-Refuted-clause-fits
 returns-in_ok-solved-in-Refuted-clause-fits g c =

@@ -1,9 +1,9 @@
 use Rattle.std.proofs.Common.{refl, sym, ◌∙◌, ap, subst}
 use Rattle.unit_propagation.specs.Propagator.{PropagatorOf}
-use Rattle.cdcl_core.specs.Levels.{IsDriven}
-use Rattle.cdcl_core.specs.Analysis.{IsIdle}
+use Rattle.cdcl_core.specs.Levels.{IsJustified}
+use Rattle.cdcl_core.specs.Analysis.{IsUnmarked}
 use Rattle.cdcl_core.specs.declared.solver.Solver.{Solver}
-use Rattle.cdcl_core.proofs.Steps.{moves_collect, named_collect_by, driven_collect, pending_rest}
+use Rattle.cdcl_core.proofs.Steps.{moves_collect, named_collect_by, justified_collect, pending_rest}
 use Rattle.cdcl_core.proofs.solver.Solver.tidy.Goals as goal
 
 pub returns-clause-solver : goal.returns-clause-solver
@@ -14,8 +14,8 @@ returns-clause-solver c =
     let e = c.in_ok-collect-2.ensures.ok in
     record {
       frozen = r.frozen ∙ sym (ap (λ (p : PropagatorOf). p.vars) e);
-      idle = subst (λ (p : PropagatorOf). IsIdle p.vars s.analysis.seen.items s.analysis.lower.items s.analysis.current.items) (sym e) r.idle;
-      driven = subst IsDriven (sym e) (driven_collect s.core r.driven);
+      unmarked = subst (λ (p : PropagatorOf). IsUnmarked p.vars s.analysis.seen.items s.analysis.lower.items s.analysis.current.items) (sym e) r.unmarked;
+      justified = subst IsJustified (sym e) (justified_collect s.core r.justified);
       pending = pending_rest s.core c.collect-2.new.self s.pending t.conflict (ap (λ (p : PropagatorOf). p.conflict) e ∙ t.conflict) r.pending;
     }
 

@@ -6,11 +6,11 @@ use Rattle.unit_propagation.proofs.States.{fixpoint}
 use Rattle.unit_propagation.specs.Watch.{slots_of}
 use Rattle.unit_propagation.proofs.Stores.{length-slots}
 use Rattle.unit_propagation.proofs.Slots.{clauses_of-contains, present_more, present_same}
-use Rattle.unit_propagation.proofs.propagator.Propagator.collect.Goals.{in-Some+in_ok-put_settled, in_default}
+use Rattle.unit_propagation.proofs.propagator.Propagator.collect.Goals.{in-Some+in_ok-add_settled, in_default}
 use Rattle.unit_propagation.proofs.propagator.Propagator.collect.Goals as goal
 
-pub put_settled-requires-clause-settled : goal.put_settled-requires-clause-settled
-put_settled-requires-clause-settled c = λ e.
+pub add_settled-requires-clause-settled : goal.add_settled-requires-clause-settled
+add_settled-requires-clause-settled c = λ e.
     let p = c.args.self.now in
     let x = c.in-Some.clause.now in
     let i = c.loop-k.invariant in
@@ -28,9 +28,9 @@ loop-k-preserved c =
     let size : length (slots_of lits heads) ≡ length p.slots = ap (λ (z : PropagatorOf). length z.slots) c.self.view_is in
     let room : k < length p.slots = omega (arith, c.loop-k-test.true, c.len-k-end.ensures.count, size, length-slots lits heads) in
     elim c.match-clause.branch [
-      | in-Some+in_ok-put_settled w ↦
+      | in-Some+in_ok-add_settled w ↦
           let x = w.in-Some.clause.now in
-          let e = w.in_ok-put_settled.ensures in
+          let e = w.in_ok-add_settled.ensures in
           w.rest-is ∙ e.ok ∙ ap (λ (y : PropagatorOf). let z : PropagatorOf = record y { slots = y.slots ++ Some x ∷ [] } in z) c.loop-k.invariant
           ∙ ap (λ s. let z : PropagatorOf = record p { slots = s } in z) (sym (present_more p.slots k room x w.in-Some.ensures.there))
       | in_default w ↦
